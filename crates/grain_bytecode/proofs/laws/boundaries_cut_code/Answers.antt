@@ -1,0 +1,5 @@
+use Rattle.grain_bytecode.proofs.Boundaries.{boundary_cuts}
+use Rattle.grain_bytecode.proofs.laws.boundaries_cut_code.Goals as goal
+
+pub returns : goal.returns
+returns c = boundary_cuts

@@ -1,0 +1,5 @@
+pub mod Numbers
+pub mod Table
+pub mod Split
+pub mod Unread
+pub mod Disassembly

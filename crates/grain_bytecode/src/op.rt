@@ -1,0 +1,233 @@
+//! Instructions as values.
+//!
+//! A jump target is the index of an operation before assembling, and an address in bytes once the code is assembled.
+//! A name, a constant and the like is an index into the pool of the program that holds such things.
+
+/// Where a call that passes a variable by reference finds that variable.
+#[derive(Clone, Copy, Debug, PartialEq, Eq)]
+pub enum Receiver {
+    /// The local variable of this slot.
+    Local(u16),
+    /// The variable of this name, whose value was pushed as the first argument.
+    Named(u32),
+    /// The bound `this`, whose value was pushed as the first argument.
+    This,
+}
+
+/// One instruction.
+///
+/// The table of docs/FORMAT.md gives each its tag, its fields and what it does to the operand stack. A few values
+/// can't be told apart once they are written: what is decoded is the canonical form (docs/FORMAT.md, "Canonical
+/// form").
+#[derive(Clone, Debug, PartialEq, Eq, Drop)]
+pub enum Op {
+    /// Pushes a constant of the pool.
+    Const(u32),
+    /// Pushes the unit value.
+    Unit,
+    /// Pushes a truth value.
+    Bool(bool),
+    /// Pushes the value of a local slot.
+    LoadLocal(u16),
+    /// Exports a local slot under a name.
+    ExportLocal {
+        /// The slot.
+        slot: u16,
+        /// The index of the name under which it is exported.
+        alias: u32,
+    },
+    /// Pops a value into a local slot that is there already.
+    StoreLocal {
+        /// The slot.
+        slot: u16,
+        /// Whether the value becomes a constant.
+        is_const: bool,
+    },
+    /// Pushes the value of the variable of a name, qualified or not.
+    LoadNamed(u32),
+    /// Exports the variable of a name under another.
+    ExportNamed {
+        /// The index of the variable's name.
+        name: u32,
+        /// The index of the name under which it is exported.
+        alias: u32,
+    },
+    /// Pops a value and assigns it to the variable of a name.
+    AssignNamed {
+        /// The index of the variable's name.
+        name: u32,
+        /// The op-assignment to go through, or none for a plain assignment.
+        op: Option<u32>,
+    },
+    /// Pops a value and assigns it to a local slot.
+    AssignLocal {
+        /// The slot.
+        slot: u16,
+        /// The index of the variable's name, for errors.
+        var_name: u32,
+        /// The op-assignment to go through, or none for a plain assignment.
+        op: Option<u32>,
+    },
+    /// Pops a value and declares it as the next local variable.
+    DeclareLocal {
+        /// The index of the variable's name.
+        name: u32,
+        /// Whether it is a constant.
+        is_const: bool,
+        /// Whether it is declared at the outermost level. Only a constant's is written.
+        is_global: bool,
+    },
+    /// Drops the top of the operand stack.
+    Pop,
+    /// Goes on at the target.
+    Jump(u32),
+    /// Pops a condition, and goes on at the target where it holds.
+    JumpIfTrue {
+        /// Where to go on.
+        target: u32,
+    },
+    /// Pops a condition, and goes on at the target where it doesn't hold.
+    JumpIfFalse {
+        /// Where to go on.
+        target: u32,
+    },
+    /// Looks at the top of the operand stack, and goes on at the target where it isn't unit.
+    SkipIfNotUnit {
+        /// Where to go on.
+        target: u32,
+    },
+    /// Pops the arguments, calls a function and pushes what it returns.
+    Call {
+        /// The index of the function's name, qualified or not.
+        name: u32,
+        /// How many arguments there are.
+        argc: u8,
+        /// The operator that the call stands for, if it does.
+        op: Option<u32>,
+        /// Whether the callee sees the caller's scope. The code doesn't say so.
+        capture_parent_scope: bool,
+    },
+    /// Calls a function whose first argument is a variable, passed by reference where it can be.
+    CallRef {
+        /// The index of the function's name, qualified or not.
+        name: u32,
+        /// How many arguments there are, the variable among them.
+        argc: u8,
+        /// The variable.
+        receiver: Receiver,
+        /// Whether the callee sees the caller's scope. The code doesn't say so.
+        capture_parent_scope: bool,
+    },
+    /// Moves the top of the operand stack below so many others.
+    Rotate(u8),
+    /// Looks at the top of the operand stack, and goes on where a switch table sends it.
+    Switch(u32),
+    /// Makes a local slot a shared value.
+    Share(u16),
+    /// Makes the variable of a name a shared value.
+    ShareNamed(u32),
+    /// Pushes a local slot, shared if it is.
+    LoadShared(u16),
+    /// Pushes the variable of a name, shared if it is.
+    LoadSharedNamed(u32),
+    /// Pushes a function pointer to the function of a name, with the scope that it closes over.
+    MakeClosure(u32),
+    /// Pops a text and pushes a function pointer to the function of that name.
+    MakeFnPtr,
+    /// Pops a value and pushes whether it is shared.
+    IsShared,
+    /// Pops a function pointer and so many arguments, and pushes the pointer with these curried.
+    Curry(u8),
+    /// Calls a function pointer that lies below its arguments.
+    CallFnPtr {
+        /// How many arguments there are.
+        argc: u8,
+        /// Whether it is called in method position. Always so with a receiver.
+        is_method: bool,
+        /// Whether the callee sees the caller's scope. Never so in method position.
+        capture_parent_scope: bool,
+        /// The variable that the call is made on, if it is one.
+        receiver: Option<Receiver>,
+    },
+    /// Walks a chain of the pool: index, property and method steps from a root.
+    Chain(u32),
+    /// Pops so many values and pushes an array of them.
+    MakeArray(u16),
+    /// Pops so many keys and values over a map, and pushes the map with these.
+    MakeMap(u16),
+    /// Tests the size that an array or a map literal has come to, at this element.
+    CheckSize {
+        /// The index of the element within its literal.
+        index: u16,
+        /// Whether the literal is a map.
+        is_map: bool,
+    },
+    /// Pushes the empty text that an interpolation starts with.
+    InterpolateStart,
+    /// Pops a value and adds its text to the one below.
+    InterpolateAppend,
+    /// Ends the text of an interpolation.
+    InterpolateEnd,
+    /// Drops local variables down to so many.
+    UnwindTo(u16),
+    /// Counts an operation against the limit.
+    Tick,
+    /// Notes how far the scope reaches.
+    Checkpoint,
+    /// Begins a statement at this depth.
+    Statement {
+        /// How deep the block of the statement is.
+        depth: u16,
+    },
+    /// Pops a value and raises it as an error.
+    Throw,
+    /// Pops a value and begins to go over it.
+    IterInit,
+    /// Pushes the next item of the innermost iterator, or drops the iterator and goes on at the exit.
+    IterNext {
+        /// Where to go on when no item is left.
+        exit: u32,
+        /// The slot that counts the items, if one does.
+        counter_slot: Option<u16>,
+    },
+    /// Drops the innermost iterator.
+    IterDrop,
+    /// Arms a handler for errors.
+    PushHandler {
+        /// Where an error that is caught goes on.
+        target: u32,
+        /// The index of the name that the error is bound to, if it is.
+        catch_var: Option<u32>,
+    },
+    /// Disarms the innermost handler.
+    PopHandler,
+    /// Pops a value into a local slot, through the share if the slot is one.
+    StoreShared(u16),
+    /// Ends the run of the chunk.
+    Return,
+    /// Pushes the bound `this`.
+    LoadThis,
+    /// Pushes the bound `this`, shared if it is.
+    LoadThisShared,
+    /// Raises an error where `this` isn't bound.
+    RequireThis,
+    /// Pops a value and assigns it to the bound `this`.
+    AssignThis {
+        /// The op-assignment to go through, or none for a plain assignment.
+        op: Option<u32>,
+    },
+    /// Runs a fragment of syntax that wasn't compiled, and pushes its value.
+    EvalAst {
+        /// The index of the fragment.
+        residual: u32,
+        /// Whether the variables that it declares are dropped again.
+        rewind_scope: bool,
+    },
+    /// Runs a site of custom syntax, and pushes its value.
+    CustomSyntax(u32),
+    /// Pops the path of a module and imports it under a name.
+    Import {
+        /// The index of the name.
+        alias: u32,
+    },
+}
