@@ -1,9 +1,9 @@
 -- Where code that splits can be cut.
-use Rattle.std.proofs.Common.{◌≡◌, ℕ, zero, suc, ◌+◌, ◌<◌, ◌≤◌, List, [], ◌∷◌, ◌++◌, length, take, drop, get_or, refl, sym, ap, subst, ◌∙◌, arith, inl, inr}
+use Rattle.std.proofs.Common.{◌≡◌, ℕ, zero, suc, ◌+◌, ◌≤◌, List, [], ◌∷◌, ◌++◌, length, take, drop, refl, sym, ap, subst, ◌∙◌, arith, inl, inr}
 use Rattle.std.proofs.Math.Seq.{drop-length}
 use Rattle.std.specs.Prelude.{sum_by}
 use Rattle.std.specs.List.{flat_map, AllByRecursion, Contains}
-use Rattle.std.proofs.lemmas.List.{append-nil, take_at, drop_at, take_all, take-append-drop, length-append, length-take}
+use Rattle.std.proofs.lemmas.List.{take_at, drop_at, take_all, take-append-drop, length-append, length-take}
 use Rattle.std.proofs.lemmas.List.Concat.{flat_map-cons}
 use Rattle.std.proofs.lemmas.List.Sums.{sum_by-cons}
 use Rattle.std.proofs.lemmas.Grind.{flat_map-append}
@@ -34,18 +34,20 @@ each_of (op ∷ front) back all = let more = each_of front back all.1 in ((all.0
 cut_behind : (code : List ℕ) (front back : List Op) → AreInstructions code (front ++ back) → AreInstructions (take (sum_by width_of front) code) front × AreInstructions (drop (sum_by width_of front) code) back
 cut_behind code front back are =
     let e : code ≡ flat_map spelling front ++ flat_map spelling back = are.whole ∙ flat_map-append spelling front back in
-    let each = each_of front back are.each in
-    (record { each = each.0; whole = ap (take (sum_by width_of front)) e ∙ take_at _ _ _ (spellings_width front) },
-    record { each = each.1; whole = ap (drop (sum_by width_of front)) e ∙ drop_at _ _ _ (spellings_width front) })
+    let each = each_of front back are.each in (
+      record { each = each.0; whole = ap (take (sum_by width_of front)) e ∙ take_at _ _ _ (spellings_width front) },
+      record { each = each.1; whole = ap (drop (sum_by width_of front)) e ∙ drop_at _ _ _ (spellings_width front) },
+    )
 
 pub boundary_cuts : (code starts : List ℕ) (at : ℕ) → Split code starts → IsBoundary code starts at
     → ((front : List ℕ) × Split (take at code) front) × ((back : List ℕ) × Split (drop at code) back)
 boundary_cuts code starts at split (inl start) =
     let found = before_start 0 at split.0 (subst (λ xs. Contains xs at) split.2 start) in
     let here : sum_by width_of found.0 ≡ at = omega (arith, found.3) in
-    let cut = cut_behind code found.0 found.1 (subst (AreInstructions code) found.2 split.1) in
-    ((starts_from 0 found.0, (found.0, subst (λ n. AreInstructions (take n code) found.0) here cut.0, refl)),
-    (starts_from 0 found.1, (found.1, subst (λ n. AreInstructions (drop n code) found.1) here cut.1, refl)))
+    let cut = cut_behind code found.0 found.1 (subst (AreInstructions code) found.2 split.1) in (
+      (starts_from 0 found.0, (found.0, subst (λ n. AreInstructions (take n code) found.0) here cut.0, refl)),
+      (starts_from 0 found.1, (found.1, subst (λ n. AreInstructions (drop n code) found.1) here cut.1, refl)),
+    )
 boundary_cuts code starts at split (inr end) = rw end ((starts, subst (λ b. Split b starts) (sym (take_all (length code) code (omega arith))) split), ([], ([], record { each = tt; whole = drop-length code }, refl)))
 
 -- the longest front that splits ends in one place

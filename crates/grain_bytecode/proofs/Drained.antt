@@ -1,5 +1,5 @@
 -- What a disassembly gives in all.
-use Rattle.std.proofs.Common.{◌≡◌, ℕ, ◌+◌, List, [], ◌∷◌, ◌++◌, take, drop, refl, sym, ap, subst, ◌∙◌, append_assoc}
+use Rattle.std.proofs.Common.{◌≡◌, ℕ, List, [], ◌∷◌, ◌++◌, take, drop, refl, sym, ap, subst, ◌∙◌, append_assoc}
 use Rattle.std.specs.List.{flat_map}
 use Rattle.std.specs.Iterator.{Drains}
 use Rattle.std.proofs.lemmas.List.{take-append-drop}

@@ -47,6 +47,10 @@ tag_and_operands code at (suc n) some fits =
     let e : at + suc n - (at + 1) ≡ n = omega arith in
     ap (λ k. get_or code at 0 ∷ take k (drop (at + 1) code)) e ∙ ap (λ k. get_or code at 0 ∷ take n (drop k code)) (add-one at) ∙ sym (ap (take (suc n)) (drop-cons code at 0 inside))
 
+-- equal bytes are the same instruction
+pub instr_along : (bytes other : List ℕ) (op : Op) → bytes ≡ other → Instr bytes op → Instr other op
+instr_along bytes other op e h = subst (λ (b : List ℕ). Instr b op) e h
+
 -- the instruction that as many bytes at an address are is the one that stands there
 pub stands_there : (code : List ℕ) (at w : ℕ) (op : Op) → at + w ≤ length code → Instr (take w (drop at code)) op → StandsAt code at op × (w ≡ width_of op)
 stands_there code at w op fits h =

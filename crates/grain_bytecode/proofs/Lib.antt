@@ -6,3 +6,6 @@ pub mod Widths
 pub mod Splits
 pub mod Boundaries
 pub mod Drained
+pub mod Placed
+pub mod Faults
+pub mod Again

@@ -1,18 +1,18 @@
 -- Fields read from bytes. A tag and the bytes of its fields are an instruction, and bytes begin with one at most.
-use Rattle.std.proofs.Common.{◌≡◌, ℕ, zero, suc, ◌+◌, ◌<◌, ◌≤◌, ◌^◌, List, [], ◌∷◌, ◌++◌, length, take, drop, get_or, map, Option, Some, None, refl, sym, ap, subst, ◌∙◌, arith, add-one, append_assoc}
+use Rattle.std.proofs.Common.{◌≡◌, ℕ, zero, suc, ◌<◌, ◌≤◌, ◌^◌, List, [], ◌∷◌, ◌++◌, length, take, drop, get_or, map, Option, Some, None, refl, sym, ap, ◌∙◌, arith, append_assoc}
 use Rattle.std.specs.Prelude.{sum_by, MatchOption}
 use Rattle.std.specs.Option.{option_map}
 use Rattle.std.specs.Int.{w16, w32, from_le_bytes, to_le_bytes}
 use Rattle.std.specs.List.{flat_map, AllByRecursion}
 use Rattle.std.proofs.Math.Path.{fun_ext}
 use Rattle.std.proofs.lemmas.Nat.{le_bytes_2, le_bytes_4, from_le_bytes-to_le_bytes_2, from_le_bytes-to_le_bytes_4}
-use Rattle.std.proofs.lemmas.List.{length-take, length-drop, take-append-drop, drop_at}
+use Rattle.std.proofs.lemmas.List.{length-drop, take-append-drop, drop_at}
 use Rattle.std.proofs.lemmas.List.Concat.{flat_map-cons}
 use Rattle.std.proofs.lemmas.List.Sums.{sum_by-cons}
 use Rattle.grain_bytecode.specs.declared.op.Op.{Op}
 use Rattle.grain_bytecode.specs.declared.field.Field.{Field}
 use Rattle.grain_bytecode.specs.declared.field.Field.TheVariants.{Index, Slot, Count, Target}
-use Rattle.grain_bytecode.specs.Table.{bytes_of, size_of, FieldFits, form, canon, spelling, Instr}
+use Rattle.grain_bytecode.specs.Table.{bytes_of, FieldFits, form, canon, spelling, Instr}
 use Rattle.grain_bytecode.proofs.Rows.{Letter, index, slot, count, target, field, letter_of, value_of, letter_size, fields, Row, row_of, values_of, IsRowOf, again}
 
 -- every element is a byte
@@ -79,9 +79,10 @@ spelled_all (letter ∷ letters) bytes all long =
     let n = letter_size letter in
     let sizes = sum_by-cons letter_size letter letters in
     let here = spelled_there letter bytes all (omega arith) in
-    let more = spelled_all letters (drop n bytes) (bytes_dropped n bytes all) (omega (arith, length-drop n bytes)) in
-    (sym (take-append-drop n bytes) ∙ ap (λ front. front ++ drop n bytes) (sym here.0) ∙ ap (λ rest. bytes_of (field letter (value letter bytes)) ++ rest) more.0 ∙ sym (flat_map-cons bytes_of _ _),
-    (here.1, more.1))
+    let more = spelled_all letters (drop n bytes) (bytes_dropped n bytes all) (omega (arith, length-drop n bytes)) in (
+      sym (take-append-drop n bytes) ∙ ap (λ front. front ++ drop n bytes) (sym here.0) ∙ ap (λ rest. bytes_of (field letter (value letter bytes)) ++ rest) more.0 ∙ sym (flat_map-cons bytes_of _ _),
+      (here.1, more.1),
+    )
 
 -- the value that was written is read again
 value_again : (f : Field) (rest : List ℕ) → FieldFits f → value (letter_of f) (bytes_of f ++ rest) ≡ value_of f

@@ -1,5 +1,5 @@
 -- The instruction table read from tags to operations, and what it says of widths.
-use Rattle.std.proofs.Common.{◌≡◌, ℕ, zero, suc, ◌+◌, ◌<◌, Bool, true, false, List, [], ◌∷◌, ◌++◌, Option, Some, None, map, get_or, refl, sym, ap, ◌∙◌, arith}
+use Rattle.std.proofs.Common.{◌≡◌, ℕ, suc, ◌+◌, true, false, List, [], ◌∷◌, Option, Some, None, map, get_or, refl}
 use Rattle.std.specs.Prelude.{sum_by, nat_eq, MatchOption}
 use Rattle.std.specs.Map.{lookup}
 use Rattle.std.specs.Option.{option_map_or}
@@ -12,7 +12,7 @@ use Rattle.grain_bytecode.specs.declared.field.Field.TheVariants.{Index, Slot, C
 use Rattle.grain_bytecode.specs.declared.field.Pool.{Pool}
 use Rattle.grain_bytecode.specs.declared.field.Pool.TheVariants.{Constants, Names, Operators, OpAssignments, Fragments, Chains, Switches, SyntaxSites}
 use Rattle.grain_bytecode.specs.declared.code.TheConstants.{WIDTHS}
-use Rattle.grain_bytecode.specs.Table.{form, canon, size_of, width_of}
+use Rattle.grain_bytecode.specs.Table.{form, canon, size_of}
 
 -- a field without its value
 pub data Letter : Type 0 where

@@ -7,14 +7,14 @@ use Rattle.std.proofs.lemmas.Grind.{flat_map-append}
 use Rattle.std.proofs.Math.Seq.{take-add}
 use Rattle.grain_bytecode.specs.declared.op.Op.{Op}
 use Rattle.grain_bytecode.specs.Table.{spelling, width_of, Instr}
-use Rattle.grain_bytecode.specs.Split.{Begins, BeginsNone, StandsAt, NoneStandsAt, IsInstruction, AreInstructions, starts_from, Split, FrontEnds}
+use Rattle.grain_bytecode.specs.Split.{Begins, BeginsNone, StandsAt, IsInstruction, AreInstructions, starts_from, Split, FrontEnds}
 use Rattle.grain_bytecode.proofs.Instructions.{begins_none_nil, begins_spelling}
 use Rattle.grain_bytecode.proofs.Reading.{one_instruction}
 
 pub instr_is : (bytes : List ℕ) (op : Op) → Instr bytes op → IsInstruction op
 instr_is bytes op h = record { canonical = h.canonical; fit = h.fit; spelled = refl }
 
-each_more : (ops : List Op) (op : Op) → AllByRecursion IsInstruction ops → IsInstruction op → AllByRecursion IsInstruction (ops ++ op ∷ [])
+pub each_more : (ops : List Op) (op : Op) → AllByRecursion IsInstruction ops → IsInstruction op → AllByRecursion IsInstruction (ops ++ op ∷ [])
 each_more [] op all here = (here, tt)
 each_more (o ∷ ops) op all here = (all.0, each_more ops op all.1 here)
 

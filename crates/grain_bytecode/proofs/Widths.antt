@@ -1,8 +1,7 @@
 -- The width of a tag is that of each instruction with it, and as many bytes behind a tag are an instruction.
-use Rattle.std.proofs.Common.{◌≡◌, ℕ, zero, suc, ◌+◌, ◌-◌, ◌<◌, ◌≤◌, ◌⊎◌, inl, inr, List, [], ◌∷◌, length, take, drop, get_or, map, Option, Some, None, refl, sym, ap, subst, ◌∙◌, arith, add-one, drop-cons}
-use Rattle.std.specs.Prelude.{sum_by, nat_eq, MatchOption}
-use Rattle.std.specs.List.{Contains, flat_map}
-use Rattle.std.specs.Map.{lookup}
+use Rattle.std.proofs.Common.{◌≡◌, ℕ, zero, suc, ◌+◌, ◌-◌, ◌<◌, ◌≤◌, ◌⊎◌, inl, inr, List, [], ◌∷◌, length, take, drop, get_or, map, Option, Some, None, refl, sym, ap, ◌∙◌, arith, add-one, drop-cons}
+use Rattle.std.specs.Prelude.{sum_by}
+use Rattle.std.specs.List.{Contains}
 use Rattle.std.specs.Option.{option_map_or}
 use Rattle.std.proofs.lemmas.Bool.{eqb-true}
 use Rattle.std.proofs.lemmas.List.{get_or-map, length-take, length-drop}
@@ -16,7 +15,7 @@ use Rattle.grain_bytecode.specs.declared.code.TheConstants.{WIDTHS}
 use Rattle.grain_bytecode.specs.Table.{size_of, form, canon, spelling, width_of, Instr}
 use Rattle.grain_bytecode.specs.Split.{StandsAt, NoneStandsAt}
 use Rattle.grain_bytecode.proofs.Rows.{letter_of, letter_size, fields, Row, rows, row_of, IsRowOf, again, written, canonical, row_width, tag_width, widths}
-use Rattle.grain_bytecode.proofs.Instructions.{instr_width, begins_fits}
+use Rattle.grain_bytecode.proofs.Instructions.{instr_width, instr_along, begins_fits}
 use Rattle.grain_bytecode.proofs.Reading.{IsBytes, bytes_taken, bytes_dropped, values, spelled_all, found_row}
 
 letter_sizes : (fs : List Field) → sum_by letter_size (map letter_of fs) ≡ sum_by size_of fs
@@ -56,12 +55,14 @@ is_instruction tag operands all wide =
     let at = in_rows tag row.0 row.1 in
     let v = values row.0.letters operands in
     let there = spelled_all row.0.letters operands all (sym row.2) in
-    let form_is : form (row.0.op v) ≡ (tag, fields row.0.letters v) = alike (λ (e : ℕ × Row). form (e.1.op v)) (λ e. (e.0, fields e.1.letters v)) rows (tag, row.0) (written v) at in
-    (row.0.op v, record {
-      canonical = alike (λ (e : ℕ × Row). canon (e.1.op v)) (λ e. e.1.op v) rows (tag, row.0) (canonical v) at;
-      fit = rw form_is there.1;
-      spelled = rw form_is (ap (λ xs. tag ∷ xs) there.0);
-    })
+    let form_is : form (row.0.op v) ≡ (tag, fields row.0.letters v) = alike (λ (e : ℕ × Row). form (e.1.op v)) (λ e. (e.0, fields e.1.letters v)) rows (tag, row.0) (written v) at in (
+      row.0.op v,
+      record {
+        canonical = alike (λ (e : ℕ × Row). canon (e.1.op v)) (λ e. e.1.op v) rows (tag, row.0) (canonical v) at;
+        fit = rw form_is there.1;
+        spelled = rw form_is (ap (λ xs. tag ∷ xs) there.0);
+      },
+    )
 
 front_is : (tag n : ℕ) (rest : List ℕ) → take (n + 1) (tag ∷ rest) ≡ tag ∷ take n rest
 front_is tag n rest = rw add-one refl
@@ -76,7 +77,7 @@ stands_at code at (suc n) all inside e some fits =
     let is = is_instruction tag (take n rest) (bytes_taken n rest (bytes_dropped (suc at) code all)) (sym (table_is tag (all at)) ∙ e ∙ omega arith) in
     let wide : suc n ≡ width_of is.0 = omega (arith, instr_width _ is.0 is.1) in
     let bytes : tag ∷ take n rest ≡ take (width_of is.0) (drop at code) = ap (take (suc n)) (sym (drop-cons code at 0 inside)) ∙ ap (λ k. take k (drop at code)) wide in
-    (is.0, subst (λ b. Instr b is.0) bytes is.1, wide)
+    (is.0, instr_along _ (take (width_of is.0) (drop at code)) is.0 bytes is.1, wide)
 
 -- the tag of the instruction that stands at an address is the byte there
 pub tag_is : (code : List ℕ) (at : ℕ) (op : Op) → at < length code → StandsAt code at op → get_or code at 0 ≡ (form op).0

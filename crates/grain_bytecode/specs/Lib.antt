@@ -3,3 +3,5 @@ pub mod Table
 pub mod Split
 pub mod Unread
 pub mod Disassembly
+pub mod Fields
+pub mod Assembly

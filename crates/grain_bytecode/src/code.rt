@@ -33,7 +33,7 @@ pub fn u32_at(code: &[u8], at: usize) -> Option<u32>
 }
 
 /// How many bytes the instruction of each tag takes, or 0 where the tag is none (docs/FORMAT.md, "Instructions").
-static WIDTHS: [u8; 256] = [
+pub(crate) static WIDTHS: [u8; 256] = [
     0, 3, 1, 1, 1, 3, 3, 5, 7, 3, 3, 1, 5, 5, 5, 4, 6, 3, 1, 1, 3, 3, 3, 3, 3, 3, 3, 5, 1, 1, 5, 1,
     3, 7, 1, 5, 7, 1, 1, 1, 1, 2, 2, 2, 3, 3, 3, 3, 1, 1, 3, 3, 3, 6, 2, 6, 3, 1, 1, 1, 1, 3, 4, 4,
     4, 2, 5, 0, 0, 0, 0, 3, 3, 2, 3, 3, 0, 5, 5, 3, 0, 0, 0, 0, 0, 0, 0, 0, 0, 0, 0, 0, 0, 0, 0, 0,

@@ -5,6 +5,8 @@
 ghost use Rattle.std.specs.Prelude.{◌≡◌, ℕ, ◌≤◌, List, ◌++◌, length, take, drop};
 ghost use Rattle.grain_bytecode.specs.Table.{Instr, canon};
 ghost use Rattle.grain_bytecode.specs.Split.{Split, IsBoundary, FrontEnds};
+ghost use Rattle.grain_bytecode.specs.Disassembly.{IsDisassembly};
+ghost use Rattle.grain_bytecode.specs.Assembly.{IsAssembly, CanAssemble, with_indices};
 ghost use Rattle.grain_bytecode.specs.declared.op.Op.{Op};
 
 /// The canonical form of a canonical form is that form, and each instruction is its own canonical form.
@@ -33,4 +35,13 @@ pub fn code_splits_in_one_way()
 pub fn boundaries_cut_code()
     ensures { (code starts : List ℕ) (at : ℕ) → Split code starts → IsBoundary code starts at
         → ((front : List ℕ) × Split (take at code) front) × ((back : List ℕ) × Split (drop at code) back) }
+{}
+
+/// What is disassembled from assembled code can be assembled again, its targets mapped back by the offsets, and gives
+/// the same code and offsets.
+pub fn disassembled_code_assembles_again()
+    ensures can { (ops : List Op) (code offsets : List ℕ) (items : List (ℕ × Op)) → CanAssemble ops → IsAssembly ops code offsets → IsDisassembly 0 code items
+        → CanAssemble (with_indices offsets items) }
+    ensures same { (ops : List Op) (code offsets : List ℕ) (items : List (ℕ × Op)) (again table : List ℕ) → CanAssemble ops → IsAssembly ops code offsets → IsDisassembly 0 code items
+        → IsAssembly (with_indices offsets items) again table → (again ≡ code) × (table ≡ offsets) }
 {}

@@ -1,6 +1,6 @@
-use Rattle.std.proofs.Common.{◌≡◌, [], ◌∷◌, ◌++◌, take, length, ap, sym, refl, subst, ◌∙◌, ◌+◌, arith, Ok}
-use Rattle.std.proofs.lemmas.List.{length-append, take_all}
-use Rattle.grain_bytecode.specs.Split.{AreInstructions, starts_from, FrontEnds, Split}
+use Rattle.std.proofs.Common.{[], ◌∷◌, ◌++◌, take, length, ap, sym, refl, subst, ◌∙◌, ◌+◌, arith, Ok}
+use Rattle.std.proofs.lemmas.List.{length-append}
+use Rattle.grain_bytecode.specs.Split.{AreInstructions, starts_from}
 use Rattle.grain_bytecode.proofs.Splits.{one_more, one_split, split_at_end, no_front_inside, length-starts_from}
 use Rattle.grain_bytecode.proofs.code.count_instructions.Goals as goal
 

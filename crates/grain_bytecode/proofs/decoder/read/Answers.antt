@@ -1,6 +1,6 @@
-use Rattle.std.proofs.Common.{◌≡◌, List, ℕ, sym, subst, ap, ◌∙◌, take, drop}
-use Rattle.grain_bytecode.specs.Table.{width_of, Instr}
-use Rattle.grain_bytecode.proofs.Instructions.{tag_and_operands, stands_there}
+use Rattle.std.proofs.Common.{◌≡◌, sym, ap, ◌∙◌, take, drop}
+use Rattle.grain_bytecode.specs.Table.{width_of}
+use Rattle.grain_bytecode.proofs.Instructions.{tag_and_operands, stands_there, instr_along}
 use Rattle.grain_bytecode.proofs.decoder.read.Goals as goal
 
 pub returns-in_err-op-clause-none : goal.returns-in_err-op-clause-none
@@ -9,10 +9,10 @@ returns-in_err-op-clause-none c =
     let there = width.found in
     let bytes = tag_and_operands c.args.code.now c.args.at c.in_ok-width.width width.fits.0 width.fits.1 in
     let same : take (width_of there.0) (drop c.args.at c.args.code.now) ≡ take c.in_ok-width.width (drop c.args.at c.args.code.now) = ap (λ n. take n (drop c.args.at c.args.code.now)) (sym there.2) in
-    absurd (c.in_err-op.ensures.none there.0 (subst (λ (b : List ℕ). Instr b there.0) (same ∙ sym bytes) there.1))
+    absurd (c.in_err-op.ensures.none there.0 (instr_along _ _ there.0 (same ∙ sym bytes) there.1))
 
 pub returns-clause-found : goal.returns-clause-found
 returns-clause-found c =
     let width = c.in_ok-width.ensures in
     let bytes = tag_and_operands c.args.code.now c.args.at c.in_ok-width.width width.fits.0 width.fits.1 in
-    stands_there c.args.code.now c.args.at c.in_ok-width.width c.in_ok-op.op width.fits.1 (subst (λ (b : List ℕ). Instr b c.in_ok-op.op) bytes c.in_ok-op.ensures.found)
+    stands_there c.args.code.now c.args.at c.in_ok-width.width c.in_ok-op.op width.fits.1 (instr_along _ _ c.in_ok-op.op bytes c.in_ok-op.ensures.found)

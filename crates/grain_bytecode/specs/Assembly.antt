@@ -1,0 +1,117 @@
+-- Operations written as code.
+use Rattle.std.specs.Prelude.{ℕ, ◌≡◌, ◌+◌, ◌-◌, ◌^◌, ◌<◌, ◌≤◌, ⊤, sum_by, length, map, List, [], ◌∷◌, ◌++◌, slice_index, codes, ◌==◌}
+use Rattle.std.specs.List.{AllByRecursion, position_or_len}
+use Rattle.grain_bytecode.specs.declared.op.Op.{Op}
+use Rattle.grain_bytecode.specs.declared.op.Op.TheVariants as ops
+use Rattle.grain_bytecode.specs.declared.op.Receiver.TheVariants as receiver
+use Rattle.grain_bytecode.specs.declared.field.Field.{Field}
+use Rattle.grain_bytecode.specs.declared.field.Field.TheVariants.{Index, Slot, Count, Target}
+use Rattle.grain_bytecode.specs.declared.field.Pool.{Pool}
+use Rattle.grain_bytecode.specs.declared.field.Pool.TheVariants.{Constants, Names, Operators, OpAssignments, Fragments, Chains, Switches, SyntaxSites}
+use Rattle.grain_bytecode.specs.declared.error.AssembleError.{AssembleError}
+use Rattle.grain_bytecode.specs.declared.error.AssembleError.TheVariants as errors
+use Rattle.grain_bytecode.specs.Table.{form, canon, width_of, name}
+use Rattle.grain_bytecode.specs.Split.{AreInstructions}
+
+-- the operation with its jump target mapped
+abbrev pub retarget : (ℕ → ℕ) → Op → Op
+retarget f (ops.Jump j) = ops.Jump (f j)
+retarget f (ops.JumpIfTrue j) = ops.JumpIfTrue (f j)
+retarget f (ops.JumpIfFalse j) = ops.JumpIfFalse (f j)
+retarget f (ops.SkipIfNotUnit j) = ops.SkipIfNotUnit (f j)
+retarget f (ops.IterNext j counter) = ops.IterNext (f j) counter
+retarget f (ops.PushHandler j name) = ops.PushHandler (f j) name
+retarget f op = op
+
+-- what is decoded where the operation was written: its canonical form, with its target mapped by the offsets
+abbrev pub assembled : List ℕ → Op → Op
+assembled offsets op = canon (retarget (slice_index offsets) op)
+
+-- where operations are written, the first of them at an address, and where they end
+abbrev pub offsets_from : ℕ → List Op → List ℕ
+offsets_from at [] = at ∷ []
+offsets_from at (op ∷ ops) = at ∷ offsets_from (at + width_of op) ops
+
+-- The code is the operations, one after another, and the offsets are where they begin and where they end.
+pub record IsAssembly (ops : List Op) (code offsets : List ℕ) : Type 0 where
+  pub placed : offsets ≡ offsets_from 0 ops
+  pub written : AreInstructions code (map (assembled offsets) ops)
+
+-- a field of one of so many operations can be written
+abbrev pub IsWritable : ℕ → Field → Type 0
+IsWritable n (Index pool x) = x ≤ 65535
+IsWritable n (Slot x) = ⊤
+IsWritable n (Count x) = ⊤
+IsWritable n (Target t) = t ≤ n
+
+abbrev pub AreWritable : ℕ → List Field → Type 0
+AreWritable n = AllByRecursion (IsWritable n)
+
+-- each field of these operations, of so many in all, can be written
+abbrev pub EachWritable : ℕ → List Op → Type 0
+EachWritable n = AllByRecursion (λ op. AreWritable n (form op).1)
+
+-- the sum of the widths fits u32
+abbrev pub IsShort : List Op → Type 0
+IsShort ops = sum_by width_of ops < 2 ^ 32
+
+-- Operations can be assembled: the widths' sum fits u32, each index into a pool is at most 65535, and each target is at
+-- most the number of operations.
+pub record CanAssemble (ops : List Op) : Type 0 where
+  pub short : IsShort ops
+  pub writable : EachWritable (length ops) ops
+
+-- what an error calls a pool
+abbrev pub name_of : Pool → List ℕ
+name_of Constants = codes "constants"
+name_of Names = codes "names"
+name_of Operators = codes "operators"
+name_of OpAssignments = codes "op-assignments"
+name_of Fragments = codes "fragments"
+name_of Chains = codes "chains"
+name_of Switches = codes "switches"
+name_of SyntaxSites = codes "custom syntax sites"
+
+-- the error names this field of the operation at an index
+abbrev pub Accuses : ℕ → Field → AssembleError → Type 0
+Accuses at (Index pool x) (errors.PoolTooLarge what entries) = (what.now ≡ name_of pool) × (entries ≡ x)
+Accuses at (Target t) (errors.JumpOutOfRange index target) = (index ≡ at) × (target ≡ t)
+Accuses at field error = ⊥
+
+-- the error names the first of these fields that can't be written
+pub record AccusesFirst (n at : ℕ) (fields : List Field) (error : AssembleError) : Type 0 where
+  pub earlier : List Field
+  pub bad : Field
+  pub later : List Field
+  pub order : fields ≡ earlier ++ bad ∷ later
+  pub passed : AreWritable n earlier
+  pub fails : IsWritable n bad → ⊥
+  pub named : Accuses at bad error
+
+-- the fields in the order in which they are tested: of a call through a name that name comes first
+abbrev pub tested : Op → List Field
+tested (ops.CallRef n a (receiver.Named n') capture) = name n' ∷ name n ∷ []
+tested op = (form op).1
+
+-- the error names the first field, operation by operation, that can't be written
+pub record AccusesFirstOf (ops : List Op) (error : AssembleError) : Type 0 where
+  pub before : List Op
+  pub op : Op
+  pub after : List Op
+  pub order : ops ≡ before ++ op ∷ after
+  pub passed : EachWritable (length ops) before
+  pub named : AccusesFirst (length ops) (length before) (tested op) error
+
+-- The error is the first fault of the operations, or want of memory.
+abbrev pub IsAssemblyFault : List Op → AssembleError → Type 0
+IsAssemblyFault ops errors.OutOfMemory = ⊤
+IsAssemblyFault ops (errors.ChunkTooLarge bytes) = (IsShort ops → ⊥) × (bytes ≡ 2 ^ 64 - 1)
+IsAssemblyFault ops error = IsShort ops × AccusesFirstOf ops error
+
+-- the index of the operation that is written at an offset
+abbrev pub index_of : List ℕ → ℕ → ℕ
+index_of offsets at = position_or_len (λ offset. offset == at) offsets
+
+-- disassembled operations, their targets mapped back by the offsets
+abbrev pub with_indices : List ℕ → List (ℕ × Op) → List Op
+with_indices offsets items = map (λ item. retarget (index_of offsets) item.1) items
