@@ -67,6 +67,15 @@ is_instruction tag operands all wide =
 front_is : (tag n : ℕ) (rest : List ℕ) → take (n + 1) (tag ∷ rest) ≡ tag ∷ take n rest
 front_is tag n rest = rw add-one refl
 
+-- the instruction that a tag at an address and the bytes behind it are stands there
+stands_of : (code : List ℕ) (at n : ℕ) (op : Op) → at < length code → length (take n (drop (suc at) code)) ≡ n → Instr (get_or code at 0 ∷ take n (drop (suc at) code)) op → StandsAt code at op × (suc n ≡ width_of op)
+stands_of code at n op inside long is =
+    let tag = get_or code at 0 in
+    let rest = drop (suc at) code in
+    let wide : suc n ≡ width_of op = omega (arith, instr_width (tag ∷ take n rest) op is) in
+    let bytes : tag ∷ take n rest ≡ take (width_of op) (drop at code) = ap (take (suc n)) (sym (drop-cons code at 0 inside)) ∙ ap (λ k. take k (drop at code)) wide in
+    (instr_along (tag ∷ take n rest) (take (width_of op) (drop at code)) op bytes is, wide)
+
 -- an instruction as wide as its tag says stands at an address
 pub stands_at : (code : List ℕ) (at w : ℕ) → IsBytes code → at < length code → get_or WIDTHS (get_or code at 0) 0 ≡ w → 0 < w → w ≤ length code - at → (op : Op) × StandsAt code at op × (w ≡ width_of op)
 stands_at code at zero all inside e some fits = absurd (omega arith)
@@ -75,9 +84,8 @@ stands_at code at (suc n) all inside e some fits =
     let rest = drop (suc at) code in
     let long : length (take n rest) ≡ n = omega (arith, length-take n rest, length-drop (suc at) code) in
     let is = is_instruction tag (take n rest) (bytes_taken n rest (bytes_dropped (suc at) code all)) (sym (table_is tag (all at)) ∙ e ∙ omega arith) in
-    let wide : suc n ≡ width_of is.0 = omega (arith, instr_width _ is.0 is.1) in
-    let bytes : tag ∷ take n rest ≡ take (width_of is.0) (drop at code) = ap (take (suc n)) (sym (drop-cons code at 0 inside)) ∙ ap (λ k. take k (drop at code)) wide in
-    (is.0, instr_along _ (take (width_of is.0) (drop at code)) is.0 bytes is.1, wide)
+    let there = stands_of code at n is.0 inside long is.1 in
+    (is.0, there.0, there.1)
 
 -- the tag of the instruction that stands at an address is the byte there
 pub tag_is : (code : List ℕ) (at : ℕ) (op : Op) → at < length code → StandsAt code at op → get_or code at 0 ≡ (form op).0
