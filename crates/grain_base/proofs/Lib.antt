@@ -1,0 +1,4 @@
+pub mod Groups
+pub mod Reading
+pub mod Standing
+pub mod Writing

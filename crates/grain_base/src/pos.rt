@@ -1,0 +1,156 @@
+//! The address table, which leads from the address of an instruction to its place in the source.
+//!
+//! A table is a count and then, for each entry, the distance of its address from the one before it, its line and its
+//! column, each a varint that fits a `u32`. Addresses strictly ascend. docs/FORMAT.md, "Address table", has the format.
+//!
+//! [`resolve`] is asked while a failure is reported, so that it never refuses: it answers what stands before the first
+//! damage. [`check`] says whether a table is sound.
+
+use std::alloc::{AllocError, Global};
+
+use crate::varint;
+
+/// A place in a source file.
+#[derive(Clone, Copy, Debug, PartialEq, Eq)]
+pub struct Site {
+    /// The line, from 1 on. 0 in a table says that the place isn't known.
+    pub line: u32,
+    /// The column in characters, from 1 on. 0 is the start of the line.
+    pub column: u32,
+}
+
+/// What is wrong with a table.
+#[derive(Clone, Copy, Debug, PartialEq, Eq)]
+pub enum Error {
+    /// The bytes end within a number, or where another is due.
+    Truncated,
+    /// A number or an address is above 4294967295.
+    Overflow,
+    /// An entry has the address of the one before it.
+    OutOfOrder {
+        /// The address that is repeated.
+        at: u32,
+    },
+    /// Bytes follow the last entry.
+    TrailingBytes {
+        /// How many they are.
+        count: usize,
+    },
+}
+
+impl From<varint::Error> for Error {
+    fn from(error: varint::Error) -> Error {
+        match error {
+            varint::Error::Truncated => Error::Truncated,
+            varint::Error::Overflow => Error::Overflow,
+        }
+    }
+}
+
+/// Reads the next entry, whose address is counted from the one before it.
+#[inline]
+fn entry(table: &[u8], at: &mut usize, previous: u32) -> Option<(u32, Site)> {
+    let delta = varint::u32(table, at).ok()?;
+    let address = previous.checked_add(delta)?;
+    let line = varint::u32(table, at).ok()?;
+    let column = varint::u32(table, at).ok()?;
+    Some((address, Site { line, column }))
+}
+
+/// The site that a table records for an address, if it does.
+///
+/// That is the site of the first entry at the address, and `None` where there is no such entry or its line is 0. Only
+/// the entries before the first damage are there, as far as they are counted.
+pub fn resolve(table: &[u8], address: u32) -> Option<Site> {
+    let mut at = 0;
+    let count = varint::u32(table, &mut at).ok()?;
+    let mut current = 0;
+    for _ in 0..count {
+        let (next, site) = entry(table, &mut at, current)?;
+        if next == address {
+            return if site.line == 0 { None } else { Some(site) };
+        }
+        // The others are further up.
+        if next > address {
+            return None;
+        }
+        current = next;
+    }
+    None
+}
+
+/// How many entries a table says that it has: its first number.
+///
+/// # Errors
+///
+/// `Truncated` or `Overflow` where that number can't be read.
+pub fn count(table: &[u8]) -> Result<u32, Error> {
+    let mut at = 0;
+    Ok(varint::u32(table, &mut at)?)
+}
+
+/// Whether the bytes are a table.
+///
+/// # Errors
+///
+/// The first thing that is wrong, in the order in which a table is read.
+pub fn check(table: &[u8]) -> Result<(), Error> {
+    let mut at = 0;
+    let count = varint::u32(table, &mut at)?;
+    let mut previous = None;
+    for _ in 0..count {
+        let delta = varint::u32(table, &mut at)?;
+        let address = match previous {
+            None => delta,
+            Some(address) if delta == 0 => return Err(Error::OutOfOrder { at: address }),
+            Some(address) => delta.checked_add(address).ok_or(Error::Overflow)?,
+        };
+        let _line = varint::u32(table, &mut at)?;
+        let _column = varint::u32(table, &mut at)?;
+        previous = Some(address);
+    }
+    match table.len() - at {
+        0 => Ok(()),
+        count => Err(Error::TrailingBytes { count }),
+    }
+}
+
+/// Whether the addresses of the entries that have a line strictly ascend.
+pub fn is_ascending(sites: &[(u32, Site)]) -> bool {
+    let mut previous = None;
+    for (address, site) in sites {
+        if site.line != 0 {
+            if previous.is_some_and(|previous| *address <= previous) {
+                return false;
+            }
+            previous = Some(*address);
+        }
+    }
+    true
+}
+
+/// The table of the entries that have a line.
+///
+/// The caller sees to it that their addresses strictly ascend ([`is_ascending`] tells).
+///
+/// # Errors
+///
+/// `AllocError` where there is no memory for the table.
+pub fn encode(alloc: Global, sites: &[(u32, Site)]) -> Result<Vec<u8>, AllocError> {
+    let count = sites.iter().filter(|(_, site)| site.line != 0).count();
+    let mut table = Vec::new(alloc);
+    varint::put_u64(&mut table, count as u64)?;
+    let mut previous = 0;
+    for (address, site) in sites {
+        if site.line != 0 {
+            varint::put_u64(&mut table, u64::from(*address - previous))?;
+            varint::put_u64(&mut table, u64::from(site.line))?;
+            varint::put_u64(&mut table, u64::from(site.column))?;
+            previous = *address;
+        }
+    }
+    Ok(table)
+}
+
+#[cfg(test)]
+mod tests;
