@@ -6,6 +6,13 @@
 //! [`resolve`] is asked while a failure is reported, so that it never refuses: it answers what stands before the first
 //! damage. [`check`] says whether a table is sound.
 
+ghost use Rattle.std.specs.Prelude.{◌≡◌, ℕ, ◌^◌, ◌<◌, ◌↔◌, List, [], ◌∷◌, length, drop, Ok, Err, IsOk, IsTrue, IfOk, OnErr};
+ghost use Rattle.std.specs.List.Sorted.{IsStrictlyIncreasing};
+ghost use Rattle.grain_base.specs.declared.varint.Error.{Error as NumberError};
+ghost use Rattle.grain_base.specs.declared.pos.Error.{Error as TableError};
+ghost use Rattle.grain_base.specs.Varint.{Begins, U32Fault, AreShortest};
+ghost use Rattle.grain_base.specs.AddressTable.{Entry, addresses, IsNext, NoneNext, Table, Front, FirstFault, site_at, kept, numbers_from, as_table_error};
+
 use std::alloc::{AllocError, Global};
 
 use crate::varint;
@@ -39,6 +46,8 @@ pub enum Error {
 }
 
 impl From<varint::Error> for Error {
+    ghost from_gives = { λ error result. result ≡ as_table_error error };
+
     fn from(error: varint::Error) -> Error {
         match error {
             varint::Error::Truncated => Error::Truncated,
@@ -49,28 +58,37 @@ impl From<varint::Error> for Error {
 
 /// Reads the next entry, whose address is counted from the one before it.
 #[inline]
-fn entry(table: &[u8], at: &mut usize, previous: u32) -> Option<(u32, Site)> {
-    let delta = varint::u32(table, at).ok()?;
-    let address = previous.checked_add(delta)?;
-    let line = varint::u32(table, at).ok()?;
-    let column = varint::u32(table, at).ok()?;
-    Some((address, Site { line, column }))
+fn entry(table: &[u8], at: &mut usize, before: u32) -> Result<(u32, Site), varint::Error>
+    ensures ok { IfOk result (λ entry. IsNext before (drop at.old table.now) entry (drop at.new table.now)) }
+    ensures err { OnErr result (NoneNext before (drop at.old table.now)) }
+{
+    let delta = varint::u32(table, at)?;
+    let address = before.checked_add(delta).ok_or(varint::Error::Overflow)?;
+    let line = varint::u32(table, at)?;
+    let column = varint::u32(table, at)?;
+    Ok((address, Site { line, column }))
 }
 
 /// The site that a table records for an address, if it does.
 ///
 /// That is the site of the first entry at the address, and `None` where there is no such entry or its line is 0. Only
 /// the entries before the first damage are there, as far as they are counted.
-pub fn resolve(table: &[u8], address: u32) -> Option<Site> {
+pub fn resolve(table: &[u8], address: u32) -> Option<Site>
+    ensures { (front : List Entry) × Front table.now front × (result ≡ site_at front address) }
+{
     let mut at = 0;
-    let count = varint::u32(table, &mut at).ok()?;
+    let Ok(count) = varint::u32(table, &mut at) else {
+        return None;
+    };
     let mut current = 0;
     for _ in 0..count {
-        let (next, site) = entry(table, &mut at, current)?;
+        let Ok((next, site)) = entry(table, &mut at, current) else {
+            return None;
+        };
         if next == address {
             return if site.line == 0 { None } else { Some(site) };
         }
-        // The others are further up.
+        // No address goes back behind the one before it.
         if next > address {
             return None;
         }
@@ -84,7 +102,10 @@ pub fn resolve(table: &[u8], address: u32) -> Option<Site> {
 /// # Errors
 ///
 /// `Truncated` or `Overflow` where that number can't be read.
-pub fn count(table: &[u8]) -> Result<u32, Error> {
+pub fn count(table: &[u8]) -> Result<u32, Error>
+    ensures ok { (n : ℕ) → (result ≡ Ok n) ↔ ((rest : List ℕ) × Begins table.now (n ∷ []) rest) }
+    ensures err { (e : TableError) → (result ≡ Err e) ↔ ((error : NumberError) × U32Fault table.now error × (e ≡ as_table_error error)) }
+{
     let mut at = 0;
     Ok(varint::u32(table, &mut at)?)
 }
@@ -94,7 +115,10 @@ pub fn count(table: &[u8]) -> Result<u32, Error> {
 /// # Errors
 ///
 /// The first thing that is wrong, in the order in which a table is read.
-pub fn check(table: &[u8]) -> Result<(), Error> {
+pub fn check(table: &[u8]) -> Result<(), Error>
+    ensures ok { IsOk result ↔ ((list : List Entry) × Table table.now list) }
+    ensures err { (e : TableError) → (result ≡ Err e) ↔ FirstFault table.now e }
+{
     let mut at = 0;
     let count = varint::u32(table, &mut at)?;
     let mut previous = None;
@@ -116,7 +140,9 @@ pub fn check(table: &[u8]) -> Result<(), Error> {
 }
 
 /// Whether the addresses of the entries that have a line strictly ascend.
-pub fn is_ascending(sites: &[(u32, Site)]) -> bool {
+pub fn is_ascending(sites: &[(u32, Site)]) -> bool
+    ensures { IsTrue result ↔ IsStrictlyIncreasing (addresses (kept sites.now)) }
+{
     let mut previous = None;
     for (address, site) in sites {
         if site.line != 0 {
@@ -136,7 +162,11 @@ pub fn is_ascending(sites: &[(u32, Site)]) -> bool {
 /// # Errors
 ///
 /// `AllocError` where there is no memory for the table.
-pub fn encode(alloc: Global, sites: &[(u32, Site)]) -> Result<Vec<u8>, AllocError> {
+pub fn encode(alloc: Global, sites: &[(u32, Site)]) -> Result<Vec<u8>, AllocError>
+    requires { IsStrictlyIncreasing (addresses (kept sites.now)) }
+    ensures written { IfOk result (λ table. AreShortest table.items (length (kept sites.now) ∷ numbers_from 0 (kept sites.now))) }
+    ensures table { length (kept sites.now) < 2 ^ 32 → IfOk result (λ table. Table table.items (kept sites.now)) }
+{
     let count = sites.iter().filter(|(_, site)| site.line != 0).count();
     let mut table = Vec::new(alloc);
     varint::put_u64(&mut table, count as u64)?;
