@@ -1,5 +1,5 @@
 -- Numbers that fit u32, spelled one after another.
-use Rattle.std.proofs.Common.{◌≡◌, ℕ, ◌+◌, ◌-◌, ◌^◌, ◌<◌, ◌≤◌, ◌⊎◌, inl, inr, List, [], ◌∷◌, ◌++◌, length, take, drop, get_or, All, Result, Ok, Err, refl, sym, ap, subst, ◌∙◌, arith, append_assoc}
+use Rattle.std.proofs.Common.{◌≡◌, ℕ, ◌+◌, ◌-◌, ◌^◌, ◌<◌, ◌≤◌, ◌⊎◌, ◌↔◌, inl, inr, List, [], ◌∷◌, ◌++◌, length, take, drop, get_or, All, Result, Ok, Err, refl, sym, ap, subst, ◌∙◌, arith, append_assoc}
 use Rattle.std.proofs.lemmas.Bool.{cases_lt}
 use Rattle.std.proofs.lemmas.List.{take_at, take-append-drop, drop-drop, append-nil}
 use Rattle.std.proofs.lemmas.List.Elements.{All-nil, All-cons, All-take}
@@ -20,6 +20,19 @@ pub begins-append : (bytes : List ℕ) (ns ms mid rest : List ℕ) → Begins by
 begins-append bytes [] ms mid rest first second = subst (λ (xs : List ℕ). Begins xs ms rest) (sym first) second
 begins-append bytes (n ∷ ns) ms mid rest first second =
     (first.0, first.1, first.2, first.3, begins-append first.1 ns ms mid rest first.4 second)
+
+-- more bytes behind the last number
+pub begins_longer : (bytes ns rest more : List ℕ) → Begins bytes ns rest → Begins (bytes ++ more) ns (rest ++ more)
+begins_longer bytes [] rest more begins = ap (λ (xs : List ℕ). xs ++ more) begins
+begins_longer bytes (n ∷ ns) rest more begins =
+    (begins.0, begins.1 ++ more, ap (λ (xs : List ℕ). xs ++ more) begins.2 ∙ append_assoc begins.0 begins.1 more, begins.3, begins_longer begins.1 ns rest more begins.4)
+
+-- the bytes of the numbers, without those that follow
+pub begins_front : (bytes ns rest : List ℕ) → Begins bytes ns rest → (front : List ℕ) × (bytes ≡ front ++ rest) × Begins front ns []
+begins_front bytes [] rest begins = ([], begins, refl)
+begins_front bytes (n ∷ ns) rest begins =
+    let more = begins_front begins.1 ns rest begins.4 in
+    (begins.0 ++ more.0, begins.2 ∙ ap (λ (xs : List ℕ). begins.0 ++ xs) more.1 ∙ sym (append_assoc begins.0 more.0 rest), (begins.0, more.0, refl, begins.3, more.2))
 
 -- the first number is one, and so is what follows it
 pub begins_once : (bytes : List ℕ) (m n : ℕ) (rest more : List ℕ) → Begins bytes (m ∷ []) rest → Begins bytes (n ∷ []) more → (m ≡ n) × (rest ≡ more)
@@ -112,3 +125,18 @@ reading bytes = elim (parts bytes) [
   | inr all ↦ elim (cases_lt (length bytes) 10) [
       inl short ↦ Fault Truncated (short, all)
     | inr long ↦ Fault Overflow (inl (λ taken n spelled. none_ends (take taken bytes) (All-take GoesOn taken bytes all) spelled.groups, λ short. absurd (omega (arith, short.0)))) ] ]
+
+-- What is known of the first number where it is read, and where it can't be.
+pub first_read : {E : Type 0} (bytes : List ℕ) (m : ℕ) (rest : List ℕ) → Begins bytes (m ∷ []) rest → (n : ℕ) → (◌≡◌ {A = Result ℕ E} (Ok m) (Ok n)) ↔ ((left : List ℕ) × Begins bytes (n ∷ []) left)
+first_read bytes m rest begins n =
+    (λ same. (rest, subst (λ (k : ℕ). Begins bytes (k ∷ []) rest) (cc) begins), λ other. ap (λ (k : ℕ). Ok k) (begins_once bytes m n rest other.0 begins other.1).0)
+
+pub first_unread : {E : Type 0} (bytes : List ℕ) (error : Error) (e : E) → U32Fault bytes error → (n : ℕ) → (◌≡◌ {A = Result ℕ E} (Err e) (Ok n)) ↔ ((left : List ℕ) × Begins bytes (n ∷ []) left)
+first_unread bytes error e fault n = (λ same. absurd cc, λ other. absurd (begins_faultless bytes n other.0 error other.1 fault))
+
+pub no_error : {E : Type 0} (as_error : Error → E) (bytes : List ℕ) (m : ℕ) (rest : List ℕ) → Begins bytes (m ∷ []) rest → (e : E) → (◌≡◌ {A = Result ℕ E} (Ok m) (Err e)) ↔ ((error : Error) × U32Fault bytes error × (e ≡ as_error error))
+no_error as_error bytes m rest begins e = (λ same. absurd cc, λ other. absurd (begins_faultless bytes m rest other.0 begins other.1))
+
+pub the_error : {E : Type 0} (as_error : Error → E) (bytes : List ℕ) (error : Error) → U32Fault bytes error → (e : E) → (◌≡◌ {A = Result ℕ E} (Err (as_error error)) (Err e)) ↔ ((found : Error) × U32Fault bytes found × (e ≡ as_error found))
+the_error {E} as_error bytes error fault e =
+    (λ same. (error, fault, cc), λ other. ap (λ (x : E). Err x) (ap as_error (one_u32_fault bytes error other.0 fault other.1) ∙ sym other.2))

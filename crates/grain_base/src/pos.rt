@@ -121,17 +121,15 @@ pub fn check(table: &[u8]) -> Result<(), Error>
 {
     let mut at = 0;
     let count = varint::u32(table, &mut at)?;
-    let mut previous = None;
-    for _ in 0..count {
+    let mut address = 0u32;
+    for entry in 0..count {
         let delta = varint::u32(table, &mut at)?;
-        let address = match previous {
-            None => delta,
-            Some(address) if delta == 0 => return Err(Error::OutOfOrder { at: address }),
-            Some(address) => delta.checked_add(address).ok_or(Error::Overflow)?,
-        };
+        if delta == 0 && entry != 0 {
+            return Err(Error::OutOfOrder { at: address });
+        }
+        address = address.checked_add(delta).ok_or(Error::Overflow)?;
         let _line = varint::u32(table, &mut at)?;
         let _column = varint::u32(table, &mut at)?;
-        previous = Some(address);
     }
     match table.len() - at {
         0 => Ok(()),
