@@ -2,6 +2,7 @@ pub mod Checked
 pub mod Deltas
 pub mod Entries
 pub mod Groups
+pub mod Kept
 pub mod Numbers
 pub mod Reading
 pub mod Resolving

@@ -141,14 +141,17 @@ pub fn check(table: &[u8]) -> Result<(), Error>
 pub fn is_ascending(sites: &[(u32, Site)]) -> bool
     ensures { IsTrue result ↔ IsStrictlyIncreasing (addresses (kept sites.now)) }
 {
-    let mut previous = None;
+    // The least address that the next entry may have.
+    let mut least = 0;
     for (address, site) in sites {
-        if site.line != 0 {
-            if previous.is_some_and(|previous| *address <= previous) {
-                return false;
-            }
-            previous = Some(*address);
+        if site.line == 0 {
+            continue;
         }
+        let address = u64::from(*address);
+        if address < least {
+            return false;
+        }
+        least = address + 1;
     }
     true
 }
@@ -168,14 +171,15 @@ pub fn encode(alloc: Global, sites: &[(u32, Site)]) -> Result<Vec<u8>, AllocErro
     let count = sites.iter().filter(|(_, site)| site.line != 0).count();
     let mut table = Vec::new(alloc);
     varint::put_u64(&mut table, count as u64)?;
-    let mut previous = 0;
+    let mut before = 0;
     for (address, site) in sites {
-        if site.line != 0 {
-            varint::put_u64(&mut table, u64::from(*address - previous))?;
-            varint::put_u64(&mut table, u64::from(site.line))?;
-            varint::put_u64(&mut table, u64::from(site.column))?;
-            previous = *address;
+        if site.line == 0 {
+            continue;
         }
+        varint::put_u64(&mut table, u64::from(*address - before))?;
+        varint::put_u64(&mut table, u64::from(site.line))?;
+        varint::put_u64(&mut table, u64::from(site.column))?;
+        before = *address;
     }
     Ok(table)
 }
