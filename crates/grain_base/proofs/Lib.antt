@@ -1,5 +1,6 @@
 pub mod Checked
 pub mod Deltas
+pub mod Encoding
 pub mod Entries
 pub mod Groups
 pub mod Kept

@@ -156,6 +156,13 @@ pub fn is_ascending(sites: &[(u32, Site)]) -> bool
     true
 }
 
+/// How many entries have a line.
+fn count_kept(sites: &[(u32, Site)]) -> usize
+    ensures { result ≡ length (kept sites.now) }
+{
+    sites.iter().filter(|(_, site)| site.line != 0).count()
+}
+
 /// The table of the entries that have a line.
 ///
 /// The caller sees to it that their addresses strictly ascend ([`is_ascending`] tells).
@@ -168,9 +175,8 @@ pub fn encode(alloc: Global, sites: &[(u32, Site)]) -> Result<Vec<u8>, AllocErro
     ensures written { IfOk result (λ table. AreShortest table.items (length (kept sites.now) ∷ numbers_from 0 (kept sites.now))) }
     ensures table { length (kept sites.now) < 2 ^ 32 → IfOk result (λ table. Table table.items (kept sites.now)) }
 {
-    let count = sites.iter().filter(|(_, site)| site.line != 0).count();
     let mut table = Vec::new(alloc);
-    varint::put_u64(&mut table, count as u64)?;
+    varint::put_u64(&mut table, count_kept(sites) as u64)?;
     let mut before = 0;
     for (address, site) in sites {
         if site.line == 0 {
