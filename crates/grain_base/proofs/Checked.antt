@@ -69,7 +69,7 @@ pub bad_column : (table : List ℕ) (count entries address at delta line after m
     → Begins (drop at table) (delta ∷ []) (drop after table) → Begins (drop after table) (line ∷ []) (drop mid table) → U32Fault (drop mid table) error → FirstFault table (as_table_error error)
 bad_column table count entries address at delta line after mid error c more leads first second fault =
     unreadable_behind table count entries address at delta (delta ∷ line ∷ []) (drop mid table) error c more leads refl (omega arith)
-      (begins-append (drop at table) (delta ∷ []) (line ∷ []) (drop after table) (drop mid table) first second) fault
+    (begins-append (drop at table) (delta ∷ []) (line ∷ []) (drop after table) (drop mid table) first second) fault
 
 pub checked_more : (table : List ℕ) (count entries address at delta line column after mid rest : ℕ) → Checked table count entries address at → Leads entries address delta
     → Begins (drop at table) (delta ∷ []) (drop after table) → Begins (drop after table) (line ∷ []) (drop mid table) → Begins (drop mid table) (column ∷ []) (drop rest table) → rest ≤ length table
@@ -79,7 +79,7 @@ checked_more table count entries address at delta line column after mid rest c l
     record {
       numbers = c.numbers ++ some;
       read = begins-append table (count ∷ c.numbers) some (drop at table) (drop rest table) c.read
-        (begins-append (drop at table) (delta ∷ []) (line ∷ column ∷ []) (drop after table) (drop rest table) first (begins-append (drop after table) (line ∷ []) (column ∷ []) (drop mid table) (drop rest table) second third));
+          (begins-append (drop at table) (delta ∷ []) (line ∷ column ∷ []) (drop after table) (drop rest table) first (begins-append (drop after table) (line ∷ []) (column ∷ []) (drop mid table) (drop rest table) second third));
       whole = omega (arith, c.whole, length-append c.numbers some);
       ascend = begun table count entries address at delta some c leads refl;
       sum = sum_more entries delta c.numbers some c.whole refl ∙ omega (arith, c.sum);
@@ -131,7 +131,7 @@ paired_rise before (d ∷ []) some = rises_one before
 paired_rise before (d ∷ l ∷ []) some = rises_one before
 paired_rise before (d ∷ l ∷ c ∷ numbers) some =
     rises_cons before (before + d) (addresses (paired (before + d) numbers)) (omega (arith, All-head (λ delta. 0 < delta) d (deltas numbers) some))
-      (paired_rise (before + d) numbers (All-tail (λ delta. 0 < delta) d (deltas numbers) some))
+    (paired_rise (before + d) numbers (All-tail (λ delta. 0 < delta) d (deltas numbers) some))
 
 all_rise : (numbers : List ℕ) → Ascend numbers → IsStrictlyIncreasing (addresses (paired 0 numbers))
 unfolding paired

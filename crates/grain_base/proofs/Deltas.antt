@@ -35,9 +35,10 @@ lead_on_from : (address : ℕ) (numbers : List ℕ) → All (λ delta. 0 < delta
 lead_on_from address [] some fits = tt
 lead_on_from address (d ∷ []) some fits = (All-head (λ delta. 0 < delta) d [] some, omega (arith, sum-cons d []))
 lead_on_from address (d ∷ l ∷ []) some fits = (All-head (λ delta. 0 < delta) d [] some, omega (arith, sum-cons d []))
-lead_on_from address (d ∷ l ∷ c ∷ numbers) some fits =
-    ((All-head (λ delta. 0 < delta) d (deltas numbers) some, omega (arith, sum-cons d (deltas numbers))),
-      lead_on_from (address + d) numbers (All-tail (λ delta. 0 < delta) d (deltas numbers) some) (omega (arith, sum-cons d (deltas numbers))))
+lead_on_from address (d ∷ l ∷ c ∷ numbers) some fits = (
+  (All-head (λ delta. 0 < delta) d (deltas numbers) some, omega (arith, sum-cons d (deltas numbers))),
+  lead_on_from (address + d) numbers (All-tail (λ delta. 0 < delta) d (deltas numbers) some) (omega (arith, sum-cons d (deltas numbers))),
+)
 
 pub lead_on : (numbers : List ℕ) → Ascend numbers → LeadOn None numbers
 lead_on [] ascend = tt

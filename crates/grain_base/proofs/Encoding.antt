@@ -54,7 +54,7 @@ encoded_with sites index before items a b c d e within some fit delta line colum
     let joined : (tail : List ℕ) → c ++ tail ≡ items ++ (delta.0 ++ (line.0 ++ (column.0 ++ tail))) = λ tail. rw (column.1, line.1, delta.1) (simp append_assoc) in
     record {
       written = λ tail more. subst (λ (xs : List ℕ). AreShortest xs (length (kept sites) ∷ numbers_from 0 (kept sites))) (sym (joined tail))
-        (e.written (delta.0 ++ (line.0 ++ (column.0 ++ tail))) (subst (λ (list : List Entry). AreShortest (delta.0 ++ (line.0 ++ (column.0 ++ tail))) (numbers_from before list)) (sym same)
+          (e.written (delta.0 ++ (line.0 ++ (column.0 ++ tail))) (subst (λ (list : List Entry). AreShortest (delta.0 ++ (line.0 ++ (column.0 ++ tail))) (numbers_from before list)) (sym same)
           (delta.0, line.0 ++ (column.0 ++ tail), refl, delta.2, (line.0, column.0 ++ tail, refl, line.2, (column.0, tail, refl, column.2, more)))));
       rising = (entry.0 + 1, omega arith, left.2.1);
       fitting = λ fits. e.fitting (subst (AllByRecursion Fits) (sym same) (fit, fits));
@@ -66,15 +66,16 @@ shortest_entries before least bytes [] above rises fits spelled = spelled
 shortest_entries before least bytes (entry ∷ list) above rises fits spelled =
     let fit = fits.0 in
     let line = spelled.4 in
-    let column = line.4 in
-    (column.1,
+    let column = line.4 in (
+      column.1,
       record {
         delta = entry.0 - before;
         spelled = (spelled.0, spelled.1, spelled.2, (spelled.3.spelled, omega (arith, fit.0)), (line.0, line.1, line.2, (line.3.spelled, fit.1), (column.0, column.1, column.2, (column.3.spelled, fit.2), refl)));
         address = omega (arith, rises.0);
         fits = fit.0;
       },
-      shortest_entries entry.0 (entry.0 + 1) column.1 list (omega arith) rises.1 fits.1 column.4)
+      shortest_entries entry.0 (entry.0 + 1) column.1 list (omega arith) rises.1 fits.1 column.4,
+    )
 
 pub shortest_table : (bytes : List ℕ) (list : List Entry) → IsStrictlyIncreasing (addresses list) → AllByRecursion Fits list → length list < 2 ^ 32 → AreShortest bytes (length list ∷ numbers_from 0 list) → Table bytes list
 shortest_table bytes list ascending fits few spelled = record {
@@ -86,6 +87,7 @@ shortest_table bytes list ascending fits few spelled = record {
 
 pub encoded_end : (sites : List Entry) (index before : ℕ) (items : List ℕ) → Encoded sites index before items → length sites ≤ index → AreShortest items (length (kept sites) ∷ numbers_from 0 (kept sites)) × AllByRecursion Fits (kept sites)
 encoded_end sites index before items e over =
-    let none : kept (drop index sites) ≡ [] = ap kept (drop_all index sites over) in
-    (subst (λ (xs : List ℕ). AreShortest xs (length (kept sites) ∷ numbers_from 0 (kept sites))) (append-nil items) (e.written [] (subst (λ (list : List Entry). AreShortest [] (numbers_from before list)) (sym none) refl)),
-      e.fitting (subst (AllByRecursion Fits) (sym none) tt))
+    let none : kept (drop index sites) ≡ [] = ap kept (drop_all index sites over) in (
+      subst (λ (xs : List ℕ). AreShortest xs (length (kept sites) ∷ numbers_from 0 (kept sites))) (append-nil items) (e.written [] (subst (λ (list : List Entry). AreShortest [] (numbers_from before list)) (sym none) refl)),
+      e.fitting (subst (AllByRecursion Fits) (sym none) tt),
+    )

@@ -71,15 +71,18 @@ pub data Here (before : ℕ) (bytes : List ℕ) : Type 0 where
 
 pub here : (before : ℕ) (bytes : List ℕ) → Here before bytes
 here before bytes = elim (reading bytes) [
-    Fault e fault ↦ Nowhere (no_delta before bytes e fault)
+  | Fault e fault ↦ Nowhere (no_delta before bytes e fault)
   | Number d after first ↦ elim (cases_lt (before + d) (2 ^ 32)) [
-      inr large ↦ Nowhere (address_large before d bytes after first large)
+    | inr large ↦ Nowhere (address_large before d bytes after first large)
     | inl fits ↦ elim (reading after) [
-        Fault e fault ↦ Nowhere (no_line before d bytes after e first fault)
+      | Fault e fault ↦ Nowhere (no_line before d bytes after e first fault)
       | Number l mid second ↦ elim (reading mid) [
-          Fault e fault ↦ Nowhere (no_column before d l bytes after mid e first second fault)
-        | Number c rest third ↦ There (before + d, record { line = l; column = c }) rest (is_next before d l c bytes after mid rest first second third fits) ] ] ] ]
-
+        | Fault e fault ↦ Nowhere (no_column before d l bytes after mid e first second fault)
+        | Number c rest third ↦ There (before + d, record { line = l; column = c }) rest (is_next before d l c bytes after mid rest first second third fits)
+      ]
+    ]
+  ]
+]
 
 -- the entry that stands there and more, or nothing
 joined : {before : ℕ} {bytes : List ℕ} → Here before bytes → (Entry → List ℕ → List Entry) → List Entry
@@ -121,8 +124,9 @@ entries_are zero before bytes = (bytes, refl, omega arith)
 entries_are (suc count) before bytes =
     let more = entries_are count in
     elim (here before bytes) as (λ h. (rest : List ℕ) × AreEntries before bytes (joined h (λ e r. entries_from count e.0 r)) rest × (length (joined h (λ e r. entries_from count e.0 r)) ≤ suc count)) [
-      There e r found ↦ ((more e.0 r).0, (r, found, (more e.0 r).1), omega (arith, (more e.0 r).2))
-    | Nowhere none ↦ (bytes, refl, omega arith) ]
+      | There e r found ↦ ((more e.0 r).0, (r, found, (more e.0 r).1), omega (arith, (more e.0 r).2))
+      | Nowhere none ↦ (bytes, refl, omega arith)
+    ]
 
 pub entries_longest : (count before : ℕ) (bytes : List ℕ) (list : List Entry) (rest : List ℕ) → AreEntries before bytes list rest → length list ≤ count → length list ≤ length (entries_from count before bytes)
 entries_longest count before bytes [] rest are short = omega arith
@@ -148,8 +152,9 @@ none_below zero before bytes address below = refl
 none_below (suc count) before bytes address below =
     let more = none_below count in
     elim (here before bytes) as (λ h. find (λ entry. nat_eq entry.0 address) (joined h (λ e r. entries_from count e.0 r)) ≡ None) [
-      There e r found ↦ rw (ne_eqb e.0 address (λ same. absurd (omega (arith, found.address)))) (more e.0 r address (omega (arith, found.address)))
-    | Nowhere none ↦ refl ]
+      | There e r found ↦ rw (ne_eqb e.0 address (λ same. absurd (omega (arith, found.address)))) (more e.0 r address (omega (arith, found.address)))
+      | Nowhere none ↦ refl
+    ]
 
 -- the longest list that a count and the bytes behind it hold
 counted : {bytes : List ℕ} → Reading bytes → List Entry
@@ -194,6 +199,7 @@ front_once bytes a b first second = by_case a b first.held second.held first.lon
     none_longer : (list : List Entry) → length list ≤ 0 → list ≡ []
     none_longer [] short = refl
     none_longer (e ∷ list) short = absurd (omega arith)
+
     by_case : (a b : List Entry) → (a ≡ []) ⊎ Holds bytes a → (b ≡ []) ⊎ Holds bytes b → ((other : List Entry) → Holds bytes other → length other ≤ length a) → ((other : List Entry) → Holds bytes other → length other ≤ length b) → a ≡ b
     by_case a b (inl none) (inl nothing) longest other = none ∙ sym nothing
     by_case a b (inl none) (inr held) longest other = none ∙ sym (none_longer b (omega (arith, longest b held, ap length none)))

@@ -12,9 +12,13 @@ use Rattle.grain_base.proofs.Standing.{one_spelling, stands_within, cut_stands}
 -- a number stands at the front of the bytes, and then come the others
 pub begins_at : (bytes : List ℕ) (from n to : ℕ) → StandsAt bytes from n to → n < 2 ^ 32 → Begins (drop from bytes) (n ∷ []) (drop to bytes)
 begins_at bytes from n to standing fits =
-    let behind : from + (to - from) ≡ to = omega (arith, stands_within bytes from n to standing) in
-    (take (to - from) (drop from bytes), drop (to - from) (drop from bytes), sym (take-append-drop (to - from) (drop from bytes)), (standing.1, fits),
-      drop-drop (to - from) from bytes ∙ ap (λ i. drop i bytes) behind)
+    let behind : from + (to - from) ≡ to = omega (arith, stands_within bytes from n to standing) in (
+      take (to - from) (drop from bytes),
+      drop (to - from) (drop from bytes),
+      sym (take-append-drop (to - from) (drop from bytes)),
+      (standing.1, fits),
+      drop-drop (to - from) from bytes ∙ ap (λ i. drop i bytes) behind,
+    )
 
 pub begins-append : (bytes : List ℕ) (ns ms mid rest : List ℕ) → Begins bytes ns mid → Begins mid ms rest → Begins bytes (ns ++ ms) rest
 begins-append bytes [] ms mid rest first second = subst (λ (xs : List ℕ). Begins xs ms rest) (sym first) second
@@ -63,6 +67,7 @@ begins_faultless bytes n rest error number fault = within error fault
   where
     here : Spells (take (length number.0) bytes) n
     here = subst (λ (xs : List ℕ). Spells xs n) (sym (ap (take (length number.0)) number.2 ∙ take_at number.0 number.1 (length number.0) refl)) number.3.0
+
     within : (error : Error) → U32Fault bytes error → ⊥
     within Truncated short = cut_stands bytes short (length number.0) n here
     within Overflow (inl wide) = wide.0 (length number.0) n here
@@ -83,10 +88,12 @@ one_u32_fault bytes Overflow Overflow first second = refl
 parts : (bytes : List ℕ) → ((front : List ℕ) × (rest : List ℕ) × (bytes ≡ front ++ rest) × AreGroups front) ⊎ All GoesOn bytes
 parts [] = inr (All-nil GoesOn)
 parts (byte ∷ bytes) = elim (cases_lt byte 0x80) [
-    inl last ↦ inl (byte ∷ [], bytes, refl, last)
+  | inl last ↦ inl (byte ∷ [], bytes, refl, last)
   | inr more ↦ elim (parts bytes) [
-      inl found ↦ inl (byte ∷ found.0, found.1, ap (λ xs. byte ∷ xs) found.2, longer found.0 more found.3)
-    | inr all ↦ inr (All-cons GoesOn byte bytes more all) ] ]
+    | inl found ↦ inl (byte ∷ found.0, found.1, ap (λ xs. byte ∷ xs) found.2, longer found.0 more found.3)
+    | inr all ↦ inr (All-cons GoesOn byte bytes more all)
+  ]
+]
   where
     longer : (front : List ℕ) → 0x80 ≤ byte → AreGroups front → AreGroups (byte ∷ front)
     longer [] more groups = absurd groups
@@ -112,19 +119,24 @@ wide bytes front rest whole groups none = Fault Overflow (inl (only_here bytes f
 
 spelled_here : (bytes front rest : List ℕ) → bytes ≡ front ++ rest → Spells front (number_of front) → Reading bytes
 spelled_here bytes front rest whole spelled = elim (cases_lt (number_of front) (2 ^ 32)) [
-    inl fits ↦ Number (number_of front) rest (front, rest, whole, (spelled, fits), refl)
-  | inr large ↦ Fault Overflow (inr (length front, number_of front, subst (λ (xs : List ℕ). Spells xs (number_of front)) (sym (ap (take (length front)) whole ∙ take_at front rest (length front) refl)) spelled, large)) ]
+  | inl fits ↦ Number (number_of front) rest (front, rest, whole, (spelled, fits), refl)
+  | inr large ↦ Fault Overflow (inr (length front, number_of front, subst (λ (xs : List ℕ). Spells xs (number_of front)) (sym (ap (take (length front)) whole ∙ take_at front rest (length front) refl)) spelled, large))
+]
 
 pub reading : (bytes : List ℕ) → Reading bytes
 reading bytes = elim (parts bytes) [
-    inl found ↦ elim (cases_lt 10 (length found.0)) [
-      inl long ↦ wide bytes found.0 found.1 found.2 found.3 (λ n spelled. absurd (omega (arith, spelled.ten)))
+  | inl found ↦ elim (cases_lt 10 (length found.0)) [
+    | inl long ↦ wide bytes found.0 found.1 found.2 found.3 (λ n spelled. absurd (omega (arith, spelled.ten)))
     | inr ten ↦ elim (cases_lt 1 (get_or found.0 9 0)) [
-        inl more ↦ wide bytes found.0 found.1 found.2 found.3 (λ n spelled. absurd (omega (arith, spelled.tenth)))
-      | inr one ↦ spelled_here bytes found.0 found.1 found.2 (record { groups = found.3; ten = ten; tenth = one; number = refl }) ] ]
+      | inl more ↦ wide bytes found.0 found.1 found.2 found.3 (λ n spelled. absurd (omega (arith, spelled.tenth)))
+      | inr one ↦ spelled_here bytes found.0 found.1 found.2 (record { groups = found.3; ten = ten; tenth = one; number = refl })
+    ]
+  ]
   | inr all ↦ elim (cases_lt (length bytes) 10) [
-      inl short ↦ Fault Truncated (short, all)
-    | inr long ↦ Fault Overflow (inl (λ taken n spelled. none_ends (take taken bytes) (All-take GoesOn taken bytes all) spelled.groups, λ short. absurd (omega (arith, short.0)))) ] ]
+    | inl short ↦ Fault Truncated (short, all)
+    | inr long ↦ Fault Overflow (inl (λ taken n spelled. none_ends (take taken bytes) (All-take GoesOn taken bytes all) spelled.groups, λ short. absurd (omega (arith, short.0))))
+  ]
+]
 
 -- What is known of the first number where it is read, and where it can't be.
 pub first_read : {E : Type 0} (bytes : List ℕ) (m : ℕ) (rest : List ℕ) → Begins bytes (m ∷ []) rest → (n : ℕ) → (◌≡◌ {A = Result ℕ E} (Ok m) (Ok n)) ↔ ((left : List ℕ) × Begins bytes (n ∷ []) left)

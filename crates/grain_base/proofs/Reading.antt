@@ -40,7 +40,7 @@ added : (bytes : List ℕ) (from count value at low j : ℕ) → Passes bytes fr
 added bytes from count value at low j passed small fits =
     let below : value < 2 ^ (7 * count) = omega (arith, number_of-below (take count (drop from bytes)), passed.number, ap (λ n. 128 ^ n) (length-take-le count (drop from bytes) passed.inside), power count) in
     rw (shl_whole low j (7 * count) 64 small fits) (
-      or_comm value (low * 2 ^ (7 * count)) ∙ or_shifted low (7 * count) value below ∙ omega (arith, ap (λ n. low * n) (power count)))
+    or_comm value (low * 2 ^ (7 * count)) ∙ or_shifted low (7 * count) value below ∙ omega (arith, ap (λ n. low * n) (power count)))
 
 pub value_more : (bytes : List ℕ) (from count value at byte low : ℕ) → Passes bytes from count value at → low ≡ bit_and byte 127 → count ≤ 8
     → bit_or value (low * 2 ^ (7 * count) % 2 ^ 64) ≡ value + byte % 128 * 128 ^ count
@@ -71,15 +71,18 @@ stands bytes from count value at byte passed within read last ten tenth =
     let next = front_more bytes from count value at byte passed within read in
     let front = take count (drop from bytes) in
     let long : length front ≡ count = length-take-le count (drop from bytes) passed.inside in
-    let taken : at + 1 - from ≡ count + 1 = omega (arith, passed.here) in
-    (omega arith, rw (taken, next.2) (record {
-      groups = groups_push front byte passed.go_on last;
-      ten = omega (arith, length_push front byte);
-      tenth = elim (cases_lt count 9) [
-        inl less ↦ omega (arith, get_or_past (front ++ byte ∷ []) 9 0 (omega (arith, length_push front byte)))
-      | inr more ↦ let nine : count ≡ 9 = omega arith in omega (arith, tenth nine, get_or_push front byte 0 9 (omega arith)) ];
-      number = number_of-push front byte ∙ omega (arith, passed.number, ap (λ n. byte % 128 * 128 ^ n) long);
-    }))
+    let taken : at + 1 - from ≡ count + 1 = omega (arith, passed.here) in (
+      omega arith,
+      rw (taken, next.2) (record {
+        groups = groups_push front byte passed.go_on last;
+        ten = omega (arith, length_push front byte);
+        tenth = elim (cases_lt count 9) [
+          | inl less ↦ omega (arith, get_or_past (front ++ byte ∷ []) 9 0 (omega (arith, length_push front byte)))
+          | inr more ↦ let nine : count ≡ 9 = omega arith in omega (arith, tenth nine, get_or_push front byte 0 9 (omega arith))
+        ];
+        number = number_of-push front byte ∙ omega (arith, passed.number, ap (λ n. byte % 128 * 128 ^ n) long);
+      }),
+    )
 
 -- the bytes end where another group is due
 pub cut_short : (bytes : List ℕ) (from count value at : ℕ) → Passes bytes from count value at → length bytes ≤ at → count ≤ 9
@@ -95,6 +98,7 @@ pub too_wide : (bytes : List ℕ) (from value at byte : ℕ) → Passes bytes fr
 too_wide bytes from value at byte passed within read wide =
     let next = front_more bytes from 9 value at byte passed within read in
     let none : NoneStands (drop from bytes) = λ taken n spelled. elim (cases_lt taken 10) [
-      inl less ↦ none_ends (take taken (drop from bytes)) (subst (λ (xs : List ℕ). All GoesOn xs) (take-take taken 9 (drop from bytes) (omega arith)) (All-take GoesOn taken (take 9 (drop from bytes)) passed.go_on)) spelled.groups
-    | inr more ↦ absurd (omega (arith, spelled.tenth, get_or-take taken (drop from bytes) 9 0 (omega arith), next.1)) ] in
+      | inl less ↦ none_ends (take taken (drop from bytes)) (subst (λ (xs : List ℕ). All GoesOn xs) (take-take taken 9 (drop from bytes) (omega arith)) (All-take GoesOn taken (take 9 (drop from bytes)) passed.go_on)) spelled.groups
+      | inr more ↦ absurd (omega (arith, spelled.tenth, get_or-take taken (drop from bytes) 9 0 (omega arith), next.1))
+    ] in
     ((none, λ short. absurd (omega (arith, short.0, next.0))), omega (arith, passed.here, length-take 10 (drop from bytes), next.0))

@@ -105,6 +105,7 @@ u32_fault bytes error e fault = (there error e fault, back error e fault)
     there Truncated Overflow fault same = absurd cc
     there Overflow Truncated fault same = absurd cc
     there Overflow Overflow fault same = inl fault
+
     back : (error e : Error) → NumberFault bytes error → U32Fault bytes e → ◌≡◌ {A = Result ℕ Error} (Err error) (Err e)
     back Truncated Truncated fault other = refl
     back Truncated Overflow fault (inl wide) = absurd (wide.1 fault)

@@ -169,9 +169,11 @@ repeated_answer bytes numbers next some =
 entries_longer : (before : ℕ) (bytes : List ℕ) (list : List Entry) (rest more : List ℕ) → AreEntries before bytes list rest → AreEntries before (bytes ++ more) list (rest ++ more)
 entries_longer before bytes [] rest more are = ap (λ (xs : List ℕ). xs ++ more) are
 entries_longer before bytes (entry ∷ list) rest more are =
-    let next = are.1 in
-    (are.0 ++ more, record { delta = next.delta; spelled = begins_longer bytes (next.delta ∷ entry.1.line ∷ entry.1.column ∷ []) are.0 more next.spelled; address = next.address; fits = next.fits },
-      entries_longer entry.0 are.0 list rest more are.2)
+    let next = are.1 in (
+      are.0 ++ more,
+      record { delta = next.delta; spelled = begins_longer bytes (next.delta ∷ entry.1.line ∷ entry.1.column ∷ []) are.0 more next.spelled; address = next.address; fits = next.fits },
+      entries_longer entry.0 are.0 list rest more are.2,
+    )
 
 trailing_answer : (table more : List ℕ) (list : List Entry) → Table table list → 0 < length more → answer_of (table ++ more) ≡ Err (TrailingBytes (length more))
 unfolding answer_from

@@ -6,7 +6,7 @@ use Rattle.std.proofs.lemmas.List.{take_more_set, length-set, length-take-le, le
 use Rattle.std.proofs.lemmas.List.Elements.{All-push}
 use Rattle.std.proofs.lemmas.Nat.{and_mask, or_comm, or_shifted}
 use Rattle.grain_base.specs.Varint.{AreGroups, number_of, Spells, IsShortest, AppendsShortest}
-use Rattle.grain_base.proofs.Groups.{GoesOn, pow_more, number_of-push, number_of-below, groups_some, groups_push, least_groups}
+use Rattle.grain_base.proofs.Groups.{GoesOn, pow_more, number_of-push, number_of-below, groups_some, groups_push, same_groups, least_groups}
 
 -- The first groups of a spelling of the number are written, and the rest is to be spelled behind them.
 pub record Written (groups : List ℕ) (count rest number : ℕ) : Type 0 where
@@ -37,8 +37,9 @@ last_fits count rest nine fits = let small = rw nine at fits in omega arith
 -- a number above so many groups has no spelling in them
 no_shorter : (count rest number : ℕ) (other : List ℕ) → Spells other number → (0 < count → 0 < rest) → rest * 128 ^ count ≤ number → count < length other
 no_shorter count rest number other spelled some above = elim (cases_lt 0 count) [
-    inl less ↦ least_groups count (length other) number (omega (arith, mul-le-mul_right (128 ^ count) (some less))) (omega (arith, number_of-below other, spelled.number))
-  | inr none ↦ omega (arith, groups_some other spelled.groups) ]
+  | inl less ↦ least_groups count (length other) number (omega (arith, mul-le-mul_right (128 ^ count) (some less))) (omega (arith, number_of-below other, spelled.number))
+  | inr none ↦ omega (arith, groups_some other spelled.groups)
+]
 
 pub written_more : (groups : List ℕ) (count rest number : ℕ) → Written groups count rest number → 0x80 ≤ rest → Written (set groups count (bit_or (bit_and rest 127) 128)) (count + 1) (rest / 128) number
 unfolding group_of
@@ -68,8 +69,9 @@ written_last groups count rest number w small =
         groups = groups_push front rest w.go_on small;
         ten = omega (arith, length_push front rest, w.inside);
         tenth = elim (cases_lt count 9) [
-          inl less ↦ omega (arith, get_or_past (front ++ rest ∷ []) 9 0 (omega (arith, length_push front rest)))
-        | inr nine ↦ omega (arith, last_fits count rest (omega (arith, w.inside)) w.fits, get_or_push front rest 0 9 (omega (arith, w.inside))) ];
+          | inl less ↦ omega (arith, get_or_past (front ++ rest ∷ []) 9 0 (omega (arith, length_push front rest)))
+          | inr nine ↦ omega (arith, last_fits count rest (omega (arith, w.inside)) w.fits, get_or_push front rest 0 9 (omega (arith, w.inside)))
+        ];
         number = omega (arith, more.1, w.value);
       };
       least = λ other spelled. omega (arith, length_push front rest, no_shorter count rest number other spelled w.some (omega (arith, w.value)));
@@ -78,3 +80,8 @@ written_last groups count rest number w small =
 pub appends : {E : Type 0} (old new spelling : List ℕ) (n : ℕ) (result : Result (Unit {0}) E) → new ≡ cond (is_ok result) (old ++ spelling) old → IsShortest spelling n → OnOk result (AppendsShortest old new n)
 appends old new spelling n (Ok u) same shortest = (spelling, same, shortest)
 appends old new spelling n (Err e) same shortest = tt
+
+-- as bytes, the shortest spelling is one
+pub one_shortest : (a b : List ℕ) (n : ℕ) → All (λ byte. byte < 256) a → All (λ byte. byte < 256) b → IsShortest a n → IsShortest b n → a ≡ b
+one_shortest a b n fit other first second =
+    same_groups a b first.spelled.groups second.spelled.groups fit other (omega (arith, first.least b second.spelled, second.least a first.spelled)) (first.spelled.number ∙ sym second.spelled.number)

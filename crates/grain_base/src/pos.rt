@@ -13,9 +13,8 @@ ghost use Rattle.grain_base.specs.declared.pos.Error.{Error as TableError};
 ghost use Rattle.grain_base.specs.Varint.{Begins, U32Fault, AreShortest};
 ghost use Rattle.grain_base.specs.AddressTable.{Entry, addresses, IsNext, NoneNext, Table, Front, FirstFault, site_at, kept, numbers_from, as_table_error};
 
-use std::alloc::{AllocError, Global};
-
 use crate::varint;
+use std::alloc::{AllocError, Global};
 
 /// A place in a source file.
 #[derive(Clone, Copy, Debug, PartialEq, Eq)]

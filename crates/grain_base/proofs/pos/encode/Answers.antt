@@ -15,7 +15,7 @@ loop-address-preserved-then-site-eq0 c = encoded_without _ _ _ _ _ c.loop-addres
 pub loop-address-preserved : goal.loop-address-preserved
 loop-address-preserved c =
     encoded_with _ _ _ _ _ _ _ _ c.loop-address.invariant c.loop-address-test.true c.if-site-eq0.false (search rules, search rules, search rules)
-      (rw c.from.ensures at c.in_ok-put_u64-2.ensures.ok) (rw c.from-in-loop-address.ensures at c.in_ok-put_u64-3.ensures.ok) (rw c.from-in-loop-address-2.ensures at c.in_ok-put_u64-4.ensures.ok)
+    (rw c.from.ensures at c.in_ok-put_u64-2.ensures.ok) (rw c.from-in-loop-address.ensures at c.in_ok-put_u64-3.ensures.ok) (rw c.from-in-loop-address-2.ensures at c.in_ok-put_u64-4.ensures.ok)
 
 pub returns-clause-written : goal.returns-clause-written
 returns-clause-written c = (encoded_end _ _ _ _ c.loop-address.invariant (omega arith)).0
