@@ -1,0 +1,38 @@
+//! Laws of the definitions that contracts cite, each the contract of a function that does nothing.
+
+ghost use Rattle.std.specs.Prelude.{◌≡◌, ℕ, ℤ, pos, neg_ℤ, ◌+◌, ◌<◌, ◌*ℤ◌, ◌-ℤ◌, ◌≤ℤ◌, ◌<ℤ◌, List, ◌++◌, length, All};
+ghost use Rattle.grain_base.specs.Varint.{Spells, IsShortest, StandsAt, zigzag};
+ghost use Rattle.grain_base.specs.AddressTable.{Entry, Table, Front};
+
+/// No spelling of a number begins another, and bytes spell one number at most.
+pub fn no_spelling_begins_another()
+    ensures { (a b x y : List ℕ) (m n : ℕ) → Spells a m → Spells b n → a ++ x ≡ b ++ y → (a ≡ b) × (m ≡ n) }
+{}
+
+/// A number that is written is read again, whatever stands before it and whatever follows it.
+pub fn written_is_read()
+    ensures { (before spelling after : List ℕ) (n : ℕ) → IsShortest spelling n
+        → StandsAt (before ++ spelling ++ after) (length before) n (length before + length spelling) }
+{}
+
+/// A number has one shortest spelling.
+pub fn one_shortest_spelling()
+    ensures { (a b : List ℕ) (n : ℕ) → All (λ byte. byte < 256) a → All (λ byte. byte < 256) b
+        → IsShortest a n → IsShortest b n → a ≡ b }
+{}
+
+/// A signed number v is spelled as 2v where it is at least 0, else as -2v - 1.
+pub fn signed_numbers_are_folded()
+    ensures even { (v : ℤ) → pos 0 ≤ℤ v → pos (zigzag v) ≡ pos 2 *ℤ v }
+    ensures odd { (v : ℤ) → v <ℤ pos 0 → pos (zigzag v) ≡ neg_ℤ (pos 2 *ℤ v) -ℤ pos 1 }
+{}
+
+/// Bytes have one front, so `resolve` is a function of them.
+pub fn one_front()
+    ensures { (bytes : List ℕ) (a b : List Entry) → Front bytes a → Front bytes b → a ≡ b }
+{}
+
+/// The front of a table is its list, so a table that `encode` wrote resolves every address as its list does.
+pub fn tables_resolve()
+    ensures { (bytes : List ℕ) (list front : List Entry) → Table bytes list → Front bytes front → front ≡ list }
+{}
