@@ -1,0 +1,11 @@
+pub mod Checked
+pub mod Deltas
+pub mod Entries
+pub mod Groups
+pub mod Numbers
+pub mod Reading
+pub mod Resolving
+pub mod Rising
+pub mod Standing
+pub mod Verdict
+pub mod Writing

@@ -1,0 +1,2 @@
+pub mod AddressTable
+pub mod Varint

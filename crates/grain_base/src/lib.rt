@@ -1,0 +1,6 @@
+//! Numbers and the address table of Rhai Grain bytecode.
+#![tactic(auto)]
+
+pub mod laws;
+pub mod pos;
+pub mod varint;

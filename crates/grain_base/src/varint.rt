@@ -1,0 +1,151 @@
+//! Numbers in groups of seven bits (LEB128), in which a Rhai Grain artifact counts everything.
+//!
+//! A group is a byte: its low seven bits count, lowest group first, and the bit `0x80` says that another group
+//! follows. There are at most ten, and a tenth is 0 or 1, so that the number fits 64 bits. A number has longer
+//! spellings too, as `80 00` for 0, and they are read. Signed numbers are zigzagged first: v is spelled as 2v, or as
+//! -2v - 1 below 0, so that a small negative number is short too. docs/FORMAT.md, "Varints", has the format.
+
+ghost use Rattle.std.specs.Prelude.{◌≡◌, ℕ, ℤ, ◌+◌, ◌^◌, ◌<◌, ◌↔◌, length, take, drop, Ok, Err, IfOk, OnOk, OnErr};
+ghost use Rattle.grain_base.specs.Varint.{AppendsShortest, IsShortest, StandsAt, NoneStands, NumberFault, Reads, U32Fault, zigzag};
+ghost use Rattle.grain_base.specs.declared.varint.Error.{Error};
+
+use std::alloc::AllocError;
+
+/// Why no number could be read.
+#[derive(Clone, Copy, Debug, PartialEq, Eq)]
+pub enum Error {
+    /// The bytes end within a number.
+    Truncated,
+    /// The number is wider than its type, or its groups go on past the tenth.
+    Overflow,
+}
+
+/// Reads the number that is spelled at the cursor `at`, and moves the cursor past its spelling.
+///
+/// Where no spelling stands there, the cursor moves past the bytes read, which are ten, or all that are left.
+///
+/// # Errors
+///
+/// `Truncated` where fewer than ten bytes are left and each says that another follows, as also at and past the end.
+/// Else `Overflow`: the tenth group is above 1 or says that another follows.
+#[inline]
+pub fn u64(bytes: &[u8], at: &mut usize) -> Result<u64, Error>
+    // A number is read exactly where one is spelled.
+    ensures found { IfOk result (λ n. StandsAt bytes.now at.old n at.new) }
+    ensures spelled { (n end : ℕ) → StandsAt bytes.now at.old n end → (result ≡ Ok n) × (at.new ≡ end) }
+
+    // Elsewhere the error says what is wrong there.
+    ensures error { (e : Error) → (result ≡ Err e) ↔ NumberFault (drop at.old bytes.now) e }
+    ensures cursor { OnErr result (at.new ≡ at.old + length (take 10 (drop at.old bytes.now))) }
+{
+    // Most numbers are one group.
+    match bytes.get(*at) {
+        Some(byte) if *byte < 0x80 => {
+            *at += 1;
+            Ok(u64::from(*byte))
+        }
+        _ => groups(bytes, at),
+    }
+}
+
+/// Reads a number of any length, as [`u64`] does.
+fn groups(bytes: &[u8], at: &mut usize) -> Result<u64, Error>
+    ensures { Reads bytes.now at.old result at.new }
+{
+    let mut value = 0u64;
+    for group in 0..9u32 {
+        let Some(byte) = bytes.get(*at) else {
+            return Err(Error::Truncated);
+        };
+        *at += 1;
+        value |= u64::from(*byte & 0x7f) << (7 * group);
+        if *byte < 0x80 {
+            return Ok(value);
+        }
+    }
+    // The tenth group has one bit to land in. The others aren't dropped, but refused.
+    let Some(byte) = bytes.get(*at) else {
+        return Err(Error::Truncated);
+    };
+    *at += 1;
+    if *byte > 1 {
+        return Err(Error::Overflow);
+    }
+    Ok(value | u64::from(*byte) << 63)
+}
+
+/// Reads a signed number as [`u64`] reads its zigzag.
+///
+/// # Errors
+///
+/// As [`u64`].
+#[inline]
+pub fn i64(bytes: &[u8], at: &mut usize) -> Result<i64, Error>
+    ensures found { IfOk result (λ v. StandsAt bytes.now at.old (zigzag v) at.new) }
+    ensures spelled { (v : ℤ) (end : ℕ) → StandsAt bytes.now at.old (zigzag v) end → (result ≡ Ok v) × (at.new ≡ end) }
+    ensures error { (e : Error) → (result ≡ Err e) ↔ NumberFault (drop at.old bytes.now) e }
+    ensures cursor { OnErr result (at.new ≡ at.old + length (take 10 (drop at.old bytes.now))) }
+{
+    let raw = u64(bytes, at)?;
+    let half = (raw >> 1) as i64;
+    Ok(if raw & 1 == 0 { half } else { !half })
+}
+
+/// Reads a number that has to fit a `u32`, as [`u64`] does.
+///
+/// # Errors
+///
+/// As [`u64`], and `Overflow` for a number above 4294967295, with the cursor past its spelling.
+#[inline]
+pub fn u32(bytes: &[u8], at: &mut usize) -> Result<u32, Error>
+    ensures found { IfOk result (λ n. StandsAt bytes.now at.old n at.new) }
+    ensures spelled { (n end : ℕ) → StandsAt bytes.now at.old n end → (at.new ≡ end) × (n < 2 ^ 32 → result ≡ Ok n) }
+    ensures error { (e : Error) → (result ≡ Err e) ↔ U32Fault (drop at.old bytes.now) e }
+    ensures cursor { NoneStands (drop at.old bytes.now) → at.new ≡ at.old + length (take 10 (drop at.old bytes.now)) }
+{
+    let value = u64(bytes, at)?;
+    match u32::try_from(value) {
+        Ok(value) => Ok(value),
+        Err(_) => Err(Error::Overflow),
+    }
+}
+
+/// Appends the shortest spelling of a number.
+///
+/// # Errors
+///
+/// `AllocError` where there is no memory for it, with `out` unchanged. The room for all groups is asked for at once.
+pub fn put_u64(out: &mut Vec<u8>, value: u64) -> Result<(), AllocError>
+    ensures ok { OnOk result (AppendsShortest out.old.items out.new.items value) }
+    ensures err { OnErr result (out.new.items ≡ out.old.items) }
+{
+    let mut groups = [0u8; 10];
+    let mut last = 0;
+    let mut rest = value;
+    while rest >= 0x80 {
+        groups[last] = (rest & 0x7f) as u8 | 0x80;
+        rest >>= 7;
+        last += 1;
+    }
+    groups[last] = rest as u8;
+    out.extend_from_slice(&groups[..=last])
+}
+
+/// Appends the shortest spelling of a signed number's zigzag.
+///
+/// # Errors
+///
+/// As [`put_u64`].
+pub fn put_i64(out: &mut Vec<u8>, value: i64) -> Result<(), AllocError>
+    ensures ok { OnOk result (AppendsShortest out.old.items out.new.items (zigzag value)) }
+    ensures err { OnErr result (out.new.items ≡ out.old.items) }
+{
+    if value < 0 {
+        put_u64(out, 2 * (!value as u64) + 1)
+    } else {
+        put_u64(out, 2 * value as u64)
+    }
+}
+
+#[cfg(test)]
+mod tests;
