@@ -9,3 +9,4 @@ pub mod Drained
 pub mod Placed
 pub mod Faults
 pub mod Again
+pub mod Streams

@@ -4,4 +4,5 @@ pub mod Split
 pub mod Unread
 pub mod Disassembly
 pub mod Fields
+pub mod ChainStream
 pub mod Assembly

@@ -12,6 +12,7 @@ mod error;
 mod field;
 pub mod laws;
 mod op;
+pub mod sites;
 pub mod tag;
 
 pub use assembler::assemble;

@@ -1,0 +1,8 @@
+use Rattle.std.proofs.Common.{ℕ, List, Option}
+use Rattle.grain_base.specs.declared.pos.Site.{Site}
+use Rattle.grain_bytecode.proofs.Streams.{Slots}
+use Rattle.grain_bytecode.proofs.sites.check.Given as goal
+
+-- so many slots were read
+abbrev pub invariant-slots : goal.invariant-slots
+invariant-slots l = (sites : List (Option Site)) × Slots l.stream l.count l._turn l.at sites

@@ -1,0 +1,69 @@
+-- The stream of the positions of chains.
+use Rattle.std.specs.Prelude.{◌≡◌, ℕ, ◌+◌, ◌*◌, ◌<◌, ⊤, List, [], ◌∷◌, ◌++◌, length, drop, Option, Some, None, ◌==◌, if◌then◌else◌}
+use Rattle.grain_base.specs.declared.pos.Site.{Site}
+use Rattle.grain_base.specs.declared.varint.Error.{Error as NumberError}
+use Rattle.grain_base.specs.declared.varint.Error.TheVariants as number_error
+use Rattle.grain_base.specs.Varint.{Begins, U32Fault}
+use Rattle.grain_bytecode.specs.declared.sites.StreamError.{StreamError}
+use Rattle.grain_bytecode.specs.declared.sites.StreamError.TheVariants as stream_error
+
+-- the site of a line and a column; line 0 says that there is none
+abbrev pub site_of : ℕ → ℕ → Option Site
+site_of line column = if line == 0 then None else Some (record { line = line; column = column })
+
+-- the sites that lines and columns, in turn, give
+abbrev pub sites_of : List ℕ → List (Option Site)
+sites_of (line ∷ column ∷ numbers) = site_of line column ∷ sites_of numbers
+sites_of _ = []
+
+-- The bytes are a stream of these slots: how many they are, and of each a line and a column, all numbers that fit u32.
+pub record Stream (bytes : List ℕ) (slots : List (Option Site)) : Type 0 where
+  pub numbers : List ℕ
+  pub spelled : Begins bytes (length slots ∷ numbers) []
+  pub paired : length numbers ≡ 2 * length slots
+  pub sites : slots ≡ sites_of numbers
+
+-- The bytes can be read as a stream up to a slot, which is counted, and record this site for it.
+pub record Records (bytes : List ℕ) (slot : ℕ) (site : Site) : Type 0 where
+  pub count : ℕ
+  pub before : List ℕ
+  pub rest : List ℕ
+  pub read : Begins bytes (count ∷ before ++ site.line ∷ site.column ∷ []) rest
+  pub place : length before ≡ 2 * slot
+  pub counted : slot < count
+  pub known : 0 < site.line
+
+-- Behind these numbers of a stream another is due: its count, or one of the two of each slot.
+abbrev pub IsUnfinished : List ℕ → Type 0
+IsUnfinished [] = ⊤
+IsUnfinished (count ∷ numbers) = length numbers < 2 * count
+
+-- The first number of a stream that is due and can't be read can't for this reason.
+pub record IsUnreadable (bytes : List ℕ) (error : NumberError) : Type 0 where
+  pub numbers : List ℕ
+  pub left : List ℕ
+  pub read : Begins bytes numbers left
+  pub unfinished : IsUnfinished numbers
+  pub fault : U32Fault left error
+
+-- a stream stands at the front of the bytes, and so many bytes follow it
+pub record Trails (bytes : List ℕ) (count : ℕ) : Type 0 where
+  pub stream : List ℕ
+  pub more : List ℕ
+  pub slots : List (Option Site)
+  pub parts : bytes ≡ stream ++ more
+  pub is : Stream stream slots
+  pub some : 0 < count
+  pub long : length more ≡ count
+
+-- the first thing that is wrong with bytes that are no stream, in the order in which they are read
+abbrev pub StreamFault : List ℕ → StreamError → Type 0
+StreamFault bytes stream_error.Truncated = IsUnreadable bytes number_error.Truncated
+StreamFault bytes stream_error.Overflow = IsUnreadable bytes number_error.Overflow
+StreamFault bytes (stream_error.TrailingBytes count) = Trails bytes count
+StreamFault bytes stream_error.OutOfMemory = ⊥
+
+-- an error of a number as one of a stream
+abbrev pub as_stream_error : NumberError → StreamError
+as_stream_error number_error.Truncated = stream_error.Truncated
+as_stream_error number_error.Overflow = stream_error.Overflow

@@ -1,0 +1,141 @@
+//! The stream of the positions of chains, which stands beside code.
+//!
+//! A stream is a count of slots and then, for each slot, a line and a column, each a varint that fits a `u32`. Line 0
+//! says that a slot has no site. The slots are those of all chains of a program, chain by chain (docs/FORMAT.md,
+//! "Chain stream").
+//!
+//! [`resolve`] is asked while a failure is reported, so that it never refuses: it answers what stands before the
+//! first damage. [`check`] says whether a stream is sound, and [`decode`] reads all of it.
+
+ghost use Rattle.std.specs.Prelude.{◌≡◌, ◌<◌, ◌≤◌, ◌+◌, ◌↔◌, ◌⊎◌, ℕ, List, [], ◌∷◌, ◌++◌, length, drop, Some, Err, IsOk, IfOk, IfErr, IsOkUnless, OnOk, Option};
+ghost use Rattle.grain_base.specs.declared.pos.Site.{Site};
+ghost use Rattle.grain_base.specs.declared.varint.Error.{Error as NumberError};
+ghost use Rattle.grain_base.specs.Varint.{Begins, U32Fault};
+ghost use Rattle.grain_bytecode.specs.declared.sites.StreamError.{StreamError};
+ghost use Rattle.grain_bytecode.specs.declared.sites.StreamError.TheVariants.{OutOfMemory};
+ghost use Rattle.grain_bytecode.specs.ChainStream.{Stream, Records, StreamFault, site_of, as_stream_error};
+
+use grain_base::pos::Site;
+use grain_base::varint;
+use std::alloc::{AllocError, AllocFailed, Global};
+
+/// What is wrong with a stream.
+#[derive(Clone, Copy, Debug, PartialEq, Eq)]
+pub enum StreamError {
+    /// The bytes end within a number, or where another is due.
+    Truncated,
+    /// A number is above 4294967295.
+    Overflow,
+    /// Bytes follow the last slot.
+    TrailingBytes {
+        /// How many they are.
+        count: usize,
+    },
+    /// A growth was refused.
+    OutOfMemory,
+}
+
+impl From<varint::Error> for StreamError {
+    ghost from_gives = { λ error result. result ≡ as_stream_error error };
+
+    fn from(error: varint::Error) -> StreamError {
+        match error {
+            varint::Error::Truncated => StreamError::Truncated,
+            varint::Error::Overflow => StreamError::Overflow,
+        }
+    }
+}
+
+impl From<AllocError> for StreamError {
+    ghost from_gives = { λ _ result. result ≡ OutOfMemory };
+
+    fn from(_error: AllocError) -> StreamError {
+        StreamError::OutOfMemory
+    }
+}
+
+impl<T: Drop> From<AllocFailed<T>> for StreamError {
+    ghost from_gives = { λ _ result. result ≡ OutOfMemory };
+
+    fn from(_error: AllocFailed<T>) -> StreamError {
+        StreamError::OutOfMemory
+    }
+}
+
+/// Reads the next slot.
+fn next_slot(stream: &[u8], at: &mut usize) -> Result<Option<Site>, varint::Error>
+    ensures ok { IfOk result (λ site. (line column : ℕ) × Begins (drop at.old stream.now) (line ∷ column ∷ []) (drop at.new stream.now) × (site ≡ site_of line column)) }
+    ensures inside { OnOk result (at.new ≤ length stream.now) }
+    ensures err { IfErr result (λ error. (numbers left : List ℕ) × Begins (drop at.old stream.now) numbers left × (length numbers < 2) × U32Fault left error) }
+{
+    let line = varint::u32(stream, at)?;
+    let column = varint::u32(stream, at)?;
+    Ok(if line == 0 { None } else { Some(Site { line, column }) })
+}
+
+/// The site that a stream records for a slot, if it does.
+///
+/// `None` past the counted slots, for line 0, and where the stream breaks at or before the slot.
+pub fn resolve(stream: &[u8], slot: u32) -> Option<Site>
+    ensures { (site : Site) → (result ≡ Some site) ↔ Records stream.now slot site }
+{
+    let mut at = 0;
+    let Ok(count) = varint::u32(stream, &mut at) else {
+        return None;
+    };
+    if slot >= count {
+        return None;
+    }
+    'slots: for _turn in 0..slot {
+        let Ok(_site) = next_slot(stream, &mut at) else {
+            return None;
+        };
+    }
+    match next_slot(stream, &mut at) {
+        Ok(site) => site,
+        Err(_) => None,
+    }
+}
+
+/// Whether the bytes are a stream.
+///
+/// # Errors
+///
+/// The first thing that is wrong, in the order in which a stream is read.
+pub fn check(stream: &[u8]) -> Result<(), StreamError>
+    ensures ok { IsOk result ↔ ((slots : List (Option Site)) × Stream stream.now slots) }
+    ensures err { (error : StreamError) → (result ≡ Err error) ↔ StreamFault stream.now error }
+{
+    let mut at = 0;
+    let count = varint::u32(stream, &mut at)?;
+    'slots: for _turn in 0..count {
+        next_slot(stream, &mut at)?;
+    }
+    match stream.len() - at {
+        0 => Ok(()),
+        count => Err(StreamError::TrailingBytes { count }),
+    }
+}
+
+/// The sites of a stream, slot by slot.
+///
+/// # Errors
+///
+/// As [`check`], and `OutOfMemory` where a growth was refused. Nothing is reserved for more slots than bytes are left.
+pub fn decode(alloc: Global, stream: &[u8]) -> Result<Vec<Option<Site>>, StreamError>
+    ensures ok { IfOk result (λ sites. Stream stream.now sites.items) }
+    ensures whole { ((slots : List (Option Site)) × Stream stream.now slots) → IsOkUnless result OutOfMemory }
+    ensures err { IfErr result (λ error. (error ≡ OutOfMemory) ⊎ StreamFault stream.now error) }
+{
+    let mut at = 0;
+    let count = varint::u32(stream, &mut at)?;
+    let left = stream.len() - at;
+    let mut sites = Vec::with_capacity(alloc, left.min(count as usize))?;
+    'slots: for _turn in 0..count {
+        sites.push(next_slot(stream, &mut at)?)?;
+    }
+    match stream.len() - at {
+        0 => Ok(sites),
+        count => Err(StreamError::TrailingBytes { count }),
+    }
+}
