@@ -1,0 +1,3 @@
+pub use Rattle.grain_base.specs.AddressTable
+pub use Rattle.grain_base.specs.Varint
+pub use Rattle.grain_bytecode.specs.Split
