@@ -63,6 +63,11 @@ impl Position {
 
 /// `none`, or the line and the column with a colon between them.
 impl fmt::Display for Position {
+    ghost use Rattle.std.specs.Prelude.{Some};
+    ghost use Rattle.grain_base.specs.Place.{text_of};
+
+    ghost output = { λ p. Some (text_of p) };
+
     fn fmt<W: fmt::Write>(&self, f: &mut fmt::Formatter<W>) -> fmt::Result {
         let line = self.line;
         let column = self.column;
@@ -76,6 +81,11 @@ impl fmt::Display for Position {
 
 /// The text of `Display`.
 impl fmt::Debug for Position {
+    ghost use Rattle.std.specs.Prelude.{Some};
+    ghost use Rattle.grain_base.specs.Place.{text_of};
+
+    ghost debug_output = { λ p. Some (text_of p) };
+
     fn fmt<W: fmt::Write>(&self, f: &mut fmt::Formatter<W>) -> fmt::Result {
         fmt::Display::fmt(self, f)
     }

@@ -320,7 +320,6 @@ fn feed_pointer<H: Hasher>(pointer: &FnPtr, state: &mut H)
 }
 
 #[cycle(feed)]
-#[tactic(auto, using(crate::proofs::Parts::item_count_is))]
 fn feed_items<H: Hasher>(items: &[Dynamic], state: &mut H)
     ensures { state.new ≡ fold H.write state.old (counted_items_writes (items_content items.now)) }
 {
