@@ -1,0 +1,4 @@
+pub mod Dispatch
+pub mod Names
+pub mod NamesLeft
+pub mod Qualified
