@@ -3,8 +3,9 @@
 //! The verifier itself isn't written yet: what is here are the names of the crates below.
 #![tactic(auto)]
 
-pub use grain_base::{pos, varint};
+pub use grain_base::{Caps, Dynamic, FnAccess, FnPtr, HostValue, Position, Token, pos, varint};
 pub use grain_bytecode::{
-    AssembleError, Disassembly, Op, Receiver, assemble, count_instructions, decode, disassemble,
+    AssembleError, BadTable, Disassembly, Names, Op, Receiver, Strings, StringsError, Switch,
+    SwitchRange, assemble, count_instructions, decode, disassemble, names, resolve_switch_targets,
     sites, tag, u16_at, u32_at, width,
 };

@@ -1,2 +1,7 @@
 pub mod AddressTable
+pub mod CapBits
+pub mod Content
+pub mod ContentLaws
+pub mod Place
 pub mod Varint
+pub mod View

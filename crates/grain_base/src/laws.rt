@@ -1,8 +1,12 @@
 //! Laws of the definitions that contracts cite, each the contract of a function that does nothing.
 
-ghost use Rattle.std.specs.Prelude.{◌≡◌, ℕ, ℤ, pos, neg_ℤ, ◌+◌, ◌<◌, ◌*ℤ◌, ◌-ℤ◌, ◌≤ℤ◌, ◌<ℤ◌, List, ◌++◌, length, All};
+ghost use Rattle.std.specs.Prelude.{◌≡◌, ℕ, ℤ, pos, neg_ℤ, ◌+◌, ◌<◌, ◌*ℤ◌, ◌-ℤ◌, ◌≤ℤ◌, ◌<ℤ◌, ◌↔◌, IsTrue, ◌^◌, List, ◌++◌, length, All};
 ghost use Rattle.grain_base.specs.Varint.{Spells, IsShortest, StandsAt, zigzag};
 ghost use Rattle.grain_base.specs.AddressTable.{Entry, Table, Front};
+ghost use Rattle.std.specs.Int.RustNames.{bit_and};
+ghost use Rattle.bitflags.specs.Sets.{known_bits};
+ghost use Rattle.grain_base.specs.CapBits.{caps_table};
+ghost use Rattle.grain_base.specs.Content.{Content, same};
 
 /// No spelling of a number begins another, and bytes spell one number at most.
 pub fn no_spelling_begins_another()
@@ -35,4 +39,15 @@ pub fn one_front()
 /// The front of a table is its list, so a table that `encode` wrote resolves every address as its list does.
 pub fn tables_resolve()
     ensures { (bytes : List ℕ) (list front : List Entry) → Table bytes list → Front bytes front → front ≡ list }
+{}
+
+/// The capabilities have the 15 lowest bits: a number is a set of them exactly where it is below 2^15.
+pub fn capabilities_have_the_lowest_bits()
+    ensures all { known_bits caps_table ≡ 0x7fff }
+    ensures known { (bits : ℕ) → (bit_and bits (known_bits caps_table) ≡ bits) ↔ (bits < 2 ^ 15) }
+{}
+
+/// Values are equal exactly where they have one content, in which a shared value stands for what it holds.
+pub fn equality_is_of_content()
+    ensures { (x y : Content) → IsTrue (same x y) ↔ (x ≡ y) }
 {}

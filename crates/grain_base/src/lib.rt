@@ -1,6 +1,18 @@
-//! Numbers and the address table of Rhai Grain bytecode.
+//! The ground that Rhai Grain bytecode stands on: numbers, the address table, values, the capabilities that a program
+//! may need of its host, source positions and operator tokens.
 #![tactic(auto)]
 
+mod access;
+mod caps;
 pub mod laws;
 pub mod pos;
+mod position;
+mod token;
+mod value;
 pub mod varint;
+
+pub use access::FnAccess;
+pub use caps::Caps;
+pub use position::Position;
+pub use token::Token;
+pub use value::{Dynamic, FnPtr, HostValue};

@@ -1,8 +1,16 @@
-//! Laws of the instruction table and of code that splits, over the definitions alone.
+//! Laws of the definitions that contracts cite.
 //!
 //! Each function does nothing: its contract is the law.
 
-ghost use Rattle.std.specs.Prelude.{◌≡◌, ℕ, ◌≤◌, List, ◌++◌, length, take, drop};
+ghost use Rattle.std.specs.Prelude.{◌≡◌, ◌≢◌, ℕ, ◌≤◌, ◌++◌, ◌↔◌, true, List, length, take, drop, Option, None, Some, slice_get};
+ghost use Rattle.std.specs.List.{Contains, concat, list_all};
+ghost use Rattle.std.specs.Str.{is_utf8};
+ghost use Rattle.grain_base.specs.Content.{Content};
+ghost use Rattle.grain_base.specs.declared.pos.Site.{Site};
+ghost use Rattle.grain_bytecode.specs.ChainStream.{Stream};
+ghost use Rattle.grain_bytecode.specs.Dispatch.{Fits, Table, dispatched, resolved, targets};
+ghost use Rattle.grain_bytecode.specs.Names.{first_fault, names_in, starts_of};
+ghost use Rattle.grain_bytecode.specs.Qualified.{IsLastCut, last_cut, separator};
 ghost use Rattle.grain_bytecode.specs.Table.{Instr, canon};
 ghost use Rattle.grain_bytecode.specs.Split.{Split, IsBoundary, FrontEnds};
 ghost use Rattle.grain_bytecode.specs.Disassembly.{IsDisassembly};
@@ -44,4 +52,31 @@ pub fn disassembled_code_assembles_again()
         → CanAssemble (with_indices offsets items) }
     ensures same { (ops : List Op) (code offsets : List ℕ) (items : List (ℕ × Op)) (again table : List ℕ) → CanAssemble ops → IsAssembly ops code offsets → IsDisassembly 0 code items
         → IsAssembly (with_indices offsets items) again table → (again ≡ code) × (table ≡ offsets) }
+{}
+
+/// The bytes of a stream of chain positions have one list of slots.
+pub fn streams_have_one_list()
+    ensures { (bytes : List ℕ) (slots other : List (Option Site)) → Stream bytes slots → Stream bytes other → slots ≡ other }
+{}
+
+/// A switch leads to one of its targets.
+pub fn dispatch_answers_a_target()
+    ensures { (t : Table) (subject : Content) → Contains (targets t) (dispatched t subject) }
+{}
+
+/// A switch whose targets are replaced by offsets leads to the offset of where it led.
+pub fn dispatch_follows_its_offsets()
+    ensures { (offsets : List ℕ) (t : Table) (subject : Content) → Fits (length offsets) t → slice_get offsets (dispatched t subject) ≡ Some (dispatched (resolved offsets t) subject) }
+{}
+
+/// A name is cut at the last place where the separator stands, if it stands anywhere.
+pub fn name_is_cut_last()
+    ensures cut { (name before after : List ℕ) → (last_cut name ≡ Some (before, after)) ↔ IsLastCut name before after }
+    ensures uncut { (name : List ℕ) → (last_cut name ≡ None) ↔ ((before after : List ℕ) → name ≢ before ++ separator ++ after) }
+{}
+
+/// The names of a table are cut from its bytes by its starts again.
+pub fn table_is_read_again()
+    ensures names { (names : List (List ℕ)) → names_in (concat names) (starts_of 0 names) ≡ names }
+    ensures faultless { (names : List (List ℕ)) → list_all is_utf8 names ≡ true → first_fault (concat names) (starts_of 0 names) ≡ None }
 {}

@@ -1,7 +1,8 @@
-//! The instruction set of Grain bytecode, as bytes and as values.
+//! Rhai Grain bytecode: the instruction set, as bytes and as values, and the pools that instructions point into.
 //!
 //! Code is a sequence of instructions of one to seven bytes: a tag and its fields (docs/FORMAT.md). This crate reads
-//! such code from hostile bytes. `specs/Table.antt` is the instruction table that every contract here speaks of.
+//! such code, and the tables beside it, from hostile bytes, and writes them. `specs/Table.antt` is the instruction
+//! table that every contract on code speaks of.
 #![tactic(auto)]
 
 mod assembler;
@@ -11,8 +12,11 @@ mod disassembly;
 mod error;
 mod field;
 pub mod laws;
+pub mod names;
 mod op;
 pub mod sites;
+mod strings;
+mod switch;
 pub mod tag;
 
 pub use assembler::assemble;
@@ -20,6 +24,8 @@ pub use code::{count_instructions, decode, u16_at, u32_at, width};
 pub use disassembly::{Disassembly, disassemble};
 pub use error::AssembleError;
 pub use op::{Op, Receiver};
+pub use strings::{BadTable, Names, Strings, StringsError};
+pub use switch::{Switch, SwitchRange, resolve_switch_targets};
 
 #[cfg(test)]
 mod tests;

@@ -1,0 +1,78 @@
+-- A table with one more name, and what is read back of one that was made.
+use Rattle.std.proofs.Common.{◌≡◌, ℕ, zero, suc, ◌+◌, ◌≤◌, List, [], ◌∷◌, ◌++◌, Bool, true, false, ◌&&◌, length, take, drop, refl, None, sym, ap, ◌∙◌, arith, append_assoc, length-append, append-nil}
+use Rattle.std.proofs.lemmas.Bool.Decides.{nat_tests}
+use Rattle.std.proofs.lemmas.Grind.{common_steps}
+use Rattle.std.specs.List.{concat, list_all}
+use Rattle.std.specs.Str.{is_utf8}
+use Rattle.grain_bytecode.specs.Names.{fault_from, first_fault, names_from, names_in, span, span_fault, starts_of, IsTable}
+use Rattle.grain_bytecode.proofs.Tables.{first, second, here, longer, rest_is}
+
+pub concat_more : (xs : List (List ℕ)) (y : List ℕ) → concat (xs ++ y ∷ []) ≡ concat xs ++ y
+concat_more [] y = append-nil y
+concat_more (x ∷ xs) y = ap (λ (r : List ℕ). x ++ r) (concat_more xs y) ∙ sym (append_assoc x (concat xs) y)
+
+pub starts_more : (n : ℕ) (xs : List (List ℕ)) (y : List ℕ) (end : ℕ) → n + length (concat xs) + length y ≡ end → starts_of n (xs ++ y ∷ []) ≡ starts_of n xs ++ end ∷ []
+starts_more n [] y end e = let k : n + length y ≡ end = omega arith in rw k refl
+starts_more n (x ∷ xs) y end e =
+    let k : n + length x + length (concat xs) + length y ≡ end = omega (arith, length-append x (concat xs)) in
+    ap (λ (r : List ℕ). n ∷ r) (starts_more (n + length x) xs y end k)
+
+and_then : (b p q : Bool) → (b && p) ≡ true → (p ≡ true → q ≡ true) → (b && q) ≡ true
+and_then true p q h k = k h
+and_then false p q h k = absurd (cc)
+
+pub texts_more : (xs : List (List ℕ)) (y : List ℕ) → list_all is_utf8 xs ≡ true → is_utf8 y ≡ true → list_all is_utf8 (xs ++ y ∷ []) ≡ true
+texts_more [] y h k = rw k refl
+texts_more (x ∷ xs) y h k = and_then (is_utf8 x) (list_all is_utf8 xs) (list_all is_utf8 (xs ++ y ∷ [])) h (λ t. texts_more xs y t k)
+
+-- a front is no longer than the whole
+pub front_le : (xs : List (List ℕ)) (i : ℕ) → length (concat (take i xs)) ≤ length (concat xs)
+front_le [] zero = omega arith
+front_le [] (suc i) = omega arith
+front_le (x ∷ xs) zero = omega arith
+front_le (x ∷ xs) (suc i) = omega (arith, front_le xs i, length-append x (concat xs), length-append x (concat (take i xs)))
+
+-- the starts after the first
+ends_of : ℕ → List (List ℕ) → List ℕ
+ends_of n [] = []
+ends_of n (x ∷ xs) = (n + length x) ∷ ends_of (n + length x) xs
+
+starts_are_ends : (n : ℕ) (xs : List (List ℕ)) → starts_of n xs ≡ n ∷ ends_of n xs
+unfolding ends_of
+starts_are_ends n [] = refl
+starts_are_ends n (x ∷ xs) = ap (λ (r : List ℕ). n ∷ r) (starts_are_ends (n + length x) xs)
+
+names_back : (blob : List ℕ) (n : ℕ) (xs : List (List ℕ)) → n ≤ length blob → drop n blob ≡ concat xs → names_from blob n (ends_of n xs) ≡ xs
+unfolding ends_of
+names_back blob n [] h e = refl
+names_back blob n (x ∷ xs) h e =
+    cc (here blob x (concat xs) n h e, names_back blob (n + length x) xs (longer blob x (concat xs) n h e) (rest_is blob x (concat xs) n e))
+
+-- the names of a table that was made of them
+pub names_of_made : (xs : List (List ℕ)) → names_in (concat xs) (starts_of 0 xs) ≡ xs
+names_of_made xs = rw (starts_are_ends 0 xs) (names_back (concat xs) 0 xs (omega arith) refl)
+
+pub made_table : (xs : List (List ℕ)) → list_all is_utf8 xs ≡ true → IsTable (concat xs) (starts_of 0 xs)
+made_table xs h =
+    let back = names_of_made xs in
+    record { starts_are = rw back refl; blob_is = rw back refl; texts = rw back h }
+
+faultless : (blob : List ℕ) (from to : ℕ) → from ≤ to → to ≤ length blob → is_utf8 (span blob from to) ≡ true → span_fault blob from to ≡ None
+faultless blob from to a b u = rw u (grind (arith, nat_tests))
+
+-- the starts after the first have no fault in the names that they were made of
+faultless_from : (blob : List ℕ) (n : ℕ) (xs : List (List ℕ)) → n ≤ length blob → drop n blob ≡ concat xs → list_all is_utf8 xs ≡ true → fault_from blob n (ends_of n xs) ≡ None
+unfolding ends_of
+faultless_from blob n [] h e u =
+    let left : length (drop n blob) ≡ 0 = ap length e in
+    let all : n ≡ length blob = grind (arith, common_steps) in
+    grind (arith, nat_tests)
+faultless_from blob n (x ∷ xs) h e u =
+    let to = n + length x in
+    let text : is_utf8 (span blob n to) ≡ true = rw (here blob x (concat xs) n h e) (first (is_utf8 x) (list_all is_utf8 xs) u) in
+    let inside = longer blob x (concat xs) n h e in
+    rw (faultless blob n to (omega arith) inside text)
+    (faultless_from blob to xs inside (rest_is blob x (concat xs) n e) (second (is_utf8 x) (list_all is_utf8 xs) u))
+
+pub made_faultless : (xs : List (List ℕ)) → list_all is_utf8 xs ≡ true → first_fault (concat xs) (starts_of 0 xs) ≡ None
+made_faultless xs u = rw (starts_are_ends 0 xs) (faultless_from (concat xs) 0 xs (omega arith) refl u)

@@ -1,0 +1,5 @@
+use Rattle.grain_bytecode.proofs.Dispatching.{dispatched_among}
+use Rattle.grain_bytecode.proofs.laws.dispatch_answers_a_target.Goals as goal
+
+pub returns : goal.returns
+returns c t x = dispatched_among t x
