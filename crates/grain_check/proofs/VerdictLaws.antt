@@ -1,0 +1,106 @@
+-- Laws of verdicts and of their count.
+use Rattle.std.proofs.Common.{◌≡◌, ℕ, ◌<◌, length, take, drop, ◌+◌, zero-add, Bool, true, false, cond, List, [], ◌∷◌, ◌++◌, map, Some, None, refl, sym, ap, subst, ◌∙◌, arith, append_assoc, append-nil, codes}
+use Rattle.std.specs.Prelude.{decimal, is_none, filter, flat_map, count_by}
+use Rattle.std.specs.List.{AllZip}
+use Rattle.std.proofs.lemmas.Grind.{flat_map-append}
+use Rattle.std.specs.Str.Lines.{strip_carriage_return}
+use Rattle.std.proofs.lemmas.List.{length-append, map-append}
+use Rattle.std.proofs.lemmas.List.Elements.{filter-append}
+use Rattle.std.proofs.lemmas.List.Sums.{sum_by-append}
+use Rattle.grain_bytecode.specs.declared.op.Op.{Op}
+use Rattle.grain_bytecode.specs.Split.{NoneStands, AreInstructions}
+use Rattle.grain_check.specs.Lines.{is_case}
+use Rattle.grain_check.specs.Verdicts.{code, asked, is_bad, CodeVerdict, whole, undecodable, Verdict, IsVerdictText}
+use Rattle.grain_check.specs.Reports.{Adds, Answers, CountsOn, saturated}
+use Rattle.grain_check.specs.declared.report.Summary.{Summary}
+
+pub adds_whole : (bytes old new : List ℕ) (count : ℕ) → (ops : List Op) × AreInstructions bytes ops × (length ops ≡ count)
+    → new ≡ old ++ (codes "whole " ++ decimal count) → Adds (CodeVerdict bytes) old new
+adds_whole bytes old new count (ops, are, e) is = record {
+  added = codes "whole " ++ decimal count;
+  kind = subst (λ n. CodeVerdict bytes (codes "whole " ++ decimal n)) e (whole ops are);
+  text = is;
+}
+
+pub adds_undecodable : (bytes old new : List ℕ) (at : ℕ) → (at < length bytes) × (ops : List Op) × AreInstructions (take at bytes) ops × NoneStands (drop at bytes)
+    → new ≡ old ++ (codes "undecodable at=" ++ decimal at) → Adds (CodeVerdict bytes) old new
+adds_undecodable bytes old new at (inside, ops, are, none) is = record {
+  added = codes "undecodable at=" ++ decimal at;
+  kind = undecodable at ops inside are none;
+  text = is;
+}
+
+pub adds_bad : (line old new : List ℕ) → asked line ≡ None → new ≡ old ++ codes "bad case" → Adds (Verdict line) old new
+adds_bad line old new none is = record { added = codes "bad case"; kind = rw none refl; text = is }
+
+pub adds_code : (line bytes old new : List ℕ) → asked line ≡ Some (code bytes) → Adds (CodeVerdict bytes) old new → Adds (Verdict line) old new
+adds_code line bytes old new some adds = record { added = adds.added; kind = rw some adds.kind; text = adds.text }
+
+-- a case was answered and counted
+pub answers_one : (line old mid new : List ℕ) (before after : Summary) (bad : Bool) → is_case line ≡ true → bad ≡ is_none (asked line)
+    → Adds (Verdict line) old mid → new ≡ mid ++ 10 ∷ [] → CountsOn before.cases after.cases 1 → CountsOn before.bad after.bad (cond bad 1 0)
+    → Answers (filter is_case (line ∷ [])) old before new after
+answers_one line old mid new before after bad is none adds e cases bads = rw is (record {
+  added = adds.added ++ 10 ∷ [];
+  verdicts = record { verdicts = adds.added ∷ []; each = (adds.kind, tt); whole = sym (append-nil (adds.added ++ 10 ∷ [])) };
+  text = e ∙ ap (λ xs. xs ++ 10 ∷ []) adds.text ∙ append_assoc old adds.added (10 ∷ []);
+  counted = cases;
+  counted_bad = rw (sym none) (subst (CountsOn before.bad after.bad) (sym (zero-add (cond bad 1 0))) bads);
+})
+
+AllZip-append : (cases more : List (List ℕ)) (texts more_texts : List (List ℕ)) → AllZip Verdict cases texts → AllZip Verdict more more_texts
+    → AllZip Verdict (cases ++ more) (texts ++ more_texts)
+AllZip-append [] more [] more_texts first second = second
+AllZip-append [] more (text ∷ texts) more_texts first second = absurd first
+AllZip-append (line ∷ cases) more [] more_texts first second = absurd first
+AllZip-append (line ∷ cases) more (text ∷ texts) more_texts first second = (first.0, AllZip-append cases more texts more_texts first.1 second)
+
+IsVerdictText-append : (cases more : List (List ℕ)) (text more_text : List ℕ) → IsVerdictText cases text → IsVerdictText more more_text
+    → IsVerdictText (cases ++ more) (text ++ more_text)
+IsVerdictText-append cases more text more_text first second = record {
+  verdicts = first.verdicts ++ second.verdicts;
+  each = AllZip-append cases more first.verdicts second.verdicts first.each second.each;
+  whole = ap (λ xs. xs ++ more_text) first.whole ∙ ap (λ xs. flat_map (λ verdict. verdict ++ 10 ∷ []) first.verdicts ++ xs) second.whole
+      ∙ sym (flat_map-append (λ verdict. verdict ++ 10 ∷ []) first.verdicts second.verdicts);
+}
+
+CountsOn-none : (count : ℕ) → CountsOn count count 0
+CountsOn-none count total e = let same : total ≡ total + 0 = omega arith in e ∙ ap saturated same
+
+CountsOn-append : (a b c more most : ℕ) → CountsOn a b more → CountsOn b c most → CountsOn a c (more + most)
+CountsOn-append a b c more most first second total e =
+    let regrouped : total + more + most ≡ total + (more + most) = omega arith in
+    second (total + more) (first total e) ∙ ap saturated regrouped
+
+pub IsVerdictText-none : IsVerdictText [] []
+IsVerdictText-none = record { verdicts = []; each = tt; whole = refl }
+
+pub Answers-none : (text : List ℕ) (summary : Summary) → Answers [] text summary text summary
+Answers-none text summary = record {
+  added = [];
+  verdicts = IsVerdictText-none;
+  text = sym (append-nil text);
+  counted = CountsOn-none summary.cases;
+  counted_bad = CountsOn-none summary.bad;
+}
+
+-- some cases were answered, and then some more
+pub Answers-append : (cases more : List (List ℕ)) (s t u : List ℕ) (a b c : Summary) → Answers cases s a t b → Answers more t b u c
+    → Answers (cases ++ more) s a u c
+Answers-append cases more s t u a b c first second = record {
+  added = first.added ++ second.added;
+  verdicts = IsVerdictText-append cases more first.added second.added first.verdicts second.verdicts;
+  text = second.text ∙ ap (λ xs. xs ++ second.added) first.text ∙ append_assoc s first.added second.added;
+  counted = rw (length-append cases more) (CountsOn-append a.cases b.cases c.cases (length cases) (length more) first.counted second.counted);
+  counted_bad = rw (sum_by-append (λ line. cond (is_bad line) 1 0) cases more)
+      (CountsOn-append a.bad b.bad c.bad (count_by is_bad cases) (count_by is_bad more) first.counted_bad second.counted_bad);
+}
+
+-- the answers to some lines, and then to one more
+pub Answers-line : (lines : List (List ℕ)) (line : List ℕ) (s t u : List ℕ) (a b c : Summary)
+    → Answers (filter is_case (map strip_carriage_return lines)) s a t b → Answers (filter is_case (strip_carriage_return line ∷ [])) t b u c
+    → Answers (filter is_case (map strip_carriage_return (lines ++ line ∷ []))) s a u c
+Answers-line lines line s t u a b c first second =
+    let more : filter is_case (map strip_carriage_return (lines ++ line ∷ [])) ≡ filter is_case (map strip_carriage_return lines) ++ filter is_case (strip_carriage_return line ∷ [])
+    = ap (filter is_case) (map-append strip_carriage_return lines (line ∷ [])) ∙ filter-append is_case (map strip_carriage_return lines) (strip_carriage_return line ∷ []) in
+    subst (λ cases. Answers cases s a u c) (sym more) (Answers-append _ _ s t u a b c first second)
