@@ -1,16 +1,16 @@
--- Laws of lines.
-use Rattle.std.proofs.Common.{◌≡◌, ℕ, ◌+◌, Bool, true, false, eqb, eqb-true, List, [], ◌∷◌, ◌++◌, map, length, take, refl, sym, ap, subst, ◌∙◌, arith, append_assoc, append-nil}
-use Rattle.std.specs.Prelude.{All, count_by, filter, flat_map, if◌then◌else◌, ◌==◌}
+-- Laws of lines, and of the cases among them.
+use Rattle.std.proofs.Common.{◌≡◌, ℕ, Bool, true, false, eqb, eqb-true, List, [], ◌∷◌, ◌++◌, map, length, take, refl, sym, ap, ◌∙◌, arith, append_assoc, append-nil}
+use Rattle.std.specs.Prelude.{count_by, filter, flat_map, if◌then◌else◌, ◌==◌}
 use Rattle.std.specs.List.{AllByRecursion, slice_split}
 use Rattle.std.specs.Str.Lines.{lines, lines_of_parts, strip_carriage_return}
 use Rattle.std.proofs.lemmas.Bool.Decides.{nat_tests}
 use Rattle.std.proofs.lemmas.Grind.{flat_map-append}
-use Rattle.std.proofs.lemmas.List.{length-map, length-append}
-use Rattle.std.proofs.lemmas.List.Elements.{All-append, All-cons, All-head, All-nil, All-tail, recursion_from_All}
+use Rattle.std.proofs.lemmas.List.{map-append, length-map, length-append}
+use Rattle.std.proofs.lemmas.List.Elements.{filter-append, All-append, All-cons, All-head, All-nil, All-tail, recursion_from_All}
 use Rattle.std.proofs.lemmas.List.Splits.{slice_split_at, slice_split_none, length-slice_split}
 use Rattle.std.proofs.Math.Seq.{take-append_seam}
 use Rattle.grain_check.proofs.SearchLaws.{Lacks-nil}
-use Rattle.grain_check.specs.Lines.{Lacks, IsCut, is_line_feed, complete_lines}
+use Rattle.grain_check.specs.Lines.{Lacks, IsCut, is_line_feed, is_case, cases_of, complete_cases, complete_lines}
 
 -- the lines, each ended by a line feed
 abbrev pub ended : List (List ℕ) → List ℕ
@@ -41,10 +41,10 @@ pieces-cut : (input : List ℕ) (parts : List (List ℕ)) (rest : List ℕ) → 
 pieces-cut input parts rest cut = ap (slice_split is_line_feed) cut.whole ∙ pieces_by parts rest (recursion_from_All (Lacks 10) parts cut.each) cut.lacks
 
 -- the last line, if anything stands there
-abbrev pub last_line : List ℕ → List (List ℕ)
+abbrev last_line : List ℕ → List (List ℕ)
 last_line rest = if length rest == 0 then [] else rest ∷ []
 
-pub last_line-some : (byte : ℕ) (bytes : List ℕ) → last_line (byte ∷ bytes) ≡ (byte ∷ bytes) ∷ []
+last_line-some : (byte : ℕ) (bytes : List ℕ) → last_line (byte ∷ bytes) ≡ (byte ∷ bytes) ∷ []
 last_line-some byte bytes = grind (arith, nat_tests)
 
 lines_by : (parts : List (List ℕ)) (rest : List ℕ) → lines_of_parts (parts ++ rest ∷ []) ≡ map strip_carriage_return parts ++ last_line rest
@@ -52,7 +52,7 @@ lines_by [] rest = refl
 lines_by (line ∷ []) rest = refl
 lines_by (line ∷ next ∷ parts) rest = ap (λ xs. strip_carriage_return line ∷ xs) (lines_by (next ∷ parts) rest)
 
-pub lines-cut : (input : List ℕ) (parts : List (List ℕ)) (rest : List ℕ) → IsCut input parts rest → lines input ≡ map strip_carriage_return parts ++ last_line rest
+lines-cut : (input : List ℕ) (parts : List (List ℕ)) (rest : List ℕ) → IsCut input parts rest → lines input ≡ map strip_carriage_return parts ++ last_line rest
 lines-cut input parts rest cut = ap lines_of_parts (pieces-cut input parts rest cut) ∙ lines_by parts rest
 
 -- there are as many line feeds as complete lines
@@ -60,11 +60,31 @@ feeds-cut : (input : List ℕ) (parts : List (List ℕ)) (rest : List ℕ) → I
 feeds-cut input parts rest cut =
     omega (arith, length-slice_split is_line_feed input, ap length (pieces-cut input parts rest cut), length-append parts (rest ∷ []), length-map parts strip_carriage_return)
 
-pub complete_lines-cut : (input : List ℕ) (parts : List (List ℕ)) (rest : List ℕ) → IsCut input parts rest → complete_lines input ≡ map strip_carriage_return parts
+complete_lines-cut : (input : List ℕ) (parts : List (List ℕ)) (rest : List ℕ) → IsCut input parts rest → complete_lines input ≡ map strip_carriage_return parts
 complete_lines-cut input parts rest cut =
     let count = feeds-cut input parts rest cut in
     ap (λ n. take n (lines input)) count ∙ ap (take (length (map strip_carriage_return parts))) (lines-cut input parts rest cut)
     ∙ take-append_seam (map strip_carriage_return parts) (last_line rest)
+
+-- the cases among complete lines
+abbrev pub cases_in : List (List ℕ) → List (List ℕ)
+cases_in parts = filter is_case (map strip_carriage_return parts)
+
+pub cases_in-append : (parts more : List (List ℕ)) → cases_in (parts ++ more) ≡ cases_in parts ++ cases_in more
+cases_in-append parts more = ap (filter is_case) (map-append strip_carriage_return parts more) ∙ filter-append is_case (map strip_carriage_return parts) (map strip_carriage_return more)
+
+pub complete_cases-cut : (input : List ℕ) (parts : List (List ℕ)) (rest : List ℕ) → IsCut input parts rest → complete_cases input ≡ cases_in parts
+complete_cases-cut input parts rest cut = ap (filter is_case) (complete_lines-cut input parts rest cut)
+
+-- an empty last line is no case
+last_case : (rest : List ℕ) → filter is_case (last_line rest) ≡ filter is_case (rest ∷ [])
+last_case [] = refl
+last_case (byte ∷ bytes) = ap (filter is_case) (last_line-some byte bytes)
+
+pub cases_of-cut : (input : List ℕ) (parts : List (List ℕ)) (rest : List ℕ) → IsCut input parts rest → cases_of input ≡ cases_in parts ++ filter is_case (rest ∷ [])
+cases_of-cut input parts rest cut =
+    ap (filter is_case) (lines-cut input parts rest cut) ∙ filter-append is_case (map strip_carriage_return parts) (last_line rest)
+    ∙ ap (λ xs. cases_in parts ++ xs) (last_case rest)
 
 -- one more byte in front
 cut_more : (byte : ℕ) (bytes : List ℕ) (lines : List (List ℕ)) (rest : List ℕ) (b : Bool) → eqb byte 10 ≡ b → IsCut bytes lines rest

@@ -73,10 +73,11 @@ pub fn run<S: Source, K: Sink>(
     ensures all_read { ¬ IsErrOf result RunError.Read → S.mark reader.new ≡ S.mark reader.old }
     ensures all_written { ¬ IsErrOf result RunError.Write → K.mark writer.new ≡ K.mark writer.old }
 {
-    let mut buffer = room(alloc)?;
+    let mut memory = room(alloc)?;
+    let buffer = memory.as_mut_slice();
     let mut report = Report::new(alloc);
     'reading: for _turn in 0..u64::MAX {
-        let Ok(count) = reader.read(buffer.as_mut_slice()) else {
+        let Ok(count) = reader.read(buffer) else {
             return Err(RunError::Read);
         };
         if count == 0 {

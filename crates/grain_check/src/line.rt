@@ -1,6 +1,6 @@
 //! The words of a line, and what it asks.
 
-ghost use Rattle.std.specs.Prelude.{◌≡◌, ◌<◌, List, [], ◌∷◌, ◌++◌, length, slice_index, take, IfSome, IfNone, IfOk};
+ghost use Rattle.std.specs.Prelude.{◌≡◌, ◌<◌, ◌≤◌, List, [], ◌∷◌, ◌++◌, length, slice_index, take, Contains, IfSome, IfNone, IfOk};
 ghost use Rattle.std.specs.Option.{option_map};
 ghost use Rattle.std.specs.Str.Lines.{strip_carriage_return};
 ghost use Rattle.grain_check.specs.Lines.{Lacks, Skips};
@@ -11,7 +11,7 @@ ghost use Rattle.grain_check.specs.Views.{view};
 use hex::FromHexError;
 use std::alloc::{AllocError, Global};
 
-/// How many bytes a search tests together.
+/// How many bytes a search tests together, which is much faster than one after another.
 const BLOCK: usize = 64;
 
 /// What a case asks, one variant for each form.
@@ -21,9 +21,10 @@ pub(crate) enum Case {
     Code(Vec<u8>),
 }
 
-/// The text without the blocks at its front that lack the byte.
+/// The text without the blocks at its front that lack the byte, up to one that has it.
 fn skip_blocks(text: &[u8], byte: u8) -> &[u8]
-    ensures { Skips byte text.now result.now }
+    ensures skips { Skips byte text.now result.now }
+    ensures stops { BLOCK ≤ length result.now → Contains (take BLOCK result.now) byte }
 {
     let mut rest = text;
     'skipping: while let Some((block, more)) = rest.split_first_chunk::<BLOCK>() {
@@ -116,10 +117,7 @@ fn code_case(alloc: Global, fields: &[u8]) -> Result<Option<Case>, AllocError>
     if next_word(rest).is_some() {
         return Ok(None);
     }
-    match hex_of(alloc, hex)? {
-        Some(bytes) => Ok(Some(Case::Code(bytes))),
-        None => Ok(None),
-    }
+    Ok(hex_of(alloc, hex)?.map(Case::Code))
 }
 
 /// What the line asks, or nothing where it has no form of a case.

@@ -1,11 +1,11 @@
 //! Runs over bytes, with reads, writes and growths that fail.
 
-ghost use Rattle.std.specs.Prelude.{Some};
+ghost use Rattle.std.specs.Prelude.{◌≤◌, Some, take};
+ghost use Rattle.grain_check.specs.declared.driver.tests.TheConstants.{ROOM};
 
 use super::*;
 use crate::status;
 use crate::stream::Failed;
-use std::test::Fail;
 
 /// Gives its bytes, at most so many a call, and fails once so many were given.
 #[derive(Drop)]
@@ -52,33 +52,42 @@ impl Source for Given<'_> {
     }
 }
 
-/// Takes bytes, at most so many a call, and fails once so many were taken.
+/// How many bytes the tests write at most.
+const ROOM: usize = 64;
+
+/// Takes bytes, at most so many a call, and fails once so many were taken. It allocates nothing.
 #[derive(Drop)]
 struct Taken {
-    bytes: Vec<u8>,
+    room: [u8; ROOM],
+    len: usize,
     each: usize,
     before_failure: usize,
     fails_by_none: bool,
     failures: u64,
     calls_after: u64,
+    ghost within: { len ≤ ROOM },
 }
 
 impl Taken {
-    /// Has room for all that the tests write, so that it refuses no growth.
-    fn new(alloc: Global, each: usize, before_failure: usize) -> Result<Self, AllocError> {
-        Ok(Taken {
-            bytes: Vec::with_capacity(alloc, 400)?,
+    fn new(each: usize, before_failure: usize) -> Self {
+        Taken {
+            room: [0; ROOM],
+            len: 0,
             each,
             before_failure,
             fails_by_none: false,
             failures: 0,
             calls_after: 0,
-        })
+        }
+    }
+
+    fn bytes(&self) -> &[u8] {
+        &self.room[..self.len]
     }
 }
 
 impl Sink for Taken {
-    ghost taken = { λ sink. Some sink.bytes.items };
+    ghost taken = { λ sink. Some (take sink.len sink.room) };
 
     ghost mark = { λ sink. sink.failures };
 
@@ -89,7 +98,8 @@ impl Sink for Taken {
         if self.failures != 0 {
             self.calls_after = self.calls_after.saturating_add(1);
         }
-        if self.before_failure == 0 {
+        let most = self.each.min(self.before_failure).min(ROOM - self.len);
+        if most == 0 {
             self.failures = self.failures.wrapping_add(1);
             return if self.fails_by_none {
                 Ok(0)
@@ -97,12 +107,10 @@ impl Sink for Taken {
                 Err(Failed)
             };
         }
-        let most = self.each.max(1).min(self.before_failure);
         let count = bytes.len().min(most);
-        if self.bytes.extend_from_slice(&bytes[..count]).is_err() {
-            self.failures = self.failures.wrapping_add(1);
-            return Err(Failed);
-        }
+        let end = self.len + count;
+        self.room[self.len..end].copy_from_slice(&bytes[..count]);
+        self.len = end;
         self.before_failure -= count;
         Ok(count)
     }
@@ -158,42 +166,40 @@ const ROWS: [Row; 9] = [
 ];
 
 #[test]
-fn answers_lines(rt: HostRuntime) -> Result<(), Fail> {
+fn answers_lines(rt: HostRuntime) {
     for (input, text, cases, bad, wanted) in ROWS {
         for each in [1, 7, 100000] {
             let mut reader = Given::new(input, each, usize::MAX);
-            let mut writer = Taken::new(rt.alloc(), each, usize::MAX)?;
+            let mut writer = Taken::new(each, usize::MAX);
             let outcome = run(rt.alloc(), &mut reader, &mut writer);
             assert_eq!(rt; outcome, Ok(Summary { cases, bad }));
-            assert_eq!(rt; writer.bytes.as_slice(), text);
+            assert_eq!(rt; writer.bytes(), text);
             assert_eq!(rt; status(&outcome), wanted);
         }
     }
-    Ok(())
 }
 
 #[test]
-fn a_write_fails(rt: HostRuntime) -> Result<(), Fail> {
+fn a_write_fails(rt: HostRuntime) {
     for k in 0..25usize {
         for fails_by_none in [false, true] {
             let mut reader = Given::new(INPUT, 100, usize::MAX);
-            let mut writer = Taken::new(rt.alloc(), 1, k)?;
+            let mut writer = Taken::new(1, k);
             writer.fails_by_none = fails_by_none;
             let outcome = run(rt.alloc(), &mut reader, &mut writer);
             assert_eq!(rt; outcome, Err(RunError::Write), "after {k}");
             assert_eq!(rt; status(&outcome), 4);
-            assert_eq!(rt; writer.bytes.as_slice(), &TEXT[..k], "after {k}");
+            assert_eq!(rt; writer.bytes(), &TEXT[..k], "after {k}");
             assert_eq!(rt; writer.calls_after, 0, "after {k}");
         }
     }
-    Ok(())
 }
 
 #[test]
-fn a_read_fails(rt: HostRuntime) -> Result<(), Fail> {
+fn a_read_fails(rt: HostRuntime) {
     for k in 0..25usize {
         let mut reader = Given::new(INPUT, 3, k);
-        let mut writer = Taken::new(rt.alloc(), 1, usize::MAX)?;
+        let mut writer = Taken::new(1, usize::MAX);
         let outcome = run(rt.alloc(), &mut reader, &mut writer);
         let wanted = match k {
             0..10 => 0,
@@ -202,35 +208,33 @@ fn a_read_fails(rt: HostRuntime) -> Result<(), Fail> {
         };
         assert_eq!(rt; outcome, Err(RunError::Read), "after {k}");
         assert_eq!(rt; status(&outcome), 3);
-        assert_eq!(rt; writer.bytes.as_slice(), &TEXT[..wanted], "after {k}");
+        assert_eq!(rt; writer.bytes(), &TEXT[..wanted], "after {k}");
         assert_eq!(rt; reader.calls_after, 0, "after {k}");
     }
-    Ok(())
 }
 
 /// To be run with each allocation failing in turn: `rt try --test --fail-alloc N` for N from 1 on.
 #[test]
-fn memory_fails(rt: HostRuntime) -> Result<(), Fail> {
+fn memory_fails(rt: HostRuntime) {
     let mut reader = Given::new(INPUT, 12, usize::MAX);
-    let mut writer = Taken::new(rt.alloc(), 100, usize::MAX)?;
+    let mut writer = Taken::new(100, usize::MAX);
     let outcome = run(rt.alloc(), &mut reader, &mut writer);
     match &outcome {
         Ok(summary) => {
             assert_eq!(rt; *summary, Summary { cases: 2, bad: 0 });
-            assert_eq!(rt; writer.bytes.as_slice(), TEXT);
+            assert_eq!(rt; writer.bytes(), TEXT);
         }
         Err(error) => {
             assert_eq!(rt; *error, RunError::OutOfMemory);
             assert_eq!(rt; status(&outcome), 5);
-            let taken = writer.bytes.len();
+            let taken = writer.len;
             assert!(rt; taken == 0 || taken == 8);
-            assert!(rt; TEXT.starts_with(&writer.bytes));
+            assert!(rt; TEXT.starts_with(writer.bytes()));
         }
     }
-    writer.bytes.clear();
+    let mut writer = Taken::new(100, usize::MAX);
     let mut reader = Given::new(INPUT, 12, usize::MAX);
     let again = run(rt.alloc(), &mut reader, &mut writer);
     assert_eq!(rt; again, Ok(Summary { cases: 2, bad: 0 }));
-    assert_eq!(rt; writer.bytes.as_slice(), TEXT);
-    Ok(())
+    assert_eq!(rt; writer.bytes(), TEXT);
 }

@@ -1,4 +1,4 @@
-use Rattle.std.proofs.Common.{ℕ, List, ◌++◌, ◌∷◌, [], ap, refl, sym, subst, ◌∙◌, string_bytes}
+use Rattle.std.proofs.Common.{◌++◌, ◌∷◌, [], ap, refl, sym, subst, ◌∙◌, string_bytes}
 use Rattle.std.proofs.lemmas.List.Elements.{All-append, All-cons, All-nil}
 use Rattle.grain_check.specs.Lines.{Lacks}
 use Rattle.grain_check.proofs.SearchLaws.{Lacks-nil, Lacks-append}
