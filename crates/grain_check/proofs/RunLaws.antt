@@ -8,75 +8,70 @@ use Rattle.std.proofs.lemmas.List.Elements.{All-nil}
 use Rattle.grain_check.specs.Lines.{IsCut, Lacks, cases_of, is_case}
 use Rattle.grain_check.specs.Streams.{SendsFront}
 use Rattle.grain_check.specs.Verdicts.{IsVerdictText}
-use Rattle.grain_check.specs.Reports.{Answers, AnswersChunk, CountsOn, saturated}
+use Rattle.grain_check.specs.Reports.{Answers, AnswersChunk, CountsOn, Written, nothing, saturated}
 use Rattle.grain_check.specs.Runs.{AnswersAll, AnswersComplete, AnswersFirst, AnswersFront, AreDue}
 use Rattle.grain_check.specs.declared.report.Summary.{Summary}
 use Rattle.grain_check.proofs.SearchLaws.{Lacks-nil}
 use Rattle.grain_check.proofs.LineLaws.{IsCut-append, cases_in, cases_in-append, cases_of-cut, complete_cases-cut, cut_of}
 use Rattle.grain_check.proofs.VerdictLaws.{Answers-none, Answers-append, IsVerdictText-none}
 
--- nothing was counted yet
-abbrev pub nothing : Summary
-nothing = record { cases = 0; bad = 0 }
-
 -- an input was read whose cases are answered by what was sent and by the text that is yet to be sent
-pub record Pending (left left' taken taken' : Option (List ℕ)) (input : List ℕ) (cases : List (List ℕ)) (text : List ℕ) (summary : Summary) : Type 0 where
+pub record Pending (left left' taken taken' : Option (List ℕ)) (input : List ℕ) (cases : List (List ℕ)) (written : Written) : Type 0 where
   pub sent : List ℕ
   pub read : Consumes left left' input
-  pub answers : Answers cases [] nothing (sent ++ text) summary
-  pub written : Appends taken taken' sent
+  pub answers : Answers cases nothing (record { text = sent ++ written.text; summary = written.summary })
+  pub sending : Appends taken taken' sent
 
-pending_none : (left taken : Option (List ℕ)) (summary : Summary) → summary.cases ≡ 0 → summary.bad ≡ 0 → Pending left left taken taken [] [] [] summary
-pending_none left taken summary cases bad = record {
+pending_none : (left taken : Option (List ℕ)) → Pending left left taken taken [] [] nothing
+pending_none left taken = record {
   sent = [];
   read = Consumes-nil left;
-  answers = subst (λ s. Answers [] [] nothing [] s) (same summary cases bad) (Answers-none [] nothing);
-  written = Appends-nil taken;
-} where
-  same : (s : Summary) → s.cases ≡ 0 → s.bad ≡ 0 → nothing ≡ s
-  same s c b = ap (λ n. record { cases = n; bad = 0 }) (sym c) ∙ ap (λ n. record { cases = s.cases; bad = n }) (sym b)
+  answers = Answers-none nothing;
+  sending = Appends-nil taken;
+}
 
 -- more was read, and more cases were answered
-pending_more : {left left' left'' taken taken' : Option (List ℕ)} {input : List ℕ} {cases more : List (List ℕ)} {old_text new_text : List ℕ} {old new : Summary} (chunk : List ℕ)
-    → Pending left left' taken taken' input cases [] old → Consumes left' left'' chunk → old_text ≡ [] → Answers more old_text old new_text new
-    → Pending left left'' taken taken' (input ++ chunk) (cases ++ more) new_text new
-pending_more {left} {left'} {left''} {input = input} {cases = cases} {more = more} {new_text = new_text} {old = old} {new = new} chunk before read none since = record {
+pending_more : {left left' left'' taken taken' : Option (List ℕ)} {input : List ℕ} {cases more : List (List ℕ)} {old new : Written} (chunk : List ℕ)
+    → Pending left left' taken taken' input cases old → Consumes left' left'' chunk → Answers more old new
+    → Pending left left'' taken taken' (input ++ chunk) (cases ++ more) new
+pending_more {left} {left'} {left''} {input = input} {old = old} chunk before read since = record {
   sent = before.sent;
   read = Consumes-trans left left' left'' input chunk before.read read;
-  answers = Answers-append cases more [] before.sent (before.sent ++ new_text) nothing old new
-      (subst (λ xs. Answers cases [] nothing xs old) (append-nil before.sent) before.answers)
-      (record {
-        added = since.added;
-        verdicts = since.verdicts;
-        text = ap (λ xs. before.sent ++ xs) (since.text ∙ ap (λ xs. xs ++ since.added) none);
-        counted = since.counted;
-        counted_bad = since.counted_bad;
-      });
-  written = before.written;
+  answers = Answers-append before.answers (record {
+    added = since.added;
+    verdicts = since.verdicts;
+    text = ap (λ xs. before.sent ++ xs) since.text ∙ sym (append_assoc before.sent old.text since.added);
+    counted = since.counted;
+    counted_bad = since.counted_bad;
+  });
+  sending = before.sending;
 }
 
 -- the text was sent
-pending_sent : {left left' taken taken' taken'' : Option (List ℕ)} {input : List ℕ} {cases : List (List ℕ)} {text : List ℕ} {summary : Summary}
-    → Pending left left' taken taken' input cases text summary → Appends taken' taken'' text → Pending left left' taken taken'' input cases [] summary
-pending_sent {taken = taken} {taken' = taken'} {taken'' = taken''} {cases = cases} {text = text} {summary = summary} before sent = record {
-  sent = before.sent ++ text;
+pending_sent : {left left' taken taken' taken'' : Option (List ℕ)} {input : List ℕ} {cases : List (List ℕ)} {old new : Written}
+    → Pending left left' taken taken' input cases old → Appends taken' taken'' old.text → new.text ≡ [] → new.summary ≡ old.summary
+    → Pending left left' taken taken'' input cases new
+pending_sent {taken = taken} {taken' = taken'} {taken'' = taken''} {cases = cases} {old = old} {new = new} before sent none same = record {
+  sent = before.sent ++ old.text;
   read = before.read;
-  answers = subst (λ xs. Answers cases [] nothing xs summary) (sym (append-nil (before.sent ++ text))) before.answers;
-  written = Appends-trans taken taken' taken'' before.sent text before.written sent;
+  answers = subst (λ text. Answers cases nothing (record { text = text; summary = new.summary }))
+      (sym (ap (λ xs. (before.sent ++ old.text) ++ xs) none ∙ append-nil (before.sent ++ old.text)))
+      (subst (λ summary. Answers cases nothing (record { text = before.sent ++ old.text; summary = summary })) (sym same) before.answers);
+  sending = Appends-trans taken taken' taken'' before.sent old.text before.sending sent;
 }
 
 -- all that was answered is one verdict text
-text_of : {left left' taken taken' : Option (List ℕ)} {input : List ℕ} {cases : List (List ℕ)} {text : List ℕ} {summary : Summary}
-    → (before : Pending left left' taken taken' input cases text summary) → IsVerdictText cases (before.sent ++ text)
+text_of : {left left' taken taken' : Option (List ℕ)} {input : List ℕ} {cases : List (List ℕ)} {written : Written}
+    → (before : Pending left left' taken taken' input cases written) → IsVerdictText cases (before.sent ++ written.text)
 text_of {cases = cases} before = subst (IsVerdictText cases) (sym before.answers.text) before.answers.verdicts
 
-sent_of : {left left' taken taken' : Option (List ℕ)} {input : List ℕ} {cases : List (List ℕ)} {summary : Summary}
-    → (before : Pending left left' taken taken' input cases [] summary) → IsVerdictText cases before.sent
-sent_of {cases = cases} before = subst (IsVerdictText cases) (append-nil before.sent) (text_of before)
+sent_of : {left left' taken taken' : Option (List ℕ)} {input : List ℕ} {cases : List (List ℕ)} {written : Written}
+    → (before : Pending left left' taken taken' input cases written) → written.text ≡ [] → IsVerdictText cases before.sent
+sent_of {cases = cases} before none = subst (IsVerdictText cases) (ap (λ xs. before.sent ++ xs) none ∙ append-nil before.sent) (text_of before)
 
 -- only a front of the text was sent
-pending_cut : {left left' taken taken' taken'' : Option (List ℕ)} {input : List ℕ} {cases : List (List ℕ)} {text : List ℕ} {summary : Summary}
-    → Pending left left' taken taken' input cases text summary → AreDue input left' cases → SendsFront taken' taken'' text → AnswersFront left left' taken taken''
+pending_cut : {left left' taken taken' taken'' : Option (List ℕ)} {input : List ℕ} {cases : List (List ℕ)} {written : Written}
+    → Pending left left' taken taken' input cases written → AreDue input left' cases → SendsFront taken' taken'' written.text → AnswersFront left left' taken taken''
 pending_cut {taken = taken} {taken' = taken'} {taken'' = taken''} {input = input} {cases = cases} before due sent = record {
   input = input;
   cases = cases;
@@ -85,82 +80,85 @@ pending_cut {taken = taken} {taken' = taken'} {taken'' = taken''} {input = input
   read = before.read;
   due = due;
   verdicts = subst (IsVerdictText cases) (ap (λ xs. before.sent ++ xs) sent.parts ∙ sym (append_assoc before.sent sent.front sent.back)) (text_of before);
-  written = Appends-trans taken taken' taken'' before.sent sent.front before.written sent.sent;
+  written = Appends-trans taken taken' taken'' before.sent sent.front before.sending sent.sent;
   cut = sent.left;
 }
 
 -- The state between two turns: some bytes were read, and their complete lines are answered. What came of the next line is carried.
-pub record Reading (left left' taken taken' : Option (List ℕ)) (turns : ℕ) (carry : List ℕ) (summary : Summary) : Type 0 where
+pub record Reading (left left' taken taken' : Option (List ℕ)) (turns : ℕ) (carry : List ℕ) (written : Written) : Type 0 where
   pub input : List ℕ
   pub parts : List (List ℕ)
   pub cut : IsCut input parts carry
-  pub state : Pending left left' taken taken' input (cases_in parts) [] summary
+  pub state : Pending left left' taken taken' input (cases_in parts) written
+  pub sent : written.text ≡ []
   pub long : turns ≤ length input
 
-pub reading_none : (left taken : Option (List ℕ)) (carry : List ℕ) (summary : Summary) → carry ≡ [] → summary.cases ≡ 0 → summary.bad ≡ 0 → Reading left left taken taken 0 carry summary
-reading_none left taken carry summary none cases bad = record {
+pub reading_none : (left taken : Option (List ℕ)) (carry : List ℕ) (written : Written) → carry ≡ [] → written ≡ nothing → Reading left left taken taken 0 carry written
+reading_none left taken carry written empty none = record {
   input = [];
   parts = [];
-  cut = record { whole = sym none; each = All-nil (Lacks 10); lacks = subst (Lacks 10) (sym none) (Lacks-nil 10) };
-  state = pending_none left taken summary cases bad;
+  cut = record { whole = sym empty; each = All-nil (Lacks 10); lacks = subst (Lacks 10) (sym empty) (Lacks-nil 10) };
+  state = subst (Pending left left taken taken [] []) (sym none) (pending_none left taken);
+  sent = ap (λ w. w.text) none;
   long = omega arith;
 }
 
 -- a chunk was read, and its lines were answered
-fed : {left left' left'' taken taken' : Option (List ℕ)} {turns : ℕ} {carry chunk new_carry old_text new_text : List ℕ} {old new : Summary}
-    → (before : Reading left left' taken taken' turns carry old) → Consumes left' left'' chunk → old_text ≡ []
-    → (since : AnswersChunk carry chunk new_carry old_text old new_text new)
-    → Pending left left'' taken taken' (before.input ++ chunk) (cases_in (before.parts ++ since.lines)) new_text new
-fed {left} {left'' = left''} {taken = taken} {taken' = taken'} {chunk = chunk} {new_text = new_text} {new = new} before read none since =
-    subst (λ cases. Pending left left'' taken taken' (before.input ++ chunk) cases new_text new) (sym (cases_in-append before.parts since.lines))
-    (pending_more chunk before.state read none since.answers)
+fed : {left left' left'' taken taken' : Option (List ℕ)} {turns : ℕ} {carry chunk new_carry : List ℕ} {old new : Written}
+    → (before : Reading left left' taken taken' turns carry old) → Consumes left' left'' chunk → (since : AnswersChunk carry chunk new_carry old new)
+    → Pending left left'' taken taken' (before.input ++ chunk) (cases_in (before.parts ++ since.lines)) new
+fed {left} {left'' = left''} {taken = taken} {taken' = taken'} {chunk = chunk} {new = new} before read since =
+    subst (λ cases. Pending left left'' taken taken' (before.input ++ chunk) cases new) (sym (cases_in-append before.parts since.lines))
+    (pending_more chunk before.state read since.answers)
 
-fed_cut : {left left' taken taken' : Option (List ℕ)} {turns : ℕ} {carry chunk new_carry old_text new_text : List ℕ} {old new : Summary}
-    → (before : Reading left left' taken taken' turns carry old) → (since : AnswersChunk carry chunk new_carry old_text old new_text new)
+fed_cut : {left left' taken taken' : Option (List ℕ)} {turns : ℕ} {carry chunk new_carry : List ℕ} {old new : Written}
+    → (before : Reading left left' taken taken' turns carry old) → (since : AnswersChunk carry chunk new_carry old new)
     → IsCut (before.input ++ chunk) (before.parts ++ since.lines) new_carry
 fed_cut {carry = carry} {chunk = chunk} {new_carry = new_carry} before since = IsCut-append before.input chunk before.parts since.lines carry new_carry before.cut since.cut
 
 -- its verdicts were sent too
-pub reading_more : {left left' left'' taken taken' taken'' : Option (List ℕ)} {turns : ℕ} {carry chunk new_carry last_carry old_text new_text : List ℕ} {old new last : Summary}
-    → Reading left left' taken taken' turns carry old → Consumes left' left'' chunk → old_text ≡ [] → AnswersChunk carry chunk new_carry old_text old new_text new
-    → 0 < length chunk → Appends taken' taken'' new_text → last_carry ≡ new_carry → last ≡ new → Reading left left'' taken taken'' (turns + 1) last_carry last
-reading_more {left} {left'' = left''} {taken = taken} {taken'' = taken''} {chunk = chunk} before read none since some sent same_carry same = record {
+pub reading_more : {left left' left'' taken taken' taken'' : Option (List ℕ)} {turns : ℕ} {carry chunk new_carry last_carry : List ℕ} {old new last : Written}
+    → Reading left left' taken taken' turns carry old → Consumes left' left'' chunk → 0 < length chunk → AnswersChunk carry chunk new_carry old new
+    → Appends taken' taken'' new.text → last.text ≡ [] → last.summary ≡ new.summary → last_carry ≡ new_carry
+    → Reading left left'' taken taken'' (turns + 1) last_carry last
+reading_more {chunk = chunk} before read some since sent none same same_carry = record {
   input = before.input ++ chunk;
   parts = before.parts ++ since.lines;
   cut = subst (IsCut (before.input ++ chunk) (before.parts ++ since.lines)) (sym same_carry) (fed_cut before since);
-  state = subst (Pending left left'' taken taken'' (before.input ++ chunk) (cases_in (before.parts ++ since.lines)) []) (sym same) (pending_sent (fed before read none since) sent);
+  state = pending_sent (fed before read since) sent none same;
+  sent = none;
   long = omega (arith, length-append before.input chunk, before.long);
 }
 
 -- only a front of its verdicts was sent
-pub reading_cut : {left left' left'' taken taken' taken'' : Option (List ℕ)} {turns : ℕ} {carry chunk new_carry old_text new_text : List ℕ} {old new : Summary}
-    → Reading left left' taken taken' turns carry old → Consumes left' left'' chunk → old_text ≡ [] → AnswersChunk carry chunk new_carry old_text old new_text new
-    → SendsFront taken' taken'' new_text → AnswersFront left left'' taken taken''
-reading_cut {new_carry = new_carry} before read none since sent =
-    pending_cut (fed before read none since) (inl (sym (complete_cases-cut _ _ new_carry (fed_cut before since)))) sent
+pub reading_cut : {left left' left'' taken taken' taken'' : Option (List ℕ)} {turns : ℕ} {carry chunk new_carry : List ℕ} {old new : Written}
+    → Reading left left' taken taken' turns carry old → Consumes left' left'' chunk → AnswersChunk carry chunk new_carry old new
+    → SendsFront taken' taken'' new.text → AnswersFront left left'' taken taken''
+reading_cut {new_carry = new_carry} before read since sent =
+    pending_cut (fed before read since) (inl (sym (complete_cases-cut _ _ new_carry (fed_cut before since)))) sent
 
 -- a read failed
-pub reading_failed : {left left' left'' taken taken' : Option (List ℕ)} {turns : ℕ} {carry : List ℕ} {summary : Summary}
-    → Reading left left' taken taken' turns carry summary → Keeps left' left'' → AnswersComplete left left'' taken taken'
+pub reading_failed : {left left' left'' taken taken' : Option (List ℕ)} {turns : ℕ} {carry : List ℕ} {written : Written}
+    → Reading left left' taken taken' turns carry written → Keeps left' left'' → AnswersComplete left left'' taken taken'
 reading_failed {left} {left'} {left''} {carry = carry} before kept = record {
   input = before.input;
   text = before.state.sent;
   read = Consumes-kept left left' left'' before.input before.state.read kept;
-  verdicts = subst (λ cases. IsVerdictText cases before.state.sent) (sym (complete_cases-cut before.input before.parts carry before.cut)) (sent_of before.state);
-  written = before.state.written;
+  verdicts = subst (λ cases. IsVerdictText cases before.state.sent) (sym (complete_cases-cut before.input before.parts carry before.cut)) (sent_of before.state before.sent);
+  written = before.state.sending;
 }
 
 -- no more reads are made
-pub reading_left : {left left' taken taken' : Option (List ℕ)} {turns : ℕ} {carry : List ℕ} {summary : Summary}
-    → Reading left left' taken taken' turns carry summary → AnswersComplete left left' taken taken'
+pub reading_left : {left left' taken taken' : Option (List ℕ)} {turns : ℕ} {carry : List ℕ} {written : Written}
+    → Reading left left' taken taken' turns carry written → AnswersComplete left left' taken taken'
 reading_left {left' = left'} before = reading_failed before (kept left') where
   kept : (known : Option (List ℕ)) → Keeps known known
   kept None = tt
   kept (Some bytes) = refl
 
 -- there was no memory for a chunk
-pub reading_stopped : {left left' left'' taken taken' : Option (List ℕ)} {turns : ℕ} {carry : List ℕ} {summary : Summary} (chunk : List ℕ)
-    → Reading left left' taken taken' turns carry summary → Consumes left' left'' chunk → AnswersFirst left left'' taken taken'
+pub reading_stopped : {left left' left'' taken taken' : Option (List ℕ)} {turns : ℕ} {carry : List ℕ} {written : Written} (chunk : List ℕ)
+    → Reading left left' taken taken' turns carry written → Consumes left' left'' chunk → AnswersFirst left left'' taken taken'
 reading_stopped {left} {left'} {left''} {carry = carry} chunk before read =
     let (lines, rest, cut) = cut_of (carry ++ chunk) in
     let all = IsCut-append before.input chunk before.parts lines carry rest before.cut cut in
@@ -171,8 +169,8 @@ reading_stopped {left} {left'} {left''} {carry = carry} chunk before read =
       text = before.state.sent;
       read = Consumes-trans left left' left'' before.input chunk before.state.read read;
       first = complete_cases-cut _ _ rest all ∙ cases_in-append before.parts lines;
-      verdicts = sent_of before.state;
-      written = before.state.written;
+      verdicts = sent_of before.state before.sent;
+      written = before.state.sending;
     }
 
 -- there was no memory to begin with
@@ -189,41 +187,40 @@ nothing_read left taken = record {
 }
 
 -- the source ended, and the last line was answered
-finished : {left left' left'' taken taken' : Option (List ℕ)} {turns : ℕ} {carry old_text new_text : List ℕ} {old new : Summary} (chunk : List ℕ)
-    → (before : Reading left left' taken taken' turns carry old) → Consumes left' left'' chunk → chunk ≡ [] → old_text ≡ []
-    → Answers (filter is_case (carry ∷ [])) old_text old new_text new → Pending left left'' taken taken' before.input (cases_of before.input) new_text new
-finished {left} {left'' = left''} {taken = taken} {taken' = taken'} {carry = carry} {new_text = new_text} {new = new} chunk before read empty none since =
+finished : {left left' left'' taken taken' : Option (List ℕ)} {turns : ℕ} {carry : List ℕ} {old new : Written} (chunk : List ℕ)
+    → (before : Reading left left' taken taken' turns carry old) → Consumes left' left'' chunk → chunk ≡ []
+    → Answers (filter is_case (carry ∷ [])) old new → Pending left left'' taken taken' before.input (cases_of before.input) new
+finished {left} {left'' = left''} {taken = taken} {taken' = taken'} {carry = carry} {new = new} chunk before read empty since =
     let all : before.input ++ chunk ≡ before.input = ap (λ xs. before.input ++ xs) empty ∙ append-nil before.input in
-    subst (λ input. Pending left left'' taken taken' input (cases_of before.input) new_text new) all
-    (subst (λ cases. Pending left left'' taken taken' (before.input ++ chunk) cases new_text new) (sym (cases_of-cut before.input before.parts carry before.cut))
-    (pending_more chunk before.state read none since))
+    subst (λ input. Pending left left'' taken taken' input (cases_of before.input) new) all
+    (subst (λ cases. Pending left left'' taken taken' (before.input ++ chunk) cases new) (sym (cases_of-cut before.input before.parts carry before.cut))
+    (pending_more chunk before.state read since))
 
 total : (new n : ℕ) → CountsOn 0 new n → new ≡ saturated n
 total new n counts = let e : 0 + n ≡ n = omega arith in counts 0 refl ∙ ap saturated e
 
 -- its verdict was sent too
-pub reading_all : {left left' left'' taken taken' taken'' : Option (List ℕ)} {turns : ℕ} {carry old_text new_text : List ℕ} {old new last : Summary} (chunk : List ℕ)
-    → Reading left left' taken taken' turns carry old → Consumes left' left'' chunk → chunk ≡ [] → old_text ≡ []
-    → Answers (filter is_case (carry ∷ [])) old_text old new_text new → IsAtEnd left'' → Appends taken' taken'' new_text → last ≡ new → AnswersAll left left'' taken taken'' last
-reading_all {left} {left'' = left''} {taken = taken} {taken'' = taken''} {new = new} chunk before read empty none since at_end sent same =
-    let all = pending_sent (finished chunk before read empty none since) sent in
-    subst (AnswersAll left left'' taken taken'') (sym same) (record {
+pub reading_all : {left left' left'' taken taken' taken'' : Option (List ℕ)} {turns : ℕ} {carry : List ℕ} {old new last : Written} {summary : Summary} (chunk : List ℕ)
+    → Reading left left' taken taken' turns carry old → Consumes left' left'' chunk → chunk ≡ [] → IsAtEnd left'' → Answers (filter is_case (carry ∷ [])) old new
+    → Appends taken' taken'' new.text → last.text ≡ [] → last.summary ≡ new.summary → summary ≡ last.summary → AnswersAll left left'' taken taken'' summary
+reading_all {left} {left'' = left''} {taken = taken} {taken'' = taken''} {last = last} chunk before read empty at_end since sent none same is =
+    let all : Pending left left'' taken taken'' before.input (cases_of before.input) last = pending_sent (finished chunk before read empty since) sent none same in
+    subst (AnswersAll left left'' taken taken'') (sym is) (record {
       input = before.input;
       text = all.sent;
       read = all.read;
       ended = at_end;
-      verdicts = sent_of all;
-      written = all.written;
-      cases = total new.cases _ all.answers.counted;
-      bad = total new.bad _ all.answers.counted_bad;
+      verdicts = sent_of all none;
+      written = all.sending;
+      cases = total last.summary.cases _ all.answers.counted;
+      bad = total last.summary.bad _ all.answers.counted_bad;
     })
 
 -- only a front of it was sent
-pub reading_last_cut : {left left' left'' taken taken' taken'' : Option (List ℕ)} {turns : ℕ} {carry old_text new_text : List ℕ} {old new : Summary} (chunk : List ℕ)
-    → Reading left left' taken taken' turns carry old → Consumes left' left'' chunk → chunk ≡ [] → old_text ≡ []
-    → Answers (filter is_case (carry ∷ [])) old_text old new_text new → IsAtEnd left'' → SendsFront taken' taken'' new_text → AnswersFront left left'' taken taken''
-reading_last_cut chunk before read empty none since at_end sent =
-    pending_cut (finished chunk before read empty none since) (inr (at_end, refl)) sent
+pub reading_last_cut : {left left' left'' taken taken' taken'' : Option (List ℕ)} {turns : ℕ} {carry : List ℕ} {old new : Written} (chunk : List ℕ)
+    → Reading left left' taken taken' turns carry old → Consumes left' left'' chunk → chunk ≡ [] → IsAtEnd left'' → Answers (filter is_case (carry ∷ [])) old new
+    → SendsFront taken' taken'' new.text → AnswersFront left left'' taken taken''
+reading_last_cut chunk before read empty at_end since sent = pending_cut (finished chunk before read empty since) (inr (at_end, refl)) sent
 
 pub take_none : (n : ℕ) (xs : List ℕ) → n ≡ 0 → take n xs ≡ []
 take_none n xs e = grind (arith, common_steps)

@@ -1,18 +1,17 @@
 -- Laws of verdicts, and of the count of cases.
-use Rattle.std.proofs.Common.{◌≡◌, ℕ, ◌<◌, length, take, drop, ◌+◌, zero-add, Bool, true, cond, List, [], ◌∷◌, ◌++◌, map, Some, None, refl, sym, ap, subst, ◌∙◌, arith, append_assoc, append-nil, codes}
+use Rattle.std.proofs.Common.{◌≡◌, ℕ, ◌<◌, length, take, drop, ◌+◌, zero-add, Bool, true, cond, List, [], ◌∷◌, ◌++◌, Some, None, refl, sym, ap, subst, ◌∙◌, arith, append_assoc, append-nil, codes}
 use Rattle.std.specs.Prelude.{decimal, is_none, filter, flat_map, count_by}
 use Rattle.std.specs.List.{AllZip}
 use Rattle.std.proofs.lemmas.Grind.{flat_map-append}
 use Rattle.std.specs.Str.Lines.{strip_carriage_return}
-use Rattle.std.proofs.lemmas.List.{length-append, map-append}
-use Rattle.std.proofs.lemmas.List.Elements.{filter-append}
+use Rattle.std.proofs.lemmas.List.{length-append}
 use Rattle.std.proofs.lemmas.List.Sums.{sum_by-append}
 use Rattle.grain_bytecode.specs.declared.op.Op.{Op}
 use Rattle.grain_bytecode.specs.Split.{NoneStands, AreInstructions}
 use Rattle.grain_check.specs.Lines.{is_case}
 use Rattle.grain_check.specs.Verdicts.{code, asked, is_bad, CodeVerdict, whole, undecodable, Verdict, IsVerdictText}
-use Rattle.grain_check.specs.Reports.{Adds, Answers, CountsOn, saturated}
-use Rattle.grain_check.specs.declared.report.Summary.{Summary}
+use Rattle.grain_check.specs.Reports.{Adds, Answers, CountsOn, Written, saturated}
+use Rattle.grain_check.proofs.LineLaws.{cases_in, cases_in-append}
 
 pub adds_whole : (bytes old new : List ℕ) (count : ℕ) → (ops : List Op) × AreInstructions bytes ops × (length ops ≡ count)
     → new ≡ old ++ (codes "whole " ++ decimal count) → Adds (CodeVerdict bytes) old new
@@ -37,15 +36,15 @@ pub adds_code : (line bytes old new : List ℕ) → asked line ≡ Some (code by
 adds_code line bytes old new some adds = record { added = adds.added; kind = rw some adds.kind; text = adds.text }
 
 -- a case was answered and counted
-pub answers_one : (line old mid new : List ℕ) (before after : Summary) (bad : Bool) → is_case line ≡ true → bad ≡ is_none (asked line)
-    → Adds (Verdict line) old mid → new ≡ mid ++ 10 ∷ [] → CountsOn before.cases after.cases 1 → CountsOn before.bad after.bad (cond bad 1 0)
-    → Answers (filter is_case (line ∷ [])) old before new after
-answers_one line old mid new before after bad is none adds e cases bads = rw is (record {
+pub answers_one : (line mid : List ℕ) (old new : Written) (bad : Bool) → is_case line ≡ true → bad ≡ is_none (asked line)
+    → Adds (Verdict line) old.text mid → new.text ≡ mid ++ 10 ∷ [] → CountsOn old.summary.cases new.summary.cases 1 → CountsOn old.summary.bad new.summary.bad (cond bad 1 0)
+    → Answers (filter is_case (line ∷ [])) old new
+answers_one line mid old new bad is none adds e cases bads = rw is (record {
   added = adds.added ++ 10 ∷ [];
   verdicts = record { verdicts = adds.added ∷ []; each = (adds.kind, tt); whole = sym (append-nil (adds.added ++ 10 ∷ [])) };
-  text = e ∙ ap (λ xs. xs ++ 10 ∷ []) adds.text ∙ append_assoc old adds.added (10 ∷ []);
+  text = e ∙ ap (λ xs. xs ++ 10 ∷ []) adds.text ∙ append_assoc old.text adds.added (10 ∷ []);
   counted = cases;
-  counted_bad = rw (sym none) (subst (CountsOn before.bad after.bad) (sym (zero-add (cond bad 1 0))) bads);
+  counted_bad = rw (sym none) (subst (CountsOn old.summary.bad new.summary.bad) (sym (zero-add (cond bad 1 0))) bads);
 })
 
 AllZip-append : (cases more : List (List ℕ)) (texts more_texts : List (List ℕ)) → AllZip Verdict cases texts → AllZip Verdict more more_texts
@@ -75,32 +74,27 @@ CountsOn-append a b c more most first second total e =
 pub IsVerdictText-none : IsVerdictText [] []
 IsVerdictText-none = record { verdicts = []; each = tt; whole = refl }
 
-pub Answers-none : (text : List ℕ) (summary : Summary) → Answers [] text summary text summary
-Answers-none text summary = record {
+pub Answers-none : (written : Written) → Answers [] written written
+Answers-none written = record {
   added = [];
   verdicts = IsVerdictText-none;
-  text = sym (append-nil text);
-  counted = CountsOn-none summary.cases;
-  counted_bad = CountsOn-none summary.bad;
+  text = sym (append-nil written.text);
+  counted = CountsOn-none written.summary.cases;
+  counted_bad = CountsOn-none written.summary.bad;
 }
 
 -- some cases were answered, and then some more
-pub Answers-append : (cases more : List (List ℕ)) (s t u : List ℕ) (a b c : Summary) → Answers cases s a t b → Answers more t b u c
-    → Answers (cases ++ more) s a u c
-Answers-append cases more s t u a b c first second = record {
+pub Answers-append : {cases more : List (List ℕ)} {a b c : Written} → Answers cases a b → Answers more b c → Answers (cases ++ more) a c
+Answers-append {cases} {more} {a} {b} {c} first second = record {
   added = first.added ++ second.added;
   verdicts = IsVerdictText-append cases more first.added second.added first.verdicts second.verdicts;
-  text = second.text ∙ ap (λ xs. xs ++ second.added) first.text ∙ append_assoc s first.added second.added;
-  counted = rw (length-append cases more) (CountsOn-append a.cases b.cases c.cases (length cases) (length more) first.counted second.counted);
+  text = second.text ∙ ap (λ xs. xs ++ second.added) first.text ∙ append_assoc a.text first.added second.added;
+  counted = rw (length-append cases more) (CountsOn-append a.summary.cases b.summary.cases c.summary.cases (length cases) (length more) first.counted second.counted);
   counted_bad = rw (sum_by-append (λ line. cond (is_bad line) 1 0) cases more)
-      (CountsOn-append a.bad b.bad c.bad (count_by is_bad cases) (count_by is_bad more) first.counted_bad second.counted_bad);
+      (CountsOn-append a.summary.bad b.summary.bad c.summary.bad (count_by is_bad cases) (count_by is_bad more) first.counted_bad second.counted_bad);
 }
 
 -- the answers to some lines, and then to one more
-pub Answers-line : (lines : List (List ℕ)) (line : List ℕ) (s t u : List ℕ) (a b c : Summary)
-    → Answers (filter is_case (map strip_carriage_return lines)) s a t b → Answers (filter is_case (strip_carriage_return line ∷ [])) t b u c
-    → Answers (filter is_case (map strip_carriage_return (lines ++ line ∷ []))) s a u c
-Answers-line lines line s t u a b c first second =
-    let more : filter is_case (map strip_carriage_return (lines ++ line ∷ [])) ≡ filter is_case (map strip_carriage_return lines) ++ filter is_case (strip_carriage_return line ∷ [])
-    = ap (filter is_case) (map-append strip_carriage_return lines (line ∷ [])) ∙ filter-append is_case (map strip_carriage_return lines) (strip_carriage_return line ∷ []) in
-    subst (λ cases. Answers cases s a u c) (sym more) (Answers-append _ _ s t u a b c first second)
+pub Answers-line : {a b c : Written} (lines : List (List ℕ)) (line : List ℕ)
+    → Answers (cases_in lines) a b → Answers (filter is_case (strip_carriage_return line ∷ [])) b c → Answers (cases_in (lines ++ line ∷ [])) a c
+Answers-line {a} {c = c} lines line first second = subst (λ cases. Answers cases a c) (sym (cases_in-append lines (line ∷ []))) (Answers-append first second)

@@ -2,7 +2,8 @@
 
 ghost use Rattle.std.specs.Prelude.{◌≡◌, ◌≢◌, ◌<◌, vec_len, IfOk};
 ghost use Rattle.std.specs.Result.{IsErrOf};
-ghost use Rattle.grain_check.specs.Runs.{AnswersAll, AnswersComplete, AnswersFirst, AnswersFront, ReadFailed};
+ghost use Rattle.grain_check.specs.Runs.{AnswersAll, AnswersComplete, AnswersFirst};
+ghost use Rattle.grain_check.specs.Runs.{AnswersFront, ReadFailed};
 ghost use Rattle.grain_check.specs.declared.driver.RunError.TheVariants.{OutOfMemory};
 
 use crate::report::{Report, Summary};
@@ -41,13 +42,16 @@ fn room(alloc: Global) -> Result<Vec<u8>, AllocError>
     vec![in alloc; 0u8; CHUNK]
 }
 
-/// Reads all there is, and writes a verdict for each case as soon as its line is complete or the input has ended.
+/// Reads all there is, and writes a verdict for each case as soon as its line is complete or the
+/// input has ended.
 ///
-/// It holds one line and one buffer of the input, and the verdicts on the cases of that buffer.
+/// It holds one line at a time with the bytes that its digits spell, one buffer of the input and
+/// the verdicts on the cases of that buffer. Nothing is tried again after an error.
 ///
 /// # Errors
-/// [`RunError::Read`], [`RunError::Write`] and [`RunError::OutOfMemory`]. Nothing is tried again after an error, and
-/// what was written by then is a beginning of the verdicts.
+/// - [`RunError::Read`] where a read failed. The complete cases that were read are answered.
+/// - [`RunError::Write`] where a write failed. A beginning of the verdicts was written.
+/// - [`RunError::OutOfMemory`] where a growth was refused. The first of the cases are answered.
 pub fn run<S: Source, K: Sink>(
     alloc: Global,
     reader: &mut S,

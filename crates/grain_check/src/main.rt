@@ -1,8 +1,8 @@
 //! The line program: a verdict on standard output for each case on standard input.
 //!
-//! Each line of the input that is neither empty nor a comment is a case, and is answered by one line. [`run`] does
-//! so over any [`Source`] and [`Sink`], and says by a [`RunError`] where it had to stop. The forms of cases and
-//! verdicts are those of docs/FORMAT.md.
+//! Each line of the input that is neither empty nor a comment is a case, and is answered by one
+//! line. [`run`] does so over any [`Source`] and [`Sink`], and says by a [`RunError`] why it had
+//! to stop before the end. The forms of cases and verdicts are those of docs/FORMAT.md.
 #![tactic(auto)]
 
 mod driver;
@@ -19,8 +19,10 @@ pub use crate::stream::{Failed, OverRead, OverWrite, Sink, Source};
 use std::io;
 use std::process::ExitCode;
 
-/// The status that the process ends with: 0 where each case had a form, 2 where a case had none, and where the run
-/// stopped before the end 3 for a read, 4 for a write and 5 for want of memory.
+/// The status that the process ends with.
+///
+/// It is 0 where each case had a form and 2 where one had none. Where the run stopped before the
+/// end it is 3 for a read, 4 for a write and 5 for want of memory.
 pub fn status(outcome: &Result<Summary, RunError>) -> u8
     ensures { result ≡ status_of outcome.now }
 {

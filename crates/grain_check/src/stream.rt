@@ -1,6 +1,6 @@
 //! What a run reads from and writes to.
 
-ghost use Rattle.std.specs.Prelude.{◌≡◌, ◌≢◌, ℕ, List, Option, None, OnOk, OnErr};
+ghost use Rattle.std.specs.Prelude.{◌≡◌, ◌≢◌, ℕ, ◌+◌, ◌%◌, ◌^◌, List, Option, None, OnOk, OnErr};
 ghost use Rattle.std.specs.Io.{ReadsAtMost, WritesAtMost};
 ghost use Rattle.std.specs.Io.KnownBytes.{Appends, ReadConsumes, WriteAppends};
 ghost use Rattle.grain_check.specs.Streams.{IsFailedWrite, SendsFront};
@@ -19,10 +19,12 @@ pub trait Source {
     // Changes with each failure and with nothing else.
     ghost mark: { Self → ℕ };
 
-    /// Reads into the front of the buffer, and answers how many bytes. 0 for a buffer with room is the end.
+    /// Reads into the front of the buffer, and answers how many bytes. 0 for a buffer with room is
+    /// the end.
     ///
     /// # Errors
-    /// [`Failed`] where nothing could be read. The bytes yet to come stay, and what the buffer then holds is open.
+    /// [`Failed`] where nothing could be read. The bytes yet to come stay, and what the buffer then
+    /// holds is open.
     fn read(&mut self, buf: &mut [u8]) -> Result<usize, Failed>
         ensures bound { ReadsAtMost result buf.new }
         ensures bytes { ReadConsumes (remaining self.old) (remaining self.new) result buf.new }
@@ -50,6 +52,8 @@ pub trait Sink {
 }
 
 /// Any of std's readers as a source that doesn't tell its bytes.
+///
+/// Its mark is how many reads failed, modulo 2^64.
 #[derive(Drop)]
 pub struct OverRead<R> {
     reader: R,
@@ -84,8 +88,11 @@ impl<R: io::Read> Source for OverRead<R> {
         ensures unmarked { OnOk result (failed_reads self.new ≡ failed_reads self.old) }
         ensures marked { OnErr result (failed_reads self.new ≢ failed_reads self.old) }
 
-        // It is a read of the reader's own bytes.
-        ensures reads { ReadConsumes (R.remaining (reader_of self.old)) (R.remaining (reader_of self.new)) result buf.new }
+        // It counts the failures, and is a read of the reader's own bytes.
+        ensures counted { OnErr result
+            (failed_reads self.new ≡ (failed_reads self.old + 1) % 2 ^ 64) }
+        ensures reads { ReadConsumes (R.remaining (reader_of self.old))
+            (R.remaining (reader_of self.new)) result buf.new }
     {
         match self.reader.read(buf) {
             Ok(count) => Ok(count),
@@ -98,6 +105,8 @@ impl<R: io::Read> Source for OverRead<R> {
 }
 
 /// Any of std's writers as a sink that doesn't tell its bytes.
+///
+/// Its mark is how many writes failed, modulo 2^64.
 #[derive(Drop)]
 pub struct OverWrite<W> {
     writer: W,
@@ -129,11 +138,16 @@ impl<W: io::Write> Sink for OverWrite<W> {
     fn write(&mut self, bytes: &[u8]) -> Result<usize, Failed>
         ensures bound { WritesAtMost result bytes.now }
         ensures bytes { WriteAppends None None result bytes.now }
-        ensures unmarked { ¬ IsFailedWrite result bytes.now → failed_writes self.new ≡ failed_writes self.old }
-        ensures marked { IsFailedWrite result bytes.now → failed_writes self.new ≢ failed_writes self.old }
+        ensures unmarked { ¬ IsFailedWrite result bytes.now →
+            failed_writes self.new ≡ failed_writes self.old }
+        ensures marked { IsFailedWrite result bytes.now →
+            failed_writes self.new ≢ failed_writes self.old }
 
-        // It is a write to the writer's own bytes.
-        ensures writes { WriteAppends (W.contents (writer_of self.old)) (W.contents (writer_of self.new)) result bytes.now }
+        // It counts the failures, and is a write to the writer's own bytes.
+        ensures counted { IsFailedWrite result bytes.now →
+            failed_writes self.new ≡ (failed_writes self.old + 1) % 2 ^ 64 }
+        ensures writes { WriteAppends (W.contents (writer_of self.old))
+            (W.contents (writer_of self.new)) result bytes.now }
     {
         match self.writer.write(bytes) {
             Ok(0) if !bytes.is_empty() => {
@@ -149,7 +163,10 @@ impl<W: io::Write> Sink for OverWrite<W> {
     }
 }
 
-/// Writes all the bytes, in as many writes as it takes. After a failure it writes nothing more.
+/// Writes all the bytes, in as many writes as it takes.
+///
+/// # Errors
+/// [`Failed`] where a write failed or took none of some bytes. It writes nothing more after that.
 pub(crate) fn send<K: Sink>(writer: &mut K, bytes: &[u8]) -> Result<(), Failed>
     ensures ok { OnOk result (Appends (K.taken writer.old) (K.taken writer.new) bytes.now) }
     ensures unmarked { OnOk result (K.mark writer.new ≡ K.mark writer.old) }

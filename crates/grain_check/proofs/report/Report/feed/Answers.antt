@@ -1,4 +1,4 @@
-use Rattle.std.proofs.Common.{◌++◌, ◌∷◌, [], ap, refl, sym, subst, ◌∙◌, string_bytes}
+use Rattle.std.proofs.Common.{◌++◌, ◌∷◌, [], ap, refl, sym, subst, ◌∙◌}
 use Rattle.std.proofs.lemmas.List.Elements.{All-append, All-cons, All-nil}
 use Rattle.grain_check.specs.Lines.{Lacks}
 use Rattle.grain_check.proofs.SearchLaws.{Lacks-nil, Lacks-append}
@@ -12,7 +12,7 @@ cutting-init c = record {
   whole = refl;
   each = All-nil (Lacks 10);
   lacks = c.requires;
-  answers = Answers-none (string_bytes c.args.self.now.text) c.args.self.now.summary;
+  answers = Answers-none c.args.self.now.verdicts;
 }
 
 pub cutting-preserved : goal.cutting-preserved
@@ -27,7 +27,7 @@ cutting-preserved c =
       whole = cut ∙ ap (λ xs. ended (so_far.lines ++ line ∷ []) ++ (xs ++ c.in-Some.more.now)) (sym c.in_ok-end_line.ensures.carry);
       each = All-append (Lacks 10) so_far.lines (line ∷ []) so_far.each (All-cons (Lacks 10) line [] lacks (All-nil (Lacks 10)));
       lacks = subst (Lacks 10) (sym c.in_ok-end_line.ensures.carry) (Lacks-nil 10);
-      answers = Answers-line so_far.lines line _ _ _ _ _ _ so_far.answers c.in_ok-end_line.ensures.answers;
+      answers = Answers-line so_far.lines line so_far.answers c.in_ok-end_line.ensures.answers;
     }
 
 pub returns : goal.returns

@@ -1,9 +1,8 @@
-use Rattle.std.proofs.Common.{◌≡◌, ℕ, List, ◌++◌, length, map, string_bytes}
-use Rattle.std.specs.Prelude.{All, filter}
-use Rattle.std.specs.Str.Lines.{strip_carriage_return}
-use Rattle.grain_check.specs.Lines.{Lacks, is_case}
+use Rattle.std.proofs.Common.{◌≡◌, ℕ, List, ◌++◌, length}
+use Rattle.std.specs.Prelude.{All}
+use Rattle.grain_check.specs.Lines.{Lacks}
 use Rattle.grain_check.specs.Reports.{Answers}
-use Rattle.grain_check.proofs.LineLaws.{ended}
+use Rattle.grain_check.proofs.LineLaws.{cases_in, ended}
 use Rattle.grain_check.proofs.report.Report.feed.Given as goal
 
 -- some lines were cut off and answered
@@ -13,7 +12,7 @@ invariant-cutting l = record {
   whole : l.fn.self.carry.items ++ l.chunk ≡ ended lines ++ (l.self.carry.items ++ l.rest);
   each : All (Lacks 10) lines;
   lacks : Lacks 10 l.self.carry.items;
-  answers : Answers (filter is_case (map strip_carriage_return lines)) (string_bytes l.fn.self.text) l.fn.self.summary (string_bytes l.self.text) l.self.summary;
+  answers : Answers (cases_in lines) l.fn.self.verdicts l.self.verdicts;
 }
 
 abbrev pub decreases-cutting : goal.decreases-cutting
