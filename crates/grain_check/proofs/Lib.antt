@@ -1,0 +1,6 @@
+pub mod Sending
+pub mod SearchLaws
+pub mod WordLaws
+pub mod LineLaws
+pub mod VerdictLaws
+pub mod RunLaws

@@ -1,0 +1,9 @@
+pub mod Lines
+pub mod Words
+pub mod Verdicts
+pub mod Views
+pub mod Reports
+pub mod Streams
+pub mod Wrappers
+pub mod Runs
+pub mod Status
