@@ -1,6 +1,7 @@
 pub mod Sending
 pub mod SearchLaws
 pub mod WordLaws
+pub mod NumberLaws
 pub mod LineLaws
 pub mod VerdictLaws
 pub mod RunLaws

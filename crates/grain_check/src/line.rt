@@ -6,11 +6,12 @@ ghost use Rattle.std.specs.Option.{option_map};
 ghost use Rattle.std.specs.Str.Lines.{strip_carriage_return};
 ghost use Rattle.grain_check.specs.Lines.{Lacks, Skips};
 ghost use Rattle.grain_check.specs.Words.{words, StartsWord};
-ghost use Rattle.grain_check.specs.Verdicts.{asked, code_by, hex_of};
+ghost use Rattle.grain_check.specs.Verdicts.{asked, code_by, hex_of, site_by, u32_of};
 ghost use Rattle.grain_check.specs.Views.{view};
 
 use hex::FromHexError;
 use std::alloc::{AllocError, Global};
+use std::str;
 
 /// How many bytes a search tests together, which is much faster than one after another.
 const BLOCK: usize = 64;
@@ -20,6 +21,8 @@ const BLOCK: usize = 64;
 pub(crate) enum Case {
     /// How many instructions this code is.
     Code(Vec<u8>),
+    /// Which site this table records for this address.
+    Site(Vec<u8>, u32),
 }
 
 /// The text without the blocks at its front that lack the byte, up to one that has it.
@@ -108,6 +111,19 @@ fn hex_of(alloc: Global, word: &[u8]) -> Result<Option<Vec<u8>>, AllocError>
     }
 }
 
+/// The number that a word of decimal digits alone spells, where it fits.
+fn u32_of(word: &[u8]) -> Option<u32>
+    ensures { result ≡ u32_of word.now }
+{
+    if word.starts_with(b"+") {
+        return None;
+    }
+    let Ok(text) = str::from_utf8(word) else {
+        return None;
+    };
+    text.parse().ok()
+}
+
 /// What a line asks whose first word is `code`, by what stands after that word.
 fn code_case(alloc: Global, fields: &[u8]) -> Result<Option<Case>, AllocError>
     ensures { IfOk result (λ found. option_map view found ≡ code_by (words fields.now)) }
@@ -121,6 +137,25 @@ fn code_case(alloc: Global, fields: &[u8]) -> Result<Option<Case>, AllocError>
     Ok(hex_of(alloc, hex)?.map(Case::Code))
 }
 
+/// What a line asks whose first word is `site`, by what stands after that word.
+fn site_case(alloc: Global, fields: &[u8]) -> Result<Option<Case>, AllocError>
+    ensures { IfOk result (λ found. option_map view found ≡ site_by (words fields.now)) }
+{
+    let Some((hex, fields)) = next_word(fields) else {
+        return Ok(None);
+    };
+    let Some((address, after)) = next_word(fields) else {
+        return Ok(None);
+    };
+    if next_word(after).is_some() {
+        return Ok(None);
+    }
+    let Some(table) = hex_of(alloc, hex)? else {
+        return Ok(None);
+    };
+    Ok(u32_of(address).map(|address| Case::Site(table, address)))
+}
+
 /// What the line asks, or nothing where it has no form of a case.
 #[tactic(auto, unfolding(crate::specs::Verdicts::asked))]
 pub(crate) fn case_of(alloc: Global, line: &[u8]) -> Result<Option<Case>, AllocError>
@@ -131,6 +166,9 @@ pub(crate) fn case_of(alloc: Global, line: &[u8]) -> Result<Option<Case>, AllocE
     };
     if name == b"code".as_slice() {
         return code_case(alloc, fields);
+    }
+    if name == b"site".as_slice() {
+        return site_case(alloc, fields);
     }
     Ok(None)
 }

@@ -6,13 +6,13 @@ ghost use Rattle.std.specs.Io.KnownBytes.{Appends};
 ghost use Rattle.std.specs.Str.Lines.{strip_carriage_return};
 ghost use Rattle.grain_check.specs.Streams.{SendsFront};
 ghost use Rattle.grain_check.specs.Lines.{Lacks, is_case};
-ghost use Rattle.grain_check.specs.Verdicts.{asked, CodeVerdict, Verdict};
+ghost use Rattle.grain_check.specs.Verdicts.{asked, CodeVerdict, SiteVerdict, Verdict};
 ghost use Rattle.grain_check.specs.Reports.{Adds, Answers, AnswersChunk, CountsOn};
 ghost use Rattle.grain_check.specs.Reports.{Written, nothing};
 
 use crate::line::{Case, case_of, split_at_byte, without_return};
 use crate::stream::{Failed, Sink, send};
-use grain::count_instructions;
+use grain::{count_instructions, pos};
 use std::alloc::{AllocError, Global};
 use std::marker::Model;
 
@@ -57,9 +57,21 @@ fn write_count(text: &mut String, code: &[u8]) -> Result<(), AllocError>
     Ok(())
 }
 
+/// Writes the verdict on an address behind the text.
+fn write_site(text: &mut String, table: &[u8], address: u32) -> Result<(), AllocError>
+    ensures { OnOk result (Adds (SiteVerdict table.now address)
+        (string_bytes text.old) (string_bytes text.new)) }
+{
+    match pos::resolve(table, address) {
+        Some(site) => write!(text, "site {}:{}", site.line, site.column)?,
+        None => text.push_str("none")?,
+    }
+    Ok(())
+}
+
 /// Writes a verdict on the line behind the text, and answers whether the line has no form of a
 /// case.
-#[tactic(auto, using(crate::proofs::VerdictLaws::adds_bad, crate::proofs::VerdictLaws::adds_code))]
+#[tactic(auto, using(crate::proofs::VerdictLaws::adds_bad, crate::proofs::VerdictLaws::adds_code, crate::proofs::VerdictLaws::adds_site))]
 fn write_verdict(alloc: Global, line: &[u8], text: &mut String) -> Result<bool, AllocError>
     ensures bad { IfOk result (λ bad. bad ≡ is_none (asked line.now)) }
     ensures text { OnOk result
@@ -68,6 +80,10 @@ fn write_verdict(alloc: Global, line: &[u8], text: &mut String) -> Result<bool, 
     match case_of(alloc, line)? {
         Some(Case::Code(code)) => {
             write_count(text, &code)?;
+            Ok(false)
+        }
+        Some(Case::Site(table, address)) => {
+            write_site(text, &table, address)?;
             Ok(false)
         }
         None => {

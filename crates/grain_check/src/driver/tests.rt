@@ -123,7 +123,7 @@ const TEXT: &[u8] = b"whole 2\nundecodable at=2\n";
 /// An input, its verdict text, its cases, the bad ones among them, and the status.
 type Row = (&'static [u8], &'static [u8], u64, u64, u8);
 
-const ROWS: [Row; 9] = [
+const ROWS: [Row; 12] = [
     (INPUT, TEXT, 2, 0, 0),
     (
         b"code -\ncode 0100\ncode 021\nlook 02",
@@ -156,13 +156,35 @@ const ROWS: [Row; 9] = [
         2,
     ),
     (
-        b"site 0400010503010b250702010900 3\nverify 7fff 0213 0:2:8\n",
+        b"SITE - 0\nverify 7fff 0213 0:2:8\n",
         b"bad case\nbad case\n",
         2,
         2,
         2,
     ),
     (b"", b"", 0, 0, 0),
+    (
+        b"site 0400010503010b250702010900 41\nsite 0400010503010b250702010900 1\n\
+site 0400010503010b250702010900 3",
+        b"site 9:0\nnone\nsite 1:11\n",
+        3,
+        0,
+        0,
+    ),
+    (
+        b"site - 0\nsite 0100f0a20401 0\nsite 00 4294967295\nsite 00 4294967296",
+        b"none\nsite 70000:1\nnone\nbad case\n",
+        4,
+        1,
+        2,
+    ),
+    (
+        b"site 010009 0007\nsite 00 +1\nsite 00\nsite 00 1 1\nsite 0 1",
+        b"none\nbad case\nbad case\nbad case\nbad case\n",
+        5,
+        4,
+        2,
+    ),
 ];
 
 #[test]
