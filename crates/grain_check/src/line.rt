@@ -14,7 +14,7 @@ use std::alloc::{AllocError, Global};
 use std::str;
 
 /// How many bytes a search tests together, which is much faster than one after another.
-const BLOCK: usize = 64;
+const BLOCK: usize = 32;
 
 /// What a case asks, one variant for each form.
 #[derive(Drop)]

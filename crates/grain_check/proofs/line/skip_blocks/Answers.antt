@@ -7,4 +7,4 @@ pub skipping-preserved : goal.skipping-preserved
 skipping-preserved c =
     let block = c.in-Some.ensures.cases in
     let lacks : Lacks c.args.byte c.in-Some.block.now = λ k d within. c.if-contains.ensures.cases k d (omega arith) within in
-    subst (Skips c.args.byte c.args.text.now) (sym block.1) (Skips-more c.args.byte c.args.text.now c.skipping.rest.now 64 c.skipping.invariant (subst (Lacks c.args.byte) block.0 lacks))
+    subst (Skips c.args.byte c.args.text.now) (sym block.1) (Skips-more c.args.byte c.args.text.now c.skipping.rest.now 32 c.skipping.invariant (subst (Lacks c.args.byte) block.0 lacks))
