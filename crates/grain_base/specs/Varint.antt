@@ -1,4 +1,5 @@
--- Numbers in groups of seven bits, the lowest group first (LEB128).
+-- Numbers in groups of seven bits, the lowest group first (LEB128). The bytes of every contract are below 256; the
+-- definitions needn't ask it.
 use Rattle.std.specs.Prelude.{◌≡◌, ℕ, ◌+◌, ◌*◌, ◌%◌, ◌^◌, ◌<◌, ◌≤◌, ◌⊎◌, ℤ, pos, negsuc, List, [], ◌∷◌, ◌++◌, length, take, drop, sum_by, slice_index, slice_range, All, Result, Ok, Err}
 use Rattle.std.specs.List.{enumerate_from}
 use Rattle.grain_base.specs.declared.varint.Error.{Error}
@@ -17,7 +18,7 @@ number_of bytes = sum_by (λ group. group.1 % 128 * 128 ^ group.0) (enumerate_fr
 -- The bytes are one to ten groups, a tenth is 0 or 1, and they stand for the number.
 pub record Spells (bytes : List ℕ) (n : ℕ) : Type 0 where
   pub groups : AreGroups bytes
-  pub ten : length bytes ≤ 10
+  pub at_most_ten : length bytes ≤ 10
   pub tenth : slice_index bytes 9 ≤ 1
   pub number : number_of bytes ≡ n
 
