@@ -1,5 +1,5 @@
--- Numbers in groups of seven bits, the lowest group first (LEB128). The bytes of every contract are below 256; the
--- definitions needn't ask it.
+-- Numbers in groups of seven bits, the lowest group first (LEB128). Bytes are below 256 wherever a contract speaks of
+-- them, so that no definition asks it.
 use Rattle.std.specs.Prelude.{◌≡◌, ℕ, ◌+◌, ◌*◌, ◌%◌, ◌^◌, ◌<◌, ◌≤◌, ◌⊎◌, ℤ, pos, negsuc, List, [], ◌∷◌, ◌++◌, length, take, drop, sum_by, slice_index, slice_range, All, Result, Ok, Err}
 use Rattle.std.specs.List.{enumerate_from}
 use Rattle.grain_base.specs.declared.varint.Error.{Error}
@@ -53,17 +53,18 @@ abbrev pub NumberFault : List ℕ → Error → Type 0
 NumberFault bytes Truncated = IsCutShort bytes
 NumberFault bytes Overflow = NoneStands bytes × ¬ IsCutShort bytes
 
--- what reading the number at a place of the bytes gives, and where the cursor stands after it
-abbrev pub Reads : List ℕ → ℕ → Result ℕ Error → ℕ → Type 0
-Reads bytes from (Ok n) to = StandsAt bytes from n to
-Reads bytes from (Err error) to = NumberFault (drop from bytes) error × (to ≡ from + length (take 10 (drop from bytes)))
-
 -- the same where the number has to fit u32
 abbrev pub U32Fault : List ℕ → Error → Type 0
 U32Fault bytes Truncated = IsCutShort bytes
 U32Fault bytes Overflow = NumberFault bytes Overflow ⊎ ((taken n : ℕ) × Spells (take taken bytes) n × (2 ^ 32 ≤ n))
 
--- The numbers stand at the front of the bytes, one after another, each spelled as the relation says, and then the rest follows.
+-- what reading the number at a place of the bytes gives, and where the cursor stands after it
+abbrev pub Reads : List ℕ → ℕ → Result ℕ Error → ℕ → Type 0
+Reads bytes from (Ok n) to = StandsAt bytes from n to
+Reads bytes from (Err error) to = NumberFault (drop from bytes) error × (to ≡ from + length (take 10 (drop from bytes)))
+
+-- The numbers stand at the front of the bytes, one after another, each spelled as the relation says, and then the rest
+-- follows.
 abbrev pub AreSpelled : (List ℕ → ℕ → Type 0) → List ℕ → List ℕ → List ℕ → Type 0
 AreSpelled By bytes [] rest = bytes ≡ rest
 AreSpelled By bytes (n ∷ ns) rest = (spelling after : List ℕ) × (bytes ≡ spelling ++ after) × By spelling n × AreSpelled By after ns rest

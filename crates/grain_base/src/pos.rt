@@ -105,7 +105,8 @@ pub fn resolve(table: &[u8], address: u32) -> Option<Site>
 /// `Truncated` or `Overflow` where that number can't be read.
 pub fn count(table: &[u8]) -> Result<u32, Error>
     ensures ok { (n : ℕ) → (result ≡ Ok n) ↔ ((rest : List ℕ) × Begins table.now (n ∷ []) rest) }
-    ensures err { (e : TableError) → (result ≡ Err e) ↔ ((error : NumberError) × U32Fault table.now error × (e ≡ as_table_error error)) }
+    ensures err { (e : TableError) → (result ≡ Err e)
+        ↔ ((error : NumberError) × U32Fault table.now error × (e ≡ as_table_error error)) }
 {
     let mut at = 0;
     Ok(varint::u32(table, &mut at)?)
@@ -175,7 +176,8 @@ fn count_kept(sites: &[(u32, Site)]) -> usize
 /// `AllocError` where there is no memory for the table.
 pub fn encode(alloc: Global, sites: &[(u32, Site)]) -> Result<Vec<u8>, AllocError>
     requires { IsStrictlyIncreasing (addresses (kept sites.now)) }
-    ensures written { IfOk result (λ table. AreShortest table.items (length (kept sites.now) ∷ numbers_from 0 (kept sites.now))) }
+    ensures written { let list = kept sites.now in
+        IfOk result (λ table. AreShortest table.items (length list ∷ numbers_from 0 list)) }
     ensures table { length (kept sites.now) < 2 ^ 32 → IfOk result (λ table. Table table.items (kept sites.now)) }
 {
     let mut table = Vec::new(alloc);

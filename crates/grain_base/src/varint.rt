@@ -88,7 +88,8 @@ fn groups(bytes: &[u8], at: &mut usize) -> Result<u64, Error>
 pub fn i64(bytes: &[u8], at: &mut usize) -> Result<i64, Error>
     // Each number that is spelled stands for a signed one.
     ensures found { IfOk result (λ v. StandsAt bytes.now at.old (zigzag v) at.new) }
-    ensures spelled { (v : ℤ) (end : ℕ) → StandsAt bytes.now at.old (zigzag v) end → (result ≡ Ok v) × (at.new ≡ end) }
+    ensures spelled { (v : ℤ) (end : ℕ) → StandsAt bytes.now at.old (zigzag v) end
+        → (result ≡ Ok v) × (at.new ≡ end) }
 
     // Elsewhere the error and the cursor are those of `u64`.
     ensures error { (e : Error) → (result ≡ Err e) ↔ NumberFault (drop at.old bytes.now) e }
@@ -108,11 +109,13 @@ pub fn i64(bytes: &[u8], at: &mut usize) -> Result<i64, Error>
 pub fn u32(bytes: &[u8], at: &mut usize) -> Result<u32, Error>
     // A number is read exactly where one is spelled that fits. The cursor passes one that doesn't fit too.
     ensures found { IfOk result (λ n. StandsAt bytes.now at.old n at.new) }
-    ensures spelled { (n end : ℕ) → StandsAt bytes.now at.old n end → (at.new ≡ end) × (n < 2 ^ 32 → result ≡ Ok n) }
+    ensures spelled { (n end : ℕ) → StandsAt bytes.now at.old n end
+        → (at.new ≡ end) × (n < 2 ^ 32 → result ≡ Ok n) }
 
     // Elsewhere the error says what is wrong there.
     ensures error { (e : Error) → (result ≡ Err e) ↔ U32Fault (drop at.old bytes.now) e }
-    ensures cursor { NoneStands (drop at.old bytes.now) → at.new ≡ at.old + length (take 10 (drop at.old bytes.now)) }
+    ensures cursor { NoneStands (drop at.old bytes.now)
+        → at.new ≡ at.old + length (take 10 (drop at.old bytes.now)) }
 {
     let value = u64(bytes, at)?;
     match u32::try_from(value) {
