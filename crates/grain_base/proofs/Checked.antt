@@ -4,13 +4,12 @@ use Rattle.std.specs.List.Sorted.{IsStrictlyIncreasing}
 use Rattle.std.proofs.lemmas.List.{length-drop, length-append, drop_all}
 use Rattle.std.proofs.lemmas.List.Elements.{All-nil, All-head, All-tail}
 use Rattle.grain_base.specs.declared.pos.Error.{Error}
-use Rattle.grain_base.specs.declared.pos.Error.TheVariants.{Truncated, Overflow, OutOfOrder, TrailingBytes}
-use Rattle.grain_base.specs.declared.pos.Site.{Site}
+use Rattle.grain_base.specs.declared.pos.Error.TheVariants.{Overflow, OutOfOrder, TrailingBytes}
 use Rattle.grain_base.specs.declared.varint.Error.{Error as NumberError}
 use Rattle.grain_base.specs.declared.varint.Error.TheVariants as number_error
-use Rattle.grain_base.specs.Varint.{StandsAt, Begins, U32Fault}
-use Rattle.grain_base.specs.AddressTable.{Entry, addresses, IsNext, AreEntries, Table, deltas, Ascend, IsUnfinished, IsUnreadable, IsNextDelta, FirstFault, as_table_error}
-use Rattle.grain_base.proofs.Numbers.{begins_at, begins-append, begins_front}
+use Rattle.grain_base.specs.Varint.{Begins, U32Fault}
+use Rattle.grain_base.specs.AddressTable.{Entry, addresses, AreEntries, Table, deltas, Ascend, IsUnreadable, IsNextDelta, FirstFault, as_table_error}
+use Rattle.grain_base.proofs.Numbers.{begins-append, begins_front}
 use Rattle.grain_base.proofs.Deltas.{ascend_more, sum_more, sum-cons}
 use Rattle.grain_base.proofs.Rising.{rises_none, rises_one, rises_cons}
 use Rattle.grain_base.proofs.Verdict.{Says}

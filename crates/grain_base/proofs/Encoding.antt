@@ -1,11 +1,11 @@
 -- Writing a table entry by entry.
-use Rattle.std.proofs.Common.{◌≡◌, ◌≢◌, ℕ, ◌+◌, ◌-◌, ◌^◌, ◌<◌, ◌≤◌, List, [], ◌∷◌, ◌++◌, length, drop, get_or, refl, sym, ap, subst, ◌∙◌, arith, append_assoc}
+use Rattle.std.proofs.Common.{◌≡◌, ◌≢◌, ℕ, ◌+◌, ◌-◌, ◌^◌, ◌<◌, ◌≤◌, List, [], ◌∷◌, ◌++◌, length, drop, get_or, refl, sym, ap, subst, arith, append_assoc}
 use Rattle.std.specs.List.{AllByRecursion}
 use Rattle.std.proofs.lemmas.List.{append-nil, drop_all}
 use Rattle.std.specs.List.Sorted.{IsStrictlyIncreasing}
-use Rattle.grain_base.specs.Varint.{Begins, IsShortest, AppendsShortest, AreShortest}
-use Rattle.grain_base.specs.AddressTable.{Entry, addresses, IsNext, AreEntries, Table, kept, numbers_from}
-use Rattle.grain_base.proofs.Rising.{RisesFrom, rises_from, rises_up}
+use Rattle.grain_base.specs.Varint.{AppendsShortest, AreShortest}
+use Rattle.grain_base.specs.AddressTable.{Entry, addresses, AreEntries, Table, kept, numbers_from}
+use Rattle.grain_base.proofs.Rising.{RisesFrom, rises_from}
 use Rattle.grain_base.proofs.Kept.{kept_without, kept_with}
 
 -- the entry's numbers are u32

@@ -1,10 +1,9 @@
 -- The entries that stand in bytes: there is one way to read them, and a longest list.
-use Rattle.std.proofs.Common.{◌≡◌, ℕ, zero, suc, ◌+◌, ◌-◌, ◌^◌, ◌<◌, ◌≤◌, ◌⊎◌, inl, inr, List, [], ◌∷◌, ◌++◌, length, Option, Some, None, find, nat_eq, refl, sym, ap, subst, ◌∙◌, arith}
+use Rattle.std.proofs.Common.{◌≡◌, ℕ, zero, suc, ◌+◌, ◌^◌, ◌<◌, ◌≤◌, ◌⊎◌, inl, inr, List, [], ◌∷◌, length, None, find, nat_eq, refl, sym, ap, subst, ◌∙◌, arith}
 use Rattle.std.proofs.lemmas.Bool.{cases_lt, ne_eqb}
-use Rattle.grain_base.specs.declared.pos.Site.{Site}
 use Rattle.grain_base.specs.declared.varint.Error.{Error}
 use Rattle.grain_base.specs.Varint.{Begins, U32Fault}
-use Rattle.grain_base.specs.AddressTable.{Entry, IsNext, NoneNext, AreEntries, Table, Holds, Front, site_at, known}
+use Rattle.grain_base.specs.AddressTable.{Entry, IsNext, NoneNext, AreEntries, Table, Holds, Front}
 use Rattle.grain_base.proofs.Numbers.{AreThree, three, begins-append, begins_once, begins_faultless, Reading, Number, Fault, reading}
 
 -- an entry of its three numbers

@@ -1,7 +1,7 @@
 -- Numbers that fit u32, spelled one after another.
 use Rattle.std.proofs.Common.{◌≡◌, ℕ, ◌+◌, ◌-◌, ◌^◌, ◌<◌, ◌≤◌, ◌⊎◌, ◌↔◌, inl, inr, List, [], ◌∷◌, ◌++◌, length, take, drop, get_or, All, Result, Ok, Err, refl, sym, ap, subst, ◌∙◌, arith, append_assoc}
 use Rattle.std.proofs.lemmas.Bool.{cases_lt}
-use Rattle.std.proofs.lemmas.List.{take_at, take-append-drop, drop-drop, append-nil}
+use Rattle.std.proofs.lemmas.List.{take_at, take-append-drop, drop-drop}
 use Rattle.std.proofs.lemmas.List.Elements.{All-nil, All-cons, All-take}
 use Rattle.grain_base.specs.declared.varint.Error.{Error}
 use Rattle.grain_base.specs.declared.varint.Error.TheVariants.{Truncated, Overflow}
@@ -126,10 +126,10 @@ spelled_here bytes front rest whole spelled = elim (cases_lt (number_of front) (
 pub reading : (bytes : List ℕ) → Reading bytes
 reading bytes = elim (parts bytes) [
   | inl found ↦ elim (cases_lt 10 (length found.0)) [
-    | inl long ↦ wide bytes found.0 found.1 found.2 found.3 (λ n spelled. absurd (omega (arith, spelled.ten)))
+    | inl long ↦ wide bytes found.0 found.1 found.2 found.3 (λ n spelled. absurd (omega (arith, spelled.at_most_ten)))
     | inr ten ↦ elim (cases_lt 1 (get_or found.0 9 0)) [
       | inl more ↦ wide bytes found.0 found.1 found.2 found.3 (λ n spelled. absurd (omega (arith, spelled.tenth)))
-      | inr one ↦ spelled_here bytes found.0 found.1 found.2 (record { groups = found.3; ten = ten; tenth = one; number = refl })
+      | inr one ↦ spelled_here bytes found.0 found.1 found.2 (record { groups = found.3; at_most_ten = ten; tenth = one; number = refl })
     ]
   ]
   | inr all ↦ elim (cases_lt (length bytes) 10) [

@@ -1,12 +1,12 @@
 -- Reading the number at a place of bytes, group by group.
-use Rattle.std.proofs.Common.{◌≡◌, ℕ, zero, suc, ◌+◌, ◌-◌, ◌*◌, ◌%◌, ◌^◌, ◌<◌, ◌≤◌, inl, inr, List, [], ◌∷◌, ◌++◌, length, take, drop, get_or, All, bit_and, bit_or, refl, sym, ap, subst, ◌∙◌, arith, append_assoc, add-one}
+use Rattle.std.proofs.Common.{◌≡◌, ℕ, zero, suc, ◌+◌, ◌-◌, ◌*◌, ◌%◌, ◌^◌, ◌<◌, ◌≤◌, inl, inr, List, [], ◌∷◌, ◌++◌, length, take, drop, get_or, All, bit_and, bit_or, refl, sym, ap, subst, ◌∙◌, arith}
 use Rattle.std.proofs.Math.Nat.{pow-suc}
 use Rattle.std.proofs.lemmas.Bool.{cases_lt}
-use Rattle.std.proofs.lemmas.List.{take_more, take_all, take-take, take-append-drop, length-take, length-take-le, length-drop, length_push, get_or-drop, get_or-take, get_or_past, get_or_push}
+use Rattle.std.proofs.lemmas.List.{take_more, take_all, take-take, length-take, length-take-le, length-drop, length_push, get_or-drop, get_or-take, get_or_past, get_or_push}
 use Rattle.std.proofs.lemmas.List.Elements.{All-nil, All-more, All-take}
 use Rattle.std.proofs.lemmas.Nat.{pow-add, and_mask, or_comm, or_shifted, shl_whole}
 use Rattle.grain_base.specs.declared.varint.Error.TheVariants.{Truncated, Overflow}
-use Rattle.grain_base.specs.Varint.{AreGroups, number_of, Spells, StandsAt, IsCutShort, NoneStands, NumberFault}
+use Rattle.grain_base.specs.Varint.{number_of, StandsAt, NoneStands, NumberFault}
 use Rattle.grain_base.proofs.Groups.{GoesOn, number_of-push, number_of-below, groups_push, none_ends}
 
 -- From a place of the bytes on, so many groups go on. Their number is the value, and the cursor stands behind them.
@@ -75,7 +75,7 @@ stands bytes from count value at byte passed within read last ten tenth =
       omega arith,
       rw (taken, next.2) (record {
         groups = groups_push front byte passed.go_on last;
-        ten = omega (arith, length_push front byte);
+        at_most_ten = omega (arith, length_push front byte);
         tenth = elim (cases_lt count 9) [
           | inl less ↦ omega (arith, get_or_past (front ++ byte ∷ []) 9 0 (omega (arith, length_push front byte)))
           | inr more ↦ let nine : count ≡ 9 = omega arith in omega (arith, tenth nine, get_or_push front byte 0 9 (omega arith))

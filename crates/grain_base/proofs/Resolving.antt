@@ -1,7 +1,6 @@
 -- The site of an address among the entries that are left.
-use Rattle.std.proofs.Common.{◌≡◌, ◌≢◌, ℕ, suc, ◌+◌, ◌<◌, List, [], ◌∷◌, Option, Some, None, find, cond, nat_eq, eq-eqb, option_and_then, refl, sym, ap, ◌∙◌, arith}
+use Rattle.std.proofs.Common.{◌≡◌, ◌≢◌, ℕ, suc, ◌+◌, ◌<◌, List, Some, None, find, cond, nat_eq, eq-eqb, option_and_then, refl, ap, ◌∙◌, arith}
 use Rattle.std.proofs.lemmas.Bool.{ne_eqb}
-use Rattle.grain_base.specs.declared.pos.Site.{Site}
 use Rattle.grain_base.specs.AddressTable.{Entry, IsNext, NoneNext, site_at, known}
 use Rattle.grain_base.proofs.Entries.{entries_from, entries_more, entries_none, entries_over, none_below}
 

@@ -1,5 +1,5 @@
 -- Of the numbers that stand at a place there is one at most, and where there is none one error says why.
-use Rattle.std.proofs.Common.{◌≡◌, ℕ, ℤ, pos, negsuc, ◌+◌, ◌-◌, ◌*◌, ◌/◌, ◌%◌, ◌^◌, ◌<◌, ◌≤◌, ◌≢◌, ◌↔◌, inl, inr, bit_and, List, [], ◌∷◌, ◌++◌, length, take, drop, get_or, slice_range, Result, Ok, Err, IfOk, OnErr, refl, sym, ap, subst, ◌∙◌, arith}
+use Rattle.std.proofs.Common.{◌≡◌, ℕ, ℤ, pos, negsuc, ◌+◌, ◌-◌, ◌*◌, ◌/◌, ◌%◌, ◌^◌, ◌<◌, ◌≤◌, ◌≢◌, ◌↔◌, inl, inr, bit_and, List, ◌++◌, length, take, drop, get_or, slice_range, Result, Ok, Err, IfOk, OnErr, refl, sym, ap, subst, ◌∙◌, arith}
 use Rattle.std.proofs.lemmas.List.{take-append-drop, length-take, length-drop}
 use Rattle.std.specs.Int.{w64, cast_signed}
 use Rattle.std.proofs.lemmas.Int.{ints}
@@ -7,7 +7,7 @@ use Rattle.std.proofs.lemmas.Nat.{and_mask}
 use Rattle.std.proofs.lemmas.List.Elements.{All-take}
 use Rattle.grain_base.specs.declared.varint.Error.{Error}
 use Rattle.grain_base.specs.declared.varint.Error.TheVariants.{Truncated, Overflow}
-use Rattle.grain_base.specs.Varint.{AreGroups, number_of, Spells, StandsAt, IsCutShort, NoneStands, NumberFault, U32Fault, Reads, zigzag}
+use Rattle.grain_base.specs.Varint.{number_of, Spells, StandsAt, IsCutShort, NoneStands, NumberFault, U32Fault, Reads, zigzag}
 use Rattle.grain_base.proofs.Groups.{GoesOn, groups_some, none_ends, one_front}
 use Rattle.grain_base.proofs.Reading.{passes_none, stands}
 

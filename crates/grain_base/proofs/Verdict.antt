@@ -1,5 +1,5 @@
 -- What a check has to answer: the one answer that the bytes allow.
-use Rattle.std.proofs.Common.{◌≡◌, ◌≢◌, ℕ, zero, suc, ◌+◌, ◌*◌, ◌^◌, ◌<◌, ◌≤◌, ◌↔◌, inl, inr, List, [], ◌∷◌, ◌++◌, length, get_or, Option, Some, None, Result, Ok, Err, IsOk, cond, nat_eq, nat_lt, eq-eqb, sum, refl, sym, ap, subst, ◌∙◌, arith}
+use Rattle.std.proofs.Common.{◌≡◌, ℕ, zero, suc, ◌+◌, ◌*◌, ◌^◌, ◌<◌, ◌≤◌, ◌↔◌, inl, inr, List, [], ◌∷◌, ◌++◌, length, Option, Some, None, Result, Ok, Err, IsOk, cond, nat_eq, nat_lt, sum, refl, sym, ap, subst, ◌∙◌, arith}
 use Rattle.std.specs.List.Sorted.{IsStrictlyIncreasing}
 use Rattle.std.proofs.lemmas.Bool.{ne_eqb, lt-ltb, le-ltb}
 use Rattle.grain_base.specs.declared.pos.Error.{Error}
@@ -7,8 +7,8 @@ use Rattle.grain_base.specs.declared.pos.Error.TheVariants.{Truncated, Overflow,
 use Rattle.grain_base.specs.declared.varint.Error.{Error as NumberError}
 use Rattle.grain_base.specs.declared.varint.Error.TheVariants as number_error
 use Rattle.grain_base.specs.Varint.{Begins, U32Fault}
-use Rattle.grain_base.specs.AddressTable.{Entry, addresses, IsNext, AreEntries, Table, deltas, Ascend, IsUnfinished, IsUnreadable, IsNextDelta, FirstFault, as_table_error}
-use Rattle.grain_base.proofs.Numbers.{three, begins-append, begins_longer, begins_once, begins_faultless, one_u32_fault, Reading, Number, Fault, reading}
+use Rattle.grain_base.specs.AddressTable.{Entry, addresses, AreEntries, Table, deltas, IsUnfinished, IsUnreadable, IsNextDelta, FirstFault, as_table_error}
+use Rattle.grain_base.proofs.Numbers.{three, begins_longer, begins_once, begins_faultless, one_u32_fault, Reading, Number, Fault, reading}
 use Rattle.grain_base.proofs.Rising.{rises_next, rises_rest}
 use Rattle.grain_base.proofs.Deltas.{Follows, led_to, LeadOn, last_from, lead_on, last_sum}
 

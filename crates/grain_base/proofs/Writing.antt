@@ -1,11 +1,11 @@
 -- Writing the shortest spelling of a number, group by group.
-use Rattle.std.proofs.Common.{◌≡◌, ℕ, ◌+◌, ◌-◌, ◌*◌, ◌/◌, ◌%◌, ◌^◌, ◌<◌, ◌≤◌, inl, inr, List, [], ◌∷◌, ◌++◌, length, take, set, All, cond, is_ok, Result, Ok, Err, OnOk, bit_and, bit_or, refl, sym, ap, subst, ◌∙◌, arith}
+use Rattle.std.proofs.Common.{◌≡◌, ℕ, ◌+◌, ◌*◌, ◌/◌, ◌%◌, ◌^◌, ◌<◌, ◌≤◌, inl, inr, List, [], ◌∷◌, ◌++◌, length, take, set, All, cond, is_ok, Result, Ok, Err, OnOk, bit_and, bit_or, sym, ap, subst, ◌∙◌, arith}
 use Rattle.std.proofs.Math.Nat.{mul-le-mul_right}
 use Rattle.std.proofs.lemmas.Bool.{cases_lt}
 use Rattle.std.proofs.lemmas.List.{take_more_set, length-set, length-take-le, length_push, get_or_past, get_or_push}
 use Rattle.std.proofs.lemmas.List.Elements.{All-push}
 use Rattle.std.proofs.lemmas.Nat.{and_mask, or_comm, or_shifted}
-use Rattle.grain_base.specs.Varint.{AreGroups, number_of, Spells, IsShortest, AppendsShortest}
+use Rattle.grain_base.specs.Varint.{number_of, Spells, IsShortest, AppendsShortest}
 use Rattle.grain_base.proofs.Groups.{GoesOn, pow_more, number_of-push, number_of-below, groups_some, groups_push, same_groups, least_groups}
 
 -- The first groups of a spelling of the number are written, and the rest is to be spelled behind them.
@@ -67,7 +67,7 @@ written_last groups count rest number w small =
     rw more.0 (record {
       spelled = record {
         groups = groups_push front rest w.go_on small;
-        ten = omega (arith, length_push front rest, w.inside);
+        at_most_ten = omega (arith, length_push front rest, w.inside);
         tenth = elim (cases_lt count 9) [
           | inl less ↦ omega (arith, get_or_past (front ++ rest ∷ []) 9 0 (omega (arith, length_push front rest)))
           | inr nine ↦ omega (arith, last_fits count rest (omega (arith, w.inside)) w.fits, get_or_push front rest 0 9 (omega (arith, w.inside)))

@@ -77,7 +77,8 @@ deltas (delta ∷ []) = delta ∷ []
 deltas (delta ∷ line ∷ []) = delta ∷ []
 deltas (delta ∷ line ∷ column ∷ numbers) = delta ∷ deltas numbers
 
--- The numbers of entries lead to addresses that strictly ascend and fit: no delta but the first is 0, and their sum fits.
+-- The numbers of entries lead to addresses that strictly ascend and fit: no delta but the first is 0, and the sum of the
+-- deltas, which is the last address, fits.
 abbrev pub Ascend : List ℕ → Type 0
 Ascend numbers = All (λ delta. 0 < delta) (drop 1 (deltas numbers)) × (sum (deltas numbers) < 2 ^ 32)
 
@@ -86,7 +87,7 @@ abbrev pub IsUnfinished : List ℕ → Type 0
 IsUnfinished [] = Unit {0}
 IsUnfinished (count ∷ numbers) = (length numbers < 3 * count) × Ascend numbers
 
--- The first number of a table that is due and can't be read can't for this reason.
+-- Behind some numbers of a table, all in order, another is due, and it can't be read for this reason.
 pub record IsUnreadable (bytes : List ℕ) (error : NumberError) : Type 0 where
   pub numbers : List ℕ
   pub left : List ℕ
@@ -103,7 +104,8 @@ pub record IsNextDelta (bytes numbers : List ℕ) (delta : ℕ) : Type 0 where
   pub whole : length numbers ≡ 3 * entries
   pub unfinished : IsUnfinished (count ∷ numbers)
 
--- the first thing that is wrong with bytes that are no table, in the order in which they are read
+-- What is wrong first with bytes that are no table, in the order in which they are read: a number that is due is cut
+-- short; one is too wide, or leads past the greatest address; a delta repeats an address; or bytes follow a whole table.
 abbrev pub FirstFault : List ℕ → Error → Type 0
 FirstFault bytes table_error.Truncated = IsUnreadable bytes number_error.Truncated
 FirstFault bytes table_error.Overflow = IsUnreadable bytes number_error.Overflow ⊎ ((numbers : List ℕ) × (delta : ℕ) × IsNextDelta bytes numbers delta × (2 ^ 32 ≤ sum (deltas numbers) + delta))

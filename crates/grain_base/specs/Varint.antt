@@ -1,4 +1,5 @@
--- Numbers in groups of seven bits, the lowest group first (LEB128).
+-- Numbers in groups of seven bits, the lowest group first (LEB128). Bytes are below 256 wherever a contract speaks of
+-- them, so that no definition asks it.
 use Rattle.std.specs.Prelude.{◌≡◌, ℕ, ◌+◌, ◌*◌, ◌%◌, ◌^◌, ◌<◌, ◌≤◌, ◌⊎◌, ℤ, pos, negsuc, List, [], ◌∷◌, ◌++◌, length, take, drop, sum_by, slice_index, slice_range, All, Result, Ok, Err}
 use Rattle.std.specs.List.{enumerate_from}
 use Rattle.grain_base.specs.declared.varint.Error.{Error}
@@ -17,7 +18,7 @@ number_of bytes = sum_by (λ group. group.1 % 128 * 128 ^ group.0) (enumerate_fr
 -- The bytes are one to ten groups, a tenth is 0 or 1, and they stand for the number.
 pub record Spells (bytes : List ℕ) (n : ℕ) : Type 0 where
   pub groups : AreGroups bytes
-  pub ten : length bytes ≤ 10
+  pub at_most_ten : length bytes ≤ 10
   pub tenth : slice_index bytes 9 ≤ 1
   pub number : number_of bytes ≡ n
 
@@ -52,17 +53,18 @@ abbrev pub NumberFault : List ℕ → Error → Type 0
 NumberFault bytes Truncated = IsCutShort bytes
 NumberFault bytes Overflow = NoneStands bytes × ¬ IsCutShort bytes
 
--- what reading the number at a place of the bytes gives, and where the cursor stands after it
-abbrev pub Reads : List ℕ → ℕ → Result ℕ Error → ℕ → Type 0
-Reads bytes from (Ok n) to = StandsAt bytes from n to
-Reads bytes from (Err error) to = NumberFault (drop from bytes) error × (to ≡ from + length (take 10 (drop from bytes)))
-
 -- the same where the number has to fit u32
 abbrev pub U32Fault : List ℕ → Error → Type 0
 U32Fault bytes Truncated = IsCutShort bytes
 U32Fault bytes Overflow = NumberFault bytes Overflow ⊎ ((taken n : ℕ) × Spells (take taken bytes) n × (2 ^ 32 ≤ n))
 
--- The numbers stand at the front of the bytes, one after another, each spelled as the relation says, and then the rest follows.
+-- what reading the number at a place of the bytes gives, and where the cursor stands after it
+abbrev pub Reads : List ℕ → ℕ → Result ℕ Error → ℕ → Type 0
+Reads bytes from (Ok n) to = StandsAt bytes from n to
+Reads bytes from (Err error) to = NumberFault (drop from bytes) error × (to ≡ from + length (take 10 (drop from bytes)))
+
+-- The numbers stand at the front of the bytes, one after another, each spelled as the relation says, and then the rest
+-- follows.
 abbrev pub AreSpelled : (List ℕ → ℕ → Type 0) → List ℕ → List ℕ → List ℕ → Type 0
 AreSpelled By bytes [] rest = bytes ≡ rest
 AreSpelled By bytes (n ∷ ns) rest = (spelling after : List ℕ) × (bytes ≡ spelling ++ after) × By spelling n × AreSpelled By after ns rest

@@ -38,7 +38,8 @@ pub fn one_front()
 
 /// The front of a table is its list, so a table that `encode` wrote resolves every address as its list does.
 pub fn tables_resolve()
-    ensures { (bytes : List ℕ) (list front : List Entry) → Table bytes list → Front bytes front → front ≡ list }
+    ensures front { (bytes : List ℕ) (list front : List Entry) → Table bytes list → Front bytes front → front ≡ list }
+    ensures one { (bytes : List ℕ) (a b : List Entry) → Table bytes a → Table bytes b → a ≡ b }
 {}
 
 /// The capabilities have the 15 lowest bits: a number is a set of them exactly where it is below 2^15.

@@ -1,10 +1,10 @@
-//! The address table, which leads from the address of an instruction to its place in the source.
+//! The address table: at which line and column of a script an instruction's address stands.
 //!
-//! A table is a count and then, for each entry, the distance of its address from the one before it, its line and its
+//! A table is a count and then, for each entry, how far its address lies behind the one before it, its line and its
 //! column, each a varint that fits a `u32`. Addresses strictly ascend. docs/FORMAT.md, "Address table", has the format.
 //!
-//! [`resolve`] is asked while a failure is reported, so that it never refuses: it answers what stands before the first
-//! damage. [`check`] says whether a table is sound.
+//! Tables come from strangers. [`check`] tells whether bytes are one. [`resolve`] answers for any bytes: what is whole
+//! in front of the first damage counts, and nothing behind it. No call that reads takes memory.
 
 ghost use Rattle.std.specs.Prelude.{◌≡◌, ℕ, ◌^◌, ◌<◌, ◌↔◌, List, [], ◌∷◌, length, drop, Ok, Err, IsOk, IsTrue, IfOk, OnErr};
 ghost use Rattle.std.specs.List.Sorted.{IsStrictlyIncreasing};
@@ -16,30 +16,30 @@ ghost use Rattle.grain_base.specs.AddressTable.{Entry, addresses, IsNext, NoneNe
 use crate::varint;
 use std::alloc::{AllocError, Global};
 
-/// A place in a source file.
+/// Where something stands in a script.
 #[derive(Clone, Copy, Debug, PartialEq, Eq)]
 pub struct Site {
-    /// The line, from 1 on. 0 in a table says that the place isn't known.
+    /// Lines count from 1. In a table 0 says that the line isn't known.
     pub line: u32,
-    /// The column in characters, from 1 on. 0 is the start of the line.
+    /// Characters of the line count from 1. 0 stands before the first.
     pub column: u32,
 }
 
-/// What is wrong with a table.
+/// What is wrong with bytes that are no table.
 #[derive(Clone, Copy, Debug, PartialEq, Eq)]
 pub enum Error {
-    /// The bytes end within a number, or where another is due.
+    /// The bytes end where a number is due or isn't finished.
     Truncated,
-    /// A number or an address is above 4294967295.
+    /// A number or an address doesn't fit a `u32`.
     Overflow,
-    /// An entry has the address of the one before it.
+    /// Two entries in a row have one address.
     OutOfOrder {
-        /// The address that is repeated.
+        /// That address.
         at: u32,
     },
-    /// Bytes follow the last entry.
+    /// All entries are there, and bytes are left.
     TrailingBytes {
-        /// How many they are.
+        /// How many are left.
         count: usize,
     },
 }
@@ -68,10 +68,12 @@ fn entry(table: &[u8], at: &mut usize, before: u32) -> Result<(u32, Site), varin
     Ok((address, Site { line, column }))
 }
 
-/// The site that a table records for an address, if it does.
+/// Looks up an address: the site of the first entry there.
 ///
-/// That is the site of the first entry at the address, and `None` where there is no such entry or its line is 0. Only
-/// the entries before the first damage are there, as far as they are counted.
+/// `None` where no entry has the address, and where the line of the first that has it is 0. The entries are those that
+/// stand whole in front of the first damage, and no more than the count says. An address that is repeated is no damage
+/// here.
+#[must_use]
 pub fn resolve(table: &[u8], address: u32) -> Option<Site>
     ensures { (front : List Entry) × Front table.now front × (result ≡ site_at front address) }
 {
@@ -79,41 +81,42 @@ pub fn resolve(table: &[u8], address: u32) -> Option<Site>
     let Ok(count) = varint::u32(table, &mut at) else {
         return None;
     };
-    let mut current = 0;
+    let mut before = 0;
     for _ in 0..count {
-        let Ok((next, site)) = entry(table, &mut at, current) else {
+        let Ok((here, site)) = entry(table, &mut at, before) else {
             return None;
         };
-        if next == address {
+        if here == address {
             return if site.line == 0 { None } else { Some(site) };
         }
-        // No address goes back behind the one before it.
-        if next > address {
+        // The entries behind this one are no lower.
+        if here > address {
             return None;
         }
-        current = next;
+        before = here;
     }
     None
 }
 
-/// How many entries a table says that it has: its first number.
+/// The number of entries that a table states, which is its first number. They needn't be there.
 ///
 /// # Errors
 ///
 /// `Truncated` or `Overflow` where that number can't be read.
 pub fn count(table: &[u8]) -> Result<u32, Error>
     ensures ok { (n : ℕ) → (result ≡ Ok n) ↔ ((rest : List ℕ) × Begins table.now (n ∷ []) rest) }
-    ensures err { (e : TableError) → (result ≡ Err e) ↔ ((error : NumberError) × U32Fault table.now error × (e ≡ as_table_error error)) }
+    ensures err { (e : TableError) → (result ≡ Err e)
+        ↔ ((error : NumberError) × U32Fault table.now error × (e ≡ as_table_error error)) }
 {
     let mut at = 0;
     Ok(varint::u32(table, &mut at)?)
 }
 
-/// Whether the bytes are a table.
+/// Tests whether the bytes are a table.
 ///
 /// # Errors
 ///
-/// The first thing that is wrong, in the order in which a table is read.
+/// What is wrong first, in the order in which the numbers stand.
 pub fn check(table: &[u8]) -> Result<(), Error>
     ensures ok { IsOk result ↔ ((list : List Entry) × Table table.now list) }
     ensures err { (e : TableError) → (result ≡ Err e) ↔ FirstFault table.now e }
@@ -136,7 +139,8 @@ pub fn check(table: &[u8]) -> Result<(), Error>
     }
 }
 
-/// Whether the addresses of the entries that have a line strictly ascend.
+/// Whether the addresses of the entries that have a line strictly ascend, as [`encode`] asks.
+#[must_use]
 pub fn is_ascending(sites: &[(u32, Site)]) -> bool
     ensures { IsTrue result ↔ IsStrictlyIncreasing (addresses (kept sites.now)) }
 {
@@ -162,29 +166,31 @@ fn count_kept(sites: &[(u32, Site)]) -> usize
     sites.iter().filter(|(_, site)| site.line != 0).count()
 }
 
-/// The table of the entries that have a line.
+/// Writes the table of the entries that have a line, in the shortest spellings.
 ///
-/// The caller sees to it that their addresses strictly ascend ([`is_ascending`] tells).
+/// Their addresses have to ascend strictly: [`is_ascending`] tells whether they do. What is written of 2 to the power 32
+/// such entries and more is no table, since its count doesn't fit.
 ///
 /// # Errors
 ///
 /// `AllocError` where there is no memory for the table.
 pub fn encode(alloc: Global, sites: &[(u32, Site)]) -> Result<Vec<u8>, AllocError>
     requires { IsStrictlyIncreasing (addresses (kept sites.now)) }
-    ensures written { IfOk result (λ table. AreShortest table.items (length (kept sites.now) ∷ numbers_from 0 (kept sites.now))) }
+    ensures written { let list = kept sites.now in
+        IfOk result (λ table. AreShortest table.items (length list ∷ numbers_from 0 list)) }
     ensures table { length (kept sites.now) < 2 ^ 32 → IfOk result (λ table. Table table.items (kept sites.now)) }
 {
     let mut table = Vec::new(alloc);
     varint::put_u64(&mut table, count_kept(sites) as u64)?;
-    let mut before = 0;
+    let mut last = 0;
     for (address, site) in sites {
         if site.line == 0 {
             continue;
         }
-        varint::put_u64(&mut table, u64::from(*address - before))?;
+        varint::put_u64(&mut table, u64::from(*address - last))?;
         varint::put_u64(&mut table, u64::from(site.line))?;
         varint::put_u64(&mut table, u64::from(site.column))?;
-        before = *address;
+        last = *address;
     }
     Ok(table)
 }

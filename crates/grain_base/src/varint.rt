@@ -1,9 +1,12 @@
-//! Numbers in groups of seven bits (LEB128), in which a Rhai Grain artifact counts everything.
+//! Numbers spelled in groups of seven bits (LEB128).
 //!
-//! A group is a byte: its low seven bits count, lowest group first, and the bit `0x80` says that another group
-//! follows. There are at most ten, and a tenth is 0 or 1, so that the number fits 64 bits. A number has longer
-//! spellings too, as `80 00` for 0, and they are read. Signed numbers are zigzagged first: v is spelled as 2v, or as
-//! -2v - 1 below 0, so that a small negative number is short too. docs/FORMAT.md, "Varints", has the format.
+//! A group is a byte: seven bits of the number, the lowest group first, and the bit `0x80`, which says that another
+//! group follows. There are ten groups at most, and a tenth is 0 or 1, so that each number fits 64 bits. A number has
+//! longer spellings too, as `80 00` for 0: they are read, and never written. A signed number v is spelled as 2v, or as
+//! -2v - 1 where it is negative, so that numbers near 0 are short on both sides. docs/FORMAT.md, "Varints", has the
+//! format.
+//!
+//! A cursor is handed from call to call: each call reads from `at` on, and leaves it behind the bytes that it read.
 
 ghost use Rattle.std.specs.Prelude.{◌≡◌, ℕ, ℤ, ◌+◌, ◌^◌, ◌<◌, ◌↔◌, length, take, drop, Ok, Err, IfOk, OnOk, OnErr};
 ghost use Rattle.grain_base.specs.Varint.{AppendsShortest, IsShortest, StandsAt, NoneStands, NumberFault, Reads, U32Fault, zigzag};
@@ -11,23 +14,26 @@ ghost use Rattle.grain_base.specs.declared.varint.Error.{Error};
 
 use std::alloc::AllocError;
 
-/// Why no number could be read.
+/// What is wrong with bytes that spell no number.
 #[derive(Clone, Copy, Debug, PartialEq, Eq)]
 pub enum Error {
-    /// The bytes end within a number.
+    /// The bytes end where another group is due.
     Truncated,
-    /// The number is wider than its type, or its groups go on past the tenth.
+    /// The number doesn't fit its type, or ten groups don't end it.
     Overflow,
 }
 
-/// Reads the number that is spelled at the cursor `at`, and moves the cursor past its spelling.
+/// The greatest tenth group: behind nine of them one of 64 bits is left.
+const TENTH_MAX: u8 = 1;
+
+/// Reads the number that is spelled at the cursor, and moves the cursor past its spelling.
 ///
-/// Where no spelling stands there, the cursor moves past the bytes read, which are ten, or all that are left.
+/// Where none is spelled there, the cursor moves past ten bytes, or past all that are left where they are fewer.
 ///
 /// # Errors
 ///
-/// `Truncated` where fewer than ten bytes are left and each says that another follows, as also at and past the end.
-/// Else `Overflow`: the tenth group is above 1 or says that another follows.
+/// `Truncated` where fewer than ten bytes are left, each of which says that another follows; so also at the end of the
+/// bytes and beyond it. Else `Overflow`: the tenth group is above 1 or says that another follows.
 #[inline]
 pub fn u64(bytes: &[u8], at: &mut usize) -> Result<u64, Error>
     // A number is read exactly where one is spelled.
@@ -48,7 +54,7 @@ pub fn u64(bytes: &[u8], at: &mut usize) -> Result<u64, Error>
     }
 }
 
-/// Reads a number of any length, as [`u64`] does.
+/// Reads a number of any number of groups, as [`u64`] does.
 fn groups(bytes: &[u8], at: &mut usize) -> Result<u64, Error>
     ensures { Reads bytes.now at.old result at.new }
 {
@@ -63,26 +69,29 @@ fn groups(bytes: &[u8], at: &mut usize) -> Result<u64, Error>
             return Ok(value);
         }
     }
-    // The tenth group has one bit to land in. The others aren't dropped, but refused.
     let Some(byte) = bytes.get(*at) else {
         return Err(Error::Truncated);
     };
     *at += 1;
-    if *byte > 1 {
+    if *byte > TENTH_MAX {
         return Err(Error::Overflow);
     }
     Ok(value | u64::from(*byte) << 63)
 }
 
-/// Reads a signed number as [`u64`] reads its zigzag.
+/// Reads the signed number that is spelled at the cursor, as [`u64`] does: 2v stands for v, -2v - 1 for a negative v.
 ///
 /// # Errors
 ///
 /// As [`u64`].
 #[inline]
 pub fn i64(bytes: &[u8], at: &mut usize) -> Result<i64, Error>
+    // Each number that is spelled stands for a signed one.
     ensures found { IfOk result (λ v. StandsAt bytes.now at.old (zigzag v) at.new) }
-    ensures spelled { (v : ℤ) (end : ℕ) → StandsAt bytes.now at.old (zigzag v) end → (result ≡ Ok v) × (at.new ≡ end) }
+    ensures spelled { (v : ℤ) (end : ℕ) → StandsAt bytes.now at.old (zigzag v) end
+        → (result ≡ Ok v) × (at.new ≡ end) }
+
+    // Elsewhere the error and the cursor are those of `u64`.
     ensures error { (e : Error) → (result ≡ Err e) ↔ NumberFault (drop at.old bytes.now) e }
     ensures cursor { OnErr result (at.new ≡ at.old + length (take 10 (drop at.old bytes.now))) }
 {
@@ -91,17 +100,22 @@ pub fn i64(bytes: &[u8], at: &mut usize) -> Result<i64, Error>
     Ok(if raw & 1 == 0 { half } else { !half })
 }
 
-/// Reads a number that has to fit a `u32`, as [`u64`] does.
+/// Reads the number that is spelled at the cursor where it fits a `u32`, as [`u64`] does.
 ///
 /// # Errors
 ///
-/// As [`u64`], and `Overflow` for a number above 4294967295, with the cursor past its spelling.
+/// As [`u64`]; also `Overflow` for a number above 4294967295, with the cursor past its spelling.
 #[inline]
 pub fn u32(bytes: &[u8], at: &mut usize) -> Result<u32, Error>
+    // A number is read exactly where one is spelled that fits. The cursor passes one that doesn't fit too.
     ensures found { IfOk result (λ n. StandsAt bytes.now at.old n at.new) }
-    ensures spelled { (n end : ℕ) → StandsAt bytes.now at.old n end → (at.new ≡ end) × (n < 2 ^ 32 → result ≡ Ok n) }
+    ensures spelled { (n end : ℕ) → StandsAt bytes.now at.old n end
+        → (at.new ≡ end) × (n < 2 ^ 32 → result ≡ Ok n) }
+
+    // Elsewhere the error says what is wrong there.
     ensures error { (e : Error) → (result ≡ Err e) ↔ U32Fault (drop at.old bytes.now) e }
-    ensures cursor { NoneStands (drop at.old bytes.now) → at.new ≡ at.old + length (take 10 (drop at.old bytes.now)) }
+    ensures cursor { NoneStands (drop at.old bytes.now)
+        → at.new ≡ at.old + length (take 10 (drop at.old bytes.now)) }
 {
     let value = u64(bytes, at)?;
     match u32::try_from(value) {
@@ -114,7 +128,7 @@ pub fn u32(bytes: &[u8], at: &mut usize) -> Result<u32, Error>
 ///
 /// # Errors
 ///
-/// `AllocError` where there is no memory for it, with `out` unchanged. The room for all groups is asked for at once.
+/// `AllocError` where `out` can't grow, which then is as before: it grows once, before the first byte is written.
 pub fn put_u64(out: &mut Vec<u8>, value: u64) -> Result<(), AllocError>
     ensures ok { OnOk result (AppendsShortest out.old.items out.new.items value) }
     ensures err { OnErr result (out.new.items ≡ out.old.items) }
@@ -131,7 +145,7 @@ pub fn put_u64(out: &mut Vec<u8>, value: u64) -> Result<(), AllocError>
     out.extend_from_slice(&groups[..=last])
 }
 
-/// Appends the shortest spelling of a signed number's zigzag.
+/// Appends the shortest spelling of a signed number: of 2v, or of -2v - 1 where v is negative.
 ///
 /// # Errors
 ///

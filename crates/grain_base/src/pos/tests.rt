@@ -114,3 +114,33 @@ fn damage_is_answered(rt: HostRuntime) {
         }
     }
 }
+
+#[test]
+fn names_itself(rt: HostRuntime) -> Result<(), Fail> {
+    let texts = [
+        (
+            format!(in rt.alloc(); "{:?}", site(1, 5))?,
+            "Site { line: 1, column: 5 }",
+        ),
+        (
+            format!(in rt.alloc(); "{:?}", Error::from(varint::Error::Overflow))?,
+            "Overflow",
+        ),
+        (
+            format!(in rt.alloc(); "{:?}", Error::OutOfOrder { at: 3 })?,
+            "OutOfOrder { at: 3 }",
+        ),
+        (
+            format!(in rt.alloc(); "{:?}", Error::TrailingBytes { count: 1 })?,
+            "TrailingBytes { count: 1 }",
+        ),
+        (
+            format!(in rt.alloc(); "{:?}", varint::Error::Truncated)?,
+            "Truncated",
+        ),
+    ];
+    for (text, want) in &texts {
+        assert_eq!(rt; text.as_str(), *want);
+    }
+    Ok(())
+}

@@ -1,4 +1,4 @@
-use Rattle.std.proofs.Common.{◌∙◌, refl, ap, rules}
+use Rattle.std.proofs.Common.{refl, rules}
 use Rattle.std.proofs.lemmas.Result.{err_from_is_err_and}
 use Rattle.grain_base.specs.AddressTable.{as_table_error}
 use Rattle.grain_base.proofs.Numbers.{begins_at, first_read, first_unread, no_error, the_error}

@@ -1,6 +1,5 @@
-use Rattle.std.proofs.Common.{◌≡◌, List, subst, arith, rules}
-use Rattle.grain_base.specs.Varint.{AppendsShortest}
-use Rattle.grain_base.proofs.Encoding.{Fits, encoded_none, encoded_without, encoded_with, encoded_end, not_below, shortest_table}
+use Rattle.std.proofs.Common.{arith, rules}
+use Rattle.grain_base.proofs.Encoding.{encoded_none, encoded_without, encoded_with, encoded_end, not_below, shortest_table}
 use Rattle.grain_base.proofs.pos.encode.Goals as goal
 
 pub loop-address-init : goal.loop-address-init

@@ -2,4 +2,4 @@ use Rattle.grain_base.proofs.Encoding.{Encoded}
 use Rattle.grain_base.proofs.pos.encode.Given as goal
 
 abbrev pub invariant-loop-address : goal.invariant-loop-address
-invariant-loop-address l = Encoded l.sites l.address-index l.before l.table.items
+invariant-loop-address l = Encoded l.sites l.address-index l.last l.table.items

@@ -1,7 +1,7 @@
-use Rattle.std.proofs.Common.{◌≡◌, ℕ, ◌-◌, ◌+◌, List, None, zero, refl, sym, ap, ◌∙◌, arith, rules}
+use Rattle.std.proofs.Common.{◌≡◌, ◌-◌, ◌+◌, List, refl, sym, ap, ◌∙◌, arith, rules}
 use Rattle.grain_base.specs.AddressTable.{Entry, site_at}
 use Rattle.grain_base.proofs.Numbers.{begins_at}
-use Rattle.grain_base.proofs.Entries.{entries_from, front, front_is, front_counted, front_uncounted}
+use Rattle.grain_base.proofs.Entries.{front, front_is, front_counted, front_uncounted}
 use Rattle.grain_base.proofs.Resolving.{site_more, site_here, site_past, site_none, site_over, known_none, known_some}
 use Rattle.grain_base.proofs.pos.resolve.Goals as goal
 
@@ -24,20 +24,20 @@ returns-in_default-entry c =
 pub returns-then-site-eq0 : goal.returns-then-site-eq0
 returns-then-site-eq0 c =
     let table = c.args.table.now in
-    (front table, front_is table, sym (known_none (c.in-Ok-entry.next, c.in-Ok-entry.site) c.if-site-eq0.true) ∙ sym (site_here _ (c.in-Ok.count - (c.loop.counter + 1)) _ _ _ _ _ (omega arith) c.in-Ok-entry.ensures.ok c.if-next-address.true) ∙ c.loop.invariant)
+    (front table, front_is table, sym (known_none (c.in-Ok-entry.here, c.in-Ok-entry.site) c.if-site-eq0.true) ∙ sym (site_here _ (c.in-Ok.count - (c.loop.counter + 1)) _ _ _ _ _ (omega arith) c.in-Ok-entry.ensures.ok c.if-here-address.true) ∙ c.loop.invariant)
 
 pub returns-else-site-eq0 : goal.returns-else-site-eq0
 returns-else-site-eq0 c =
     let table = c.args.table.now in
-    (front table, front_is table, sym (known_some (c.in-Ok-entry.next, c.in-Ok-entry.site) c.if-site-eq0.false) ∙ sym (site_here _ (c.in-Ok.count - (c.loop.counter + 1)) _ _ _ _ _ (omega arith) c.in-Ok-entry.ensures.ok c.if-next-address.true) ∙ c.loop.invariant)
+    (front table, front_is table, sym (known_some (c.in-Ok-entry.here, c.in-Ok-entry.site) c.if-site-eq0.false) ∙ sym (site_here _ (c.in-Ok.count - (c.loop.counter + 1)) _ _ _ _ _ (omega arith) c.in-Ok-entry.ensures.ok c.if-here-address.true) ∙ c.loop.invariant)
 
-pub returns-then-next-address-2 : goal.returns-then-next-address-2
-returns-then-next-address-2 c =
+pub returns-then-here-address-2 : goal.returns-then-here-address-2
+returns-then-here-address-2 c =
     let table = c.args.table.now in
-    (front table, front_is table, sym (site_past _ (c.in-Ok.count - (c.loop.counter + 1)) _ _ _ _ _ (omega arith) c.in-Ok-entry.ensures.ok c.if-next-address-2.true) ∙ c.loop.invariant)
+    (front table, front_is table, sym (site_past _ (c.in-Ok.count - (c.loop.counter + 1)) _ _ _ _ _ (omega arith) c.in-Ok-entry.ensures.ok c.if-here-address-2.true) ∙ c.loop.invariant)
 
 pub loop-preserved : goal.loop-preserved
-loop-preserved c = sym (site_more _ _ _ _ _ _ _ (omega arith) c.in-Ok-entry.ensures.ok c.if-next-address.false) ∙ c.loop.invariant
+loop-preserved c = sym (site_more _ _ _ _ _ _ _ (omega arith) c.in-Ok-entry.ensures.ok c.if-here-address.false) ∙ c.loop.invariant
 
 pub returns : goal.returns
 returns c =

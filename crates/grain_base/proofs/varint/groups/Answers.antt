@@ -1,6 +1,5 @@
-use Rattle.std.proofs.Common.{◌≡◌, ℕ, ◌+◌, sym, subst, arith}
-use Rattle.grain_base.specs.Varint.{StandsAt}
-use Rattle.grain_base.proofs.Reading.{Passes, passes_none, passes_more, value_more, value_last, stands, cut_short, too_wide}
+use Rattle.std.proofs.Common.{◌≡◌, arith}
+use Rattle.grain_base.proofs.Reading.{passes_none, passes_more, value_more, value_last, stands, cut_short, too_wide}
 use Rattle.grain_base.proofs.varint.groups.Goals as goal
 
 pub loop-group-init : goal.loop-group-init
@@ -24,8 +23,8 @@ loop-group-preserved c =
 pub returns-in_default-get : goal.returns-in_default-get
 returns-in_default-get c = cut_short _ _ _ _ _ c.loop-group.invariant c.in_default-get.ensures.lookup.3 (omega arith)
 
-pub returns-then-byte-gt1 : goal.returns-then-byte-gt1
-returns-then-byte-gt1 c =
+pub returns-then-byte-gt-TENTH_MAX : goal.returns-then-byte-gt-TENTH_MAX
+returns-then-byte-gt-TENTH_MAX c =
     let read = c.in-Some-get.ensures.lookup.3 in
     let nine : c.loop-group.group ≡ 9 = omega arith in
     too_wide _ _ _ _ _ (rw nine at c.loop-group.invariant) read.0 (read.1 0) (omega arith)

@@ -1,5 +1,4 @@
 use Rattle.std.proofs.Common.{rules}
-use Rattle.grain_base.specs.Varint.{StandsAt, zigzag}
 use Rattle.grain_base.proofs.Standing.{zigzag_even, zigzag_odd, zigzag_spelled}
 use Rattle.grain_base.proofs.varint.i64.Goals as goal
 
