@@ -34,7 +34,7 @@ const TENTH_MAX: u8 = 1;
 ///
 /// `Truncated` where fewer than ten bytes are left, each of which says that another follows; so also at the end of the
 /// bytes and beyond it. Else `Overflow`: the tenth group is above 1 or says that another follows.
-#[inline]
+#[inline(always)]
 pub fn u64(bytes: &[u8], at: &mut usize) -> Result<u64, Error>
     // A number is read exactly where one is spelled.
     ensures found { IfOk result (λ n. StandsAt bytes.now at.old n at.new) }
@@ -105,7 +105,7 @@ pub fn i64(bytes: &[u8], at: &mut usize) -> Result<i64, Error>
 /// # Errors
 ///
 /// As [`u64`]; also `Overflow` for a number above 4294967295, with the cursor past its spelling.
-#[inline]
+#[inline(always)]
 pub fn u32(bytes: &[u8], at: &mut usize) -> Result<u32, Error>
     // A number is read exactly where one is spelled that fits. The cursor passes one that doesn't fit too.
     ensures found { IfOk result (λ n. StandsAt bytes.now at.old n at.new) }
