@@ -1,4 +1,8 @@
+pub mod Chain
+pub mod ChainPositions
 pub mod Dispatch
 pub mod Names
 pub mod NamesLeft
 pub mod Qualified
+pub mod Span
+pub mod StepBits
