@@ -5,7 +5,8 @@
 
 pub use grain_base::{Caps, Dynamic, FnAccess, FnPtr, HostValue, Position, Token, pos, varint};
 pub use grain_bytecode::{
-    AssembleError, BadTable, Disassembly, Names, Op, Receiver, Strings, StringsError, Switch,
-    SwitchRange, assemble, count_instructions, decode, disassemble, names, resolve_switch_targets,
-    sites, tag, u16_at, u32_at, width,
+    AssembleError, AssignOp, BadTable, Chain, ChainPositions, Chunk, Disassembly, Function, Names,
+    Op, Receiver, Root, Step, StepFlags, Strings, StringsError, Switch, SwitchRange, Tail,
+    assemble, count_instructions, decode, disassemble, names, resolve_switch_targets, sites, tag,
+    u16_at, u32_at, width,
 };

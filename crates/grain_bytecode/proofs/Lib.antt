@@ -7,11 +7,13 @@ pub mod Drained
 pub mod Faults
 pub mod Growing
 pub mod Instructions
+pub mod KnownFlags
 pub mod Left
 pub mod Past
 pub mod Placed
 pub mod Reading
 pub mod Rows
+pub mod Slots
 pub mod Splits
 pub mod Streams
 pub mod Tables

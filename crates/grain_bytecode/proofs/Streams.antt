@@ -193,9 +193,10 @@ says_ok bytes (Err error) says = (λ ok. absurd cc, λ stream. let e = sym (stre
 
 pub says_err : (bytes : List ℕ) (r : Result (Unit {0}) StreamError) → Says bytes r → (error : StreamError) → (r ≡ Err error) ↔ StreamFault bytes error
 says_err bytes (Ok t) says error = (λ e. absurd cc, λ fault. let e = sym (stream_answer bytes says.0 says.1) ∙ fault_answer bytes error fault in absurd cc)
-says_err bytes (Err other) says error =
-    (λ e. let same : other ≡ error = cc in subst (StreamFault bytes) same says,
-    λ fault. let e = sym (fault_answer bytes other says) ∙ fault_answer bytes error fault in let same : other ≡ error = cc in ap (λ x. Err x) same)
+says_err bytes (Err other) says error = (
+  λ e. let same : other ≡ error = cc in subst (StreamFault bytes) same says,
+  λ fault. let e = sym (fault_answer bytes other says) ∙ fault_answer bytes error fault in let same : other ≡ error = cc in ap (λ x. Err x) same,
+)
 
 pub no_site : (line column : ℕ) → line ≡ 0 → None ≡ site_of line column
 no_site line column none = sym (ap (λ n. site_of n column) none)
@@ -240,12 +241,14 @@ pub recorded : (stream : List ℕ) (count slot at after line column : ℕ) (site
 recorded stream count slot at after line column sites slots inside read site = (there, back) where
   all : Begins stream (count ∷ slots.numbers ++ line ∷ column ∷ []) (drop after stream)
   all = begins-append stream (count ∷ slots.numbers) (line ∷ column ∷ []) (drop at stream) (drop after stream) slots.read read
+
   there : site_of line column ≡ Some site → Records stream slot site
   there is = elim (cases_eq line 0) [
     | inl none ↦ let e = no_site line column none ∙ is in absurd cc
     | inr some ↦ let same : record { line = line; column = column } ≡ site = let e = some_site line column some ∙ is in cc in
         subst (Records stream slot) same (record { count = count; before = slots.numbers; rest = drop after stream; read = all; place = slots.paired; counted = inside; known = omega arith })
   ]
+
   back : Records stream slot site → site_of line column ≡ Some site
   back records =
       let numbers = records.count ∷ records.before ++ site.line ∷ site.column ∷ [] in

@@ -1,4 +1,6 @@
 pub mod Assembly
+pub mod Chain
+pub mod ChainPositions
 pub mod ChainStream
 pub mod Disassembly
 pub mod Dispatch
@@ -7,6 +9,8 @@ pub mod Names
 pub mod NamesLeft
 pub mod Numbers
 pub mod Qualified
+pub mod Span
 pub mod Split
+pub mod StepBits
 pub mod Table
 pub mod Unread

@@ -2,15 +2,18 @@
 //!
 //! Each function does nothing: its contract is the law.
 
-ghost use Rattle.std.specs.Prelude.{◌≡◌, ◌≢◌, ℕ, ◌≤◌, ◌++◌, ◌↔◌, true, List, length, take, drop, Option, None, Some, slice_get};
+ghost use Rattle.std.specs.Prelude.{◌≡◌, ◌≢◌, ℕ, ◌<◌, ◌≤◌, ◌++◌, ◌↔◌, true, List, length, take, drop, Option, None, Some, slice_get};
+ghost use Rattle.std.specs.Int.RustNames.{bit_and};
 ghost use Rattle.std.specs.List.{Contains, concat, list_all};
 ghost use Rattle.std.specs.Str.{is_utf8};
+ghost use Rattle.bitflags.specs.Sets.{known_bits};
 ghost use Rattle.grain_base.specs.Content.{Content};
 ghost use Rattle.grain_base.specs.declared.pos.Site.{Site};
 ghost use Rattle.grain_bytecode.specs.ChainStream.{Stream};
 ghost use Rattle.grain_bytecode.specs.Dispatch.{Fits, Table, dispatched, resolved, targets};
 ghost use Rattle.grain_bytecode.specs.Names.{first_fault, names_in, starts_of};
 ghost use Rattle.grain_bytecode.specs.Qualified.{IsLastCut, last_cut, separator};
+ghost use Rattle.grain_bytecode.specs.StepBits.{flags_table};
 ghost use Rattle.grain_bytecode.specs.Table.{Instr, canon};
 ghost use Rattle.grain_bytecode.specs.Split.{Split, IsBoundary, FrontEnds};
 ghost use Rattle.grain_bytecode.specs.Disassembly.{IsDisassembly};
@@ -67,6 +70,12 @@ pub fn dispatch_answers_a_target()
 /// A switch whose targets are replaced by offsets leads to the offset of where it led.
 pub fn dispatch_follows_its_offsets()
     ensures { (offsets : List ℕ) (t : Table) (subject : Content) → Fits (length offsets) t → slice_get offsets (dispatched t subject) ≡ Some (dispatched (resolved offsets t) subject) }
+{}
+
+/// The flag of a step has the lowest bit: a number is a set of flags exactly where it is below 2.
+pub fn flags_have_the_lowest_bit()
+    ensures all { known_bits flags_table ≡ 1 }
+    ensures known { (bits : ℕ) → (bit_and bits (known_bits flags_table) ≡ bits) ↔ (bits < 2) }
 {}
 
 /// A name is cut at the last place where the separator stands, if it stands anywhere.

@@ -6,11 +6,15 @@
 #![tactic(auto)]
 
 mod assembler;
+mod assign_op;
+mod chain;
+mod chunk;
 mod code;
 mod decoder;
 mod disassembly;
 mod error;
 mod field;
+mod function;
 pub mod laws;
 pub mod names;
 mod op;
@@ -20,9 +24,13 @@ mod switch;
 pub mod tag;
 
 pub use assembler::assemble;
+pub use assign_op::AssignOp;
+pub use chain::{Chain, ChainPositions, Root, Step, StepFlags, Tail};
+pub use chunk::Chunk;
 pub use code::{count_instructions, decode, u16_at, u32_at, width};
 pub use disassembly::{Disassembly, disassemble};
 pub use error::AssembleError;
+pub use function::Function;
 pub use op::{Op, Receiver};
 pub use strings::{BadTable, Names, Strings, StringsError};
 pub use switch::{Switch, SwitchRange, resolve_switch_targets};

@@ -70,7 +70,11 @@ fn next_slot(stream: &[u8], at: &mut usize) -> Result<Option<Site>, varint::Erro
 {
     let line = varint::u32(stream, at)?;
     let column = varint::u32(stream, at)?;
-    Ok(if line == 0 { None } else { Some(Site { line, column }) })
+    Ok(if line == 0 {
+        None
+    } else {
+        Some(Site { line, column })
+    })
 }
 
 /// The site that a stream records for a slot, if it does.

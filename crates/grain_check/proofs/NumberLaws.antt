@@ -36,6 +36,7 @@ u32_of-none : (word : List ℕ) → (IsNumeral 10 word → digits_value 10 word 
 u32_of-none word isnt = by_cases (cases_Bool test) where
   test : Bool
   test = is_word word && all_ascii_digits word && nat_lt (digits_value 10 word) (2 ^ 32)
+
   by_cases : (test ≡ true) ⊎ (test ≡ false) → u32_of word ≡ None
   by_cases (inl passes) =
       let first = and_parts (is_word word && all_ascii_digits word) _ passes in

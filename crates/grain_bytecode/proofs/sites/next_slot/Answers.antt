@@ -13,15 +13,19 @@ returns-in_err-column-clause-err c =
 pub returns-then-line-eq0-clause-ok : goal.returns-then-line-eq0-clause-ok
 returns-then-line-eq0-clause-ok c =
     let fits : c.in_ok-line.line < 2 ^ 32 = search rules in
-    let fits_too : c.in_ok-column.column < 2 ^ 32 = search rules in
-    (c.in_ok-line.line, c.in_ok-column.column,
-    begins-append _ (c.in_ok-line.line ∷ []) (c.in_ok-column.column ∷ []) _ _ (begins_at _ _ _ _ c.in_ok-line.ensures.found fits) (begins_at _ _ _ _ c.in_ok-column.ensures.found fits_too),
-    no_site c.in_ok-line.line c.in_ok-column.column c.if-line-eq0.true)
+    let fits_too : c.in_ok-column.column < 2 ^ 32 = search rules in (
+      c.in_ok-line.line,
+      c.in_ok-column.column,
+      begins-append _ (c.in_ok-line.line ∷ []) (c.in_ok-column.column ∷ []) _ _ (begins_at _ _ _ _ c.in_ok-line.ensures.found fits) (begins_at _ _ _ _ c.in_ok-column.ensures.found fits_too),
+      no_site c.in_ok-line.line c.in_ok-column.column c.if-line-eq0.true,
+    )
 
 pub returns-else-line-eq0-clause-ok : goal.returns-else-line-eq0-clause-ok
 returns-else-line-eq0-clause-ok c =
     let fits : c.in_ok-line.line < 2 ^ 32 = search rules in
-    let fits_too : c.in_ok-column.column < 2 ^ 32 = search rules in
-    (c.in_ok-line.line, c.in_ok-column.column,
-    begins-append _ (c.in_ok-line.line ∷ []) (c.in_ok-column.column ∷ []) _ _ (begins_at _ _ _ _ c.in_ok-line.ensures.found fits) (begins_at _ _ _ _ c.in_ok-column.ensures.found fits_too),
-    some_site c.in_ok-line.line c.in_ok-column.column c.if-line-eq0.false)
+    let fits_too : c.in_ok-column.column < 2 ^ 32 = search rules in (
+      c.in_ok-line.line,
+      c.in_ok-column.column,
+      begins-append _ (c.in_ok-line.line ∷ []) (c.in_ok-column.column ∷ []) _ _ (begins_at _ _ _ _ c.in_ok-line.ensures.found fits) (begins_at _ _ _ _ c.in_ok-column.ensures.found fits_too),
+      some_site c.in_ok-line.line c.in_ok-column.column c.if-line-eq0.false,
+    )

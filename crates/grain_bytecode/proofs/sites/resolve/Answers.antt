@@ -32,7 +32,7 @@ returns-in-Ok-next_slot-2 c site =
     let ok = c.in-Ok-next_slot-2.ensures.ok in
     let all : c.slots._turn ≡ c.args.slot = omega arith in
     let found = recorded c.args.stream.now c.in-Ok.count c.args.slot c.slots.at c.next_slot-2.new.at ok.0 ok.1 c.slots.invariant.0
-        (subst (λ turns. Slots c.args.stream.now c.in-Ok.count turns c.slots.at c.slots.invariant.0) all c.slots.invariant.1) (omega arith) ok.2 site in
+    (subst (λ turns. Slots c.args.stream.now c.in-Ok.count turns c.slots.at c.slots.invariant.0) all c.slots.invariant.1) (omega arith) ok.2 site in
     (λ e. found.0 (sym ok.3 ∙ e), λ records. ok.3 ∙ found.1 records)
 
 pub returns-in-Err : goal.returns-in-Err

@@ -1,0 +1,12 @@
+-- A span of the code, and the operands that it declares.
+use Rattle.std.specs.Prelude.{ℕ, ◌&&◌, List, [], cond, length, nat_le}
+use Rattle.std.specs.List.{slice_range}
+
+pub record Span : Type 0 where
+  pub entry : ℕ
+  pub end : ℕ
+  pub max_stack : ℕ
+
+-- the part of the code, which is empty where the span is not in the code
+abbrev pub body : Span → List ℕ → List ℕ
+body s code = cond (nat_le s.entry s.end && nat_le s.end (length code)) (slice_range code s.entry s.end) []

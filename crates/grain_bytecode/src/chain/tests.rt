@@ -1,0 +1,114 @@
+use super::*;
+use std::alloc::{AllocError, Global};
+use std::hash::{DefaultHasher, Hash, Hasher};
+use std::test::Fail;
+
+// `a[i].b`, with its four positions in the first line.
+fn chain(alloc: Global) -> Result<Chain, AllocError> {
+    let index = Step::Index {
+        operand: 0,
+        flags: StepFlags::empty(),
+        pos: Position::new(1, 3),
+        bracket: Position::new(1, 2),
+    };
+    let property = Step::Property {
+        name: 1,
+        getter: 2,
+        setter: 3,
+        flags: StepFlags::SKIP_IF_UNIT,
+        pos: Position::new(1, 6),
+    };
+    Ok(Chain {
+        root: Root::Named {
+            name: 0,
+            pos: Position::new(1, 1),
+        },
+        steps: vec![in alloc; index, property]?,
+        tail: Tail::Read,
+        operands: 1,
+    })
+}
+
+// The positions, one after another.
+fn text(alloc: Global, chain: &Chain) -> Result<String, AllocError> {
+    let mut text = String::new(alloc);
+    for position in chain.positions() {
+        text.push_str(position.to_string(alloc)?.as_str())?;
+        text.push(' ')?;
+    }
+    Ok(text)
+}
+
+#[test]
+fn positions_have_slots(rt: HostRuntime) -> Result<(), Fail> {
+    let alloc = rt.alloc();
+    let mut chain = chain(alloc)?;
+    assert!(rt; chain.slots_fit());
+    assert_eq!(rt; chain.position_slots(), 4);
+    assert_eq!(rt;
+        [chain.step_slot(0), chain.step_slot(1), chain.step_slot(2)],
+        [Some(1), Some(3), None]
+    );
+    assert_eq!(rt; text(alloc, &chain)?.as_str(), "1:1 1:3 1:2 1:6 ");
+    for (slot, positions) in [
+        (2, "1:1 1:3 4:4 1:6 "),
+        (0, "4:4 1:3 4:4 1:6 "),
+        (3, "4:4 1:3 4:4 4:4 "),
+        (1, "4:4 4:4 4:4 4:4 "),
+    ] {
+        chain.set_position(slot, Position::new(4, 4));
+        assert_eq!(rt; text(alloc, &chain)?.as_str(), positions);
+    }
+    Ok(())
+}
+
+#[test]
+fn chains_take_operands(rt: HostRuntime) -> Result<(), Fail> {
+    let alloc = rt.alloc();
+    let mut left = chain(alloc)?;
+    assert_eq!(rt;
+        (left.consumes(), left.assigns(), left.roots_on_stack()),
+        (1, false, false)
+    );
+    assert!(rt; left == chain(alloc)?);
+    left.tail = Tail::Assign { op: Some(2) };
+    left.root = Root::Temporary;
+    assert_eq!(rt;
+        (left.consumes(), left.assigns(), left.roots_on_stack()),
+        (3, true, true)
+    );
+    assert!(rt; left != chain(alloc)?);
+    assert_eq!(rt;
+        (left.root.clone()?, left.tail.clone()?),
+        (Root::Temporary, Tail::Assign { op: Some(2) })
+    );
+    assert_eq!(rt; left.position_slots(), 3);
+    let text = format!(in alloc; "{:?} {:?} {:?}", left.root, left.tail, left.steps[0])?;
+    assert_eq!(rt;
+        text.as_str(),
+        "Temporary Assign { op: Some(2) } Index { operand: 0, flags: StepFlags(0), pos: 1:3, bracket: 1:2 }"
+    );
+    Ok(())
+}
+
+#[test]
+fn flags_are_sets_of_bits(rt: HostRuntime) -> Result<(), Fail> {
+    let skip = StepFlags::SKIP_IF_UNIT;
+    let none = StepFlags::default();
+    assert_eq!(rt; (none, none.bits()), (StepFlags::empty(), 0));
+    assert_eq!(rt; (skip, skip.bits()), (StepFlags::all(), 1));
+    assert_eq!(rt;
+        (StepFlags::from_bits(1), StepFlags::from_bits(2)),
+        (Some(skip.clone()?), None)
+    );
+    assert_eq!(rt; (skip.contains(none), none.contains(skip)), (true, false));
+    assert_eq!(rt; (none.union(skip), skip.difference(skip)), (skip, none));
+    assert!(rt; none < skip);
+    assert_eq!(rt; none.cmp(&skip), std::cmp::Ordering::Less);
+    let mut state = DefaultHasher::new();
+    skip.hash(&mut state);
+    let mut again = DefaultHasher::new();
+    again.write_u8(1);
+    assert_eq!(rt; state.finish(), again.finish());
+    Ok(())
+}
