@@ -143,3 +143,6 @@ pub fn decode(alloc: Global, stream: &[u8]) -> Result<Vec<Option<Site>>, StreamE
         count => Err(StreamError::TrailingBytes { count }),
     }
 }
+
+#[cfg(test)]
+mod tests;
