@@ -1,5 +1,5 @@
 -- The stream of the positions of chains.
-use Rattle.std.specs.Prelude.{◌≡◌, ℕ, ◌+◌, ◌*◌, ◌<◌, ⊤, List, [], ◌∷◌, ◌++◌, length, drop, Option, Some, None, ◌==◌, if◌then◌else◌}
+use Rattle.std.specs.Prelude.{◌≡◌, ℕ, ◌+◌, ◌*◌, ◌<◌, ⊤, List, [], ◌∷◌, ◌++◌, length, drop, codes, decimal, Option, Some, None, ◌==◌, if◌then◌else◌}
 use Rattle.grain_base.specs.declared.pos.Site.{Site}
 use Rattle.grain_base.specs.declared.varint.Error.{Error as NumberError}
 use Rattle.grain_base.specs.declared.varint.Error.TheVariants as number_error
@@ -67,3 +67,10 @@ StreamFault bytes stream_error.OutOfMemory = ⊥
 abbrev pub as_stream_error : NumberError → StreamError
 as_stream_error number_error.Truncated = stream_error.Truncated
 as_stream_error number_error.Overflow = stream_error.Overflow
+
+-- what is printed of an error
+abbrev pub text_of : StreamError → List ℕ
+text_of stream_error.Truncated = codes "chain position stream ends mid-slot"
+text_of stream_error.Overflow = codes "chain position stream holds a number too wide to read"
+text_of (stream_error.TrailingBytes count) = codes "chain position stream has " ++ decimal count ++ codes " bytes past its last slot"
+text_of stream_error.OutOfMemory = codes "out of memory"

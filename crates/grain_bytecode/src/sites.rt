@@ -18,6 +18,7 @@ ghost use Rattle.grain_bytecode.specs.ChainStream.{Stream, Records, StreamFault,
 use grain_base::pos::Site;
 use grain_base::varint;
 use std::alloc::{AllocError, AllocFailed, Global};
+use std::fmt;
 
 /// What is wrong with a stream.
 #[derive(Clone, Copy, Debug, PartialEq, Eq)]
@@ -59,6 +60,28 @@ impl<T: Drop> From<AllocFailed<T>> for StreamError {
 
     fn from(_error: AllocFailed<T>) -> StreamError {
         StreamError::OutOfMemory
+    }
+}
+
+impl fmt::Display for StreamError {
+    ghost use Rattle.grain_bytecode.specs.ChainStream.{text_of};
+
+    ghost output = { λ error. Some (text_of error) };
+
+    fn fmt<W: fmt::Write>(&self, f: &mut fmt::Formatter<W>) -> fmt::Result {
+        match self {
+            StreamError::Truncated => write!(f, "chain position stream ends mid-slot"),
+            StreamError::Overflow => {
+                write!(f, "chain position stream holds a number too wide to read")
+            }
+            StreamError::TrailingBytes { count } => {
+                write!(
+                    f,
+                    "chain position stream has {count} bytes past its last slot"
+                )
+            }
+            StreamError::OutOfMemory => write!(f, "out of memory"),
+        }
     }
 }
 

@@ -34,8 +34,14 @@ fn streams_are_checked(rt: HostRuntime) {
     assert_eq!(rt; check(&[0]), Ok(()));
     assert_eq!(rt; check(&[]), Err(StreamError::Truncated));
     assert_eq!(rt; check(&[1, 1]), Err(StreamError::Truncated));
-    assert_eq!(rt; check(&[0, 0, 0]), Err(StreamError::TrailingBytes { count: 2 }));
-    assert_eq!(rt; check(&[1, 1, 0x80, 0x80, 0x80, 0x80, 0x10]), Err(StreamError::Overflow));
+    assert_eq!(rt;
+        check(&[0, 0, 0]),
+        Err(StreamError::TrailingBytes { count: 2 })
+    );
+    assert_eq!(rt;
+        check(&[1, 1, 0x80, 0x80, 0x80, 0x80, 0x10]),
+        Err(StreamError::Overflow)
+    );
 }
 
 #[test]
@@ -44,6 +50,23 @@ fn streams_are_decoded(rt: HostRuntime) -> Result<(), Fail> {
     assert_eq!(rt; decode(rt.alloc(), STREAM), Ok(sites));
     let greatest = [0xff, 0xff, 0xff, 0xff, 0x0f, 1, 1];
     assert_eq!(rt; decode(rt.alloc(), &greatest), Err(StreamError::Truncated));
-    assert_eq!(rt; decode(rt.alloc(), &[0, 5]), Err(StreamError::TrailingBytes { count: 1 }));
+    assert_eq!(rt;
+        decode(rt.alloc(), &[0, 5]),
+        Err(StreamError::TrailingBytes { count: 1 })
+    );
+    Ok(())
+}
+
+#[test]
+fn errors_are_printed(rt: HostRuntime) -> Result<(), Fail> {
+    let tail = StreamError::TrailingBytes { count: 12 };
+    let text = format!(in rt.alloc();
+        "{}; {tail}; {}",
+        StreamError::Truncated,
+        StreamError::OutOfMemory
+    )?;
+    let wanted =
+        "chain position stream ends mid-slot; chain position stream has 12 bytes past its last slot; out of memory";
+    assert_eq!(rt; text.as_str(), wanted);
     Ok(())
 }
