@@ -1,48 +1,87 @@
-//! The operators of the language.
+//! Operators.
 
-/// An operator, by its name, or an operator that the host has added, by its text.
+/// An operator of the language, or by its text one that the host has added.
 #[derive(Debug, PartialEq, Eq, Drop)]
 pub enum Token {
+    /// `+`
     Plus,
+    /// `+` before its only operand
     UnaryPlus,
+    /// `-`
     Minus,
+    /// `-` before its only operand
     UnaryMinus,
+    /// `*`
     Multiply,
+    /// `/`
     Divide,
+    /// `%`
     Modulo,
+    /// `**`
     PowerOf,
+    /// `<<`
     LeftShift,
+    /// `>>`
     RightShift,
+    /// `&`
     Ampersand,
+    /// `|`
     Pipe,
+    /// `^`
     XOr,
+    /// `&&`
     And,
+    /// `||`
     Or,
+    /// `!`
     Bang,
+    /// `??`
     DoubleQuestion,
+    /// `==`
     EqualsTo,
+    /// `!=`
     NotEqualsTo,
+    /// `<`
     LessThan,
+    /// `<=`
     LessThanEqualsTo,
+    /// `>`
     GreaterThan,
+    /// `>=`
     GreaterThanEqualsTo,
+    /// `in`
     In,
+    /// `!in`
     NotIn,
+    /// `..`
     ExclusiveRange,
+    /// `..=`
     InclusiveRange,
+    /// `=`
     Equals,
+    /// `+=`
     PlusAssign,
+    /// `-=`
     MinusAssign,
+    /// `*=`
     MultiplyAssign,
+    /// `/=`
     DivideAssign,
+    /// `%=`
     ModuloAssign,
+    /// `**=`
     PowerOfAssign,
+    /// `<<=`
     LeftShiftAssign,
+    /// `>>=`
     RightShiftAssign,
+    /// `&=`
     AndAssign,
+    /// `|=`
     OrAssign,
+    /// `^=`
     XOrAssign,
-    /// An operator that is no part of the language itself.
+    /// An operator that the host has added.
     Custom(String),
 }
 

@@ -35,24 +35,28 @@ pub struct HostValue {
 #[derive(Drop)]
 #[cycle(value)]
 pub enum Dynamic {
-    /// The value of what has none.
+    /// The value of what gives none.
     Unit,
     Bool(bool),
     Int(i64),
     Char(char),
+    /// A text.
     Str(String),
     /// The integers from the first up to the second, without it.
     Range(i64, i64),
     /// The integers from the first up to the second, with it.
     RangeInclusive(i64, i64),
+    /// Values in order.
     Array(Vec<Dynamic>),
-    /// An array of bytes.
+    /// Bytes in order.
     Blob(Vec<u8>),
-    /// An object map: values by their property names.
+    /// An object map: values by the names of its properties.
     Map(BTreeMap<String, Dynamic>),
+    /// A function as a value.
     FnPtr(FnPtr),
     /// A value that several variables hold.
     Shared(Box<Dynamic>),
+    /// A value that only the host can look into.
     Host(HostValue),
 }
 

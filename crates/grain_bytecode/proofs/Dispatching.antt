@@ -4,7 +4,7 @@ use Rattle.std.proofs.lemmas.List.{get_or-map, length-map}
 use Rattle.std.proofs.lemmas.List.Elements.{All-contains, All-head, All-map, All-tail, Contains-append_left, Contains-append_right, Contains-get_or, Contains-push}
 use Rattle.std.proofs.lemmas.Map.Made.{lookup-map_values}
 use Rattle.std.proofs.lemmas.Map.Views.{IfSome-lookup_from_All}
-use Rattle.std.proofs.lemmas.Option.{slice_get-get_or}
+use Rattle.std.proofs.lemmas.Option.{IfSome_then, slice_get-get_or}
 use Rattle.std.specs.List.{All, Contains, find}
 use Rattle.std.specs.Map.{lookup}
 use Rattle.grain_base.specs.Content.{Content, integer, hashable, same}
@@ -53,18 +53,14 @@ range_among rs x =
     mapped among (λ (r : SwitchRange). r.target) (find (λ r. contains r x) rs)
     (found (λ (r : SwitchRange). among r.target) (λ r. contains r x) rs (contains_mapped (λ (r : SwitchRange). r.target) rs))
 
-within : {X : Type 0} (P Q : X → Type 0) (o : Option X) → ((x : X) → P x → Q x) → IfSome o P → IfSome o Q
-within P Q None more h = tt
-within P Q (Some x) more h = more x h
-
 pub dispatched_among : (t : Table) (x : Content) → Contains (targets t) (dispatched t x)
 dispatched_among t x =
     let among = Contains (targets t) in
     let cases = map (λ (c : Case). c.1.0) (listed t.cases) in
     let ranges = map (λ (r : SwitchRange). r.target) t.ranges in
     let last : among t.otherwise = Contains-push (cases ++ ranges) t.otherwise in
-    let by_case = within (Contains cases) among (by_cases t.cases x) (λ y h. Contains-append_left (cases ++ ranges) (t.otherwise ∷ []) y (Contains-append_left cases ranges y h)) (case_among t.cases x) in
-    let by_range = within (Contains ranges) among (by_ranges t.ranges x) (λ y h. Contains-append_left (cases ++ ranges) (t.otherwise ∷ []) y (Contains-append_right cases ranges y h)) (range_among t.ranges x) in
+    let by_case : IfSome (by_cases t.cases x) among = IfSome_then (by_cases t.cases x) (case_among t.cases x) (λ y h. Contains-append_left (cases ++ ranges) (t.otherwise ∷ []) y (Contains-append_left cases ranges y h)) in
+    let by_range : IfSome (by_ranges t.ranges x) among = IfSome_then (by_ranges t.ranges x) (range_among t.ranges x) (λ y h. Contains-append_left (cases ++ ranges) (t.otherwise ∷ []) y (Contains-append_right cases ranges y h)) in
     chosen among (hashable x) _ t.otherwise (unwrapped among (by_cases t.cases x) _ by_case (unwrapped among (by_ranges t.ranges x) t.otherwise by_range last)) last
 
 -- a range contains what it contained

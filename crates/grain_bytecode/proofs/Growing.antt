@@ -1,15 +1,17 @@
 -- A table with one more name, and what is read back of one that was made.
-use Rattle.std.proofs.Common.{◌≡◌, ℕ, zero, suc, ◌+◌, ◌≤◌, List, [], ◌∷◌, ◌++◌, Bool, true, false, ◌&&◌, length, take, drop, refl, None, sym, ap, ◌∙◌, arith, append_assoc, length-append, append-nil}
+use Rattle.std.proofs.Common.{◌≡◌, ℕ, ◌+◌, ◌≤◌, List, [], ◌∷◌, ◌++◌, true, length, take, drop, refl, None, ap, ◌∙◌, arith, length-append, append-nil}
 use Rattle.std.proofs.lemmas.Bool.Decides.{nat_tests}
 use Rattle.std.proofs.lemmas.Grind.{common_steps}
+use Rattle.std.proofs.lemmas.List.{take-append-drop}
+use Rattle.std.proofs.lemmas.List.Folds.{concat-append, list_all-append}
+use Rattle.std.specs.Cmp.{first_so, second_so}
 use Rattle.std.specs.List.{concat, list_all}
 use Rattle.std.specs.Str.{is_utf8}
 use Rattle.grain_bytecode.specs.Names.{fault_from, first_fault, names_from, names_in, span, span_fault, starts_of, IsTable}
-use Rattle.grain_bytecode.proofs.Tables.{first, second, here, longer, rest_is}
+use Rattle.grain_bytecode.proofs.Tables.{here, longer, rest_is}
 
 pub concat_more : (xs : List (List ℕ)) (y : List ℕ) → concat (xs ++ y ∷ []) ≡ concat xs ++ y
-concat_more [] y = append-nil y
-concat_more (x ∷ xs) y = ap (λ (r : List ℕ). x ++ r) (concat_more xs y) ∙ sym (append_assoc x (concat xs) y)
+concat_more xs y = concat-append xs (y ∷ []) ∙ ap (λ (r : List ℕ). concat xs ++ r) (append-nil y)
 
 pub starts_more : (n : ℕ) (xs : List (List ℕ)) (y : List ℕ) (end : ℕ) → n + length (concat xs) + length y ≡ end → starts_of n (xs ++ y ∷ []) ≡ starts_of n xs ++ end ∷ []
 starts_more n [] y end e = let k : n + length y ≡ end = omega arith in rw k refl
@@ -17,20 +19,14 @@ starts_more n (x ∷ xs) y end e =
     let k : n + length x + length (concat xs) + length y ≡ end = omega (arith, length-append x (concat xs)) in
     ap (λ (r : List ℕ). n ∷ r) (starts_more (n + length x) xs y end k)
 
-and_then : (b p q : Bool) → (b && p) ≡ true → (p ≡ true → q ≡ true) → (b && q) ≡ true
-and_then true p q h k = k h
-and_then false p q h k = absurd (cc)
-
 pub texts_more : (xs : List (List ℕ)) (y : List ℕ) → list_all is_utf8 xs ≡ true → is_utf8 y ≡ true → list_all is_utf8 (xs ++ y ∷ []) ≡ true
-texts_more [] y h k = rw k refl
-texts_more (x ∷ xs) y h k = and_then (is_utf8 x) (list_all is_utf8 xs) (list_all is_utf8 (xs ++ y ∷ [])) h (λ t. texts_more xs y t k)
+texts_more xs y h k = rw (list_all-append is_utf8 xs (y ∷ []), h, k) refl
 
 -- a front is no longer than the whole
 pub front_le : (xs : List (List ℕ)) (i : ℕ) → length (concat (take i xs)) ≤ length (concat xs)
-front_le [] zero = omega arith
-front_le [] (suc i) = omega arith
-front_le (x ∷ xs) zero = omega arith
-front_le (x ∷ xs) (suc i) = omega (arith, front_le xs i, length-append x (concat xs), length-append x (concat (take i xs)))
+front_le xs i =
+    let whole : length (concat (take i xs ++ drop i xs)) ≡ length (concat xs) = ap (λ (ys : List (List ℕ)). length (concat ys)) (take-append-drop i xs) in
+    omega (arith, whole, ap length (concat-append (take i xs) (drop i xs)), length-append (concat (take i xs)) (concat (drop i xs)))
 
 -- the starts after the first
 ends_of : ℕ → List (List ℕ) → List ℕ
@@ -69,10 +65,10 @@ faultless_from blob n [] h e u =
     grind (arith, nat_tests)
 faultless_from blob n (x ∷ xs) h e u =
     let to = n + length x in
-    let text : is_utf8 (span blob n to) ≡ true = rw (here blob x (concat xs) n h e) (first (is_utf8 x) (list_all is_utf8 xs) u) in
+    let text : is_utf8 (span blob n to) ≡ true = rw (here blob x (concat xs) n h e) (first_so (is_utf8 x) (list_all is_utf8 xs) u) in
     let inside = longer blob x (concat xs) n h e in
     rw (faultless blob n to (omega arith) inside text)
-    (faultless_from blob to xs inside (rest_is blob x (concat xs) n e) (second (is_utf8 x) (list_all is_utf8 xs) u))
+    (faultless_from blob to xs inside (rest_is blob x (concat xs) n e) (second_so (is_utf8 x) (list_all is_utf8 xs) u))
 
 pub made_faultless : (xs : List (List ℕ)) → list_all is_utf8 xs ≡ true → first_fault (concat xs) (starts_of 0 xs) ≡ None
 made_faultless xs u = rw (starts_are_ends 0 xs) (faultless_from (concat xs) 0 xs (omega arith) refl u)

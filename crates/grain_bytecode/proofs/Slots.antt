@@ -1,5 +1,5 @@
 -- The slots of the positions that steps carry.
-use Rattle.std.proofs.Common.{◌≡◌, ◌+◌, ◌-◌, ◌<◌, ◌≤◌, ℕ, zero, suc, List, [], ◌∷◌, ◌++◌, get_or, length, map, slice_set, sum_by, take, drop, Some, refl, sym, ap, ◌∙◌, arith, length-append, zero-add}
+use Rattle.std.proofs.Common.{◌≡◌, ◌+◌, ◌-◌, ◌<◌, ◌≤◌, ℕ, zero, suc, List, [], ◌∷◌, ◌++◌, get_or, length, slice_set, sum_by, take, drop, Some, refl, sym, ap, ◌∙◌, arith, length-append, zero-add}
 use Rattle.std.proofs.lemmas.Bool.Decides.{nat_tests}
 use Rattle.std.proofs.lemmas.List.{set-append_left, set-append_right, take-append-drop}
 use Rattle.std.proofs.lemmas.List.Concat.{flat_map-append, length-flat_map}

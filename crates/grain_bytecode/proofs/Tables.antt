@@ -1,5 +1,6 @@
 -- A table of names, read by index.
-use Rattle.std.proofs.Common.{◌≡◌, ℕ, zero, suc, ◌+◌, ◌-◌, ◌≤◌, List, [], ◌∷◌, ◌++◌, Bool, true, false, ◌&&◌, length, drop, slice_get, Option, Some, None, Result, Ok, Err, MatchResult, refl, sym, ap, ◌∙◌, arith, add-one, cond, ◌||◌, nat_lt, nat_eq}
+use Rattle.std.proofs.Common.{◌≡◌, ℕ, zero, suc, ◌+◌, ◌-◌, ◌≤◌, List, [], ◌∷◌, ◌++◌, Bool, true, false, length, drop, slice_get, Option, Some, None, Result, Ok, Err, MatchResult, refl, sym, ap, ◌∙◌, arith, add-one, cond, ◌||◌, nat_lt, nat_eq}
+use Rattle.std.specs.Cmp.{first_so, second_so}
 use Rattle.std.specs.List.{concat, list_all}
 use Rattle.std.specs.Str.{IsUtf8, is_utf8}
 use Rattle.std.proofs.Math.Seq.{drop-append_seam, take-append_seam}
@@ -74,18 +75,10 @@ none_later (s ∷ ss) (suc i) h = none_later ss i h
 pub past_before : (blob starts : List ℕ) → IsTable blob starts → (i : ℕ) → slice_get starts i ≡ None → slice_get (names_in blob starts) i ≡ None
 past_before blob starts t i h = past_of blob starts t i (rw add-one (none_later starts i h))
 
-pub first : (a b : Bool) → (a && b) ≡ true → a ≡ true
-first true b p = refl
-first false b p = p
-
-pub second : (a b : Bool) → (a && b) ≡ true → b ≡ true
-second true b p = p
-second false b p = absurd (cc)
-
 utf8_at : (xs : List (List ℕ)) (i : ℕ) (y : List ℕ) → list_all is_utf8 xs ≡ true → slice_get xs i ≡ Some y → is_utf8 y ≡ true
 utf8_at [] i y h e = absurd (cc)
-utf8_at (x ∷ xs) zero y h e = let same : x ≡ y = cc in rw (← same) (first (is_utf8 x) (list_all is_utf8 xs) h)
-utf8_at (x ∷ xs) (suc i) y h e = utf8_at xs i y (second (is_utf8 x) (list_all is_utf8 xs) h) e
+utf8_at (x ∷ xs) zero y h e = let same : x ≡ y = cc in rw (← same) (first_so (is_utf8 x) (list_all is_utf8 xs) h)
+utf8_at (x ∷ xs) (suc i) y h e = utf8_at xs i y (second_so (is_utf8 x) (list_all is_utf8 xs) h) e
 
 pub text_of : (blob starts : List ℕ) → IsTable blob starts → (i from to : ℕ) → IsSpan blob (names_in blob starts) i from to → IsUtf8 (span blob from to)
 text_of blob starts t i from to s = IsUtf8-from_is_utf8 (span blob from to) (utf8_at (names_in blob starts) i (span blob from to) t.texts s.name)

@@ -264,7 +264,7 @@ pub struct ChainPositions<'a> {
     steps: &'a [Step],
 }
 
-impl<'a> Iterator for ChainPositions<'a> {
+impl Iterator for ChainPositions<'_> {
     ghost use Rattle.std.specs.Iterator.{YieldsFirst, item_count};
     ghost use Rattle.grain_bytecode.specs.ChainPositions.{positions_left};
 

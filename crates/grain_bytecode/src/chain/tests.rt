@@ -39,25 +39,33 @@ fn text(alloc: Global, chain: &Chain) -> Result<String, AllocError> {
     Ok(text)
 }
 
+// The positions once that of one slot is replaced by 4:4.
+fn moved(alloc: Global, slot: u32) -> Result<String, AllocError> {
+    let mut chain = chain(alloc)?;
+    if chain.slots_fit() && slot < chain.position_slots() {
+        chain.set_position(slot, Position::new(4, 4));
+    }
+    text(alloc, &chain)
+}
+
 #[test]
 fn positions_have_slots(rt: HostRuntime) -> Result<(), Fail> {
-    let alloc = rt.alloc();
-    let mut chain = chain(alloc)?;
+    let chain = chain(rt.alloc())?;
     assert!(rt; chain.slots_fit());
-    assert_eq!(rt; chain.position_slots(), 4);
+    assert_eq!(rt; (chain.position_slots(), chain.positions().count()), (4, 4));
     assert_eq!(rt;
-        [chain.step_slot(0), chain.step_slot(1), chain.step_slot(2)],
-        [Some(1), Some(3), None]
+        (chain.step_slot(0), chain.step_slot(1), chain.step_slot(2)),
+        (Some(1), Some(3), None)
     );
-    assert_eq!(rt; text(alloc, &chain)?.as_str(), "1:1 1:3 1:2 1:6 ");
-    for (slot, positions) in [
+    let rows = [
+        (0, "4:4 1:3 1:2 1:6 "),
+        (1, "1:1 4:4 1:2 1:6 "),
         (2, "1:1 1:3 4:4 1:6 "),
-        (0, "4:4 1:3 4:4 1:6 "),
-        (3, "4:4 1:3 4:4 4:4 "),
-        (1, "4:4 4:4 4:4 4:4 "),
-    ] {
-        chain.set_position(slot, Position::new(4, 4));
-        assert_eq!(rt; text(alloc, &chain)?.as_str(), positions);
+        (3, "1:1 1:3 1:2 4:4 "),
+        (4, "1:1 1:3 1:2 1:6 "),
+    ];
+    for (slot, positions) in rows {
+        assert_eq!(rt; moved(rt.alloc(), slot)?.as_str(), positions);
     }
     Ok(())
 }
@@ -71,6 +79,7 @@ fn chains_take_operands(rt: HostRuntime) -> Result<(), Fail> {
         (1, false, false)
     );
     assert!(rt; left == chain(alloc)?);
+    assert!(rt; left.steps.clone()? == left.steps);
     left.tail = Tail::Assign { op: Some(2) };
     left.root = Root::Temporary;
     assert_eq!(rt;
@@ -82,11 +91,12 @@ fn chains_take_operands(rt: HostRuntime) -> Result<(), Fail> {
         (left.root.clone()?, left.tail.clone()?),
         (Root::Temporary, Tail::Assign { op: Some(2) })
     );
+    assert!(rt; left.slots_fit());
     assert_eq!(rt; left.position_slots(), 3);
-    let text = format!(in alloc; "{:?} {:?} {:?}", left.root, left.tail, left.steps[0])?;
+    let text = format!(in alloc; "{:?} {:?} {:?}", left.root, left.tail, left.steps.first())?;
     assert_eq!(rt;
         text.as_str(),
-        "Temporary Assign { op: Some(2) } Index { operand: 0, flags: StepFlags(0), pos: 1:3, bracket: 1:2 }"
+        "Temporary Assign { op: Some(2) } Some(Index { operand: 0, flags: StepFlags(0), pos: 1:3, bracket: 1:2 })"
     );
     Ok(())
 }

@@ -63,7 +63,13 @@ fn bad_tables_are_refused(rt: HostRuntime) -> Result<(), Fail> {
         (b"abcd".as_slice(), &[0], BadTable::TrailingBytes),
     ];
     for (blob, starts, fault) in rows {
-        assert_eq!(rt; refusal(rt.alloc(), blob, starts)?, Some(fault));
+        assert_eq!(rt; refusal(rt.alloc(), blob, starts)?, Some(fault.clone()?));
     }
+    let texts = format!(in rt.alloc();
+        "{:?} {:?}",
+        BadTable::NotUtf8 { at: 1 },
+        StringsError::TooLong.clone()?
+    )?;
+    assert_eq!(rt; texts.as_str(), "NotUtf8 { at: 1 } TooLong");
     Ok(())
 }

@@ -1,4 +1,4 @@
-use Rattle.std.proofs.Common.{◌≡◌, ◌+◌, ◌<◌, ◌∙◌, length, map, slice_index_or, take, ap, sym, arith}
+use Rattle.std.proofs.Common.{◌≡◌, ◌+◌, ◌<◌, ◌∙◌, length, map, slice_index_or, take, ap, arith}
 use Rattle.std.proofs.Math.Seq.{map-set_same}
 use Rattle.grain_bytecode.specs.Chain.{step_positions, step_shape, steps_positions}
 use Rattle.grain_bytecode.proofs.Slots.{flat_map-set}

@@ -1,4 +1,4 @@
-use Rattle.std.proofs.Common.{◌≡◌, ◌+◌, Some, ap, sym, ◌∙◌, arith}
+use Rattle.std.proofs.Common.{sym, arith}
 use Rattle.grain_bytecode.proofs.Slots.{front_slots, step_slot_is}
 use Rattle.grain_bytecode.proofs.chain.Chain.step_slot.Goals as goal
 
