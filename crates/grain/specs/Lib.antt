@@ -1,3 +1,16 @@
+pub mod Accepted
+pub mod Capabilities
+pub mod Code
+pub mod ConstCaps
+pub mod Counts
+pub mod Effects
+pub mod Fault
+pub mod Indices
+pub mod Layout
+pub mod Machine
+pub mod Setting
+pub mod Typing
+pub mod View
 pub use Rattle.grain_base.specs.AddressTable
 pub use Rattle.grain_base.specs.Varint
 pub use Rattle.grain_base.specs.declared.pos.Site

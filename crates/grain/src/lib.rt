@@ -1,7 +1,15 @@
 //! The verifier for untrusted Rhai Grain bytecode, with all that stands below it under one name.
-//!
-//! The verifier itself isn't written yet: what is here are the names of the crates below.
 #![tactic(auto)]
+
+mod arrival;
+mod error;
+mod pools;
+mod state;
+mod verifier;
+
+pub use error::VerifyError;
+pub use pools::Pools;
+pub use verifier::verify;
 
 pub use grain_base::{Caps, Dynamic, FnAccess, FnPtr, HostValue, Position, Token, pos, varint};
 pub use grain_bytecode::{

@@ -1,6 +1,6 @@
 -- A set of capabilities as a number: each capability has a bit of its own.
 use Rattle.std.specs.Prelude.{ℕ, List, [], ◌∷◌, codes}
-use Rattle.bitflags.specs.Sets.{Row}
+use Rattle.bitflags.specs.Sets.{Row, without}
 use Rattle.grain_base.specs.declared.caps.Caps.{Caps}
 
 abbrev pub FUNCTION : ℕ
@@ -59,3 +59,7 @@ caps_table =
 -- the number whose bits are the set
 abbrev pub set_of : Caps → ℕ
 set_of caps = caps.0
+
+-- what is needed and isn't there
+abbrev pub missing : ℕ → ℕ → ℕ
+missing caps needed = without 16 needed caps

@@ -12,6 +12,7 @@ mod value;
 pub mod varint;
 
 pub use access::FnAccess;
+pub use bitflags::Flags;
 pub use caps::Caps;
 pub use position::Position;
 pub use token::Token;

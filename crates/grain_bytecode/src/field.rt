@@ -11,7 +11,7 @@ use crate::tag;
 
 /// The pools of a program that an index can go into.
 #[derive(Clone, Copy)]
-pub(crate) enum Pool {
+pub enum Pool {
     Constants,
     Names,
     Operators,
@@ -40,9 +40,9 @@ impl Pool {
     }
 }
 
-/// A field and its value.
+/// A field of an instruction and its value, as contracts on code speak of them.
 #[derive(Clone, Copy)]
-pub(crate) enum Field {
+pub enum Field {
     /// An index into a pool, of two bytes.
     Index(Pool, u32),
     /// A slot, a depth, a length, or an index within a literal, of two bytes.

@@ -30,6 +30,7 @@ pub use chunk::Chunk;
 pub use code::{count_instructions, decode, u16_at, u32_at, width};
 pub use disassembly::{Disassembly, disassemble};
 pub use error::AssembleError;
+pub use field::{Field, Pool};
 pub use function::Function;
 pub use op::{Op, Receiver};
 pub use strings::{BadTable, Names, Strings, StringsError};

@@ -1,0 +1,18 @@
+//! The pools that instructions point into.
+
+use grain_bytecode::{Chain, Strings, Switch};
+
+/// The pools of a program, as the verifier asks them: what it has to look into, and how many there are of all else.
+pub struct Pools<'a> {
+    /// How many constants an index may name.
+    pub consts: usize,
+    pub names: &'a Strings,
+    /// How many operators there are.
+    pub tokens: usize,
+    /// How many op-assignments there are.
+    pub assign_ops: usize,
+    /// How many fragments of syntax there are that weren't compiled.
+    pub residuals: usize,
+    pub chains: &'a [Chain],
+    pub switches: &'a [Switch],
+}
