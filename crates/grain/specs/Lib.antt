@@ -8,6 +8,7 @@ pub mod Fault
 pub mod Indices
 pub mod Layout
 pub mod Machine
+pub mod Moves
 pub mod Setting
 pub mod Typing
 pub mod View

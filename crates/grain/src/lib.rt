@@ -3,6 +3,7 @@
 
 mod arrival;
 mod error;
+pub mod laws;
 mod pools;
 mod state;
 mod verifier;
