@@ -1,2 +1,6 @@
+pub mod Exact
+pub mod Growth
 pub mod Law
 pub mod Once
+pub mod Progress
+pub mod Splits

@@ -3,6 +3,7 @@ pub mod Capabilities
 pub mod Code
 pub mod ConstCaps
 pub mod Counts
+pub mod Edges
 pub mod Effects
 pub mod Fault
 pub mod Indices

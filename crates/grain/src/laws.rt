@@ -5,7 +5,10 @@ ghost use Rattle.std.specs.Prelude.{◌≡◌, ◌↔◌, ◌⊎◌, ℕ};
 ghost use Rattle.grain_bytecode.specs.Span.{Span};
 ghost use Rattle.grain_bytecode.specs.declared.op.Op.{Op};
 ghost use Rattle.grain_bytecode.specs.declared.op.Op.TheVariants.{PushHandler};
-ghost use Rattle.grain.specs.Code.{Code};
+ghost use Rattle.grain.specs.Code.{Bytecode, Code};
+ghost use Rattle.grain.specs.Accepted.{ChunkPasses};
+ghost use Rattle.grain.specs.Fault.{ChunkFault};
+ghost use Rattle.grain.specs.declared.error.VerifyError.{VerifyError};
 ghost use Rattle.grain.specs.Counts.{Counts};
 ghost use Rattle.grain.specs.Effects.{Edge, jumping};
 ghost use Rattle.grain.specs.Machine.{Catches, Finds, IsKept, IsOnKeptRun, Machine, counts};
@@ -30,4 +33,10 @@ pub fn edges_are_steps()
 pub fn faults_land_on_catch_edges()
     ensures { (code : Code) (chunk : Span) (d : ℕ) → HasTyping code chunk d → (m n : Machine) → IsOnKeptRun code chunk m → (fault : Catches code chunk m n) → IsKept fault
         → (armed : IsArmed code chunk fault.handler fault.outer) × (n.address ≡ fault.handler.target) × (counts n ≡ jumping code.setting (PushHandler fault.handler.target armed.name) (armed_counts fault.handler fault.outer)) }
+{}
+
+/// trial
+pub fn trial()
+    ensures exact { (code : Bytecode) (chunk : Span) (e : VerifyError) → ChunkPasses code chunk → ChunkFault code chunk e → ⊥ }
+    ensures same { (a end : ℕ) → a ≡ a }
 {}
