@@ -1,6 +1,7 @@
 pub mod Exact
 pub mod Growth
 pub mod Law
+pub mod Marks
 pub mod Once
 pub mod Progress
 pub mod Splits

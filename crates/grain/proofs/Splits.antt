@@ -63,7 +63,7 @@ pub start_op : (code : List ℕ) (a : ℕ) → IsStart code a → (a < length co
 start_op code a s = split_op code 0 s.starts a (split_splits code s.starts s.split) s.here
 
 -- the first start of a split, or the end
-split_first : (code : List ℕ) (at : ℕ) (xs : List ℕ) → SplitsFrom code at xs → Contains xs at ⊎ (at ≡ length code)
+pub split_first : (code : List ℕ) (at : ℕ) (xs : List ℕ) → SplitsFrom code at xs → Contains xs at ⊎ (at ≡ length code)
 split_first code at [] h = inr h
 split_first code at (x ∷ xs) (e, l, h) = inl (subst (λ (y : ℕ). Contains (x ∷ xs) y) e (in_head x xs))
 

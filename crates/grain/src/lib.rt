@@ -5,6 +5,7 @@ mod arrival;
 mod error;
 pub mod laws;
 mod pools;
+mod starts;
 mod state;
 mod verifier;
 
