@@ -4,4 +4,5 @@ pub mod Law
 pub mod Marks
 pub mod Once
 pub mod Progress
+pub mod Pushing
 pub mod Splits

@@ -10,6 +10,8 @@ pub mod Indices
 pub mod Layout
 pub mod Machine
 pub mod Moves
+pub mod Pushed
+pub mod Seen
 pub mod Setting
 pub mod Typing
 pub mod View

@@ -2,11 +2,13 @@
 #![tactic(auto)]
 
 mod arrival;
+mod edges;
 mod error;
 pub mod laws;
 mod pools;
 mod starts;
 mod state;
+mod table;
 mod verifier;
 
 pub use error::VerifyError;
