@@ -13,6 +13,7 @@ pub mod Moves
 pub mod Pushed
 pub mod Seen
 pub mod Setting
+pub mod Targets
 pub mod Typing
 pub mod View
 pub use Rattle.grain_base.specs.AddressTable

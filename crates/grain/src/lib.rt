@@ -3,6 +3,7 @@
 
 mod arrival;
 mod edges;
+mod effects;
 mod error;
 pub mod laws;
 mod pools;
