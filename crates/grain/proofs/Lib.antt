@@ -1,8 +1,13 @@
+pub mod Chunks
 pub mod Exact
 pub mod Growth
 pub mod Law
 pub mod Marks
+pub mod Most
+pub mod Naming
 pub mod Once
+pub mod Parts
 pub mod Progress
 pub mod Pushing
 pub mod Splits
+pub mod Visits

@@ -10,6 +10,7 @@ pub mod Indices
 pub mod Layout
 pub mod Machine
 pub mod Moves
+pub mod PoolCaps
 pub mod Pushed
 pub mod Seen
 pub mod Setting

@@ -6,6 +6,7 @@ mod edges;
 mod effects;
 mod error;
 pub mod laws;
+mod pool_caps;
 mod pools;
 mod starts;
 mod state;
