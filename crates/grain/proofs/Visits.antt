@@ -41,7 +41,8 @@ abbrev entry_of : ℕ → State → Entry
 entry_of n s = record { chunk = n; state = s }
 
 -- how far the walk has come, in its own variables
-pub record Walking (code : Bytecode) (chunk : Span) (n : ℕ) (entries : List Entry) (work : List Coming) (deepest marked : ℕ) : Type 0 where
+pub record Walking (code : Bytecode) (chunk : Span) (n : ℕ) (entries : List Entry) (work : List Coming) (deepest : ℕ) : Type 0 where
+  pub marked : ℕ
   pub long : length entries ≡ length code.bytes
   pub numbered : 0 < n
   pub valid : All (λ (e : Entry). e.chunk ≤ n) entries
@@ -94,8 +95,9 @@ unseen_fresh n (suc end) (x ∷ xs) l h =
     let g = unseen_fresh n end xs (omega arith) (later n x xs h) in
     omega (arith, e, f, g)
 
-pub walking_start : (code : Bytecode) (chunk : Span) (n : ℕ) (entries : List Entry) → IsFramed code chunk → chunk.entry < chunk.end → length entries ≡ length code.bytes → 0 < n → All (λ (e : Entry). e.chunk < n) entries → Walking code chunk n entries (record { at = chunk.entry; counts = nothing } ∷ []) 0 0
+pub walking_start : (code : Bytecode) (chunk : Span) (n : ℕ) (entries : List Entry) → IsFramed code chunk → chunk.entry < chunk.end → length entries ≡ length code.bytes → 0 < n → All (λ (e : Entry). e.chunk < n) entries → Walking code chunk n entries (record { at = chunk.entry; counts = nothing } ∷ []) 0
 walking_start code chunk n entries f holds long pos h = record {
+  marked = 0;
   long = long;
   numbered = pos;
   valid = λ k d l. (let g = h k d l in omega arith);
@@ -103,8 +105,8 @@ walking_start code chunk n entries f holds long pos h = record {
   progress = progress_start code chunk (counts_at n entries) f holds (λ at. ap (option_map view) (fresh_at n entries at pos h));
 }
 
-pub walking_skip : (code : Bytecode) (chunk : Span) (n : ℕ) (entries : List Entry) (work : List Coming) (a : Arrival) (deepest marked : ℕ) → seen_at n entries a.at ≡ Some a.state → Walking code chunk n entries (work ++ coming a ∷ []) deepest marked → Walking code chunk n entries work deepest marked
-walking_skip code chunk n entries work a deepest marked e w = record { long = w.long; numbered = w.numbered; valid = w.valid; counted = w.counted; progress = progress_skip code chunk (counts_at n entries) marked work (coming a) deepest (ap (option_map view) e) w.progress }
+pub walking_skip : (code : Bytecode) (chunk : Span) (n : ℕ) (entries : List Entry) (work : List Coming) (a : Arrival) (deepest : ℕ) → seen_at n entries a.at ≡ Some a.state → Walking code chunk n entries (work ++ coming a ∷ []) deepest → Walking code chunk n entries work deepest
+walking_skip code chunk n entries work a deepest e w = record { marked = w.marked; long = w.long; numbered = w.numbered; valid = w.valid; counted = w.counted; progress = progress_skip code chunk (counts_at n entries) w.marked work (coming a) deepest (ap (option_map view) e) w.progress }
 
 within_taken : (end at : ℕ) (entries : List Entry) → at < end → at < length entries → at < length (take end entries)
 within_taken end at entries l h = grind (arith, common_steps)
@@ -118,26 +120,27 @@ unseen_set n end entries at s l h e =
     let o = open_same n s in
     omega (arith, u, v, g, o)
 
-pub walking_visit : (code : Bytecode) (chunk : Span) (n : ℕ) (entries : List Entry) (work : List Coming) (a : Arrival) (deepest marked : ℕ) (op : Op) → IsFramed code chunk → a.at < chunk.end → seen_at n entries a.at ≡ None → Passes (coded code) chunk a.at (view a.state) op → ((x : ℕ) → Contains (targets code.switches op) x → IsInChunk (coded code) chunk x) → Walking code chunk n entries (work ++ coming a ∷ []) deepest marked → Walking code chunk n (set entries a.at (record { chunk = n; state = a.state })) (work ++ arrivals code op a.at (view a.state)) (max deepest a.state.operands) (marked + 1)
-walking_visit code chunk n entries work a deepest marked op f l fresh passes inside w =
+pub walking_visit : (code : Bytecode) (chunk : Span) (n : ℕ) (entries : List Entry) (work : List Coming) (a : Arrival) (deepest : ℕ) (op : Op) → IsFramed code chunk → a.at < chunk.end → seen_at n entries a.at ≡ None → Passes (coded code) chunk a.at (view a.state) op → ((x : ℕ) → Contains (targets code.switches op) x → IsInChunk (coded code) chunk x) → Walking code chunk n entries (work ++ coming a ∷ []) deepest → Walking code chunk n (set entries a.at (record { chunk = n; state = a.state })) (work ++ arrivals code op a.at (view a.state)) (max deepest a.state.operands)
+walking_visit code chunk n entries work a deepest op f l fresh passes inside w =
     let h : a.at < length entries = let r = f.inside in let k = w.long in omega arith in
     record {
+      marked = w.marked + 1;
       long = length-set entries a.at (entry_of n a.state) ∙ w.long;
       numbered = w.numbered;
       valid = All-set (λ (e : Entry). e.chunk ≤ n) entries a.at (entry_of n a.state) (omega arith) w.valid;
       counted = let u = unseen_set n chunk.end entries a.at a.state l h fresh in let c = w.counted in omega arith;
-      progress = progress_visit code chunk (counts_at n entries) (counts_at n (set entries a.at (entry_of n a.state))) marked work (coming a) deepest op f (ap (option_map view) fresh) passes inside
+      progress = progress_visit code chunk (counts_at n entries) (counts_at n (set entries a.at (entry_of n a.state))) w.marked work (coming a) deepest op f (ap (option_map view) fresh) passes inside
           (ap (option_map view) (ap (state_in n) (get_or-set_same entries a.at (entry_of n a.state) unseen_entry h) ∙ entry_same n a.state))
           (λ b ne. ap (option_map view) (ap (state_in n) (get_or-set_other entries a.at b (entry_of n a.state) unseen_entry ne)))
           w.progress;
     }
 
-pub walking_end : (code : Bytecode) (chunk : Span) (n : ℕ) (entries : List Entry) (deepest marked : ℕ) → Walking code chunk n entries [] deepest marked → HasTyping (coded code) chunk deepest × IsDeepest (coded code) chunk deepest
-walking_end code chunk n entries deepest marked w = progress_end code chunk (counts_at n entries) marked deepest w.progress
+pub walking_end : (code : Bytecode) (chunk : Span) (n : ℕ) (entries : List Entry) (deepest : ℕ) → Walking code chunk n entries [] deepest → HasTyping (coded code) chunk deepest × IsDeepest (coded code) chunk deepest
+walking_end code chunk n entries deepest w = progress_end code chunk (counts_at n entries) w.marked deepest w.progress
 
 -- what is known of the arrival that was taken off
-module _ (code : Bytecode) (chunk : Span) (n : ℕ) (entries : List Entry) (work : List Coming) (a : Arrival) (deepest marked : ℕ) (w : Walking code chunk n entries (work ++ coming a ∷ []) deepest marked) where
-  taken : Waits code chunk marked (coming a)
+module _ (code : Bytecode) (chunk : Span) (n : ℕ) (entries : List Entry) (work : List Coming) (a : Arrival) (deepest : ℕ) (w : Walking code chunk n entries (work ++ coming a ∷ []) deepest) where
+  taken : Waits code chunk w.marked (coming a)
   taken = w.progress.waiting (coming a) (Contains-push work (coming a))
 
   pub taken_reached : Reached (coded code) chunk a.at (view a.state)
@@ -149,7 +152,7 @@ module _ (code : Bytecode) (chunk : Span) (n : ℕ) (entries : List Entry) (work
   pub taken_falls : chunk.end ≤ a.at → FallsOff code chunk
   taken_falls g = elim taken.lands [ inl h ↦ absurd (let q = h.end in omega arith) | inr e ↦ e.1 ]
 
-  pub taken_room : a.at < chunk.end → a.at < length entries → seen_at n entries a.at ≡ None → marked < chunk.end
+  pub taken_room : a.at < chunk.end → a.at < length entries → seen_at n entries a.at ≡ None → w.marked < chunk.end
   taken_room l h e =
       let u = unseen_set n chunk.end entries a.at a.state l h e in
       let c = w.counted in
@@ -173,9 +176,9 @@ other_state s t h e =
     let c : s.handlers ≡ t.handlers = ap (λ (x : Counts). x.handlers) e in
     grind (arith, nat_tests)
 
-pub popped : (code : Bytecode) (chunk : Span) (n : ℕ) (entries : List Entry) (deepest marked : ℕ) (stack rest : List Arrival) (a : Arrival) → stack ≡ rest ++ a ∷ [] → Walking code chunk n entries (map coming stack) deepest marked → Walking code chunk n entries (map coming rest ++ coming a ∷ []) deepest marked
-popped code chunk n entries deepest marked stack rest a e w =
-    subst (λ (xs : List Coming). Walking code chunk n entries xs deepest marked) (ap (map coming) e ∙ map_push coming rest a) w
+pub popped : (code : Bytecode) (chunk : Span) (n : ℕ) (entries : List Entry) (deepest : ℕ) (stack rest : List Arrival) (a : Arrival) → stack ≡ rest ++ a ∷ [] → Walking code chunk n entries (map coming stack) deepest → Walking code chunk n entries (map coming rest ++ coming a ∷ []) deepest
+popped code chunk n entries deepest stack rest a e w =
+    subst (λ (xs : List Coming). Walking code chunk n entries xs deepest) (ap (map coming) e ∙ map_push coming rest a) w
 
 -- where no instruction leads to more than `most` places, this falls with each visit
 pub falls : (most u' u news olds rest few : ℕ) → u' + 1 ≡ u → few ≤ most → news ≡ rest + few → olds ≡ rest + 1 → (most + 1) * u' + news < (most + 1) * u + olds
