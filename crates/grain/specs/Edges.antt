@@ -52,7 +52,10 @@ RefusesState code op at c e = ⊥
 abbrev pub all_to : Counts → List ℕ → List Coming
 all_to c ts = map (λ (t : ℕ). record { at = t; counts = c }) ts
 
+-- where an instruction goes on, if it does
+abbrev pub onwards : Bytecode → Op → ℕ → Counts → List Coming
+onwards code op at c = cond (goes_on op) (record { at = at + width_of op; counts = going_on code.setting op c } ∷ []) []
+
 -- where the written edges lead, in the order in which they are pushed
 abbrev pub arrivals : Bytecode → Op → ℕ → Counts → List Coming
-arrivals code op at c =
-    all_to (jumping code.setting op c) (targets code.switches op) ++ cond (goes_on op) (record { at = at + width_of op; counts = going_on code.setting op c } ∷ []) []
+arrivals code op at c = all_to (jumping code.setting op c) (targets code.switches op) ++ onwards code op at c

@@ -11,6 +11,7 @@ pub mod Layout
 pub mod Machine
 pub mod Moves
 pub mod PoolCaps
+pub mod Prepared
 pub mod Pushed
 pub mod Seen
 pub mod Setting

@@ -6,6 +6,7 @@ ghost use Rattle.grain_bytecode.specs.Dispatch.{listed, table};
 ghost use Rattle.grain.specs.Code.{switch_targets};
 ghost use Rattle.grain.specs.Edges.{IsMarkedIn, RefusesTarget, RefusesTargetOf, all_to};
 ghost use Rattle.grain.specs.Pushed.{case_targets, range_targets};
+ghost use Rattle.grain.specs.Targets.{table_targets};
 ghost use Rattle.grain.specs.View.{coming, view};
 
 use crate::arrival::Arrival;
@@ -150,5 +151,28 @@ pub(crate) fn push_own(
     match target {
         Some(target) => push_target(starts, chunk, at, target, after, work),
         None => Ok(()),
+    }
+}
+
+/// Pushes the state to each target of the switch that is named, if one is.
+pub(crate) fn push_table(
+    starts: &[bool],
+    chunk: &Chunk,
+    at: u32,
+    switches: &[Switch],
+    named: Option<u32>,
+    after: State,
+    work: &mut Vec<Arrival>,
+) -> Result<(), VerifyError>
+    requires { chunk.now.end ≤ length starts.now }
+    ensures pushed { OnOk result (map coming work.new.items ≡ map coming work.old.items ++ all_to (view after) (table_targets (map switch_targets switches.now) named)) }
+    ensures marked { OnOk result (All (IsMarkedIn starts.now chunk.now) (table_targets (map switch_targets switches.now) named)) }
+    ensures err { IfErr result (λ e. RefusesTargetOf starts.now chunk.now at (table_targets (map switch_targets switches.now) named) e) }
+{
+    match named {
+        Some(index) if (index as usize) < switches.len() => {
+            push_switch(starts, chunk, at, &switches[index as usize], after, work)
+        }
+        _ => Ok(()),
     }
 }

@@ -8,10 +8,12 @@ mod error;
 pub mod laws;
 mod pool_caps;
 mod pools;
+mod prepared;
 mod starts;
 mod state;
 mod table;
 mod verifier;
+mod walk;
 
 pub use error::VerifyError;
 pub use pools::Pools;
