@@ -49,18 +49,18 @@ impl Prepared<'_> {
     }
 
     /// Whether the stacks have what the instruction needs, the capabilities being there.
-    fn check_stacks(&self, op: &Op, effect: Effect, at: u32, state: State) -> Result<(), VerifyError>
-        requires known { (effect.needs, effect.takes, effect.gives) ≡ effect self.now.pools.now.chains.now op.now }
+    fn check_stacks(&self, op: &Op, change: Effect, at: u32, state: State) -> Result<(), VerifyError>
+        requires known { (change.needs, change.takes, change.gives) ≡ effect self.now.pools.now.chains.now op.now }
         requires allowed { Allows self.now.caps.0 (caps_of (bytecode_of self.now).setting op.now) }
         ensures { MatchResult result
             (λ _. Meets (bytecode_of self.now).setting op.now (view state))
             (λ e. RefusesState (bytecode_of self.now) op.now at (view state) e) }
     {
         let at = at as usize;
-        if state.operands < effect.needs {
+        if state.operands < change.needs {
             return Err(VerifyError::Underflow {
                 at,
-                need: effect.needs as usize,
+                need: change.needs as usize,
                 have: state.operands as usize,
             });
         }
@@ -141,6 +141,7 @@ impl Prepared<'_> {
         requires framed { IsFramed (bytecode_of self.now) chunk.now }
         requires within { IsInChunk (coded (bytecode_of self.now)) chunk.now at }
         requires reached { Reached (coded (bytecode_of self.now)) chunk.now at (view state) }
+        requires fits { chunk.now.end < 2 ^ 32 }
         requires operands { state.operands < chunk.now.end }
         requires iterators { state.iterators < chunk.now.end }
         requires handlers { state.handlers < chunk.now.end }
@@ -153,9 +154,9 @@ impl Prepared<'_> {
             unreachable!();
         };
         self.check_caps(&op, at, state)?;
-        let effect = effect_of(&op, self.pools.chains);
-        self.check_stacks(&op, effect, at, state)?;
-        let operands = state.operands - effect.takes + effect.gives;
+        let change = effect_of(&op, self.pools.chains);
+        self.check_stacks(&op, change, at, state)?;
+        let operands = state.operands - change.takes + change.gives;
         self.push_edges(chunk, &op, at, operands, state, work)?;
         Ok(())
     }
