@@ -152,14 +152,17 @@ module _ (code : Bytecode) (chunk : Span) (n : ℕ) (entries : List Entry) (work
   pub taken_falls : chunk.end ≤ a.at → FallsOff code chunk
   taken_falls g = elim taken.lands [ inl h ↦ absurd (let q = h.end in omega arith) | inr e ↦ e.1 ]
 
-  pub taken_room : a.at < chunk.end → a.at < length entries → seen_at n entries a.at ≡ None → w.marked < chunk.end
-  taken_room l h e =
-      let u = unseen_set n chunk.end entries a.at a.state l h e in
+  pub taken_in_table : IsFramed code chunk → a.at < chunk.end → a.at < length entries
+  taken_in_table f l = let r = f.inside in let k = w.long in omega arith
+
+  taken_room : IsFramed code chunk → a.at < chunk.end → seen_at n entries a.at ≡ None → w.marked < chunk.end
+  taken_room f l e =
+      let u = unseen_set n chunk.end entries a.at a.state l (taken_in_table f l) e in
       let c = w.counted in
       omega arith
 
-  pub taken_small : a.at < chunk.end → a.at < length entries → seen_at n entries a.at ≡ None → (a.state.operands < chunk.end) × (a.state.iterators < chunk.end) × (a.state.handlers < chunk.end)
-  taken_small l h e = let k = taken.small in let r = taken_room l h e in (omega (arith, k.operands), omega (arith, k.iterators), omega (arith, k.handlers))
+  pub taken_small : IsFramed code chunk → a.at < chunk.end → seen_at n entries a.at ≡ None → (a.state.operands < chunk.end) × (a.state.iterators < chunk.end) × (a.state.handlers < chunk.end)
+  taken_small f l e = let k = taken.small in let r = taken_room f l e in (omega (arith, k.operands), omega (arith, k.iterators), omega (arith, k.handlers))
 
 -- the derived `!=` on states
 pub same_state : (s t : State) → false ≡ not (eqb s.operands t.operands && (eqb s.iterators t.iterators && eqb s.handlers t.handlers)) → s ≡ t
