@@ -263,10 +263,11 @@ impl Prepared<'_> {
     {
         self.check_frame(chunk)?;
         let needed = self.walk(chunk, table, work)?;
-        if needed > u32::from(chunk.max_stack()) {
+        let declared = chunk.max_stack();
+        if needed > u32::from(declared) {
             return Err(VerifyError::StackExceedsDeclared {
                 needed: needed as usize,
-                declared: chunk.max_stack(),
+                declared,
             });
         }
         Ok(needed as u16)
