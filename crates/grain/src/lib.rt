@@ -2,15 +2,16 @@
 #![tactic(auto)]
 
 mod arrival;
+mod capabilities;
+mod constants;
 mod error;
+mod functions;
 mod pools;
 mod state;
 mod verifier;
 
+pub use constants::constant_caps;
 pub use error::VerifyError;
-pub use pools::Pools;
-pub use verifier::verify;
-
 pub use grain_base::{Caps, Dynamic, FnAccess, FnPtr, HostValue, Position, Token, pos, varint};
 pub use grain_bytecode::{
     AssembleError, AssignOp, BadTable, Chain, ChainPositions, Chunk, Disassembly, Function, Names,
@@ -18,3 +19,5 @@ pub use grain_bytecode::{
     assemble, count_instructions, decode, disassemble, names, resolve_switch_targets, sites, tag,
     u16_at, u32_at, width,
 };
+pub use pools::Pools;
+pub use verifier::verify;
