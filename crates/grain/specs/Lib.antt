@@ -5,6 +5,7 @@ pub mod ConstCaps
 pub mod Counts
 pub mod Effects
 pub mod Fault
+pub mod FirstOut
 pub mod Indices
 pub mod Layout
 pub mod Machine

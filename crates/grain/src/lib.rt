@@ -6,6 +6,7 @@ mod capabilities;
 mod constants;
 mod error;
 mod functions;
+mod indices;
 mod pools;
 mod state;
 mod verifier;
