@@ -10,6 +10,7 @@ pub mod Indices
 pub mod Layout
 pub mod Machine
 pub mod Setting
+pub mod Targets
 pub mod Typing
 pub mod View
 pub use Rattle.grain_base.specs.AddressTable

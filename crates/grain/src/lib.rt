@@ -4,6 +4,7 @@
 mod arrival;
 mod capabilities;
 mod constants;
+mod effects;
 mod error;
 mod functions;
 mod indices;
