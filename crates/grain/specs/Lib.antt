@@ -9,6 +9,7 @@ pub mod FirstOut
 pub mod Indices
 pub mod Layout
 pub mod Machine
+pub mod PoolNeeds
 pub mod Setting
 pub mod Targets
 pub mod Typing
