@@ -1,6 +1,8 @@
+pub mod Bounds
 pub mod Chunks
 pub mod Exact
 pub mod Growth
+pub mod Indexing
 pub mod Law
 pub mod Marks
 pub mod Most

@@ -13,7 +13,7 @@ use Rattle.grain.specs.Edges.{all_to, arrivals}
 use Rattle.grain.specs.Effects.{targets, goes_on, jumping, going_on}
 use Rattle.grain.specs.Targets.{own_target, switch_named, table_targets}
 use Rattle.grain.specs.View.{Coming}
-use Rattle.grain.proofs.Naming.{targets_parted}
+use Rattle.grain.proofs.Naming.{targets_named}
 
 abbrev pub all_targets : List (List ℕ) → ℕ
 all_targets tables = sum_by (λ (ts : List ℕ). length ts) tables
@@ -40,7 +40,7 @@ arrivals_few code op at c =
     let last : List Coming = cond (goes_on op) (record { at = at + width_of op; counts = going_on code.setting op c } ∷ []) [] in
     let a : length (jumps ++ last) ≡ length jumps + length last = length-append jumps last in
     let b : length jumps ≡ length (targets code.switches op) = length-map (targets code.switches op) (λ (t : ℕ). record { at = t; counts = jumping code.setting op c }) in
-    let c' : length (targets code.switches op) ≡ length (option_to_list (own_target op)) + length (table_targets code.switches (switch_named op)) = ap (λ (ts : List ℕ). length ts) (targets_parted code.switches op) ∙ length-append (option_to_list (own_target op)) (table_targets code.switches (switch_named op)) in
+    let c' : length (targets code.switches op) ≡ length (option_to_list (own_target op)) + length (table_targets code.switches (switch_named op)) = ap (λ (ts : List ℕ). length ts) (targets_named code.switches op) ∙ length-append (option_to_list (own_target op)) (table_targets code.switches (switch_named op)) in
     let d = own_few (own_target op) in
     let e = table_few code.switches (switch_named op) in
     let g = next_few (goes_on op) (record { at = at + width_of op; counts = going_on code.setting op c }) in

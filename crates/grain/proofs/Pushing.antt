@@ -17,7 +17,7 @@ use Rattle.grain.specs.Targets.{own_target, switch_named, table_targets}
 use Rattle.grain.specs.View.{Coming, coming, view}
 use Rattle.grain.specs.declared.arrival.Arrival.{Arrival}
 use Rattle.grain.specs.declared.error.VerifyError.{VerifyError}
-use Rattle.grain.proofs.Naming.{targets_parted}
+use Rattle.grain.proofs.Naming.{targets_named}
 use Rattle.grain.proofs.Splits.{in_head, in_tail}
 
 -- one target pushed, of those that are left
@@ -65,13 +65,13 @@ pushed_parts code op at c after own named none one two all eo en ea e f g =
     let first : one ≡ none ++ all_to j xs = e ∙ (ap (λ (a : Counts). none ++ all_to a (option_to_list own)) ea ∙ ap (λ (o : Option ℕ). none ++ all_to j (option_to_list o)) eo) in
     let second : two ≡ one ++ all_to j ys = f ∙ (ap (λ (a : Counts). one ++ all_to a (table_targets code.switches named)) ea ∙ ap (λ (o : Option ℕ). one ++ all_to j (table_targets code.switches o)) en) in
     let both : two ≡ none ++ all_to j (xs ++ ys) = second ∙ (ap (λ (zs : List Coming). zs ++ all_to j ys) first ∙ (append_assoc none (all_to j xs) (all_to j ys) ∙ ap (λ (zs : List Coming). none ++ zs) (sym (map-append (λ (t : ℕ). record { at = t; counts = j }) xs ys)))) in
-    let whole : two ≡ none ++ all_to j (targets code.switches op) = both ∙ ap (λ (ts : List ℕ). none ++ all_to j ts) (sym (targets_parted code.switches op)) in
+    let whole : two ≡ none ++ all_to j (targets code.switches op) = both ∙ ap (λ (ts : List ℕ). none ++ all_to j ts) (sym (targets_named code.switches op)) in
     g ∙ (ap (λ (zs : List Coming). zs ++ last) whole ∙ append_assoc none (all_to j (targets code.switches op)) last)
 
 -- what holds of the target of its own and of those of a switch that is named holds of all targets
 pub marked_parts : (P : ℕ → Type 0) (tables : List (List ℕ)) (op : Op) (own named : Option ℕ) → own ≡ own_target op → named ≡ switch_named op → All P (option_to_list own) → All P (table_targets tables named) → All P (targets tables op)
 marked_parts P tables op own named eo en a b =
-    subst (All P) (sym (targets_parted tables op)) (All-append P (option_to_list (own_target op)) (table_targets tables (switch_named op)) (subst (λ (o : Option ℕ). All P (option_to_list o)) eo a) (subst (λ (o : Option ℕ). All P (table_targets tables o)) en b))
+    subst (All P) (sym (targets_named tables op)) (All-append P (option_to_list (own_target op)) (table_targets tables (switch_named op)) (subst (λ (o : Option ℕ). All P (option_to_list o)) eo a) (subst (λ (o : Option ℕ). All P (table_targets tables o)) en b))
 
 -- what is pushed where an instruction goes on
 pub pushed_onwards : (code : Bytecode) (op : Op) (at : ℕ) (c : Counts) (next : Arrival) (old new : List Arrival) → goes_on op ≡ true → next.at ≡ at + width_of op → view next.state ≡ going_on code.setting op c → new ≡ old ++ next ∷ [] → map coming new ≡ map coming old ++ onwards code op at c

@@ -89,15 +89,19 @@ ChunkFault code chunk (errors.StackExceedsDeclared needed declared) =
     IsFramed code chunk × (declared ≡ chunk.max_stack) × (declared < needed) × IsDeepest (coded code) chunk needed × ((m : ℕ) × HasTyping (coded code) chunk m)
 ChunkFault code chunk e = ⊥
 
--- Constants, code and functions pass, and so does each chunk before this one, of which the refusal speaks.
+-- the refusal is a fault of a chunk, and each earlier one passes
+pub record IsFirstFault (code : Bytecode) (chunks : List Span) (e : VerifyError) : Type 0 where
+  pub place : ℕ
+  pub inside : place < length chunks
+  pub earlier : AllWithin (ChunkPasses code) chunks 0 place
+  pub here : HoldsAt (λ chunk. ChunkFault code chunk e) chunks place
+
+-- constants, code and functions pass, and the refusal is that of the first chunk that doesn't
 pub record InChunk (i : Input) (e : VerifyError) : Type 0 where
   pub constants : ConstantsPass i
   pub code : CodePasses i
   pub functions : FunctionsPass i
-  pub place : ℕ
-  pub inside : place < length i.chunks
-  pub earlier : AllWithin (ChunkPasses i.code) i.chunks 0 place
-  pub here : HoldsAt (λ chunk. ChunkFault i.code chunk e) i.chunks place
+  pub chunk : IsFirstFault i.code i.chunks e
 
 -- the first constant whose capabilities aren't all there has these
 pub record LacksForConstant (caps : ℕ) (consts : List Dynamic) (lacking : ℕ) : Type 0 where

@@ -6,11 +6,12 @@ pub mod Counts
 pub mod Edges
 pub mod Effects
 pub mod Fault
+pub mod FirstOut
 pub mod Indices
 pub mod Layout
 pub mod Machine
 pub mod Moves
-pub mod PoolCaps
+pub mod PoolNeeds
 pub mod Prepared
 pub mod Pushed
 pub mod Seen

@@ -4,7 +4,7 @@ use Rattle.grain_base.specs.CapBits.{missing}
 use Rattle.grain.specs.Capabilities.{Allows, caps_of}
 use Rattle.grain.specs.Code.{Bytecode, bytecode}
 use Rattle.grain.specs.Edges.{MarksStarts}
-use Rattle.grain.specs.PoolCaps.{ArePoolCaps}
+use Rattle.grain.specs.PoolNeeds.{AreNeeds}
 use Rattle.grain.specs.declared.prepared.Prepared.{Prepared}
 
 abbrev pub bytecode_of : Prepared → Bytecode
@@ -13,4 +13,4 @@ bytecode_of p = bytecode p.caps p.pools.now p.code.now
 -- its starts are marked, and what its names and chains need is known
 pub record IsReady (p : Prepared) : Type 0 where
   pub marks : MarksStarts p.code.now p.starts.items
-  pub needed : ArePoolCaps (bytecode_of p).setting p.needed
+  pub needed : AreNeeds (bytecode_of p).setting p.needed

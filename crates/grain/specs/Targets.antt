@@ -1,5 +1,5 @@
--- Where an operation may jump: to a target of its own, and to those of a switch that it names.
-use Rattle.std.specs.Prelude.{ℕ, List, [], Option, Some, None, get_or}
+-- The targets of an operation by what it names: a target of its own, or a switch.
+use Rattle.std.specs.Prelude.{ℕ, List, [], get_or, Option, Some, None}
 use Rattle.grain_bytecode.specs.declared.op.Op.{Op}
 use Rattle.grain_bytecode.specs.declared.op.Op.TheVariants as ops
 
@@ -18,7 +18,7 @@ abbrev pub switch_named : Op → Option ℕ
 switch_named (ops.Switch w) = Some w
 switch_named op = None
 
--- each target of a named switch
+-- each target of a switch that is named
 abbrev pub table_targets : List (List ℕ) → Option ℕ → List ℕ
 table_targets tables None = []
 table_targets tables (Some w) = get_or tables w []

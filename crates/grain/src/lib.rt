@@ -2,11 +2,14 @@
 #![tactic(auto)]
 
 mod arrival;
+mod capabilities;
+mod constants;
 mod edges;
 mod effects;
 mod error;
+mod functions;
+mod indices;
 pub mod laws;
-mod pool_caps;
 mod pools;
 mod prepared;
 mod starts;
@@ -15,14 +18,14 @@ mod table;
 mod verifier;
 mod walk;
 
+pub use constants::constant_caps;
 pub use error::VerifyError;
-pub use pools::Pools;
-pub use verifier::verify;
-
-pub use grain_base::{Caps, Dynamic, FnAccess, FnPtr, HostValue, Position, Token, pos, varint};
+pub use grain_base::{Caps, Dynamic, Flags, FnAccess, FnPtr, HostValue, Position, Token, pos, varint};
 pub use grain_bytecode::{
     AssembleError, AssignOp, BadTable, Chain, ChainPositions, Chunk, Disassembly, Function, Names,
     Op, Receiver, Root, Step, StepFlags, Strings, StringsError, Switch, SwitchRange, Tail,
     assemble, count_instructions, decode, disassemble, names, resolve_switch_targets, sites, tag,
     u16_at, u32_at, width,
 };
+pub use pools::Pools;
+pub use verifier::verify;

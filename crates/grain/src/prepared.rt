@@ -1,6 +1,6 @@
 //! What the walks of all chunks share.
 
-use crate::pool_caps::PoolCaps;
+use crate::capabilities::PoolCaps;
 use crate::pools::Pools;
 use grain_base::Caps;
 

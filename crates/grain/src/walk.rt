@@ -8,7 +8,7 @@ ghost use Rattle.grain.specs.Accepted.{ChunkPasses, IsFramed};
 ghost use Rattle.grain.specs.Capabilities.{Allows, caps_of};
 ghost use Rattle.grain.specs.Code.{coded};
 ghost use Rattle.grain.specs.Edges.{IsMarkedIn, RefusesState, RefusesTargetOf, arrivals, onwards};
-ghost use Rattle.grain.specs.Effects.{Meets, effect, iterators_needed, handlers_needed, operands_after, targets};
+ghost use Rattle.grain.specs.Effects.{Meets, effect, targets};
 ghost use Rattle.grain.specs.Fault.{ChunkFault};
 ghost use Rattle.grain.specs.Prepared.{IsReady, bytecode_of};
 ghost use Rattle.grain.specs.Seen.{IsValid};
@@ -16,10 +16,10 @@ ghost use Rattle.grain.specs.Typing.{HasTyping, IsDeepest, IsInChunk, Passes, Re
 ghost use Rattle.grain.specs.View.{coming, view};
 
 use crate::arrival::Arrival;
+use crate::capabilities::lacking;
 use crate::edges::{push_own, push_table};
 use crate::effects::{
-    Effect, effect_of, going_on, goes_on, handlers_needed, iterators_needed, jumping, own_target,
-    switch_named,
+    Effect, goes_on, handlers_needed, iterators_needed, own_target, switch_named,
 };
 use crate::error::VerifyError;
 use crate::prepared::Prepared;
@@ -36,7 +36,7 @@ impl Prepared<'_> {
             (λ _. Allows self.now.caps.0 (caps_of (bytecode_of self.now).setting op.now))
             (λ e. RefusesState (bytecode_of self.now) op.now at (view state) e) }
     {
-        let lacking = self.needed.caps_of(op).difference(self.caps);
+        let lacking = lacking(self.caps, self.needed.caps_of(op));
         if lacking.is_empty() {
             Ok(())
         } else {
@@ -73,19 +73,19 @@ impl Prepared<'_> {
         Ok(())
     }
 
-    /// Pushes where the instruction may lead, with so many operands behind it.
+    /// Pushes where the instruction may lead.
     fn push_edges(
         &self,
         chunk: &Chunk,
         op: &Op,
         at: u32,
-        operands: u32,
+        change: Effect,
         state: State,
         work: &mut Vec<Arrival>,
     ) -> Result<(), VerifyError>
         requires long { chunk.now.end ≤ length self.now.starts.items }
         requires meets { Meets (bytecode_of self.now).setting op.now (view state) }
-        requires after { operands ≡ operands_after (bytecode_of self.now).setting op.now state.operands }
+        requires known { (change.needs, change.takes, change.gives) ≡ effect self.now.pools.now.chains.now op.now }
         requires stands { StandsAt self.now.code.now at op.now }
         requires address { at + width_of op.now < 2 ^ 32 }
         requires operands { state.operands + 1 < 2 ^ 32 }
@@ -96,24 +96,24 @@ impl Prepared<'_> {
         ensures err { IfErr result (λ e. RefusesTargetOf self.now.starts.items chunk.now at (targets (bytecode_of self.now).switches op.now) e) }
     {
         let starts = &self.starts;
-        let after = jumping(op, operands, state);
+        let after = state.jumping(op, change);
         push_own(starts, chunk, at, own_target(op), after, work)?;
         push_table(starts, chunk, at, self.pools.switches, switch_named(op), after, work)?;
-        self.push_next(op, at, operands, state, work)?;
+        self.push_next(op, at, change, state, work)?;
         Ok(())
     }
 
-    /// Pushes where the instruction goes on, if it does, with so many operands behind it.
+    /// Pushes where the instruction goes on, if it does.
     fn push_next(
         &self,
         op: &Op,
         at: u32,
-        operands: u32,
+        change: Effect,
         state: State,
         work: &mut Vec<Arrival>,
     ) -> Result<(), VerifyError>
         requires meets { Meets (bytecode_of self.now).setting op.now (view state) }
-        requires after { operands ≡ operands_after (bytecode_of self.now).setting op.now state.operands }
+        requires known { (change.needs, change.takes, change.gives) ≡ effect self.now.pools.now.chains.now op.now }
         requires stands { StandsAt self.now.code.now at op.now }
         requires address { at + width_of op.now < 2 ^ 32 }
         requires operands { state.operands + 1 < 2 ^ 32 }
@@ -130,7 +130,7 @@ impl Prepared<'_> {
         };
         work.push(Arrival {
             at: at + width as u32,
-            state: going_on(op, operands, state),
+            state: state.going_on(op, change),
         })?;
         Ok(())
     }
@@ -154,10 +154,9 @@ impl Prepared<'_> {
             unreachable!();
         };
         self.check_caps(&op, at, state)?;
-        let change = effect_of(&op, self.pools.chains);
+        let change = Effect::of(&op, self.pools.chains);
         self.check_stacks(&op, change, at, state)?;
-        let operands = state.operands - change.takes + change.gives;
-        self.push_edges(chunk, &op, at, operands, state, work)?;
+        self.push_edges(chunk, &op, at, change, state, work)?;
         Ok(())
     }
 

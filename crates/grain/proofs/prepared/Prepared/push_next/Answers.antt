@@ -22,4 +22,4 @@ returns-clause-pushed c =
     let f = c.in-Some.ensures.found in
     let same = ap width_of (stands_once c.args.self.now.code.now c.args.at f.0 c.args.op.now f.1 c.requires.stands) in
     let there : c.args.at + c.in-Some.width ≡ c.args.at + width_of c.args.op.now = ap (λ n. c.args.at + n) (f.2 ∙ same) in
-    pushed_onwards code c.args.op.now c.args.at (view c.args.state) (record { at = c.args.at + c.in-Some.width; state = c.going_on.result }) c.args.work.now.items c.push.new.self.items goes there (c.going_on.ensures code.setting c.requires.after) c.in_ok-push.ensures.items
+    pushed_onwards code c.args.op.now c.args.at (view c.args.state) (record { at = c.args.at + c.in-Some.width; state = c.going_on.result }) c.args.work.now.items c.push.new.self.items goes there (c.going_on.ensures code.setting c.requires.known) c.in_ok-push.ensures.items

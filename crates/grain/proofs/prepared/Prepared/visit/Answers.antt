@@ -10,7 +10,6 @@ use Rattle.grain.specs.Prepared.{bytecode_of}
 use Rattle.grain.specs.Typing.{IsInChunk, Passes}
 use Rattle.grain.specs.View.{view}
 use Rattle.grain.specs.declared.error.VerifyError.TheVariants.{OutOfMemory}
-use Rattle.grain.proofs.Growth.{takes_few, gives_few}
 use Rattle.grain.proofs.Parts.{marked_in, refused_state, refused_target}
 use Rattle.grain.proofs.Splits.{start_op, boundary_apart}
 use Rattle.grain.proofs.prepared.Prepared.visit.Goals as goal
@@ -52,16 +51,6 @@ returns-clause-ok c =
       c.in_ok-push_edges.ensures.pushed,
       All-weaker (IsMarkedIn c.args.self.now.starts.items c.args.chunk.now) (IsInChunk (coded code) c.args.chunk.now) (λ t h. marked_in code c.args.self.now.starts.items c.args.chunk.now t c.requires.ready.marks h) (targets code.switches c.in-Some.op) c.in_ok-push_edges.ensures.marked,
     )
-
-pub overflow_add-operands : goal.overflow_add-operands
-overflow_add-operands c =
-    let change = c.effect_of-change.result in
-    let t : change.takes ≤ change.needs = rw (ap (λ p. p.1) c.effect_of-change.ensures, ap (λ p. p.0) c.effect_of-change.ensures) (takes_few c.args.self.now.pools.now.chains.now c.in-Some.op) in
-    let g : change.gives ≤ change.takes + 1 = rw (ap (λ p. p.2) c.effect_of-change.ensures, ap (λ p. p.1) c.effect_of-change.ensures) (gives_few c.args.self.now.pools.now.chains.now c.in-Some.op) in
-    let n : change.needs ≤ c.args.state.operands = rw (ap (λ p. p.0) c.effect_of-change.ensures) c.in_ok-check_stacks.ensures.operands in
-    let f = c.requires.fits in
-    let o = c.requires.operands in
-    omega arith
 
 pub push_edges-requires-clause-address : goal.push_edges-requires-clause-address
 push_edges-requires-clause-address c =

@@ -1,0 +1,58 @@
+-- Code whose indices are in bounds: one instruction more, and that capabilities don't matter to it.
+use Rattle.std.proofs.Common.{◌≡◌, ℕ, ◌+◌, ◌≤◌, List, [], ◌∷◌, ◌++◌, length, take, drop, refl, sym, ap, subst, ◌∙◌, inl, inr}
+use Rattle.std.proofs.lemmas.List.{take-append-drop, take_all}
+use Rattle.std.proofs.lemmas.List.Elements.{All-nil, All-push, All-weaker}
+use Rattle.grain_base.specs.declared.caps.Caps.{Caps}
+use Rattle.grain_bytecode.specs.Split.{AreInstructions, StandsAt}
+use Rattle.grain_bytecode.specs.Table.{width_of}
+use Rattle.grain_bytecode.specs.declared.op.Op.{Op}
+use Rattle.grain_bytecode.proofs.Reading.{one_instruction}
+use Rattle.grain_bytecode.proofs.Splits.{one_more}
+use Rattle.grain.specs.Accepted.{AreIndexed}
+use Rattle.grain.specs.Fault.{CodeFault, PassesTo}
+use Rattle.grain.specs.FirstOut.{alone}
+use Rattle.grain.specs.Indices.{Indexed, IsOut}
+use Rattle.grain.specs.Setting.{Setting, setting}
+use Rattle.grain.specs.declared.error.VerifyError.{VerifyError}
+use Rattle.grain.specs.declared.error.VerifyError.TheVariants as errors
+use Rattle.grain.specs.declared.pools.Pools.{Pools}
+
+pub indexed_none : (s : Setting) → AreIndexed s []
+indexed_none s = ([], record { each = tt; whole = refl }, All-nil (Indexed s))
+
+same_width : (code : List ℕ) (at : ℕ) (op other : Op) → StandsAt code at op → StandsAt code at other → width_of op ≡ width_of other
+same_width code at op other h k =
+    let bytes = drop at code in
+    ap width_of (one_instruction (take (width_of op) bytes) (take (width_of other) bytes) (drop (width_of op) bytes) (drop (width_of other) bytes) op other h k (take-append-drop (width_of op) bytes ∙ sym (take-append-drop (width_of other) bytes))).1
+
+-- the front up to an address, and the instruction there, of which the width is known
+pub indexed_more : (s : Setting) (code : List ℕ) (at width : ℕ) (op other : Op) → AreIndexed s (take at code) → StandsAt code at op → Indexed s op → StandsAt code at other → width ≡ width_of other → AreIndexed s (take (at + width) code)
+indexed_more s code at width op other front stands here too is =
+    let wide : width_of op ≡ width = same_width code at op other stands too ∙ sym is in (
+      front.0 ++ op ∷ [],
+      subst (λ n. AreInstructions (take (at + n) code) (front.0 ++ op ∷ [])) wide (one_more code at front.0 op front.1 stands),
+      All-push (Indexed s) front.0 op front.2 here,
+    )
+
+indexed_any : (caps : Caps) (pools : Pools) (op : Op) → Indexed (alone pools) op → Indexed (setting caps pools) op
+indexed_any caps pools op h = record { fields = h.fields; cases = h.cases }
+
+-- whatever the capabilities are
+pub code_any : (caps : Caps) (pools : Pools) (code : List ℕ) → AreIndexed (alone pools) code → AreIndexed (setting caps pools) code
+code_any caps pools code h = (h.0, h.1, All-weaker (Indexed (alone pools)) (Indexed (setting caps pools)) (indexed_any caps pools) h.0 h.2)
+
+-- up to the end
+pub code_whole : (caps : Caps) (pools : Pools) (code : List ℕ) (at : ℕ) → length code ≤ at → AreIndexed (alone pools) (take at code) → AreIndexed (setting caps pools) code
+code_whole caps pools code at end front = code_any caps pools code (subst (λ bytes. AreIndexed (alone pools) bytes) (take_all at code end) front)
+
+passes_any : (caps : Caps) (pools : Pools) (code : List ℕ) (at : ℕ) → PassesTo (alone pools) code at → PassesTo (setting caps pools) code at
+passes_any caps pools code at h = record { inside = h.inside; front = code_any caps pools (take at code) h.front }
+
+out_any : (caps : Caps) (pools : Pools) (op : Op) (what : List ℕ) (index : ℕ) → IsOut (alone pools) op what index → IsOut (setting caps pools) op what index
+out_any caps pools op what index (inl h) = inl (record { earlier = h.earlier; bad = h.bad; later = h.later; order = h.order; passed = h.passed; fails = h.fails; named = h.named })
+out_any caps pools op what index (inr h) = inr (record { passed = h.passed; case = h.case; fails = h.fails; named = h.named })
+
+pub fault_any : (caps : Caps) (pools : Pools) (code : List ℕ) (e : VerifyError) → CodeFault (alone pools) code e → CodeFault (setting caps pools) code e
+fault_any caps pools code (errors.Undecodable at) h = (passes_any caps pools code at h.0, h.1)
+fault_any caps pools code (errors.BadIndex at what index) h = (passes_any caps pools code at h.0, (h.1.0, h.1.1, out_any caps pools h.1.0 what.now index h.1.2))
+fault_any caps pools code e h = absurd h

@@ -1,0 +1,14 @@
+use Rattle.std.proofs.Common.{◌-◌, ◌≤◌, length, take}
+use Rattle.grain.specs.Accepted.{AreIndexed}
+use Rattle.grain.specs.FirstOut.{alone}
+use Rattle.grain.proofs.indices.check_code.Given as goal
+
+-- the code so far passes
+abbrev pub invariant-loop-at : goal.invariant-loop-at
+invariant-loop-at l = record {
+  in_code : l.at ≤ length l.code;
+  front : AreIndexed (alone l.pools) (take l.at l.code);
+}
+
+abbrev pub decreases-loop-at : goal.decreases-loop-at
+decreases-loop-at l = length l.code - l.at

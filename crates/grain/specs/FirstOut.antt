@@ -1,0 +1,43 @@
+-- The first of some fields whose index is out of bounds.
+use Rattle.std.specs.Prelude.{ℕ, List, [], ◌∷◌, Option, Some, None, Result, Ok, Err, cond, nat_lt, map}
+use Rattle.grain_bytecode.specs.declared.field.Field.{Field}
+use Rattle.grain_bytecode.specs.declared.field.Field.TheVariants.{Index, Slot, Count, Target}
+use Rattle.grain_bytecode.specs.declared.field.Pool.{Pool}
+use Rattle.grain_bytecode.specs.declared.op.Receiver.{Receiver}
+use Rattle.grain_bytecode.specs.declared.op.Receiver.TheVariants as receiver
+use Rattle.grain_bytecode.specs.Table.{name}
+use Rattle.grain.specs.Indices.{size}
+use Rattle.grain.specs.Setting.{Setting, case_consts}
+use Rattle.grain.specs.declared.indices.BadIndex.{BadIndex}
+use Rattle.grain.specs.declared.pools.Pools.{Pools}
+
+-- the pools alone: bounds of indices don't depend on the capabilities
+abbrev pub alone : Pools → Setting
+alone pools = record {
+  caps = 0;
+  consts = pools.consts;
+  names = pools.names.now;
+  tokens = pools.tokens;
+  assign_ops = pools.assign_ops;
+  residuals = pools.residuals;
+  chains = pools.chains.now;
+  cases = map case_consts pools.switches.now;
+}
+
+-- the pool and the index of the first field that is out of bounds
+abbrev pub first_out : Setting → List Field → Option (Pool × ℕ)
+first_out s [] = None
+first_out s (Index pool x ∷ fs) = cond (nat_lt x (size s pool)) (first_out s fs) (Some (pool, x))
+first_out s (Slot x ∷ fs) = first_out s fs
+first_out s (Count x ∷ fs) = first_out s fs
+first_out s (Target x ∷ fs) = first_out s fs
+
+-- the name that a receiver has
+abbrev pub receiver_fields : Receiver → List Field
+receiver_fields (receiver.Named n) = name n ∷ []
+receiver_fields from = []
+
+-- what a refusal names
+abbrev pub refused : {T : Type 0} → Result T BadIndex → Option (Pool × ℕ)
+refused (Ok x) = None
+refused (Err bad) = Some (bad.pool, bad.index)

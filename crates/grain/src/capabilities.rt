@@ -1,0 +1,146 @@
+//! What the host has to have.
+ghost use Rattle.std.specs.Prelude.{◌≡◌, ◌↔◌, IfOk, IsTrue, get_or, map};
+ghost use Rattle.grain_base.specs.CapBits.{missing};
+ghost use Rattle.grain_base.specs.declared.caps.Caps.{Caps};
+ghost use Rattle.grain.specs.Capabilities.{Allows, caps_of, chain_caps, name_caps, root_caps, step_caps};
+ghost use Rattle.grain.specs.PoolNeeds.{AreNeeds, numbers};
+ghost use Rattle.grain.specs.Setting.{Setting, setting};
+
+use crate::pools::Pools;
+use grain_base::{Caps, Flags};
+use grain_bytecode::names::split_qualified;
+use grain_bytecode::{Chain, Op, Receiver, Root, Step, Strings};
+use std::alloc::{AllocError, Global};
+
+/// What is needed and isn't there.
+pub(crate) fn lacking(caps: Caps, needed: Caps) -> Caps
+    ensures { result.0 ≡ missing caps.0 needed.0 }
+{
+    needed.difference(caps)
+}
+
+/// Whether all that is needed is there.
+pub(crate) fn allows(caps: Caps, needed: Caps) -> bool
+    ensures { IsTrue result ↔ Allows caps.0 needed.0 }
+{
+    lacking(caps, needed).is_empty()
+}
+
+/// What each name and each chain of the pools needs.
+///
+/// It is computed once, so that an operation costs no more where its name or its chain is long.
+#[derive(Drop)]
+pub(crate) struct PoolCaps {
+    names: Vec<Caps>,
+    chains: Vec<Caps>,
+}
+
+impl PoolCaps {
+    /// The needs of all names and chains of the pools.
+    pub(crate) fn new(alloc: Global, pools: &Pools<'_>) -> Result<PoolCaps, AllocError>
+        ensures { IfOk result (λ p. (caps : Caps) → AreNeeds (setting caps pools.now) p) }
+    {
+        Ok(PoolCaps {
+            names: all_name_caps(alloc, pools.names)?,
+            chains: all_chain_caps(alloc, pools.chains)?,
+        })
+    }
+
+    /// What an operation needs.
+    pub(crate) fn caps_of(&self, op: &Op) -> Caps
+        ensures { (s : Setting) → AreNeeds s self.now → result.0 ≡ caps_of s op.now }
+    {
+        match op {
+            Op::Call { name, .. } | Op::LoadNamed(name) => caps_at(&self.names, *name),
+            Op::CallRef {
+                name,
+                receiver: Receiver::This,
+                ..
+            } => Caps::THIS.union(caps_at(&self.names, *name)),
+            Op::CallRef { name, .. } => caps_at(&self.names, *name),
+            Op::Chain(chain) => caps_at(&self.chains, *chain),
+            Op::MakeArray(_) => Caps::ARRAY,
+            Op::MakeMap(_) => Caps::MAP,
+            Op::MakeFnPtr | Op::MakeClosure(_) | Op::CallFnPtr { .. } => Caps::FN_PTR,
+            Op::Curry(_) => Caps::FN_PTR.union(Caps::CURRYING),
+            Op::Share(_) | Op::ShareNamed(_) | Op::IsShared => Caps::SHARING,
+            Op::LoadThis | Op::LoadThisShared | Op::RequireThis | Op::AssignThis { .. } => {
+                Caps::THIS
+            }
+            Op::CustomSyntax(_) => Caps::CUSTOM_SYNTAX,
+            Op::ExportLocal { .. } | Op::ExportNamed { .. } => Caps::EXPORT,
+            Op::Import { .. } => Caps::IMPORT,
+            _ => Caps::empty(),
+        }
+    }
+}
+
+// The capabilities at an index; none past the list.
+fn caps_at(list: &[Caps], index: u32) -> Caps
+    ensures { result.0 ≡ get_or (numbers list.now) index 0 }
+{
+    match list.get(index as usize) {
+        Some(caps) => *caps,
+        None => Caps::empty(),
+    }
+}
+
+fn all_name_caps(alloc: Global, names: &Strings) -> Result<Vec<Caps>, AllocError>
+    ensures { IfOk result (λ v. numbers v.items ≡ map name_caps names.now) }
+{
+    let mut all = Vec::with_capacity(alloc, names.len())?;
+    for name in names.iter() {
+        all.push(name_caps(name))?;
+    }
+    Ok(all)
+}
+
+fn all_chain_caps(alloc: Global, chains: &[Chain]) -> Result<Vec<Caps>, AllocError>
+    ensures { IfOk result (λ v. numbers v.items ≡ map chain_caps chains.now) }
+{
+    let mut all = Vec::with_capacity(alloc, chains.len())?;
+    for chain in chains {
+        all.push(chain_caps(chain))?;
+    }
+    Ok(all)
+}
+
+/// What naming a variable or a function so needs: a qualified name is one of a module.
+fn name_caps(name: &str) -> Caps
+    ensures { result.0 ≡ name_caps name.now }
+{
+    match split_qualified(name) {
+        Some(_) => Caps::MODULE,
+        None => Caps::empty(),
+    }
+}
+
+/// What a chain needs: what its root and each of its steps do.
+fn chain_caps(chain: &Chain) -> Caps
+    ensures { result.0 ≡ chain_caps chain.now }
+{
+    let mut all = root_caps(&chain.root);
+    for step in &chain.steps {
+        all = all.union(step_caps(step));
+    }
+    all
+}
+
+fn root_caps(root: &Root) -> Caps
+    ensures { result.0 ≡ root_caps root.now }
+{
+    match root {
+        Root::This { .. } => Caps::THIS,
+        Root::Local { .. } | Root::Named { .. } | Root::Temporary => Caps::empty(),
+    }
+}
+
+fn step_caps(step: &Step) -> Caps
+    ensures { result.0 ≡ step_caps step.now }
+{
+    match step {
+        Step::Index { .. } => Caps::INDEXING,
+        Step::Property { .. } => Caps::PROPERTY,
+        Step::Method { .. } => Caps::METHOD,
+    }
+}
