@@ -13,3 +13,4 @@ pub mod Progress
 pub mod Pushing
 pub mod Splits
 pub mod Visits
+pub mod Whole

@@ -78,5 +78,6 @@ pub fn verify(
         starts,
         needed,
     };
-    verify_chunks(alloc, &prepared, chunks)
+    let deepest = verify_chunks(alloc, &prepared, chunks)?;
+    Ok(deepest)
 }

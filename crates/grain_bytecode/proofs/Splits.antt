@@ -27,7 +27,7 @@ one_more code at ops op front here =
       whole = take-add at n code ∙ ap (λ bytes. bytes ++ take n (drop at code)) front.whole ∙ ap (λ bytes. flat_map spelling ops ++ bytes) (here.spelled ∙ sym (append-nil (spelling op))) ∙ sym (flat_map-append spelling ops (op ∷ []));
     }
 
-begins_cons : (o : Op) (os : List Op) (rest bytes : List ℕ) → IsInstruction o → bytes ≡ flat_map spelling (o ∷ os) ++ rest → (bytes ≡ spelling o ++ (flat_map spelling os ++ rest)) × Begins bytes o
+pub begins_cons : (o : Op) (os : List Op) (rest bytes : List ℕ) → IsInstruction o → bytes ≡ flat_map spelling (o ∷ os) ++ rest → (bytes ≡ spelling o ++ (flat_map spelling os ++ rest)) × Begins bytes o
 begins_cons o os rest bytes is e =
     let cut : bytes ≡ spelling o ++ (flat_map spelling os ++ rest) = e ∙ ap (λ b. b ++ rest) (flat_map-cons spelling o os) ∙ append_assoc (spelling o) (flat_map spelling os) rest in
     (cut, subst (λ (b : List ℕ). Begins b o) (sym cut) (begins_spelling o (flat_map spelling os ++ rest) is))
