@@ -35,8 +35,3 @@ pub fn faults_land_on_catch_edges()
         → (armed : IsArmed code chunk fault.handler fault.outer) × (n.address ≡ fault.handler.target) × (counts n ≡ jumping code.setting (PushHandler fault.handler.target armed.name) (armed_counts fault.handler fault.outer)) }
 {}
 
-/// trial
-pub fn trial()
-    ensures exact { (code : Bytecode) (chunk : Span) (e : VerifyError) → ChunkPasses code chunk → ChunkFault code chunk e → ⊥ }
-    ensures same { (a end : ℕ) → a ≡ a }
-{}
