@@ -1,4 +1,5 @@
 pub mod Again
+pub mod Appending
 pub mod Boundaries
 pub mod Canonical
 pub mod Cuts
@@ -14,6 +15,7 @@ pub mod Placed
 pub mod Reading
 pub mod Rows
 pub mod Slots
+pub mod Spans
 pub mod Splits
 pub mod Streams
 pub mod Tables
