@@ -96,6 +96,7 @@ fn missing_numbers_are_written_as_0(rt: HostRuntime) -> Result<(), Fail> {
 #[test]
 fn slots_are_found(rt: HostRuntime) {
     assert_eq!(rt; resolve(STREAM, 0), site(1, 1));
+    assert_eq!(rt; resolve(STREAM, 1), site(1, 3));
     assert_eq!(rt; resolve(STREAM, 2), site(1, 2));
     assert_eq!(rt; resolve(STREAM, 3), site(1, 6));
     assert_eq!(rt; resolve(STREAM, 4), None);
