@@ -13,7 +13,7 @@ use Rattle.grain_bytecode.specs.Split.{IsInstruction, AreInstructions, starts_fr
 use Rattle.grain_bytecode.proofs.Instructions.{spelling_width}
 use Rattle.grain_bytecode.proofs.Splits.{one_front}
 
-spellings_width : (ops : List Op) → length (flat_map spelling ops) ≡ sum_by width_of ops
+pub spellings_width : (ops : List Op) → length (flat_map spelling ops) ≡ sum_by width_of ops
 spellings_width [] = refl
 spellings_width (op ∷ ops) =
     omega (arith, ap length (flat_map-cons spelling op ops), sum_by-cons width_of op ops, length-append (spelling op) (flat_map spelling ops), spelling_width op, spellings_width ops)

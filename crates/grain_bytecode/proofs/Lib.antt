@@ -1,9 +1,13 @@
+pub mod Accepting
 pub mod Again
+pub mod Appending
+pub mod Arriving
 pub mod Boundaries
 pub mod Canonical
 pub mod Cuts
 pub mod Dispatching
 pub mod Drained
+pub mod Entering
 pub mod Faults
 pub mod Growing
 pub mod Instructions
@@ -14,6 +18,7 @@ pub mod Placed
 pub mod Reading
 pub mod Rows
 pub mod Slots
+pub mod Spans
 pub mod Splits
 pub mod Streams
 pub mod Tables

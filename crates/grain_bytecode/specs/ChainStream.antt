@@ -1,9 +1,14 @@
 -- The stream of the positions of chains.
-use Rattle.std.specs.Prelude.{◌≡◌, ℕ, ◌+◌, ◌*◌, ◌<◌, ⊤, List, [], ◌∷◌, ◌++◌, length, drop, codes, decimal, Option, Some, None, ◌==◌, if◌then◌else◌}
+use Rattle.std.specs.Prelude.{◌≡◌, ℕ, ◌*◌, ◌<◌, ⊤, List, [], ◌∷◌, ◌++◌, length, codes, decimal, Option, Some, None, unwrap_or, option_map, ◌==◌, if◌then◌else◌}
 use Rattle.grain_base.specs.declared.pos.Site.{Site}
 use Rattle.grain_base.specs.declared.varint.Error.{Error as NumberError}
 use Rattle.grain_base.specs.declared.varint.Error.TheVariants as number_error
-use Rattle.grain_base.specs.Varint.{Begins, U32Fault}
+use Rattle.grain_base.specs.Varint.{Begins, U32Fault, AreShortest}
+use Rattle.grain_base.specs.Place.{place_of, line_of, column_of}
+use Rattle.grain_base.specs.declared.position.Position.{Position}
+use Rattle.std.specs.List.{flat_map}
+use Rattle.grain_bytecode.specs.Chain.{positions}
+use Rattle.grain_bytecode.specs.declared.chain.Chain.{Chain}
 use Rattle.grain_bytecode.specs.declared.sites.StreamError.{StreamError}
 use Rattle.grain_bytecode.specs.declared.sites.StreamError.TheVariants as stream_error
 
@@ -62,6 +67,22 @@ StreamFault bytes stream_error.Truncated = IsUnreadable bytes number_error.Trunc
 StreamFault bytes stream_error.Overflow = IsUnreadable bytes number_error.Overflow
 StreamFault bytes (stream_error.TrailingBytes count) = Trails bytes count
 StreamFault bytes stream_error.OutOfMemory = ⊥
+
+-- new is old with the shortest spellings of the numbers behind it
+abbrev pub AppendsAll : List ℕ → List ℕ → List ℕ → Type 0
+AppendsAll old new numbers = (written : List ℕ) × (new ≡ old ++ written) × AreShortest written numbers
+
+-- the positions of chains, chain by chain
+abbrev pub all_positions : List Chain → List Position
+all_positions chains = flat_map positions chains
+
+-- what is written of a position: its line and its column, 0 where it has none
+abbrev pub numbers_of : Position → List ℕ
+numbers_of p = unwrap_or (line_of p) 0 ∷ unwrap_or (column_of p) 0 ∷ []
+
+-- the site of a position, which no place hasn't
+abbrev pub recorded : Position → Option Site
+recorded p = option_map (λ place. record { line = place.0; column = place.1 }) (place_of p)
 
 -- an error of a number as one of a stream
 abbrev pub as_stream_error : NumberError → StreamError

@@ -8,6 +8,7 @@ pub mod Fields
 pub mod Names
 pub mod NamesLeft
 pub mod Numbers
+pub mod Positions
 pub mod Qualified
 pub mod Span
 pub mod Split

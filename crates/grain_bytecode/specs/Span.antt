@@ -1,5 +1,5 @@
 -- A span of the code, and the operands that it declares.
-use Rattle.std.specs.Prelude.{ℕ, ◌&&◌, List, [], cond, length, nat_le}
+use Rattle.std.specs.Prelude.{ℕ, ◌&&◌, List, [], cond, length, nat_le, take}
 use Rattle.std.specs.List.{slice_range}
 
 pub record Span : Type 0 where
@@ -10,3 +10,7 @@ pub record Span : Type 0 where
 -- the part of the code, which is empty where the span is not in the code
 abbrev pub body : Span → List ℕ → List ℕ
 body s code = cond (nat_le s.entry s.end && nat_le s.end (length code)) (slice_range code s.entry s.end) []
+
+-- the code up to the end of the span, which is empty where the code ends before
+abbrev pub front : Span → List ℕ → List ℕ
+front s code = cond (nat_le s.end (length code)) (take s.end code) []

@@ -1,7 +1,11 @@
 //! Chunks: the parts of the code that are run by themselves.
-ghost use Rattle.std.specs.Prelude.{◌≡◌};
-ghost use Rattle.grain_bytecode.specs.Span.{Span, body};
+ghost use Rattle.std.specs.Prelude.{◌≡◌, ℕ, List};
+ghost use Rattle.std.specs.Iterator.{Drains};
+ghost use Rattle.grain_bytecode.specs.Disassembly.{Steps, IsDisassembly};
+ghost use Rattle.grain_bytecode.specs.Span.{Span, body, front};
+ghost use Rattle.grain_bytecode.specs.declared.op.Op.{Op};
 
+use crate::disassembly::{Disassembly, disassemble_from};
 use std::marker::Model;
 
 /// One body of code, as the top level of a program or a function of it: a span of the code that all chunks share, and
@@ -71,6 +75,22 @@ impl Chunk {
     {
         code.get(self.entry as usize..self.end as usize)
             .unwrap_or_default()
+    }
+
+    /// The instructions of the chunk's part of the code, up to the first thing in it that is no instruction. Their
+    /// addresses are those in the whole code.
+    pub fn ops<'a>(&self, code: &'a [u8]) -> Disassembly<'a>
+        ensures from_the_entry { result ≡ record { at = self.now.entry; bytes = body self.now code.now } }
+        ensures gives { (items : List (ℕ × Op)) → Drains Steps result items → IsDisassembly self.now.entry (body self.now code.now) items }
+    {
+        disassemble_from(self.front(code), self.entry() as usize)
+    }
+
+    // The code up to the chunk's end, which is empty where the code ends before.
+    fn front<'a>(&self, code: &'a [u8]) -> &'a [u8]
+        ensures { result.now ≡ front self.now code.now }
+    {
+        code.get(..self.end as usize).unwrap_or_default()
     }
 }
 

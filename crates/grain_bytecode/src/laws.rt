@@ -12,6 +12,7 @@ ghost use Rattle.grain_base.specs.declared.pos.Site.{Site};
 ghost use Rattle.grain_bytecode.specs.ChainStream.{Stream};
 ghost use Rattle.grain_bytecode.specs.Dispatch.{Fits, Table, dispatched, resolved, targets};
 ghost use Rattle.grain_bytecode.specs.Names.{first_fault, names_in, starts_of};
+ghost use Rattle.grain_bytecode.specs.Positions.{Arrived};
 ghost use Rattle.grain_bytecode.specs.Qualified.{IsLastCut, last_cut, separator};
 ghost use Rattle.grain_bytecode.specs.StepBits.{flags_table};
 ghost use Rattle.grain_bytecode.specs.Table.{Instr, canon};
@@ -46,6 +47,11 @@ pub fn code_splits_in_one_way()
 pub fn boundaries_cut_code()
     ensures { (code starts : List ℕ) (at : ℕ) → Split code starts → IsBoundary code starts at
         → ((front : List ℕ) × Split (take at code) front) × ((back : List ℕ) × Split (drop at code) back) }
+{}
+
+/// Reading code arrives at one list of addresses, so a table and code give one list of places.
+pub fn code_is_read_in_one_way()
+    ensures { (code arrived other : List ℕ) → Arrived code arrived → Arrived code other → arrived ≡ other }
 {}
 
 /// What is disassembled from assembled code can be assembled again, its targets mapped back by the offsets, and gives

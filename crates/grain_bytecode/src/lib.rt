@@ -18,6 +18,7 @@ mod function;
 pub mod laws;
 pub mod names;
 mod op;
+mod positions;
 pub mod sites;
 mod strings;
 mod switch;
@@ -33,6 +34,7 @@ pub use error::AssembleError;
 pub use field::{Field, Pool};
 pub use function::Function;
 pub use op::{Op, Receiver};
+pub use positions::{Positions, StripError, TableError, site_to_position};
 pub use strings::{BadTable, Names, Strings, StringsError};
 pub use switch::{Switch, SwitchRange, resolve_switch_targets};
 

@@ -7,16 +7,19 @@
 //! [`resolve`] is asked while a failure is reported, so that it never refuses: it answers what stands before the
 //! first damage. [`check`] says whether a stream is sound, and [`decode`] reads all of it.
 
-ghost use Rattle.std.specs.Prelude.{◌≡◌, ◌<◌, ◌≤◌, ◌+◌, ◌↔◌, ◌⊎◌, ℕ, List, [], ◌∷◌, ◌++◌, length, drop, Some, Err, IsOk, IfOk, IfErr, IsOkUnless, OnOk, Option};
+ghost use Rattle.std.specs.Prelude.{◌≡◌, ◌<◌, ◌≤◌, ◌+◌, ◌^◌, ◌↔◌, ◌⊎◌, ℕ, List, [], ◌∷◌, ◌++◌, length, drop, map, Some, Err, IsOk, IfOk, IfErr, IfSome, IfNone, IsOkUnless, OnOk, Option};
+ghost use Rattle.std.specs.List.{flat_map};
 ghost use Rattle.grain_base.specs.declared.pos.Site.{Site};
 ghost use Rattle.grain_base.specs.declared.varint.Error.{Error as NumberError};
-ghost use Rattle.grain_base.specs.Varint.{Begins, U32Fault};
+ghost use Rattle.grain_base.specs.Varint.{Begins, U32Fault, AreShortest};
 ghost use Rattle.grain_bytecode.specs.declared.sites.StreamError.{StreamError};
 ghost use Rattle.grain_bytecode.specs.declared.sites.StreamError.TheVariants.{OutOfMemory};
-ghost use Rattle.grain_bytecode.specs.ChainStream.{Stream, Records, StreamFault, site_of, as_stream_error};
+ghost use Rattle.grain_bytecode.specs.Chain.{positions};
+ghost use Rattle.grain_bytecode.specs.ChainStream.{Stream, Records, StreamFault, AppendsAll, site_of, all_positions, numbers_of, recorded, as_stream_error};
 
+use crate::chain::Chain;
 use grain_base::pos::Site;
-use grain_base::varint;
+use grain_base::{Position, varint};
 use std::alloc::{AllocError, AllocFailed, Global};
 use std::fmt;
 
@@ -165,6 +168,74 @@ pub fn decode(alloc: Global, stream: &[u8]) -> Result<Vec<Option<Site>>, StreamE
         0 => Ok(sites),
         count => Err(StreamError::TrailingBytes { count }),
     }
+}
+
+/// Adds the number of a chain's positions to a count; `None` where a `u64` doesn't hold the sum.
+fn count_more(before: u64, chain: &Chain) -> Option<u64>
+    ensures some { IfSome result (λ count. count ≡ before + length (positions chain.now)) }
+    ensures none { IfNone result (2 ^ 64 ≤ before + length (positions chain.now)) }
+{
+    let mut count = before;
+    for _position in chain.positions() {
+        count = count.checked_add(1)?;
+    }
+    Some(count)
+}
+
+/// Counts the positions of chains; `None` where a `u64` doesn't hold their number.
+fn count_all(chains: &[Chain]) -> Option<u64>
+    ensures some { IfSome result (λ count. count ≡ length (all_positions chains.now)) }
+    ensures none { IfNone result (2 ^ 64 ≤ length (all_positions chains.now)) }
+{
+    let mut count = 0;
+    for chain in chains {
+        count = count_more(count, chain)?;
+    }
+    Some(count)
+}
+
+/// Writes a slot: the line and the column of its position, 0 where it has none.
+fn put_slot(stream: &mut Vec<u8>, position: Position) -> Result<(), AllocError>
+    ensures ok { OnOk result (AppendsAll stream.old.items stream.new.items (numbers_of position)) }
+{
+    let line = position.line().unwrap_or(0);
+    let column = position.position().unwrap_or(0);
+    varint::put_u64(stream, line as u64)?;
+    varint::put_u64(stream, column as u64)?;
+    Ok(())
+}
+
+/// Writes the slots of a chain.
+fn put_slots(stream: &mut Vec<u8>, chain: &Chain) -> Result<(), AllocError>
+    ensures ok { OnOk result (AppendsAll stream.old.items stream.new.items (flat_map numbers_of (positions chain.now))) }
+{
+    for position in chain.positions() {
+        put_slot(stream, position)?;
+    }
+    Ok(())
+}
+
+/// Writes the stream of the positions of chains, chain by chain, in the shortest spellings.
+///
+/// What is written of 2 to the power 32 positions and more is no stream, since its count doesn't fit.
+///
+/// # Errors
+///
+/// `AllocError` where there is no memory for the stream, as there is none where a `u64` doesn't hold the number of the
+/// positions.
+pub fn encode(alloc: Global, chains: &[Chain]) -> Result<Vec<u8>, AllocError>
+    ensures written { let list = all_positions chains.now in
+        IfOk result (λ stream. AreShortest stream.items (length list ∷ flat_map numbers_of list)) }
+    ensures stream { let list = all_positions chains.now in
+        length list < 2 ^ 32 → IfOk result (λ stream. Stream stream.items (map recorded list)) }
+{
+    let count = count_all(chains).ok_or(AllocError)?;
+    let mut stream = Vec::new(alloc);
+    varint::put_u64(&mut stream, count)?;
+    for chain in chains {
+        put_slots(&mut stream, chain)?;
+    }
+    Ok(stream)
 }
 
 #[cfg(test)]

@@ -1,4 +1,5 @@
 use super::*;
+use crate::op::Op;
 use std::test::Fail;
 
 #[test]
@@ -16,6 +17,18 @@ fn chunks_are_spans(rt: HostRuntime) -> Result<(), Fail> {
     assert_eq!(rt; chunk.body(&code), [19, 11].as_slice());
     for outside in [Chunk::new(1, 9, 8), Chunk::new(2, 1, 8)] {
         assert_eq!(rt; outside.body(&code), [].as_slice());
+    }
+    Ok(())
+}
+
+#[test]
+fn chunks_have_instructions(rt: HostRuntime) -> Result<(), Fail> {
+    let code = [2, 19, 2, 11, 255, 2];
+    let items = vec![in rt.alloc(); (2usize, Op::Unit), (3, Op::Pop)]?;
+    let ops: Vec<(usize, Op)> = Chunk::new(2, 6, 8).ops(&code).collect(rt.alloc())?;
+    assert_eq!(rt; ops, items);
+    for outside in [Chunk::new(2, 9, 8), Chunk::new(2, 0, 8)] {
+        assert_eq!(rt; outside.ops(&code).count(), 0);
     }
     Ok(())
 }

@@ -1,4 +1,6 @@
 use super::*;
+use crate::chain::{Root, Step, StepFlags, Tail};
+use bitflags::Flags;
 use std::test::Fail;
 
 // The positions of `a[i].b`: 1:1, 1:3, its bracket 1:2, and 1:6.
@@ -8,9 +10,93 @@ fn site(line: u32, column: u32) -> Option<Site> {
     Some(Site { line, column })
 }
 
+// `a[i].b` with those positions.
+fn chain(alloc: Global) -> Result<Chain, AllocError> {
+    let index = Step::Index {
+        operand: 0,
+        flags: StepFlags::empty(),
+        pos: Position::new(1, 3),
+        bracket: Position::new(1, 2),
+    };
+    let property = Step::Property {
+        name: 1,
+        getter: 2,
+        setter: 3,
+        flags: StepFlags::empty(),
+        pos: Position::new(1, 6),
+    };
+    Ok(Chain {
+        root: Root::Named {
+            name: 0,
+            pos: Position::new(1, 1),
+        },
+        steps: vec![in alloc; index, property]?,
+        tail: Tail::Read,
+        operands: 1,
+    })
+}
+
+// A call of a method of a temporary value, at that position.
+fn call(alloc: Global, pos: Position) -> Result<Chain, AllocError> {
+    let method = Step::Method {
+        name: 0,
+        argc: 0,
+        operand: 0,
+        flags: StepFlags::empty(),
+        pos,
+    };
+    Ok(Chain {
+        root: Root::Temporary,
+        steps: vec![in alloc; method]?,
+        tail: Tail::Read,
+        operands: 0,
+    })
+}
+
+#[test]
+fn positions_are_written(rt: HostRuntime) -> Result<(), Fail> {
+    let alloc = rt.alloc();
+    let first = chain(alloc)?;
+    let second = call(alloc, Position::new(9, 9))?;
+    let both = encode(alloc, &[first, second])?;
+    assert_eq!(rt;
+        both.as_slice(),
+        [5, 1, 1, 1, 3, 1, 2, 1, 6, 9, 9].as_slice()
+    );
+    assert_eq!(rt; resolve(&both, 4), site(9, 9));
+    assert_eq!(rt; encode(alloc, &[chain(alloc)?])?.as_slice(), STREAM);
+    let mut moved = chain(alloc)?;
+    if moved.slots_fit() && 2 < moved.position_slots() {
+        moved.set_position(2, Position::new(4, 4));
+    }
+    assert_eq!(rt;
+        encode(alloc, &[moved])?.as_slice(),
+        [4, 1, 1, 1, 3, 4, 4, 1, 6].as_slice()
+    );
+    Ok(())
+}
+
+#[test]
+fn missing_numbers_are_written_as_0(rt: HostRuntime) -> Result<(), Fail> {
+    let alloc = rt.alloc();
+    let calls = [
+        call(alloc, Position::new(1, 0))?,
+        call(alloc, Position::NONE)?,
+    ];
+    assert_eq!(rt;
+        encode(alloc, &calls)?.as_slice(),
+        [2, 1, 0, 0, 0].as_slice()
+    );
+    let none = encode(alloc, &[])?;
+    assert_eq!(rt; none.as_slice(), [0].as_slice());
+    assert_eq!(rt; (check(&none), resolve(&none, 0)), (Ok(()), None));
+    Ok(())
+}
+
 #[test]
 fn slots_are_found(rt: HostRuntime) {
     assert_eq!(rt; resolve(STREAM, 0), site(1, 1));
+    assert_eq!(rt; resolve(STREAM, 1), site(1, 3));
     assert_eq!(rt; resolve(STREAM, 2), site(1, 2));
     assert_eq!(rt; resolve(STREAM, 3), site(1, 6));
     assert_eq!(rt; resolve(STREAM, 4), None);
@@ -32,8 +118,9 @@ fn slots_before_damage_are_found(rt: HostRuntime) {
 fn streams_are_checked(rt: HostRuntime) {
     assert_eq!(rt; check(STREAM), Ok(()));
     assert_eq!(rt; check(&[0]), Ok(()));
-    assert_eq!(rt; check(&[]), Err(StreamError::Truncated));
-    assert_eq!(rt; check(&[1, 1]), Err(StreamError::Truncated));
+    for end in 0..STREAM.len() {
+        assert_eq!(rt; check(&STREAM[..end]), Err(StreamError::Truncated));
+    }
     assert_eq!(rt;
         check(&[0, 0, 0]),
         Err(StreamError::TrailingBytes { count: 2 })

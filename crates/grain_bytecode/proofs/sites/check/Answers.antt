@@ -1,4 +1,4 @@
-use Rattle.std.proofs.Common.{◌≡◌, ◌+◌, ◌-◌, ◌<◌, ◌≤◌, ◌^◌, ℕ, [], ◌∷◌, ◌++◌, length, Ok, Err, ap, refl, arith, rules, subst}
+use Rattle.std.proofs.Common.{◌≡◌, ◌-◌, ◌<◌, ◌^◌, [], length, Ok, Err, refl, arith, rules, subst}
 use Rattle.std.proofs.lemmas.Result.{err_from_is_err_and}
 use Rattle.grain_base.proofs.Numbers.{begins_at}
 use Rattle.grain_bytecode.specs.declared.sites.StreamError.TheVariants.{TrailingBytes}

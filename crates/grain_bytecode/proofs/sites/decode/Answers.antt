@@ -1,4 +1,4 @@
-use Rattle.std.proofs.Common.{◌≡◌, ◌+◌, ◌-◌, ◌<◌, ◌⊎◌, inr, ◌++◌, ◌∷◌, [], length, Err, ap, refl, arith, subst, sym, ◌∙◌}
+use Rattle.std.proofs.Common.{◌≡◌, ◌+◌, ◌-◌, inr, ◌++◌, ◌∷◌, [], length, ap, refl, arith, subst, sym, ◌∙◌}
 use Rattle.std.proofs.lemmas.Result.{err_from_is_err_and}
 use Rattle.grain_bytecode.specs.ChainStream.{StreamFault, site_of}
 use Rattle.grain_bytecode.specs.declared.sites.StreamError.TheVariants.{TrailingBytes}

@@ -1,4 +1,4 @@
-use Rattle.std.proofs.Common.{◌≡◌, ◌<◌, ◌^◌, [], ◌∷◌, drop, refl, sym, arith, rules}
+use Rattle.std.proofs.Common.{◌<◌, ◌^◌, [], ◌∷◌, drop, refl, arith, rules}
 use Rattle.std.proofs.lemmas.Result.{err_from_is_err_and}
 use Rattle.grain_base.proofs.Numbers.{begins_at, begins-append}
 use Rattle.grain_bytecode.proofs.Streams.{no_site, some_site}

@@ -1,8 +1,5 @@
-use Rattle.std.proofs.Common.{◌≡◌, ◌+◌, ◌<◌, ◌≤◌, ◌^◌, [], ◌∷◌, refl, sym, subst, ap, ◌∙◌, arith, rules}
-use Rattle.std.specs.Prelude.{Some, ◌↔◌}
-use Rattle.grain_base.specs.declared.pos.Site.{Site}
+use Rattle.std.proofs.Common.{◌≡◌, ◌<◌, ◌^◌, [], refl, sym, subst, ◌∙◌, arith, rules}
 use Rattle.grain_base.proofs.Numbers.{begins_at}
-use Rattle.grain_bytecode.specs.ChainStream.{Records}
 use Rattle.grain_bytecode.proofs.Streams.{Slots, slots_none, slots_more, unrecorded, recorded, past_count, broken_before, nothing_recorded}
 use Rattle.grain_bytecode.proofs.sites.resolve.Goals as goal
 

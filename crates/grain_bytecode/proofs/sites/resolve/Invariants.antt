@@ -1,4 +1,4 @@
-use Rattle.std.proofs.Common.{ℕ, List, Option}
+use Rattle.std.proofs.Common.{List, Option}
 use Rattle.grain_base.specs.declared.pos.Site.{Site}
 use Rattle.grain_bytecode.proofs.Streams.{Slots}
 use Rattle.grain_bytecode.proofs.sites.resolve.Given as goal

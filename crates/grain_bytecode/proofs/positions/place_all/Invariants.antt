@@ -1,0 +1,10 @@
+use Rattle.std.proofs.Common.{length, ◌-◌}
+use Rattle.grain_bytecode.proofs.Arriving.{Walked}
+use Rattle.grain_bytecode.proofs.positions.place_all.Given as goal
+
+-- what stands before the address is found
+abbrev pub invariant-loop-at : goal.invariant-loop-at
+invariant-loop-at l = Walked l.table l.code l.at l.matched l.positions
+
+abbrev pub decreases-loop-at : goal.decreases-loop-at
+decreases-loop-at l = length l.code - l.at

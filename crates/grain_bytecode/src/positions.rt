@@ -1,0 +1,298 @@
+//! Where in the source text the bytes of code stand.
+//!
+//! Positions travel apart from code, as an address table (docs/FORMAT.md, "Address table"). A table belongs to code where
+//! each of its entries stands at an address at which reading the code arrives.
+
+ghost use Rattle.std.specs.Prelude.{◌≡◌, ℕ, ◌^◌, ◌<◌, ◌≤◌, List, ◌∷◌, length, map, Some, None, is_none, All, Any, Err, IsOk, IfOk, IfErr};
+ghost use Rattle.grain_base.specs.AddressTable.{Entry, Table, numbers_from};
+ghost use Rattle.grain_base.specs.Place.{place_of};
+ghost use Rattle.grain_base.specs.Varint.{AreShortest};
+ghost use Rattle.grain_bytecode.specs.Positions.{Arrived, IsRead, IsRefusal, IsPlaced, places, dense, place_at, site_place, entries_of, code_site, matched, table_places};
+ghost use Rattle.grain_bytecode.specs.declared.positions.StripError.TheVariants as strip_error;
+ghost use Rattle.grain_bytecode.specs.declared.positions.TableError.TheVariants as table_error;
+
+use crate::code::width;
+use crate::sites::StreamError;
+use grain_base::pos::Site;
+use grain_base::{Position, pos};
+use std::alloc::{AllocError, AllocFailed, Global};
+use std::fmt;
+
+/// The positions of code.
+#[derive(Debug, Drop)]
+pub enum Positions {
+    /// None is known.
+    Stripped,
+    /// One for each byte of the code, by its address. A byte that begins no instruction has none.
+    Dense(Vec<Position>),
+}
+
+/// Why positions can't be written as a table.
+#[derive(Clone, Debug, PartialEq, Eq, Drop)]
+pub enum StripError {
+    /// A position that has a line stands at an address above 4294967295.
+    AddressTooWide,
+    /// A growth was refused.
+    OutOfMemory,
+}
+
+impl From<AllocError> for StripError {
+    ghost from_gives = { λ _ e. e ≡ strip_error.OutOfMemory };
+
+    fn from(_e: AllocError) -> StripError {
+        StripError::OutOfMemory
+    }
+}
+
+impl<T: Drop> From<AllocFailed<T>> for StripError {
+    ghost from_gives = { λ _ e. e ≡ strip_error.OutOfMemory };
+
+    fn from(_e: AllocFailed<T>) -> StripError {
+        StripError::OutOfMemory
+    }
+}
+
+/// Why positions were refused.
+#[derive(Clone, Debug, PartialEq, Eq, Drop)]
+pub enum TableError {
+    /// The bytes are no address table.
+    Malformed(pos::Error),
+    /// Not all entries of the table stand where reading the code arrives.
+    PastTheEnd {
+        /// How many entries the table has.
+        entries: usize,
+        /// How many addresses at which reading the code arrives have a site.
+        matched: usize,
+        /// How many bytes the code has.
+        instructions: usize,
+    },
+    /// The positions are those of another program.
+    WrongProgram {
+        /// The program that they are of.
+        expected: u128,
+        /// The program that they were offered to.
+        found: u128,
+    },
+    /// The bytes are no stream of chain positions.
+    ChainStream(StreamError),
+    /// A stream of chain positions has more slots or fewer than the chains.
+    ChainCount {
+        /// How many slots the stream has.
+        sites: usize,
+        /// How many positions the chains carry.
+        slots: usize,
+    },
+    /// A growth was refused.
+    OutOfMemory,
+}
+
+impl From<pos::Error> for TableError {
+    ghost from_gives = { λ error e. e ≡ table_error.Malformed error };
+
+    fn from(error: pos::Error) -> TableError {
+        TableError::Malformed(error)
+    }
+}
+
+impl From<AllocError> for TableError {
+    ghost from_gives = { λ _ e. e ≡ table_error.OutOfMemory };
+
+    fn from(_e: AllocError) -> TableError {
+        TableError::OutOfMemory
+    }
+}
+
+impl fmt::Display for TableError {
+    ghost use Rattle.grain_bytecode.specs.Positions.{text_of};
+
+    ghost output = { text_of };
+
+    fn fmt<W: fmt::Write>(&self, f: &mut fmt::Formatter<W>) -> fmt::Result {
+        match self {
+            TableError::Malformed(error) => write!(f, "position table is malformed: {error:?}"),
+            TableError::PastTheEnd {
+                entries,
+                matched,
+                instructions,
+            } => write!(
+                f,
+                "position table has {entries} entries but only {matched} begin an instruction of this chunk's {instructions} code bytes, so it is a different program's"
+            ),
+            TableError::WrongProgram { expected, found } => write!(
+                f,
+                "sidecar belongs to debug id {expected:#034x}, not to this program's {found:#034x}"
+            ),
+            TableError::ChainStream(error) => write!(f, "{error}"),
+            TableError::ChainCount { sites, slots } => write!(
+                f,
+                "chain site stream holds {sites} sites but this program's chains carry {slots} positions, so it is a different program's"
+            ),
+            TableError::OutOfMemory => write!(f, "out of memory"),
+        }
+    }
+}
+
+/// The position of a site: none where its line is 0 or one of its numbers is above 65535.
+pub fn site_to_position(site: Site) -> Position
+    ensures { place_of result ≡ site_place site }
+{
+    match (u16::try_from(site.line), u16::try_from(site.column)) {
+        (Ok(line), Ok(column)) if line > 0 => Position::new(line, column),
+        _ => Position::NONE,
+    }
+}
+
+impl Positions {
+    /// The positions of code, byte by byte; stripped where each of them is none.
+    pub fn dense(positions: Vec<Position>) -> Positions
+        ensures { places result ≡ dense (map place_of positions.items) }
+    {
+        if positions.iter().all(Position::is_none) {
+            Positions::Stripped
+        } else {
+            Positions::Dense(positions)
+        }
+    }
+
+    /// The position at an address, which is none past the code.
+    pub fn get(&self, pc: usize) -> Position
+        ensures { place_of result ≡ place_at (places self.now) pc }
+    {
+        match self {
+            Positions::Stripped => Position::NONE,
+            Positions::Dense(positions) => match positions.get(pc) {
+                Some(position) => *position,
+                None => Position::NONE,
+            },
+        }
+    }
+
+    /// Whether none is known.
+    pub fn is_stripped(&self) -> bool
+        ensures { result ≡ is_none (places self.now) }
+    {
+        matches!(self, Positions::Stripped)
+    }
+
+    /// Writes the address table of the positions that have a line.
+    ///
+    /// # Errors
+    ///
+    /// `AddressTooWide` where one of these stands above 4294967295, and `OutOfMemory` where there is no memory for the
+    /// table.
+    pub fn to_table(&self, alloc: Global) -> Result<Vec<u8>, StripError>
+        ensures written { let list = entries_of (places self.now) in
+            IfOk result (λ table. AreShortest table.items (length list ∷ numbers_from 0 list)) }
+        ensures table { let list = entries_of (places self.now) in
+            length list < 2 ^ 32 → IfOk result (λ table. Table table.items list) }
+        ensures fits { IsOk result → All (λ entry. entry.0 < 2 ^ 32) (entries_of (places self.now)) }
+        ensures wide { result ≡ Err strip_error.AddressTooWide → Any (λ entry. 2 ^ 32 ≤ entry.0) (entries_of (places self.now)) }
+    {
+        match self {
+            Positions::Stripped => Ok(pos::encode(alloc, &[])?),
+            Positions::Dense(positions) => {
+                let sites = sites_of(alloc, positions)?;
+                Ok(pos::encode(alloc, &sites)?)
+            }
+        }
+    }
+
+    /// Reads the positions of code from an address table.
+    ///
+    /// A table of no entries gives `Stripped` for any code.
+    ///
+    /// # Errors
+    ///
+    /// `Malformed` where the bytes are no table; `PastTheEnd` where not as many of the addresses at which reading the code
+    /// arrives have a site as the table has entries; `OutOfMemory` where there is no memory for the positions.
+    pub fn from_table(alloc: Global, table: &[u8], code: &[u8]) -> Result<Positions, TableError>
+        ensures ok { IfOk result (λ positions. IsRead table.now code.now (places positions)) }
+        ensures err { IfErr result (IsRefusal table.now code.now) }
+    {
+        pos::check(table)?;
+        let entries = pos::count(table)? as usize;
+        if entries == 0 {
+            return Ok(Positions::Stripped);
+        }
+        let mut positions = vec![in alloc; Position::NONE; code.len()]?;
+        let matched = place_all(table, code, &mut positions);
+        if matched != entries {
+            let instructions = code.len();
+            return Err(TableError::PastTheEnd {
+                entries,
+                matched,
+                instructions,
+            });
+        }
+        Ok(Positions::dense(positions))
+    }
+}
+
+/// An entry for each position that has a line, with its address.
+fn sites_of(alloc: Global, positions: &[Position]) -> Result<Vec<(u32, Site)>, StripError>
+    ensures ok { IfOk result (λ sites. sites.items ≡ entries_of (Some (map place_of positions.now))) }
+    ensures fits { IsOk result → All (λ entry. entry.0 < 2 ^ 32) (entries_of (Some (map place_of positions.now))) }
+    ensures wide { result ≡ Err strip_error.AddressTooWide → Any (λ entry. 2 ^ 32 ≤ entry.0) (entries_of (Some (map place_of positions.now))) }
+{
+    let mut sites = Vec::new(alloc);
+    for (at, position) in positions.iter().enumerate() {
+        let Some(line) = position.line() else {
+            continue;
+        };
+        let Ok(address) = u32::try_from(at) else {
+            return Err(StripError::AddressTooWide);
+        };
+        let column = position.position().unwrap_or(0);
+        let site = Site {
+            line: line as u32,
+            column: column as u32,
+        };
+        sites.push((address, site))?;
+    }
+    Ok(sites)
+}
+
+/// The site that a table has for an address of the code.
+fn site_of(table: &[u8], at: usize) -> Option<Site>
+    ensures { (list : List Entry) → Table table.now list → result ≡ code_site list at }
+{
+    let Ok(address) = u32::try_from(at) else {
+        return None;
+    };
+    pos::resolve(table, address)
+}
+
+/// Keeps the position that a table has for an address of the code, and tells whether it has a site for it.
+fn place(table: &[u8], at: usize, positions: &mut [Position]) -> bool
+    requires { at < length positions.old }
+    ensures { (list : List Entry) → Table table.now list → IsPlaced (code_site list at) at positions.old positions.new result }
+{
+    let Some(site) = site_of(table, at) else {
+        return false;
+    };
+    positions[at] = site_to_position(site);
+    true
+}
+
+/// Keeps the positions that a table has for the addresses at which reading the code arrives, and counts those that have a
+/// site.
+fn place_all(table: &[u8], code: &[u8], positions: &mut [Position]) -> usize
+    requires sized { length positions.old ≡ length code.now }
+    requires blank { All (λ position. place_of position ≡ None) positions.old }
+    ensures { (arrived : List ℕ) × Arrived code.now arrived × ((list : List Entry) → Table table.now list
+        → (result ≡ matched list arrived) × (map place_of positions.new ≡ table_places list arrived code.now)) }
+{
+    let mut at = 0;
+    let mut matched = 0;
+    while at < code.len() {
+        matched += usize::from(place(table, at, positions));
+        let Some(width) = width(code, at) else {
+            return matched;
+        };
+        at += width;
+    }
+    matched
+}
+
+#[cfg(test)]
+mod tests;
