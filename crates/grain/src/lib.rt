@@ -11,7 +11,9 @@ pub use error::VerifyError;
 pub use pools::Pools;
 pub use verifier::verify;
 
-pub use grain_base::{Caps, Dynamic, FnAccess, FnPtr, HostValue, Position, Token, pos, varint};
+pub use grain_base::{
+    Caps, Dynamic, Flags, FnAccess, FnPtr, HostValue, Position, Token, pos, varint,
+};
 pub use grain_bytecode::{
     AssembleError, AssignOp, BadTable, Chain, ChainPositions, Chunk, Disassembly, Function, Names,
     Op, Receiver, Root, Step, StepFlags, Strings, StringsError, Switch, SwitchRange, Tail,
