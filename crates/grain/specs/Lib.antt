@@ -19,7 +19,10 @@ pub mod Setting
 pub mod Targets
 pub mod Typing
 pub mod View
+pub use Rattle.grain_base.proofs.KnownCaps
 pub use Rattle.grain_base.specs.AddressTable
+pub use Rattle.grain_base.specs.CapBits
 pub use Rattle.grain_base.specs.Varint
 pub use Rattle.grain_base.specs.declared.pos.Site
+pub use Rattle.grain_bytecode.specs.Span
 pub use Rattle.grain_bytecode.specs.Split

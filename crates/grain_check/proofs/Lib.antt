@@ -3,5 +3,7 @@ pub mod SearchLaws
 pub mod WordLaws
 pub mod NumberLaws
 pub mod LineLaws
+pub mod ChunkLaws
+pub mod FaultLaws
 pub mod VerdictLaws
 pub mod RunLaws

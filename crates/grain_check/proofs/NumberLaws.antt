@@ -9,7 +9,7 @@ use Rattle.std.proofs.lemmas.Fmt.{IsAscii-from_digits}
 use Rattle.std.proofs.lemmas.Str.{IsUtf8-from_ascii}
 use Rattle.std.proofs.lemmas.Str.Parse.{digit_from_value, tells_all_ascii_digits, tells_digits}
 use Rattle.grain_check.specs.Words.{is_word}
-use Rattle.grain_check.specs.Verdicts.{u32_of}
+use Rattle.grain_check.specs.Fields.{u32_of}
 
 all_digits : (word : List ℕ) → AllDigits 10 word → all_ascii_digits word ≡ true
 all_digits [] digits = refl

@@ -1,6 +1,6 @@
 -- Laws of verdicts, and of the count of cases.
-use Rattle.std.proofs.Common.{◌≡◌, ℕ, ◌<◌, length, take, drop, ◌+◌, zero-add, Bool, true, cond, List, [], ◌∷◌, ◌++◌, Some, None, Option, Result, refl, sym, ap, subst, ◌∙◌, arith, append_assoc, append-nil, codes}
-use Rattle.std.specs.Prelude.{decimal, is_none, filter, flat_map, count_by}
+use Rattle.std.proofs.Common.{◌≡◌, ℕ, length, ◌+◌, zero-add, Bool, true, cond, List, [], ◌∷◌, ◌++◌, Some, None, Option, Result, refl, sym, ap, subst, ◌∙◌, arith, append_assoc, append-nil, codes}
+use Rattle.std.specs.Prelude.{is_none, filter, flat_map, count_by}
 use Rattle.std.specs.List.{AllZip}
 use Rattle.std.proofs.lemmas.Grind.{flat_map-append}
 use Rattle.std.specs.Str.Lines.{strip_carriage_return}
@@ -9,8 +9,9 @@ use Rattle.std.proofs.lemmas.List.Sums.{sum_by-append}
 use Rattle.grain.specs.AddressTable.{Entry, Front, site_at}
 use Rattle.grain.specs.Split.{IsCount}
 use Rattle.grain.specs.Site.{Site}
+use Rattle.grain.specs.Span.{Span}
 use Rattle.grain_check.specs.Lines.{is_case}
-use Rattle.grain_check.specs.Verdicts.{code, site, asked, is_bad, code_text, site_text, CodeVerdict, SiteVerdict, Verdict, IsVerdictText}
+use Rattle.grain_check.specs.Verdicts.{code, site, verify, program, asked, is_bad, code_text, site_text, CodeVerdict, SiteVerdict, VerifyVerdict, Verdict, IsVerdictText}
 use Rattle.grain_check.specs.Reports.{Adds, Answers, CountsOn, Written, saturated}
 use Rattle.grain_check.proofs.LineLaws.{cases_in, cases_in-append}
 
@@ -33,6 +34,10 @@ adds_found table old new address entries found front found_is is = record {
 
 pub adds_site : (line table old new : List ℕ) (address : ℕ) → asked line ≡ Some (site table address) → Adds (SiteVerdict table address) old new → Adds (Verdict line) old new
 adds_site line table old new address some adds = record { added = adds.added; kind = rw some adds.kind; text = adds.text }
+
+pub adds_judged : (line bytes old new : List ℕ) (caps : ℕ) (chunks : List Span) → asked line ≡ Some (verify caps bytes chunks)
+    → Adds (VerifyVerdict (program caps bytes chunks)) old new → Adds (Verdict line) old new
+adds_judged line bytes old new caps chunks some adds = record { added = adds.added; kind = rw some adds.kind; text = adds.text }
 
 -- a case was answered and counted
 pub answers_one : (line mid : List ℕ) (old new : Written) (bad : Bool) → is_case line ≡ true → bad ≡ is_none (asked line)

@@ -1,5 +1,7 @@
 pub mod Lines
 pub mod Words
+pub mod Fields
+pub mod Refusals
 pub mod Verdicts
 pub mod Views
 pub mod Reports

@@ -6,9 +6,12 @@ ghost use Rattle.std.specs.Option.{option_map};
 ghost use Rattle.std.specs.Str.Lines.{strip_carriage_return};
 ghost use Rattle.grain_check.specs.Lines.{Lacks, Skips};
 ghost use Rattle.grain_check.specs.Words.{words, StartsWord};
-ghost use Rattle.grain_check.specs.Verdicts.{asked, code_by, hex_of, site_by, u32_of};
+ghost use Rattle.grain_check.specs.Fields.{hex_of, u16_of, u32_of};
+ghost use Rattle.grain_check.specs.Verdicts.{asked, code_by, site_by};
 ghost use Rattle.grain_check.specs.Views.{view};
 
+use crate::verify_case::verify_case;
+use grain::{Caps, Chunk};
 use hex::FromHexError;
 use std::alloc::{AllocError, Global};
 use std::str;
@@ -23,6 +26,8 @@ pub(crate) enum Case {
     Code(Vec<u8>),
     /// Which site this table records for this address.
     Site(Vec<u8>, u32),
+    /// Whether these chunks of this code are accepted where these capabilities are there.
+    Verify(Caps, Vec<u8>, Vec<Chunk>),
 }
 
 /// The text without the blocks at its front that lack the byte, up to one that has it.
@@ -83,7 +88,7 @@ fn skip_spaces(text: &[u8]) -> &[u8]
 }
 
 /// The first word, and what stands after it.
-fn next_word(text: &[u8]) -> Option<(&[u8], &[u8])>
+pub(crate) fn next_word(text: &[u8]) -> Option<(&[u8], &[u8])>
     ensures some { IfSome result (λ found. words text.now ≡ found.0.now ∷ words found.1.now) }
     ensures none { IfNone result (words text.now ≡ []) }
 {
@@ -98,7 +103,7 @@ fn next_word(text: &[u8]) -> Option<(&[u8], &[u8])>
 }
 
 /// The bytes that a word of digits in pairs spells, or none for `-`.
-fn hex_of(alloc: Global, word: &[u8]) -> Result<Option<Vec<u8>>, AllocError>
+pub(crate) fn hex_of(alloc: Global, word: &[u8]) -> Result<Option<Vec<u8>>, AllocError>
     ensures { IfOk result (λ found. option_map (λ bytes. bytes.items) found ≡ hex_of word.now) }
 {
     if word == b"-".as_slice() {
@@ -112,7 +117,7 @@ fn hex_of(alloc: Global, word: &[u8]) -> Result<Option<Vec<u8>>, AllocError>
 }
 
 /// The number that a word of decimal digits alone spells, where it fits.
-fn u32_of(word: &[u8]) -> Option<u32>
+pub(crate) fn u32_of(word: &[u8]) -> Option<u32>
     ensures { result ≡ u32_of word.now }
 {
     if word.starts_with(b"+") {
@@ -122,6 +127,13 @@ fn u32_of(word: &[u8]) -> Option<u32>
         return None;
     };
     text.parse().ok()
+}
+
+/// The same, where it fits 16 bits.
+pub(crate) fn u16_of(word: &[u8]) -> Option<u16>
+    ensures { result ≡ u16_of word.now }
+{
+    u16::try_from(u32_of(word)?).ok()
 }
 
 /// What a line asks whose first word is `code`, by what stands after that word.
@@ -169,6 +181,9 @@ pub(crate) fn case_of(alloc: Global, line: &[u8]) -> Result<Option<Case>, AllocE
     }
     if name == b"site".as_slice() {
         return site_case(alloc, fields);
+    }
+    if name == b"verify".as_slice() {
+        return verify_case(alloc, fields);
     }
     Ok(None)
 }

@@ -9,6 +9,7 @@ mod driver;
 mod line;
 mod report;
 mod stream;
+mod verify_case;
 
 ghost use Rattle.std.specs.Prelude.{◌≡◌};
 ghost use Rattle.grain_check.specs.Status.{status_of};

@@ -12,6 +12,7 @@ ghost use Rattle.grain_check.specs.Reports.{Written, nothing};
 
 use crate::line::{Case, case_of, split_at_byte, without_return};
 use crate::stream::{Failed, Sink, send};
+use crate::verify_case::write_judged;
 use grain::{count_instructions, pos};
 use std::alloc::{AllocError, Global};
 use std::marker::Model;
@@ -71,7 +72,7 @@ fn write_site(text: &mut String, table: &[u8], address: u32) -> Result<(), Alloc
 
 /// Writes a verdict on the line behind the text, and answers whether the line has no form of a
 /// case.
-#[tactic(auto, using(crate::proofs::VerdictLaws::adds_bad, crate::proofs::VerdictLaws::adds_code, crate::proofs::VerdictLaws::adds_site))]
+#[tactic(auto, using(crate::proofs::VerdictLaws::adds_bad, crate::proofs::VerdictLaws::adds_code, crate::proofs::VerdictLaws::adds_site, crate::proofs::VerdictLaws::adds_judged))]
 fn write_verdict(alloc: Global, line: &[u8], text: &mut String) -> Result<bool, AllocError>
     ensures bad { IfOk result (λ bad. bad ≡ is_none (asked line.now)) }
     ensures text { OnOk result
@@ -84,6 +85,10 @@ fn write_verdict(alloc: Global, line: &[u8], text: &mut String) -> Result<bool, 
         }
         Some(Case::Site(table, address)) => {
             write_site(text, &table, address)?;
+            Ok(false)
+        }
+        Some(Case::Verify(caps, code, chunks)) => {
+            write_judged(alloc, text, caps, &code, &chunks)?;
             Ok(false)
         }
         None => {

@@ -7,6 +7,8 @@ use super::*;
 use crate::status;
 use crate::stream::Failed;
 
+mod verify_lines;
+
 /// Gives its bytes, at most so many a call, and fails once so many were given.
 #[derive(Drop)]
 struct Given<'a> {
@@ -53,7 +55,7 @@ impl Source for Given<'_> {
 }
 
 /// How many bytes the tests write at most.
-const ROOM: usize = 64;
+const ROOM: usize = 128;
 
 /// Takes bytes, at most so many a call, and fails once so many were taken. It allocates nothing.
 #[derive(Drop)]
@@ -156,7 +158,7 @@ const ROWS: [Row; 12] = [
         2,
     ),
     (
-        b"SITE - 0\nverify 7fff 0213 0:2:8\n",
+        b"SITE - 0\nVERIFY 7fff 0213 0:2:8\n",
         b"bad case\nbad case\n",
         2,
         2,
