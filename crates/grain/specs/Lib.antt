@@ -12,6 +12,7 @@ pub mod Machine
 pub mod PoolNeeds
 pub mod Setting
 pub mod Targets
+pub mod TestedBits
 pub mod Typing
 pub mod View
 pub use Rattle.grain_base.specs.AddressTable

@@ -10,6 +10,7 @@ mod functions;
 mod indices;
 mod pools;
 mod state;
+mod tested;
 mod verifier;
 
 pub use constants::constant_caps;
