@@ -7,8 +7,10 @@ pub mod Law
 pub mod Marks
 pub mod Most
 pub mod Naming
+pub mod Noted
 pub mod Once
 pub mod Parts
+pub mod Passing
 pub mod Progress
 pub mod Pushing
 pub mod Splits

@@ -1,15 +1,18 @@
 -- The first of some fields whose index is out of bounds.
-use Rattle.std.specs.Prelude.{ℕ, List, [], ◌∷◌, Option, Some, None, Result, Ok, Err, cond, nat_lt, map}
+use Rattle.std.specs.Prelude.{◌≡◌, ℕ, List, [], ◌∷◌, Option, Some, None, Result, Ok, Err, cond, nat_lt, map, get_or}
 use Rattle.grain_bytecode.specs.declared.field.Field.{Field}
 use Rattle.grain_bytecode.specs.declared.field.Field.TheVariants.{Index, Slot, Count, Target}
 use Rattle.grain_bytecode.specs.declared.field.Pool.{Pool}
 use Rattle.grain_bytecode.specs.declared.op.Receiver.{Receiver}
 use Rattle.grain_bytecode.specs.declared.op.Receiver.TheVariants as receiver
 use Rattle.grain_bytecode.specs.Table.{name}
-use Rattle.grain.specs.Indices.{size}
+use Rattle.grain_bytecode.specs.Dispatch.{first_past}
+use Rattle.grain.specs.Indices.{chain_fields, size}
 use Rattle.grain.specs.Setting.{Setting, case_consts}
 use Rattle.grain.specs.declared.indices.BadIndex.{BadIndex}
+use Rattle.grain.specs.TestedBits.{Has}
 use Rattle.grain.specs.declared.pools.Pools.{Pools}
+use Rattle.grain.specs.declared.tested.Tested.{Tested}
 
 -- the pools alone: bounds of indices don't depend on the capabilities
 abbrev pub alone : Pools → Setting
@@ -36,6 +39,14 @@ first_out s (Target x ∷ fs) = first_out s fs
 abbrev pub receiver_fields : Receiver → List Field
 receiver_fields (receiver.Named n) = name n ∷ []
 receiver_fields from = []
+
+-- the chains that are noted have no index out of bounds
+abbrev pub ChainsPass : Pools → Tested → Type 0
+ChainsPass pools passed = (i : ℕ) → Has passed i → first_out (alone pools) (get_or (map chain_fields pools.chains.now) i []) ≡ None
+
+-- the switches that are noted have no case whose constant is out of bounds
+abbrev pub CasesPass : Pools → Tested → Type 0
+CasesPass pools passed = (i : ℕ) → Has passed i → first_past pools.consts (get_or (map case_consts pools.switches.now) i []) ≡ None
 
 -- what a refusal names
 abbrev pub refused : {T : Type 0} → Result T BadIndex → Option (Pool × ℕ)

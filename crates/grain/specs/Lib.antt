@@ -17,6 +17,7 @@ pub mod Pushed
 pub mod Seen
 pub mod Setting
 pub mod Targets
+pub mod TestedBits
 pub mod Typing
 pub mod View
 pub use Rattle.grain_base.proofs.KnownCaps

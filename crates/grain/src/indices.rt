@@ -8,12 +8,13 @@ ghost use Rattle.grain_bytecode.specs.Dispatch.{first_past};
 ghost use Rattle.grain_bytecode.specs.declared.field.Pool.{Pool};
 ghost use Rattle.grain.specs.Accepted.{AreIndexed};
 ghost use Rattle.grain.specs.Fault.{CodeFault};
-ghost use Rattle.grain.specs.FirstOut.{alone, first_out, receiver_fields, refused};
+ghost use Rattle.grain.specs.FirstOut.{CasesPass, ChainsPass, alone, first_out, receiver_fields, refused};
 ghost use Rattle.grain.specs.Indices.{Indexed, IsOut, cases_of, chain_fields, fields_of, name_of, root_fields, size, step_fields, tail_fields};
 ghost use Rattle.grain.specs.Setting.{case_consts, setting};
 
 use crate::error::VerifyError;
 use crate::pools::Pools;
+use crate::tested::Tested;
 use grain_base::Dynamic;
 use grain_bytecode::{Chain, Op, Pool, Receiver, Root, Step, Switch, Tail, decode, width};
 use std::collections::HashMap;
@@ -134,17 +135,24 @@ fn check_chain(pools: &Pools<'_>, chain: &Chain) -> Result<(), BadIndex>
     check_tail(pools, &chain.tail)
 }
 
-/// Tests the index of a chain, and those inside the chain.
-fn check_chain_at(pools: &Pools<'_>, index: u32) -> Result<(), BadIndex>
-    ensures { refused result ≡ first_out (alone pools.now) (Index Pool.Chains index ∷ get_or (map chain_fields pools.now.chains.now) index []) }
+/// Tests the index of a chain, and those inside the chain, unless they have passed before.
+#[tactic(auto, using(crate::proofs::Passing::chains_more))]
+fn check_chain_at(pools: &Pools<'_>, passed: &mut Tested, index: u32) -> Result<(), BadIndex>
+    requires { ChainsPass pools.now passed.old }
+    ensures passed { ChainsPass pools.now passed.new }
+    ensures refused { refused result ≡ first_out (alone pools.now) (Index Pool.Chains index ∷ get_or (map chain_fields pools.now.chains.now) index []) }
 {
-    match pools.chains.get(index as usize) {
-        Some(chain) => check_chain(pools, chain),
-        None => Err(BadIndex {
+    let Some(chain) = pools.chains.get(index as usize) else {
+        return Err(BadIndex {
             pool: Pool::Chains,
             index,
-        }),
+        });
+    };
+    if !passed.has(index) {
+        check_chain(pools, chain)?;
+        passed.add(index);
     }
+    Ok(())
 }
 
 /// Tests the name of a receiver that has one.
@@ -158,8 +166,10 @@ fn check_receiver(pools: &Pools<'_>, receiver: Receiver) -> Result<(), BadIndex>
 }
 
 /// Tests the indices of an operation, and those inside the chain that it names.
-fn check_fields(pools: &Pools<'_>, op: &Op) -> Result<(), BadIndex>
-    ensures { refused result ≡ first_out (alone pools.now) (fields_of (alone pools.now) op.now) }
+fn check_fields(pools: &Pools<'_>, passed: &mut Tested, op: &Op) -> Result<(), BadIndex>
+    requires { ChainsPass pools.now passed.old }
+    ensures passed { ChainsPass pools.now passed.new }
+    ensures refused { refused result ≡ first_out (alone pools.now) (fields_of (alone pools.now) op.now) }
 {
     match op {
         Op::Const(constant) => check(pools, Pool::Constants, *constant),
@@ -198,7 +208,7 @@ fn check_fields(pools: &Pools<'_>, op: &Op) -> Result<(), BadIndex>
         } => check_receiver(pools, *receiver),
         Op::PushHandler { catch_var, .. } => check_some(pools, Pool::Names, *catch_var),
         Op::EvalAst { residual, .. } => check(pools, Pool::Fragments, *residual),
-        Op::Chain(chain) => check_chain_at(pools, *chain),
+        Op::Chain(chain) => check_chain_at(pools, passed, *chain),
         Op::Switch(switch) => check(pools, Pool::Switches, *switch),
         Op::CustomSyntax(site) => check(pools, Pool::SyntaxSites, *site),
         _ => Ok(()),
@@ -224,24 +234,54 @@ fn case_past(switch: &Switch, consts: usize) -> Option<u32>
     constant_past(switch.cases.as_ref()?, consts)
 }
 
+/// The same of the switch at an index, unless its cases have passed before.
+#[tactic(auto, using(crate::proofs::Passing::cases_more))]
+fn case_past_at(pools: &Pools<'_>, passed: &mut Tested, index: u32) -> Option<u32>
+    requires { CasesPass pools.now passed.old }
+    ensures passed { CasesPass pools.now passed.new }
+    ensures past { result ≡ first_past pools.now.consts (get_or (map case_consts pools.now.switches.now) index []) }
+{
+    if passed.has(index) {
+        return None;
+    }
+    let past = case_past(pools.switches.get(index as usize)?, pools.consts);
+    if past.is_none() {
+        passed.add(index);
+    }
+    past
+}
+
 /// The same of the switch that an operation names.
-fn named_case_past(pools: &Pools<'_>, op: &Op) -> Option<u32>
-    ensures { result ≡ first_past pools.now.consts (cases_of (alone pools.now) op.now) }
+fn named_case_past(pools: &Pools<'_>, passed: &mut Tested, op: &Op) -> Option<u32>
+    requires { CasesPass pools.now passed.old }
+    ensures passed { CasesPass pools.now passed.new }
+    ensures past { result ≡ first_past pools.now.consts (cases_of (alone pools.now) op.now) }
 {
     match op {
-        Op::Switch(index) => case_past(pools.switches.get(*index as usize)?, pools.consts),
+        Op::Switch(index) => case_past_at(pools, passed, *index),
         _ => None,
     }
 }
 
+/// The chains and the switches that have been tested and passed, so that what many instructions name is tested once.
+#[derive(Drop)]
+pub(crate) struct Passed {
+    chains: Tested,
+    switches: Tested,
+}
+
 /// Tests every index of an operation: its own, those inside the chain that it names, and those of the cases of its switch.
 #[tactic(auto, using(crate::proofs::Bounds::indexed, crate::proofs::Bounds::field_out, crate::proofs::Bounds::case_out))]
-fn check_op(pools: &Pools<'_>, op: &Op) -> Result<(), BadIndex>
+fn check_op(pools: &Pools<'_>, passed: &mut Passed, op: &Op) -> Result<(), BadIndex>
+    requires chains { ChainsPass pools.now passed.old.chains }
+    requires switches { CasesPass pools.now passed.old.switches }
+    ensures chains { ChainsPass pools.now passed.new.chains }
+    ensures switches { CasesPass pools.now passed.new.switches }
     ensures ok { OnOk result (Indexed (alone pools.now) op.now) }
     ensures err { IfErr result (λ bad. IsOut (alone pools.now) op.now (name_of bad.pool) bad.index) }
 {
-    check_fields(pools, op)?;
-    match named_case_past(pools, op) {
+    check_fields(pools, &mut passed.chains, op)?;
+    match named_case_past(pools, &mut passed.switches, op) {
         Some(index) => Err(BadIndex {
             pool: Pool::Constants,
             index,
@@ -251,9 +291,18 @@ fn check_op(pools: &Pools<'_>, op: &Op) -> Result<(), BadIndex>
 }
 
 /// Where the next instruction begins, once the one at an address has been tested.
-fn check_at(pools: &Pools<'_>, code: &[u8], at: usize) -> Result<usize, VerifyError>
+fn check_at(
+    pools: &Pools<'_>,
+    passed: &mut Passed,
+    code: &[u8],
+    at: usize,
+) -> Result<usize, VerifyError>
+    requires chains { ChainsPass pools.now passed.old.chains }
+    requires switches { CasesPass pools.now passed.old.switches }
     requires inside { at < length code.now }
     requires front { AreIndexed (alone pools.now) (take at code.now) }
+    ensures chains { ChainsPass pools.now passed.new.chains }
+    ensures switches { CasesPass pools.now passed.new.switches }
     ensures further { IfOk result (λ next. (at < next) × (next ≤ length code.now)) }
     ensures ok { IfOk result (λ next. AreIndexed (alone pools.now) (take next code.now)) }
     ensures err { IfErr result (λ e. CodeFault (alone pools.now) code.now e) }
@@ -261,7 +310,7 @@ fn check_at(pools: &Pools<'_>, code: &[u8], at: usize) -> Result<usize, VerifyEr
     let (Some(op), Some(width)) = (decode(code, at), width(code, at)) else {
         return Err(VerifyError::Undecodable { at });
     };
-    match check_op(pools, &op) {
+    match check_op(pools, passed, &op) {
         Ok(()) => Ok(at + width),
         Err(bad) => Err(VerifyError::BadIndex {
             at,
@@ -281,9 +330,13 @@ pub(crate) fn check_code(pools: &Pools<'_>, code: &[u8]) -> Result<(), VerifyErr
     ensures ok { OnOk result ((caps : Caps) → AreIndexed (setting caps pools.now) code.now) }
     ensures err { IfErr result (λ e. (caps : Caps) → CodeFault (setting caps pools.now) code.now e) }
 {
+    let mut passed = Passed {
+        chains: Tested::new(),
+        switches: Tested::new(),
+    };
     let mut at = 0;
     while at < code.len() {
-        at = check_at(pools, code, at)?;
+        at = check_at(pools, &mut passed, code, at)?;
     }
     Ok(())
 }

@@ -15,6 +15,7 @@ mod prepared;
 mod starts;
 mod state;
 mod table;
+mod tested;
 mod verifier;
 mod walk;
 

@@ -3,6 +3,7 @@
 use grain_bytecode::{Chain, Strings, Switch};
 
 /// The pools of a program, as the verifier asks them: what it has to look into, and how many there are of all else.
+#[derive(Drop)]
 pub struct Pools<'a> {
     /// How many constants an index may name.
     pub consts: usize,

@@ -1,6 +1,6 @@
 use Rattle.std.proofs.Common.{◌-◌, ◌≤◌, length, take}
 use Rattle.grain.specs.Accepted.{AreIndexed}
-use Rattle.grain.specs.FirstOut.{alone}
+use Rattle.grain.specs.FirstOut.{CasesPass, ChainsPass, alone}
 use Rattle.grain.proofs.indices.check_code.Given as goal
 
 -- the code so far passes
@@ -8,6 +8,8 @@ abbrev pub invariant-loop-at : goal.invariant-loop-at
 invariant-loop-at l = record {
   in_code : l.at ≤ length l.code;
   front : AreIndexed (alone l.pools) (take l.at l.code);
+  chains : ChainsPass l.pools l.passed.chains;
+  switches : CasesPass l.pools l.passed.switches;
 }
 
 abbrev pub decreases-loop-at : goal.decreases-loop-at
