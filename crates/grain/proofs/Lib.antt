@@ -1,3 +1,4 @@
+pub mod Bodies
 pub mod Bounds
 pub mod Chunks
 pub mod Exact

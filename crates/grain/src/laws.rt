@@ -1,19 +1,20 @@
 //! Laws of the definitions that contracts cite.
 //!
 //! Each function does nothing: its contract is the law.
-ghost use Rattle.std.specs.Prelude.{◌≡◌, ◌↔◌, ◌⊎◌, ℕ};
-ghost use Rattle.grain_bytecode.specs.Span.{Span};
+ghost use Rattle.std.specs.Prelude.{◌≡◌, ◌↔◌, ◌⊎◌, ℕ, List, [], Option, Some, get_or};
+ghost use Rattle.grain_base.specs.Content.{Content};
+ghost use Rattle.grain_bytecode.specs.Dispatch.{Table, dispatched, targets};
+ghost use Rattle.grain_bytecode.specs.Span.{Span, body};
+ghost use Rattle.grain_bytecode.specs.Split.{AreInstructions};
 ghost use Rattle.grain_bytecode.specs.declared.op.Op.{Op};
-ghost use Rattle.grain_bytecode.specs.declared.op.Op.TheVariants.{PushHandler};
-ghost use Rattle.grain.specs.Code.{Bytecode, Code};
+ghost use Rattle.grain_bytecode.specs.declared.op.Op.TheVariants.{PushHandler, Switch};
+ghost use Rattle.grain.specs.Code.{Bytecode, Code, coded};
 ghost use Rattle.grain.specs.Accepted.{ChunkPasses};
-ghost use Rattle.grain.specs.Fault.{ChunkFault};
-ghost use Rattle.grain.specs.declared.error.VerifyError.{VerifyError};
 ghost use Rattle.grain.specs.Counts.{Counts};
 ghost use Rattle.grain.specs.Effects.{Edge, jumping};
 ghost use Rattle.grain.specs.Machine.{Catches, Finds, IsKept, IsOnKeptRun, Machine, counts};
 ghost use Rattle.grain.specs.Moves.{IsArmed, IsEdgeCatch, IsEdgeStep, armed_counts};
-ghost use Rattle.grain.specs.Typing.{HasTyping, Passes, Reached};
+ghost use Rattle.grain.specs.Typing.{HasTyping, IsInChunk, IsTyping, Passes, Reached};
 
 /// In a chunk that has a typing, counts are reached exactly where a kept run has them, and each state of a kept run
 /// passes.
@@ -35,3 +36,16 @@ pub fn faults_land_on_catch_edges()
         → (armed : IsArmed code chunk fault.handler fault.outer) × (n.address ≡ fault.handler.target) × (counts n ≡ jumping code.setting (PushHandler fault.handler.target armed.name) (armed_counts fault.handler fault.outer)) }
 {}
 
+
+/// The body of a chunk that passes is whole instructions, so that disassembling it comes to its end.
+pub fn bodies_are_instructions()
+    ensures { (code : Bytecode) (chunk : Span) → ChunkPasses code chunk → (ops : List Op) × AreInstructions (body chunk code.bytes) ops }
+{}
+
+/// Whatever the subject, a switch that a kept run meets leads to a start in the chunk that the typing covers.
+pub fn switches_lead_inside()
+    ensures { (code : Bytecode) (chunk : Span) (m : ℕ) (typing : ℕ → Option Counts) → IsTyping (coded code) chunk m typing
+        → (x : Machine) → IsOnKeptRun (coded code) chunk x → (w : ℕ) → Finds (coded code) chunk x (Switch w)
+        → (table : Table) (subject : Content) → get_or code.switches w [] ≡ targets table
+        → IsInChunk (coded code) chunk (dispatched table subject) × ((c : Counts) × (typing (dispatched table subject) ≡ Some c)) }
+{}
