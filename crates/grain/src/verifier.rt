@@ -81,3 +81,6 @@ pub fn verify(
     let deepest = verify_chunks(alloc, &prepared, chunks)?;
     Ok(deepest)
 }
+
+#[cfg(test)]
+mod tests;
