@@ -57,7 +57,7 @@ impl<T: Drop> From<AllocFailed<T>> for StripError {
 pub enum TableError {
     /// The bytes are no address table.
     Malformed(pos::Error),
-    /// Not all entries of the table stand where reading the code arrives.
+    /// Not as many addresses at which reading the code arrives have a site as the table has entries.
     PastTheEnd {
         /// How many entries the table has.
         entries: usize,
