@@ -1,10 +1,11 @@
--- Code whose indices are in bounds: one instruction more, and that capabilities don't matter to it.
-use Rattle.std.proofs.Common.{◌≡◌, ℕ, ◌+◌, ◌≤◌, List, [], ◌∷◌, ◌++◌, length, take, drop, refl, sym, ap, subst, ◌∙◌, inl, inr}
+-- Code whose indices are in bounds: one instruction more and its tag, and that capabilities don't matter to it.
+use Rattle.std.proofs.Common.{◌≡◌, ℕ, suc, ◌+◌, ◌<◌, ◌≤◌, List, [], ◌∷◌, ◌++◌, length, take, drop, get_or, refl, sym, ap, subst, ◌∙◌, inl, inr, add-one, drop-cons}
+use Rattle.std.specs.Prelude.{sum_by}
 use Rattle.std.proofs.lemmas.List.{take-append-drop, take_all}
 use Rattle.std.proofs.lemmas.List.Elements.{All-nil, All-push, All-weaker}
 use Rattle.grain_base.specs.declared.caps.Caps.{Caps}
 use Rattle.grain_bytecode.specs.Split.{AreInstructions, StandsAt}
-use Rattle.grain_bytecode.specs.Table.{width_of}
+use Rattle.grain_bytecode.specs.Table.{form, size_of, width_of}
 use Rattle.grain_bytecode.specs.declared.op.Op.{Op}
 use Rattle.grain_bytecode.proofs.Reading.{one_instruction}
 use Rattle.grain_bytecode.proofs.Splits.{one_more}
@@ -56,3 +57,14 @@ pub fault_any : (caps : Caps) (pools : Pools) (code : List ℕ) (e : VerifyError
 fault_any caps pools code (errors.Undecodable at) h = (passes_any caps pools code at h.0, h.1)
 fault_any caps pools code (errors.BadIndex at what index) h = (passes_any caps pools code at h.0, (h.1.0, h.1.1, out_any caps pools h.1.0 what.now index h.1.2))
 fault_any caps pools code e h = absurd h
+
+front_is : (x n : ℕ) (rest : List ℕ) → take (n + 1) (x ∷ rest) ≡ x ∷ take n rest
+front_is x n rest = rw add-one refl
+
+-- the byte at an address is the tag of the instruction there
+pub tag_at : (code : List ℕ) (at : ℕ) (op : Op) → at < length code → StandsAt code at op → (form op).0 ≡ get_or code at 0
+tag_at code at op inside h =
+    let n = sum_by size_of (form op).1 in
+    let e : take (n + 1) (drop at code) ≡ get_or code at 0 ∷ take n (drop (suc at) code) =
+    ap (take (n + 1)) (drop-cons code at 0 inside) ∙ front_is (get_or code at 0) n (drop (suc at) code) in
+    ap (λ (bs : List ℕ). get_or bs 0 0) (sym h.spelled ∙ e)

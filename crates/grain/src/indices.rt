@@ -1,8 +1,10 @@
 //! Indices into pools.
-ghost use Rattle.std.specs.Prelude.{◌≡◌, [], ◌∷◌, ◌+◌, ◌<◌, ◌≤◌, IfErr, IfOk, OnOk, get_or, length, map, take};
+ghost use Rattle.std.specs.Prelude.{◌≡◌, [], ◌∷◌, ◌+◌, ◌<◌, ◌≤◌, IfErr, IfOk, IsTrue, OnOk, get_or, length, map, take};
 ghost use Rattle.std.specs.Option.{option_to_list};
 ghost use Rattle.std.specs.List.{flat_map};
+ghost use Rattle.grain_bytecode.specs.Table.{form};
 ghost use Rattle.grain_bytecode.specs.declared.field.Field.TheVariants.{Index};
+ghost use Rattle.grain_bytecode.specs.declared.op.Op.{Op};
 ghost use Rattle.grain_base.specs.declared.caps.Caps.{Caps};
 ghost use Rattle.grain_bytecode.specs.Dispatch.{first_past};
 ghost use Rattle.grain_bytecode.specs.declared.field.Pool.{Pool};
@@ -10,7 +12,7 @@ ghost use Rattle.grain.specs.Accepted.{AreIndexed};
 ghost use Rattle.grain.specs.Fault.{CodeFault};
 ghost use Rattle.grain.specs.FirstOut.{CasesPass, ChainsPass, alone, first_out, receiver_fields, refused};
 ghost use Rattle.grain.specs.Indices.{Indexed, IsOut, cases_of, chain_fields, fields_of, name_of, root_fields, size, step_fields, tail_fields};
-ghost use Rattle.grain.specs.Setting.{case_consts, setting};
+ghost use Rattle.grain.specs.Setting.{Setting, case_consts, setting};
 
 use crate::error::VerifyError;
 use crate::pools::Pools;
@@ -290,6 +292,23 @@ fn check_op(pools: &Pools<'_>, passed: &mut Passed, op: &Op) -> Result<(), BadIn
     }
 }
 
+/// Whether the instruction of each tag has no index (docs/FORMAT.md, "Instructions"), so that it needs not be decoded.
+static PLAIN: [bool; 80] = [
+    false, false, true, true, true, true, true, false, false, false, false, true, true, true, true,
+    false, false, true, true, true, false, false, false, true, false, false, false, false, true,
+    true, true, true, true, true, true, true, false, true, true, true, true, true, true, true,
+    true, false, true, false, true, true, true, true, true, false, true, false, false, true, true,
+    true, true, false, false, true, false, true, true, false, false, false, false, true, true,
+    true, false, false, false, false, false, false,
+];
+
+fn is_plain(tag: u8) -> bool
+    ensures { IsTrue result → (s : Setting) (op : Op) → (form op).0 ≡ tag → Indexed s op }
+{
+    let tag = tag as usize;
+    tag < PLAIN.len() && PLAIN[tag]
+}
+
 /// Where the next instruction begins, once the one at an address has been tested.
 fn check_at(
     pools: &Pools<'_>,
@@ -307,7 +326,13 @@ fn check_at(
     ensures ok { IfOk result (λ next. AreIndexed (alone pools.now) (take next code.now)) }
     ensures err { IfErr result (λ e. CodeFault (alone pools.now) code.now e) }
 {
-    let (Some(op), Some(width)) = (decode(code, at), width(code, at)) else {
+    let Some(width) = width(code, at) else {
+        return Err(VerifyError::Undecodable { at });
+    };
+    if is_plain(code[at]) {
+        return Ok(at + width);
+    }
+    let Some(op) = decode(code, at) else {
         return Err(VerifyError::Undecodable { at });
     };
     match check_op(pools, passed, &op) {
