@@ -1,6 +1,6 @@
 -- The body of a chunk that passes is whole instructions, and its switches lead to starts that the typing covers.
 use Rattle.std.proofs.Common.{◌≡◌, ℕ, suc, zero, ◌+◌, ◌-◌, ◌<◌, ◌≤◌, ◌&&◌, inl, inr, Bool, true, List, [], ◌∷◌, ◌++◌, cond, length, take, drop, get_or, nat_le, Option, Some, refl, sym, ap, subst, ◌∙◌, arith}
-use Rattle.std.specs.List.{AllByRecursion, Contains, flat_map}
+use Rattle.std.specs.List.{Contains}
 use Rattle.std.proofs.Math.Seq.{take-add}
 use Rattle.std.proofs.lemmas.Bool.Decides.{nat_tests}
 use Rattle.std.proofs.lemmas.List.{append-nil, drop-drop}
@@ -8,7 +8,7 @@ use Rattle.std.proofs.lemmas.List.Concat.{flat_map-cons}
 use Rattle.grain_base.specs.Content.{Content}
 use Rattle.grain_bytecode.specs.Dispatch.{Table, dispatched, targets}
 use Rattle.grain_bytecode.specs.Span.{Span, body}
-use Rattle.grain_bytecode.specs.Split.{AreInstructions, IsInstruction, StandsAt}
+use Rattle.grain_bytecode.specs.Split.{AreInstructions}
 use Rattle.grain_bytecode.specs.Table.{spelling, width_of}
 use Rattle.grain_bytecode.specs.declared.op.Op.{Op}
 use Rattle.grain_bytecode.specs.declared.op.Op.TheVariants as ops

@@ -1,5 +1,5 @@
 -- Counts grow by at most one along an edge.
-use Rattle.std.proofs.Common.{◌≡◌, ℕ, ◌+◌, ◌≤◌, inl, inr, List, sym, subst, arith}
+use Rattle.std.proofs.Common.{ℕ, ◌+◌, ◌≤◌, inl, inr, List, sym, subst, arith}
 use Rattle.grain_bytecode.specs.declared.chain.Chain.{Chain}
 use Rattle.grain_bytecode.specs.declared.op.Op.{Op}
 use Rattle.grain_bytecode.specs.declared.op.Op.TheVariants as ops

@@ -1,13 +1,12 @@
 -- Code whose indices are in bounds: one instruction more and its tag, and that capabilities don't matter to it.
 use Rattle.std.proofs.Common.{◌≡◌, ℕ, suc, ◌+◌, ◌<◌, ◌≤◌, List, [], ◌∷◌, ◌++◌, length, take, drop, get_or, refl, sym, ap, subst, ◌∙◌, inl, inr, add-one, drop-cons}
 use Rattle.std.specs.Prelude.{sum_by}
-use Rattle.std.proofs.lemmas.List.{take-append-drop, take_all}
+use Rattle.std.proofs.lemmas.List.{take_all}
 use Rattle.std.proofs.lemmas.List.Elements.{All-nil, All-push, All-weaker}
 use Rattle.grain_base.specs.declared.caps.Caps.{Caps}
 use Rattle.grain_bytecode.specs.Split.{AreInstructions, StandsAt}
 use Rattle.grain_bytecode.specs.Table.{form, size_of, width_of}
 use Rattle.grain_bytecode.specs.declared.op.Op.{Op}
-use Rattle.grain_bytecode.proofs.Reading.{one_instruction}
 use Rattle.grain_bytecode.proofs.Splits.{one_more}
 use Rattle.grain.specs.Accepted.{AreIndexed}
 use Rattle.grain.specs.Fault.{CodeFault, PassesTo}
@@ -17,19 +16,15 @@ use Rattle.grain.specs.Setting.{Setting, setting}
 use Rattle.grain.specs.declared.error.VerifyError.{VerifyError}
 use Rattle.grain.specs.declared.error.VerifyError.TheVariants as errors
 use Rattle.grain.specs.declared.pools.Pools.{Pools}
+use Rattle.grain.proofs.Once.{stands_once}
 
 pub indexed_none : (s : Setting) → AreIndexed s []
 indexed_none s = ([], record { each = tt; whole = refl }, All-nil (Indexed s))
 
-same_width : (code : List ℕ) (at : ℕ) (op other : Op) → StandsAt code at op → StandsAt code at other → width_of op ≡ width_of other
-same_width code at op other h k =
-    let bytes = drop at code in
-    ap width_of (one_instruction (take (width_of op) bytes) (take (width_of other) bytes) (drop (width_of op) bytes) (drop (width_of other) bytes) op other h k (take-append-drop (width_of op) bytes ∙ sym (take-append-drop (width_of other) bytes))).1
-
 -- the front up to an address, and the instruction there, of which the width is known
 pub indexed_more : (s : Setting) (code : List ℕ) (at width : ℕ) (op other : Op) → AreIndexed s (take at code) → StandsAt code at op → Indexed s op → StandsAt code at other → width ≡ width_of other → AreIndexed s (take (at + width) code)
 indexed_more s code at width op other front stands here too is =
-    let wide : width_of op ≡ width = same_width code at op other stands too ∙ sym is in (
+    let wide : width_of op ≡ width = ap width_of (stands_once code at op other stands too) ∙ sym is in (
       front.0 ++ op ∷ [],
       subst (λ n. AreInstructions (take (at + n) code) (front.0 ++ op ∷ [])) wide (one_more code at front.0 op front.1 stands),
       All-push (Indexed s) front.0 op front.2 here,

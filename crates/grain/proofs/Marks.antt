@@ -8,7 +8,7 @@ use Rattle.grain_bytecode.specs.Split.{Split, StandsAt}
 use Rattle.grain_bytecode.specs.declared.op.Op.{Op}
 use Rattle.grain.specs.Edges.{MarksStarts}
 use Rattle.grain.specs.Layout.{IsStart, IsBoundary}
-use Rattle.grain.proofs.Splits.{boundary_apart, next_start, op_fits, split_first, split_splits, start_op, width_pos}
+use Rattle.grain.proofs.Splits.{boundary_apart, next_start, op_fits, split_first, split_splits, start_op}
 
 -- the starts below an address are just those that are marked
 pub record IsMarkedTo (code : List ℕ) (marks : List Bool) (at : ℕ) : Type 0 where

@@ -1,5 +1,5 @@
 -- Pushing one state to many targets.
-use Rattle.std.proofs.Common.{◌≡◌, ℕ, ◌+◌, ◌<◌, ◌⊎◌, inl, inr, Bool, true, cond, Option, List, [], ◌∷◌, ◌++◌, length, get_or, drop, drop-cons, add-one, map, refl, sym, ap, subst, ◌∙◌, append_assoc}
+use Rattle.std.proofs.Common.{◌≡◌, ℕ, ◌+◌, ◌<◌, inl, inr, Bool, true, cond, Option, List, [], ◌∷◌, ◌++◌, length, get_or, drop, drop-cons, add-one, map, sym, ap, subst, ◌∙◌, append_assoc}
 use Rattle.std.specs.List.{All, Contains}
 use Rattle.std.specs.Option.{option_to_list}
 use Rattle.std.proofs.lemmas.List.{map-append, map_push}
@@ -10,7 +10,7 @@ use Rattle.grain_bytecode.specs.Table.{width_of}
 use Rattle.grain_bytecode.specs.declared.op.Op.{Op}
 use Rattle.grain.specs.Code.{Bytecode}
 use Rattle.grain.specs.Counts.{Counts}
-use Rattle.grain.specs.Edges.{RefusesTarget, RefusesTargetOf, all_to, arrivals, onwards}
+use Rattle.grain.specs.Edges.{RefusesTargetOf, all_to, arrivals, onwards}
 use Rattle.grain.specs.Effects.{targets, goes_on, jumping, going_on}
 use Rattle.grain.specs.Pushed.{range_targets}
 use Rattle.grain.specs.Targets.{own_target, switch_named, table_targets}
@@ -18,7 +18,7 @@ use Rattle.grain.specs.View.{Coming, coming, view}
 use Rattle.grain.specs.declared.arrival.Arrival.{Arrival}
 use Rattle.grain.specs.declared.error.VerifyError.{VerifyError}
 use Rattle.grain.proofs.Naming.{targets_named}
-use Rattle.grain.proofs.Splits.{in_head, in_tail}
+use Rattle.grain.proofs.Splits.{in_tail}
 
 -- one target pushed, of those that are left
 pub pushed_next : (s : Counts) (first work new : List Coming) (left ts : List ℕ) (x : ℕ) → left ≡ x ∷ ts → new ≡ work ++ all_to s (x ∷ []) → work ++ all_to s left ≡ first → new ++ all_to s ts ≡ first

@@ -1,5 +1,5 @@
 -- Where instructions begin.
-use Rattle.std.proofs.Common.{◌≡◌, ℕ, ◌+◌, ◌<◌, ◌≤◌, ◌⊎◌, inl, inr, suc, zero, List, [], ◌∷◌, ◌++◌, length, take, drop, refl, sym, ap, subst, ◌∙◌, arith}
+use Rattle.std.proofs.Common.{◌≡◌, ℕ, ◌+◌, ◌<◌, ◌≤◌, ◌⊎◌, inl, inr, suc, zero, List, [], ◌∷◌, ◌++◌, length, drop, refl, sym, ap, subst, ◌∙◌, arith}
 use Rattle.std.specs.List.{Contains, flat_map}
 use Rattle.std.proofs.lemmas.Bool.{cases_lt}
 use Rattle.std.proofs.lemmas.List.{length-drop, drop_at, drop-drop}
@@ -7,7 +7,7 @@ use Rattle.std.proofs.lemmas.List.Concat.{flat_map-cons}
 use Rattle.grain_bytecode.specs.Table.{spelling, width_of}
 use Rattle.grain_bytecode.specs.Split.{AreInstructions, Begins, StandsAt, Split, starts_from}
 use Rattle.grain_bytecode.specs.declared.op.Op.{Op}
-use Rattle.grain_bytecode.proofs.Instructions.{begins_fits, begins_spelling, instr_along, spelling_width}
+use Rattle.grain_bytecode.proofs.Instructions.{begins_fits, begins_spelling, spelling_width}
 use Rattle.grain_bytecode.proofs.Splits.{one_split}
 use Rattle.grain.specs.Layout.{IsStart, IsBoundary}
 use Rattle.grain.proofs.Once.{stands_once}

@@ -1,24 +1,20 @@
 -- What passes the tests before the chunks has none of their faults.
-use Rattle.std.proofs.Common.{◌≡◌, ℕ, ◌+◌, ◌<◌, ◌≤◌, inl, inr, zero, suc, List, [], ◌∷◌, ◌++◌, length, take, drop, Some, refl, sym, ap, subst, ◌∙◌, append_assoc, arith}
+use Rattle.std.proofs.Common.{◌≡◌, ℕ, ◌<◌, inl, inr, suc, List, [], ◌∷◌, ◌++◌, length, drop, refl, sym, ap, subst, ◌∙◌, arith}
 use Rattle.std.specs.List.{All, AllByRecursion, AllZip, Contains, flat_map}
-use Rattle.std.proofs.lemmas.Option.{same_Some}
-use Rattle.std.proofs.lemmas.List.{append-nil, append_cancel_left, length-append, take-append-drop}
-use Rattle.std.proofs.lemmas.List.Concat.{flat_map-cons}
+use Rattle.std.proofs.lemmas.List.{append-nil, append_cancel_left, take-append-drop}
 use Rattle.std.proofs.lemmas.List.Elements.{All-contains}
 use Rattle.grain_base.specs.declared.value.Dynamic.{Dynamic}
 use Rattle.grain_base.specs.declared.value.Dynamic.TheVariants as values
 use Rattle.grain_bytecode.specs.Span.{Span}
-use Rattle.grain_bytecode.specs.Split.{AreInstructions, Begins, IsInstruction, NoneStandsAt, StandsAt, starts_from}
-use Rattle.grain_bytecode.specs.Table.{spelling, width_of}
+use Rattle.grain_bytecode.specs.Split.{Begins, IsInstruction, starts_from}
+use Rattle.grain_bytecode.specs.Table.{spelling}
 use Rattle.grain_bytecode.specs.declared.op.Op.{Op}
-use Rattle.grain_bytecode.proofs.Instructions.{begins_fits, begins_spelling, spelling_width}
+use Rattle.grain_bytecode.proofs.Instructions.{begins_fits}
 use Rattle.grain_bytecode.proofs.Splits.{begins_cons, no_front_inside}
 use Rattle.grain.specs.Accepted.{AllowsConst, AreIndexed, ChunkPasses, CodePasses, ConstantPasses, ConstantsPass, FunctionsPass, Input, IsSafe}
-use Rattle.grain.specs.Capabilities.{Allows}
 use Rattle.grain.specs.Code.{Bytecode, coded}
-use Rattle.grain.specs.ConstCaps.{const_caps}
 use Rattle.grain.specs.Fault.{CodeFault, Fault, IsFirstFault, LacksForConstant}
-use Rattle.grain.specs.Indices.{Indexed, IsFirstOut, IsCaseOut, IsOut, IsBounded, cases_of, fields_of}
+use Rattle.grain.specs.Indices.{Indexed, IsOut, IsBounded, cases_of}
 use Rattle.grain.specs.Setting.{Setting}
 use Rattle.grain.specs.Typing.{IsDeepest}
 use Rattle.grain.specs.declared.error.VerifyError.{VerifyError}

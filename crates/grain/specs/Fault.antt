@@ -1,18 +1,18 @@
 -- What each refusal says of what was verified.
 use Rattle.std.specs.Prelude.{◌≡◌, ◌≢◌, ◌⊎◌, ℕ, ◌+◌, ◌<◌, ◌≤◌, true, List, [], length, take, Some}
-use Rattle.std.specs.List.{All, AllWithin, Contains, HoldsAt}
+use Rattle.std.specs.List.{AllWithin, Contains, HoldsAt}
 use Rattle.grain_base.specs.CapBits.{FUNCTION, missing}
 use Rattle.grain_base.specs.declared.value.Dynamic.{Dynamic}
 use Rattle.grain_bytecode.specs.Span.{Span}
 use Rattle.grain_bytecode.specs.Split as split
 use Rattle.grain_bytecode.specs.Table.{width_of}
 use Rattle.grain_bytecode.specs.declared.op.Op.{Op}
-use Rattle.grain.specs.Accepted.{Input, AllowsConst, AreIndexed, ConstantPasses, ConstantsPass, CodePasses, FunctionsPass, ChunkPasses, IsFramed}
+use Rattle.grain.specs.Accepted.{Input, AreIndexed, ConstantPasses, ConstantsPass, CodePasses, FunctionsPass, ChunkPasses, IsFramed}
 use Rattle.grain.specs.Capabilities.{Allows, caps_of}
 use Rattle.grain.specs.Code.{Bytecode, coded}
 use Rattle.grain.specs.ConstCaps.{const_caps}
 use Rattle.grain.specs.Counts.{Counts}
-use Rattle.grain.specs.Effects.{Meets, needs, iterators_needed, handlers_needed, targets, goes_on}
+use Rattle.grain.specs.Effects.{needs, iterators_needed, handlers_needed, targets, goes_on}
 use Rattle.grain.specs.Indices.{IsOut}
 use Rattle.grain.specs.Layout.{IsStart, IsBoundary}
 use Rattle.grain.specs.Setting.{Setting}

@@ -1,7 +1,4 @@
 -- What the walks of all chunks share.
-use Rattle.std.specs.Prelude.{◌≡◌, ◌≢◌, ◌≤◌, ◌<◌, ℕ, List}
-use Rattle.grain_base.specs.CapBits.{missing}
-use Rattle.grain.specs.Capabilities.{Allows, caps_of}
 use Rattle.grain.specs.Code.{Bytecode, bytecode}
 use Rattle.grain.specs.Edges.{MarksStarts}
 use Rattle.grain.specs.PoolNeeds.{AreNeeds}

@@ -1,5 +1,5 @@
 -- What the table of one walk after another says.
-use Rattle.std.specs.Prelude.{◌≡◌, ◌≤◌, ◌<◌, ℕ, cond, nat_eq, List, Option, Some, None, slice_index_or}
+use Rattle.std.specs.Prelude.{◌≤◌, ◌<◌, ℕ, cond, nat_eq, List, Option, Some, None, slice_index_or}
 use Rattle.std.specs.List.{All}
 use Rattle.grain.specs.declared.state.State.{State}
 use Rattle.grain.specs.declared.table.Entry.{Entry}

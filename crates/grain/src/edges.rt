@@ -17,7 +17,12 @@ use grain_bytecode::{Chunk, Switch, SwitchRange};
 use std::collections::HashMap;
 
 /// Whether a target is a start of the chunk.
-pub(crate) fn check_target(starts: &[bool], chunk: &Chunk, at: u32, target: u32) -> Result<(), VerifyError>
+pub(crate) fn check_target(
+    starts: &[bool],
+    chunk: &Chunk,
+    at: u32,
+    target: u32,
+) -> Result<(), VerifyError>
     requires { chunk.now.end ≤ length starts.now }
     ensures ok { OnOk result (IsMarkedIn starts.now chunk.now target) }
     ensures err { IfErr result (λ e. RefusesTarget starts.now chunk.now at target e) }

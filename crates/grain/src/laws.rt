@@ -36,7 +36,6 @@ pub fn faults_land_on_catch_edges()
         → (armed : IsArmed code chunk fault.handler fault.outer) × (n.address ≡ fault.handler.target) × (counts n ≡ jumping code.setting (PushHandler fault.handler.target armed.name) (armed_counts fault.handler fault.outer)) }
 {}
 
-
 /// The body of a chunk that passes is whole instructions, so that disassembling it comes to its end.
 pub fn bodies_are_instructions()
     ensures { (code : Bytecode) (chunk : Span) → ChunkPasses code chunk → (ops : List Op) × AreInstructions (body chunk code.bytes) ops }

@@ -27,8 +27,8 @@ pub use grain_base::{
 pub use grain_bytecode::{
     AssembleError, AssignOp, BadTable, Chain, ChainPositions, Chunk, Disassembly, Field, Function,
     Names, Op, Pool, Positions, Receiver, Root, Step, StepFlags, Strings, StringsError, StripError,
-    Switch, SwitchRange, TableError, Tail, assemble, count_instructions, decode, disassemble, names,
-    resolve_switch_targets, site_to_position, sites, tag, u16_at, u32_at, width,
+    Switch, SwitchRange, TableError, Tail, assemble, count_instructions, decode, disassemble,
+    names, resolve_switch_targets, site_to_position, sites, tag, u16_at, u32_at, width,
 };
 pub use pools::Pools;
 pub use verifier::verify;

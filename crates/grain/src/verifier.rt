@@ -21,7 +21,11 @@ use grain_bytecode::{Chunk, Function};
 use std::alloc::Global;
 
 /// The deepest operand stack of each chunk, or why the first is refused that is.
-fn verify_chunks(alloc: Global, prepared: &Prepared<'_>, chunks: &[Chunk]) -> Result<Vec<u16>, VerifyError>
+fn verify_chunks(
+    alloc: Global,
+    prepared: &Prepared<'_>,
+    chunks: &[Chunk],
+) -> Result<Vec<u16>, VerifyError>
     requires { IsReady prepared.now }
     ensures passes { OnOk result (All (ChunkPasses (bytecode_of prepared.now)) chunks.now) }
     ensures deepest { IfOk result (λ v. AllZip (IsDeepest (coded (bytecode_of prepared.now))) chunks.now v.items) }

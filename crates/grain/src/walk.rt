@@ -49,7 +49,13 @@ impl Prepared<'_> {
     }
 
     /// Whether the stacks have what the instruction needs, the capabilities being there.
-    fn check_stacks(&self, op: &Op, change: Effect, at: u32, state: State) -> Result<(), VerifyError>
+    fn check_stacks(
+        &self,
+        op: &Op,
+        change: Effect,
+        at: u32,
+        state: State,
+    ) -> Result<(), VerifyError>
         requires known { (change.needs, change.takes, change.gives) ≡ effect self.now.pools.now.chains.now op.now }
         requires allowed { Allows self.now.caps.0 (caps_of (bytecode_of self.now).setting op.now) }
         ensures { MatchResult result
@@ -98,7 +104,15 @@ impl Prepared<'_> {
         let starts = &self.starts;
         let after = state.jumping(op, change);
         push_own(starts, chunk, at, own_target(op), after, work)?;
-        push_table(starts, chunk, at, self.pools.switches, switch_named(op), after, work)?;
+        push_table(
+            starts,
+            chunk,
+            at,
+            self.pools.switches,
+            switch_named(op),
+            after,
+            work,
+        )?;
         self.push_next(op, at, change, state, work)?;
         Ok(())
     }
@@ -136,7 +150,13 @@ impl Prepared<'_> {
     }
 
     /// Looks at the instruction that a state meets, and pushes where it may lead.
-    fn visit(&self, chunk: &Chunk, at: u32, state: State, work: &mut Vec<Arrival>) -> Result<(), VerifyError>
+    fn visit(
+        &self,
+        chunk: &Chunk,
+        at: u32,
+        state: State,
+        work: &mut Vec<Arrival>,
+    ) -> Result<(), VerifyError>
         requires ready { IsReady self.now }
         requires framed { IsFramed (bytecode_of self.now) chunk.now }
         requires within { IsInChunk (coded (bytecode_of self.now)) chunk.now at }
@@ -161,7 +181,12 @@ impl Prepared<'_> {
     }
 
     /// Walks from the chunk's entry, and answers the greatest operand count that it meets.
-    fn walk(&self, chunk: &Chunk, table: &mut Table, work: &mut Vec<Arrival>) -> Result<u32, VerifyError>
+    fn walk(
+        &self,
+        chunk: &Chunk,
+        table: &mut Table,
+        work: &mut Vec<Arrival>,
+    ) -> Result<u32, VerifyError>
         requires ready { IsReady self.now }
         requires framed { IsFramed (bytecode_of self.now) chunk.now }
         requires holds { chunk.now.entry < chunk.now.end }

@@ -23,7 +23,8 @@ fn said(
         chains,
         switches,
     };
-    let chunk = Chunk::new(0, code.len() as u32, 8);
+    let end = u32::try_from(code.len()).unwrap_or(u32::MAX);
+    let chunk = Chunk::new(0, end, 8);
     Ok(verify(alloc, Caps::all(), &[], code, &[], &[chunk], &pools))
 }
 
@@ -49,10 +50,19 @@ fn switches_lead_to_starts_of_the_chunk(rt: HostRuntime) -> Result<(), Fail> {
     }
     let inside = vec![in alloc; switch(alloc, 2, 6)?]?;
     let refused = said(alloc, &code, &[], &[], &inside)?.err();
-    assert_eq!(rt; refused, Some(VerifyError::JumpIntoAnInstruction { at: 1, target: 2 }));
+    assert_eq!(rt;
+        refused,
+        Some(VerifyError::JumpIntoAnInstruction { at: 1, target: 2 })
+    );
     let outside = vec![in alloc; switch(alloc, 4, 9999)?]?;
     let refused = said(alloc, &code, &[], &[], &outside)?.err();
-    assert_eq!(rt; refused, Some(VerifyError::JumpOutOfRange { at: 1, target: 9999 }));
+    assert_eq!(rt;
+        refused,
+        Some(VerifyError::JumpOutOfRange {
+            at: 1,
+            target: 9999
+        })
+    );
     Ok(())
 }
 

@@ -1,7 +1,6 @@
-use Rattle.std.proofs.Common.{◌≡◌, length, replicate, false, ap, subst, sym, ◌∙◌, arith, rules, ◌+◌}
+use Rattle.std.proofs.Common.{◌≡◌, length, replicate, false, ap, ◌∙◌, arith, rules}
 use Rattle.std.proofs.lemmas.List.{length-set, length-replicate}
-use Rattle.grain_bytecode.specs.Split.{StandsAt}
-use Rattle.grain.proofs.Marks.{IsMarkedTo, boundary_start, marked_start, marked_more, marked_all}
+use Rattle.grain.proofs.Marks.{boundary_start, marked_start, marked_more, marked_all}
 use Rattle.grain.proofs.Splits.{start_op}
 use Rattle.grain.proofs.starts.mark_starts.Goals as goal
 

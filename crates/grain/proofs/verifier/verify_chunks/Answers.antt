@@ -1,9 +1,7 @@
 use Rattle.std.proofs.Common.{◌≡◌, ◌⊎◌, inl, inr, arith}
 use Rattle.std.proofs.lemmas.Result.{err_from_is_err_and}
-use Rattle.grain.specs.Code.{coded}
 use Rattle.grain.specs.Fault.{IsFirstFault}
 use Rattle.grain.specs.Prepared.{bytecode_of}
-use Rattle.grain.specs.Typing.{IsDeepest}
 use Rattle.grain.specs.declared.error.VerifyError.TheVariants.{OutOfMemory}
 use Rattle.grain.proofs.Chunks.{passes_more, passes_there, first_fault, deepest_more}
 use Rattle.grain.proofs.verifier.verify_chunks.Goals as goal

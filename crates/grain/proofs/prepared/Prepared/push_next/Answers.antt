@@ -1,4 +1,4 @@
-use Rattle.std.proofs.Common.{◌≡◌, ◌+◌, true, ap, sym, ◌∙◌, arith, rules}
+use Rattle.std.proofs.Common.{◌≡◌, ◌+◌, true, ap, ◌∙◌, arith, rules}
 use Rattle.grain_bytecode.specs.Table.{width_of}
 use Rattle.grain.specs.Effects.{goes_on}
 use Rattle.grain.specs.Prepared.{bytecode_of}

@@ -1,7 +1,6 @@
-use Rattle.std.proofs.Common.{ap, arith, ◌+◌, ◌≤◌, ◌≡◌, ◌⊎◌, inl, inr, sym, ◌∙◌}
+use Rattle.std.proofs.Common.{arith, ◌≡◌, ◌⊎◌, inl, inr}
 use Rattle.std.proofs.lemmas.Result.{err_from_is_err_and}
 use Rattle.std.proofs.lemmas.List.Elements.{All-weaker}
-use Rattle.grain_bytecode.specs.Table.{width_of}
 use Rattle.grain.specs.Code.{coded}
 use Rattle.grain.specs.Edges.{IsMarkedIn}
 use Rattle.grain.specs.Effects.{targets}

@@ -1,4 +1,4 @@
-use Rattle.std.proofs.Common.{map, ◌+◌, ◌≡◌, ◌≤◌, ◌<◌, ◌++◌, ◌∷◌, [], ℕ, List, inr, Some, length, max, option_map, sym, ◌∙◌, ap, refl, subst, arith}
+use Rattle.std.proofs.Common.{map, ◌≡◌, ◌<◌, ◌++◌, ◌∷◌, [], ℕ, List, inr, Some, max, option_map, sym, ◌∙◌, ap, refl, subst, arith}
 use Rattle.std.proofs.lemmas.Grind.{common_steps}
 use Rattle.std.proofs.lemmas.List.{nil_from_length}
 use Rattle.std.proofs.lemmas.List.Elements.{All-contains}

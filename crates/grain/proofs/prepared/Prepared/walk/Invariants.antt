@@ -1,5 +1,4 @@
 use Rattle.std.proofs.Common.{◌+◌, ◌*◌, map, length}
-use Rattle.grain.specs.Code.{switch_targets}
 use Rattle.grain.specs.Prepared.{bytecode_of}
 use Rattle.grain.specs.View.{coming}
 use Rattle.grain.proofs.Most.{all_targets}
