@@ -1,5 +1,5 @@
 -- One operation is read at a place.
-use Rattle.std.proofs.Common.{◌≡◌, ℕ, List, take, drop, sym, ◌∙◌}
+use Rattle.std.proofs.Common.{◌≡◌, ℕ, List, take, drop, ap, sym, ◌∙◌}
 use Rattle.std.proofs.lemmas.List.{take-append-drop}
 use Rattle.std.proofs.lemmas.Option.{same_Some}
 use Rattle.grain_bytecode.specs.Table.{width_of}
@@ -15,3 +15,7 @@ stands_once bytes at op other h k =
 pub reads_once : (layout : Layout) (at : ℕ) (op other : Op) → Reads layout at op → Reads layout at other → op ≡ other
 reads_once (Coded bytes switches) at op other a b = stands_once bytes at op other a b
 reads_once (Listed ops switches) at op other a b = same_Some op other (sym a ∙ b)
+
+-- the width that was read is that of the operation that was
+pub wide : (bytes : List ℕ) (at width : ℕ) (op : Op) → ((other : Op) × StandsAt bytes at other × (width ≡ width_of other)) → StandsAt bytes at op → width ≡ width_of op
+wide bytes at width op (other, h, e) k = e ∙ ap width_of (stands_once bytes at other op h k)

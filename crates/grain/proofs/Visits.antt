@@ -2,7 +2,7 @@
 use Rattle.std.proofs.Common.{◌≡◌, ◌≢◌, ℕ, zero, suc, ◌+◌, ◌*◌, ◌<◌, ◌≤◌, inl, inr, max, Bool, true, false, cond, nat_eq, not, ◌&&◌, eqb, List, [], ◌∷◌, ◌++◌, length, get_or, set, take, map, Option, Some, None, option_map, refl, sym, ap, subst, ◌∙◌, arith}
 use Rattle.std.specs.List.{sum_by, Contains, All}
 use Rattle.std.proofs.lemmas.Grind.{common_steps}
-use Rattle.std.proofs.lemmas.List.{length-append, length-map, length_push, map_push, get_or-set_same, get_or-set_other, get_or_past, length-set, get_or-take}
+use Rattle.std.proofs.lemmas.List.{append-nil, length-append, length-map, length_push, map_push, get_or-set_same, get_or-set_other, get_or_past, length-set, get_or-take}
 use Rattle.std.proofs.Math.Seq.{take-set-lt}
 use Rattle.std.proofs.lemmas.List.Elements.{Contains-push, All-set}
 use Rattle.std.proofs.lemmas.List.Sums.{sum_by-set, sum_by-cons}
@@ -194,3 +194,10 @@ measure_falls code n end entries a old new rest op l h fresh e f =
     let g : length new ≡ length rest + length come = sym (length-map new coming) ∙ (ap (λ (xs : List Coming). length xs) e ∙ (length-append (map coming rest) come ∙ ap (λ k. k + length come) (length-map rest coming))) in
     let k : length old ≡ length rest + 1 = ap (λ (xs : List Arrival). length xs) f ∙ length_push rest a in
     falls (all_targets code.switches + 2) (unseen n end (set entries a.at (record { chunk = n; state = a.state }))) (unseen n end entries) (length new) (length old) (length rest) (length come) u (arrivals_few code op a.at (view a.state)) g k
+
+-- an arrival that is skipped leaves one fewer
+pub skip_falls : (others : ℕ) (old rest : List Arrival) (a : Arrival) → old ≡ rest ++ a ∷ [] → others + length (rest ++ []) < others + length old
+skip_falls others old rest a e =
+    let k : length old ≡ length rest + 1 = ap (λ (xs : List Arrival). length xs) e ∙ length_push rest a in
+    let l : length (rest ++ []) ≡ length rest = ap (λ (xs : List Arrival). length xs) (append-nil rest) in
+    omega (arith, k, l)

@@ -13,6 +13,7 @@ use grain_bytecode::{Chain, Op, Receiver, Root, Step, Strings};
 use std::alloc::{AllocError, Global};
 
 /// What is needed and isn't there.
+#[inline(always)]
 pub(crate) fn lacking(caps: Caps, needed: Caps) -> Caps
     ensures { result.0 ≡ missing caps.0 needed.0 }
 {
@@ -47,6 +48,7 @@ impl PoolCaps {
     }
 
     /// What an operation needs.
+    #[inline(always)]
     pub(crate) fn caps_of(&self, op: &Op) -> Caps
         ensures { (s : Setting) → AreNeeds s self.now → result.0 ≡ caps_of s op.now }
     {

@@ -18,6 +18,7 @@ pub(crate) struct Effect {
 
 impl Effect {
     /// What an operation does to the operands, with these chains in the pool.
+    #[inline(always)]
     pub(crate) fn of(op: &Op, chains: &[Chain]) -> Effect
         ensures { (result.needs, result.takes, result.gives) ≡ effect chains.now op.now }
     {
@@ -76,6 +77,7 @@ impl Effect {
     }
 
     // Of an operation that takes all that it needs.
+    #[inline(always)]
     fn taking(takes: u32, gives: u32) -> Effect
         requires { gives ≤ takes + 1 }
         ensures needs { result.needs ≡ takes }
@@ -107,6 +109,7 @@ fn consumed(chain: &Chain) -> u32
 }
 
 /// How many iterators there have to be.
+#[inline(always)]
 pub(crate) fn iterators_needed(op: &Op) -> u32
     ensures { result ≡ iterators_needed op.now }
 {
@@ -117,6 +120,7 @@ pub(crate) fn iterators_needed(op: &Op) -> u32
 }
 
 /// How many handlers have to be armed.
+#[inline(always)]
 pub(crate) fn handlers_needed(op: &Op) -> u32
     ensures { result ≡ handlers_needed op.now }
 {
@@ -127,6 +131,7 @@ pub(crate) fn handlers_needed(op: &Op) -> u32
 }
 
 /// The target that an operation names itself, where it goes on or where it catches.
+#[inline(always)]
 pub(crate) fn own_target(op: &Op) -> Option<u32>
     ensures { result ≡ own_target op.now }
 {
@@ -142,6 +147,7 @@ pub(crate) fn own_target(op: &Op) -> Option<u32>
 }
 
 /// The switch that an operation names.
+#[inline(always)]
 pub(crate) fn switch_named(op: &Op) -> Option<u32>
     ensures { result ≡ switch_named op.now }
 {
@@ -152,6 +158,7 @@ pub(crate) fn switch_named(op: &Op) -> Option<u32>
 }
 
 /// Whether an operation may go on to what follows it.
+#[inline(always)]
 pub(crate) fn goes_on(op: &Op) -> bool
     ensures { result ≡ goes_on op.now }
 {

@@ -1,14 +1,14 @@
 //! The walk over one chunk.
-ghost use Rattle.std.specs.Prelude.{◌≡◌, ◌≢◌, ◌+◌, ◌≤◌, ◌<◌, ◌^◌, ◌++◌, ◌⊎◌, [], length, map, IfErr, IfOk, MatchResult, OnOk};
+ghost use Rattle.std.specs.Prelude.{◌≡◌, ◌≢◌, ℕ, ◌+◌, ◌≤◌, ◌<◌, ◌^◌, ◌++◌, ◌⊎◌, [], None, length, map, IfErr, IfNone, IfOk, MatchResult, OnOk};
+ghost use Rattle.std.specs.Option.{option_to_list};
 ghost use Rattle.std.specs.List.{All};
-ghost use Rattle.grain_bytecode.specs.Split.{StandsAt};
 ghost use Rattle.grain_bytecode.specs.Table.{width_of};
 ghost use Rattle.grain_bytecode.specs.declared.op.Op.{Op};
 ghost use Rattle.grain.specs.Accepted.{ChunkPasses, IsFramed};
 ghost use Rattle.grain.specs.Capabilities.{Allows, caps_of};
-ghost use Rattle.grain.specs.Code.{coded};
-ghost use Rattle.grain.specs.Edges.{IsMarkedIn, RefusesState, RefusesTargetOf, arrivals, onwards};
-ghost use Rattle.grain.specs.Effects.{Meets, effect, targets};
+ghost use Rattle.grain.specs.Code.{Bytecode, coded};
+ghost use Rattle.grain.specs.Edges.{IsMarkedIn, RefusesState, RefusesTargetOf, all_to, arrivals, onwards};
+ghost use Rattle.grain.specs.Effects.{Meets, effect, handlers_needed, iterators_needed, targets};
 ghost use Rattle.grain.specs.Fault.{ChunkFault};
 ghost use Rattle.grain.specs.Prepared.{IsReady, bytecode_of};
 ghost use Rattle.grain.specs.Seen.{IsValid};
@@ -27,6 +27,37 @@ use crate::state::State;
 use crate::table::Table;
 use grain_base::Flags;
 use grain_bytecode::{Chunk, Op, decode, width};
+
+/// Where the instruction goes on, if it does, with what follows it at `next`.
+fn onward(op: &Op, next: u32, state: State, change: Effect) -> Option<Arrival>
+    requires operands { change.needs ≤ state.operands }
+    requires iterators { iterators_needed op.now ≤ state.iterators }
+    requires handlers { handlers_needed op.now ≤ state.handlers }
+    requires operands_room { state.operands + 1 < 2 ^ 32 }
+    requires iterators_room { state.iterators + 1 < 2 ^ 32 }
+    requires handlers_room { state.handlers + 1 < 2 ^ 32 }
+    ensures { (code : Bytecode) (at : ℕ) → (change.needs, change.takes, change.gives) ≡ effect code.setting.chains op.now → next ≡ at + width_of op.now
+        → map coming (option_to_list result) ≡ onwards code op.now at (view state) }
+{
+    if !goes_on(op) {
+        return None;
+    }
+    Some(Arrival {
+        at: next,
+        state: state.going_on(op, change),
+    })
+}
+
+/// The arrival that is next, or else the last of the list.
+fn take_next(next: Option<Arrival>, work: &mut Vec<Arrival>) -> Option<Arrival>
+    ensures taken { work.old.items ++ option_to_list next ≡ work.new.items ++ option_to_list result }
+    ensures empty { IfNone result (work.new.items ≡ []) }
+{
+    match next {
+        Some(arrival) => Some(arrival),
+        None => work.pop(),
+    }
+}
 
 impl Prepared<'_> {
     /// Whether the host has what the instruction needs.
@@ -79,84 +110,35 @@ impl Prepared<'_> {
         Ok(())
     }
 
-    /// Pushes where the instruction may lead.
-    fn push_edges(
+    /// Pushes the targets of the instruction.
+    fn push_targets(
         &self,
         chunk: &Chunk,
         op: &Op,
         at: u32,
-        change: Effect,
-        state: State,
+        after: State,
         work: &mut Vec<Arrival>,
     ) -> Result<(), VerifyError>
         requires long { chunk.now.end ≤ length self.now.starts.items }
-        requires meets { Meets (bytecode_of self.now).setting op.now (view state) }
-        requires known { (change.needs, change.takes, change.gives) ≡ effect self.now.pools.now.chains.now op.now }
-        requires stands { StandsAt self.now.code.now at op.now }
-        requires address { at + width_of op.now < 2 ^ 32 }
-        requires operands { state.operands + 1 < 2 ^ 32 }
-        requires iterators { state.iterators + 1 < 2 ^ 32 }
-        requires handlers { state.handlers + 1 < 2 ^ 32 }
-        ensures pushed { OnOk result (map coming work.new.items ≡ map coming work.old.items ++ arrivals (bytecode_of self.now) op.now at (view state)) }
+        ensures pushed { OnOk result (map coming work.new.items ≡ map coming work.old.items ++ all_to (view after) (targets (bytecode_of self.now).switches op.now)) }
         ensures marked { OnOk result (All (IsMarkedIn self.now.starts.items chunk.now) (targets (bytecode_of self.now).switches op.now)) }
         ensures err { IfErr result (λ e. RefusesTargetOf self.now.starts.items chunk.now at (targets (bytecode_of self.now).switches op.now) e) }
     {
         let starts = &self.starts;
-        let after = state.jumping(op, change);
+        let switches = self.pools.switches;
         push_own(starts, chunk, at, own_target(op), after, work)?;
-        push_table(
-            starts,
-            chunk,
-            at,
-            self.pools.switches,
-            switch_named(op),
-            after,
-            work,
-        )?;
-        self.push_next(op, at, change, state, work)?;
+        push_table(starts, chunk, at, switches, switch_named(op), after, work)?;
         Ok(())
     }
 
-    /// Pushes where the instruction goes on, if it does.
-    fn push_next(
-        &self,
-        op: &Op,
-        at: u32,
-        change: Effect,
-        state: State,
-        work: &mut Vec<Arrival>,
-    ) -> Result<(), VerifyError>
-        requires meets { Meets (bytecode_of self.now).setting op.now (view state) }
-        requires known { (change.needs, change.takes, change.gives) ≡ effect self.now.pools.now.chains.now op.now }
-        requires stands { StandsAt self.now.code.now at op.now }
-        requires address { at + width_of op.now < 2 ^ 32 }
-        requires operands { state.operands + 1 < 2 ^ 32 }
-        requires iterators { state.iterators + 1 < 2 ^ 32 }
-        requires handlers { state.handlers + 1 < 2 ^ 32 }
-        ensures pushed { OnOk result (map coming work.new.items ≡ map coming work.old.items ++ onwards (bytecode_of self.now) op.now at (view state)) }
-        ensures err { IfErr result (λ e. e ≡ VerifyError.OutOfMemory) }
-    {
-        if !goes_on(op) {
-            return Ok(());
-        }
-        let Some(width) = width(self.code, at as usize) else {
-            unreachable!();
-        };
-        work.push(Arrival {
-            at: at + width as u32,
-            state: state.going_on(op, change),
-        })?;
-        Ok(())
-    }
-
-    /// Looks at the instruction that a state meets, and pushes where it may lead.
+    /// Looks at the instruction that a state meets, pushes its targets, and answers where it goes on, if it does.
     fn visit(
         &self,
         chunk: &Chunk,
         at: u32,
         state: State,
         work: &mut Vec<Arrival>,
-    ) -> Result<(), VerifyError>
+    ) -> Result<Option<Arrival>, VerifyError>
         requires ready { IsReady self.now }
         requires framed { IsFramed (bytecode_of self.now) chunk.now }
         requires within { IsInChunk (coded (bytecode_of self.now)) chunk.now at }
@@ -165,19 +147,22 @@ impl Prepared<'_> {
         requires operands { state.operands < chunk.now.end }
         requires iterators { state.iterators < chunk.now.end }
         requires handlers { state.handlers < chunk.now.end }
-        ensures ok { OnOk result ((op : Op) × Passes (coded (bytecode_of self.now)) chunk.now at (view state) op
-            × (map coming work.new.items ≡ map coming work.old.items ++ arrivals (bytecode_of self.now) op at (view state))
+        ensures ok { IfOk result (λ next. (op : Op) × Passes (coded (bytecode_of self.now)) chunk.now at (view state) op
+            × (map coming (work.new.items ++ option_to_list next) ≡ map coming work.old.items ++ arrivals (bytecode_of self.now) op at (view state))
             × All (IsInChunk (coded (bytecode_of self.now)) chunk.now) (targets (bytecode_of self.now).switches op)) }
         ensures err { IfErr result (λ e. (e ≡ VerifyError.OutOfMemory) ⊎ ChunkFault (bytecode_of self.now) chunk.now e) }
     {
+        let Some(width) = width(self.code, at as usize) else {
+            unreachable!();
+        };
         let Some(op) = decode(self.code, at as usize) else {
             unreachable!();
         };
         self.check_caps(&op, at, state)?;
         let change = Effect::of(&op, self.pools.chains);
         self.check_stacks(&op, change, at, state)?;
-        self.push_edges(chunk, &op, at, change, state, work)?;
-        Ok(())
+        self.push_targets(chunk, &op, at, state.jumping(&op, change), work)?;
+        Ok(onward(&op, at + width as u32, state, change))
     }
 
     /// Walks from the chunk's entry, and answers the greatest operand count that it meets.
@@ -199,16 +184,16 @@ impl Prepared<'_> {
         ensures done { OnOk result (work.new.items ≡ []) }
     {
         table.begin_chunk();
-        work.push(Arrival {
+        let mut next = Some(Arrival {
             at: chunk.entry(),
             state: State {
                 operands: 0,
                 iterators: 0,
                 handlers: 0,
             },
-        })?;
+        });
         let mut deepest = 0;
-        while let Some(arrival) = work.pop() {
+        while let Some(arrival) = take_next(next, work) {
             let Arrival { at, state } = arrival;
             if at >= chunk.end() {
                 return Err(VerifyError::FallsOffTheEnd);
@@ -222,10 +207,11 @@ impl Prepared<'_> {
                             found: state.operands as usize,
                         });
                     }
+                    next = None;
                 }
                 None => {
                     table.note(at as usize, state);
-                    self.visit(chunk, at, state, work)?;
+                    next = self.visit(chunk, at, state, work)?;
                     deepest = deepest.max(state.operands);
                 }
             }

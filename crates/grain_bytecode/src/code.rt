@@ -47,6 +47,7 @@ pub(crate) static WIDTHS: [u8; 256] = [
 /// How many bytes the instruction at an address takes, or `None` where none stands.
 ///
 /// The tag and the length of the code decide, whatever the fields hold.
+#[inline(always)]
 pub fn width(code: &[u8], at: usize) -> Option<usize>
     ensures found { IfSome result (λ n. (op : Op) × StandsAt code.now at op × (n ≡ width_of op)) }
     ensures fits { IfSome result (λ n. (0 < n) × (at + n ≤ length code.now)) }
@@ -63,6 +64,7 @@ pub fn width(code: &[u8], at: usize) -> Option<usize>
 }
 
 /// The instruction at an address, or `None` where none stands.
+#[inline(always)]
 pub fn decode(code: &[u8], at: usize) -> Option<Op>
     ensures found { IfSome result (λ op. StandsAt code.now at op) }
     ensures fits { IfSome result (λ op. at + width_of op ≤ length code.now) }

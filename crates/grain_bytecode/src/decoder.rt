@@ -14,6 +14,7 @@ use crate::op::{Op, Receiver};
 use crate::tag;
 
 /// An index into a pool.
+#[inline(always)]
 fn index(low: u8, high: u8) -> u32
     ensures { result ≡ from_le_bytes w16 (low ∷ high ∷ []) }
 {
@@ -21,6 +22,7 @@ fn index(low: u8, high: u8) -> u32
 }
 
 /// A slot, a depth or a length.
+#[inline(always)]
 fn slot(low: u8, high: u8) -> u16
     ensures { result ≡ from_le_bytes w16 (low ∷ high ∷ []) }
 {
@@ -28,6 +30,7 @@ fn slot(low: u8, high: u8) -> u16
 }
 
 /// The instruction of a tag without fields.
+#[inline(always)]
 fn bare(tag: u8) -> Option<Op>
     ensures found { IfSome result (λ op. Instr (tag ∷ []) op) }
     ensures none { IfNone result ((op : Op) → Instr (tag ∷ []) op → ⊥) }
@@ -58,6 +61,7 @@ fn bare(tag: u8) -> Option<Op>
 }
 
 /// The instruction of a tag and one byte.
+#[inline(always)]
 fn with_one(tag: u8, a: u8) -> Option<Op>
     ensures found { IfSome result (λ op. Instr (tag ∷ a ∷ []) op) }
     ensures none { IfNone result ((op : Op) → Instr (tag ∷ a ∷ []) op → ⊥) }
@@ -94,6 +98,7 @@ fn with_one(tag: u8, a: u8) -> Option<Op>
 }
 
 /// The instruction of a tag and two bytes.
+#[inline(always)]
 fn with_two(tag: u8, a: u8, b: u8) -> Option<Op>
     ensures found { IfSome result (λ op. Instr (tag ∷ a ∷ b ∷ []) op) }
     ensures none { IfNone result ((op : Op) → Instr (tag ∷ a ∷ b ∷ []) op → ⊥) }
@@ -167,6 +172,7 @@ fn with_two(tag: u8, a: u8, b: u8) -> Option<Op>
 }
 
 /// The instruction of a tag and three bytes.
+#[inline(always)]
 fn with_three(tag: u8, a: u8, b: u8, c: u8) -> Option<Op>
     ensures found { IfSome result (λ op. Instr (tag ∷ a ∷ b ∷ c ∷ []) op) }
     ensures none { IfNone result ((op : Op) → Instr (tag ∷ a ∷ b ∷ c ∷ []) op → ⊥) }
@@ -201,6 +207,7 @@ fn with_three(tag: u8, a: u8, b: u8, c: u8) -> Option<Op>
 }
 
 /// The instruction of a tag and four bytes.
+#[inline(always)]
 fn with_four(tag: u8, a: u8, b: u8, c: u8, d: u8) -> Option<Op>
     ensures found { IfSome result (λ op. Instr (tag ∷ a ∷ b ∷ c ∷ d ∷ []) op) }
     ensures none { IfNone result ((op : Op) → Instr (tag ∷ a ∷ b ∷ c ∷ d ∷ []) op → ⊥) }
@@ -241,6 +248,7 @@ fn with_four(tag: u8, a: u8, b: u8, c: u8, d: u8) -> Option<Op>
 }
 
 /// The instruction of a tag and five bytes.
+#[inline(always)]
 fn with_five(tag: u8, a: u8, b: u8, c: u8, d: u8, e: u8) -> Option<Op>
     ensures found { IfSome result (λ op. Instr (tag ∷ a ∷ b ∷ c ∷ d ∷ e ∷ []) op) }
     ensures none { IfNone result ((op : Op) → Instr (tag ∷ a ∷ b ∷ c ∷ d ∷ e ∷ []) op → ⊥) }
@@ -269,6 +277,7 @@ fn with_five(tag: u8, a: u8, b: u8, c: u8, d: u8, e: u8) -> Option<Op>
 }
 
 /// The instruction of a tag and six bytes.
+#[inline(always)]
 fn with_six(tag: u8, a: u8, b: u8, c: u8, d: u8, e: u8, f: u8) -> Option<Op>
     ensures found { IfSome result (λ op. Instr (tag ∷ a ∷ b ∷ c ∷ d ∷ e ∷ f ∷ []) op) }
     ensures none { IfNone result ((op : Op) → Instr (tag ∷ a ∷ b ∷ c ∷ d ∷ e ∷ f ∷ []) op → ⊥) }
@@ -293,6 +302,7 @@ fn with_six(tag: u8, a: u8, b: u8, c: u8, d: u8, e: u8, f: u8) -> Option<Op>
 }
 
 /// The instruction of a tag and its operand bytes, or `None` where they are none.
+#[inline(always)]
 fn instruction(tag: u8, operands: &[u8]) -> Option<Op>
     ensures found { IfSome result (λ op. Instr (tag ∷ operands.now) op) }
     ensures none { IfNone result ((op : Op) → Instr (tag ∷ operands.now) op → ⊥) }
@@ -310,6 +320,7 @@ fn instruction(tag: u8, operands: &[u8]) -> Option<Op>
 }
 
 /// The instruction at an address and its width, or `None` where none stands.
+#[inline(always)]
 pub(crate) fn read(code: &[u8], at: usize) -> Option<(Op, usize)>
     ensures found { IfSome result (λ found. StandsAt code.now at found.0 × (found.1 ≡ width_of found.0)) }
     ensures fits { IfSome result (λ found. at + found.1 ≤ length code.now) }

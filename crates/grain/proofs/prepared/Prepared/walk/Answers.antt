@@ -1,6 +1,7 @@
 use Rattle.std.proofs.Common.{map, ◌≡◌, ◌<◌, ◌++◌, ◌∷◌, [], ℕ, List, inr, Some, max, option_map, sym, ◌∙◌, ap, refl, subst, arith}
 use Rattle.std.proofs.lemmas.Grind.{common_steps}
-use Rattle.std.proofs.lemmas.List.{nil_from_length}
+use Rattle.std.specs.Option.{option_to_list}
+use Rattle.std.proofs.lemmas.List.{append-nil}
 use Rattle.std.proofs.lemmas.List.Elements.{All-contains}
 use Rattle.grain.specs.Code.{coded}
 use Rattle.grain.specs.Counts.{nothing}
@@ -10,7 +11,7 @@ use Rattle.grain.specs.Typing.{IsInChunk}
 use Rattle.grain.specs.View.{coming, view}
 use Rattle.grain.specs.declared.arrival.Arrival.{Arrival}
 use Rattle.grain.specs.declared.state.State.{State}
-use Rattle.grain.proofs.Visits.{Walking, walking_start, walking_skip, walking_visit, walking_end, measure_falls, taken_reached, taken_inside, taken_falls, taken_in_table, taken_small, popped, same_state, other_state}
+use Rattle.grain.proofs.Visits.{Walking, walking_start, walking_skip, walking_visit, walking_end, measure_falls, skip_falls, taken_reached, taken_inside, taken_falls, taken_in_table, taken_small, popped, same_state, other_state}
 use Rattle.grain.proofs.prepared.Prepared.walk.Goals as goal
 
 pub loop-arrival-init : goal.loop-arrival-init
@@ -23,17 +24,16 @@ loop-arrival-init c =
     let start : Arrival = record { at = c.entry.result; state = record { operands = 0; iterators = 0; handlers = 0 } } in
     let w = walking_start code chunk n entries c.requires.framed c.requires.holds (c.begin_chunk.ensures.long ∙ c.requires.long) f.numbered f.earlier in
     let v = subst (λ (e : ℕ). Walking code chunk n entries (record { at = e; counts = nothing } ∷ []) 0) (sym c.entry.ensures) w in
-    let one : c.push.new.self.items ≡ start ∷ [] = c.in_ok-push.ensures.items ∙ ap (λ (xs : List Arrival). xs ++ start ∷ []) c.requires.nothing in
-    subst (λ (xs : List Arrival). Walking code chunk n entries (map coming xs) 0) (sym one) v
+    subst (λ (xs : List Arrival). Walking code chunk n entries (map coming (xs ++ start ∷ [])) 0) (sym c.requires.nothing) v
 
 pub returns-then-at-end-clause-err : goal.returns-then-at-end-clause-err
 returns-then-at-end-clause-err c =
-    let w = popped _ _ _ _ _ _ _ c.in-Some.arrival c.in-Some.ensures.items c.loop-arrival.invariant in
+    let w = popped _ _ _ _ _ _ _ c.in-Some.arrival c.in-Some.ensures.taken c.loop-arrival.invariant in
     inr (inr (c.requires.framed, taken_falls _ _ _ _ _ _ _ w (let e = c.end.ensures in omega (arith, c.if-at-end.true))))
 
 pub returns-then-ne-clause-err : goal.returns-then-ne-clause-err
 returns-then-ne-clause-err c =
-    let w = popped _ _ _ _ _ _ _ c.in-Some.arrival c.in-Some.ensures.items c.loop-arrival.invariant in
+    let w = popped _ _ _ _ _ _ _ c.in-Some.arrival c.in-Some.ensures.taken c.loop-arrival.invariant in
     inr (
       c.requires.framed,
       taken_inside _ _ _ _ _ _ _ w (let e = c.end.ensures in omega (arith, c.if-at-end.false)),
@@ -48,56 +48,59 @@ returns-then-ne-clause-err c =
       },
     )
 
-pub loop-arrival-preserved-else-ne : goal.loop-arrival-preserved-else-ne
-loop-arrival-preserved-else-ne c =
-    let w = popped _ _ _ _ _ _ _ c.in-Some.arrival c.in-Some.ensures.items c.loop-arrival.invariant in
+pub loop-arrival-preserved-in-Some-seen : goal.loop-arrival-preserved-in-Some-seen
+loop-arrival-preserved-in-Some-seen c =
+    let w = popped _ _ _ _ _ _ _ c.in-Some.arrival c.in-Some.ensures.taken c.loop-arrival.invariant in
     let same = same_state c.in-Some-seen.seen c.in-Some.arrival.state c.if-ne.ensures in
-    walking_skip _ _ _ _ _ c.in-Some.arrival _ (sym c.seen.ensures ∙ (c.in-Some-seen.is ∙ ap (λ (s : State). Some s) same)) w
+    rw (append-nil c.take_next.new.work.items) (walking_skip _ _ _ _ _ c.in-Some.arrival _ (sym c.seen.ensures ∙ (c.in-Some-seen.is ∙ ap (λ (s : State). Some s) same)) w)
 
 pub visit-requires-clause-within : goal.visit-requires-clause-within
 visit-requires-clause-within c =
-    let w = popped _ _ _ _ _ _ _ c.in-Some.arrival c.in-Some.ensures.items c.loop-arrival.invariant in
+    let w = popped _ _ _ _ _ _ _ c.in-Some.arrival c.in-Some.ensures.taken c.loop-arrival.invariant in
     taken_inside _ _ _ _ _ _ _ w (let e = c.end.ensures in omega (arith, c.if-at-end.false))
 
 pub visit-requires-clause-reached : goal.visit-requires-clause-reached
 visit-requires-clause-reached c =
-    taken_reached _ _ _ _ _ _ _ (popped _ _ _ _ _ _ _ c.in-Some.arrival c.in-Some.ensures.items c.loop-arrival.invariant)
+    taken_reached _ _ _ _ _ _ _ (popped _ _ _ _ _ _ _ c.in-Some.arrival c.in-Some.ensures.taken c.loop-arrival.invariant)
 
 pub visit-requires-clause-operands : goal.visit-requires-clause-operands
 visit-requires-clause-operands c =
-    let w = popped _ _ _ _ _ _ _ c.in-Some.arrival c.in-Some.ensures.items c.loop-arrival.invariant in
+    let w = popped _ _ _ _ _ _ _ c.in-Some.arrival c.in-Some.ensures.taken c.loop-arrival.invariant in
     (taken_small _ _ _ _ _ _ _ w c.requires.framed (let e = c.end.ensures in omega (arith, c.if-at-end.false)) (sym c.seen.ensures ∙ c.in-None.is)).0
 
 pub visit-requires-clause-iterators : goal.visit-requires-clause-iterators
 visit-requires-clause-iterators c =
-    let w = popped _ _ _ _ _ _ _ c.in-Some.arrival c.in-Some.ensures.items c.loop-arrival.invariant in
+    let w = popped _ _ _ _ _ _ _ c.in-Some.arrival c.in-Some.ensures.taken c.loop-arrival.invariant in
     (taken_small _ _ _ _ _ _ _ w c.requires.framed (let e = c.end.ensures in omega (arith, c.if-at-end.false)) (sym c.seen.ensures ∙ c.in-None.is)).1
 
 pub visit-requires-clause-handlers : goal.visit-requires-clause-handlers
 visit-requires-clause-handlers c =
-    let w = popped _ _ _ _ _ _ _ c.in-Some.arrival c.in-Some.ensures.items c.loop-arrival.invariant in
+    let w = popped _ _ _ _ _ _ _ c.in-Some.arrival c.in-Some.ensures.taken c.loop-arrival.invariant in
     (taken_small _ _ _ _ _ _ _ w c.requires.framed (let e = c.end.ensures in omega (arith, c.if-at-end.false)) (sym c.seen.ensures ∙ c.in-None.is)).2
 
 pub loop-arrival-preserved : goal.loop-arrival-preserved
 loop-arrival-preserved c =
-    let w = popped _ _ _ _ _ _ _ c.in-Some.arrival c.in-Some.ensures.items c.loop-arrival.invariant in
+    let w = popped _ _ _ _ _ _ _ c.in-Some.arrival c.in-Some.ensures.taken c.loop-arrival.invariant in
     let fresh = sym c.seen.ensures ∙ c.in-None.is in
     let l : c.in-Some.arrival.at < c.args.chunk.now.end = let e = c.end.ensures in omega (arith, c.if-at-end.false) in
     let code = bytecode_of c.args.self.now in
-    let v = c.in_ok-visit-in-None.ensures.ok in
+    let v = c.in_ok-next-in-None.ensures.ok in
     let h = walking_visit _ _ _ _ _ c.in-Some.arrival _ v.0 c.requires.framed l fresh v.1 (λ x k. All-contains (IsInChunk (coded code) c.args.chunk.now) (targets code.switches v.0) x v.3 k) w in
     let m : c.max-deepest.result ≡ max c.loop-arrival.deepest c.in-Some.arrival.state.operands = grind (arith, common_steps) in
     rw (v.2, m, c.note.ensures.entries, c.note.ensures.chunk) h
 
 pub loop-arrival-smaller : goal.loop-arrival-smaller
 loop-arrival-smaller c =
-    let w = popped _ _ _ _ _ _ _ c.in-Some.arrival c.in-Some.ensures.items c.loop-arrival.invariant in
+    let w = popped _ _ _ _ _ _ _ c.in-Some.arrival c.in-Some.ensures.taken c.loop-arrival.invariant in
     let l : c.in-Some.arrival.at < c.args.chunk.now.end = let e = c.end.ensures in omega (arith, c.if-at-end.false) in
-    let v = c.in_ok-visit-in-None.ensures.ok in
-    rw (c.note.ensures.entries, c.note.ensures.chunk) (measure_falls (bytecode_of c.args.self.now) _ _ _ c.in-Some.arrival _ _ _ v.0 l (taken_in_table _ _ _ _ _ _ _ w c.requires.framed l) (sym c.seen.ensures ∙ c.in-None.is) v.2 c.in-Some.ensures.items)
+    let v = c.in_ok-next-in-None.ensures.ok in
+    rw (c.note.ensures.entries, c.note.ensures.chunk) (measure_falls (bytecode_of c.args.self.now) _ _ _ c.in-Some.arrival _ _ _ v.0 l (taken_in_table _ _ _ _ _ _ _ w c.requires.framed l) (sym c.seen.ensures ∙ c.in-None.is) v.2 c.in-Some.ensures.taken)
+
+pub loop-arrival-smaller-in-Some-seen : goal.loop-arrival-smaller-in-Some-seen
+loop-arrival-smaller-in-Some-seen c = skip_falls _ _ c.take_next.new.work.items c.in-Some.arrival c.in-Some.ensures.taken
 
 pub returns-clause-ok : goal.returns-clause-ok
 returns-clause-ok c =
-    let e : c.loop-arrival.work.items ≡ [] = nil_from_length c.loop-arrival.work.items (let k = c.in_default.ensures.cases.0 in omega arith) in
     let code = bytecode_of c.args.self.now in
+    let e : c.loop-arrival.work.items ++ option_to_list c.loop-arrival.next ≡ [] = c.in_default.ensures.taken ∙ (append-nil c.take_next.new.work.items ∙ c.in_default.ensures.empty) in
     walking_end _ _ c.loop-arrival.table.chunk c.loop-arrival.table.entries.items _ (subst (λ (xs : List Arrival). Walking code c.args.chunk.now c.loop-arrival.table.chunk c.loop-arrival.table.entries.items (map coming xs) c.loop-arrival.deepest) e c.loop-arrival.invariant)

@@ -5,13 +5,12 @@ use Rattle.grain.specs.Edges.{IsMarkedIn}
 use Rattle.grain.specs.Prepared.{bytecode_of}
 use Rattle.grain.specs.Targets.{table_targets}
 use Rattle.grain.specs.View.{coming, view}
-use Rattle.grain.proofs.Pushing.{pushed_parts, marked_parts}
-use Rattle.grain.proofs.prepared.Prepared.push_edges.Goals as goal
+use Rattle.grain.proofs.Pushing.{pushed_targets, marked_parts}
+use Rattle.grain.proofs.prepared.Prepared.push_targets.Goals as goal
 
 pub returns-clause-pushed : goal.returns-clause-pushed
 returns-clause-pushed c =
-    let code = bytecode_of c.args.self.now in
-    pushed_parts code c.args.op.now c.args.at (view c.args.state) (view c.jumping-after.result) c.own_target.result c.switch_named.result _ (map coming c.push_own.new.work.items) (map coming c.push_table.new.work.items) _ c.own_target.ensures c.switch_named.ensures (c.jumping-after.ensures code.setting c.requires.known) c.in_ok-push_own.ensures.pushed c.in_ok-push_table.ensures.pushed c.in_ok-push_next.ensures.pushed
+    pushed_targets (bytecode_of c.args.self.now).switches c.args.op.now (view c.args.after) c.own_target.result c.switch_named.result _ (map coming c.push_own.new.work.items) (map coming c.push_table.new.work.items) c.own_target.ensures c.switch_named.ensures c.in_ok-push_own.ensures.pushed c.in_ok-push_table.ensures.pushed
 
 pub returns-clause-marked : goal.returns-clause-marked
 returns-clause-marked c =
