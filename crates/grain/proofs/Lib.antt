@@ -7,7 +7,6 @@ pub mod Indexing
 pub mod Law
 pub mod Marks
 pub mod Most
-pub mod Naming
 pub mod Noted
 pub mod Once
 pub mod Parts
@@ -17,3 +16,4 @@ pub mod Pushing
 pub mod Splits
 pub mod Visits
 pub mod Whole
+pub mod Ways

@@ -1,5 +1,5 @@
 -- Pushing one state to many targets.
-use Rattle.std.proofs.Common.{◌≡◌, ℕ, ◌+◌, ◌<◌, inl, inr, Bool, true, cond, Option, List, [], ◌∷◌, ◌++◌, length, get_or, drop, drop-cons, add-one, map, sym, ap, subst, ◌∙◌, append_assoc}
+use Rattle.std.proofs.Common.{◌≡◌, ℕ, ◌+◌, ◌<◌, inl, inr, Bool, true, false, cond, Option, List, [], ◌∷◌, ◌++◌, length, get_or, drop, drop-cons, add-one, map, sym, ap, subst, ◌∙◌, append_assoc}
 use Rattle.std.specs.List.{All, Contains}
 use Rattle.std.specs.Option.{option_to_list}
 use Rattle.std.proofs.lemmas.List.{map-append}
@@ -13,11 +13,9 @@ use Rattle.grain.specs.Counts.{Counts}
 use Rattle.grain.specs.Edges.{RefusesTargetOf, all_to, arrivals, onwards}
 use Rattle.grain.specs.Effects.{targets, goes_on, jumping, going_on}
 use Rattle.grain.specs.Pushed.{range_targets}
-use Rattle.grain.specs.Targets.{own_target, switch_named, table_targets}
 use Rattle.grain.specs.View.{Coming, coming, view}
 use Rattle.grain.specs.declared.arrival.Arrival.{Arrival}
 use Rattle.grain.specs.declared.error.VerifyError.{VerifyError}
-use Rattle.grain.proofs.Naming.{targets_named}
 use Rattle.grain.proofs.Splits.{in_tail}
 
 -- one target pushed, of those that are left
@@ -55,27 +53,12 @@ pub refused_of : (marks : List Bool) (chunk : Span) (at : ℕ) (xs ys : List ℕ
 refused_of marks chunk at xs ys e f (inl m) = inl m
 refused_of marks chunk at xs ys e f (inr r) = inr (r.0, f r.0 r.1, r.2)
 
--- what is pushed to a target of its own, and to those of a switch that is named, is pushed to all targets
-pub pushed_targets : (tables : List (List ℕ)) (op : Op) (after : Counts) (own named : Option ℕ) (none one two : List Coming) → own ≡ own_target op → named ≡ switch_named op → one ≡ none ++ all_to after (option_to_list own) → two ≡ one ++ all_to after (table_targets tables named) → two ≡ none ++ all_to after (targets tables op)
-pushed_targets tables op after own named none one two eo en e f =
-    let xs = option_to_list (own_target op) in
-    let ys = table_targets tables (switch_named op) in
-    let first : one ≡ none ++ all_to after xs = e ∙ ap (λ (o : Option ℕ). none ++ all_to after (option_to_list o)) eo in
-    let second : two ≡ one ++ all_to after ys = f ∙ ap (λ (o : Option ℕ). one ++ all_to after (table_targets tables o)) en in
-    let both : two ≡ none ++ all_to after (xs ++ ys) = second ∙ (ap (λ (zs : List Coming). zs ++ all_to after ys) first ∙ (append_assoc none (all_to after xs) (all_to after ys) ∙ ap (λ (zs : List Coming). none ++ zs) (sym (map-append (λ (t : ℕ). record { at = t; counts = after }) xs ys)))) in
-    both ∙ ap (λ (ts : List ℕ). none ++ all_to after ts) (sym (targets_named tables op))
-
 -- what is pushed, and what comes next, are all arrivals
-pub pushed_all : (code : Bytecode) (op : Op) (at : ℕ) (c after : Counts) (old new next : List Arrival) → after ≡ jumping code.setting op c → map coming new ≡ map coming old ++ all_to after (targets code.switches op) → map coming next ≡ onwards code op at c → map coming (new ++ next) ≡ map coming old ++ arrivals code op at c
-pushed_all code op at c after old new next ea e f =
-    let ts = targets code.switches op in
+pub pushed_all : (code : Bytecode) (op : Op) (at : ℕ) (c after : Counts) (ts : List ℕ) (old new next : List Arrival) → after ≡ jumping code.setting op c → ts ≡ targets code.switches op → map coming new ≡ map coming old ++ all_to after ts → map coming next ≡ onwards code op at c → map coming (new ++ next) ≡ map coming old ++ arrivals code op at c
+pushed_all code op at c after ts old new next ea et e f =
     let j = jumping code.setting op c in
-    map-append coming new next ∙ (ap (λ (xs : List Coming). xs ++ map coming next) (e ∙ ap (λ (a : Counts). map coming old ++ all_to a ts) ea) ∙ (ap (λ (xs : List Coming). (map coming old ++ all_to j ts) ++ xs) f ∙ append_assoc (map coming old) (all_to j ts) (onwards code op at c)))
-
--- what holds of the target of its own and of those of a switch that is named holds of all targets
-pub marked_parts : (P : ℕ → Type 0) (tables : List (List ℕ)) (op : Op) (own named : Option ℕ) → own ≡ own_target op → named ≡ switch_named op → All P (option_to_list own) → All P (table_targets tables named) → All P (targets tables op)
-marked_parts P tables op own named eo en a b =
-    subst (All P) (sym (targets_named tables op)) (All-append P (option_to_list (own_target op)) (table_targets tables (switch_named op)) (subst (λ (o : Option ℕ). All P (option_to_list o)) eo a) (subst (λ (o : Option ℕ). All P (table_targets tables o)) en b))
+    let pushed : map coming new ≡ map coming old ++ all_to j (targets code.switches op) = e ∙ (ap (λ (a : Counts). map coming old ++ all_to a ts) ea ∙ ap (λ (xs : List ℕ). map coming old ++ all_to j xs) et) in
+    map-append coming new next ∙ (ap (λ (xs : List Coming). xs ++ map coming next) pushed ∙ (ap (λ (xs : List Coming). (map coming old ++ all_to j (targets code.switches op)) ++ xs) f ∙ append_assoc (map coming old) (all_to j (targets code.switches op)) (onwards code op at c)))
 
 -- what comes next where an instruction goes on
 pub comes_next : (code : Bytecode) (op : Op) (at : ℕ) (c : Counts) (next : Arrival) → goes_on op ≡ true → next.at ≡ at + width_of op → view next.state ≡ going_on code.setting op c → map coming (next ∷ []) ≡ onwards code op at c
@@ -83,3 +66,9 @@ comes_next code op at c next goes e f =
     let one : Coming = record { at = at + width_of op; counts = going_on code.setting op c } in
     let same : coming next ≡ one = λ i. record { at = e i; counts = f i } in
     ap (λ (x : Coming). x ∷ []) same ∙ ap (λ (b : Bool). cond b (one ∷ []) []) (sym goes)
+
+-- nothing does where it doesn't
+pub comes_not : (code : Bytecode) (op : Op) (at : ℕ) (c : Counts) → goes_on op ≡ false → [] ≡ onwards code op at c
+comes_not code op at c goes =
+    let one : Coming = record { at = at + width_of op; counts = going_on code.setting op c } in
+    ap (λ (b : Bool). cond b (one ∷ []) []) (sym goes)

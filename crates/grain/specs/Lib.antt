@@ -16,10 +16,10 @@ pub mod Prepared
 pub mod Pushed
 pub mod Seen
 pub mod Setting
-pub mod Targets
 pub mod TestedBits
 pub mod Typing
 pub mod View
+pub mod Ways
 pub use Rattle.grain_base.proofs.KnownCaps
 pub use Rattle.grain_base.specs.AddressTable
 pub use Rattle.grain_base.specs.CapBits

@@ -2,14 +2,14 @@
 ghost use Rattle.std.specs.Prelude.{◌≡◌, ◌↔◌, IfOk, IsTrue, get_or, map};
 ghost use Rattle.grain_base.specs.CapBits.{missing};
 ghost use Rattle.grain_base.specs.declared.caps.Caps.{Caps};
-ghost use Rattle.grain.specs.Capabilities.{Allows, caps_of, chain_caps, name_caps, root_caps, step_caps};
+ghost use Rattle.grain.specs.Capabilities.{Allows, chain_caps, module_of, name_caps, root_caps, step_caps};
 ghost use Rattle.grain.specs.PoolNeeds.{AreNeeds, numbers};
 ghost use Rattle.grain.specs.Setting.{Setting, setting};
 
 use crate::pools::Pools;
 use grain_base::{Caps, Flags};
 use grain_bytecode::names::split_qualified;
-use grain_bytecode::{Chain, Op, Receiver, Root, Step, Strings};
+use grain_bytecode::{Chain, Root, Step, Strings};
 use std::alloc::{AllocError, Global};
 
 /// What is needed and isn't there.
@@ -47,33 +47,20 @@ impl PoolCaps {
         })
     }
 
-    /// What an operation needs.
+    /// What naming the variable or the function of an index needs.
     #[inline(always)]
-    pub(crate) fn caps_of(&self, op: &Op) -> Caps
-        ensures { (s : Setting) → AreNeeds s self.now → result.0 ≡ caps_of s op.now }
+    pub(crate) fn of_name(&self, index: u32) -> Caps
+        ensures { (s : Setting) → AreNeeds s self.now → result.0 ≡ module_of s index }
     {
-        match op {
-            Op::Call { name, .. } | Op::LoadNamed(name) => caps_at(&self.names, *name),
-            Op::CallRef {
-                name,
-                receiver: Receiver::This,
-                ..
-            } => Caps::THIS.union(caps_at(&self.names, *name)),
-            Op::CallRef { name, .. } => caps_at(&self.names, *name),
-            Op::Chain(chain) => caps_at(&self.chains, *chain),
-            Op::MakeArray(_) => Caps::ARRAY,
-            Op::MakeMap(_) => Caps::MAP,
-            Op::MakeFnPtr | Op::MakeClosure(_) | Op::CallFnPtr { .. } => Caps::FN_PTR,
-            Op::Curry(_) => Caps::FN_PTR.union(Caps::CURRYING),
-            Op::Share(_) | Op::ShareNamed(_) | Op::IsShared => Caps::SHARING,
-            Op::LoadThis | Op::LoadThisShared | Op::RequireThis | Op::AssignThis { .. } => {
-                Caps::THIS
-            }
-            Op::CustomSyntax(_) => Caps::CUSTOM_SYNTAX,
-            Op::ExportLocal { .. } | Op::ExportNamed { .. } => Caps::EXPORT,
-            Op::Import { .. } => Caps::IMPORT,
-            _ => Caps::empty(),
-        }
+        caps_at(&self.names, index)
+    }
+
+    /// What the chain of an index needs.
+    #[inline(always)]
+    pub(crate) fn of_chain(&self, index: u32) -> Caps
+        ensures { (s : Setting) → AreNeeds s self.now → result.0 ≡ get_or (map chain_caps s.chains) index 0 }
+    {
+        caps_at(&self.chains, index)
     }
 }
 

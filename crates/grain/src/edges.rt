@@ -1,12 +1,10 @@
 //! Pushing where an instruction may lead.
-ghost use Rattle.std.specs.Prelude.{◌≡◌, ◌≤◌, ◌++◌, ◌∷◌, [], length, map, OnOk, IfErr};
+ghost use Rattle.std.specs.Prelude.{◌≡◌, ◌≤◌, ◌++◌, ◌∷◌, [], get_or, length, map, OnOk, IfErr};
 ghost use Rattle.std.specs.List.{All};
-ghost use Rattle.std.specs.Option.{option_to_list};
 ghost use Rattle.grain_bytecode.specs.Dispatch.{listed, table};
 ghost use Rattle.grain.specs.Code.{switch_targets};
 ghost use Rattle.grain.specs.Edges.{IsMarkedIn, RefusesTarget, RefusesTargetOf, all_to};
 ghost use Rattle.grain.specs.Pushed.{case_targets, range_targets};
-ghost use Rattle.grain.specs.Targets.{table_targets};
 ghost use Rattle.grain.specs.View.{coming, view};
 
 use crate::arrival::Arrival;
@@ -17,6 +15,7 @@ use grain_bytecode::{Chunk, Switch, SwitchRange};
 use std::collections::HashMap;
 
 /// Whether a target is a start of the chunk.
+#[inline(always)]
 pub(crate) fn check_target(
     starts: &[bool],
     chunk: &Chunk,
@@ -38,7 +37,8 @@ pub(crate) fn check_target(
 }
 
 /// Pushes the state to one target.
-fn push_target(
+#[inline(always)]
+pub(crate) fn push_target(
     starts: &[bool],
     chunk: &Chunk,
     at: u32,
@@ -120,7 +120,7 @@ fn push_all_cases(
 }
 
 /// Pushes the state to each target of the switch.
-pub(crate) fn push_switch(
+fn push_switch(
     starts: &[bool],
     chunk: &Chunk,
     at: u32,
@@ -139,45 +139,23 @@ pub(crate) fn push_switch(
     Ok(())
 }
 
-/// Pushes the state to the target, if there is one.
-pub(crate) fn push_own(
-    starts: &[bool],
-    chunk: &Chunk,
-    at: u32,
-    target: Option<u32>,
-    after: State,
-    work: &mut Vec<Arrival>,
-) -> Result<(), VerifyError>
-    requires { chunk.now.end ≤ length starts.now }
-    ensures pushed { OnOk result (map coming work.new.items ≡ map coming work.old.items ++ all_to (view after) (option_to_list target)) }
-    ensures marked { OnOk result (All (IsMarkedIn starts.now chunk.now) (option_to_list target)) }
-    ensures err { IfErr result (λ e. RefusesTargetOf starts.now chunk.now at (option_to_list target) e) }
-{
-    match target {
-        Some(target) => push_target(starts, chunk, at, target, after, work),
-        None => Ok(()),
-    }
-}
-
-/// Pushes the state to each target of the switch that is named, if one is.
+/// Pushes the state to each target of the switch of an index, if there is one.
 pub(crate) fn push_table(
     starts: &[bool],
     chunk: &Chunk,
     at: u32,
     switches: &[Switch],
-    named: Option<u32>,
+    index: u32,
     after: State,
     work: &mut Vec<Arrival>,
 ) -> Result<(), VerifyError>
     requires { chunk.now.end ≤ length starts.now }
-    ensures pushed { OnOk result (map coming work.new.items ≡ map coming work.old.items ++ all_to (view after) (table_targets (map switch_targets switches.now) named)) }
-    ensures marked { OnOk result (All (IsMarkedIn starts.now chunk.now) (table_targets (map switch_targets switches.now) named)) }
-    ensures err { IfErr result (λ e. RefusesTargetOf starts.now chunk.now at (table_targets (map switch_targets switches.now) named) e) }
+    ensures pushed { OnOk result (map coming work.new.items ≡ map coming work.old.items ++ all_to (view after) (get_or (map switch_targets switches.now) index [])) }
+    ensures marked { OnOk result (All (IsMarkedIn starts.now chunk.now) (get_or (map switch_targets switches.now) index [])) }
+    ensures err { IfErr result (λ e. RefusesTargetOf starts.now chunk.now at (get_or (map switch_targets switches.now) index []) e) }
 {
-    match named {
-        Some(index) if (index as usize) < switches.len() => {
-            push_switch(starts, chunk, at, &switches[index as usize], after, work)
-        }
-        _ => Ok(()),
+    match switches.get(index as usize) {
+        Some(switch) => push_switch(starts, chunk, at, switch, after, work),
+        None => Ok(()),
     }
 }

@@ -1,11 +1,8 @@
 //! What every path to an instruction has to agree on.
-ghost use Rattle.std.specs.Prelude.{◌≡◌, ◌+◌, ◌-◌, ◌<◌, ◌≤◌, ◌^◌};
-ghost use Rattle.grain.specs.Effects.{effect, going_on, handlers_needed, iterators_needed, jumping};
-ghost use Rattle.grain.specs.Setting.{Setting};
-ghost use Rattle.grain.specs.View.{view};
+ghost use Rattle.std.specs.Prelude.{◌≡◌, ◌+◌, ◌-◌, ◌<◌, ◌≤◌, ◌^◌, IfErr, IfOk};
 
 use crate::effects::Effect;
-use grain_bytecode::Op;
+use crate::error::VerifyError;
 
 /// How many operands and iterators there are, and how many handlers are armed.
 #[derive(Clone, Copy, PartialEq, Eq, Debug)]
@@ -16,74 +13,52 @@ pub(crate) struct State {
 }
 
 impl State {
-    /// The state on the edges to the targets of an operation that does this to the operands.
-    #[inline]
-    pub(crate) fn jumping(self, op: &Op, change: Effect) -> State
-        requires operands { change.needs ≤ self.operands }
-        requires iterators { iterators_needed op.now ≤ self.iterators }
-        requires operands_room { self.operands + 1 < 2 ^ 32 }
-        requires handlers_room { self.handlers + 1 < 2 ^ 32 }
-        ensures { (s : Setting) → (change.needs, change.takes, change.gives) ≡ effect s.chains op.now → view result ≡ jumping s op.now (view self) }
-    {
-        match op {
-            Op::IterNext { .. } => State {
-                iterators: self.iterators - 1,
-                ..self
-            },
-            Op::PushHandler { .. } => State {
-                handlers: self.handlers + 1,
-                ..self
-            },
-            _ => self.with(change),
-        }
-    }
-
-    /// The state on the edge to what follows an operation that does this to the operands.
-    #[inline]
-    pub(crate) fn going_on(self, op: &Op, change: Effect) -> State
-        requires operands { change.needs ≤ self.operands }
-        requires iterators { iterators_needed op.now ≤ self.iterators }
-        requires handlers { handlers_needed op.now ≤ self.handlers }
-        requires operands_room { self.operands + 1 < 2 ^ 32 }
-        requires iterators_room { self.iterators + 1 < 2 ^ 32 }
-        requires handlers_room { self.handlers + 1 < 2 ^ 32 }
-        ensures { (s : Setting) → (change.needs, change.takes, change.gives) ≡ effect s.chains op.now → view result ≡ going_on s op.now (view self) }
-    {
-        match op {
-            Op::IterInit => State {
-                iterators: self.iterators + 1,
-                ..self.with(change)
-            },
-            Op::IterDrop => State {
-                iterators: self.iterators - 1,
-                ..self
-            },
-            Op::IterNext { .. } => State {
-                operands: self.operands + 1,
-                ..self
-            },
-            Op::PushHandler { .. } => State {
-                handlers: self.handlers + 1,
-                ..self
-            },
-            Op::PopHandler => State {
-                handlers: self.handlers - 1,
-                ..self
-            },
-            _ => self.with(change),
-        }
-    }
-
-    // The operands changed, and all else as it is.
-    #[inline]
-    fn with(self, change: Effect) -> State
-        requires needed { change.needs ≤ self.operands }
+    /// The state with what an operation leaves of the operands.
+    #[inline(always)]
+    pub(crate) fn with(self, effect: Effect) -> State
+        requires needed { effect.needs ≤ self.operands }
         requires room { self.operands + 1 < 2 ^ 32 }
-        ensures { result ≡ record self { operands = self.operands - change.takes + change.gives } }
+        ensures { result ≡ record self { operands = self.operands - effect.takes + effect.gives } }
     {
         State {
-            operands: self.operands - change.takes + change.gives,
+            operands: self.operands - effect.takes + effect.gives,
             ..self
         }
+    }
+
+    /// The state with one iterator fewer.
+    ///
+    /// # Errors
+    /// `IteratorUnderflow` at the address where there is none.
+    #[inline(always)]
+    pub(crate) fn without_iterator(self, at: u32) -> Result<State, VerifyError>
+        ensures ok { IfOk result (λ s. (0 < self.iterators) × (s ≡ record self { iterators = self.iterators - 1 })) }
+        ensures err { IfErr result (λ e. (e ≡ VerifyError.IteratorUnderflow at) × (self.iterators ≡ 0)) }
+    {
+        if self.iterators == 0 {
+            return Err(VerifyError::IteratorUnderflow { at: at as usize });
+        }
+        Ok(State {
+            iterators: self.iterators - 1,
+            ..self
+        })
+    }
+
+    /// The state with one handler fewer.
+    ///
+    /// # Errors
+    /// `HandlerUnderflow` at the address where none is armed.
+    #[inline(always)]
+    pub(crate) fn without_handler(self, at: u32) -> Result<State, VerifyError>
+        ensures ok { IfOk result (λ s. (0 < self.handlers) × (s ≡ record self { handlers = self.handlers - 1 })) }
+        ensures err { IfErr result (λ e. (e ≡ VerifyError.HandlerUnderflow at) × (self.handlers ≡ 0)) }
+    {
+        if self.handlers == 0 {
+            return Err(VerifyError::HandlerUnderflow { at: at as usize });
+        }
+        Ok(State {
+            handlers: self.handlers - 1,
+            ..self
+        })
     }
 }

@@ -1,26 +1,24 @@
 //! The walk over one chunk.
-ghost use Rattle.std.specs.Prelude.{◌≡◌, ◌≢◌, ℕ, ◌+◌, ◌≤◌, ◌<◌, ◌^◌, ◌++◌, ◌⊎◌, [], None, length, map, IfErr, IfNone, IfOk, MatchResult, OnOk};
-ghost use Rattle.std.specs.Option.{option_to_list};
+ghost use Rattle.std.specs.Prelude.{◌≡◌, ◌≢◌, ◌+◌, ◌-◌, ◌≤◌, ◌<◌, ◌^◌, ◌++◌, ◌⊎◌, [], None, Some, cond, length, map, IfErr, IfNone, IfOk, OnOk};
+ghost use Rattle.std.specs.Option.{option_map, option_to_list};
 ghost use Rattle.std.specs.List.{All};
-ghost use Rattle.grain_bytecode.specs.Table.{width_of};
 ghost use Rattle.grain_bytecode.specs.declared.op.Op.{Op};
 ghost use Rattle.grain.specs.Accepted.{ChunkPasses, IsFramed};
 ghost use Rattle.grain.specs.Capabilities.{Allows, caps_of};
 ghost use Rattle.grain.specs.Code.{Bytecode, coded};
-ghost use Rattle.grain.specs.Edges.{IsMarkedIn, RefusesState, RefusesTargetOf, all_to, arrivals, onwards};
-ghost use Rattle.grain.specs.Effects.{Meets, effect, handlers_needed, iterators_needed, targets};
+ghost use Rattle.grain.specs.Edges.{IsMarkedIn, RefusesState, RefusesTargetOf, all_to, arrivals};
+ghost use Rattle.grain.specs.Effects.{needs, targets};
 ghost use Rattle.grain.specs.Fault.{ChunkFault};
 ghost use Rattle.grain.specs.Prepared.{IsReady, bytecode_of};
 ghost use Rattle.grain.specs.Seen.{IsValid};
 ghost use Rattle.grain.specs.Typing.{HasTyping, IsDeepest, IsInChunk, Passes, Reached};
 ghost use Rattle.grain.specs.View.{coming, view};
+ghost use Rattle.grain.specs.Ways.{IsMetBy, IsShort, goes_on_by, going_on_by, jumping_by, targets_by};
 
 use crate::arrival::Arrival;
 use crate::capabilities::lacking;
-use crate::edges::{push_own, push_table};
-use crate::effects::{
-    Effect, goes_on, handlers_needed, iterators_needed, own_target, switch_named,
-};
+use crate::edges::{push_table, push_target};
+use crate::effects::{Effect, Way};
 use crate::error::VerifyError;
 use crate::prepared::Prepared;
 use crate::state::State;
@@ -28,27 +26,8 @@ use crate::table::Table;
 use grain_base::Flags;
 use grain_bytecode::{Chunk, Op, decode, width};
 
-/// Where the instruction goes on, if it does, with what follows it at `next`.
-fn onward(op: &Op, next: u32, state: State, change: Effect) -> Option<Arrival>
-    requires operands { change.needs ≤ state.operands }
-    requires iterators { iterators_needed op.now ≤ state.iterators }
-    requires handlers { handlers_needed op.now ≤ state.handlers }
-    requires operands_room { state.operands + 1 < 2 ^ 32 }
-    requires iterators_room { state.iterators + 1 < 2 ^ 32 }
-    requires handlers_room { state.handlers + 1 < 2 ^ 32 }
-    ensures { (code : Bytecode) (at : ℕ) → (change.needs, change.takes, change.gives) ≡ effect code.setting.chains op.now → next ≡ at + width_of op.now
-        → map coming (option_to_list result) ≡ onwards code op.now at (view state) }
-{
-    if !goes_on(op) {
-        return None;
-    }
-    Some(Arrival {
-        at: next,
-        state: state.going_on(op, change),
-    })
-}
-
 /// The arrival that is next, or else the last of the list.
+#[inline(always)]
 fn take_next(next: Option<Arrival>, work: &mut Vec<Arrival>) -> Option<Arrival>
     ensures taken { work.old.items ++ option_to_list next ≡ work.new.items ++ option_to_list result }
     ensures empty { IfNone result (work.new.items ≡ []) }
@@ -60,78 +39,102 @@ fn take_next(next: Option<Arrival>, work: &mut Vec<Arrival>) -> Option<Arrival>
 }
 
 impl Prepared<'_> {
-    /// Whether the host has what the instruction needs.
-    fn check_caps(&self, op: &Op, at: u32, state: State) -> Result<(), VerifyError>
-        requires { IsReady self.now }
-        ensures { MatchResult result
-            (λ _. Allows self.now.caps.0 (caps_of (bytecode_of self.now).setting op.now))
-            (λ e. RefusesState (bytecode_of self.now) op.now at (view state) e) }
-    {
-        let lacking = lacking(self.caps, self.needed.caps_of(op));
-        if lacking.is_empty() {
-            Ok(())
-        } else {
-            Err(VerifyError::MissingCaps {
-                artifact: self.caps,
-                missing: lacking,
-                at: at as usize,
-            })
-        }
-    }
-
-    /// Whether the stacks have what the instruction needs, the capabilities being there.
-    fn check_stacks(
-        &self,
-        op: &Op,
-        change: Effect,
-        at: u32,
-        state: State,
-    ) -> Result<(), VerifyError>
-        requires known { (change.needs, change.takes, change.gives) ≡ effect self.now.pools.now.chains.now op.now }
-        requires allowed { Allows self.now.caps.0 (caps_of (bytecode_of self.now).setting op.now) }
-        ensures { MatchResult result
-            (λ _. Meets (bytecode_of self.now).setting op.now (view state))
-            (λ e. RefusesState (bytecode_of self.now) op.now at (view state) e) }
+    /// Whether the host and the operand stack have what the instruction needs.
+    #[inline(always)]
+    fn check_needs(&self, effect: Effect, at: u32, state: State) -> Result<(), VerifyError>
+        ensures allowed { OnOk result (Allows self.now.caps.0 effect.caps.0) }
+        ensures there { OnOk result (effect.needs ≤ state.operands) }
+        ensures err { (op : Op) → effect.caps.0 ≡ caps_of (bytecode_of self.now).setting op → effect.needs ≡ needs (bytecode_of self.now).setting op
+            → IfErr result (λ e. RefusesState (bytecode_of self.now) op at (view state) e) }
     {
         let at = at as usize;
-        if state.operands < change.needs {
+        let lacking = lacking(self.caps, effect.caps);
+        if !lacking.is_empty() {
+            return Err(VerifyError::MissingCaps {
+                artifact: self.caps,
+                missing: lacking,
+                at,
+            });
+        }
+        if state.operands < effect.needs {
             return Err(VerifyError::Underflow {
                 at,
-                need: change.needs as usize,
+                need: effect.needs as usize,
                 have: state.operands as usize,
             });
         }
-        if state.iterators < iterators_needed(op) {
-            return Err(VerifyError::IteratorUnderflow { at });
-        }
-        if state.handlers < handlers_needed(op) {
-            return Err(VerifyError::HandlerUnderflow { at });
-        }
         Ok(())
     }
 
-    /// Pushes the targets of the instruction.
-    fn push_targets(
+    /// Pushes the targets of an instruction of which capabilities and operands are there, and answers the state with which
+    /// it goes on to what follows it, if it does.
+    #[inline(always)]
+    fn follow(
         &self,
         chunk: &Chunk,
-        op: &Op,
+        effect: Effect,
         at: u32,
-        after: State,
+        state: State,
         work: &mut Vec<Arrival>,
-    ) -> Result<(), VerifyError>
+    ) -> Result<Option<State>, VerifyError>
         requires long { chunk.now.end ≤ length self.now.starts.items }
-        ensures pushed { OnOk result (map coming work.new.items ≡ map coming work.old.items ++ all_to (view after) (targets (bytecode_of self.now).switches op.now)) }
-        ensures marked { OnOk result (All (IsMarkedIn self.now.starts.items chunk.now) (targets (bytecode_of self.now).switches op.now)) }
-        ensures err { IfErr result (λ e. RefusesTargetOf self.now.starts.items chunk.now at (targets (bytecode_of self.now).switches op.now) e) }
+        requires operands { effect.needs ≤ state.operands }
+        requires operands_room { state.operands + 1 < 2 ^ 32 }
+        requires iterators_room { state.iterators + 1 < 2 ^ 32 }
+        requires handlers_room { state.handlers + 1 < 2 ^ 32 }
+        ensures met { OnOk result (IsMetBy effect.way (view state)) }
+        ensures pushed { OnOk result (map coming work.new.items ≡ map coming work.old.items
+            ++ all_to (jumping_by effect.way (state.operands - effect.takes + effect.gives) (view state)) (targets_by (bytecode_of self.now).switches effect.way)) }
+        ensures marked { OnOk result (All (IsMarkedIn self.now.starts.items chunk.now) (targets_by (bytecode_of self.now).switches effect.way)) }
+        ensures onward { IfOk result (λ after. option_map view after
+            ≡ cond (goes_on_by effect.way) (Some (going_on_by effect.way (state.operands - effect.takes + effect.gives) (view state))) None) }
+        ensures err { IfErr result (λ e. IsShort effect.way at (view state) e
+            ⊎ (IsMetBy effect.way (view state) × RefusesTargetOf self.now.starts.items chunk.now at (targets_by (bytecode_of self.now).switches effect.way) e)) }
     {
         let starts = &self.starts;
-        let switches = self.pools.switches;
-        push_own(starts, chunk, at, own_target(op), after, work)?;
-        push_table(starts, chunk, at, switches, switch_named(op), after, work)?;
-        Ok(())
+        let after = state.with(effect);
+        match effect.way {
+            Way::Onward => Ok(Some(after)),
+            Way::Ends => Ok(None),
+            Way::Jumps(target) => {
+                push_target(starts, chunk, at, target, after, work)?;
+                Ok(None)
+            }
+            Way::Branches(target) => {
+                push_target(starts, chunk, at, target, after, work)?;
+                Ok(Some(after))
+            }
+            Way::Switches(index) => {
+                push_table(starts, chunk, at, self.pools.switches, index, after, work)?;
+                Ok(None)
+            }
+            Way::IterInit => Ok(Some(State {
+                iterators: state.iterators + 1,
+                ..after
+            })),
+            Way::IterNext(exit) => {
+                let ended = state.without_iterator(at)?;
+                push_target(starts, chunk, at, exit, ended, work)?;
+                Ok(Some(State {
+                    operands: state.operands + 1,
+                    ..state
+                }))
+            }
+            Way::IterDrop => Ok(Some(state.without_iterator(at)?)),
+            Way::PushHandler(target) => {
+                let armed = State {
+                    handlers: state.handlers + 1,
+                    ..state
+                };
+                push_target(starts, chunk, at, target, armed, work)?;
+                Ok(Some(armed))
+            }
+            Way::PopHandler => Ok(Some(state.without_handler(at)?)),
+        }
     }
 
     /// Looks at the instruction that a state meets, pushes its targets, and answers where it goes on, if it does.
+    #[inline(always)]
     fn visit(
         &self,
         chunk: &Chunk,
@@ -158,11 +161,16 @@ impl Prepared<'_> {
         let Some(op) = decode(self.code, at as usize) else {
             unreachable!();
         };
-        self.check_caps(&op, at, state)?;
-        let change = Effect::of(&op, self.pools.chains);
-        self.check_stacks(&op, change, at, state)?;
-        self.push_targets(chunk, &op, at, state.jumping(&op, change), work)?;
-        Ok(onward(&op, at + width as u32, state, change))
+        let effect = Effect::of(&op, self.pools.chains, &self.needed);
+        self.check_needs(effect, at, state)?;
+        let onward = self.follow(chunk, effect, at, state, work)?;
+        match onward {
+            Some(after) => Ok(Some(Arrival {
+                at: at + width as u32,
+                state: after,
+            })),
+            None => Ok(None),
+        }
     }
 
     /// Walks from the chunk's entry, and answers the greatest operand count that it meets.
