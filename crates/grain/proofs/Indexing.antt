@@ -1,5 +1,5 @@
 -- Code whose indices are in bounds: one instruction more and its tag, and that capabilities don't matter to it.
-use Rattle.std.proofs.Common.{◌≡◌, ℕ, suc, ◌+◌, ◌<◌, ◌≤◌, List, [], ◌∷◌, ◌++◌, length, take, drop, get_or, refl, sym, ap, subst, ◌∙◌, inl, inr, add-one, drop-cons}
+use Rattle.std.proofs.Common.{◌≡◌, ℕ, suc, ◌+◌, ◌<◌, ◌≤◌, List, [], ◌∷◌, ◌++◌, length, take, drop, get_or, refl, sym, ap, subst, ◌∙◌, inl, inr, add-one, drop-cons, rules}
 use Rattle.std.specs.Prelude.{sum_by}
 use Rattle.std.proofs.lemmas.List.{take_all}
 use Rattle.std.proofs.lemmas.List.Elements.{All-nil, All-push, All-weaker}
@@ -63,3 +63,7 @@ tag_at code at op inside h =
     let e : take (n + 1) (drop at code) ≡ get_or code at 0 ∷ take n (drop (suc at) code) =
     ap (take (n + 1)) (drop-cons code at 0 inside) ∙ front_is (get_or code at 0) n (drop (suc at) code) in
     ap (λ (bs : List ℕ). get_or bs 0 0) (sym h.spelled ∙ e)
+
+-- an instruction of one byte has no index
+pub byte_indexed : (s : Setting) (op : Op) → 1 ≡ width_of op → Indexed s op
+byte_indexed s op one = search rules

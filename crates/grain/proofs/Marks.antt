@@ -6,16 +6,9 @@ use Rattle.std.proofs.lemmas.Bool.{cases_eq, cases_lt}
 use Rattle.grain_bytecode.specs.Table.{width_of}
 use Rattle.grain_bytecode.specs.Split.{Split, StandsAt}
 use Rattle.grain_bytecode.specs.declared.op.Op.{Op}
-use Rattle.grain.specs.Edges.{MarksStarts}
+use Rattle.grain.specs.Edges.{MarksStarts, MarksTo}
 use Rattle.grain.specs.Layout.{IsStart, IsBoundary}
 use Rattle.grain.proofs.Splits.{boundary_apart, next_start, op_fits, split_first, split_splits, start_op}
-
--- the starts below an address are just those that are marked
-pub record IsMarkedTo (code : List ℕ) (marks : List Bool) (at : ℕ) : Type 0 where
-  pub boundary : IsBoundary code at
-  pub inside : at ≤ length code
-  pub sound : (b : ℕ) → slice_get marks b ≡ Some true → IsStart code b
-  pub complete : (b : ℕ) → IsStart code b → b < at → slice_get marks b ≡ Some true
 
 -- the code has a boundary where it begins
 first_boundary : (code starts : List ℕ) → Split code starts → IsBoundary code 0
@@ -24,7 +17,7 @@ first_boundary code starts split = elim (split_first code 0 starts (split_splits
   | inr end ↦ inr end
 ]
 
-pub marked_start : (code starts : List ℕ) (marks : List Bool) → Split code starts → marks ≡ replicate (length code) false → IsMarkedTo code marks 0
+pub marked_start : (code starts : List ℕ) (marks : List Bool) → Split code starts → marks ≡ replicate (length code) false → MarksTo code marks 0
 marked_start code starts marks split e = record {
   boundary = first_boundary code starts split;
   inside = omega arith;
@@ -62,7 +55,7 @@ pub boundary_start : (code : List ℕ) (at : ℕ) → at < length code → IsBou
 boundary_start code at l (inl s) = s
 boundary_start code at l (inr e) = absurd (omega arith)
 
-pub marked_more : (code : List ℕ) (marks : List Bool) (at : ℕ) (op : Op) → length marks ≡ length code → at < length code → StandsAt code at op → IsMarkedTo code marks at → IsMarkedTo code (set marks at true) (at + width_of op)
+pub marked_more : (code : List ℕ) (marks : List Bool) (at : ℕ) (op : Op) → length marks ≡ length code → at < length code → StandsAt code at op → MarksTo code marks at → MarksTo code (set marks at true) (at + width_of op)
 marked_more code marks at op long l i m =
     let s = boundary_start code at l m.boundary in
     let f = op_fits code at op m.inside i in
@@ -85,7 +78,7 @@ marked_more code marks at op long l i m =
       ];
     }
 
-pub marked_all : (code : List ℕ) (marks : List Bool) (at : ℕ) → length marks ≡ length code → length code ≤ at → IsMarkedTo code marks at → MarksStarts code marks
+pub marked_all : (code : List ℕ) (marks : List Bool) (at : ℕ) → length marks ≡ length code → length code ≤ at → MarksTo code marks at → MarksStarts code marks
 marked_all code marks at long g m = record {
   long = long;
   sound = m.sound;

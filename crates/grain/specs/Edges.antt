@@ -9,7 +9,7 @@ use Rattle.grain.specs.Capabilities.{Allows, caps_of}
 use Rattle.grain.specs.Code.{Bytecode}
 use Rattle.grain.specs.Counts.{Counts}
 use Rattle.grain.specs.Effects.{needs, iterators_needed, handlers_needed, targets, goes_on, jumping, going_on}
-use Rattle.grain.specs.Layout.{IsStart}
+use Rattle.grain.specs.Layout.{IsStart, IsBoundary}
 use Rattle.grain.specs.View.{Coming}
 use Rattle.grain.specs.declared.error.VerifyError.{VerifyError}
 use Rattle.grain.specs.declared.error.VerifyError.TheVariants as errors
@@ -19,6 +19,13 @@ pub record MarksStarts (code : List ℕ) (marks : List Bool) : Type 0 where
   pub long : length marks ≡ length code
   pub sound : (at : ℕ) → slice_get marks at ≡ Some true → IsStart code at
   pub complete : (at : ℕ) → IsStart code at → slice_get marks at ≡ Some true
+
+-- an address is a boundary, and just the starts below it are marked
+pub record MarksTo (code : List ℕ) (marks : List Bool) (at : ℕ) : Type 0 where
+  pub boundary : IsBoundary code at
+  pub inside : at ≤ length code
+  pub sound : (b : ℕ) → slice_get marks b ≡ Some true → IsStart code b
+  pub complete : (b : ℕ) → IsStart code b → b < at → slice_get marks b ≡ Some true
 
 -- a marked address of the chunk
 pub record IsMarkedIn (marks : List Bool) (chunk : Span) (at : ℕ) : Type 0 where

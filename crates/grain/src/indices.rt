@@ -345,6 +345,21 @@ fn check_at(
     }
 }
 
+/// Where the instructions of one byte end that stand one after another from an address on. They have no index.
+#[inline(always)]
+fn skip_bytes(code: &[u8], from: usize) -> usize
+    requires { from ≤ length code.now }
+    ensures further { from ≤ result }
+    ensures inside { result ≤ length code.now }
+    ensures indexed { (s : Setting) → AreIndexed s (take from code.now) → AreIndexed s (take result code.now) }
+{
+    let mut at = from;
+    while let Some(1) = width(code, at) {
+        at += 1;
+    }
+    at
+}
+
 /// Tests that the code is instructions from its start to its end, each with its indices in bounds.
 ///
 /// # Errors
@@ -359,9 +374,10 @@ pub(crate) fn check_code(pools: &Pools<'_>, code: &[u8]) -> Result<(), VerifyErr
         chains: Tested::new(),
         switches: Tested::new(),
     };
-    let mut at = 0;
+    let mut at = skip_bytes(code, 0);
     while at < code.len() {
-        at = check_at(pools, &mut passed, code, at)?;
+        let next = check_at(pools, &mut passed, code, at)?;
+        at = skip_bytes(code, next);
     }
     Ok(())
 }

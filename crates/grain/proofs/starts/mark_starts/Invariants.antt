@@ -1,11 +1,11 @@
 use Rattle.std.proofs.Common.{◌≡◌, ◌-◌, length}
-use Rattle.grain.proofs.Marks.{IsMarkedTo}
+use Rattle.grain.specs.Edges.{MarksTo}
 use Rattle.grain.proofs.starts.mark_starts.Given as goal
 
 abbrev pub invariant-loop-at : goal.invariant-loop-at
 invariant-loop-at l = record {
   long : length l.marks.items ≡ length l.code;
-  marked : IsMarkedTo l.code l.marks.items l.at;
+  marked : MarksTo l.code l.marks.items l.at;
 }
 
 abbrev pub decreases-loop-at : goal.decreases-loop-at
