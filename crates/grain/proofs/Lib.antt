@@ -13,6 +13,7 @@ pub mod Parts
 pub mod Passing
 pub mod Progress
 pub mod Pushing
+pub mod Sparse
 pub mod Splits
 pub mod Visits
 pub mod Whole

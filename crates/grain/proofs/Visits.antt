@@ -1,12 +1,10 @@
 -- The walk's table, as what was seen.
-use Rattle.std.proofs.Common.{◌≡◌, ◌≢◌, ℕ, zero, suc, ◌+◌, ◌*◌, ◌<◌, ◌≤◌, inl, inr, max, Bool, true, false, cond, nat_eq, not, ◌&&◌, eqb, List, [], ◌∷◌, ◌++◌, length, get_or, set, take, map, Option, Some, None, option_map, refl, sym, ap, subst, ◌∙◌, arith}
-use Rattle.std.specs.List.{sum_by, Contains, All}
+use Rattle.std.proofs.Common.{◌≡◌, ◌≢◌, ℕ, zero, suc, ◌+◌, ◌*◌, ◌<◌, ◌≤◌, inl, inr, max, Bool, true, false, cond, nat_eq, not, ◌&&◌, eqb, List, [], ◌∷◌, ◌++◌, length, get_or, set, slice_get, map, Option, Some, None, option_map, refl, sym, ap, subst, ◌∙◌, arith}
+use Rattle.std.specs.List.{Contains}
 use Rattle.std.proofs.lemmas.Grind.{common_steps}
-use Rattle.std.proofs.lemmas.List.{append-nil, length-append, length-map, length_push, map_push, get_or-set_same, get_or-set_other, get_or_past, length-set, get_or-take}
-use Rattle.std.proofs.Math.Seq.{take-set-lt}
-use Rattle.std.proofs.lemmas.List.Elements.{Contains-push, All-set}
-use Rattle.std.proofs.lemmas.List.Sums.{sum_by-set, sum_by-cons}
-use Rattle.std.proofs.lemmas.Bool.{cases_lt}
+use Rattle.std.proofs.lemmas.List.{append-nil, length-append, length-map, length_push, map_push, length-set}
+use Rattle.std.proofs.lemmas.List.Elements.{Contains-push}
+use Rattle.std.proofs.lemmas.Bool.{cases_eq, cases_lt}
 use Rattle.std.proofs.lemmas.Bool.Decides.{nat_tests}
 use Rattle.grain_bytecode.specs.Span.{Span}
 use Rattle.grain_bytecode.specs.declared.op.Op.{Op}
@@ -16,131 +14,92 @@ use Rattle.grain.specs.Counts.{Counts, nothing}
 use Rattle.grain.specs.Edges.{arrivals}
 use Rattle.grain.specs.Effects.{targets}
 use Rattle.grain.specs.Fault.{FallsOff}
-use Rattle.grain.specs.Seen.{state_in, seen_at, unseen_entry}
+use Rattle.grain.specs.Seen.{state_at, seen_in}
 use Rattle.grain.specs.Typing.{IsInChunk, HasTyping, Passes, IsDeepest, Reached}
 use Rattle.grain.specs.View.{Coming, coming, view}
 use Rattle.grain.specs.declared.arrival.Arrival.{Arrival}
 use Rattle.grain.specs.declared.state.State.{State}
 use Rattle.grain.specs.declared.table.Entry.{Entry}
+use Rattle.grain.specs.declared.table.Table.{Table}
 use Rattle.grain.proofs.Most.{all_targets, arrivals_few}
-use Rattle.grain.proofs.Progress.{Waits, Progress, progress_start, progress_skip, progress_visit, progress_end}
+use Rattle.grain.proofs.Sparse.{noted_here, noted_others}
+use Rattle.grain.proofs.Progress.{Seen, Waits, Progress, progress_start, progress_skip, progress_visit, progress_end}
 
--- what was seen at each address, as counts
-abbrev pub counts_at : ℕ → List Entry → ℕ → Option Counts
-counts_at n entries at = option_map view (seen_at n entries at)
+-- what the table has seen, as counts
+abbrev pub counts_in : Table → Seen
+counts_in t at = option_map view (seen_in t at)
 
--- whether nothing was seen there in chunk n
-abbrev pub open_at : ℕ → Entry → ℕ
-open_at n e = cond (nat_eq e.chunk n) 0 1
+-- whether nothing was seen
+abbrev gap : Option Counts → ℕ
+gap None = 1
+gap (Some c) = 0
 
--- how many addresses below `end` are open
-abbrev pub unseen : ℕ → ℕ → List Entry → ℕ
-unseen n end entries = sum_by (open_at n) (take end entries)
+-- at how many addresses below `end` nothing was seen
+abbrev pub unseen : Seen → ℕ → ℕ
+unseen seen zero = 0
+unseen seen (suc end) = unseen seen end + gap (seen end)
 
-abbrev entry_of : ℕ → State → Entry
-entry_of n s = record { chunk = n; state = s }
+-- How far the walk has come, where it has seen states at `marked` addresses.
+pub record Walking (code : Bytecode) (chunk : Span) (seen : Seen) (marked : ℕ) (work : List Coming) (deepest : ℕ) : Type 0 where
+  pub counted : marked + unseen seen chunk.end ≡ chunk.end
+  pub progress : Progress code chunk seen marked work deepest
 
--- how far the walk has come, in its own variables
-pub record Walking (code : Bytecode) (chunk : Span) (n : ℕ) (entries : List Entry) (work : List Coming) (deepest : ℕ) : Type 0 where
-  pub marked : ℕ
-  pub long : length entries ≡ length code.bytes
-  pub numbered : 0 < n
-  pub valid : All (λ (e : Entry). e.chunk ≤ n) entries
-  pub counted : marked + unseen n chunk.end entries ≡ chunk.end
-  pub progress : Progress code chunk (counts_at n entries) marked work deepest
+unseen_empty : (seen : Seen) (end : ℕ) → ((at : ℕ) → seen at ≡ None) → unseen seen end ≡ end
+unseen_empty seen zero empty = refl
+unseen_empty seen (suc end) empty =
+    let e = unseen_empty seen end empty in
+    let f : gap (seen end) ≡ 1 = ap gap (empty end) in
+    omega (arith, e, f)
 
-test_other : (m n : ℕ) → m < n → nat_eq m n ≡ false
-test_other m n l = grind (arith, nat_tests)
+unseen_same : (seen new : Seen) (at end : ℕ) → end ≤ at → ((b : ℕ) → b ≢ at → new b ≡ seen b) → unseen new end ≡ unseen seen end
+unseen_same seen new at zero l others = refl
+unseen_same seen new at (suc end) l others =
+    let e = unseen_same seen new at end (omega arith) others in
+    let f : gap (new end) ≡ gap (seen end) = ap gap (others end (λ s. absurd (omega arith))) in
+    omega (arith, e, f)
 
-test_same : (n : ℕ) → nat_eq n n ≡ true
-test_same n = grind (arith, nat_tests)
-
-entry_other : (n : ℕ) (e : Entry) → e.chunk < n → state_in n e ≡ None
-entry_other n e l = ap (λ (b : Bool). cond b (Some e.state) None) (test_other e.chunk n l)
-
-entry_same : (n : ℕ) (s : State) → state_in n (entry_of n s) ≡ Some s
-entry_same n s = ap (λ (b : Bool). cond b (Some s) None) (test_same n)
-
-open_other : (n : ℕ) (e : Entry) → e.chunk < n → open_at n e ≡ 1
-open_other n e l = ap (λ (b : Bool). cond b 0 1) (test_other e.chunk n l)
-
-open_same : (n : ℕ) (s : State) → open_at n (entry_of n s) ≡ 0
-open_same n s = ap (λ (b : Bool). cond b 0 1) (test_same n)
-
-abbrev opened : Bool → ℕ
-opened b = cond b 0 1
-
-open_choice : (b : Bool) (s : State) → cond b (Some s) None ≡ None → opened b ≡ 1
-open_choice true s h = absurd (cc)
-open_choice false s h = refl
-
-open_none : (n : ℕ) (e : Entry) → state_in n e ≡ None → open_at n e ≡ 1
-open_none n e h = open_choice (nat_eq e.chunk n) e.state h
-
-fresh_at : (n : ℕ) (entries : List Entry) (at : ℕ) → 0 < n → All (λ (e : Entry). e.chunk < n) entries → seen_at n entries at ≡ None
-fresh_at n entries at pos h = elim (cases_lt at (length entries)) [
-  | inl l ↦ entry_other n (get_or entries at unseen_entry) (h at unseen_entry l)
-  | inr g ↦ ap (state_in n) (get_or_past entries at unseen_entry g) ∙ entry_other n unseen_entry pos
+pub unseen_noted : (seen new : Seen) (at end : ℕ) (c : Counts) → at < end → seen at ≡ None → new at ≡ Some c → ((b : ℕ) → b ≢ at → new b ≡ seen b) → unseen new end + 1 ≡ unseen seen end
+unseen_noted seen new at zero c l fresh here others = absurd (omega arith)
+unseen_noted seen new at (suc end) c l fresh here others = elim (cases_eq end at) [
+  | inl s ↦
+    let e = unseen_same seen new at end (omega arith) others in
+    let f : gap (new end) ≡ 0 = ap gap (ap new s ∙ here) in
+    let g : gap (seen end) ≡ 1 = ap gap (ap seen s ∙ fresh) in
+    omega (arith, e, f, g)
+  | inr ne ↦
+    let e = unseen_noted seen new at end c (omega arith) fresh here others in
+    let f : gap (new end) ≡ gap (seen end) = ap gap (others end ne) in
+    omega (arith, e, f)
 ]
 
-later : (n : ℕ) (x : Entry) (xs : List Entry) → All (λ (e : Entry). e.chunk < n) (x ∷ xs) → All (λ (e : Entry). e.chunk < n) xs
-later n x xs h = λ k d l. h (suc k) d (omega arith)
+some_unseen : (seen : Seen) (at end : ℕ) → at < end → seen at ≡ None → 0 < unseen seen end
+some_unseen seen at zero l fresh = absurd (omega arith)
+some_unseen seen at (suc end) l fresh = elim (cases_eq end at) [
+  | inl s ↦ let g : gap (seen end) ≡ 1 = ap gap (ap seen s ∙ fresh) in omega (arith, g)
+  | inr ne ↦ let h = some_unseen seen at end (omega arith) fresh in omega (arith, h)
+]
 
-unseen_fresh : (n end : ℕ) (entries : List Entry) → end ≤ length entries → All (λ (e : Entry). e.chunk < n) entries → unseen n end entries ≡ end
-unseen_fresh n zero entries l h = refl
-unseen_fresh n (suc end) [] l h = absurd (omega arith)
-unseen_fresh n (suc end) (x ∷ xs) l h =
-    let e = sum_by-cons (open_at n) x (take end xs) in
-    let f = open_other n x (h 0 x (omega arith)) in
-    let g = unseen_fresh n end xs (omega arith) (later n x xs h) in
-    omega (arith, e, f, g)
-
-pub walking_start : (code : Bytecode) (chunk : Span) (n : ℕ) (entries : List Entry) → IsFramed code chunk → chunk.entry < chunk.end → length entries ≡ length code.bytes → 0 < n → All (λ (e : Entry). e.chunk < n) entries → Walking code chunk n entries (record { at = chunk.entry; counts = nothing } ∷ []) 0
-walking_start code chunk n entries f holds long pos h = record {
-  marked = 0;
-  long = long;
-  numbered = pos;
-  valid = λ k d l. (let g = h k d l in omega arith);
-  counted = omega (arith, unseen_fresh n chunk.end entries (let r = f.inside in omega arith) h);
-  progress = progress_start code chunk (counts_at n entries) f holds (λ at. ap (option_map view) (fresh_at n entries at pos h));
+pub walking_start : (code : Bytecode) (chunk : Span) (seen : Seen) → IsFramed code chunk → chunk.entry < chunk.end → ((at : ℕ) → seen at ≡ None) → Walking code chunk seen 0 (record { at = chunk.entry; counts = nothing } ∷ []) 0
+walking_start code chunk seen f holds empty = record {
+  counted = let e = unseen_empty seen chunk.end empty in omega arith;
+  progress = progress_start code chunk seen f holds empty;
 }
 
-pub walking_skip : (code : Bytecode) (chunk : Span) (n : ℕ) (entries : List Entry) (work : List Coming) (a : Arrival) (deepest : ℕ) → seen_at n entries a.at ≡ Some a.state → Walking code chunk n entries (work ++ coming a ∷ []) deepest → Walking code chunk n entries work deepest
-walking_skip code chunk n entries work a deepest e w = record { marked = w.marked; long = w.long; numbered = w.numbered; valid = w.valid; counted = w.counted; progress = progress_skip code chunk (counts_at n entries) w.marked work (coming a) deepest (ap (option_map view) e) w.progress }
+pub walking_skip : (code : Bytecode) (chunk : Span) (seen : Seen) (marked : ℕ) (work : List Coming) (a : Arrival) (deepest : ℕ) → seen a.at ≡ Some (view a.state) → Walking code chunk seen marked (work ++ coming a ∷ []) deepest → Walking code chunk seen marked work deepest
+walking_skip code chunk seen marked work a deepest e w = record { counted = w.counted; progress = progress_skip code chunk seen marked work (coming a) deepest e w.progress }
 
-within_taken : (end at : ℕ) (entries : List Entry) → at < end → at < length entries → at < length (take end entries)
-within_taken end at entries l h = grind (arith, common_steps)
+pub walking_visit : (code : Bytecode) (chunk : Span) (seen new : Seen) (marked : ℕ) (work : List Coming) (a : Arrival) (deepest : ℕ) (op : Op) → IsFramed code chunk → a.at < chunk.end → seen a.at ≡ None → new a.at ≡ Some (view a.state) → ((b : ℕ) → b ≢ a.at → new b ≡ seen b) → Passes (coded code) chunk a.at (view a.state) op → ((x : ℕ) → Contains (targets code.switches op) x → IsInChunk (coded code) chunk x) → Walking code chunk seen marked (work ++ coming a ∷ []) deepest → Walking code chunk new (marked + 1) (work ++ arrivals code op a.at (view a.state)) (max deepest a.state.operands)
+walking_visit code chunk seen new marked work a deepest op f l fresh here others passes inside w = record {
+  counted = let u = unseen_noted seen new a.at chunk.end (view a.state) l fresh here others in let c = w.counted in omega arith;
+  progress = progress_visit code chunk seen new marked work (coming a) deepest op f fresh passes inside here others w.progress;
+}
 
-pub unseen_set : (n end : ℕ) (entries : List Entry) (at : ℕ) (s : State) → at < end → at < length entries → seen_at n entries at ≡ None → unseen n end (set entries at (record { chunk = n; state = s })) + 1 ≡ unseen n end entries
-unseen_set n end entries at s l h e =
-    let t = take-set-lt end entries at (entry_of n s) l in
-    let u : unseen n end (set entries at (entry_of n s)) ≡ sum_by (open_at n) (set (take end entries) at (entry_of n s)) = ap (sum_by (open_at n)) t in
-    let v = sum_by-set (open_at n) (take end entries) at (entry_of n s) unseen_entry (within_taken end at entries l h) in
-    let g : open_at n (get_or (take end entries) at unseen_entry) ≡ 1 = ap (open_at n) (get_or-take end entries at unseen_entry l) ∙ open_none n (get_or entries at unseen_entry) e in
-    let o = open_same n s in
-    omega (arith, u, v, g, o)
-
-pub walking_visit : (code : Bytecode) (chunk : Span) (n : ℕ) (entries : List Entry) (work : List Coming) (a : Arrival) (deepest : ℕ) (op : Op) → IsFramed code chunk → a.at < chunk.end → seen_at n entries a.at ≡ None → Passes (coded code) chunk a.at (view a.state) op → ((x : ℕ) → Contains (targets code.switches op) x → IsInChunk (coded code) chunk x) → Walking code chunk n entries (work ++ coming a ∷ []) deepest → Walking code chunk n (set entries a.at (record { chunk = n; state = a.state })) (work ++ arrivals code op a.at (view a.state)) (max deepest a.state.operands)
-walking_visit code chunk n entries work a deepest op f l fresh passes inside w =
-    let h : a.at < length entries = let r = f.inside in let k = w.long in omega arith in
-    record {
-      marked = w.marked + 1;
-      long = length-set entries a.at (entry_of n a.state) ∙ w.long;
-      numbered = w.numbered;
-      valid = All-set (λ (e : Entry). e.chunk ≤ n) entries a.at (entry_of n a.state) (omega arith) w.valid;
-      counted = let u = unseen_set n chunk.end entries a.at a.state l h fresh in let c = w.counted in omega arith;
-      progress = progress_visit code chunk (counts_at n entries) (counts_at n (set entries a.at (entry_of n a.state))) w.marked work (coming a) deepest op f (ap (option_map view) fresh) passes inside
-          (ap (option_map view) (ap (state_in n) (get_or-set_same entries a.at (entry_of n a.state) unseen_entry h) ∙ entry_same n a.state))
-          (λ b ne. ap (option_map view) (ap (state_in n) (get_or-set_other entries a.at b (entry_of n a.state) unseen_entry ne)))
-          w.progress;
-    }
-
-pub walking_end : (code : Bytecode) (chunk : Span) (n : ℕ) (entries : List Entry) (deepest : ℕ) → Walking code chunk n entries [] deepest → HasTyping (coded code) chunk deepest × IsDeepest (coded code) chunk deepest
-walking_end code chunk n entries deepest w = progress_end code chunk (counts_at n entries) w.marked deepest w.progress
+pub walking_end : (code : Bytecode) (chunk : Span) (seen : Seen) (marked deepest : ℕ) → Walking code chunk seen marked [] deepest → HasTyping (coded code) chunk deepest × IsDeepest (coded code) chunk deepest
+walking_end code chunk seen marked deepest w = progress_end code chunk seen marked deepest w.progress
 
 -- what is known of the arrival that was taken off
-module _ (code : Bytecode) (chunk : Span) (n : ℕ) (entries : List Entry) (work : List Coming) (a : Arrival) (deepest : ℕ) (w : Walking code chunk n entries (work ++ coming a ∷ []) deepest) where
-  taken : Waits code chunk w.marked (coming a)
+module _ (code : Bytecode) (chunk : Span) (seen : Seen) (marked : ℕ) (work : List Coming) (a : Arrival) (deepest : ℕ) (w : Walking code chunk seen marked (work ++ coming a ∷ []) deepest) where
+  taken : Waits code chunk marked (coming a)
   taken = w.progress.waiting (coming a) (Contains-push work (coming a))
 
   pub taken_reached : Reached (coded code) chunk a.at (view a.state)
@@ -152,17 +111,27 @@ module _ (code : Bytecode) (chunk : Span) (n : ℕ) (entries : List Entry) (work
   pub taken_falls : chunk.end ≤ a.at → FallsOff code chunk
   taken_falls g = elim taken.lands [ inl h ↦ absurd (let q = h.end in omega arith) | inr e ↦ e.1 ]
 
-  pub taken_in_table : IsFramed code chunk → a.at < chunk.end → a.at < length entries
-  taken_in_table f l = let r = f.inside in let k = w.long in omega arith
-
-  taken_room : IsFramed code chunk → a.at < chunk.end → seen_at n entries a.at ≡ None → w.marked < chunk.end
-  taken_room f l e =
-      let u = unseen_set n chunk.end entries a.at a.state l (taken_in_table f l) e in
+  pub taken_room : a.at < chunk.end → seen a.at ≡ None → marked < chunk.end
+  taken_room l fresh =
+      let u = some_unseen seen a.at chunk.end l fresh in
       let c = w.counted in
       omega arith
 
-  pub taken_small : IsFramed code chunk → a.at < chunk.end → seen_at n entries a.at ≡ None → (a.state.operands < chunk.end) × (a.state.iterators < chunk.end) × (a.state.handlers < chunk.end)
-  taken_small f l e = let k = taken.small in let r = taken_room f l e in (omega (arith, k.operands), omega (arith, k.iterators), omega (arith, k.handlers))
+  pub taken_small : a.at < chunk.end → seen a.at ≡ None → (a.state.operands < chunk.end) × (a.state.iterators < chunk.end) × (a.state.handlers < chunk.end)
+  taken_small l fresh = let k = taken.small in let r = taken_room l fresh in (omega (arith, k.operands), omega (arith, k.iterators), omega (arith, k.handlers))
+
+-- the same, as counts
+module _ (t new : Table) (at : ℕ) (s : State) (inside : at < length t.places.items) (places : new.places.items ≡ set t.places.items at (length t.entries.items)) (entries : new.entries.items ≡ t.entries.items ++ record { at = at; state = s } ∷ []) where
+  pub counts_here : counts_in new at ≡ Some (view s)
+  counts_here = ap (option_map view) (noted_here t new at s inside places entries)
+
+  pub counts_others : (b : ℕ) → b ≢ at → counts_in new b ≡ counts_in t b
+  counts_others b ne = ap (option_map view) (noted_others t new at s inside places entries b ne)
+
+-- a table without entries has seen nothing
+pub counts_none : (t : Table) → t.entries.items ≡ [] → (at : ℕ) → counts_in t at ≡ None
+counts_none t e at =
+    ap (λ (es : List Entry). option_map view (state_at at (slice_get es (get_or t.places.items at 0)))) e
 
 -- the derived `!=` on states
 pub same_state : (s t : State) → false ≡ not (eqb s.operands t.operands && (eqb s.iterators t.iterators && eqb s.handlers t.handlers)) → s ≡ t
@@ -179,21 +148,21 @@ other_state s t h e =
     let c : s.handlers ≡ t.handlers = ap (λ (x : Counts). x.handlers) e in
     grind (arith, nat_tests)
 
-pub popped : (code : Bytecode) (chunk : Span) (n : ℕ) (entries : List Entry) (deepest : ℕ) (stack rest : List Arrival) (a : Arrival) → stack ≡ rest ++ a ∷ [] → Walking code chunk n entries (map coming stack) deepest → Walking code chunk n entries (map coming rest ++ coming a ∷ []) deepest
-popped code chunk n entries deepest stack rest a e w =
-    subst (λ (xs : List Coming). Walking code chunk n entries xs deepest) (ap (map coming) e ∙ map_push coming rest a) w
+pub popped : (code : Bytecode) (chunk : Span) (seen : Seen) (marked deepest : ℕ) (stack rest : List Arrival) (a : Arrival) → stack ≡ rest ++ a ∷ [] → Walking code chunk seen marked (map coming stack) deepest → Walking code chunk seen marked (map coming rest ++ coming a ∷ []) deepest
+popped code chunk seen marked deepest stack rest a e w =
+    subst (λ (xs : List Coming). Walking code chunk seen marked xs deepest) (ap (map coming) e ∙ map_push coming rest a) w
 
 -- where no instruction leads to more than `most` places, this falls with each visit
 pub falls : (most u' u news olds rest few : ℕ) → u' + 1 ≡ u → few ≤ most → news ≡ rest + few → olds ≡ rest + 1 → (most + 1) * u' + news < (most + 1) * u + olds
 falls most u' u news olds rest few e f g h = rw (← e) (omega (arith, f, g, h))
 
-pub measure_falls : (code : Bytecode) (n end : ℕ) (entries : List Entry) (a : Arrival) (old new rest : List Arrival) (op : Op) → a.at < end → a.at < length entries → seen_at n entries a.at ≡ None → map coming new ≡ map coming rest ++ arrivals code op a.at (view a.state) → old ≡ rest ++ a ∷ [] → (all_targets code.switches + 2 + 1) * unseen n end (set entries a.at (record { chunk = n; state = a.state })) + length new < (all_targets code.switches + 2 + 1) * unseen n end entries + length old
-measure_falls code n end entries a old new rest op l h fresh e f =
+pub measure_falls : (code : Bytecode) (end : ℕ) (seen later : Seen) (a : Arrival) (old new rest : List Arrival) (op : Op) → a.at < end → seen a.at ≡ None → later a.at ≡ Some (view a.state) → ((b : ℕ) → b ≢ a.at → later b ≡ seen b) → map coming new ≡ map coming rest ++ arrivals code op a.at (view a.state) → old ≡ rest ++ a ∷ [] → (all_targets code.switches + 2 + 1) * unseen later end + length new < (all_targets code.switches + 2 + 1) * unseen seen end + length old
+measure_falls code end seen later a old new rest op l fresh here others e f =
     let come = arrivals code op a.at (view a.state) in
-    let u = unseen_set n end entries a.at a.state l h fresh in
+    let u = unseen_noted seen later a.at end (view a.state) l fresh here others in
     let g : length new ≡ length rest + length come = sym (length-map new coming) ∙ (ap (λ (xs : List Coming). length xs) e ∙ (length-append (map coming rest) come ∙ ap (λ k. k + length come) (length-map rest coming))) in
     let k : length old ≡ length rest + 1 = ap (λ (xs : List Arrival). length xs) f ∙ length_push rest a in
-    falls (all_targets code.switches + 2) (unseen n end (set entries a.at (record { chunk = n; state = a.state }))) (unseen n end entries) (length new) (length old) (length rest) (length come) u (arrivals_few code op a.at (view a.state)) g k
+    falls (all_targets code.switches + 2) (unseen later end) (unseen seen end) (length new) (length old) (length rest) (length come) u (arrivals_few code op a.at (view a.state)) g k
 
 -- an arrival that is skipped leaves one fewer
 pub skip_falls : (others : ℕ) (old rest : List Arrival) (a : Arrival) → old ≡ rest ++ a ∷ [] → others + length (rest ++ []) < others + length old

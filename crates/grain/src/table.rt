@@ -1,82 +1,69 @@
 //! What the walks have seen, in one table for one chunk after another.
-ghost use Rattle.std.specs.Prelude.{◌≡◌, ◌<◌, IfOk, length, slice_set};
-ghost use Rattle.grain.specs.Seen.{IsFresh, IsValid, seen_in};
-ghost use Rattle.grain.specs.declared.table.Entry.{Entry};
+ghost use Rattle.std.specs.Prelude.{◌≡◌, ◌<◌, ◌^◌, ◌++◌, ◌∷◌, [], IfOk, OnOk, length, slice_set};
+ghost use Rattle.grain.specs.Seen.{seen_in};
 
 use crate::state::State;
 use std::alloc::{AllocError, Global};
 
-/// A state, and the number of the chunk in which it was seen.
+/// A state, and the address at which it was seen.
 #[derive(Clone, Copy, PartialEq, Eq, Debug)]
 pub(crate) struct Entry {
-    pub(crate) chunk: u32,
+    pub(crate) at: u32,
     pub(crate) state: State,
 }
 
-/// No chunk has this number.
-const UNSEEN: Entry = Entry {
-    chunk: 0,
-    state: State {
-        operands: 0,
-        iterators: 0,
-        handlers: 0,
-    },
-};
-
-/// The states that were seen in the chunk that is walked, by address.
+/// The states that were seen in the chunk that is walked, by address: a sparse set.
 ///
-/// An entry counts for the chunk whose number it holds alone, so that nothing has to be cleared between two chunks.
+/// The entries are what was seen, one after another. A place leads from an address to its entry, if there is one: it may
+/// lead past the entries, or to that of another address, where the address wasn't seen. So the places needn't be cleared
+/// between two chunks.
 #[derive(Drop)]
 pub(crate) struct Table {
+    pub(crate) places: Vec<u32>,
     pub(crate) entries: Vec<Entry>,
-    /// The number of the chunk whose entries count.
-    pub(crate) chunk: u32,
 }
 
 impl Table {
-    /// A table for the addresses below `len`.
+    /// A table for the addresses below `len`. What it reserves for entries isn't touched before they come.
     pub(crate) fn new(alloc: Global, len: usize) -> Result<Table, AllocError>
-        ensures { IfOk result (λ t. IsValid t × (length t.entries.items ≡ len)) }
+        ensures { IfOk result (λ t. length t.places.items ≡ len) }
     {
-        let entries = vec![in alloc; UNSEEN; len]?;
-        Ok(Table { entries, chunk: 0 })
+        let places = vec![in alloc; 0; len]?;
+        let entries = Vec::with_capacity(alloc, len)?;
+        Ok(Table { places, entries })
     }
 
     /// Begins the next chunk, of which nothing was seen.
     pub(crate) fn begin_chunk(&mut self)
-        requires { IsValid self.old }
-        ensures fresh { IsFresh self.new }
-        ensures long { length self.new.entries.items ≡ length self.old.entries.items }
+        ensures entries { self.new.entries.items ≡ [] }
+        ensures places { self.new.places.items ≡ self.old.places.items }
     {
-        if self.chunk == u32::MAX {
-            self.entries.fill(UNSEEN);
-            self.chunk = 0;
-        }
-        self.chunk += 1;
+        self.entries.clear();
     }
 
     /// The state that was seen at the address.
-    pub(crate) fn seen(&self, at: usize) -> Option<State>
-        requires { at < length self.now.entries.items }
+    #[inline(always)]
+    pub(crate) fn seen(&self, at: u32) -> Option<State>
+        requires { at < length self.now.places.items }
         ensures { result ≡ seen_in self.now at }
     {
-        let entry = self.entries[at];
-        if entry.chunk == self.chunk {
-            Some(entry.state)
-        } else {
-            None
+        let place = self.places[at as usize];
+        match self.entries.get(place as usize) {
+            Some(entry) if entry.at == at => Some(entry.state),
+            _ => None,
         }
     }
 
     /// Notes the state that was seen at the address.
-    pub(crate) fn note(&mut self, at: usize, state: State)
-        requires { at < length self.old.entries.items }
-        ensures entries { self.new.entries.items ≡ slice_set self.old.entries.items at (record { chunk = self.old.chunk; state = state }) }
-        ensures chunk { self.new.chunk ≡ self.old.chunk }
+    #[inline(always)]
+    pub(crate) fn note(&mut self, at: u32, state: State) -> Result<(), AllocError>
+        requires inside { at < length self.old.places.items }
+        requires few { length self.old.entries.items < 2 ^ 32 }
+        ensures places { OnOk result (self.new.places.items ≡ slice_set self.old.places.items at (length self.old.entries.items)) }
+        ensures entries { OnOk result (self.new.entries.items ≡ self.old.entries.items ++ record { at = at; state = state } ∷ []) }
     {
-        self.entries[at] = Entry {
-            chunk: self.chunk,
-            state,
-        };
+        self.places[at as usize] = self.entries.len() as u32;
+        self.entries.push(Entry { at, state })?;
+        Ok(())
     }
 }

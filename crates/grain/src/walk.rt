@@ -10,7 +10,6 @@ ghost use Rattle.grain.specs.Edges.{IsMarkedIn, RefusesState, RefusesTargetOf, a
 ghost use Rattle.grain.specs.Effects.{needs, targets};
 ghost use Rattle.grain.specs.Fault.{ChunkFault};
 ghost use Rattle.grain.specs.Prepared.{IsReady, bytecode_of};
-ghost use Rattle.grain.specs.Seen.{IsValid};
 ghost use Rattle.grain.specs.Typing.{HasTyping, IsDeepest, IsInChunk, Passes, Reached};
 ghost use Rattle.grain.specs.View.{coming, view};
 ghost use Rattle.grain.specs.Ways.{IsMetBy, IsShort, goes_on_by, going_on_by, jumping_by, targets_by};
@@ -183,12 +182,11 @@ impl Prepared<'_> {
         requires ready { IsReady self.now }
         requires framed { IsFramed (bytecode_of self.now) chunk.now }
         requires holds { chunk.now.entry < chunk.now.end }
-        requires valid { IsValid table.old }
-        requires long { length table.old.entries.items ≡ length self.now.code.now }
+        requires long { length table.old.places.items ≡ length self.now.code.now }
         requires nothing { work.old.items ≡ [] }
         ensures ok { IfOk result (λ n. HasTyping (coded (bytecode_of self.now)) chunk.now n × IsDeepest (coded (bytecode_of self.now)) chunk.now n) }
         ensures err { IfErr result (λ e. (e ≡ VerifyError.OutOfMemory) ⊎ ChunkFault (bytecode_of self.now) chunk.now e) }
-        ensures table { OnOk result (IsValid table.new × (length table.new.entries.items ≡ length self.now.code.now)) }
+        ensures table { OnOk result (length table.new.places.items ≡ length self.now.code.now) }
         ensures done { OnOk result (work.new.items ≡ []) }
     {
         table.begin_chunk();
@@ -206,7 +204,7 @@ impl Prepared<'_> {
             if at >= chunk.end() {
                 return Err(VerifyError::FallsOffTheEnd);
             }
-            match table.seen(at as usize) {
+            match table.seen(at) {
                 Some(seen) => {
                     if seen != state {
                         return Err(VerifyError::DepthConflict {
@@ -218,7 +216,7 @@ impl Prepared<'_> {
                     next = None;
                 }
                 None => {
-                    table.note(at as usize, state);
+                    table.note(at, state)?;
                     next = self.visit(chunk, at, state, work)?;
                     deepest = deepest.max(state.operands);
                 }
@@ -269,14 +267,13 @@ impl Prepared<'_> {
         work: &mut Vec<Arrival>,
     ) -> Result<u16, VerifyError>
         requires ready { IsReady self.now }
-        requires valid { IsValid table.old }
-        requires long { length table.old.entries.items ≡ length self.now.code.now }
+        requires long { length table.old.places.items ≡ length self.now.code.now }
         requires nothing { work.old.items ≡ [] }
         ensures passes { OnOk result (ChunkPasses (bytecode_of self.now) chunk.now) }
         ensures deepest { IfOk result (λ n. IsDeepest (coded (bytecode_of self.now)) chunk.now n) }
         ensures accepts { ChunkPasses (bytecode_of self.now) chunk.now → IfErr result (λ e. e ≡ VerifyError.OutOfMemory) }
         ensures faults { IfErr result (λ e. (e ≡ VerifyError.OutOfMemory) ⊎ ChunkFault (bytecode_of self.now) chunk.now e) }
-        ensures table { OnOk result (IsValid table.new × (length table.new.entries.items ≡ length self.now.code.now)) }
+        ensures table { OnOk result (length table.new.places.items ≡ length self.now.code.now) }
         ensures done { OnOk result (work.new.items ≡ []) }
     {
         self.check_frame(chunk)?;

@@ -26,8 +26,7 @@ loop-chunk-preserved c =
     let v = c.in_ok-needed.ensures in
     let code = bytecode_of c.args.prepared.now in
     record {
-      valid = v.table.0;
-      long = v.table.1;
+      long = v.table;
       nothing = v.done;
       passes = passes_more code c.args.chunks.now c.loop-chunk.chunk-index c.chunk-item.result c.loop-chunk-test.true c.chunk-item.is c.loop-chunk.invariant.passes v.passes;
       deepest = rw c.in_ok-push.ensures.items (deepest_more code c.args.chunks.now c.loop-chunk.deepest.items c.loop-chunk.chunk-index c.chunk-item.result c.in_ok-needed.needed c.loop-chunk-test.true c.chunk-item.is c.loop-chunk.invariant.deepest v.deepest);

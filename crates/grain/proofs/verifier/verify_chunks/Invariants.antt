@@ -3,14 +3,12 @@ use Rattle.std.specs.List.{AllWithin, AllZip}
 use Rattle.grain.specs.Accepted.{ChunkPasses}
 use Rattle.grain.specs.Code.{coded}
 use Rattle.grain.specs.Prepared.{bytecode_of}
-use Rattle.grain.specs.Seen.{IsValid}
 use Rattle.grain.specs.Typing.{IsDeepest}
 use Rattle.grain.proofs.verifier.verify_chunks.Given as goal
 
 abbrev pub invariant-loop-chunk : goal.invariant-loop-chunk
 invariant-loop-chunk l = record {
-  valid : IsValid l.table;
-  long : length l.table.entries.items ≡ length l.prepared.code.now;
+  long : length l.table.places.items ≡ length l.prepared.code.now;
   nothing : l.work.items ≡ [];
   passes : AllWithin (ChunkPasses (bytecode_of l.prepared)) l.chunks 0 l.chunk-index;
   deepest : AllZip (IsDeepest (coded (bytecode_of l.prepared))) (take l.chunk-index l.chunks) l.deepest.items;
