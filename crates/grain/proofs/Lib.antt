@@ -15,6 +15,7 @@ pub mod Progress
 pub mod Pushing
 pub mod Sparse
 pub mod Splits
+pub mod Visited
 pub mod Visits
 pub mod Whole
 pub mod Ways

@@ -1,5 +1,6 @@
 -- What an operation does, by the way in which it goes on.
-use Rattle.std.proofs.Common.{◌≡◌, ℕ, ◌+◌, ◌-◌, ◌<◌, ◌≤◌, Bool, true, false, cond, List, Option, Some, None, refl, sym, ap, subst, ◌∙◌}
+use Rattle.std.proofs.Common.{◌≡◌, ℕ, ◌+◌, ◌-◌, ◌^◌, ◌<◌, ◌≤◌, Bool, true, false, cond, List, Option, Some, None, refl, sym, ap, subst, ◌∙◌}
+use Rattle.std.specs.Int.Bits.{and_zero_l}
 use Rattle.std.proofs.lemmas.Option.{same_Some, none-some}
 use Rattle.grain_bytecode.specs.Span.{Span}
 use Rattle.grain_bytecode.specs.declared.op.Op.{Op}
@@ -73,6 +74,10 @@ pub short_state : (code : Bytecode) (op : Op) (at : ℕ) (c : Counts) (way : Way
 short_state code op at c way (errors.IteratorUnderflow a) same allowed (ea, l) = (ea, allowed, iterators_short code.setting code.switches op c way (operands_after code.setting op c.operands) same refl l)
 short_state code op at c way (errors.HandlerUnderflow a) same allowed (ea, l) = (ea, allowed, handlers_short code.setting code.switches op c way (operands_after code.setting op c.operands) same refl l)
 short_state code op at c way e same allowed h = absurd h
+
+-- where nothing is needed, all of it is there
+pub nothing_lacks : (caps : ℕ) → Allows caps 0
+nothing_lacks caps = and_zero_l (2 ^ 16 - 1 - caps)
 
 -- an operation that finds all that it needs passes
 pub passes_known : (code : Bytecode) (chunk : Span) (at : ℕ) (op : Op) (c : Counts) (caps needs takes gives : ℕ) (way : Way) → StandsIn (coded code) chunk at op → caps ≡ caps_of code.setting op → (needs, takes, gives) ≡ effect code.setting.chains op → way ≡ way_of op → Allows code.setting.caps caps → needs ≤ c.operands → IsMetBy way c → Passes (coded code) chunk at c op

@@ -11,6 +11,7 @@ pub mod Indices
 pub mod Layout
 pub mod Machine
 pub mod Moves
+pub mod Plain
 pub mod PoolNeeds
 pub mod Prepared
 pub mod Pushed

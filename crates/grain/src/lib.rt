@@ -10,6 +10,7 @@ mod error;
 mod functions;
 mod indices;
 pub mod laws;
+mod plain;
 mod pools;
 mod prepared;
 mod starts;

@@ -19,6 +19,7 @@ use crate::capabilities::lacking;
 use crate::edges::{push_table, push_target};
 use crate::effects::{Effect, Way};
 use crate::error::VerifyError;
+use crate::plain::plain_effect;
 use crate::prepared::Prepared;
 use crate::state::State;
 use crate::table::Table;
@@ -132,9 +133,9 @@ impl Prepared<'_> {
         }
     }
 
-    /// Looks at the instruction that a state meets, pushes its targets, and answers where it goes on, if it does.
+    /// The same, by what the instruction is.
     #[inline(always)]
-    fn visit(
+    fn visit_decoded(
         &self,
         chunk: &Chunk,
         at: u32,
@@ -169,6 +170,45 @@ impl Prepared<'_> {
                 state: after,
             })),
             None => Ok(None),
+        }
+    }
+
+    /// Looks at the instruction that a state meets, pushes its targets, and answers where it goes on, if it does.
+    ///
+    /// An instruction that is plain by its tag isn't decoded.
+    #[inline(always)]
+    fn visit(
+        &self,
+        chunk: &Chunk,
+        at: u32,
+        state: State,
+        work: &mut Vec<Arrival>,
+    ) -> Result<Option<Arrival>, VerifyError>
+        requires ready { IsReady self.now }
+        requires framed { IsFramed (bytecode_of self.now) chunk.now }
+        requires within { IsInChunk (coded (bytecode_of self.now)) chunk.now at }
+        requires reached { Reached (coded (bytecode_of self.now)) chunk.now at (view state) }
+        requires fits { chunk.now.end < 2 ^ 32 }
+        requires operands { state.operands < chunk.now.end }
+        requires iterators { state.iterators < chunk.now.end }
+        requires handlers { state.handlers < chunk.now.end }
+        ensures ok { IfOk result (λ next. (op : Op) × Passes (coded (bytecode_of self.now)) chunk.now at (view state) op
+            × (map coming (work.new.items ++ option_to_list next) ≡ map coming work.old.items ++ arrivals (bytecode_of self.now) op at (view state))
+            × All (IsInChunk (coded (bytecode_of self.now)) chunk.now) (targets (bytecode_of self.now).switches op)) }
+        ensures err { IfErr result (λ e. (e ≡ VerifyError.OutOfMemory) ⊎ ChunkFault (bytecode_of self.now) chunk.now e) }
+    {
+        let Some(width) = width(self.code, at as usize) else {
+            unreachable!();
+        };
+        match plain_effect(self.code[at as usize]) {
+            Some((takes, gives)) if takes <= state.operands => Ok(Some(Arrival {
+                at: at + width as u32,
+                state: State {
+                    operands: state.operands - takes + gives,
+                    ..state
+                },
+            })),
+            _ => self.visit_decoded(chunk, at, state, work),
         }
     }
 
