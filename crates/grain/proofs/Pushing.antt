@@ -1,7 +1,6 @@
 -- Pushing one state to many targets.
-use Rattle.std.proofs.Common.{◌≡◌, ℕ, ◌+◌, ◌<◌, inl, inr, Bool, true, false, cond, Option, List, [], ◌∷◌, ◌++◌, length, get_or, drop, drop-cons, add-one, map, sym, ap, subst, ◌∙◌, append_assoc}
+use Rattle.std.proofs.Common.{◌≡◌, ℕ, ◌+◌, ◌<◌, inl, inr, Bool, true, false, cond, List, [], ◌∷◌, ◌++◌, length, get_or, drop, drop-cons, add-one, map, sym, ap, subst, ◌∙◌, append_assoc}
 use Rattle.std.specs.List.{All, Contains}
-use Rattle.std.specs.Option.{option_to_list}
 use Rattle.std.proofs.lemmas.List.{map-append}
 use Rattle.std.proofs.lemmas.List.Elements.{All-cons, All-push, All-append, Contains-append_left, Contains-append_right}
 use Rattle.grain_bytecode.specs.Span.{Span}

@@ -1,5 +1,5 @@
 -- The table of the walk that has noted one state more.
-use Rattle.std.proofs.Common.{◌≡◌, ◌≢◌, ℕ, suc, ◌+◌, ◌<◌, ◌≤◌, inl, inr, Bool, true, false, cond, nat_eq, List, [], ◌∷◌, ◌++◌, length, get_or, set, slice_get, Option, Some, None, sym, ap, ◌∙◌, arith}
+use Rattle.std.proofs.Common.{◌≡◌, ◌≢◌, ℕ, ◌<◌, ◌≤◌, inl, inr, Bool, true, false, cond, nat_eq, List, [], ◌∷◌, ◌++◌, length, get_or, set, slice_get, Some, None, sym, ap, ◌∙◌, arith}
 use Rattle.std.proofs.lemmas.Option.{slice_get_past, slice_get-get_or}
 use Rattle.std.proofs.lemmas.List.{get_or-set_same, get_or-set_other, get_or_append_left, length_push}
 use Rattle.std.proofs.Math.Seq.{get_or-append_seam}
@@ -26,18 +26,18 @@ last_entry es e =
 others_said : (es : List Entry) (e : Entry) (b p : ℕ) → e.at ≢ b → state_at b (slice_get (es ++ e ∷ []) p) ≡ state_at b (slice_get es p)
 others_said es e b p ne = elim (cases_lt p (length es)) [
   | inl l ↦
-    let m : p < length (es ++ e ∷ []) = let k = length_push es e in omega arith in
-    ap (state_at b) (slice_get-get_or (es ++ e ∷ []) p e m ∙ (ap (λ (x : Entry). Some x) (get_or_append_left es (e ∷ []) e p l) ∙ sym (slice_get-get_or es p e l)))
+      let m : p < length (es ++ e ∷ []) = let k = length_push es e in omega arith in
+      ap (state_at b) (slice_get-get_or (es ++ e ∷ []) p e m ∙ (ap (λ (x : Entry). Some x) (get_or_append_left es (e ∷ []) e p l) ∙ sym (slice_get-get_or es p e l)))
   | inr g ↦
-    let none : state_at b (slice_get es p) ≡ None = ap (state_at b) (slice_get_past es p g) in
-    elim (cases_eq p (length es)) [
-      | inl s ↦
-        let last : slice_get (es ++ e ∷ []) p ≡ Some e = ap (slice_get (es ++ e ∷ [])) s ∙ last_entry es e in
-        ap (state_at b) last ∙ (ap (λ (t : Bool). cond t (Some e.state) None) (test_other e.at b ne) ∙ sym none)
-      | inr past ↦
-        let m : length (es ++ e ∷ []) ≤ p = let k = length_push es e in omega arith in
-        ap (state_at b) (slice_get_past (es ++ e ∷ []) p m) ∙ sym none
-    ]
+      let none : state_at b (slice_get es p) ≡ None = ap (state_at b) (slice_get_past es p g) in
+      elim (cases_eq p (length es)) [
+        | inl s ↦
+            let last : slice_get (es ++ e ∷ []) p ≡ Some e = ap (slice_get (es ++ e ∷ [])) s ∙ last_entry es e in
+            ap (state_at b) last ∙ (ap (λ (t : Bool). cond t (Some e.state) None) (test_other e.at b ne) ∙ sym none)
+        | inr past ↦
+            let m : length (es ++ e ∷ []) ≤ p = let k = length_push es e in omega arith in
+            ap (state_at b) (slice_get_past (es ++ e ∷ []) p m) ∙ sym none
+      ]
 ]
 
 module _ (t new : Table) (at : ℕ) (s : State) (inside : at < length t.places.items) (places : new.places.items ≡ set t.places.items at (length t.entries.items)) (entries : new.entries.items ≡ t.entries.items ++ record { at = at; state = s } ∷ []) where

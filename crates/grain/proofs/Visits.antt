@@ -1,10 +1,9 @@
 -- The walk's table, as what was seen.
-use Rattle.std.proofs.Common.{◌≡◌, ◌≢◌, ℕ, zero, suc, ◌+◌, ◌*◌, ◌<◌, ◌≤◌, inl, inr, max, Bool, true, false, cond, nat_eq, not, ◌&&◌, eqb, List, [], ◌∷◌, ◌++◌, length, get_or, set, slice_get, map, Option, Some, None, option_map, refl, sym, ap, subst, ◌∙◌, arith}
+use Rattle.std.proofs.Common.{◌≡◌, ◌≢◌, ℕ, zero, suc, ◌+◌, ◌*◌, ◌<◌, ◌≤◌, inl, inr, max, true, false, not, ◌&&◌, eqb, List, [], ◌∷◌, ◌++◌, length, get_or, set, slice_get, map, Option, Some, None, option_map, refl, sym, ap, subst, ◌∙◌, arith}
 use Rattle.std.specs.List.{Contains}
-use Rattle.std.proofs.lemmas.Grind.{common_steps}
-use Rattle.std.proofs.lemmas.List.{append-nil, length-append, length-map, length_push, map_push, length-set}
+use Rattle.std.proofs.lemmas.List.{append-nil, length-append, length-map, length_push, map_push}
 use Rattle.std.proofs.lemmas.List.Elements.{Contains-push}
-use Rattle.std.proofs.lemmas.Bool.{cases_eq, cases_lt}
+use Rattle.std.proofs.lemmas.Bool.{cases_eq}
 use Rattle.std.proofs.lemmas.Bool.Decides.{nat_tests}
 use Rattle.grain_bytecode.specs.Span.{Span}
 use Rattle.grain_bytecode.specs.declared.op.Op.{Op}
@@ -62,14 +61,14 @@ pub unseen_noted : (seen new : Seen) (at end : ℕ) (c : Counts) → at < end �
 unseen_noted seen new at zero c l fresh here others = absurd (omega arith)
 unseen_noted seen new at (suc end) c l fresh here others = elim (cases_eq end at) [
   | inl s ↦
-    let e = unseen_same seen new at end (omega arith) others in
-    let f : gap (new end) ≡ 0 = ap gap (ap new s ∙ here) in
-    let g : gap (seen end) ≡ 1 = ap gap (ap seen s ∙ fresh) in
-    omega (arith, e, f, g)
+      let e = unseen_same seen new at end (omega arith) others in
+      let f : gap (new end) ≡ 0 = ap gap (ap new s ∙ here) in
+      let g : gap (seen end) ≡ 1 = ap gap (ap seen s ∙ fresh) in
+      omega (arith, e, f, g)
   | inr ne ↦
-    let e = unseen_noted seen new at end c (omega arith) fresh here others in
-    let f : gap (new end) ≡ gap (seen end) = ap gap (others end ne) in
-    omega (arith, e, f)
+      let e = unseen_noted seen new at end c (omega arith) fresh here others in
+      let f : gap (new end) ≡ gap (seen end) = ap gap (others end ne) in
+      omega (arith, e, f)
 ]
 
 some_unseen : (seen : Seen) (at end : ℕ) → at < end → seen at ≡ None → 0 < unseen seen end

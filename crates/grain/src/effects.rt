@@ -94,14 +94,19 @@ impl Effect {
                 argc,
                 receiver: Receiver::Local(_),
                 ..
-            } => Effect::taking(u32::from(*argc).saturating_sub(1), 1).asking(needed.of_name(*name)),
+            } => {
+                let argc = u32::from(*argc).saturating_sub(1);
+                Effect::taking(argc, 1).asking(needed.of_name(*name))
+            }
             Op::CallRef {
                 name,
                 argc,
                 receiver: Receiver::This,
                 ..
-            } => Effect::taking(u32::from(*argc), 1)
-                .asking(Caps::THIS.union(needed.of_name(*name))),
+            } => {
+                let caps = Caps::THIS.union(needed.of_name(*name));
+                Effect::taking(u32::from(*argc), 1).asking(caps)
+            }
             Op::Call { name, argc, .. } | Op::CallRef { name, argc, .. } => {
                 Effect::taking(u32::from(*argc), 1).asking(needed.of_name(*name))
             }
@@ -110,8 +115,10 @@ impl Effect {
             }
             Op::MakeArray(len) => Effect::taking(u32::from(*len), 1).asking(Caps::ARRAY),
             Op::MakeMap(len) => Effect::taking(2 * u32::from(*len) + 1, 1).asking(Caps::MAP),
-            Op::Curry(argc) => Effect::taking(u32::from(*argc) + 1, 1)
-                .asking(Caps::FN_PTR.union(Caps::CURRYING)),
+            Op::Curry(argc) => {
+                let caps = Caps::FN_PTR.union(Caps::CURRYING);
+                Effect::taking(u32::from(*argc) + 1, 1).asking(caps)
+            }
             Op::CallFnPtr { argc, .. } => {
                 Effect::taking(u32::from(*argc) + 1, 1).asking(Caps::FN_PTR)
             }

@@ -1,5 +1,4 @@
-use Rattle.std.proofs.Common.{◌≡◌, ◌+◌, ◌≤◌, length, take, sym, subst, ◌∙◌, arith}
-use Rattle.grain.specs.Accepted.{AreIndexed}
+use Rattle.std.proofs.Common.{sym, ◌∙◌, arith}
 use Rattle.grain.proofs.Indexing.{indexed_more, byte_indexed}
 use Rattle.grain.proofs.indices.skip_bytes.Goals as goal
 

@@ -1,9 +1,8 @@
-use Rattle.std.proofs.Common.{arith, ◌≡◌, ◌+◌, ◌-◌, ℕ, refl, sym, ap, ◌∙◌, [], ◌∷◌, ◌<◌, length, map}
+use Rattle.std.proofs.Common.{arith, ◌≡◌, ◌+◌, ◌-◌, sym, ap, [], ◌∷◌, ◌<◌, length, map}
 use Rattle.std.proofs.lemmas.List.{append-nil}
 use Rattle.std.proofs.lemmas.List.Elements.{All-nil}
 use Rattle.grain_bytecode.specs.Table.{width_of}
-use Rattle.grain.specs.Code.{coded}
-use Rattle.grain.specs.Effects.{operands_after, goes_on, going_on}
+use Rattle.grain.specs.Effects.{operands_after}
 use Rattle.grain.specs.Edges.{IsMarkedIn}
 use Rattle.grain.specs.Prepared.{bytecode_of}
 use Rattle.grain.specs.View.{coming, view}

@@ -1,30 +1,24 @@
-use Rattle.std.proofs.Common.{arith, ◌≡◌, ◌⊎◌, inl, inr, refl, ap, sym, subst, ◌∙◌, ◌+◌, ◌-◌, ◌++◌, ℕ, Bool, List, [], ◌∷◌, map}
-use Rattle.std.specs.List.{All, Contains}
+use Rattle.std.proofs.Common.{arith, ◌≡◌, ◌⊎◌, inl, inr, refl, ap, sym, subst, ◌∙◌, ◌+◌, ◌-◌, ℕ, List, [], ◌∷◌}
+use Rattle.std.specs.List.{Contains}
 use Rattle.std.specs.Option.{option_map}
 use Rattle.std.proofs.lemmas.Result.{err_from_is_err_and}
-use Rattle.std.proofs.lemmas.List.Elements.{All-weaker}
 use Rattle.grain_bytecode.specs.Table.{width_of}
 use Rattle.grain.specs.Capabilities.{Allows}
-use Rattle.grain_bytecode.specs.Span.{Span}
-use Rattle.grain_bytecode.specs.declared.op.Op.{Op}
-use Rattle.grain.specs.Code.{Bytecode, coded}
-use Rattle.grain.specs.Counts.{Counts}
-use Rattle.grain.specs.Edges.{IsMarkedIn, MarksStarts, all_to, arrivals, onwards}
-use Rattle.grain.specs.Effects.{targets, operands_after}
+use Rattle.grain.specs.Code.{coded}
+use Rattle.grain.specs.Effects.{operands_after}
 use Rattle.grain.specs.Fault.{ChunkFault, Comes}
 use Rattle.grain.specs.Prepared.{bytecode_of}
-use Rattle.grain.specs.Typing.{IsInChunk, Passes, StandsIn}
-use Rattle.grain.specs.View.{coming, view}
-use Rattle.grain.specs.Ways.{way_of, targets_by, goes_on_by, jumping_by, going_on_by}
+use Rattle.grain.specs.Typing.{StandsIn}
+use Rattle.grain.specs.View.{view}
+use Rattle.grain.specs.Ways.{goes_on_by, going_on_by}
 use Rattle.grain.specs.declared.arrival.Arrival.{Arrival}
-use Rattle.grain.specs.declared.effects.Way.{Way}
 use Rattle.grain.specs.declared.error.VerifyError.TheVariants.{OutOfMemory}
 use Rattle.grain.proofs.Once.{wide}
-use Rattle.grain.proofs.Parts.{marked_in, refused_state, refused_target}
+use Rattle.grain.proofs.Parts.{refused_state, refused_target}
 use Rattle.grain.proofs.Pushing.{comes_next, comes_not}
 use Rattle.grain.proofs.Splits.{start_op, boundary_apart}
 use Rattle.grain.proofs.Visited.{visited}
-use Rattle.grain.proofs.Ways.{targets_known, jumping_known, going_known, goes_known, passes_known, short_state, left_is, some_onward, none_onward}
+use Rattle.grain.proofs.Ways.{targets_known, going_known, goes_known, passes_known, short_state, left_is, some_onward, none_onward}
 use Rattle.grain.proofs.prepared.Prepared.visit_decoded.Goals as goal
 
 pub unreachable-requires : goal.unreachable-requires

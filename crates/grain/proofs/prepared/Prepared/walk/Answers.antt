@@ -1,10 +1,10 @@
-use Rattle.std.proofs.Common.{map, ◌≡◌, ◌<◌, ◌++◌, ◌∷◌, ◌+◌, [], ℕ, List, inr, Some, None, max, option_map, sym, ◌∙◌, ap, refl, subst, length, arith}
+use Rattle.std.proofs.Common.{map, ◌≡◌, ◌<◌, ◌++◌, ◌∷◌, ◌+◌, [], ℕ, List, inr, Some, max, option_map, sym, ◌∙◌, ap, refl, subst, length, arith}
 use Rattle.std.proofs.lemmas.Grind.{common_steps}
 use Rattle.std.specs.Option.{option_to_list}
 use Rattle.std.proofs.lemmas.List.{append-nil, length-set, length_push}
 use Rattle.std.proofs.lemmas.List.Elements.{All-contains}
 use Rattle.grain.specs.Code.{coded}
-use Rattle.grain.specs.Counts.{Counts, nothing}
+use Rattle.grain.specs.Counts.{nothing}
 use Rattle.grain.specs.Effects.{targets}
 use Rattle.grain.specs.Prepared.{bytecode_of}
 use Rattle.grain.specs.Typing.{IsInChunk}
