@@ -12,7 +12,6 @@ use Rattle.grain.specs.Setting.{Setting, case_consts}
 use Rattle.grain.specs.declared.indices.BadIndex.{BadIndex}
 use Rattle.grain.specs.TestedBits.{Has}
 use Rattle.grain.specs.declared.pools.Pools.{Pools}
-use Rattle.grain.specs.declared.tested.Tested.{Tested}
 
 -- the pools alone: bounds of indices don't depend on the capabilities
 abbrev pub alone : Pools → Setting
@@ -41,11 +40,11 @@ receiver_fields (receiver.Named n) = name n ∷ []
 receiver_fields from = []
 
 -- the chains that are noted have no index out of bounds
-abbrev pub ChainsPass : Pools → Tested → Type 0
+abbrev pub ChainsPass : Pools → List ℕ → Type 0
 ChainsPass pools passed = (i : ℕ) → Has passed i → first_out (alone pools) (get_or (map chain_fields pools.chains.now) i []) ≡ None
 
 -- the switches that are noted have no case whose constant is out of bounds
-abbrev pub CasesPass : Pools → Tested → Type 0
+abbrev pub CasesPass : Pools → List ℕ → Type 0
 CasesPass pools passed = (i : ℕ) → Has passed i → first_past pools.consts (get_or (map case_consts pools.switches.now) i []) ≡ None
 
 -- what a refusal names

@@ -1,5 +1,5 @@
 //! Indices into pools.
-ghost use Rattle.std.specs.Prelude.{◌≡◌, [], ◌∷◌, ◌+◌, ◌<◌, ◌≤◌, IfErr, IfOk, IsTrue, OnOk, get_or, length, map, take};
+ghost use Rattle.std.specs.Prelude.{◌≡◌, [], ◌∷◌, ◌+◌, ◌<◌, ◌≤◌, IfErr, IfOk, IsTrue, OnOk, ℕ, get_or, length, map, take};
 ghost use Rattle.std.specs.Option.{option_to_list};
 ghost use Rattle.std.specs.List.{flat_map};
 ghost use Rattle.grain_bytecode.specs.Table.{form};
@@ -12,11 +12,12 @@ ghost use Rattle.grain.specs.Accepted.{AreIndexed};
 ghost use Rattle.grain.specs.Fault.{CodeFault};
 ghost use Rattle.grain.specs.FirstOut.{CasesPass, ChainsPass, alone, first_out, receiver_fields, refused};
 ghost use Rattle.grain.specs.Indices.{Indexed, IsOut, cases_of, chain_fields, fields_of, name_of, root_fields, size, step_fields, tail_fields};
+ghost use Rattle.grain.specs.TestedBits.{Has};
 ghost use Rattle.grain.specs.Setting.{Setting, case_consts, setting};
 
 use crate::error::VerifyError;
 use crate::pools::Pools;
-use crate::tested::Tested;
+use crate::tested::{WORDS, is_noted, note};
 use grain_base::Dynamic;
 use grain_bytecode::{Chain, Op, Pool, Receiver, Root, Step, Switch, Tail, decode, width};
 use std::collections::HashMap;
@@ -139,7 +140,7 @@ fn check_chain(pools: &Pools<'_>, chain: &Chain) -> Result<(), BadIndex>
 
 /// Tests the index of a chain, and those inside the chain, unless they have passed before.
 #[tactic(auto, using(crate::proofs::Passing::chains_more))]
-fn check_chain_at(pools: &Pools<'_>, passed: &mut Tested, index: u32) -> Result<(), BadIndex>
+fn check_chain_at(pools: &Pools<'_>, passed: &mut [u64], index: u32) -> Result<(), BadIndex>
     requires { ChainsPass pools.now passed.old }
     ensures passed { ChainsPass pools.now passed.new }
     ensures refused { refused result ≡ first_out (alone pools.now) (Index Pool.Chains index ∷ get_or (map chain_fields pools.now.chains.now) index []) }
@@ -150,9 +151,9 @@ fn check_chain_at(pools: &Pools<'_>, passed: &mut Tested, index: u32) -> Result<
             index,
         });
     };
-    if !passed.has(index) {
+    if !is_noted(passed, index) {
         check_chain(pools, chain)?;
-        passed.add(index);
+        note(passed, index);
     }
     Ok(())
 }
@@ -168,7 +169,7 @@ fn check_receiver(pools: &Pools<'_>, receiver: Receiver) -> Result<(), BadIndex>
 }
 
 /// Tests the indices of an operation, and those inside the chain that it names.
-fn check_fields(pools: &Pools<'_>, passed: &mut Tested, op: &Op) -> Result<(), BadIndex>
+fn check_fields(pools: &Pools<'_>, passed: &mut [u64], op: &Op) -> Result<(), BadIndex>
     requires { ChainsPass pools.now passed.old }
     ensures passed { ChainsPass pools.now passed.new }
     ensures refused { refused result ≡ first_out (alone pools.now) (fields_of (alone pools.now) op.now) }
@@ -238,23 +239,23 @@ fn case_past(switch: &Switch, consts: usize) -> Option<u32>
 
 /// The same of the switch at an index, unless its cases have passed before.
 #[tactic(auto, using(crate::proofs::Passing::cases_more))]
-fn case_past_at(pools: &Pools<'_>, passed: &mut Tested, index: u32) -> Option<u32>
+fn case_past_at(pools: &Pools<'_>, passed: &mut [u64], index: u32) -> Option<u32>
     requires { CasesPass pools.now passed.old }
     ensures passed { CasesPass pools.now passed.new }
     ensures past { result ≡ first_past pools.now.consts (get_or (map case_consts pools.now.switches.now) index []) }
 {
-    if passed.has(index) {
+    if is_noted(passed, index) {
         return None;
     }
     let past = case_past(pools.switches.get(index as usize)?, pools.consts);
     if past.is_none() {
-        passed.add(index);
+        note(passed, index);
     }
     past
 }
 
 /// The same of the switch that an operation names.
-fn named_case_past(pools: &Pools<'_>, passed: &mut Tested, op: &Op) -> Option<u32>
+fn named_case_past(pools: &Pools<'_>, passed: &mut [u64], op: &Op) -> Option<u32>
     requires { CasesPass pools.now passed.old }
     ensures passed { CasesPass pools.now passed.new }
     ensures past { result ≡ first_past pools.now.consts (cases_of (alone pools.now) op.now) }
@@ -265,25 +266,23 @@ fn named_case_past(pools: &Pools<'_>, passed: &mut Tested, op: &Op) -> Option<u3
     }
 }
 
-/// The chains and the switches that have been tested and passed, so that what many instructions name is tested once.
-#[derive(Drop)]
-pub(crate) struct Passed {
-    chains: Tested,
-    switches: Tested,
-}
-
 /// Tests every index of an operation: its own, those inside the chain that it names, and those of the cases of its switch.
 #[tactic(auto, using(crate::proofs::Bounds::indexed, crate::proofs::Bounds::field_out, crate::proofs::Bounds::case_out))]
-fn check_op(pools: &Pools<'_>, passed: &mut Passed, op: &Op) -> Result<(), BadIndex>
-    requires chains { ChainsPass pools.now passed.old.chains }
-    requires switches { CasesPass pools.now passed.old.switches }
-    ensures chains { ChainsPass pools.now passed.new.chains }
-    ensures switches { CasesPass pools.now passed.new.switches }
+fn check_op(
+    pools: &Pools<'_>,
+    chains: &mut [u64],
+    switches: &mut [u64],
+    op: &Op,
+) -> Result<(), BadIndex>
+    requires chains { ChainsPass pools.now chains.old }
+    requires switches { CasesPass pools.now switches.old }
+    ensures chains { ChainsPass pools.now chains.new }
+    ensures switches { CasesPass pools.now switches.new }
     ensures ok { OnOk result (Indexed (alone pools.now) op.now) }
     ensures err { IfErr result (λ bad. IsOut (alone pools.now) op.now (name_of bad.pool) bad.index) }
 {
-    check_fields(pools, &mut passed.chains, op)?;
-    match named_case_past(pools, &mut passed.switches, op) {
+    check_fields(pools, chains, op)?;
+    match named_case_past(pools, switches, op) {
         Some(index) => Err(BadIndex {
             pool: Pool::Constants,
             index,
@@ -312,16 +311,17 @@ fn is_plain(tag: u8) -> bool
 /// Where the next instruction begins, once the one at an address has been tested.
 fn check_at(
     pools: &Pools<'_>,
-    passed: &mut Passed,
+    chains: &mut [u64],
+    switches: &mut [u64],
     code: &[u8],
     at: usize,
 ) -> Result<usize, VerifyError>
-    requires chains { ChainsPass pools.now passed.old.chains }
-    requires switches { CasesPass pools.now passed.old.switches }
+    requires chains { ChainsPass pools.now chains.old }
+    requires switches { CasesPass pools.now switches.old }
     requires inside { at < length code.now }
     requires front { AreIndexed (alone pools.now) (take at code.now) }
-    ensures chains { ChainsPass pools.now passed.new.chains }
-    ensures switches { CasesPass pools.now passed.new.switches }
+    ensures chains { ChainsPass pools.now chains.new }
+    ensures switches { CasesPass pools.now switches.new }
     ensures further { IfOk result (λ next. (at < next) × (next ≤ length code.now)) }
     ensures ok { IfOk result (λ next. AreIndexed (alone pools.now) (take next code.now)) }
     ensures err { IfErr result (λ e. CodeFault (alone pools.now) code.now e) }
@@ -335,7 +335,7 @@ fn check_at(
     let Some(op) = decode(code, at) else {
         return Err(VerifyError::Undecodable { at });
     };
-    match check_op(pools, passed, &op) {
+    match check_op(pools, chains, switches, &op) {
         Ok(()) => Ok(at + width),
         Err(bad) => Err(VerifyError::BadIndex {
             at,
@@ -360,24 +360,40 @@ fn skip_bytes(code: &[u8], from: usize) -> usize
     at
 }
 
-/// Tests that the code is instructions from its start to its end, each with its indices in bounds.
+/// The same as `check_code`, with words to note the chains and the switches that have passed, none of which has.
+fn check_from(
+    pools: &Pools<'_>,
+    chains: &mut [u64],
+    switches: &mut [u64],
+    code: &[u8],
+) -> Result<(), VerifyError>
+    requires chains { (i : ℕ) → Has chains.old i → ⊥ }
+    requires switches { (i : ℕ) → Has switches.old i → ⊥ }
+    ensures ok { OnOk result (AreIndexed (alone pools.now) code.now) }
+    ensures err { IfErr result (λ e. CodeFault (alone pools.now) code.now e) }
+{
+    let mut at = skip_bytes(code, 0);
+    while at < code.len() {
+        let next = check_at(pools, chains, switches, code, at)?;
+        at = skip_bytes(code, next);
+    }
+    Ok(())
+}
+
+/// Tests that the code is instructions from its start to its end, each with its indices in bounds. What many
+/// instructions name is tested once.
 ///
 /// # Errors
 /// `Undecodable` and `BadIndex`, of the first instruction that doesn't pass and its first index that is out of bounds.
 /// Of the cases of a switch any such index may be named.
-#[tactic(auto, using(crate::proofs::Indexing::indexed_none, crate::proofs::Indexing::code_whole, crate::proofs::Indexing::fault_any))]
+#[tactic(auto, using(crate::proofs::Indexing::code_any, crate::proofs::Indexing::fault_any))]
 pub(crate) fn check_code(pools: &Pools<'_>, code: &[u8]) -> Result<(), VerifyError>
     ensures ok { OnOk result ((caps : Caps) → AreIndexed (setting caps pools.now) code.now) }
     ensures err { IfErr result (λ e. (caps : Caps) → CodeFault (setting caps pools.now) code.now e) }
 {
-    let mut passed = Passed {
-        chains: Tested::new(),
-        switches: Tested::new(),
-    };
-    let mut at = skip_bytes(code, 0);
-    while at < code.len() {
-        let next = check_at(pools, &mut passed, code, at)?;
-        at = skip_bytes(code, next);
+    if pools.chains.is_empty() && pools.switches.is_empty() {
+        check_from(pools, &mut [], &mut [], code)
+    } else {
+        check_from(pools, &mut [0; WORDS], &mut [0; WORDS], code)
     }
-    Ok(())
 }
