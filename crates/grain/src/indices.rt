@@ -292,7 +292,7 @@ fn check_op(
 }
 
 /// Whether the instruction of each tag has no index (docs/FORMAT.md, "Instructions"), so that it needs not be decoded.
-static PLAIN: [bool; 80] = [
+static UNINDEXED: [bool; 80] = [
     false, false, true, true, true, true, true, false, false, false, false, true, true, true, true,
     false, false, true, true, true, false, false, false, true, false, false, false, false, true,
     true, true, true, true, true, true, true, false, true, true, true, true, true, true, true,
@@ -301,11 +301,12 @@ static PLAIN: [bool; 80] = [
     true, false, false, false, false, false, false,
 ];
 
-fn is_plain(tag: u8) -> bool
+/// Whether an instruction with this tag has no index.
+fn is_unindexed(tag: u8) -> bool
     ensures { IsTrue result → (s : Setting) (op : Op) → (form op).0 ≡ tag → Indexed s op }
 {
     let tag = tag as usize;
-    tag < PLAIN.len() && PLAIN[tag]
+    tag < UNINDEXED.len() && UNINDEXED[tag]
 }
 
 /// Where the next instruction begins, once the one at an address has been tested.
@@ -329,7 +330,7 @@ fn check_at(
     let Some(width) = width(code, at) else {
         return Err(VerifyError::Undecodable { at });
     };
-    if is_plain(code[at]) {
+    if is_unindexed(code[at]) {
         return Ok(at + width);
     }
     let Some(op) = decode(code, at) else {
