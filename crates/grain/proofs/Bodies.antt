@@ -6,10 +6,10 @@ use Rattle.std.proofs.lemmas.Bool.Decides.{nat_tests}
 use Rattle.std.proofs.lemmas.List.{append-nil, drop-drop}
 use Rattle.std.proofs.lemmas.List.Concat.{flat_map-cons}
 use Rattle.grain_base.specs.Content.{Content}
-use Rattle.grain_bytecode.specs.Dispatch.{Table, dispatched, targets}
+use Rattle.grain_bytecode.specs.Dispatch.{Arms, dispatched, targets}
 use Rattle.grain_bytecode.specs.Span.{Span, body}
 use Rattle.grain_bytecode.specs.Split.{AreInstructions}
-use Rattle.grain_bytecode.specs.Table.{spelling, width_of}
+use Rattle.grain_bytecode.specs.InstructionTable.{spelling, width_of}
 use Rattle.grain_bytecode.specs.declared.op.Op.{Op}
 use Rattle.grain_bytecode.specs.declared.op.Op.TheVariants as ops
 use Rattle.grain_bytecode.proofs.Dispatching.{dispatched_among}
@@ -17,7 +17,7 @@ use Rattle.grain_bytecode.proofs.Splits.{instr_is}
 use Rattle.grain.specs.Accepted.{ChunkPasses}
 use Rattle.grain.specs.Code.{Bytecode, coded}
 use Rattle.grain.specs.Counts.{Counts}
-use Rattle.grain.specs.Effects.{jumping}
+use Rattle.grain.specs.Effects.{after_jump}
 use Rattle.grain.specs.Layout.{IsStart, IsBoundary}
 use Rattle.grain.specs.Machine.{Machine, Finds, IsOnKeptRun, counts}
 use Rattle.grain.specs.Typing.{IsInChunk, IsTyping}
@@ -57,11 +57,11 @@ body_whole code chunk p =
     (all.0, subst (λ (b : List ℕ). AreInstructions b all.0) (sym cut) all.1)
 
 -- where a switch leads that a kept run meets, the typing covers a place of the chunk
-pub switch_inside : (code : Bytecode) (chunk : Span) (m : ℕ) (typing : ℕ → Option Counts) → IsTyping (coded code) chunk m typing → (x : Machine) → IsOnKeptRun (coded code) chunk x → (w : ℕ) → Finds (coded code) chunk x (ops.Switch w) → (t : Table) (subject : Content) → get_or code.switches w [] ≡ targets t → IsInChunk (coded code) chunk (dispatched t subject) × ((c : Counts) × (typing (dispatched t subject) ≡ Some c))
+pub switch_inside : (code : Bytecode) (chunk : Span) (m : ℕ) (typing : ℕ → Option Counts) → IsTyping (coded code) chunk m typing → (x : Machine) → IsOnKeptRun (coded code) chunk x → (w : ℕ) → Finds (coded code) chunk x (ops.Switch w) → (t : Arms) (subject : Content) → get_or code.switches w [] ≡ targets t → IsInChunk (coded code) chunk (dispatched t subject) × ((c : Counts) × (typing (dispatched t subject) ≡ Some c))
 switch_inside code chunk m typing h x run w f t subject e =
     let reached = (kept_run_tied (coded code) chunk m (typing, h) run.0 x run.1).reached in
     let covered = typing_covers (coded code) chunk m typing h x.address (counts x) reached in
     let among = subst (λ (ts : List ℕ). Contains ts (dispatched t subject)) (sym e) (dispatched_among t subject) in
-    let c = jumping code.setting (ops.Switch w) (counts x) in
+    let c = after_jump code.setting (ops.Switch w) (counts x) in
     let there = h.closed x.address (counts x) (ops.Switch w) (dispatched t subject) c covered f.stands.is (inl (among, refl)) in
     ((h.met (dispatched t subject) c there).1.stands.within, (c, there))

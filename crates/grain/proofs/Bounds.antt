@@ -12,7 +12,7 @@ use Rattle.grain_bytecode.specs.declared.field.Field.TheVariants.{Index, Slot, C
 use Rattle.grain_bytecode.specs.declared.field.Pool.{Pool}
 use Rattle.grain.specs.FirstOut.{first_out}
 use Rattle.grain_bytecode.specs.declared.field.Pool.TheVariants.{Constants}
-use Rattle.grain.specs.Indices.{Indexed, IsBounded, IsOut, cases_of, fields_of, name_of, size}
+use Rattle.grain.specs.Indices.{Indexed, IsBounded, IsOut, cases_of, fields_of, entry_name, size}
 use Rattle.grain.specs.Setting.{Setting}
 
 or_cond : {A : Type 0} (b : Bool) (x y : Option A) (z : A) → cond b (option_or x y) (Some z) ≡ option_or (cond b x (Some z)) y
@@ -71,13 +71,13 @@ indexed s op fields cases =
     record { fields = out_none s (fields_of s op) fields; cases = recursion_from_All (λ c. c < s.consts) (cases_of s op) (past_none s.consts (cases_of s op) cases) }
 
 -- one of its fields isn't
-pub field_out : (s : Setting) (op : Op) (pool : Pool) (x : ℕ) → first_out s (fields_of s op) ≡ Some (pool, x) → IsOut s op (name_of pool) x
+pub field_out : (s : Setting) (op : Op) (pool : Pool) (x : ℕ) → first_out s (fields_of s op) ≡ Some (pool, x) → IsOut s op (entry_name pool) x
 field_out s op pool x is =
     let first = out_some s (fields_of s op) pool x is in
     inl (record { earlier = first.earlier; bad = Index pool x; later = first.later; order = first.order; passed = first.passed; fails = first.fails; named = (refl, refl) })
 
 -- its fields are, and a case isn't
-pub case_out : (s : Setting) (op : Op) (x : ℕ) → first_out s (fields_of s op) ≡ None → first_past s.consts (cases_of s op) ≡ Some x → IsOut s op (name_of Constants) x
+pub case_out : (s : Setting) (op : Op) (x : ℕ) → first_out s (fields_of s op) ≡ None → first_past s.consts (cases_of s op) ≡ Some x → IsOut s op (entry_name Constants) x
 case_out s op x fields is =
     let past = past_some s.consts x (cases_of s op) is in
     inr (record { passed = out_none s (fields_of s op) fields; case = past.0; fails = past.1; named = refl })

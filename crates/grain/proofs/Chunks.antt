@@ -5,9 +5,8 @@ use Rattle.std.proofs.lemmas.List.{get_or_default, take_more}
 use Rattle.std.proofs.lemmas.List.Elements.{AllWithin-more}
 use Rattle.grain_bytecode.specs.Span.{Span}
 use Rattle.grain.specs.Accepted.{ChunkPasses}
-use Rattle.grain.specs.Code.{Bytecode, coded}
-use Rattle.grain.specs.Fault.{ChunkFault, IsFirstFault}
-use Rattle.grain.specs.Typing.{IsDeepest}
+use Rattle.grain.specs.Code.{Bytecode}
+use Rattle.grain.specs.Flaw.{ChunkFlaw, IsFirstFlaw}
 use Rattle.grain.specs.declared.error.VerifyError.{VerifyError}
 
 -- what holds of the chunk at a place, which was read there
@@ -20,8 +19,8 @@ passes_more code chunks i x l e before h = AllWithin-more (ChunkPasses code) chu
 pub passes_there : (code : Bytecode) (chunks : List Span) (i : ℕ) (x : Span) → i < length chunks → x ≡ get_or chunks i x → All (ChunkPasses code) chunks → ChunkPasses code x
 passes_there code chunks i x l e all = subst (ChunkPasses code) (sym e) (all i x l)
 
-pub first_fault : (code : Bytecode) (chunks : List Span) (i : ℕ) (x : Span) (e : VerifyError) → i < length chunks → x ≡ get_or chunks i x → AllWithin (ChunkPasses code) chunks 0 i → ChunkFault code x e → IsFirstFault code chunks e
-first_fault code chunks i x e l is before h = record { place = i; inside = l; earlier = before; here = holds_at (λ (chunk : Span). ChunkFault code chunk e) chunks i x l is h }
+pub first_flaw : (code : Bytecode) (chunks : List Span) (i : ℕ) (x : Span) (e : VerifyError) → i < length chunks → x ≡ get_or chunks i x → AllWithin (ChunkPasses code) chunks 0 i → ChunkFlaw code x e → IsFirstFlaw code chunks e
+first_flaw code chunks i x e l is before h = record { place = i; inside = l; earlier = before; here = holds_at (λ (chunk : Span). ChunkFlaw code chunk e) chunks i x l is h }
 
 zip_push : {A B : Type 0} (R : A → B → Type 0) (xs : List A) (ys : List B) (x : A) (y : B) → AllZip R xs ys → R x y → AllZip R (xs ++ x ∷ []) (ys ++ y ∷ [])
 zip_push R [] [] x y h r = (r, tt)
@@ -29,6 +28,7 @@ zip_push R [] (v ∷ vs) x y h r = absurd h
 zip_push R (u ∷ us) [] x y h r = absurd h
 zip_push R (u ∷ us) (v ∷ vs) x y h r = (h.0, zip_push R us vs x y h.1 r)
 
-pub deepest_more : (code : Bytecode) (chunks : List Span) (numbers : List ℕ) (i : ℕ) (x : Span) (n : ℕ) → i < length chunks → x ≡ get_or chunks i x → AllZip (IsDeepest (coded code)) (take i chunks) numbers → IsDeepest (coded code) x n → AllZip (IsDeepest (coded code)) (take (i + 1) chunks) (numbers ++ n ∷ [])
-deepest_more code chunks numbers i x n l e h r =
-    subst (λ (zs : List Span). AllZip (IsDeepest (coded code)) zs (numbers ++ n ∷ [])) (sym (take_more chunks i x l)) (zip_push (IsDeepest (coded code)) (take i chunks) numbers (get_or chunks i x) n h (subst (λ (y : Span). IsDeepest (coded code) y n) e r))
+-- a number of one more chunk
+pub number_more : (R : Span → ℕ → Type 0) (chunks : List Span) (numbers : List ℕ) (i : ℕ) (x : Span) (n : ℕ) → i < length chunks → x ≡ get_or chunks i x → AllZip R (take i chunks) numbers → R x n → AllZip R (take (i + 1) chunks) (numbers ++ n ∷ [])
+number_more R chunks numbers i x n l e h r =
+    subst (λ (zs : List Span). AllZip R zs (numbers ++ n ∷ [])) (sym (take_more chunks i x l)) (zip_push R (take i chunks) numbers (get_or chunks i x) n h (subst (λ (y : Span). R y n) e r))

@@ -1,4 +1,4 @@
--- A chunk with a typing has no fault, and its kept runs are safe.
+-- A chunk with a typing has no flaw, and its kept runs are safe.
 use Rattle.std.proofs.Common.{◌≡◌, ℕ, ◌<◌, ◌≤◌, inl, inr, Some, refl, sym, ap, subst, ◌∙◌, arith}
 use Rattle.std.proofs.lemmas.Option.{same_Some}
 use Rattle.grain_bytecode.specs.Span.{Span}
@@ -7,8 +7,8 @@ use Rattle.grain.specs.Accepted.{ChunkPasses, IsSafe}
 use Rattle.grain.specs.Capabilities.{Allows, caps_of}
 use Rattle.grain.specs.Code.{Bytecode, Code, coded}
 use Rattle.grain.specs.Counts.{Counts, nothing}
-use Rattle.grain.specs.Effects.{Meets, going_on, jumping}
-use Rattle.grain.specs.Fault.{ChunkFault, Comes, FallsOff, Leads}
+use Rattle.grain.specs.Effects.{Meets, after_fall, after_jump}
+use Rattle.grain.specs.Flaw.{ChunkFlaw, Comes, FallsOff, Leads}
 use Rattle.grain.specs.Machine.{counts}
 use Rattle.grain.specs.Typing.{IsInChunk, HasTyping, Passes, Reached, IsDeepest}
 use Rattle.grain.specs.declared.error.VerifyError.{VerifyError}
@@ -23,13 +23,13 @@ module _ (code : Bytecode) (chunk : Span) (m : ℕ) (typed : HasTyping (coded co
   -- a named target is a start of the chunk
   named_inside : (at target : ℕ) → Leads code chunk at target → IsInChunk (coded code) chunk target
   named_inside at target n =
-      let e = typed.1.closed at n.counts n.op target (jumping code.setting n.op n.counts) (covered at n.counts n.reached) n.passes.stands.is (inl (n.names, refl)) in
-      (typed.1.met target (jumping code.setting n.op n.counts) e).1.stands.within
+      let e = typed.1.closed at n.counts n.op target (after_jump code.setting n.op n.counts) (covered at n.counts n.reached) n.passes.stands.is (inl (n.names, refl)) in
+      (typed.1.met target (after_jump code.setting n.op n.counts) e).1.stands.within
 
   falls_nowhere : FallsOff code chunk → ⊥
   falls_nowhere f =
-      let e = typed.1.closed f.at f.counts f.op chunk.end (going_on code.setting f.op f.counts) (covered f.at f.counts f.reached) f.passes.stands.is (inr (f.goes, sym f.end, refl)) in
-      let h = (typed.1.met chunk.end (going_on code.setting f.op f.counts) e).1.stands.within.end in
+      let e = typed.1.closed f.at f.counts f.op chunk.end (after_fall code.setting f.op f.counts) (covered f.at f.counts f.reached) f.passes.stands.is (inr (f.goes, sym f.end, refl)) in
+      let h = (typed.1.met chunk.end (after_fall code.setting f.op f.counts) e).1.stands.within.end in
       omega arith
 
   passes_here : (at : ℕ) (op : Op) (c : Counts) → Comes code chunk at op c → Passes (coded code) chunk at c op
@@ -50,31 +50,31 @@ module _ (code : Bytecode) (chunk : Span) (m : ℕ) (typed : HasTyping (coded co
 pub typed_holds : (code : Bytecode) (chunk : Span) (m : ℕ) → HasTyping (coded code) chunk m → chunk.entry < chunk.end
 typed_holds code chunk m t = (t.1.met chunk.entry nothing t.1.entry).1.stands.within.end
 
--- no fault of a chunk that is framed and has a typing within its declared stack
-pub no_fault : (code : Bytecode) (chunk : Span) (e : VerifyError) → ChunkPasses code chunk → ChunkFault code chunk e → ⊥
-no_fault code chunk (errors.MissingCaps artifact lacking at) p (f, a, (op, c, comes, e, ne)) = ne (e ∙ allowed_here code chunk chunk.max_stack p.typed at op c comes)
-no_fault code chunk (errors.ChunkOutOfRange entry end len) p (a, b, c, inl l) = let r = p.framed.inside in omega arith
-no_fault code chunk (errors.ChunkOutOfRange entry end len) p (a, b, c, inr l) = let r = p.framed.ordered in omega arith
-no_fault code chunk (errors.JumpIntoAnInstruction at target) p (inl (a, b, c, inl h)) = h.1 p.framed.entry
-no_fault code chunk (errors.JumpIntoAnInstruction at target) p (inl (a, b, c, inr h)) = h.2 p.framed.end
-no_fault code chunk (errors.JumpIntoAnInstruction at target) p (inr h) = h.4 (named_inside code chunk chunk.max_stack p.typed at target h.1).place
-no_fault code chunk (errors.JumpOutOfRange at target) p (g, n, inl l) = let h = (named_inside code chunk chunk.max_stack p.typed at target n).entry in omega arith
-no_fault code chunk (errors.JumpOutOfRange at target) p (g, n, inr l) = let h = (named_inside code chunk chunk.max_stack p.typed at target n).end in omega arith
-no_fault code chunk (errors.DepthConflict at expected found) p (f, i, c) = c.unlike (one_state code chunk chunk.max_stack p.typed at c.one c.other c.one_reached c.other_reached)
-no_fault code chunk (errors.Underflow at need have) p (f, (op, c, comes, en, eh, l)) = let h = (met_here code chunk chunk.max_stack p.typed at op c comes.comes).operands in omega arith
-no_fault code chunk (errors.IteratorUnderflow at) p (f, (op, c, comes, l)) = let h = (met_here code chunk chunk.max_stack p.typed at op c comes.comes).iterators in omega arith
-no_fault code chunk (errors.HandlerUnderflow at) p (f, (op, c, comes, l)) = let h = (met_here code chunk chunk.max_stack p.typed at op c comes.comes).handlers in omega arith
-no_fault code chunk errors.FallsOffTheEnd p (inl h) = let k = h.0 in let l = typed_holds code chunk chunk.max_stack p.typed in omega arith
-no_fault code chunk errors.FallsOffTheEnd p (inr h) = falls_nowhere code chunk chunk.max_stack p.typed h.1
-no_fault code chunk (errors.StackExceedsDeclared needed declared) p (f, e, l, d, w) =
+-- no flaw of a chunk that is framed and has a typing within its declared stack
+pub no_flaw : (code : Bytecode) (chunk : Span) (e : VerifyError) → ChunkPasses code chunk → ChunkFlaw code chunk e → ⊥
+no_flaw code chunk (errors.MissingCaps artifact absent at) p (f, a, (op, c, comes, e, ne)) = ne (e ∙ allowed_here code chunk chunk.max_stack p.typed at op c comes)
+no_flaw code chunk (errors.ChunkOutOfRange entry end len) p (a, b, c, inl l) = let r = p.framed.inside in omega arith
+no_flaw code chunk (errors.ChunkOutOfRange entry end len) p (a, b, c, inr l) = let r = p.framed.ordered in omega arith
+no_flaw code chunk (errors.JumpIntoAnInstruction at target) p (inl (a, b, c, inl h)) = h.1 p.framed.entry
+no_flaw code chunk (errors.JumpIntoAnInstruction at target) p (inl (a, b, c, inr h)) = h.2 p.framed.end
+no_flaw code chunk (errors.JumpIntoAnInstruction at target) p (inr h) = h.4 (named_inside code chunk chunk.max_stack p.typed at target h.1).place
+no_flaw code chunk (errors.JumpOutOfRange at target) p (g, n, inl l) = let h = (named_inside code chunk chunk.max_stack p.typed at target n).entry in omega arith
+no_flaw code chunk (errors.JumpOutOfRange at target) p (g, n, inr l) = let h = (named_inside code chunk chunk.max_stack p.typed at target n).end in omega arith
+no_flaw code chunk (errors.DepthConflict at expected found) p (f, i, c) = c.unlike (one_state code chunk chunk.max_stack p.typed at c.one c.other c.one_reached c.other_reached)
+no_flaw code chunk (errors.Underflow at need have) p (f, (op, c, comes, en, eh, l)) = let h = (met_here code chunk chunk.max_stack p.typed at op c comes.comes).operands in omega arith
+no_flaw code chunk (errors.IteratorUnderflow at) p (f, (op, c, comes, l)) = let h = (met_here code chunk chunk.max_stack p.typed at op c comes.comes).iterators in omega arith
+no_flaw code chunk (errors.HandlerUnderflow at) p (f, (op, c, comes, l)) = let h = (met_here code chunk chunk.max_stack p.typed at op c comes.comes).handlers in omega arith
+no_flaw code chunk errors.FallsOffTheEnd p (inl h) = let k = h.0 in let l = typed_holds code chunk chunk.max_stack p.typed in omega arith
+no_flaw code chunk errors.FallsOffTheEnd p (inr h) = falls_nowhere code chunk chunk.max_stack p.typed h.1
+no_flaw code chunk (errors.StackExceedsDeclared needed declared) p (f, e, l, d, w) =
     let a = d.attained in
     let h = p.typed.1.shallow a.0 a.1.0 (covered code chunk chunk.max_stack p.typed a.0 a.1.0 a.1.1) in
     let k = a.1.2 in
     omega arith
-no_fault code chunk (errors.Undecodable at) p h = elim h [ ]
-no_fault code chunk (errors.BadIndex at what index) p h = elim h [ ]
-no_fault code chunk (errors.TrailingBytes at len) p h = elim h [ ]
-no_fault code chunk errors.OutOfMemory p h = elim h [ ]
+no_flaw code chunk (errors.Undecodable at) p h = elim h [ ]
+no_flaw code chunk (errors.BadIndex at what index) p h = elim h [ ]
+no_flaw code chunk (errors.TrailingBytes at len) p h = elim h [ ]
+no_flaw code chunk errors.OutOfMemory p h = elim h [ ]
 
 -- a typing within one stack is one within a larger
 pub typing_within : (code : Code) (chunk : Span) (m n : ℕ) → m ≤ n → HasTyping code chunk m → HasTyping code chunk n
@@ -87,6 +87,6 @@ deepest_safe code chunk n m t d =
     let h = (reached_is_run (coded code) chunk m t a.0 a.1.0).0 a.1.1 in
     record {
       finds = λ x run. (let w = run_passes (coded code) chunk m t x run in (w.0, record { stands = w.1.stands; meets = w.1.meets }, w.1.allowed));
-      most = λ x run. d.least x.address (counts x) ((reached_is_run (coded code) chunk m t x.address (counts x)).1 (x, run, refl, refl));
+      most = λ x run. d.most x.address (counts x) ((reached_is_run (coded code) chunk m t x.address (counts x)).1 (x, run, refl, refl));
       attained = (h.0, h.1, ap (λ (c : Counts). c.operands) h.3 ∙ a.1.2);
     }

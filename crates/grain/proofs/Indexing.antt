@@ -5,11 +5,11 @@ use Rattle.std.proofs.lemmas.List.{take_all}
 use Rattle.std.proofs.lemmas.List.Elements.{All-nil, All-push, All-weaker}
 use Rattle.grain_base.specs.declared.caps.Caps.{Caps}
 use Rattle.grain_bytecode.specs.Split.{AreInstructions, StandsAt}
-use Rattle.grain_bytecode.specs.Table.{form, size_of, width_of}
+use Rattle.grain_bytecode.specs.InstructionTable.{form, size_of, width_of}
 use Rattle.grain_bytecode.specs.declared.op.Op.{Op}
 use Rattle.grain_bytecode.proofs.Splits.{one_more}
 use Rattle.grain.specs.Accepted.{AreIndexed}
-use Rattle.grain.specs.Fault.{CodeFault, PassesTo}
+use Rattle.grain.specs.Flaw.{CodeFlaw, PassesTo}
 use Rattle.grain.specs.FirstOut.{alone}
 use Rattle.grain.specs.Indices.{Indexed, IsOut}
 use Rattle.grain.specs.Setting.{Setting, setting}
@@ -48,10 +48,10 @@ out_any : (caps : Caps) (pools : Pools) (op : Op) (what : List ℕ) (index : ℕ
 out_any caps pools op what index (inl h) = inl (record { earlier = h.earlier; bad = h.bad; later = h.later; order = h.order; passed = h.passed; fails = h.fails; named = h.named })
 out_any caps pools op what index (inr h) = inr (record { passed = h.passed; case = h.case; fails = h.fails; named = h.named })
 
-pub fault_any : (caps : Caps) (pools : Pools) (code : List ℕ) (e : VerifyError) → CodeFault (alone pools) code e → CodeFault (setting caps pools) code e
-fault_any caps pools code (errors.Undecodable at) h = (passes_any caps pools code at h.0, h.1)
-fault_any caps pools code (errors.BadIndex at what index) h = (passes_any caps pools code at h.0, (h.1.0, h.1.1, out_any caps pools h.1.0 what.now index h.1.2))
-fault_any caps pools code e h = absurd h
+pub flaw_any : (caps : Caps) (pools : Pools) (code : List ℕ) (e : VerifyError) → CodeFlaw (alone pools) code e → CodeFlaw (setting caps pools) code e
+flaw_any caps pools code (errors.Undecodable at) h = (passes_any caps pools code at h.0, h.1)
+flaw_any caps pools code (errors.BadIndex at what index) h = (passes_any caps pools code at h.0, (h.1.0, h.1.1, out_any caps pools h.1.0 what.now index h.1.2))
+flaw_any caps pools code e h = absurd h
 
 front_is : (x n : ℕ) (rest : List ℕ) → take (n + 1) (x ∷ rest) ≡ x ∷ take n rest
 front_is x n rest = rw add-one refl

@@ -5,14 +5,13 @@ use Rattle.std.proofs.lemmas.Option.{same_Some, none-some}
 use Rattle.std.proofs.lemmas.List.Elements.{Contains-push}
 use Rattle.grain_bytecode.specs.Span.{Span}
 use Rattle.grain_bytecode.specs.declared.op.Op.{Op}
-use Rattle.grain_bytecode.specs.declared.op.Op.TheVariants as ops
 use Rattle.grain.specs.Code.{Code}
 use Rattle.grain.specs.Counts.{Counts}
-use Rattle.grain.specs.Effects.{Edge, jumping, going_on}
-use Rattle.grain.specs.Layout.{next}
-use Rattle.grain.specs.Machine.{Handler, Machine, first, counts, Finds, without_last, handlers_after, Flows, Steps, innermost, Catches, IsKept, Moves, IsKeptRun, IsOnKeptRun}
-use Rattle.grain.specs.Moves.{IsArmed, armed_counts, IsEdgeStep, IsEdgeCatch}
-use Rattle.grain.specs.Setting.{Setting}
+use Rattle.grain.specs.Effects.{Edge, after_fall, after_jump, falls_through, operands_after, targets}
+use Rattle.grain.specs.Flow.{Flow, PopsHandler, PushesHandler, fall_for, falls_for, flow_of, jump_for, targets_for}
+use Rattle.grain.specs.Layout.{next, switches}
+use Rattle.grain.specs.Machine.{Handler, Machine, first, counts, Finds, without_last, handlers_for, handlers_after, jumps_for, Flows, Steps, innermost, Catches, IsKept, Moves, IsKeptRun, IsOnKeptRun}
+use Rattle.grain.specs.EdgeSteps.{IsArmed, armed_counts, IsEdgeStep, IsEdgeCatch}
 use Rattle.grain.specs.Typing.{IsTyping, HasTyping, Passes, Reached, begin, onward}
 use Rattle.grain.proofs.Once.{reads_once}
 
@@ -34,43 +33,41 @@ min_right {a} {b} h = omega arith
 pub counts_ext : (c d : Counts) → c.operands ≡ d.operands → c.iterators ≡ d.iterators → c.handlers ≡ d.handlers → c ≡ d
 counts_ext c d x y z = λ i. record { operands = x i; iterators = y i; handlers = z i }
 
--- how many handlers are armed after an operation
-abbrev armed_after : Op → ℕ → ℕ
-armed_after (ops.PushHandler target name) h = h + 1
-armed_after ops.PopHandler h = h - 1
-armed_after op h = h
+-- how many handlers are armed after an operation of such a flow
+abbrev armed_for : Flow → ℕ → ℕ
+armed_for (PushesHandler target) h = h + 1
+armed_for PopsHandler h = h - 1
+armed_for f h = h
 
-going_handlers : (s : Setting) (op : Op) (c : Counts) → (going_on s op c).handlers ≡ armed_after op c.handlers
-going_handlers s (ops.PushHandler target name) c = refl
-going_handlers s op c = refl
+fall_handlers : (f : Flow) (left : ℕ) (c : Counts) → (fall_for f left c).handlers ≡ armed_for f c.handlers
+fall_handlers (PushesHandler target) left c = refl
+fall_handlers f left c = refl
 
-jumps_handlers : (code : Code) (op : Op) (at : ℕ) (c : Counts) (b : ℕ) (d : Counts) → Edge code op at c b d → d.handlers ≡ armed_after op c.handlers
-jumps_handlers code ops.PopHandler at c b d (inl j) = absurd (not_in_nil b j.0)
-jumps_handlers code op at c b d (inl j) = ap (λ (x : Counts). x.handlers) j.1
-jumps_handlers code op at c b d (inr g) = ap (λ (x : Counts). x.handlers) g.2 ∙ going_handlers code.setting op c
+jump_handlers : (f : Flow) (switches : List (List ℕ)) (left : ℕ) (c : Counts) (b : ℕ) → Contains (targets_for switches f) b → (jump_for f left c).handlers ≡ armed_for f c.handlers
+jump_handlers PopsHandler switches left c b h = absurd (not_in_nil b h)
+jump_handlers f switches left c b h = refl
+
+edge_handlers : (code : Code) (op : Op) (at : ℕ) (c : Counts) (b : ℕ) (d : Counts) → Edge code op at c b d → d.handlers ≡ armed_for (flow_of op) c.handlers
+edge_handlers code op at c b d (inl j) = ap (λ (x : Counts). x.handlers) j.1 ∙ jump_handlers (flow_of op) (switches code.layout) (operands_after code.setting op c.operands) c b j.0
+edge_handlers code op at c b d (inr g) = ap (λ (x : Counts). x.handlers) g.2 ∙ fall_handlers (flow_of op) (operands_after code.setting op c.operands) c
 
 length_without_last : (hs : List Handler) → length (without_last hs) ≡ length hs - 1
 length_without_last [] = omega arith
 length_without_last (h ∷ hs) = omega arith
 
-handlers_count : (op : Op) (m : Machine) → length (handlers_after op m) ≡ armed_after op (length m.handlers)
-handlers_count (ops.PushHandler target name) m = omega arith
-handlers_count ops.PopHandler m = length_without_last m.handlers
-handlers_count op m = refl
+handlers_count : (f : Flow) (m : Machine) → length (handlers_for f m) ≡ armed_for f (length m.handlers)
+handlers_count (PushesHandler target) m = omega arith
+handlers_count PopsHandler m = length_without_last m.handlers
+handlers_count f m = refl
 
 flows_edge : (code : Code) (op : Op) (at : ℕ) (c : Counts) (b : ℕ) (d : Counts) → Flows code op at c b d → Edge code op at c b d
-flows_edge code (ops.PushHandler target name) at c b d f = inr f
-flows_edge code op at c b d f = f
+flows_edge code op at c b d (inl j) = inl j.1
+flows_edge code op at c b d (inr g) = inr g
 
--- the edge on which a handler catches
-abbrev IsCatchEdge : Code → Op → Counts → ℕ → Counts → Type 0
-IsCatchEdge code op c b d = (target : ℕ) × (name : Option ℕ) × (op ≡ ops.PushHandler target name) × (b ≡ target) × (d ≡ jumping code.setting (ops.PushHandler target name) c)
-
--- an edge is one that a step follows, or the catch edge
-edge_flows : (code : Code) (op : Op) (at : ℕ) (c : Counts) (b : ℕ) (d : Counts) → Edge code op at c b d → Flows code op at c b d ⊎ IsCatchEdge code op c b d
-edge_flows code (ops.PushHandler target name) at c b d (inl j) = inr (target, name, refl, only_one target b j.0, j.1)
-edge_flows code (ops.PushHandler target name) at c b d (inr g) = inl g
-edge_flows code op at c b d e = inl e
+-- a jump is one that a step follows, or the catch edge
+jumps_or_catches : (f : Flow) (switches : List (List ℕ)) (b : ℕ) → Contains (targets_for switches f) b → (jumps_for f ≡ true) ⊎ (f ≡ PushesHandler b)
+jumps_or_catches (PushesHandler target) switches b h = inr (ap PushesHandler (sym (only_one target b h)))
+jumps_or_catches f switches b h = inl refl
 
 -- each handler was armed
 abbrev pub AreArmed : Code → Span → List Handler → Type 0
@@ -95,14 +92,21 @@ without_last_armed : (code : Code) (chunk : Span) (hs : List Handler) → AreArm
 without_last_armed code chunk [] h = h
 without_last_armed code chunk (x ∷ hs) h = h.1
 
-handlers_armed : (code : Code) (chunk : Span) (op : Op) (m : Machine) → Passes code chunk m.address (counts m) op → IsTied code chunk m → AreArmed code chunk (handlers_after op m)
-handlers_armed code chunk (ops.PushHandler target name) m p h = (record { place = m.address; name = name; reached = h.reached; passes = p }, h.armed)
-handlers_armed code chunk ops.PopHandler m p h = without_last_armed code chunk m.handlers h.armed
-handlers_armed code chunk op m p h = h.armed
+handlers_armed : (code : Code) (chunk : Span) (op : Op) (m : Machine) (f : Flow) → flow_of op ≡ f → Passes code chunk m.address (counts m) op → IsTied code chunk m → AreArmed code chunk (handlers_for f m)
+handlers_armed code chunk op m (PushesHandler target) e p h = (record { place = m.address; op = op; reached = h.reached; passes = p; arms = e }, h.armed)
+handlers_armed code chunk op m PopsHandler e p h = without_last_armed code chunk m.handlers h.armed
+handlers_armed code chunk op m f e p h = h.armed
+
+-- the catch edge of an instruction that arms a handler
+catch_edge : (code : Code) (op : Op) (target : ℕ) (c : Counts) → flow_of op ≡ PushesHandler target → Contains (targets (switches code.layout) op) target × (record c { handlers = c.handlers + 1 } ≡ after_jump code.setting op c)
+catch_edge code op target c e = (
+  subst (λ (f : Flow). Contains (targets_for (switches code.layout) f) target) (sym e) (Contains-push [] target),
+  ap (λ (f : Flow). jump_for f (operands_after code.setting op c.operands) c) (sym e),
+)
 
 -- where an armed handler catches is reached
 armed_reached : (code : Code) (chunk : Span) (h : Handler) (outer : List Handler) → IsArmed code chunk h outer → Reached code chunk h.target (record { operands = h.operands; iterators = h.iterators; handlers = length outer + 1 })
-armed_reached code chunk h outer a = onward a.reached a.passes (inl (Contains-push [] h.target, refl))
+armed_reached code chunk h outer a = onward a.reached a.passes (inl (catch_edge code a.op h.target (armed_counts h outer) a.arms))
 
 -- some state of a kept run
 abbrev pub IsAt : Code → Span → ℕ → Counts → Type 0
@@ -120,13 +124,13 @@ module _ (code : Code) (chunk : Span) (d : ℕ) (typed : HasTyping code chunk d)
   tied_step : (m n : Machine) → Steps code chunk m n → IsTied code chunk m → IsTied code chunk n
   tied_step m n step h =
       let e = flows_edge code step.op m.address (counts m) n.address step.counted step.edge in
-      let k = jumps_handlers code step.op m.address (counts m) n.address step.counted e in
-      let l = handlers_count step.op m in
+      let k = edge_handlers code step.op m.address (counts m) n.address step.counted e in
+      let l = handlers_count (flow_of step.op) m in
       let p = found_passes m step.op h.reached step.finds in
       let same : step.counted ≡ counts n = counts_ext step.counted (counts n) (sym step.operands) (sym step.iterators) (k ∙ (sym l ∙ ap length (sym step.handlers))) in
       record {
         reached = subst (λ (c : Counts). Reached code chunk n.address c) same (onward h.reached p e);
-        armed = subst (λ (hs : List Handler). AreArmed code chunk hs) (sym step.handlers) (handlers_armed code chunk step.op m p h);
+        armed = subst (λ (hs : List Handler). AreArmed code chunk hs) (sym step.handlers) (handlers_armed code chunk step.op m (flow_of step.op) refl p h);
       }
 
   tied_catch : (m n : Machine) → (fault : Catches code chunk m n) → IsKept fault → IsTied code chunk m → IsTied code chunk n
@@ -137,7 +141,7 @@ module _ (code : Code) (chunk : Span) (d : ℕ) (typed : HasTyping code chunk d)
       let eh : length fault.outer + 1 ≡ suc (length fault.outer) = omega arith in
       subst (λ (x : Machine). IsTied code chunk x) (sym fault.lands) (record {
         reached = subst (λ (c : Counts). Reached code chunk fault.handler.target c) (counts_ext _ _ eo ei eh) (armed_reached code chunk fault.handler fault.outer a.0);
-        armed = (record { place = a.0.place; name = a.0.name; reached = a.0.reached; passes = a.0.passes }, a.1);
+        armed = (record { place = a.0.place; op = a.0.op; reached = a.0.reached; passes = a.0.passes; arms = a.0.arms }, a.1);
       })
 
   tied_move : (m n : Machine) → Moves code chunk m n → IsTied code chunk m → IsTied code chunk n
@@ -158,34 +162,43 @@ module _ (code : Code) (chunk : Span) (d : ℕ) (typed : HasTyping code chunk d)
       (w.0, record { stands = w.1.stands; meets = w.1.meets })
 
   -- where a kept fault lands, the edge leads on which its handler was armed
-  pub catch_lands : (m n : Machine) → IsOnKeptRun code chunk m → (fault : Catches code chunk m n) → IsKept fault → (armed : IsArmed code chunk fault.handler fault.outer) × (n.address ≡ fault.handler.target) × (counts n ≡ jumping code.setting (ops.PushHandler fault.handler.target armed.name) (armed_counts fault.handler fault.outer))
+  pub catch_lands : (m n : Machine) → IsOnKeptRun code chunk m → (fault : Catches code chunk m n) → IsKept fault → (armed : IsArmed code chunk fault.handler fault.outer) × (n.address ≡ fault.handler.target) × (counts n ≡ after_jump code.setting armed.op (armed_counts fault.handler fault.outer))
   catch_lands m n run fault kept =
       let h = kept_run_tied run.0 m run.1 in
       let a = innermost_kept (AreArmed code chunk) (λ x hs q. q.1) m.handlers fault.handler fault.outer h.armed fault.caught in
       let eo : min fault.operands_found fault.handler.operands ≡ fault.handler.operands = sym (min_right kept.operands) in
       let ei : min fault.iterators_found fault.handler.iterators ≡ fault.handler.iterators = sym (min_right kept.iterators) in
       let eh : suc (length fault.outer) ≡ length fault.outer + 1 = omega arith in
-      (a.0, ap (λ (x : Machine). x.address) fault.lands, ap counts fault.lands ∙ counts_ext _ _ eo ei eh)
+      (a.0, ap (λ (x : Machine). x.address) fault.lands, ap counts fault.lands ∙ (counts_ext _ _ eo ei eh ∙ (catch_edge code a.0.op fault.handler.target (armed_counts fault.handler fault.outer) a.0.arms).1))
 
   -- a step along an edge
   flow_step : (m : Machine) (op : Op) (b : ℕ) (d' : Counts) → Finds code chunk m op → Flows code op m.address (counts m) b d' → IsEdgeStep code chunk m b d'
   flow_step m op b d' p f =
       let n : Machine = record { address = b; operands = d'.operands; iterators = d'.iterators; handlers = handlers_after op m } in
-      let k = jumps_handlers code op m.address (counts m) b d' (flows_edge code op m.address (counts m) b d' f) in
+      let k = edge_handlers code op m.address (counts m) b d' (flows_edge code op m.address (counts m) b d' f) in
       record {
         after = n;
         step = record { op = op; counted = d'; finds = p; edge = f; operands = refl; iterators = refl; handlers = refl };
         address = refl;
-        same = counts_ext (counts n) d' refl refl (handlers_count op m ∙ sym k);
+        same = counts_ext (counts n) d' refl refl (handlers_count (flow_of op) m ∙ sym k);
       }
 
   -- the catch edge: arming, and then a fault that finds the stacks whole
-  catch_steps : (m : Machine) (target : ℕ) (name : Option ℕ) → IsOnKeptRun code chunk m → Finds code chunk m (ops.PushHandler target name) → IsEdgeCatch code chunk m target (jumping code.setting (ops.PushHandler target name) (counts m))
-  catch_steps m target name run p =
-      let op : Op = ops.PushHandler target name in
+  catch_steps : (m : Machine) (op : Op) (target : ℕ) → flow_of op ≡ PushesHandler target → IsOnKeptRun code chunk m → Finds code chunk m op → IsEdgeCatch code chunk m target (after_jump code.setting op (counts m))
+  catch_steps m op target e run p =
       let h : Handler = record { target = target; operands = m.operands; iterators = m.iterators; spent = false } in
       let armed : Machine = record { address = next code.layout m.address op; operands = m.operands; iterators = m.iterators; handlers = h ∷ m.handlers } in
-      let arming : Steps code chunk m armed = record { op = op; counted = going_on code.setting op (counts m); finds = p; edge = (refl, refl, refl); operands = refl; iterators = refl; handlers = refl } in
+      let falls : falls_through op ≡ true = ap falls_for e in
+      let after : after_fall code.setting op (counts m) ≡ record (counts m) { handlers = length m.handlers + 1 } = ap (λ (f : Flow). fall_for f (operands_after code.setting op m.operands) (counts m)) e in
+      let arming : Steps code chunk m armed = record {
+        op = op;
+        counted = after_fall code.setting op (counts m);
+        finds = p;
+        edge = inr (falls, refl, refl);
+        operands = ap (λ (x : Counts). x.operands) (sym after);
+        iterators = ap (λ (x : Counts). x.iterators) (sym after);
+        handlers = ap (λ (f : Flow). handlers_for f m) (sym e);
+      } in
       let w = run_finds armed (m ∷ run.0, (inl arming, run.1)) in
       let n : Machine = record { address = target; operands = min m.operands m.operands; iterators = min m.iterators m.iterators; handlers = record h { spent = true } ∷ m.handlers } in
       let caught : Catches code chunk armed n = record {
@@ -211,15 +224,16 @@ module _ (code : Code) (chunk : Span) (d : ℕ) (typed : HasTyping code chunk d)
         whole_iterators = refl;
         kept = record { operands = omega arith; iterators = omega arith };
         address = refl;
-        same = counts_ext (counts n) (jumping code.setting op (counts m)) (omega arith) (omega arith) (omega arith);
+        same = counts_ext (counts n) (record (counts m) { handlers = length m.handlers + 1 }) (omega arith) (omega arith) (omega arith) ∙ (catch_edge code op target (counts m) e).1;
       }
 
   -- every written edge is one or two steps of a kept run
   pub edge_steps : (m : Machine) (op : Op) (b : ℕ) (d' : Counts) → IsOnKeptRun code chunk m → Finds code chunk m op → Edge code op m.address (counts m) b d' → IsEdgeStep code chunk m b d' ⊎ IsEdgeCatch code chunk m b d'
-  edge_steps m op b d' run p e =
-      elim (edge_flows code op m.address (counts m) b d' e) [
-        | inl f ↦ inl (flow_step m op b d' p f)
-        | inr c ↦ inr (subst (λ (x : Counts). IsEdgeCatch code chunk m b x) (sym c.4) (subst (λ (x : ℕ). IsEdgeCatch code chunk m x (jumping code.setting (ops.PushHandler c.0 c.1) (counts m))) (sym c.3) (catch_steps m c.0 c.1 run (subst (λ (x : Op). Finds code chunk m x) c.2 p))))
+  edge_steps m op b d' run p (inr g) = inl (flow_step m op b d' p (inr g))
+  edge_steps m op b d' run p (inl j) =
+      elim (jumps_or_catches (flow_of op) (switches code.layout) b j.0) [
+        | inl f ↦ inl (flow_step m op b d' p (inl (f, j)))
+        | inr e ↦ inr (subst (λ (x : Counts). IsEdgeCatch code chunk m b x) (sym j.1) (catch_steps m op b e run p))
       ]
 
   edge_on_run : (m : Machine) (b : ℕ) (d' : Counts) → IsOnKeptRun code chunk m → IsEdgeStep code chunk m b d' ⊎ IsEdgeCatch code chunk m b d' → IsAt code chunk b d'

@@ -3,10 +3,10 @@ use Rattle.std.proofs.Common.{◌≡◌, ◌≢◌, ℕ, ◌+◌, ◌<◌, ◌�
 use Rattle.std.proofs.lemmas.Option.{slice_get-get_or, slice_get_within, get_or_from_slice_get}
 use Rattle.std.proofs.lemmas.List.{get_or-set_same, get_or-set_other, get_or-replicate, length-set, length-replicate}
 use Rattle.std.proofs.lemmas.Bool.{cases_eq, cases_lt}
-use Rattle.grain_bytecode.specs.Table.{width_of}
+use Rattle.grain_bytecode.specs.InstructionTable.{width_of}
 use Rattle.grain_bytecode.specs.Split.{Split, StandsAt}
 use Rattle.grain_bytecode.specs.declared.op.Op.{Op}
-use Rattle.grain.specs.Edges.{MarksStarts, MarksTo}
+use Rattle.grain.specs.Marks.{MarksStarts, MarksTo}
 use Rattle.grain.specs.Layout.{IsStart, IsBoundary}
 use Rattle.grain.proofs.Splits.{boundary_apart, next_start, op_fits, split_first, split_splits, start_op}
 

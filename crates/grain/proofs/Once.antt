@@ -2,7 +2,7 @@
 use Rattle.std.proofs.Common.{◌≡◌, ℕ, List, take, drop, ap, sym, ◌∙◌}
 use Rattle.std.proofs.lemmas.List.{take-append-drop}
 use Rattle.std.proofs.lemmas.Option.{same_Some}
-use Rattle.grain_bytecode.specs.Table.{width_of}
+use Rattle.grain_bytecode.specs.InstructionTable.{width_of}
 use Rattle.grain_bytecode.specs.Split.{StandsAt}
 use Rattle.grain_bytecode.specs.declared.op.Op.{Op}
 use Rattle.grain_bytecode.proofs.Reading.{one_instruction}

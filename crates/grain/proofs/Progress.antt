@@ -6,16 +6,15 @@ use Rattle.std.proofs.lemmas.List.Elements.{Contains-append_left, Contains-appen
 use Rattle.std.proofs.lemmas.Bool.{cases_eq, cases_lt}
 use Rattle.grain_bytecode.specs.Span.{Span}
 use Rattle.grain_bytecode.specs.Split.{StandsAt}
-use Rattle.grain_bytecode.specs.Table.{width_of}
+use Rattle.grain_bytecode.specs.InstructionTable.{width_of}
 use Rattle.grain_bytecode.specs.declared.op.Op.{Op}
 use Rattle.grain.specs.Accepted.{IsFramed}
 use Rattle.grain.specs.Code.{Bytecode, coded}
 use Rattle.grain.specs.Counts.{Counts, nothing}
-use Rattle.grain.specs.Edges.{arrivals}
-use Rattle.grain.specs.Effects.{Edge, targets, goes_on, jumping, going_on}
-use Rattle.grain.specs.Fault.{FallsOff}
+use Rattle.grain.specs.Arrivals.{Coming, arrivals}
+use Rattle.grain.specs.Effects.{Edge, targets, falls_through, after_jump, after_fall}
+use Rattle.grain.specs.Flaw.{FallsOff}
 use Rattle.grain.specs.Typing.{IsInChunk, IsTyping, HasTyping, Passes, Reached, begin, onward, IsDeepest}
-use Rattle.grain.specs.View.{Coming}
 use Rattle.grain.proofs.Growth.{IsSmall, edge_small}
 use Rattle.grain.proofs.Law.{typing_covers}
 use Rattle.grain.proofs.Once.{stands_once}
@@ -124,15 +123,15 @@ goes_out false next t' a c = absurd (in_nil a c)
 
 -- what an edge leads to is among the arrivals
 edge_arrives : (code : Bytecode) → (op : Op) (at : ℕ) (s : Counts) (b : ℕ) (t : Counts) → Edge (coded code) op at s b t → Contains (arrivals code op at s) (record { at = b; counts = t })
-edge_arrives code op at s b t (inl j) = Contains-append_left _ _ _ (in_map (jumping code.setting op s) (targets code.switches op) b t j.0 j.1)
-edge_arrives code op at s b t (inr g) = Contains-append_right (map (λ target. record { at = target; counts = jumping code.setting op s }) (targets code.switches op)) (cond (goes_on op) (record { at = at + width_of op; counts = going_on code.setting op s } ∷ []) []) _ (goes_in (goes_on op) (at + width_of op) (going_on code.setting op s) b t g.0 g.1 g.2)
+edge_arrives code op at s b t (inl j) = Contains-append_left _ _ _ (in_map (after_jump code.setting op s) (targets code.switches op) b t j.0 j.1)
+edge_arrives code op at s b t (inr g) = Contains-append_right (map (λ target. record { at = target; counts = after_jump code.setting op s }) (targets code.switches op)) (cond (falls_through op) (record { at = at + width_of op; counts = after_fall code.setting op s } ∷ []) []) _ (goes_in (falls_through op) (at + width_of op) (after_fall code.setting op s) b t g.0 g.1 g.2)
 
 -- what has arrived came by an edge
 arrived_by : (code : Bytecode) → (op : Op) (at : ℕ) (s : Counts) (a : Coming) → Contains (arrivals code op at s) a → Edge (coded code) op at s a.at a.counts
 arrived_by code op at s a c =
-    elim (Contains-append_cases (map (λ target. record { at = target; counts = jumping code.setting op s }) (targets code.switches op)) (cond (goes_on op) (record { at = at + width_of op; counts = going_on code.setting op s } ∷ []) []) a c) [
-      | inl k ↦ inl (map_out (jumping code.setting op s) (targets code.switches op) a k)
-      | inr k ↦ inr (goes_out (goes_on op) (at + width_of op) (going_on code.setting op s) a k)
+    elim (Contains-append_cases (map (λ target. record { at = target; counts = after_jump code.setting op s }) (targets code.switches op)) (cond (falls_through op) (record { at = at + width_of op; counts = after_fall code.setting op s } ∷ []) []) a c) [
+      | inl k ↦ inl (map_out (after_jump code.setting op s) (targets code.switches op) a k)
+      | inr k ↦ inr (goes_out (falls_through op) (at + width_of op) (after_fall code.setting op s) a k)
     ]
 
 -- an edge from a state of the chunk lands in it, or falls off
@@ -240,7 +239,7 @@ progress_end code chunk seen marked deepest p =
     } in (
       (seen, typing),
       record {
-        least = λ at s r. p.shallow at s (typing_covers (coded code) chunk deepest seen typing at s r);
+        most = λ at s r. p.shallow at s (typing_covers (coded code) chunk deepest seen typing at s r);
         attained = p.attained;
       },
     )

@@ -5,10 +5,10 @@ use Rattle.std.proofs.lemmas.List.{get_or-set_same, get_or-set_other, get_or_app
 use Rattle.std.proofs.Math.Seq.{get_or-append_seam}
 use Rattle.std.proofs.lemmas.Bool.{cases_eq, cases_lt}
 use Rattle.std.proofs.lemmas.Bool.Decides.{nat_tests}
-use Rattle.grain.specs.Seen.{state_at, seen_in}
+use Rattle.grain.specs.Visited.{state_at, visited_at}
 use Rattle.grain.specs.declared.state.State.{State}
-use Rattle.grain.specs.declared.table.Entry.{Entry}
-use Rattle.grain.specs.declared.table.Table.{Table}
+use Rattle.grain.specs.declared.visited.Entry.{Entry}
+use Rattle.grain.specs.declared.visited.Visited.{Visited}
 
 test_same : (n : ℕ) → nat_eq n n ≡ true
 test_same n = grind (arith, nat_tests)
@@ -40,22 +40,22 @@ others_said es e b p ne = elim (cases_lt p (length es)) [
       ]
 ]
 
-module _ (t new : Table) (at : ℕ) (s : State) (inside : at < length t.places.items) (places : new.places.items ≡ set t.places.items at (length t.entries.items)) (entries : new.entries.items ≡ t.entries.items ++ record { at = at; state = s } ∷ []) where
+module _ (t new : Visited) (at : ℕ) (s : State) (inside : at < length t.places.items) (places : new.places.items ≡ set t.places.items at (length t.entries.items)) (entries : new.entries.items ≡ t.entries.items ++ record { at = at; state = s } ∷ []) where
   abbrev entry : Entry
   entry = record { at = at; state = s }
 
-  place_at : (b : ℕ) → seen_in new b ≡ state_at b (slice_get (t.entries.items ++ entry ∷ []) (get_or (set t.places.items at (length t.entries.items)) b 0))
+  place_at : (b : ℕ) → visited_at new b ≡ state_at b (slice_get (t.entries.items ++ entry ∷ []) (get_or (set t.places.items at (length t.entries.items)) b 0))
   place_at b =
       ap (λ (es : List Entry). state_at b (slice_get es (get_or new.places.items b 0))) entries ∙
       ap (λ (ps : List ℕ). state_at b (slice_get (t.entries.items ++ entry ∷ []) (get_or ps b 0))) places
 
-  pub noted_here : seen_in new at ≡ Some s
+  pub noted_here : visited_at new at ≡ Some s
   noted_here =
       let here : slice_get (t.entries.items ++ entry ∷ []) (get_or (set t.places.items at (length t.entries.items)) at 0) ≡ Some entry =
       ap (slice_get (t.entries.items ++ entry ∷ [])) (get_or-set_same t.places.items at (length t.entries.items) 0 inside) ∙ last_entry t.entries.items entry in
       place_at at ∙ (ap (state_at at) here ∙ ap (λ (b : Bool). cond b (Some s) None) (test_same at))
 
-  pub noted_others : (b : ℕ) → b ≢ at → seen_in new b ≡ seen_in t b
+  pub noted_others : (b : ℕ) → b ≢ at → visited_at new b ≡ visited_at t b
   noted_others b ne =
       let place = get_or-set_other t.places.items at b (length t.entries.items) 0 ne in
       place_at b ∙ (ap (λ p. state_at b (slice_get (t.entries.items ++ entry ∷ []) p)) place ∙ others_said t.entries.items entry b (get_or t.places.items b 0) (λ e. ne (sym e)))

@@ -1,4 +1,4 @@
--- What passes the tests before the chunks has none of their faults.
+-- What passes the tests before the chunks has none of their flaws.
 use Rattle.std.proofs.Common.{◌≡◌, ℕ, ◌<◌, inl, inr, suc, List, [], ◌∷◌, ◌++◌, length, drop, refl, sym, ap, subst, ◌∙◌, arith}
 use Rattle.std.specs.List.{All, AllByRecursion, AllZip, Contains, flat_map}
 use Rattle.std.proofs.lemmas.List.{append-nil, append_cancel_left, take-append-drop}
@@ -7,13 +7,13 @@ use Rattle.grain_base.specs.declared.value.Dynamic.{Dynamic}
 use Rattle.grain_base.specs.declared.value.Dynamic.TheVariants as values
 use Rattle.grain_bytecode.specs.Span.{Span}
 use Rattle.grain_bytecode.specs.Split.{Begins, IsInstruction, starts_from}
-use Rattle.grain_bytecode.specs.Table.{spelling}
+use Rattle.grain_bytecode.specs.InstructionTable.{spelling}
 use Rattle.grain_bytecode.specs.declared.op.Op.{Op}
 use Rattle.grain_bytecode.proofs.Instructions.{begins_fits}
 use Rattle.grain_bytecode.proofs.Splits.{begins_cons, no_front_inside}
 use Rattle.grain.specs.Accepted.{AllowsConst, AreIndexed, ChunkPasses, CodePasses, ConstantPasses, ConstantsPass, FunctionsPass, Input, IsSafe}
 use Rattle.grain.specs.Code.{Bytecode, coded}
-use Rattle.grain.specs.Fault.{CodeFault, Fault, IsFirstFault, LacksForConstant}
+use Rattle.grain.specs.Flaw.{CodeFlaw, Flaw, IsFirstFlaw, ConstantAsks}
 use Rattle.grain.specs.Indices.{Indexed, IsOut, IsBounded, cases_of}
 use Rattle.grain.specs.Setting.{Setting}
 use Rattle.grain.specs.Typing.{IsDeepest}
@@ -24,9 +24,9 @@ use Rattle.grain.proofs.Once.{stands_once}
 use Rattle.grain.proofs.Splits.{in_nil, in_cons, in_head, in_tail, width_pos}
 
 -- constants that all pass lack nothing
-pub none_lacks : (caps : ℕ) (consts : List Dynamic) (lacking : ℕ) → All (ConstantPasses caps) consts → LacksForConstant caps consts lacking → ⊥
-none_lacks caps consts lacking all h =
-    h.lacks (subst (AllowsConst caps) (h.here values.Unit) (all h.place values.Unit h.inside))
+pub none_asks : (caps : ℕ) (consts : List Dynamic) (asked : ℕ) → All (ConstantPasses caps) consts → ConstantAsks caps consts asked → ⊥
+none_asks caps consts asked all h =
+    h.refused (subst (AllowsConst caps) (h.here values.Unit) (all h.place values.Unit h.inside))
 
 -- bytes begin with one instruction at most
 begins_once : (bytes : List ℕ) (op other : Op) → Begins bytes op → Begins bytes other → op ≡ other
@@ -67,15 +67,15 @@ none_out s op what index h (inr o) =
     let g = o.fails in
     omega arith
 
--- code that passes has no fault
-pub no_code_fault : (s : Setting) (bytes : List ℕ) (e : VerifyError) → AreIndexed s bytes → CodeFault s bytes e → ⊥
-no_code_fault s bytes (errors.Undecodable at) (ops, are, all) (p, none) =
+-- code that passes has no flaw
+pub no_code_flaw : (s : Setting) (bytes : List ℕ) (e : VerifyError) → AreIndexed s bytes → CodeFlaw s bytes e → ⊥
+no_code_flaw s bytes (errors.Undecodable at) (ops, are, all) (p, none) =
     no_front_inside bytes at (starts_from 0 ops) p.inside (starts_from 0 p.front.0, (p.front.0, p.front.1, refl), none) (ops, are, refl)
-no_code_fault s bytes (errors.BadIndex at what index) (ops, are, all) (p, (op, stands, out)) =
+no_code_flaw s bytes (errors.BadIndex at what index) (ops, are, all) (p, (op, stands, out)) =
     let e : bytes ≡ flat_map spelling p.front.0 ++ drop at bytes = sym (take-append-drop at bytes) ∙ ap (λ (b : List ℕ). b ++ drop at bytes) p.front.1.whole in
     let c = stands_among bytes (drop at bytes) ops p.front.0 op are.each p.front.1.each are.whole e stands in
     none_out s op what.now index (All-contains (Indexed s) ops op all c) out
-no_code_fault s bytes e h f = absurd f
+no_code_flaw s bytes e h f = absurd f
 
 -- the numbers of chunks that pass say what their kept runs do
 pub safe_all : (code : Bytecode) (chunks : List Span) (numbers : List ℕ) → All (ChunkPasses code) chunks → AllZip (IsDeepest (coded code)) chunks numbers → AllZip (IsSafe code) chunks numbers
@@ -88,21 +88,21 @@ safe_all code (c ∷ cs) (n ∷ ns) all z =
 abbrev no_chunk : Span
 no_chunk = record { entry = 0; end = 0; max_stack = 0 }
 
--- a fault of the code is one of what was verified, where the constants pass
-pub code_faulty : (i : Input) (e : VerifyError) → ConstantsPass i → CodeFault i.code.setting i.code.bytes e → Fault i e
-code_faulty i (errors.Undecodable at) p f = (p, f)
-code_faulty i (errors.BadIndex at what index) p f = (p, f)
-code_faulty i e p f = absurd f
+-- a flaw of the code is one of what was verified, where the constants pass
+pub code_flawed : (i : Input) (e : VerifyError) → ConstantsPass i → CodeFlaw i.code.setting i.code.bytes e → Flaw i e
+code_flawed i (errors.Undecodable at) p f = (p, f)
+code_flawed i (errors.BadIndex at what index) p f = (p, f)
+code_flawed i e p f = absurd f
 
 -- and want of memory is none
-pub memory_no_code_fault : (s : Setting) (bytes : List ℕ) (e : VerifyError) → e ≡ errors.OutOfMemory → CodeFault s bytes e → ⊥
-memory_no_code_fault s bytes e m f = subst (CodeFault s bytes) m f
+pub memory_no_code_flaw : (s : Setting) (bytes : List ℕ) (e : VerifyError) → e ≡ errors.OutOfMemory → CodeFlaw s bytes e → ⊥
+memory_no_code_flaw s bytes e m f = subst (CodeFlaw s bytes) m f
 
--- the same of the first fault of a chunk, where all passes that is tested before
-pub chunk_faulty : (i : Input) (e : VerifyError) → ConstantsPass i → CodePasses i → FunctionsPass i → IsFirstFault i.code i.chunks e → Fault i e
-chunk_faulty i (errors.MissingCaps artifact lacking at) p q r f = inr (record { constants = p; code = q; functions = r; chunk = f })
-chunk_faulty i (errors.Undecodable at) p q r f = absurd (f.here no_chunk)
-chunk_faulty i (errors.BadIndex at what index) p q r f = absurd (f.here no_chunk)
-chunk_faulty i (errors.TrailingBytes at len) p q r f = absurd (f.here no_chunk)
-chunk_faulty i errors.OutOfMemory p q r f = absurd (f.here no_chunk)
-chunk_faulty i e p q r f = record { constants = p; code = q; functions = r; chunk = f }
+-- the same of the first flaw of a chunk, where the tests before the chunks pass
+pub chunk_flawed : (i : Input) (e : VerifyError) → ConstantsPass i → CodePasses i → FunctionsPass i → IsFirstFlaw i.code i.chunks e → Flaw i e
+chunk_flawed i (errors.MissingCaps artifact absent at) p q r f = inr (record { constants = p; code = q; functions = r; chunk = f })
+chunk_flawed i (errors.Undecodable at) p q r f = absurd (f.here no_chunk)
+chunk_flawed i (errors.BadIndex at what index) p q r f = absurd (f.here no_chunk)
+chunk_flawed i (errors.TrailingBytes at len) p q r f = absurd (f.here no_chunk)
+chunk_flawed i errors.OutOfMemory p q r f = absurd (f.here no_chunk)
+chunk_flawed i e p q r f = record { constants = p; code = q; functions = r; chunk = f }

@@ -74,6 +74,10 @@ pub record IsAccepted (i : Input) : Type 0 where
 abbrev pub AreDeepest : Input → List ℕ → Type 0
 AreDeepest i numbers = AllZip (IsDeepest (coded i.code)) i.chunks numbers
 
+-- a typing within its number, chunk by chunk
+abbrev pub AreTyped : Input → List ℕ → Type 0
+AreTyped i numbers = AllZip (HasTyping (coded i.code)) i.chunks numbers
+
 -- No state of a kept run lacks anything, meets an instruction whose capabilities aren't there, or has more operands than
 -- this, and some state has as many.
 pub record IsSafe (code : Bytecode) (chunk : Span) (n : ℕ) : Type 0 where

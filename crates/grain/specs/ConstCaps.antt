@@ -1,4 +1,4 @@
--- What a constant needs of the host, or nothing where a value can't be said to be a constant.
+-- What a constant asks of the host, or nothing where a value can't be said to be a constant.
 use Rattle.std.specs.Prelude.{ℕ, List, [], ◌∷◌, map, String, Option, Some, None}
 use Rattle.std.specs.Int.RustNames.{bit_or}
 use Rattle.std.specs.declared.alloc.Global.{Global}
@@ -22,7 +22,13 @@ caps_step (Dynamic-F.Map m) = with_parts MAP (values_of m.entries)
 caps_step (Dynamic-F.FnPtr f) = f
 caps_step (Dynamic-F.Shared x) = None
 caps_step (Dynamic-F.Host h) = None
-caps_step _ = Some 0
+caps_step Dynamic-F.Unit = Some 0
+caps_step (Dynamic-F.Bool b) = Some 0
+caps_step (Dynamic-F.Int z) = Some 0
+caps_step (Dynamic-F.Char c) = Some 0
+caps_step (Dynamic-F.Str s) = Some 0
+caps_step (Dynamic-F.Range from to) = Some 0
+caps_step (Dynamic-F.RangeInclusive from to) = Some 0
 
 abbrev pub pointer_caps_step : FnPtr-F (Option ℕ) (Option ℕ) → Option ℕ
 pointer_caps_step f = with_parts FN_PTR f.curry.items

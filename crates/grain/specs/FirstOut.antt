@@ -5,26 +5,17 @@ use Rattle.grain_bytecode.specs.declared.field.Field.TheVariants.{Index, Slot, C
 use Rattle.grain_bytecode.specs.declared.field.Pool.{Pool}
 use Rattle.grain_bytecode.specs.declared.op.Receiver.{Receiver}
 use Rattle.grain_bytecode.specs.declared.op.Receiver.TheVariants as receiver
-use Rattle.grain_bytecode.specs.Table.{name}
+use Rattle.grain_bytecode.specs.InstructionTable.{name}
 use Rattle.grain_bytecode.specs.Dispatch.{first_past}
 use Rattle.grain.specs.Indices.{chain_fields, size}
-use Rattle.grain.specs.Setting.{Setting, case_consts}
+use Rattle.grain.specs.Setting.{Setting, case_consts, pools_with}
 use Rattle.grain.specs.declared.indices.BadIndex.{BadIndex}
-use Rattle.grain.specs.TestedBits.{Has}
+use Rattle.grain.specs.Passed.{HasPassed}
 use Rattle.grain.specs.declared.pools.Pools.{Pools}
 
 -- the pools alone: bounds of indices don't depend on the capabilities
 abbrev pub alone : Pools → Setting
-alone pools = record {
-  caps = 0;
-  consts = pools.consts;
-  names = pools.names.now;
-  tokens = pools.tokens;
-  assign_ops = pools.assign_ops;
-  residuals = pools.residuals;
-  chains = pools.chains.now;
-  cases = map case_consts pools.switches.now;
-}
+alone pools = pools_with 0 pools
 
 -- the pool and the index of the first field that is out of bounds
 abbrev pub first_out : Setting → List Field → Option (Pool × ℕ)
@@ -37,15 +28,21 @@ first_out s (Target x ∷ fs) = first_out s fs
 -- the name that a receiver has
 abbrev pub receiver_fields : Receiver → List Field
 receiver_fields (receiver.Named n) = name n ∷ []
-receiver_fields from = []
+receiver_fields (receiver.Local slot) = []
+receiver_fields receiver.This = []
 
--- the chains that are noted have no index out of bounds
+-- the chains that have passed have no index out of bounds
 abbrev pub ChainsPass : Pools → List ℕ → Type 0
-ChainsPass pools passed = (i : ℕ) → Has passed i → first_out (alone pools) (get_or (map chain_fields pools.chains.now) i []) ≡ None
+ChainsPass pools passed = (i : ℕ) → HasPassed passed i → first_out (alone pools) (get_or (map chain_fields pools.chains.now) i []) ≡ None
 
--- the switches that are noted have no case whose constant is out of bounds
+-- the switches that have passed have no case whose constant is out of bounds
 abbrev pub CasesPass : Pools → List ℕ → Type 0
-CasesPass pools passed = (i : ℕ) → Has passed i → first_past pools.consts (get_or (map case_consts pools.switches.now) i []) ≡ None
+CasesPass pools passed = (i : ℕ) → HasPassed passed i → first_past pools.consts (get_or (map case_consts pools.switches.now) i []) ≡ None
+
+-- both of what has passed
+pub record HavePassed (pools : Pools) (chains switches : List ℕ) : Type 0 where
+  pub chains_pass : ChainsPass pools chains
+  pub switches_pass : CasesPass pools switches
 
 -- what a refusal names
 abbrev pub refused : {T : Type 0} → Result T BadIndex → Option (Pool × ℕ)

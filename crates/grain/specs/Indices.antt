@@ -2,9 +2,8 @@
 use Rattle.std.specs.Prelude.{◌≡◌, ⊤, ◌⊎◌, ◌≤◌, ◌<◌, ℕ, List, [], ◌∷◌, ◌++◌, length, map, get_or, codes}
 use Rattle.std.specs.List.{AllByRecursion, Contains, flat_map}
 use Rattle.std.specs.Option.{option_to_list}
-use Rattle.grain_bytecode.specs.Table.{form, name, op_assignment}
+use Rattle.grain_bytecode.specs.InstructionTable.{form, name, op_assignment}
 use Rattle.grain_bytecode.specs.declared.op.Op.{Op}
-use Rattle.grain_bytecode.specs.declared.op.Op.TheVariants as ops
 use Rattle.grain_bytecode.specs.declared.field.Field.{Field}
 use Rattle.grain_bytecode.specs.declared.field.Field.TheVariants.{Index, Slot, Count, Target}
 use Rattle.grain_bytecode.specs.declared.field.Pool.{Pool}
@@ -30,15 +29,15 @@ size s Switches = length s.cases
 size s SyntaxSites = 0
 
 -- what a refusal calls an index of the pool
-abbrev pub name_of : Pool → List ℕ
-name_of Constants = codes "constant"
-name_of Names = codes "name"
-name_of Operators = codes "operator"
-name_of OpAssignments = codes "op-assignment"
-name_of Fragments = codes "fragment"
-name_of Chains = codes "chain"
-name_of Switches = codes "switch"
-name_of SyntaxSites = codes "custom syntax site"
+abbrev pub entry_name : Pool → List ℕ
+entry_name Constants = codes "constant"
+entry_name Names = codes "name"
+entry_name Operators = codes "operator"
+entry_name OpAssignments = codes "op-assignment"
+entry_name Fragments = codes "fragment"
+entry_name Chains = codes "chain"
+entry_name Switches = codes "switch"
+entry_name SyntaxSites = codes "custom syntax site"
 
 -- an index is below the size of its pool
 abbrev pub IsBounded : Setting → Field → Type 0
@@ -50,7 +49,8 @@ IsBounded s (Target x) = ⊤
 abbrev pub root_fields : Root → List Field
 root_fields (roots.Local slot n) = name n ∷ []
 root_fields (roots.Named n pos) = name n ∷ []
-root_fields root = []
+root_fields (roots.This pos) = []
+root_fields roots.Temporary = []
 
 abbrev pub step_fields : Step → List Field
 step_fields (steps.Index operand flags pos bracket) = []
@@ -65,19 +65,51 @@ tail_fields (tails.Assign op) = map op_assignment (option_to_list op)
 abbrev pub chain_fields : Chain → List Field
 chain_fields c = root_fields c.root ++ flat_map step_fields c.steps.items ++ tail_fields c.tail
 
--- the indices inside what the operation names, those of cases apart; past the chains there are none
-abbrev pub inner_fields : Setting → Op → List Field
-inner_fields s (ops.Chain h) = get_or (map chain_fields s.chains) h []
-inner_fields s op = []
+-- the indices inside what an index names, those of cases apart: a chain has some; past the chains there are none
+abbrev pub inner_fields : Setting → Pool → ℕ → List Field
+inner_fields s Constants x = []
+inner_fields s Names x = []
+inner_fields s Operators x = []
+inner_fields s OpAssignments x = []
+inner_fields s Fragments x = []
+inner_fields s Chains x = get_or (map chain_fields s.chains) x []
+inner_fields s Switches x = []
+inner_fields s SyntaxSites x = []
+
+-- those inside what some fields name, in order
+abbrev pub all_inner : Setting → List Field → List Field
+all_inner s [] = []
+all_inner s (Index pool x ∷ fs) = inner_fields s pool x ++ all_inner s fs
+all_inner s (Slot x ∷ fs) = all_inner s fs
+all_inner s (Count x ∷ fs) = all_inner s fs
+all_inner s (Target x ∷ fs) = all_inner s fs
 
 -- the fields of an operation in the order in which they are tested: its own, and then those inside
 abbrev pub fields_of : Setting → Op → List Field
-fields_of s op = (form op).1 ++ inner_fields s op
+fields_of s op = (form op).1 ++ all_inner s (form op).1
+
+-- the constants of the cases of what an index names: a switch has some; past the switches there are none
+abbrev pub case_constants : Setting → Pool → ℕ → List ℕ
+case_constants s Constants x = []
+case_constants s Names x = []
+case_constants s Operators x = []
+case_constants s OpAssignments x = []
+case_constants s Fragments x = []
+case_constants s Chains x = []
+case_constants s Switches x = get_or s.cases x []
+case_constants s SyntaxSites x = []
+
+-- those of what some fields name
+abbrev pub all_case_constants : Setting → List Field → List ℕ
+all_case_constants s [] = []
+all_case_constants s (Index pool x ∷ fs) = case_constants s pool x ++ all_case_constants s fs
+all_case_constants s (Slot x ∷ fs) = all_case_constants s fs
+all_case_constants s (Count x ∷ fs) = all_case_constants s fs
+all_case_constants s (Target x ∷ fs) = all_case_constants s fs
 
 -- the constants of the cases of the switch that the operation names
 abbrev pub cases_of : Setting → Op → List ℕ
-cases_of s (ops.Switch w) = get_or s.cases w []
-cases_of s op = []
+cases_of s op = all_case_constants s (form op).1
 
 -- every index of the operation, inside chains and switches too, is below its bound
 pub record Indexed (s : Setting) (op : Op) : Type 0 where
@@ -86,7 +118,7 @@ pub record Indexed (s : Setting) (op : Op) : Type 0 where
 
 -- what a field is called, and its index
 abbrev pub IsField : List ℕ → ℕ → Field → Type 0
-IsField what index (Index pool x) = (what ≡ name_of pool) × (index ≡ x)
+IsField what index (Index pool x) = (what ≡ entry_name pool) × (index ≡ x)
 IsField what index field = ⊥
 
 -- the first field that is out of bounds is called so and has this index
@@ -104,7 +136,7 @@ pub record IsCaseOut (s : Setting) (op : Op) (what : List ℕ) (index : ℕ) : T
   pub passed : AllByRecursion (IsBounded s) (fields_of s op)
   pub case : Contains (cases_of s op) index
   pub fails : s.consts ≤ index
-  pub named : what ≡ name_of Constants
+  pub named : what ≡ entry_name Constants
 
 abbrev pub IsOut : Setting → Op → List ℕ → ℕ → Type 0
 IsOut s op what index = IsFirstOut s op what index ⊎ IsCaseOut s op what index

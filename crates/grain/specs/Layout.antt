@@ -1,8 +1,9 @@
--- Where operations stand: as instructions of code, at addresses, or in a list, at indices.
+-- Where operations stand: as instructions of code, at addresses, or in a list, at indices. The list is there so that a program that
+-- is built from operations by index is judged by the same definitions.
 use Rattle.std.specs.Prelude.{◌≡◌, ◌⊎◌, ℕ, ◌+◌, ◌<◌, List, length, slice_get, Some}
 use Rattle.std.specs.List.{Contains}
 use Rattle.grain_bytecode.specs.declared.op.Op.{Op}
-use Rattle.grain_bytecode.specs.Table.{width_of}
+use Rattle.grain_bytecode.specs.InstructionTable.{width_of}
 use Rattle.grain_bytecode.specs.Split as split
 use Rattle.grain_bytecode.specs.Split.{Split}
 

@@ -2,10 +2,11 @@
 use Rattle.std.specs.Prelude.{◌≡◌, ℕ, ◌-◌, ◌≤◌, ◌⊎◌, min, Bool, true, false, cond, List, [], ◌∷◌, length, Option, Some, None}
 use Rattle.grain_bytecode.specs.Span.{Span}
 use Rattle.grain_bytecode.specs.declared.op.Op.{Op}
-use Rattle.grain_bytecode.specs.declared.op.Op.TheVariants as ops
 use Rattle.grain.specs.Code.{Code}
 use Rattle.grain.specs.Counts.{Counts}
-use Rattle.grain.specs.Effects.{Edge, GoesOn, Meets, takes, iterators_needed}
+use Rattle.grain.specs.Effects.{Jumps, FallsThrough, Meets, takes, iterators_needed}
+use Rattle.grain.specs.Flow as flows
+use Rattle.grain.specs.Flow.{Flow, flow_of}
 use Rattle.grain.specs.Typing.{StandsIn}
 
 -- an armed handler: where it catches, the stacks that stood when it was armed, and whether it has caught
@@ -34,20 +35,42 @@ pub record Finds (code : Code) (chunk : Span) (m : Machine) (op : Op) : Type 0 w
   pub stands : StandsIn code chunk m.address op
   pub meets : Meets code.setting op (counts m)
 
--- the handlers after an operation
 abbrev pub without_last : List Handler → List Handler
 without_last [] = []
 without_last (h ∷ hs) = hs
 
+-- the handlers that are armed after an operation of such a flow
+abbrev pub handlers_for : Flow → Machine → List Handler
+handlers_for flows.Falls m = m.handlers
+handlers_for flows.Ends m = m.handlers
+handlers_for (flows.Jumps target) m = m.handlers
+handlers_for (flows.Branches target) m = m.handlers
+handlers_for (flows.Switches w) m = m.handlers
+handlers_for flows.BeginsIterator m = m.handlers
+handlers_for (flows.AdvancesIterator exit) m = m.handlers
+handlers_for flows.EndsIterator m = m.handlers
+handlers_for (flows.PushesHandler target) m = record { target = target; operands = m.operands; iterators = m.iterators; spent = false } ∷ m.handlers
+handlers_for flows.PopsHandler m = without_last m.handlers
+
 abbrev pub handlers_after : Op → Machine → List Handler
-handlers_after (ops.PushHandler target name) m = record { target = target; operands = m.operands; iterators = m.iterators; spent = false } ∷ m.handlers
-handlers_after ops.PopHandler m = without_last m.handlers
-handlers_after op m = m.handlers
+handlers_after op m = handlers_for (flow_of op) m
+
+-- whether an ordinary step may jump: it never follows a catch edge
+abbrev pub jumps_for : Flow → Bool
+jumps_for flows.Falls = true
+jumps_for flows.Ends = true
+jumps_for (flows.Jumps target) = true
+jumps_for (flows.Branches target) = true
+jumps_for (flows.Switches w) = true
+jumps_for flows.BeginsIterator = true
+jumps_for (flows.AdvancesIterator exit) = true
+jumps_for flows.EndsIterator = true
+jumps_for (flows.PushesHandler target) = false
+jumps_for flows.PopsHandler = true
 
 -- the edges that an ordinary step follows: all but the catch edge
 abbrev pub Flows : Code → Op → ℕ → Counts → ℕ → Counts → Type 0
-Flows code (ops.PushHandler target name) at c b d = GoesOn code (ops.PushHandler target name) at c b d
-Flows code op at c b d = Edge code op at c b d
+Flows code op at c b d = ((jumps_for (flow_of op) ≡ true) × Jumps code op c b d) ⊎ FallsThrough code op at c b d
 
 -- an ordinary step
 pub record Steps (code : Code) (chunk : Span) (m n : Machine) : Type 0 where

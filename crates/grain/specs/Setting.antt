@@ -3,7 +3,7 @@ use Rattle.std.specs.Prelude.{ℕ, List, map}
 use Rattle.grain_base.specs.declared.caps.Caps.{Caps}
 use Rattle.grain_bytecode.specs.declared.chain.Chain.{Chain}
 use Rattle.grain_bytecode.specs.declared.switch.Switch.{Switch}
-use Rattle.grain_bytecode.specs.Dispatch.{Case, listed, table}
+use Rattle.grain_bytecode.specs.Dispatch.{Case, listed, arms}
 use Rattle.grain.specs.declared.pools.Pools.{Pools}
 
 -- the capabilities as a number, the pools by what is asked of them: how many there are, or what they hold
@@ -20,11 +20,12 @@ pub record Setting : Type 0 where
 
 -- the constant of each case
 abbrev pub case_consts : Switch → List ℕ
-case_consts s = map (λ (c : Case). c.1.1) (listed (table s).cases)
+case_consts s = map (λ (c : Case). c.1.1) (listed (arms s).cases)
 
-abbrev pub setting : Caps → Pools → Setting
-setting caps pools = record {
-  caps = caps.0;
+-- the pools with capabilities as a number
+abbrev pub pools_with : ℕ → Pools → Setting
+pools_with caps pools = record {
+  caps = caps;
   consts = pools.consts;
   names = pools.names.now;
   tokens = pools.tokens;
@@ -33,3 +34,6 @@ setting caps pools = record {
   chains = pools.chains.now;
   cases = map case_consts pools.switches.now;
 }
+
+abbrev pub setting : Caps → Pools → Setting
+setting caps pools = pools_with caps.0 pools

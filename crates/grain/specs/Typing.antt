@@ -43,5 +43,5 @@ pub data Reached (code : Code) (chunk : Span) : ℕ → Counts → Type 0 where
 
 -- the greatest operand count that is reached
 pub record IsDeepest (code : Code) (chunk : Span) (n : ℕ) : Type 0 where
-  pub least : (at : ℕ) (c : Counts) → Reached code chunk at c → c.operands ≤ n
+  pub most : (at : ℕ) (c : Counts) → Reached code chunk at c → c.operands ≤ n
   pub attained : (at : ℕ) × ((c : Counts) × Reached code chunk at c × (c.operands ≡ n))

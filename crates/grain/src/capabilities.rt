@@ -1,9 +1,9 @@
-//! What the host has to have.
+//! What is asked of the host.
 ghost use Rattle.std.specs.Prelude.{◌≡◌, ◌↔◌, IfOk, IsTrue, get_or, map};
 ghost use Rattle.grain_base.specs.CapBits.{missing};
 ghost use Rattle.grain_base.specs.declared.caps.Caps.{Caps};
 ghost use Rattle.grain.specs.Capabilities.{Allows, chain_caps, module_of, name_caps, root_caps, step_caps};
-ghost use Rattle.grain.specs.PoolNeeds.{AreNeeds, numbers};
+ghost use Rattle.grain.specs.PoolCaps.{AreAsked, numbers};
 ghost use Rattle.grain.specs.Setting.{Setting, setting};
 
 use crate::pools::Pools;
@@ -12,22 +12,22 @@ use grain_bytecode::names::split_qualified;
 use grain_bytecode::{Chain, Root, Step, Strings};
 use std::alloc::{AllocError, Global};
 
-/// What is needed and isn't there.
+/// What is asked and isn't there.
 #[inline(always)]
-pub(crate) fn lacking(caps: Caps, needed: Caps) -> Caps
-    ensures { result.0 ≡ missing caps.0 needed.0 }
+pub(crate) fn missing(caps: Caps, asked: Caps) -> Caps
+    ensures { result.0 ≡ missing caps.0 asked.0 }
 {
-    needed.difference(caps)
+    asked.difference(caps)
 }
 
-/// Whether all that is needed is there.
-pub(crate) fn allows(caps: Caps, needed: Caps) -> bool
-    ensures { IsTrue result ↔ Allows caps.0 needed.0 }
+/// Whether all that is asked is there.
+pub(crate) fn allows(caps: Caps, asked: Caps) -> bool
+    ensures { IsTrue result ↔ Allows caps.0 asked.0 }
 {
-    lacking(caps, needed).is_empty()
+    missing(caps, asked).is_empty()
 }
 
-/// What each name and each chain of the pools needs.
+/// What each name and each chain of the pools asks.
 ///
 /// It is computed once, so that an operation costs no more where its name or its chain is long.
 #[derive(Drop)]
@@ -37,9 +37,9 @@ pub(crate) struct PoolCaps {
 }
 
 impl PoolCaps {
-    /// The needs of all names and chains of the pools.
+    /// What all names and chains of the pools ask.
     pub(crate) fn new(alloc: Global, pools: &Pools<'_>) -> Result<PoolCaps, AllocError>
-        ensures { IfOk result (λ p. (caps : Caps) → AreNeeds (setting caps pools.now) p) }
+        ensures { IfOk result (λ p. (caps : Caps) → AreAsked (setting caps pools.now) p) }
     {
         Ok(PoolCaps {
             names: all_name_caps(alloc, pools.names)?,
@@ -47,18 +47,19 @@ impl PoolCaps {
         })
     }
 
-    /// What naming the variable or the function of an index needs.
+    /// What an instruction asks that names the variable or the function of an index.
     #[inline(always)]
     pub(crate) fn of_name(&self, index: u32) -> Caps
-        ensures { (s : Setting) → AreNeeds s self.now → result.0 ≡ module_of s index }
+        ensures { (s : Setting) → AreAsked s self.now → result.0 ≡ module_of s index }
     {
         caps_at(&self.names, index)
     }
 
-    /// What the chain of an index needs.
+    /// What the chain of an index asks.
     #[inline(always)]
     pub(crate) fn of_chain(&self, index: u32) -> Caps
-        ensures { (s : Setting) → AreNeeds s self.now → result.0 ≡ get_or (map chain_caps s.chains) index 0 }
+        ensures { (s : Setting) → AreAsked s self.now
+            → result.0 ≡ get_or (map chain_caps s.chains) index 0 }
     {
         caps_at(&self.chains, index)
     }
@@ -94,7 +95,7 @@ fn all_chain_caps(alloc: Global, chains: &[Chain]) -> Result<Vec<Caps>, AllocErr
     Ok(all)
 }
 
-/// What naming a variable or a function so needs: a qualified name is one of a module.
+/// What naming a variable or a function so asks: a qualified name is one of a module.
 fn name_caps(name: &str) -> Caps
     ensures { result.0 ≡ name_caps name.now }
 {
@@ -104,7 +105,7 @@ fn name_caps(name: &str) -> Caps
     }
 }
 
-/// What a chain needs: what its root and each of its steps do.
+/// What a chain asks: what its root and each of its steps do.
 fn chain_caps(chain: &Chain) -> Caps
     ensures { result.0 ≡ chain_caps chain.now }
 {

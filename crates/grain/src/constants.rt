@@ -1,19 +1,20 @@
-//! What constants need of the host.
+//! What constants ask of the host.
 ghost use Rattle.std.specs.Prelude.{◌≡◌, Some, MatchOption, OnOk, IfErr, option_map};
 ghost use Rattle.std.specs.List.{All};
 ghost use Rattle.grain.specs.Accepted.{ConstantPasses};
 ghost use Rattle.grain.specs.Capabilities.{Allows};
 ghost use Rattle.grain.specs.ConstCaps.{const_caps, items_caps, entries_caps};
-ghost use Rattle.grain.specs.Fault.{LacksForConstant};
+ghost use Rattle.grain.specs.Flaw.{ConstantAsks};
 
 use crate::capabilities::allows;
 use crate::error::VerifyError;
 use grain_base::{Caps, Dynamic, Flags};
 use std::collections::BTreeMap;
 
-/// The capabilities that a constant needs, those of its parts among them.
+/// The capabilities that a constant asks, those of its parts among them (docs/FORMAT.md, "Capabilities").
 ///
 /// `None` for a value that can't be said to be a constant: one that is shared or the host's, or has such a part.
+#[must_use]
 #[cycle(caps)]
 pub fn constant_caps(value: &Dynamic) -> Option<Caps>
     ensures { option_map (λ c. c.0) result ≡ const_caps value.now }
@@ -24,7 +25,13 @@ pub fn constant_caps(value: &Dynamic) -> Option<Caps>
         Dynamic::Map(entries) => add_entries(Caps::MAP, entries),
         Dynamic::FnPtr(pointer) => add_items(Caps::FN_PTR, &pointer.curry),
         Dynamic::Shared(_) | Dynamic::Host(_) => None,
-        _ => Some(Caps::empty()),
+        Dynamic::Unit
+        | Dynamic::Bool(_)
+        | Dynamic::Int(_)
+        | Dynamic::Char(_)
+        | Dynamic::Str(_)
+        | Dynamic::Range(..)
+        | Dynamic::RangeInclusive(..) => Some(Caps::empty()),
     }
 }
 
@@ -50,13 +57,14 @@ fn add_entries(caps: Caps, entries: &BTreeMap<String, Dynamic>) -> Option<Caps>
     Some(all)
 }
 
-/// Tests that the host has what each constant needs.
+/// Tests that the host has what each constant asks.
 ///
 /// # Errors
-/// `MissingCaps` at address 0, with all that the first constant needs for which it has not.
+/// `MissingCaps` at address 0, with all that the first constant asks whose capabilities aren't all there.
 pub(crate) fn check_constants(caps: Caps, consts: &[Dynamic]) -> Result<(), VerifyError>
     ensures ok { OnOk result (All (ConstantPasses caps.0) consts.now) }
-    ensures err { IfErr result (λ e. (lacking : Caps) × (e ≡ VerifyError.MissingCaps caps lacking 0) × LacksForConstant caps.0 consts.now lacking.0) }
+    ensures err { IfErr result (λ e. (asked : Caps) × (e ≡ VerifyError.MissingCaps caps asked 0)
+        × ConstantAsks caps.0 consts.now asked.0) }
 {
     for value in consts {
         if let Some(missing) = refused_caps(caps, value) {
@@ -70,15 +78,16 @@ pub(crate) fn check_constants(caps: Caps, consts: &[Dynamic]) -> Result<(), Veri
     Ok(())
 }
 
-// The capabilities that the constant needs, where the host hasn't all of them.
+// The capabilities that the constant asks, where the host lacks some of them.
 fn refused_caps(caps: Caps, value: &Dynamic) -> Option<Caps>
-    ensures { MatchOption result (ConstantPasses caps.0 value.now) (λ needed. (const_caps value.now ≡ Some needed.0) × (Allows caps.0 needed.0 → ⊥)) }
+    ensures { MatchOption result (ConstantPasses caps.0 value.now) (λ asked.
+        (const_caps value.now ≡ Some asked.0) × (Allows caps.0 asked.0 → ⊥)) }
 {
-    let needed = constant_caps(value)?;
-    if allows(caps, needed) {
+    let asked = constant_caps(value)?;
+    if allows(caps, asked) {
         None
     } else {
-        Some(needed)
+        Some(asked)
     }
 }
 

@@ -1,15 +1,14 @@
 //! Pushing where an instruction may lead.
 ghost use Rattle.std.specs.Prelude.{◌≡◌, ◌≤◌, ◌++◌, ◌∷◌, [], get_or, length, map, OnOk, IfErr};
 ghost use Rattle.std.specs.List.{All};
-ghost use Rattle.grain_bytecode.specs.Dispatch.{listed, table};
+ghost use Rattle.grain_bytecode.specs.Dispatch.{listed, arms};
+ghost use Rattle.grain.specs.Arrivals.{RefusesTarget, RefusesTargetOf, all_to, case_targets, coming};
+ghost use Rattle.grain.specs.Arrivals.{range_targets, view};
 ghost use Rattle.grain.specs.Code.{switch_targets};
-ghost use Rattle.grain.specs.Edges.{IsMarkedIn, RefusesTarget, RefusesTargetOf, all_to};
-ghost use Rattle.grain.specs.Pushed.{case_targets, range_targets};
-ghost use Rattle.grain.specs.View.{coming, view};
+ghost use Rattle.grain.specs.Marks.{IsMarkedIn};
 
-use crate::arrival::Arrival;
 use crate::error::VerifyError;
-use crate::state::State;
+use crate::state::{Arrival, State};
 use grain_base::Dynamic;
 use grain_bytecode::{Chunk, Switch, SwitchRange};
 use std::collections::HashMap;
@@ -47,7 +46,8 @@ pub(crate) fn push_target(
     work: &mut Vec<Arrival>,
 ) -> Result<(), VerifyError>
     requires { chunk.now.end ≤ length starts.now }
-    ensures pushed { OnOk result (map coming work.new.items ≡ map coming work.old.items ++ all_to (view after) (target ∷ [])) }
+    ensures pushed { OnOk result (map coming work.new.items
+        ≡ map coming work.old.items ++ all_to (view after) (target ∷ [])) }
     ensures marked { OnOk result (IsMarkedIn starts.now chunk.now target) }
     ensures err { IfErr result (λ e. RefusesTargetOf starts.now chunk.now at (target ∷ []) e) }
 {
@@ -69,9 +69,12 @@ fn push_cases(
     work: &mut Vec<Arrival>,
 ) -> Result<(), VerifyError>
     requires { chunk.now.end ≤ length starts.now }
-    ensures pushed { OnOk result (map coming work.new.items ≡ map coming work.old.items ++ all_to (view after) (case_targets cases.now.entries)) }
-    ensures marked { OnOk result (All (IsMarkedIn starts.now chunk.now) (case_targets cases.now.entries)) }
-    ensures err { IfErr result (λ e. RefusesTargetOf starts.now chunk.now at (case_targets cases.now.entries) e) }
+    ensures pushed { OnOk result (map coming work.new.items
+        ≡ map coming work.old.items ++ all_to (view after) (case_targets cases.now.entries)) }
+    ensures marked { OnOk result
+        (All (IsMarkedIn starts.now chunk.now) (case_targets cases.now.entries)) }
+    ensures err { IfErr result (λ e. RefusesTargetOf starts.now chunk.now at
+        (case_targets cases.now.entries) e) }
 {
     for (_, (target, _)) in cases {
         push_target(starts, chunk, at, *target, after, work)?;
@@ -89,9 +92,12 @@ fn push_ranges(
     work: &mut Vec<Arrival>,
 ) -> Result<(), VerifyError>
     requires { chunk.now.end ≤ length starts.now }
-    ensures pushed { OnOk result (map coming work.new.items ≡ map coming work.old.items ++ all_to (view after) (range_targets ranges.now)) }
-    ensures marked { OnOk result (All (IsMarkedIn starts.now chunk.now) (range_targets ranges.now)) }
-    ensures err { IfErr result (λ e. RefusesTargetOf starts.now chunk.now at (range_targets ranges.now) e) }
+    ensures pushed { OnOk result (map coming work.new.items
+        ≡ map coming work.old.items ++ all_to (view after) (range_targets ranges.now)) }
+    ensures marked { OnOk result
+        (All (IsMarkedIn starts.now chunk.now) (range_targets ranges.now)) }
+    ensures err { IfErr result (λ e. RefusesTargetOf starts.now chunk.now at
+        (range_targets ranges.now) e) }
 {
     for range in ranges {
         push_target(starts, chunk, at, range.target, after, work)?;
@@ -109,9 +115,13 @@ fn push_all_cases(
     work: &mut Vec<Arrival>,
 ) -> Result<(), VerifyError>
     requires { chunk.now.end ≤ length starts.now }
-    ensures pushed { OnOk result (map coming work.new.items ≡ map coming work.old.items ++ all_to (view after) (case_targets (listed (table switch.now).cases))) }
-    ensures marked { OnOk result (All (IsMarkedIn starts.now chunk.now) (case_targets (listed (table switch.now).cases))) }
-    ensures err { IfErr result (λ e. RefusesTargetOf starts.now chunk.now at (case_targets (listed (table switch.now).cases)) e) }
+    ensures pushed { OnOk result (map coming work.new.items
+        ≡ map coming work.old.items
+        ++ all_to (view after) (case_targets (listed (arms switch.now).cases))) }
+    ensures marked { OnOk result (All (IsMarkedIn starts.now chunk.now)
+        (case_targets (listed (arms switch.now).cases))) }
+    ensures err { IfErr result (λ e. RefusesTargetOf starts.now chunk.now at
+        (case_targets (listed (arms switch.now).cases)) e) }
 {
     match &switch.cases {
         Some(cases) => push_cases(starts, chunk, at, cases, after, work),
@@ -129,9 +139,12 @@ fn push_switch(
     work: &mut Vec<Arrival>,
 ) -> Result<(), VerifyError>
     requires { chunk.now.end ≤ length starts.now }
-    ensures pushed { OnOk result (map coming work.new.items ≡ map coming work.old.items ++ all_to (view after) (switch_targets switch.now)) }
-    ensures marked { OnOk result (All (IsMarkedIn starts.now chunk.now) (switch_targets switch.now)) }
-    ensures err { IfErr result (λ e. RefusesTargetOf starts.now chunk.now at (switch_targets switch.now) e) }
+    ensures pushed { OnOk result (map coming work.new.items
+        ≡ map coming work.old.items ++ all_to (view after) (switch_targets switch.now)) }
+    ensures marked { OnOk result
+        (All (IsMarkedIn starts.now chunk.now) (switch_targets switch.now)) }
+    ensures err { IfErr result (λ e. RefusesTargetOf starts.now chunk.now at
+        (switch_targets switch.now) e) }
 {
     push_all_cases(starts, chunk, at, switch, after, work)?;
     push_ranges(starts, chunk, at, &switch.ranges, after, work)?;
@@ -150,9 +163,13 @@ pub(crate) fn push_table(
     work: &mut Vec<Arrival>,
 ) -> Result<(), VerifyError>
     requires { chunk.now.end ≤ length starts.now }
-    ensures pushed { OnOk result (map coming work.new.items ≡ map coming work.old.items ++ all_to (view after) (get_or (map switch_targets switches.now) index [])) }
-    ensures marked { OnOk result (All (IsMarkedIn starts.now chunk.now) (get_or (map switch_targets switches.now) index [])) }
-    ensures err { IfErr result (λ e. RefusesTargetOf starts.now chunk.now at (get_or (map switch_targets switches.now) index []) e) }
+    ensures pushed { OnOk result (map coming work.new.items
+        ≡ map coming work.old.items
+        ++ all_to (view after) (get_or (map switch_targets switches.now) index [])) }
+    ensures marked { OnOk result (All (IsMarkedIn starts.now chunk.now)
+        (get_or (map switch_targets switches.now) index [])) }
+    ensures err { IfErr result (λ e. RefusesTargetOf starts.now chunk.now at
+        (get_or (map switch_targets switches.now) index []) e) }
 {
     match switches.get(index as usize) {
         Some(switch) => push_switch(starts, chunk, at, switch, after, work),

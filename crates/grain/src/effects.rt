@@ -1,61 +1,65 @@
-//! What operations ask of the host and of the stacks, what they leave on them, and where they lead.
+//! What operations ask of the host, what they need of the stacks and leave on them, and how they are left.
 ghost use Rattle.std.specs.Prelude.{◌≡◌, ◌+◌, ◌<◌, ◌≤◌, ◌^◌, get_or, map};
 ghost use Rattle.grain_bytecode.specs.Chain.{consumed};
 ghost use Rattle.grain.specs.Capabilities.{caps_of};
-ghost use Rattle.grain.specs.Effects.{effect};
-ghost use Rattle.grain.specs.PoolNeeds.{AreNeeds};
+ghost use Rattle.grain.specs.Effects.{stack_effect};
+ghost use Rattle.grain.specs.Flow.{flow_of};
+ghost use Rattle.grain.specs.FlowView.{flow};
+ghost use Rattle.grain.specs.PoolCaps.{AreAsked};
 ghost use Rattle.grain.specs.Setting.{Setting};
-ghost use Rattle.grain.specs.Ways.{way_of};
 
 use crate::capabilities::PoolCaps;
 use grain_base::{Caps, Flags};
 use grain_bytecode::{Chain, Op, Receiver};
 
-/// How an operation goes on, and what it does to iterators and handlers.
+/// How an operation is left, and what that does to iterators and handlers.
 #[derive(Clone, Copy)]
-pub(crate) enum Way {
-    /// It goes on to what follows it.
-    Onward,
+pub(crate) enum Flow {
+    /// It falls through to the next one.
+    Falls,
     /// It ends the run.
     Ends,
-    /// It goes on at the target.
+    /// It jumps to the target.
     Jumps(u32),
-    /// It goes on to what follows it, or at the target.
+    /// It jumps to the target or falls through.
     Branches(u32),
-    /// It goes on at a target of the switch.
+    /// It jumps to a target of the switch at this index.
     Switches(u32),
-    /// It begins an iterator.
-    IterInit,
-    /// It pushes what an iterator gives next, or ends the iterator and goes on at the target.
-    IterNext(u32),
-    /// It ends an iterator.
-    IterDrop,
-    /// It arms a handler, which catches at the target.
-    PushHandler(u32),
-    /// It disarms a handler.
-    PopHandler,
+    /// It begins an iterator and falls through.
+    BeginsIterator,
+    /// It pushes the item that an iterator gives and falls through, or ends the iterator and jumps to the exit.
+    AdvancesIterator(u32),
+    /// It ends an iterator and falls through.
+    EndsIterator,
+    /// It arms a handler, which catches at the target, and falls through.
+    PushesHandler(u32),
+    /// It disarms a handler and falls through.
+    PopsHandler,
 }
 
 /// What an operation does: what it asks of the host, how many operands it needs, how many of them it takes, how many it
-/// gives, and how it goes on.
+/// gives, and its flow.
 #[derive(Clone, Copy)]
 pub(crate) struct Effect {
-    pub(crate) caps: Caps,
+    pub(crate) asks: Caps,
     pub(crate) needs: u32,
     pub(crate) takes: u32,
     pub(crate) gives: u32,
-    pub(crate) way: Way,
+    pub(crate) flow: Flow,
     ghost there: { takes ≤ needs },
     ghost by_one: { gives ≤ takes + 1 },
 }
 
 impl Effect {
-    /// What an operation does, with these chains in the pool, and names and chains with these needs.
+    /// What an operation does, with these chains in the pool, and names and chains that ask this of the host.
+    ///
+    /// It is the instruction table (docs/FORMAT.md, "Instructions") by what operations have in common.
     #[inline(always)]
-    pub(crate) fn of(op: &Op, chains: &[Chain], needed: &PoolCaps) -> Effect
-        ensures operands { (result.needs, result.takes, result.gives) ≡ effect chains.now op.now }
-        ensures caps { (s : Setting) → AreNeeds s needed.now → result.caps.0 ≡ caps_of s op.now }
-        ensures way { result.way ≡ way_of op.now }
+    pub(crate) fn of(op: &Op, chains: &[Chain], asked: &PoolCaps) -> Effect
+        ensures operands { (result.needs, result.takes, result.gives)
+            ≡ stack_effect chains.now op.now }
+        ensures asks { (s : Setting) → AreAsked s asked.now → result.asks.0 ≡ caps_of s op.now }
+        ensures flow { flow result.flow ≡ flow_of op.now }
     {
         match op {
             Op::Const(_)
@@ -66,7 +70,7 @@ impl Effect {
             | Op::InterpolateStart
             | Op::LoadShared(_)
             | Op::LoadSharedNamed(_) => Effect::taking(0, 1),
-            Op::LoadNamed(name) => Effect::taking(0, 1).asking(needed.of_name(*name)),
+            Op::LoadNamed(name) => Effect::taking(0, 1).asking(asked.of_name(*name)),
             Op::MakeClosure(_) => Effect::taking(0, 1).asking(Caps::FN_PTR),
             Op::LoadThis | Op::LoadThisShared => Effect::taking(0, 1).asking(Caps::THIS),
             Op::CustomSyntax(_) => Effect::taking(0, 1).asking(Caps::CUSTOM_SYNTAX),
@@ -79,15 +83,17 @@ impl Effect {
             Op::AssignThis { .. } => Effect::taking(1, 0).asking(Caps::THIS),
             Op::Import { .. } => Effect::taking(1, 0).asking(Caps::IMPORT),
             Op::JumpIfTrue { target } | Op::JumpIfFalse { target } => {
-                Effect::taking(1, 0).going(Way::Branches(*target))
+                Effect::taking(1, 0).flowing(Flow::Branches(*target))
             }
-            Op::SkipIfNotUnit { target } => Effect::keeping(1, 0).going(Way::Branches(*target)),
-            Op::Switch(index) => Effect::keeping(1, 0).going(Way::Switches(*index)),
-            Op::Throw => Effect::taking(1, 0).going(Way::Ends),
-            Op::IterInit => Effect::taking(1, 0).going(Way::IterInit),
+            // These look at the top of the operand stack and leave it there.
+            Op::SkipIfNotUnit { target } => Effect::keeping(1, 0).flowing(Flow::Branches(*target)),
+            Op::Switch(index) => Effect::keeping(1, 0).flowing(Flow::Switches(*index)),
+            Op::Throw => Effect::taking(1, 0).flowing(Flow::Ends),
+            Op::IterInit => Effect::taking(1, 0).flowing(Flow::BeginsIterator),
             Op::InterpolateEnd | Op::CheckSize { .. } => Effect::taking(1, 1),
             Op::MakeFnPtr => Effect::taking(1, 1).asking(Caps::FN_PTR),
             Op::IsShared => Effect::taking(1, 1).asking(Caps::SHARING),
+            // The piece is appended to the text that lies below it and stays.
             Op::InterpolateAppend => Effect::keeping(1, 1),
             Op::CallRef {
                 name,
@@ -95,8 +101,9 @@ impl Effect {
                 receiver: Receiver::Local(_),
                 ..
             } => {
+                // The first argument is the variable, which doesn't lie on the operand stack.
                 let argc = u32::from(*argc).saturating_sub(1);
-                Effect::taking(argc, 1).asking(needed.of_name(*name))
+                Effect::taking(argc, 1).asking(asked.of_name(*name))
             }
             Op::CallRef {
                 name,
@@ -104,21 +111,27 @@ impl Effect {
                 receiver: Receiver::This,
                 ..
             } => {
-                let caps = Caps::THIS.union(needed.of_name(*name));
+                let caps = Caps::THIS.union(asked.of_name(*name));
                 Effect::taking(u32::from(*argc), 1).asking(caps)
             }
-            Op::Call { name, argc, .. } | Op::CallRef { name, argc, .. } => {
-                Effect::taking(u32::from(*argc), 1).asking(needed.of_name(*name))
-            }
+            Op::Call { name, argc, .. }
+            | Op::CallRef {
+                name,
+                argc,
+                receiver: Receiver::Named(_),
+                ..
+            } => Effect::taking(u32::from(*argc), 1).asking(asked.of_name(*name)),
             Op::Chain(index) => {
-                Effect::taking(consumed_at(chains, *index), 1).asking(needed.of_chain(*index))
+                Effect::taking(consumed_at(chains, *index), 1).asking(asked.of_chain(*index))
             }
             Op::MakeArray(len) => Effect::taking(u32::from(*len), 1).asking(Caps::ARRAY),
+            // The keys and values of the entries, and the literal that they go into.
             Op::MakeMap(len) => Effect::taking(2 * u32::from(*len) + 1, 1).asking(Caps::MAP),
             Op::Curry(argc) => {
                 let caps = Caps::FN_PTR.union(Caps::CURRYING);
                 Effect::taking(u32::from(*argc) + 1, 1).asking(caps)
             }
+            // The arguments, and the pointer below them.
             Op::CallFnPtr { argc, .. } => {
                 Effect::taking(u32::from(*argc) + 1, 1).asking(Caps::FN_PTR)
             }
@@ -128,34 +141,39 @@ impl Effect {
             Op::ExportLocal { .. } | Op::ExportNamed { .. } => {
                 Effect::taking(0, 0).asking(Caps::EXPORT)
             }
-            Op::Jump(target) => Effect::taking(0, 0).going(Way::Jumps(*target)),
-            Op::Return => Effect::taking(0, 0).going(Way::Ends),
-            Op::IterNext { exit, .. } => Effect::taking(0, 0).going(Way::IterNext(*exit)),
-            Op::IterDrop => Effect::taking(0, 0).going(Way::IterDrop),
-            Op::PushHandler { target, .. } => {
-                Effect::taking(0, 0).going(Way::PushHandler(*target))
+            Op::Jump(target) => Effect::taking(0, 0).flowing(Flow::Jumps(*target)),
+            Op::Return => Effect::taking(0, 0).flowing(Flow::Ends),
+            // The item that it pushes lies on one of its two ways alone.
+            Op::IterNext { exit, .. } => {
+                Effect::taking(0, 0).flowing(Flow::AdvancesIterator(*exit))
             }
-            Op::PopHandler => Effect::taking(0, 0).going(Way::PopHandler),
-            _ => Effect::taking(0, 0),
+            Op::IterDrop => Effect::taking(0, 0).flowing(Flow::EndsIterator),
+            Op::PushHandler { target, .. } => {
+                Effect::taking(0, 0).flowing(Flow::PushesHandler(*target))
+            }
+            Op::PopHandler => Effect::taking(0, 0).flowing(Flow::PopsHandler),
+            Op::UnwindTo(_) | Op::Tick | Op::Checkpoint | Op::Statement { .. } => {
+                Effect::taking(0, 0)
+            }
         }
     }
 
-    // Takes all that it needs, asks nothing of the host and goes on to what follows it.
+    // Takes all that it needs, asks nothing of the host and falls through.
     #[inline(always)]
     fn taking(takes: u32, gives: u32) -> Effect
         requires { gives ≤ takes + 1 }
-        ensures caps { result.caps.0 ≡ 0 }
+        ensures asks { result.asks.0 ≡ 0 }
         ensures needs { result.needs ≡ takes }
         ensures takes { result.takes ≡ takes }
         ensures gives { result.gives ≡ gives }
-        ensures way { result.way ≡ Way.Onward }
+        ensures flow { result.flow ≡ Flow.Falls }
     {
         Effect {
-            caps: Caps::empty(),
+            asks: Caps::empty(),
             needs: takes,
             takes,
             gives,
-            way: Way::Onward,
+            flow: Flow::Falls,
         }
     }
 
@@ -163,54 +181,54 @@ impl Effect {
     #[inline(always)]
     fn keeping(kept: u32, takes: u32) -> Effect
         requires { kept + takes < 2 ^ 32 }
-        ensures caps { result.caps.0 ≡ 0 }
+        ensures asks { result.asks.0 ≡ 0 }
         ensures needs { result.needs ≡ kept + takes }
         ensures takes { result.takes ≡ takes }
         ensures gives { result.gives ≡ 0 }
-        ensures way { result.way ≡ Way.Onward }
+        ensures flow { result.flow ≡ Flow.Falls }
     {
         Effect {
-            caps: Caps::empty(),
+            asks: Caps::empty(),
             needs: kept + takes,
             takes,
             gives: 0,
-            way: Way::Onward,
+            flow: Flow::Falls,
         }
     }
 
     // The same, with this asked of the host.
     #[inline(always)]
     fn asking(self, caps: Caps) -> Effect
-        ensures caps { result.caps ≡ caps }
+        ensures asks { result.asks ≡ caps }
         ensures needs { result.needs ≡ self.needs }
         ensures takes { result.takes ≡ self.takes }
         ensures gives { result.gives ≡ self.gives }
-        ensures way { result.way ≡ self.way }
+        ensures flow { result.flow ≡ self.flow }
     {
         Effect {
-            caps,
+            asks: caps,
             needs: self.needs,
             takes: self.takes,
             gives: self.gives,
-            way: self.way,
+            flow: self.flow,
         }
     }
 
-    // The same, going on this way.
+    // The same, with this flow.
     #[inline(always)]
-    fn going(self, way: Way) -> Effect
-        ensures caps { result.caps ≡ self.caps }
+    fn flowing(self, flow: Flow) -> Effect
+        ensures asks { result.asks ≡ self.asks }
         ensures needs { result.needs ≡ self.needs }
         ensures takes { result.takes ≡ self.takes }
         ensures gives { result.gives ≡ self.gives }
-        ensures way { result.way ≡ way }
+        ensures flow { result.flow ≡ flow }
     {
         Effect {
-            caps: self.caps,
+            asks: self.asks,
             needs: self.needs,
             takes: self.takes,
             gives: self.gives,
-            way,
+            flow,
         }
     }
 }
@@ -220,13 +238,7 @@ fn consumed_at(chains: &[Chain], index: u32) -> u32
     ensures { result ≡ get_or (map consumed chains.now) index 0 }
 {
     match chains.get(index as usize) {
-        Some(chain) => consumed(chain),
+        Some(chain) => chain.consumes() as u32,
         None => 0,
     }
-}
-
-fn consumed(chain: &Chain) -> u32
-    ensures { result ≡ consumed chain.now }
-{
-    u32::from(chain.operands) + u32::from(chain.roots_on_stack()) + u32::from(chain.assigns())
 }

@@ -14,7 +14,8 @@ use grain_bytecode::Function;
 /// `MissingCaps` at address 0, with `FUNCTION`.
 pub(crate) fn check_functions(caps: Caps, functions: &[Function]) -> Result<(), VerifyError>
     ensures ok { OnOk result (functions.now ≢ [] → Allows caps.0 FUNCTION) }
-    ensures err { IfErr result (λ e. (lacking : Caps) × (e ≡ VerifyError.MissingCaps caps lacking 0) × (functions.now ≢ []) × (lacking.0 ≡ FUNCTION) × (Allows caps.0 FUNCTION → ⊥)) }
+    ensures err { IfErr result (λ e. (asked : Caps) × (e ≡ VerifyError.MissingCaps caps asked 0)
+        × (functions.now ≢ []) × (asked.0 ≡ FUNCTION) × (Allows caps.0 FUNCTION → ⊥)) }
 {
     if functions.is_empty() || allows(caps, Caps::FUNCTION) {
         Ok(())

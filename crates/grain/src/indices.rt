@@ -2,24 +2,24 @@
 ghost use Rattle.std.specs.Prelude.{◌≡◌, [], ◌∷◌, ◌+◌, ◌<◌, ◌≤◌, IfErr, IfOk, IsTrue, OnOk, ℕ, get_or, length, map, take};
 ghost use Rattle.std.specs.Option.{option_to_list};
 ghost use Rattle.std.specs.List.{flat_map};
-ghost use Rattle.grain_bytecode.specs.Table.{form};
+ghost use Rattle.grain_bytecode.specs.InstructionTable.{form};
 ghost use Rattle.grain_bytecode.specs.declared.field.Field.TheVariants.{Index};
 ghost use Rattle.grain_bytecode.specs.declared.op.Op.{Op};
 ghost use Rattle.grain_base.specs.declared.caps.Caps.{Caps};
 ghost use Rattle.grain_bytecode.specs.Dispatch.{first_past};
 ghost use Rattle.grain_bytecode.specs.declared.field.Pool.{Pool};
 ghost use Rattle.grain.specs.Accepted.{AreIndexed};
-ghost use Rattle.grain.specs.Fault.{CodeFault};
-ghost use Rattle.grain.specs.FirstOut.{CasesPass, ChainsPass, alone, first_out, receiver_fields, refused};
-ghost use Rattle.grain.specs.Indices.{Indexed, IsOut, cases_of, chain_fields, fields_of, name_of, root_fields, size, step_fields, tail_fields};
-ghost use Rattle.grain.specs.TestedBits.{Has};
+ghost use Rattle.grain.specs.Flaw.{CodeFlaw};
+ghost use Rattle.grain.specs.FirstOut.{CasesPass, ChainsPass, HavePassed, alone, first_out};
+ghost use Rattle.grain.specs.FirstOut.{receiver_fields, refused};
+ghost use Rattle.grain.specs.Indices.{Indexed, IsOut, cases_of, chain_fields, fields_of, entry_name, root_fields, size, step_fields, tail_fields};
 ghost use Rattle.grain.specs.Setting.{Setting, case_consts, setting};
 
 use crate::error::VerifyError;
+use crate::passed::{Passed, WORDS, add_passed, has_passed};
 use crate::pools::Pools;
-use crate::tested::{WORDS, is_noted, note};
 use grain_base::Dynamic;
-use grain_bytecode::{Chain, Op, Pool, Receiver, Root, Step, Switch, Tail, decode, width};
+use grain_bytecode::{Chain, Op, Pool, Receiver, Root, Step, Switch, Tail, decode, tag, width};
 use std::collections::HashMap;
 
 /// An index that is at or above the size of its pool.
@@ -30,8 +30,8 @@ pub(crate) struct BadIndex {
 }
 
 /// What a refusal calls an index of the pool.
-fn name_of(pool: Pool) -> &'static str
-    ensures { result.now ≡ name_of pool }
+fn entry_name(pool: Pool) -> &'static str
+    ensures { result.now ≡ entry_name pool }
 {
     match pool {
         Pool::Constants => "constant",
@@ -74,7 +74,8 @@ fn check(pools: &Pools<'_>, pool: Pool, index: u32) -> Result<(), BadIndex>
 
 /// Tests an index where there is one.
 fn check_some(pools: &Pools<'_>, pool: Pool, index: Option<u32>) -> Result<(), BadIndex>
-    ensures { refused result ≡ first_out (alone pools.now) (map (Index pool) (option_to_list index)) }
+    ensures { refused result ≡ first_out (alone pools.now)
+        (map (Index pool) (option_to_list index)) }
 {
     match index {
         Some(index) => check(pools, pool, index),
@@ -143,7 +144,8 @@ fn check_chain(pools: &Pools<'_>, chain: &Chain) -> Result<(), BadIndex>
 fn check_chain_at(pools: &Pools<'_>, passed: &mut [u64], index: u32) -> Result<(), BadIndex>
     requires { ChainsPass pools.now passed.old }
     ensures passed { ChainsPass pools.now passed.new }
-    ensures refused { refused result ≡ first_out (alone pools.now) (Index Pool.Chains index ∷ get_or (map chain_fields pools.now.chains.now) index []) }
+    ensures refused { refused result ≡ first_out (alone pools.now)
+        (Index Pool.Chains index ∷ get_or (map chain_fields pools.now.chains.now) index []) }
 {
     let Some(chain) = pools.chains.get(index as usize) else {
         return Err(BadIndex {
@@ -151,9 +153,9 @@ fn check_chain_at(pools: &Pools<'_>, passed: &mut [u64], index: u32) -> Result<(
             index,
         });
     };
-    if !is_noted(passed, index) {
+    if !has_passed(passed, index) {
         check_chain(pools, chain)?;
-        note(passed, index);
+        add_passed(passed, index);
     }
     Ok(())
 }
@@ -172,7 +174,8 @@ fn check_receiver(pools: &Pools<'_>, receiver: Receiver) -> Result<(), BadIndex>
 fn check_fields(pools: &Pools<'_>, passed: &mut [u64], op: &Op) -> Result<(), BadIndex>
     requires { ChainsPass pools.now passed.old }
     ensures passed { ChainsPass pools.now passed.new }
-    ensures refused { refused result ≡ first_out (alone pools.now) (fields_of (alone pools.now) op.now) }
+    ensures refused { refused result
+        ≡ first_out (alone pools.now) (fields_of (alone pools.now) op.now) }
 {
     match op {
         Op::Const(constant) => check(pools, Pool::Constants, *constant),
@@ -214,12 +217,47 @@ fn check_fields(pools: &Pools<'_>, passed: &mut [u64], op: &Op) -> Result<(), Ba
         Op::Chain(chain) => check_chain_at(pools, passed, *chain),
         Op::Switch(switch) => check(pools, Pool::Switches, *switch),
         Op::CustomSyntax(site) => check(pools, Pool::SyntaxSites, *site),
-        _ => Ok(()),
+        Op::Unit
+        | Op::Bool(_)
+        | Op::LoadLocal(_)
+        | Op::StoreLocal { .. }
+        | Op::Pop
+        | Op::Jump(_)
+        | Op::JumpIfTrue { .. }
+        | Op::JumpIfFalse { .. }
+        | Op::SkipIfNotUnit { .. }
+        | Op::UnwindTo(_)
+        | Op::Tick
+        | Op::Return
+        | Op::MakeArray(_)
+        | Op::MakeMap(_)
+        | Op::CheckSize { .. }
+        | Op::Throw
+        | Op::IterInit
+        | Op::IterNext { .. }
+        | Op::IterDrop
+        | Op::StoreShared(_)
+        | Op::LoadShared(_)
+        | Op::Share(_)
+        | Op::IsShared
+        | Op::PopHandler
+        | Op::InterpolateStart
+        | Op::InterpolateAppend
+        | Op::InterpolateEnd
+        | Op::MakeFnPtr
+        | Op::Curry(_)
+        | Op::CallFnPtr { receiver: None, .. }
+        | Op::Rotate(_)
+        | Op::Checkpoint
+        | Op::LoadThis
+        | Op::LoadThisShared
+        | Op::RequireThis
+        | Op::Statement { .. } => Ok(()),
     }
 }
 
-/// A constant index of a case that is at or above the number of constants, if there is one.
-fn constant_past(cases: &HashMap<Dynamic, (u32, u32)>, consts: usize) -> Option<u32>
+/// A constant of a case that is at or above the number of constants, if there is one.
+fn bad_constant(cases: &HashMap<Dynamic, (u32, u32)>, consts: usize) -> Option<u32>
     ensures { result ≡ first_past consts (map (λ c. c.1.1) cases.now.entries) }
 {
     for (_, (_, constant)) in cases {
@@ -231,58 +269,57 @@ fn constant_past(cases: &HashMap<Dynamic, (u32, u32)>, consts: usize) -> Option<
 }
 
 /// The same of the cases of a switch.
-fn case_past(switch: &Switch, consts: usize) -> Option<u32>
+fn bad_constant_in(switch: &Switch, consts: usize) -> Option<u32>
     ensures { result ≡ first_past consts (case_consts switch.now) }
 {
-    constant_past(switch.cases.as_ref()?, consts)
+    bad_constant(switch.cases.as_ref()?, consts)
 }
 
 /// The same of the switch at an index, unless its cases have passed before.
 #[tactic(auto, using(crate::proofs::Passing::cases_more))]
-fn case_past_at(pools: &Pools<'_>, passed: &mut [u64], index: u32) -> Option<u32>
+fn bad_constant_at(pools: &Pools<'_>, passed: &mut [u64], index: u32) -> Option<u32>
     requires { CasesPass pools.now passed.old }
     ensures passed { CasesPass pools.now passed.new }
-    ensures past { result ≡ first_past pools.now.consts (get_or (map case_consts pools.now.switches.now) index []) }
+    ensures past { result ≡ first_past pools.now.consts
+        (get_or (map case_consts pools.now.switches.now) index []) }
 {
-    if is_noted(passed, index) {
+    if has_passed(passed, index) {
         return None;
     }
-    let past = case_past(pools.switches.get(index as usize)?, pools.consts);
-    if past.is_none() {
-        note(passed, index);
+    let bad = bad_constant_in(pools.switches.get(index as usize)?, pools.consts);
+    if bad.is_none() {
+        add_passed(passed, index);
     }
-    past
+    bad
 }
 
 /// The same of the switch that an operation names.
-fn named_case_past(pools: &Pools<'_>, passed: &mut [u64], op: &Op) -> Option<u32>
+fn bad_constant_of(pools: &Pools<'_>, passed: &mut [u64], op: &Op) -> Option<u32>
     requires { CasesPass pools.now passed.old }
     ensures passed { CasesPass pools.now passed.new }
     ensures past { result ≡ first_past pools.now.consts (cases_of (alone pools.now) op.now) }
 {
-    match op {
-        Op::Switch(index) => case_past_at(pools, passed, *index),
-        _ => None,
-    }
+    let Op::Switch(index) = op else {
+        return None;
+    };
+    bad_constant_at(pools, passed, *index)
 }
 
 /// Tests every index of an operation: its own, those inside the chain that it names, and those of the cases of its switch.
 #[tactic(auto, using(crate::proofs::Bounds::indexed, crate::proofs::Bounds::field_out, crate::proofs::Bounds::case_out))]
-fn check_op(
+fn check_op<const N: usize>(
     pools: &Pools<'_>,
-    chains: &mut [u64],
-    switches: &mut [u64],
+    passed: &mut Passed<N>,
     op: &Op,
 ) -> Result<(), BadIndex>
-    requires chains { ChainsPass pools.now chains.old }
-    requires switches { CasesPass pools.now switches.old }
-    ensures chains { ChainsPass pools.now chains.new }
-    ensures switches { CasesPass pools.now switches.new }
+    requires { HavePassed pools.now passed.old.chains passed.old.switches }
+    ensures passed { HavePassed pools.now passed.new.chains passed.new.switches }
     ensures ok { OnOk result (Indexed (alone pools.now) op.now) }
-    ensures err { IfErr result (λ bad. IsOut (alone pools.now) op.now (name_of bad.pool) bad.index) }
+    ensures err { IfErr result
+        (λ bad. IsOut (alone pools.now) op.now (entry_name bad.pool) bad.index) }
 {
-    check_fields(pools, chains, op)?;
-    match named_case_past(pools, switches, op) {
+    check_fields(pools, &mut passed.chains, op)?;
+    match bad_constant_of(pools, &mut passed.switches, op) {
         Some(index) => Err(BadIndex {
             pool: Pool::Constants,
             index,
@@ -291,41 +328,76 @@ fn check_op(
     }
 }
 
-/// Whether the instruction of each tag has no index (docs/FORMAT.md, "Instructions"), so that it needs not be decoded.
-static UNINDEXED: [bool; 80] = [
-    false, false, true, true, true, true, true, false, false, false, false, true, true, true, true,
-    false, false, true, true, true, false, false, false, true, false, false, false, false, true,
-    true, true, true, true, true, true, true, false, true, true, true, true, true, true, true,
-    true, false, true, false, true, true, true, true, true, false, true, false, false, true, true,
-    true, true, false, false, true, false, true, true, false, false, false, false, true, true,
-    true, false, false, false, false, false, false,
-];
-
-/// Whether an instruction with this tag has no index.
+/// Whether an instruction with this tag has no index (docs/FORMAT.md, "Instructions"), so that it needn't be decoded.
+#[inline(always)]
 fn is_unindexed(tag: u8) -> bool
     ensures { IsTrue result → (s : Setting) (op : Op) → (form op).0 ≡ tag → Indexed s op }
 {
-    let tag = tag as usize;
-    tag < UNINDEXED.len() && UNINDEXED[tag]
+    matches!(
+        tag,
+        tag::UNIT
+            | tag::FALSE
+            | tag::TRUE
+            | tag::LOAD_LOCAL
+            | tag::STORE_LOCAL
+            | tag::POP
+            | tag::JUMP
+            | tag::JUMP_IF_TRUE
+            | tag::JUMP_IF_FALSE
+            | tag::UNWIND_TO
+            | tag::TICK
+            | tag::RETURN
+            | tag::MAKE_ARRAY
+            | tag::THROW
+            | tag::ITER_INIT
+            | tag::ITER_NEXT
+            | tag::ITER_DROP
+            | tag::STORE_SHARED
+            | tag::ITER_NEXT_INDEXED
+            | tag::POP_HANDLER
+            | tag::PUSH_HANDLER
+            | tag::INTERPOLATE_START
+            | tag::INTERPOLATE_APPEND
+            | tag::INTERPOLATE_END
+            | tag::MAKE_FN_PTR
+            | tag::CURRY
+            | tag::CALL_FN_PTR
+            | tag::CALL_FN_PTR_METHOD
+            | tag::SHARE
+            | tag::LOAD_SHARED
+            | tag::IS_SHARED
+            | tag::CHECKPOINT
+            | tag::CHECK_ARRAY_SIZE
+            | tag::CHECK_MAP_SIZE
+            | tag::MAKE_MAP
+            | tag::ROTATE
+            | tag::LOAD_THIS
+            | tag::LOAD_THIS_SHARED
+            | tag::REQUIRE_THIS
+            | tag::ASSIGN_THIS
+            | tag::CALL_FN_PTR_ON_LOCAL
+            | tag::CALL_FN_PTR_ON_THIS
+            | tag::SKIP_IF_NOT_UNIT
+            | tag::STATEMENT
+            | tag::STORE_CONST
+            | tag::CALL_FN_PTR_CAPTURE
+    )
 }
 
 /// Where the next instruction begins, once the one at an address has been tested.
-fn check_at(
+fn check_at<const N: usize>(
     pools: &Pools<'_>,
-    chains: &mut [u64],
-    switches: &mut [u64],
+    passed: &mut Passed<N>,
     code: &[u8],
     at: usize,
 ) -> Result<usize, VerifyError>
-    requires chains { ChainsPass pools.now chains.old }
-    requires switches { CasesPass pools.now switches.old }
+    requires passed { HavePassed pools.now passed.old.chains passed.old.switches }
     requires inside { at < length code.now }
     requires front { AreIndexed (alone pools.now) (take at code.now) }
-    ensures chains { ChainsPass pools.now chains.new }
-    ensures switches { CasesPass pools.now switches.new }
+    ensures passed { HavePassed pools.now passed.new.chains passed.new.switches }
     ensures further { IfOk result (λ next. (at < next) × (next ≤ length code.now)) }
     ensures ok { IfOk result (λ next. AreIndexed (alone pools.now) (take next code.now)) }
-    ensures err { IfErr result (λ e. CodeFault (alone pools.now) code.now e) }
+    ensures err { IfErr result (λ e. CodeFlaw (alone pools.now) code.now e) }
 {
     let Some(width) = width(code, at) else {
         return Err(VerifyError::Undecodable { at });
@@ -336,23 +408,24 @@ fn check_at(
     let Some(op) = decode(code, at) else {
         return Err(VerifyError::Undecodable { at });
     };
-    match check_op(pools, chains, switches, &op) {
+    match check_op(pools, passed, &op) {
         Ok(()) => Ok(at + width),
         Err(bad) => Err(VerifyError::BadIndex {
             at,
-            what: name_of(bad.pool),
+            what: entry_name(bad.pool),
             index: bad.index,
         }),
     }
 }
 
-/// Where the instructions of one byte end that stand one after another from an address on. They have no index.
+/// Where the one-byte instructions end that stand one after another from an address on. They have no index.
 #[inline(always)]
-fn skip_bytes(code: &[u8], from: usize) -> usize
+fn skip_one_byte_instructions(code: &[u8], from: usize) -> usize
     requires { from ≤ length code.now }
     ensures further { from ≤ result }
     ensures inside { result ≤ length code.now }
-    ensures indexed { (s : Setting) → AreIndexed s (take from code.now) → AreIndexed s (take result code.now) }
+    ensures indexed { (s : Setting) → AreIndexed s (take from code.now)
+        → AreIndexed s (take result code.now) }
 {
     let mut at = from;
     while let Some(1) = width(code, at) {
@@ -361,22 +434,20 @@ fn skip_bytes(code: &[u8], from: usize) -> usize
     at
 }
 
-/// The same as `check_code`, with words to note the chains and the switches that have passed, none of which has.
-fn check_from(
+/// The same as `check_code`, where nothing has passed yet.
+fn check_instructions<const N: usize>(
     pools: &Pools<'_>,
-    chains: &mut [u64],
-    switches: &mut [u64],
+    passed: &mut Passed<N>,
     code: &[u8],
 ) -> Result<(), VerifyError>
-    requires chains { (i : ℕ) → Has chains.old i → ⊥ }
-    requires switches { (i : ℕ) → Has switches.old i → ⊥ }
+    requires { HavePassed pools.now passed.old.chains passed.old.switches }
     ensures ok { OnOk result (AreIndexed (alone pools.now) code.now) }
-    ensures err { IfErr result (λ e. CodeFault (alone pools.now) code.now e) }
+    ensures err { IfErr result (λ e. CodeFlaw (alone pools.now) code.now e) }
 {
-    let mut at = skip_bytes(code, 0);
+    let mut at = skip_one_byte_instructions(code, 0);
     while at < code.len() {
-        let next = check_at(pools, chains, switches, code, at)?;
-        at = skip_bytes(code, next);
+        let next = check_at(pools, passed, code, at)?;
+        at = skip_one_byte_instructions(code, next);
     }
     Ok(())
 }
@@ -387,14 +458,14 @@ fn check_from(
 /// # Errors
 /// `Undecodable` and `BadIndex`, of the first instruction that doesn't pass and its first index that is out of bounds.
 /// Of the cases of a switch any such index may be named.
-#[tactic(auto, using(crate::proofs::Indexing::code_any, crate::proofs::Indexing::fault_any))]
+#[tactic(auto, using(crate::proofs::Indexing::code_any, crate::proofs::Indexing::flaw_any))]
 pub(crate) fn check_code(pools: &Pools<'_>, code: &[u8]) -> Result<(), VerifyError>
     ensures ok { OnOk result ((caps : Caps) → AreIndexed (setting caps pools.now) code.now) }
-    ensures err { IfErr result (λ e. (caps : Caps) → CodeFault (setting caps pools.now) code.now e) }
+    ensures err { IfErr result (λ e. (caps : Caps) → CodeFlaw (setting caps pools.now) code.now e) }
 {
     if pools.chains.is_empty() && pools.switches.is_empty() {
-        check_from(pools, &mut [], &mut [], code)
+        check_instructions(pools, &mut Passed::<0>::new(), code)
     } else {
-        check_from(pools, &mut [0; WORDS], &mut [0; WORDS], code)
+        check_instructions(pools, &mut Passed::<WORDS>::new(), code)
     }
 }

@@ -1,7 +1,12 @@
-//! The verifier for untrusted Rhai Grain bytecode, with all that stands below it under one name.
+//! The verifier for untrusted Rhai Grain bytecode, and the program object. It re-exports all names of the two crates below
+//! it but their laws.
+//!
+//! [`verify`] says whether a program is safe to run in place, and how many operands each of its chunks needs. What its
+//! answer means is defined in the crate's folder `specs/`, over operations where they stand (`Layout`): in bytes, as
+//! `verify` is given them, or in a list, so that a program built from a list of operations by index is judged by the
+//! same words. Capabilities are made and joined through the trait [`Flags`].
 #![tactic(auto)]
 
-mod arrival;
 mod capabilities;
 mod constants;
 mod edges;
@@ -10,14 +15,20 @@ mod error;
 mod functions;
 mod indices;
 pub mod laws;
+mod lookup;
+mod passed;
 mod plain;
 mod pools;
-mod prepared;
+mod program;
+#[cfg(test)]
+mod samples;
+mod sidecar;
+mod slots;
 mod starts;
 mod state;
-mod table;
-mod tested;
+mod tighten;
 mod verifier;
+mod visited;
 mod walk;
 
 pub use constants::constant_caps;
@@ -27,9 +38,12 @@ pub use grain_base::{
 };
 pub use grain_bytecode::{
     AssembleError, AssignOp, BadTable, Chain, ChainPositions, Chunk, Disassembly, Field, Function,
-    Names, Op, Pool, Positions, Receiver, Root, Step, StepFlags, Strings, StringsError, StripError,
-    Switch, SwitchRange, TableError, Tail, assemble, count_instructions, decode, disassemble,
-    names, resolve_switch_targets, site_to_position, sites, tag, u16_at, u32_at, width,
+    Lookups, Names, Op, Pool, Positions, Receiver, Root, Step, StepFlags, Strings, StringsError,
+    StripError, Switch, SwitchRange, TableError, Tail, assemble, count_instructions, decode,
+    disassemble, names, resolve_switch_targets, site_to_position, sites, tag, u16_at, u32_at,
+    width,
 };
 pub use pools::Pools;
+pub use program::{Parts, Program};
+pub use sidecar::Sidecar;
 pub use verifier::verify;

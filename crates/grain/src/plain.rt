@@ -1,6 +1,6 @@
 //! Instructions that do no more than their tag tells.
 ghost use Rattle.std.specs.Prelude.{◌≡◌, ◌≤◌, IfSome};
-ghost use Rattle.grain_bytecode.specs.Table.{form};
+ghost use Rattle.grain_bytecode.specs.InstructionTable.{form};
 ghost use Rattle.grain_bytecode.specs.declared.op.Op.{Op};
 ghost use Rattle.grain.specs.Plain.{IsPlain};
 

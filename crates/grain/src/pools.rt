@@ -7,6 +7,7 @@ use grain_bytecode::{Chain, Strings, Switch};
 pub struct Pools<'a> {
     /// How many constants an index may name.
     pub consts: usize,
+    /// The names. Whether one is qualified decides what its instruction asks of the host.
     pub names: &'a Strings,
     /// How many operators there are.
     pub tokens: usize,
@@ -14,6 +15,8 @@ pub struct Pools<'a> {
     pub assign_ops: usize,
     /// How many fragments of syntax there are that weren't compiled.
     pub residuals: usize,
+    /// The chains, with the indices inside them.
     pub chains: &'a [Chain],
+    /// The switches, with their targets and the constants of their cases.
     pub switches: &'a [Switch],
 }

@@ -1,14 +1,14 @@
 //! Where instructions begin.
 ghost use Rattle.std.specs.Prelude.{◌≡◌, ◌≤◌, IfOk, List, ℕ, length};
 ghost use Rattle.grain_bytecode.specs.Split.{Split};
-ghost use Rattle.grain.specs.Edges.{MarksStarts, MarksTo};
+ghost use Rattle.grain.specs.Marks.{MarksStarts, MarksTo};
 
 use grain_bytecode::width;
 use std::alloc::{AllocError, Global};
 
-/// Marks the instructions of one byte that stand one after another from an address on, and answers where they end.
+/// Marks the one-byte instructions that stand one after another from an address on, and answers where they end.
 #[inline(always)]
-fn mark_bytes(code: &[u8], marks: &mut Vec<bool>, from: usize) -> usize
+fn mark_one_byte_instructions(code: &[u8], marks: &mut Vec<bool>, from: usize) -> usize
     requires long { length marks.old.items ≡ length code.now }
     requires marked { MarksTo code.now marks.old.items from }
     ensures long { length marks.new.items ≡ length code.now }
@@ -29,13 +29,13 @@ pub(crate) fn mark_starts(alloc: Global, code: &[u8]) -> Result<Vec<bool>, Alloc
     ensures { IfOk result (λ marks. MarksStarts code.now marks.items) }
 {
     let mut marks = vec![in alloc; false; code.len()]?;
-    let mut at = mark_bytes(code, &mut marks, 0);
+    let mut at = mark_one_byte_instructions(code, &mut marks, 0);
     while at < code.len() {
         let Some(width) = width(code, at) else {
             unreachable!();
         };
         marks[at] = true;
-        at = mark_bytes(code, &mut marks, at + width);
+        at = mark_one_byte_instructions(code, &mut marks, at + width);
     }
     Ok(marks)
 }

@@ -1,4 +1,4 @@
-//! What every path to an instruction has to agree on.
+//! What every path to an instruction has to agree on, and states on their way.
 ghost use Rattle.std.specs.Prelude.{◌≡◌, ◌+◌, ◌-◌, ◌<◌, ◌≤◌, ◌^◌, IfErr, IfOk};
 
 use crate::effects::Effect;
@@ -10,6 +10,13 @@ pub(crate) struct State {
     pub(crate) operands: u32,
     pub(crate) iterators: u32,
     pub(crate) handlers: u32,
+}
+
+/// A state on its way to an address.
+#[derive(Clone, Copy, PartialEq, Eq, Debug)]
+pub(crate) struct Arrival {
+    pub(crate) at: u32,
+    pub(crate) state: State,
 }
 
 impl State {
@@ -32,8 +39,10 @@ impl State {
     /// `IteratorUnderflow` at the address where there is none.
     #[inline(always)]
     pub(crate) fn without_iterator(self, at: u32) -> Result<State, VerifyError>
-        ensures ok { IfOk result (λ s. (0 < self.iterators) × (s ≡ record self { iterators = self.iterators - 1 })) }
-        ensures err { IfErr result (λ e. (e ≡ VerifyError.IteratorUnderflow at) × (self.iterators ≡ 0)) }
+        ensures ok { IfOk result (λ s. (0 < self.iterators)
+            × (s ≡ record self { iterators = self.iterators - 1 })) }
+        ensures err { IfErr result (λ e. (e ≡ VerifyError.IteratorUnderflow at)
+            × (self.iterators ≡ 0)) }
     {
         if self.iterators == 0 {
             return Err(VerifyError::IteratorUnderflow { at: at as usize });
@@ -50,8 +59,10 @@ impl State {
     /// `HandlerUnderflow` at the address where none is armed.
     #[inline(always)]
     pub(crate) fn without_handler(self, at: u32) -> Result<State, VerifyError>
-        ensures ok { IfOk result (λ s. (0 < self.handlers) × (s ≡ record self { handlers = self.handlers - 1 })) }
-        ensures err { IfErr result (λ e. (e ≡ VerifyError.HandlerUnderflow at) × (self.handlers ≡ 0)) }
+        ensures ok { IfOk result (λ s. (0 < self.handlers)
+            × (s ≡ record self { handlers = self.handlers - 1 })) }
+        ensures err { IfErr result (λ e. (e ≡ VerifyError.HandlerUnderflow at)
+            × (self.handlers ≡ 0)) }
     {
         if self.handlers == 0 {
             return Err(VerifyError::HandlerUnderflow { at: at as usize });

@@ -1,11 +1,15 @@
 //! The verifier.
-ghost use Rattle.std.specs.Prelude.{◌≡◌, ◌⊎◌, IfErr, IfOk, OnOk};
+ghost use Rattle.std.specs.Prelude.{◌≡◌, ◌≢◌, ◌⊎◌, IfErr, IfOk, List, OnOk};
 ghost use Rattle.std.specs.List.{All, AllZip};
-ghost use Rattle.grain.specs.Accepted.{AreDeepest, AreSafe, ChunkPasses, CodePasses, ConstantsPass, FunctionsPass, IsAccepted, input};
-ghost use Rattle.grain.specs.Code.{coded};
-ghost use Rattle.grain.specs.Fault.{Fault, IsFirstFault};
-ghost use Rattle.grain.specs.Prepared.{IsReady, bytecode_of};
-ghost use Rattle.grain.specs.Typing.{IsDeepest};
+ghost use Rattle.grain_bytecode.specs.Span.{Span};
+ghost use Rattle.grain.specs.Accepted.{ChunkPasses, IsAccepted, input};
+ghost use Rattle.grain.specs.Accepted.{AreIndexed};
+ghost use Rattle.grain.specs.Code.{bytecode, coded};
+ghost use Rattle.grain.specs.Flaw.{Flaw, IsFirstFlaw};
+ghost use Rattle.grain.specs.Setting.{setting};
+ghost use Rattle.grain.specs.Typing.{HasTyping, IsDeepest};
+ghost use Rattle.grain.specs.Verdict.{IsVerdict, ReachesChunks};
+ghost use Rattle.grain.specs.Walk.{IsReady, bytecode_of};
 
 use crate::capabilities::PoolCaps;
 use crate::constants::check_constants;
@@ -13,32 +17,94 @@ use crate::error::VerifyError;
 use crate::functions::check_functions;
 use crate::indices::check_code;
 use crate::pools::Pools;
-use crate::prepared::Prepared;
 use crate::starts::mark_starts;
-use crate::table::Table;
+use crate::visited::Visited;
+use crate::walk::Prepared;
 use grain_base::{Caps, Dynamic};
 use grain_bytecode::{Chunk, Function};
 use std::alloc::Global;
 
+/// The tests before the chunks: of the constants, of the code and its indices, and of the functions. They take no
+/// memory.
+///
+/// # Errors
+/// The first of them that fails, by its name.
+fn check_before_chunks(
+    caps: Caps,
+    consts: &[Dynamic],
+    code: &[u8],
+    functions: &[Function],
+    pools: &Pools<'_>,
+) -> Result<(), VerifyError>
+    ensures ok { (chunks : List Span) → OnOk result
+        (ReachesChunks (input caps consts.now code.now functions.now chunks pools.now)) }
+    ensures refused { (chunks : List Span)
+        → IsAccepted (input caps consts.now code.now functions.now chunks pools.now)
+        → IfErr result (λ _. ⊥) }
+    ensures flaws { (chunks : List Span) → IfErr result (λ e. Flaw
+        (input caps consts.now code.now functions.now chunks pools.now) e) }
+{
+    check_constants(caps, consts)?;
+    check_code(pools, code)?;
+    check_functions(caps, functions)
+}
+
 /// The deepest operand stack of each chunk, or why the first is refused that is.
-fn verify_chunks(
+fn walk_chunks(
     alloc: Global,
     prepared: &Prepared<'_>,
     chunks: &[Chunk],
 ) -> Result<Vec<u16>, VerifyError>
     requires { IsReady prepared.now }
     ensures passes { OnOk result (All (ChunkPasses (bytecode_of prepared.now)) chunks.now) }
-    ensures deepest { IfOk result (λ v. AllZip (IsDeepest (coded (bytecode_of prepared.now))) chunks.now v.items) }
-    ensures accepts { All (ChunkPasses (bytecode_of prepared.now)) chunks.now → IfErr result (λ e. e ≡ VerifyError.OutOfMemory) }
-    ensures faults { IfErr result (λ e. (e ≡ VerifyError.OutOfMemory) ⊎ IsFirstFault (bytecode_of prepared.now) chunks.now e) }
+    ensures typed { IfOk result (λ v. AllZip (HasTyping (coded (bytecode_of prepared.now)))
+        chunks.now v.items) }
+    ensures deepest { IfOk result (λ v. AllZip (IsDeepest (coded (bytecode_of prepared.now)))
+        chunks.now v.items) }
+    ensures accepts { All (ChunkPasses (bytecode_of prepared.now)) chunks.now
+        → IfErr result (λ e. e ≡ VerifyError.OutOfMemory) }
+    ensures flaws { IfErr result (λ e. (e ≡ VerifyError.OutOfMemory)
+        ⊎ IsFirstFlaw (bytecode_of prepared.now) chunks.now e) }
 {
-    let mut table = Table::new(alloc, prepared.code.len())?;
+    let mut visited = Visited::new(alloc, prepared.code.len())?;
     let mut work = Vec::new(alloc);
     let mut deepest = Vec::new(alloc);
     for chunk in chunks {
-        let needed = prepared.verify_chunk(chunk, &mut table, &mut work)?;
+        let needed = prepared.verify_chunk(chunk, &mut visited, &mut work)?;
         deepest.push(needed)?;
     }
+    Ok(deepest)
+}
+
+/// The same, of code that is whole instructions.
+fn verify_chunks(
+    alloc: Global,
+    caps: Caps,
+    code: &[u8],
+    pools: &Pools<'_>,
+    chunks: &[Chunk],
+) -> Result<Vec<u16>, VerifyError>
+    requires { AreIndexed (setting caps pools.now) code.now }
+    ensures passes { OnOk result (All (ChunkPasses (bytecode caps pools.now code.now)) chunks.now) }
+    ensures typed { IfOk result (λ v. AllZip (HasTyping (coded (bytecode caps pools.now code.now)))
+        chunks.now v.items) }
+    ensures deepest { IfOk result (λ v.
+        AllZip (IsDeepest (coded (bytecode caps pools.now code.now))) chunks.now v.items) }
+    ensures accepts { All (ChunkPasses (bytecode caps pools.now code.now)) chunks.now
+        → IfErr result (λ e. e ≡ VerifyError.OutOfMemory) }
+    ensures flaws { IfErr result (λ e. (e ≡ VerifyError.OutOfMemory)
+        ⊎ IsFirstFlaw (bytecode caps pools.now code.now) chunks.now e) }
+{
+    let starts = mark_starts(alloc, code)?;
+    let asked = PoolCaps::new(alloc, pools)?;
+    let prepared = Prepared {
+        caps,
+        code,
+        pools,
+        starts,
+        asked,
+    };
+    let deepest = walk_chunks(alloc, &prepared, chunks)?;
     Ok(deepest)
 }
 
@@ -49,7 +115,7 @@ fn verify_chunks(
 /// the constants themselves, while `pools.consts` bounds the indices that name one.
 ///
 /// # Errors
-/// The first test that fails, by its name; within a chunk one of its faults. `OutOfMemory` where memory was wanted, which
+/// The first test that fails, by its name; within a chunk one of its flaws. `OutOfMemory` where memory was wanted, which
 /// comes only where the tests before the chunks pass.
 pub fn verify(
     alloc: Global,
@@ -60,30 +126,16 @@ pub fn verify(
     chunks: &[Chunk],
     pools: &Pools<'_>,
 ) -> Result<Vec<u16>, VerifyError>
-    ensures accepted { OnOk result (IsAccepted (input caps consts.now code.now functions.now chunks.now pools.now)) }
-    ensures deepest { IfOk result (λ v. AreDeepest (input caps consts.now code.now functions.now chunks.now pools.now) v.items) }
-    ensures safe { IfOk result (λ v. AreSafe (input caps consts.now code.now functions.now chunks.now pools.now) v.items) }
-    ensures accepts { IsAccepted (input caps consts.now code.now functions.now chunks.now pools.now) → IfErr result (λ e. e ≡ VerifyError.OutOfMemory) }
-    ensures faults { IfErr result (λ e. (e ≡ VerifyError.OutOfMemory) ⊎ Fault (input caps consts.now code.now functions.now chunks.now pools.now) e) }
-    ensures memory { IfErr result (λ e. e ≡ VerifyError.OutOfMemory
-        → ConstantsPass (input caps consts.now code.now functions.now chunks.now pools.now)
-        × CodePasses (input caps consts.now code.now functions.now chunks.now pools.now)
-        × FunctionsPass (input caps consts.now code.now functions.now chunks.now pools.now)) }
+    // The headline.
+    ensures verdict { IsVerdict
+        (input caps consts.now code.now functions.now chunks.now pools.now) result }
+
+    // Memory is wanted only where the tests before the chunks pass.
+    ensures memory { IfErr result (λ e. e ≡ VerifyError.OutOfMemory → ReachesChunks
+        (input caps consts.now code.now functions.now chunks.now pools.now)) }
 {
-    check_constants(caps, consts)?;
-    check_code(pools, code)?;
-    check_functions(caps, functions)?;
-    let starts = mark_starts(alloc, code)?;
-    let needed = PoolCaps::new(alloc, pools)?;
-    let prepared = Prepared {
-        caps,
-        code,
-        pools,
-        starts,
-        needed,
-    };
-    let deepest = verify_chunks(alloc, &prepared, chunks)?;
-    Ok(deepest)
+    check_before_chunks(caps, consts, code, functions, pools)?;
+    verify_chunks(alloc, caps, code, pools, chunks)
 }
 
 #[cfg(test)]

@@ -7,8 +7,8 @@ use Rattle.grain_base.specs.declared.pos.Error.{Error}
 use Rattle.grain_base.specs.declared.pos.Error.TheVariants.{Overflow, OutOfOrder, TrailingBytes}
 use Rattle.grain_base.specs.declared.varint.Error.{Error as NumberError}
 use Rattle.grain_base.specs.declared.varint.Error.TheVariants as number_error
-use Rattle.grain_base.specs.Varint.{Begins, U32Fault}
-use Rattle.grain_base.specs.AddressTable.{Entry, addresses, AreEntries, Table, deltas, Ascend, IsUnreadable, IsNextDelta, FirstFault, as_table_error}
+use Rattle.grain_base.specs.Varint.{Begins, U32Flaw}
+use Rattle.grain_base.specs.AddressTable.{Entry, addresses, AreEntries, Table, deltas, Ascend, IsUnreadable, IsNextDelta, FirstFlaw, as_table_error}
 use Rattle.grain_base.proofs.Numbers.{begins-append, begins_front}
 use Rattle.grain_base.proofs.Deltas.{ascend_more, sum_more, sum-cons}
 use Rattle.grain_base.proofs.Rising.{rises_none, rises_one, rises_cons}
@@ -27,16 +27,16 @@ pub checked_none : (table : List ℕ) (count at : ℕ) → Begins table (count �
 checked_none table count at counted within = record { numbers = []; read = counted; whole = refl; ascend = (All-nil (λ d. 0 < d), omega arith); sum = refl; within = within }
 
 -- an error of the number that is due
-pub unreadable : (table : List ℕ) (error : NumberError) → IsUnreadable table error → FirstFault table (as_table_error error)
-unreadable table number_error.Truncated fault = fault
-unreadable table number_error.Overflow fault = inl fault
+pub unreadable : (table : List ℕ) (error : NumberError) → IsUnreadable table error → FirstFlaw table (as_table_error error)
+unreadable table number_error.Truncated flaw = flaw
+unreadable table number_error.Overflow flaw = inl flaw
 
-pub bad_count : (table : List ℕ) (error : NumberError) → U32Fault table error → FirstFault table (as_table_error error)
-bad_count table error fault = unreadable table error (record { numbers = []; left = table; read = refl; unfinished = tt; fault = fault })
+pub bad_count : (table : List ℕ) (error : NumberError) → U32Flaw table error → FirstFlaw table (as_table_error error)
+bad_count table error flaw = unreadable table error (record { numbers = []; left = table; read = refl; unfinished = tt; flaw = flaw })
 
-pub bad_delta : (table : List ℕ) (count entries address at : ℕ) (error : NumberError) → Checked table count entries address at → entries < count → U32Fault (drop at table) error → FirstFault table (as_table_error error)
-bad_delta table count entries address at error c more fault =
-    unreadable table error (record { numbers = count ∷ c.numbers; left = drop at table; read = c.read; unfinished = (omega (arith, c.whole), c.ascend); fault = fault })
+pub bad_delta : (table : List ℕ) (count entries address at : ℕ) (error : NumberError) → Checked table count entries address at → entries < count → U32Flaw (drop at table) error → FirstFlaw table (as_table_error error)
+bad_delta table count entries address at error c more flaw =
+    unreadable table error (record { numbers = count ∷ c.numbers; left = drop at table; read = c.read; unfinished = (omega (arith, c.whole), c.ascend); flaw = flaw })
 
 -- the next delta leads on
 pub record Leads (entries address delta : ℕ) : Type 0 where
@@ -49,26 +49,26 @@ begun table count entries address at delta some c leads one =
     ascend_more entries delta c.numbers some c.whole one c.ascend leads.later (omega (arith, c.sum, leads.fits))
 
 unreadable_behind : (table : List ℕ) (count entries address at delta : ℕ) (some left : List ℕ) (error : NumberError) (c : Checked table count entries address at) → entries < count → Leads entries address delta → deltas some ≡ delta ∷ [] → length some < 3
-    → Begins (drop at table) some left → U32Fault left error → FirstFault table (as_table_error error)
-unreadable_behind table count entries address at delta some left error c more leads one short read fault =
+    → Begins (drop at table) some left → U32Flaw left error → FirstFlaw table (as_table_error error)
+unreadable_behind table count entries address at delta some left error c more leads one short read flaw =
     unreadable table error (record {
       numbers = count ∷ (c.numbers ++ some);
       left = left;
       read = begins-append table (count ∷ c.numbers) some (drop at table) left c.read read;
       unfinished = (omega (arith, c.whole, length-append c.numbers some), begun table count entries address at delta some c leads one);
-      fault = fault;
+      flaw = flaw;
     })
 
 pub bad_line : (table : List ℕ) (count entries address at delta after : ℕ) (error : NumberError) → Checked table count entries address at → entries < count → Leads entries address delta
-    → Begins (drop at table) (delta ∷ []) (drop after table) → U32Fault (drop after table) error → FirstFault table (as_table_error error)
-bad_line table count entries address at delta after error c more leads first fault =
-    unreadable_behind table count entries address at delta (delta ∷ []) (drop after table) error c more leads refl (omega arith) first fault
+    → Begins (drop at table) (delta ∷ []) (drop after table) → U32Flaw (drop after table) error → FirstFlaw table (as_table_error error)
+bad_line table count entries address at delta after error c more leads first flaw =
+    unreadable_behind table count entries address at delta (delta ∷ []) (drop after table) error c more leads refl (omega arith) first flaw
 
 pub bad_column : (table : List ℕ) (count entries address at delta line after mid : ℕ) (error : NumberError) → Checked table count entries address at → entries < count → Leads entries address delta
-    → Begins (drop at table) (delta ∷ []) (drop after table) → Begins (drop after table) (line ∷ []) (drop mid table) → U32Fault (drop mid table) error → FirstFault table (as_table_error error)
-bad_column table count entries address at delta line after mid error c more leads first second fault =
+    → Begins (drop at table) (delta ∷ []) (drop after table) → Begins (drop after table) (line ∷ []) (drop mid table) → U32Flaw (drop mid table) error → FirstFlaw table (as_table_error error)
+bad_column table count entries address at delta line after mid error c more leads first second flaw =
     unreadable_behind table count entries address at delta (delta ∷ line ∷ []) (drop mid table) error c more leads refl (omega arith)
-    (begins-append (drop at table) (delta ∷ []) (line ∷ []) (drop after table) (drop mid table) first second) fault
+    (begins-append (drop at table) (delta ∷ []) (line ∷ []) (drop after table) (drop mid table) first second) flaw
 
 pub checked_more : (table : List ℕ) (count entries address at delta line column after mid rest : ℕ) → Checked table count entries address at → Leads entries address delta
     → Begins (drop at table) (delta ∷ []) (drop after table) → Begins (drop after table) (line ∷ []) (drop mid table) → Begins (drop mid table) (column ∷ []) (drop rest table) → rest ≤ length table
@@ -96,11 +96,11 @@ next_delta table count entries address at delta after c more first = record {
   unfinished = (omega (arith, c.whole), c.ascend);
 }
 
-pub repeated : (table : List ℕ) (count entries address at delta after : ℕ) (c : Checked table count entries address at) → entries < count → Begins (drop at table) (delta ∷ []) (drop after table) → delta ≡ 0 → 0 < entries → FirstFault table (OutOfOrder address)
+pub repeated : (table : List ℕ) (count entries address at delta after : ℕ) (c : Checked table count entries address at) → entries < count → Begins (drop at table) (delta ∷ []) (drop after table) → delta ≡ 0 → 0 < entries → FirstFlaw table (OutOfOrder address)
 repeated table count entries address at delta after c more first none later =
     (c.numbers, subst (IsNextDelta table c.numbers) none (next_delta table count entries address at delta after c more first), omega (arith, c.whole), sym c.sum)
 
-pub past : (table : List ℕ) (count entries address at delta after : ℕ) (c : Checked table count entries address at) → entries < count → Begins (drop at table) (delta ∷ []) (drop after table) → 2 ^ 32 ≤ address + delta → FirstFault table Overflow
+pub past : (table : List ℕ) (count entries address at delta after : ℕ) (c : Checked table count entries address at) → entries < count → Begins (drop at table) (delta ∷ []) (drop after table) → 2 ^ 32 ≤ address + delta → FirstFlaw table Overflow
 past table count entries address at delta after c more first large =
     inr (c.numbers, delta, next_delta table count entries address at delta after c more first, omega (arith, c.sum))
 
@@ -162,5 +162,5 @@ bytes_left table count entries address at c all some =
     (front.0, drop at table, paired 0 c.numbers, front.1, table_of table count entries address at c all front.0 front.2, some, sym (length-drop at table))
 
 -- what is returned where a number can't be read
-pub says_error : (table : List ℕ) (answer : Result (Unit {0}) Error) (error : Error) → (returned : Error) × (answer ≡ Err returned) × (returned ≡ error) → FirstFault table error → Says table answer
-says_error table answer error exit fault = subst (Says table) (sym (exit.1 ∙ ap (λ (e : Error). Err e) exit.2)) fault
+pub says_error : (table : List ℕ) (answer : Result (Unit {0}) Error) (error : Error) → (returned : Error) × (answer ≡ Err returned) × (returned ≡ error) → FirstFlaw table error → Says table answer
+says_error table answer error exit flaw = subst (Says table) (sym (exit.1 ∙ ap (λ (e : Error). Err e) exit.2)) flaw

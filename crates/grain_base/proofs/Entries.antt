@@ -2,9 +2,9 @@
 use Rattle.std.proofs.Common.{◌≡◌, ℕ, zero, suc, ◌+◌, ◌^◌, ◌<◌, ◌≤◌, ◌⊎◌, inl, inr, List, [], ◌∷◌, length, None, find, nat_eq, refl, sym, ap, subst, ◌∙◌, arith}
 use Rattle.std.proofs.lemmas.Bool.{cases_lt, ne_eqb}
 use Rattle.grain_base.specs.declared.varint.Error.{Error}
-use Rattle.grain_base.specs.Varint.{Begins, U32Fault}
+use Rattle.grain_base.specs.Varint.{Begins, U32Flaw}
 use Rattle.grain_base.specs.AddressTable.{Entry, IsNext, NoneNext, AreEntries, Table, Holds, Front}
-use Rattle.grain_base.proofs.Numbers.{AreThree, three, begins-append, begins_once, begins_faultless, Reading, Number, Fault, reading}
+use Rattle.grain_base.proofs.Numbers.{AreThree, three, begins-append, begins_once, begins_flawless, Reading, Number, Flaw, reading}
 
 -- an entry of its three numbers
 entry_of : ℕ → ℕ → ℕ → Entry
@@ -31,28 +31,28 @@ next_once before bytes a b rest more first second =
     let address : a.0 ≡ b.0 = omega (arith, first.address, second.address, delta.0) in
     (ap (λ (x : ℕ). entry_of x a.1.line a.1.column) address ∙ ap (λ (x : ℕ). entry_of b.0 x a.1.column) line.0 ∙ ap (λ (x : ℕ). entry_of b.0 b.1.line x) column.0, column.1)
 
-pub no_delta : (before : ℕ) (bytes : List ℕ) (error : Error) → U32Fault bytes error → NoneNext before bytes
-no_delta before bytes error fault entry rest next =
+pub no_delta : (before : ℕ) (bytes : List ℕ) (error : Error) → U32Flaw bytes error → NoneNext before bytes
+no_delta before bytes error flaw entry rest next =
     let p = parts before bytes entry rest next in
-    begins_faultless bytes next.delta p.after error p.first fault
+    begins_flawless bytes next.delta p.after error p.first flaw
 
 pub address_large : (before delta : ℕ) (bytes after : List ℕ) → Begins bytes (delta ∷ []) after → 2 ^ 32 ≤ before + delta → NoneNext before bytes
 address_large before delta bytes after begins large entry rest next =
     let p = parts before bytes entry rest next in
     absurd (omega (arith, next.address, next.fits, (begins_once bytes next.delta delta p.after after p.first begins).0))
 
-pub no_line : (before delta : ℕ) (bytes after : List ℕ) (error : Error) → Begins bytes (delta ∷ []) after → U32Fault after error → NoneNext before bytes
-no_line before delta bytes after error begins fault entry rest next =
+pub no_line : (before delta : ℕ) (bytes after : List ℕ) (error : Error) → Begins bytes (delta ∷ []) after → U32Flaw after error → NoneNext before bytes
+no_line before delta bytes after error begins flaw entry rest next =
     let p = parts before bytes entry rest next in
     let same = begins_once bytes next.delta delta p.after after p.first begins in
-    begins_faultless p.after entry.1.line p.mid error p.second (subst (λ (xs : List ℕ). U32Fault xs error) (sym same.1) fault)
+    begins_flawless p.after entry.1.line p.mid error p.second (subst (λ (xs : List ℕ). U32Flaw xs error) (sym same.1) flaw)
 
-pub no_column : (before delta line : ℕ) (bytes after mid : List ℕ) (error : Error) → Begins bytes (delta ∷ []) after → Begins after (line ∷ []) mid → U32Fault mid error → NoneNext before bytes
-no_column before delta line bytes after mid error begins second fault entry rest next =
+pub no_column : (before delta line : ℕ) (bytes after mid : List ℕ) (error : Error) → Begins bytes (delta ∷ []) after → Begins after (line ∷ []) mid → U32Flaw mid error → NoneNext before bytes
+no_column before delta line bytes after mid error begins second flaw entry rest next =
     let p = parts before bytes entry rest next in
     let same = begins_once bytes next.delta delta p.after after p.first begins in
     let then = once_behind entry.1.line line p.after after p.mid mid same.1 p.second second in
-    begins_faultless p.mid entry.1.column rest error p.third (subst (λ (xs : List ℕ). U32Fault xs error) (sym then.1) fault)
+    begins_flawless p.mid entry.1.column rest error p.third (subst (λ (xs : List ℕ). U32Flaw xs error) (sym then.1) flaw)
 
 pub is_next : (before delta line column : ℕ) (bytes after mid rest : List ℕ) → Begins bytes (delta ∷ []) after → Begins after (line ∷ []) mid → Begins mid (column ∷ []) rest → before + delta < 2 ^ 32
     → IsNext before bytes (before + delta, record { line = line; column = column }) rest
@@ -70,13 +70,13 @@ pub data Here (before : ℕ) (bytes : List ℕ) : Type 0 where
 
 pub here : (before : ℕ) (bytes : List ℕ) → Here before bytes
 here before bytes = elim (reading bytes) [
-  | Fault e fault ↦ Nowhere (no_delta before bytes e fault)
+  | Flaw e flaw ↦ Nowhere (no_delta before bytes e flaw)
   | Number d after first ↦ elim (cases_lt (before + d) (2 ^ 32)) [
     | inr large ↦ Nowhere (address_large before d bytes after first large)
     | inl fits ↦ elim (reading after) [
-      | Fault e fault ↦ Nowhere (no_line before d bytes after e first fault)
+      | Flaw e flaw ↦ Nowhere (no_line before d bytes after e first flaw)
       | Number l mid second ↦ elim (reading mid) [
-        | Fault e fault ↦ Nowhere (no_column before d l bytes after mid e first second fault)
+        | Flaw e flaw ↦ Nowhere (no_column before d l bytes after mid e first second flaw)
         | Number c rest third ↦ There (before + d, record { line = l; column = c }) rest (is_next before d l c bytes after mid rest first second third fits)
       ]
     ]
@@ -158,7 +158,7 @@ none_below (suc count) before bytes address below =
 -- the longest list that a count and the bytes behind it hold
 counted : {bytes : List ℕ} → Reading bytes → List Entry
 counted (Number count after begins) = entries_from count 0 after
-counted (Fault error fault) = []
+counted (Flaw error flaw) = []
 
 pub front : List ℕ → List Entry
 front bytes = counted (reading bytes)
@@ -169,15 +169,15 @@ front_counted bytes count after begins = by_case (reading bytes)
   where
     by_case : (r : Reading bytes) → counted r ≡ entries_from count 0 after
     by_case (Number n rest found) = let one = begins_once bytes n count rest after found begins in ap (λ (x : ℕ). entries_from x 0 rest) one.0 ∙ ap (λ (xs : List ℕ). entries_from count 0 xs) one.1
-    by_case (Fault error fault) = absurd (begins_faultless bytes count after error begins fault)
+    by_case (Flaw error flaw) = absurd (begins_flawless bytes count after error begins flaw)
 
-pub front_uncounted : (bytes : List ℕ) (error : Error) → U32Fault bytes error → front bytes ≡ []
+pub front_uncounted : (bytes : List ℕ) (error : Error) → U32Flaw bytes error → front bytes ≡ []
 unfolding front counted
-front_uncounted bytes error fault = by_case (reading bytes)
+front_uncounted bytes error flaw = by_case (reading bytes)
   where
     by_case : (r : Reading bytes) → counted r ≡ []
-    by_case (Number n rest found) = absurd (begins_faultless bytes n rest error found fault)
-    by_case (Fault e other) = refl
+    by_case (Number n rest found) = absurd (begins_flawless bytes n rest error found flaw)
+    by_case (Flaw e other) = refl
 
 -- what the bytes hold is no longer than that
 front_longest : (bytes : List ℕ) (other : List Entry) → Holds bytes other → length other ≤ length (front bytes)
@@ -189,7 +189,7 @@ front_is bytes = record { held = by_case (reading bytes); longest = front_longes
   where
     by_case : (r : Reading bytes) → (counted r ≡ []) ⊎ Holds bytes (counted r)
     by_case (Number n after found) = let are = entries_are n 0 after in inr (record { count = n; after = after; rest = are.0; counted = found; entries = are.1; enough = are.2 })
-    by_case (Fault error fault) = inl refl
+    by_case (Flaw error flaw) = inl refl
 
 -- there is one front
 pub front_once : (bytes : List ℕ) (a b : List Entry) → Front bytes a → Front bytes b → a ≡ b

@@ -5,7 +5,7 @@ use Rattle.std.proofs.lemmas.List.{take_at, take-append-drop, drop-drop}
 use Rattle.std.proofs.lemmas.List.Elements.{All-nil, All-cons, All-take}
 use Rattle.grain_base.specs.declared.varint.Error.{Error}
 use Rattle.grain_base.specs.declared.varint.Error.TheVariants.{Truncated, Overflow}
-use Rattle.grain_base.specs.Varint.{AreGroups, number_of, Spells, StandsAt, IsCutShort, NoneStands, U32Fault, Begins}
+use Rattle.grain_base.specs.Varint.{AreGroups, number_of, Spells, StandsAt, IsCutShort, NoneStands, U32Flaw, Begins}
 use Rattle.grain_base.proofs.Groups.{GoesOn, none_ends, one_front}
 use Rattle.grain_base.proofs.Standing.{one_spelling, stands_within, cut_stands}
 
@@ -62,13 +62,13 @@ three bytes a b c rest all = record {
 }
 
 -- a number that fits excludes an error
-pub begins_faultless : (bytes : List ℕ) (n : ℕ) (rest : List ℕ) (error : Error) → Begins bytes (n ∷ []) rest → U32Fault bytes error → ⊥
-begins_faultless bytes n rest error number fault = within error fault
+pub begins_flawless : (bytes : List ℕ) (n : ℕ) (rest : List ℕ) (error : Error) → Begins bytes (n ∷ []) rest → U32Flaw bytes error → ⊥
+begins_flawless bytes n rest error number flaw = within error flaw
   where
     here : Spells (take (length number.0) bytes) n
     here = subst (λ (xs : List ℕ). Spells xs n) (sym (ap (take (length number.0)) number.2 ∙ take_at number.0 number.1 (length number.0) refl)) number.3.0
 
-    within : (error : Error) → U32Fault bytes error → ⊥
+    within : (error : Error) → U32Flaw bytes error → ⊥
     within Truncated short = cut_stands bytes short (length number.0) n here
     within Overflow (inl wide) = wide.0 (length number.0) n here
     within Overflow (inr large) =
@@ -76,13 +76,13 @@ begins_faultless bytes n rest error number fault = within error fault
         absurd (omega (arith, one.1, large.3, number.3.1))
 
 -- there is one error at most
-pub one_u32_fault : (bytes : List ℕ) (a b : Error) → U32Fault bytes a → U32Fault bytes b → a ≡ b
-one_u32_fault bytes Truncated Truncated first second = refl
-one_u32_fault bytes Truncated Overflow first (inl wide) = absurd (wide.1 first)
-one_u32_fault bytes Truncated Overflow first (inr large) = absurd (cut_stands bytes first large.0 large.1 large.2)
-one_u32_fault bytes Overflow Truncated (inl wide) second = absurd (wide.1 second)
-one_u32_fault bytes Overflow Truncated (inr large) second = absurd (cut_stands bytes second large.0 large.1 large.2)
-one_u32_fault bytes Overflow Overflow first second = refl
+pub one_u32_flaw : (bytes : List ℕ) (a b : Error) → U32Flaw bytes a → U32Flaw bytes b → a ≡ b
+one_u32_flaw bytes Truncated Truncated first second = refl
+one_u32_flaw bytes Truncated Overflow first (inl wide) = absurd (wide.1 first)
+one_u32_flaw bytes Truncated Overflow first (inr large) = absurd (cut_stands bytes first large.0 large.1 large.2)
+one_u32_flaw bytes Overflow Truncated (inl wide) second = absurd (wide.1 second)
+one_u32_flaw bytes Overflow Truncated (inr large) second = absurd (cut_stands bytes second large.0 large.1 large.2)
+one_u32_flaw bytes Overflow Overflow first second = refl
 
 -- Either the groups at the front of the bytes end, or all bytes go on.
 parts : (bytes : List ℕ) → ((front : List ℕ) × (rest : List ℕ) × (bytes ≡ front ++ rest) × AreGroups front) ⊎ All GoesOn bytes
@@ -102,7 +102,7 @@ parts (byte ∷ bytes) = elim (cases_lt byte 0x80) [
 -- Either a number that fits stands at the front of the bytes, or an error says why none does.
 pub data Reading (bytes : List ℕ) : Type 0 where
   Number : (n : ℕ) (rest : List ℕ) → Begins bytes (n ∷ []) rest → Reading bytes
-  Fault : (error : Error) → U32Fault bytes error → Reading bytes
+  Flaw : (error : Error) → U32Flaw bytes error → Reading bytes
 
 -- spelled in other groups than these it isn't
 only_here : (bytes front rest : List ℕ) → bytes ≡ front ++ rest → AreGroups front → ((n : ℕ) → Spells front n → ⊥) → NoneStands bytes
@@ -115,12 +115,12 @@ not_cut bytes front rest whole groups short =
     none_ends front (subst (λ (xs : List ℕ). All GoesOn xs) (ap (take (length front)) whole ∙ take_at front rest (length front) refl) (All-take GoesOn (length front) bytes short.1)) groups
 
 wide : (bytes front rest : List ℕ) → bytes ≡ front ++ rest → AreGroups front → ((n : ℕ) → Spells front n → ⊥) → Reading bytes
-wide bytes front rest whole groups none = Fault Overflow (inl (only_here bytes front rest whole groups none, not_cut bytes front rest whole groups))
+wide bytes front rest whole groups none = Flaw Overflow (inl (only_here bytes front rest whole groups none, not_cut bytes front rest whole groups))
 
 spelled_here : (bytes front rest : List ℕ) → bytes ≡ front ++ rest → Spells front (number_of front) → Reading bytes
 spelled_here bytes front rest whole spelled = elim (cases_lt (number_of front) (2 ^ 32)) [
   | inl fits ↦ Number (number_of front) rest (front, rest, whole, (spelled, fits), refl)
-  | inr large ↦ Fault Overflow (inr (length front, number_of front, subst (λ (xs : List ℕ). Spells xs (number_of front)) (sym (ap (take (length front)) whole ∙ take_at front rest (length front) refl)) spelled, large))
+  | inr large ↦ Flaw Overflow (inr (length front, number_of front, subst (λ (xs : List ℕ). Spells xs (number_of front)) (sym (ap (take (length front)) whole ∙ take_at front rest (length front) refl)) spelled, large))
 ]
 
 pub reading : (bytes : List ℕ) → Reading bytes
@@ -133,8 +133,8 @@ reading bytes = elim (parts bytes) [
     ]
   ]
   | inr all ↦ elim (cases_lt (length bytes) 10) [
-    | inl short ↦ Fault Truncated (short, all)
-    | inr long ↦ Fault Overflow (inl (λ taken n spelled. none_ends (take taken bytes) (All-take GoesOn taken bytes all) spelled.groups, λ short. absurd (omega (arith, short.0))))
+    | inl short ↦ Flaw Truncated (short, all)
+    | inr long ↦ Flaw Overflow (inl (λ taken n spelled. none_ends (take taken bytes) (All-take GoesOn taken bytes all) spelled.groups, λ short. absurd (omega (arith, short.0))))
   ]
 ]
 
@@ -143,12 +143,12 @@ pub first_read : {E : Type 0} (bytes : List ℕ) (m : ℕ) (rest : List ℕ) →
 first_read bytes m rest begins n =
     (λ same. (rest, subst (λ (k : ℕ). Begins bytes (k ∷ []) rest) (cc) begins), λ other. ap (λ (k : ℕ). Ok k) (begins_once bytes m n rest other.0 begins other.1).0)
 
-pub first_unread : {E : Type 0} (bytes : List ℕ) (error : Error) (e : E) → U32Fault bytes error → (n : ℕ) → (◌≡◌ {A = Result ℕ E} (Err e) (Ok n)) ↔ ((left : List ℕ) × Begins bytes (n ∷ []) left)
-first_unread bytes error e fault n = (λ same. absurd cc, λ other. absurd (begins_faultless bytes n other.0 error other.1 fault))
+pub first_unread : {E : Type 0} (bytes : List ℕ) (error : Error) (e : E) → U32Flaw bytes error → (n : ℕ) → (◌≡◌ {A = Result ℕ E} (Err e) (Ok n)) ↔ ((left : List ℕ) × Begins bytes (n ∷ []) left)
+first_unread bytes error e flaw n = (λ same. absurd cc, λ other. absurd (begins_flawless bytes n other.0 error other.1 flaw))
 
-pub no_error : {E : Type 0} (as_error : Error → E) (bytes : List ℕ) (m : ℕ) (rest : List ℕ) → Begins bytes (m ∷ []) rest → (e : E) → (◌≡◌ {A = Result ℕ E} (Ok m) (Err e)) ↔ ((error : Error) × U32Fault bytes error × (e ≡ as_error error))
-no_error as_error bytes m rest begins e = (λ same. absurd cc, λ other. absurd (begins_faultless bytes m rest other.0 begins other.1))
+pub no_error : {E : Type 0} (as_error : Error → E) (bytes : List ℕ) (m : ℕ) (rest : List ℕ) → Begins bytes (m ∷ []) rest → (e : E) → (◌≡◌ {A = Result ℕ E} (Ok m) (Err e)) ↔ ((error : Error) × U32Flaw bytes error × (e ≡ as_error error))
+no_error as_error bytes m rest begins e = (λ same. absurd cc, λ other. absurd (begins_flawless bytes m rest other.0 begins other.1))
 
-pub the_error : {E : Type 0} (as_error : Error → E) (bytes : List ℕ) (error : Error) → U32Fault bytes error → (e : E) → (◌≡◌ {A = Result ℕ E} (Err (as_error error)) (Err e)) ↔ ((found : Error) × U32Fault bytes found × (e ≡ as_error found))
-the_error {E} as_error bytes error fault e =
-    (λ same. (error, fault, cc), λ other. ap (λ (x : E). Err x) (ap as_error (one_u32_fault bytes error other.0 fault other.1) ∙ sym other.2))
+pub the_error : {E : Type 0} (as_error : Error → E) (bytes : List ℕ) (error : Error) → U32Flaw bytes error → (e : E) → (◌≡◌ {A = Result ℕ E} (Err (as_error error)) (Err e)) ↔ ((found : Error) × U32Flaw bytes found × (e ≡ as_error found))
+the_error {E} as_error bytes error flaw e =
+    (λ same. (error, flaw, cc), λ other. ap (λ (x : E). Err x) (ap as_error (one_u32_flaw bytes error other.0 flaw other.1) ∙ sym other.2))

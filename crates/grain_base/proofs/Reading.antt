@@ -6,7 +6,7 @@ use Rattle.std.proofs.lemmas.List.{take_more, take_all, take-take, length-take, 
 use Rattle.std.proofs.lemmas.List.Elements.{All-nil, All-more, All-take}
 use Rattle.std.proofs.lemmas.Nat.{pow-add, and_mask, or_comm, or_shifted, shl_whole}
 use Rattle.grain_base.specs.declared.varint.Error.TheVariants.{Truncated, Overflow}
-use Rattle.grain_base.specs.Varint.{number_of, StandsAt, NoneStands, NumberFault}
+use Rattle.grain_base.specs.Varint.{number_of, StandsAt, NoneStands, NumberFlaw}
 use Rattle.grain_base.proofs.Groups.{GoesOn, number_of-push, number_of-below, groups_push, none_ends}
 
 -- From a place of the bytes on, so many groups go on. Their number is the value, and the cursor stands behind them.
@@ -86,7 +86,7 @@ stands bytes from count value at byte passed within read last ten tenth =
 
 -- the bytes end where another group is due
 pub cut_short : (bytes : List ℕ) (from count value at : ℕ) → Passes bytes from count value at → length bytes ≤ at → count ≤ 9
-    → NumberFault (drop from bytes) Truncated × (at ≡ from + length (take 10 (drop from bytes)))
+    → NumberFlaw (drop from bytes) Truncated × (at ≡ from + length (take 10 (drop from bytes)))
 cut_short bytes from count value at passed end ten =
     let long : length (drop from bytes) ≡ count = omega (arith, length-drop from bytes, passed.here, passed.inside) in
     let whole = take_all count (drop from bytes) (omega arith) in
@@ -94,7 +94,7 @@ cut_short bytes from count value at passed end ten =
 
 -- the tenth group is too great, or isn't the last
 pub too_wide : (bytes : List ℕ) (from value at byte : ℕ) → Passes bytes from 9 value at → at < length bytes → byte ≡ get_or bytes at 0 → 1 < byte
-    → NumberFault (drop from bytes) Overflow × (at + 1 ≡ from + length (take 10 (drop from bytes)))
+    → NumberFlaw (drop from bytes) Overflow × (at + 1 ≡ from + length (take 10 (drop from bytes)))
 too_wide bytes from value at byte passed within read wide =
     let next = front_more bytes from 9 value at byte passed within read in
     let none : NoneStands (drop from bytes) = λ taken n spelled. elim (cases_lt taken 10) [

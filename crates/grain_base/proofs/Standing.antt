@@ -7,7 +7,7 @@ use Rattle.std.proofs.lemmas.Nat.{and_mask}
 use Rattle.std.proofs.lemmas.List.Elements.{All-take}
 use Rattle.grain_base.specs.declared.varint.Error.{Error}
 use Rattle.grain_base.specs.declared.varint.Error.TheVariants.{Truncated, Overflow}
-use Rattle.grain_base.specs.Varint.{number_of, Spells, StandsAt, IsCutShort, NoneStands, NumberFault, U32Fault, Reads, zigzag}
+use Rattle.grain_base.specs.Varint.{number_of, Spells, StandsAt, IsCutShort, NoneStands, NumberFlaw, U32Flaw, Reads, zigzag}
 use Rattle.grain_base.proofs.Groups.{GoesOn, groups_some, none_ends, one_front}
 use Rattle.grain_base.proofs.Reading.{passes_none, stands}
 
@@ -37,15 +37,15 @@ stands_once bytes from m n to end first second =
 pub cut_stands : (bytes : List ℕ) → IsCutShort bytes → NoneStands bytes
 cut_stands bytes short taken n spelled = none_ends (take taken bytes) (All-take GoesOn taken bytes short.1) spelled.groups
 
-pub fault_stands : (bytes : List ℕ) (error : Error) → NumberFault bytes error → NoneStands bytes
-fault_stands bytes Truncated fault = cut_stands bytes fault
-fault_stands bytes Overflow fault = fault.0
+pub flaw_stands : (bytes : List ℕ) (error : Error) → NumberFlaw bytes error → NoneStands bytes
+flaw_stands bytes Truncated flaw = cut_stands bytes flaw
+flaw_stands bytes Overflow flaw = flaw.0
 
-pub one_fault : (bytes : List ℕ) (a b : Error) → NumberFault bytes a → NumberFault bytes b → a ≡ b
-one_fault bytes Truncated Truncated first second = refl
-one_fault bytes Truncated Overflow first second = absurd (second.1 first)
-one_fault bytes Overflow Truncated first second = absurd (first.1 second)
-one_fault bytes Overflow Overflow first second = refl
+pub one_flaw : (bytes : List ℕ) (a b : Error) → NumberFlaw bytes a → NumberFlaw bytes b → a ≡ b
+one_flaw bytes Truncated Truncated first second = refl
+one_flaw bytes Truncated Overflow first second = absurd (second.1 first)
+one_flaw bytes Overflow Truncated first second = absurd (first.1 second)
+one_flaw bytes Overflow Overflow first second = refl
 
 -- What reading gives says all that stands there.
 pub reads_found : (bytes : List ℕ) (from to : ℕ) (result : Result ℕ Error) → Reads bytes from result to → IfOk result (λ n. StandsAt bytes from n to)
@@ -56,12 +56,12 @@ pub reads_spelled : (bytes : List ℕ) (from to : ℕ) (result : Result ℕ Erro
 reads_spelled bytes from to (Ok m) reads n end standing =
     let one = stands_once bytes from m n to end reads standing in
     (ap (λ (k : ℕ). Ok k) one.0, one.1)
-reads_spelled bytes from to (Err e) reads n end standing = absurd (fault_stands (drop from bytes) e reads.0 (end - from) n standing.1)
+reads_spelled bytes from to (Err e) reads n end standing = absurd (flaw_stands (drop from bytes) e reads.0 (end - from) n standing.1)
 
-pub reads_error : (bytes : List ℕ) (from to : ℕ) (result : Result ℕ Error) → Reads bytes from result to → (e : Error) → (result ≡ Err e) ↔ NumberFault (drop from bytes) e
-reads_error bytes from to (Ok n) reads e = (λ same. absurd cc, λ fault. absurd (fault_stands (drop from bytes) e fault (to - from) n reads.1))
+pub reads_error : (bytes : List ℕ) (from to : ℕ) (result : Result ℕ Error) → Reads bytes from result to → (e : Error) → (result ≡ Err e) ↔ NumberFlaw (drop from bytes) e
+reads_error bytes from to (Ok n) reads e = (λ same. absurd cc, λ flaw. absurd (flaw_stands (drop from bytes) e flaw (to - from) n reads.1))
 reads_error bytes from to (Err error) reads e =
-    (λ same. let one : error ≡ e = cc in subst (NumberFault (drop from bytes)) one reads.0, λ fault. ap (λ (x : Error). Err x) (one_fault (drop from bytes) error e reads.0 fault))
+    (λ same. let one : error ≡ e = cc in subst (NumberFlaw (drop from bytes)) one reads.0, λ flaw. ap (λ (x : Error). Err x) (one_flaw (drop from bytes) error e reads.0 flaw))
 
 pub reads_cursor : (bytes : List ℕ) (from to : ℕ) (result : Result ℕ Error) → Reads bytes from result to → OnErr result (to ≡ from + length (take 10 (drop from bytes)))
 reads_cursor bytes from to (Ok n) reads = tt
@@ -97,31 +97,31 @@ zigzag_odd raw fits odd =
     ap zigzag half ∙ omega (arith, and_mask raw 1)
 
 -- The errors of a number that has to fit u32: where none stands, where one stands that is greater, and where one fits.
-pub u32_fault : (bytes : List ℕ) (error e : Error) → NumberFault bytes error → (◌≡◌ {A = Result ℕ Error} (Err error) (Err e)) ↔ U32Fault bytes e
-u32_fault bytes error e fault = (there error e fault, back error e fault)
+pub u32_flaw : (bytes : List ℕ) (error e : Error) → NumberFlaw bytes error → (◌≡◌ {A = Result ℕ Error} (Err error) (Err e)) ↔ U32Flaw bytes e
+u32_flaw bytes error e flaw = (there error e flaw, back error e flaw)
   where
-    there : (error e : Error) → NumberFault bytes error → ◌≡◌ {A = Result ℕ Error} (Err error) (Err e) → U32Fault bytes e
-    there Truncated Truncated fault same = fault
-    there Truncated Overflow fault same = absurd cc
-    there Overflow Truncated fault same = absurd cc
-    there Overflow Overflow fault same = inl fault
+    there : (error e : Error) → NumberFlaw bytes error → ◌≡◌ {A = Result ℕ Error} (Err error) (Err e) → U32Flaw bytes e
+    there Truncated Truncated flaw same = flaw
+    there Truncated Overflow flaw same = absurd cc
+    there Overflow Truncated flaw same = absurd cc
+    there Overflow Overflow flaw same = inl flaw
 
-    back : (error e : Error) → NumberFault bytes error → U32Fault bytes e → ◌≡◌ {A = Result ℕ Error} (Err error) (Err e)
-    back Truncated Truncated fault other = refl
-    back Truncated Overflow fault (inl wide) = absurd (wide.1 fault)
-    back Truncated Overflow fault (inr large) = absurd (cut_stands bytes fault large.0 large.1 large.2)
-    back Overflow Truncated fault other = absurd (fault.1 other)
-    back Overflow Overflow fault other = refl
+    back : (error e : Error) → NumberFlaw bytes error → U32Flaw bytes e → ◌≡◌ {A = Result ℕ Error} (Err error) (Err e)
+    back Truncated Truncated flaw other = refl
+    back Truncated Overflow flaw (inl wide) = absurd (wide.1 flaw)
+    back Truncated Overflow flaw (inr large) = absurd (cut_stands bytes flaw large.0 large.1 large.2)
+    back Overflow Truncated flaw other = absurd (flaw.1 other)
+    back Overflow Overflow flaw other = refl
 
-pub u32_large : (bytes : List ℕ) (from n to : ℕ) → StandsAt bytes from n to → 2 ^ 32 ≤ n → (e : Error) → (◌≡◌ {A = Result ℕ Error} (Err Overflow) (Err e)) ↔ U32Fault (drop from bytes) e
-u32_large bytes from n to standing large Truncated = (λ same. absurd cc, λ fault. absurd (cut_stands (drop from bytes) fault (to - from) n standing.1))
-u32_large bytes from n to standing large Overflow = (λ same. inr (to - from, n, standing.1, large), λ fault. refl)
+pub u32_large : (bytes : List ℕ) (from n to : ℕ) → StandsAt bytes from n to → 2 ^ 32 ≤ n → (e : Error) → (◌≡◌ {A = Result ℕ Error} (Err Overflow) (Err e)) ↔ U32Flaw (drop from bytes) e
+u32_large bytes from n to standing large Truncated = (λ same. absurd cc, λ flaw. absurd (cut_stands (drop from bytes) flaw (to - from) n standing.1))
+u32_large bytes from n to standing large Overflow = (λ same. inr (to - from, n, standing.1, large), λ flaw. refl)
 
-pub u32_small : (bytes : List ℕ) (from n to : ℕ) → StandsAt bytes from n to → n < 2 ^ 32 → (e : Error) → (◌≡◌ {A = Result ℕ Error} (Ok n) (Err e)) ↔ U32Fault (drop from bytes) e
-u32_small bytes from n to standing small e = (λ same. absurd cc, λ fault. absurd (none e fault))
+pub u32_small : (bytes : List ℕ) (from n to : ℕ) → StandsAt bytes from n to → n < 2 ^ 32 → (e : Error) → (◌≡◌ {A = Result ℕ Error} (Ok n) (Err e)) ↔ U32Flaw (drop from bytes) e
+u32_small bytes from n to standing small e = (λ same. absurd cc, λ flaw. absurd (none e flaw))
   where
-    none : (e : Error) → U32Fault (drop from bytes) e → ⊥
-    none Truncated fault = cut_stands (drop from bytes) fault (to - from) n standing.1
+    none : (e : Error) → U32Flaw (drop from bytes) e → ⊥
+    none Truncated flaw = cut_stands (drop from bytes) flaw (to - from) n standing.1
     none Overflow (inl wide) = wide.0 (to - from) n standing.1
     none Overflow (inr large) =
         let one = one_spelling (take (to - from) (drop from bytes)) (take large.0 (drop from bytes)) _ _ n large.1 standing.1 large.2 (take-append-drop (to - from) (drop from bytes) ∙ sym (take-append-drop large.0 (drop from bytes))) in

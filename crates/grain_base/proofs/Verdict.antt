@@ -6,9 +6,9 @@ use Rattle.grain_base.specs.declared.pos.Error.{Error}
 use Rattle.grain_base.specs.declared.pos.Error.TheVariants.{Truncated, Overflow, OutOfOrder, TrailingBytes}
 use Rattle.grain_base.specs.declared.varint.Error.{Error as NumberError}
 use Rattle.grain_base.specs.declared.varint.Error.TheVariants as number_error
-use Rattle.grain_base.specs.Varint.{Begins, U32Fault}
-use Rattle.grain_base.specs.AddressTable.{Entry, addresses, AreEntries, Table, deltas, IsUnfinished, IsUnreadable, IsNextDelta, FirstFault, as_table_error}
-use Rattle.grain_base.proofs.Numbers.{three, begins_longer, begins_once, begins_faultless, one_u32_fault, Reading, Number, Fault, reading}
+use Rattle.grain_base.specs.Varint.{Begins, U32Flaw}
+use Rattle.grain_base.specs.AddressTable.{Entry, addresses, AreEntries, Table, deltas, IsUnfinished, IsUnreadable, IsNextDelta, FirstFlaw, as_table_error}
+use Rattle.grain_base.proofs.Numbers.{three, begins_longer, begins_once, begins_flawless, one_u32_flaw, Reading, Number, Flaw, reading}
 use Rattle.grain_base.proofs.Rising.{rises_next, rises_rest}
 use Rattle.grain_base.proofs.Deltas.{Follows, led_to, LeadOn, last_from, lead_on, last_sum}
 
@@ -18,17 +18,17 @@ Answer = Result (Unit {0}) Error
 -- the answer once a number is read, or its error
 after_number : {bytes : List ℕ} → Reading bytes → (ℕ → List ℕ → Answer) → Answer
 after_number (Number n rest begins) then = then n rest
-after_number (Fault error fault) then = Err (as_table_error error)
+after_number (Flaw error flaw) then = Err (as_table_error error)
 
 after_number_is : (bytes : List ℕ) (r : Reading bytes) (n : ℕ) (rest : List ℕ) (then : ℕ → List ℕ → Answer) → Begins bytes (n ∷ []) rest → after_number r then ≡ then n rest
 unfolding after_number
 after_number_is bytes (Number m left found) n rest then begins = let one = begins_once bytes m n left rest found begins in ap (λ x. then x left) one.0 ∙ ap (then n) one.1
-after_number_is bytes (Fault error fault) n rest then begins = absurd (begins_faultless bytes n rest error begins fault)
+after_number_is bytes (Flaw error flaw) n rest then begins = absurd (begins_flawless bytes n rest error begins flaw)
 
-after_fault_is : (bytes : List ℕ) (r : Reading bytes) (error : NumberError) (then : ℕ → List ℕ → Answer) → U32Fault bytes error → after_number r then ≡ Err (as_table_error error)
+after_flaw_is : (bytes : List ℕ) (r : Reading bytes) (error : NumberError) (then : ℕ → List ℕ → Answer) → U32Flaw bytes error → after_number r then ≡ Err (as_table_error error)
 unfolding after_number
-after_fault_is bytes (Number m left found) error then fault = absurd (begins_faultless bytes m left error found fault)
-after_fault_is bytes (Fault other found) error then fault = ap (λ (e : NumberError). Err (as_table_error e)) (one_u32_fault bytes other error found fault)
+after_flaw_is bytes (Number m left found) error then flaw = absurd (begins_flawless bytes m left error found flaw)
+after_flaw_is bytes (Flaw other found) error then flaw = ap (λ (e : NumberError). Err (as_table_error e)) (one_u32_flaw bytes other error found flaw)
 
 -- the answer once a delta led on, or its error
 after_delta : Option ℕ → ℕ → (ℕ → Answer) → Answer
@@ -64,20 +64,20 @@ entry_read : (count : ℕ) (previous : Option ℕ) (bytes : List ℕ) (delta lin
 entry_read count previous bytes delta line column after mid rest begins second third follows =
     two_read count previous bytes delta line after mid begins second follows ∙ after_number_is mid (reading mid) column rest _ third
 
-unreadable_from : (count : ℕ) (previous : Option ℕ) (bytes numbers left : List ℕ) (error : NumberError) → Begins bytes numbers left → length numbers < 3 * count → LeadOn previous numbers → U32Fault left error
+unreadable_from : (count : ℕ) (previous : Option ℕ) (bytes numbers left : List ℕ) (error : NumberError) → Begins bytes numbers left → length numbers < 3 * count → LeadOn previous numbers → U32Flaw left error
     → answer_from count previous bytes ≡ Err (as_table_error error)
 unfolding answer_from
-unreadable_from zero previous bytes numbers left error begins short lead fault = absurd (omega arith)
-unreadable_from (suc count) previous bytes [] left error begins short lead fault =
-    after_fault_is bytes (reading bytes) error _ (subst (λ (xs : List ℕ). U32Fault xs error) (sym begins) fault)
-unreadable_from (suc count) previous bytes (d ∷ []) left error begins short lead fault =
-    one_read count previous bytes d left begins lead ∙ after_fault_is left (reading left) error _ fault
-unreadable_from (suc count) previous bytes (d ∷ l ∷ []) left error begins short lead fault =
-    two_read count previous bytes d l begins.1 left (begins.0, begins.1, begins.2, begins.3, refl) begins.4 lead ∙ after_fault_is left (reading left) error _ fault
-unreadable_from (suc count) previous bytes (d ∷ l ∷ c ∷ numbers) left error begins short lead fault =
+unreadable_from zero previous bytes numbers left error begins short lead flaw = absurd (omega arith)
+unreadable_from (suc count) previous bytes [] left error begins short lead flaw =
+    after_flaw_is bytes (reading bytes) error _ (subst (λ (xs : List ℕ). U32Flaw xs error) (sym begins) flaw)
+unreadable_from (suc count) previous bytes (d ∷ []) left error begins short lead flaw =
+    one_read count previous bytes d left begins lead ∙ after_flaw_is left (reading left) error _ flaw
+unreadable_from (suc count) previous bytes (d ∷ l ∷ []) left error begins short lead flaw =
+    two_read count previous bytes d l begins.1 left (begins.0, begins.1, begins.2, begins.3, refl) begins.4 lead ∙ after_flaw_is left (reading left) error _ flaw
+unreadable_from (suc count) previous bytes (d ∷ l ∷ c ∷ numbers) left error begins short lead flaw =
     let p = three bytes d l c begins.4.4.1 (begins.0, begins.1, begins.2, begins.3, (begins.4.0, begins.4.1, begins.4.2, begins.4.3, (begins.4.4.0, begins.4.4.1, begins.4.4.2, begins.4.4.3, refl))) in
     entry_read count previous bytes d l c p.after p.mid begins.4.4.1 p.first p.second p.third lead.0
-    ∙ unreadable_from count (Some (led_to previous d)) begins.4.4.1 numbers left error begins.4.4.4 (omega arith) lead.1 fault
+    ∙ unreadable_from count (Some (led_to previous d)) begins.4.4.1 numbers left error begins.4.4.4 (omega arith) lead.1 flaw
 
 -- behind whole entries a delta stands that doesn't lead on
 stopped_from : (count entries : ℕ) (previous : Option ℕ) (bytes numbers left : List ℕ) (delta : ℕ) (error : Error) → Begins bytes (numbers ++ delta ∷ []) left → length numbers ≡ 3 * entries → length numbers < 3 * count → LeadOn previous numbers
@@ -137,10 +137,10 @@ unfolding answer_of
 unreadable_answer bytes error u = by_case u.numbers u.read u.unfinished
   where
     by_case : (numbers : List ℕ) → Begins bytes numbers u.left → IsUnfinished numbers → answer_of bytes ≡ Err (as_table_error error)
-    by_case [] read unfinished = after_fault_is bytes (reading bytes) error _ (subst (λ (xs : List ℕ). U32Fault xs error) (sym read) u.fault)
+    by_case [] read unfinished = after_flaw_is bytes (reading bytes) error _ (subst (λ (xs : List ℕ). U32Flaw xs error) (sym read) u.flaw)
     by_case (count ∷ numbers) read unfinished =
         answer_counted bytes count read.1 (read.0, read.1, read.2, read.3, refl)
-        ∙ unreadable_from count None read.1 numbers u.left error read.4 unfinished.0 (lead_on numbers unfinished.1) u.fault
+        ∙ unreadable_from count None read.1 numbers u.left error read.4 unfinished.0 (lead_on numbers unfinished.1) u.flaw
 
 stopped_answer : (bytes numbers : List ℕ) (delta : ℕ) (error : Error) (next : IsNextDelta bytes numbers delta) → ((then : ℕ → Answer) → after_delta (last_from None numbers) delta then ≡ Err error) → answer_of bytes ≡ Err error
 stopped_answer bytes numbers delta error next stop =
@@ -182,27 +182,27 @@ trailing_answer table (byte ∷ more) list is some =
     answer_counted (table ++ byte ∷ more) (length list) (is.after ++ byte ∷ more) (begins_longer table (length list ∷ []) is.after (byte ∷ more) is.counted)
     ∙ all_read (is.after ++ byte ∷ more) list (byte ∷ more) (entries_longer 0 is.after list [] (byte ∷ more) is.entries) is.ascending
 
-fault_answer : (bytes : List ℕ) (error : Error) → FirstFault bytes error → answer_of bytes ≡ Err error
-fault_answer bytes Truncated fault = unreadable_answer bytes number_error.Truncated fault
-fault_answer bytes Overflow (inl fault) = unreadable_answer bytes number_error.Overflow fault
-fault_answer bytes Overflow (inr past) = past_answer bytes past.0 past.1 past.2 past.3
-fault_answer bytes (OutOfOrder at) fault = repeated_answer bytes fault.0 fault.1 fault.2 ∙ ap (λ (n : ℕ). Err (OutOfOrder n)) (sym fault.3)
-fault_answer bytes (TrailingBytes count) fault =
-    ap answer_of fault.3 ∙ trailing_answer fault.0 fault.1 fault.2 fault.4 (omega (arith, fault.5, fault.6)) ∙ ap (λ (n : ℕ). Err (TrailingBytes n)) (sym fault.6)
+flaw_answer : (bytes : List ℕ) (error : Error) → FirstFlaw bytes error → answer_of bytes ≡ Err error
+flaw_answer bytes Truncated flaw = unreadable_answer bytes number_error.Truncated flaw
+flaw_answer bytes Overflow (inl flaw) = unreadable_answer bytes number_error.Overflow flaw
+flaw_answer bytes Overflow (inr past) = past_answer bytes past.0 past.1 past.2 past.3
+flaw_answer bytes (OutOfOrder at) flaw = repeated_answer bytes flaw.0 flaw.1 flaw.2 ∙ ap (λ (n : ℕ). Err (OutOfOrder n)) (sym flaw.3)
+flaw_answer bytes (TrailingBytes count) flaw =
+    ap answer_of flaw.3 ∙ trailing_answer flaw.0 flaw.1 flaw.2 flaw.4 (omega (arith, flaw.5, flaw.6)) ∙ ap (λ (n : ℕ). Err (TrailingBytes n)) (sym flaw.6)
 
 -- The answer says what the bytes are.
 abbrev pub Says : List ℕ → Answer → Type 0
 Says bytes (Ok u) = (list : List Entry) × Table bytes list
-Says bytes (Err error) = FirstFault bytes error
+Says bytes (Err error) = FirstFlaw bytes error
 
 says_answer : (bytes : List ℕ) (answer : Answer) → Says bytes answer → answer_of bytes ≡ answer
 says_answer bytes (Ok u) says = table_answer bytes says.0 says.1
-says_answer bytes (Err error) says = fault_answer bytes error says
+says_answer bytes (Err error) says = flaw_answer bytes error says
 
 -- so there is one answer
 pub says_ok : (bytes : List ℕ) (answer : Answer) → Says bytes answer → IsOk answer ↔ ((list : List Entry) × Table bytes list)
 says_ok bytes (Ok u) says = (λ ok. says, λ table. refl)
-says_ok bytes (Err error) says = (λ ok. absurd cc, λ table. let same = sym (fault_answer bytes error says) ∙ table_answer bytes table.0 table.1 in absurd cc)
+says_ok bytes (Err error) says = (λ ok. absurd cc, λ table. let same = sym (flaw_answer bytes error says) ∙ table_answer bytes table.0 table.1 in absurd cc)
 
-pub says_err : (bytes : List ℕ) (answer : Answer) → Says bytes answer → (error : Error) → (answer ≡ Err error) ↔ FirstFault bytes error
-says_err bytes answer says error = (λ same. subst (Says bytes) same says, λ fault. sym (says_answer bytes answer says) ∙ fault_answer bytes error fault)
+pub says_err : (bytes : List ℕ) (answer : Answer) → Says bytes answer → (error : Error) → (answer ≡ Err error) ↔ FirstFlaw bytes error
+says_err bytes answer says error = (λ same. subst (Says bytes) same says, λ flaw. sym (says_answer bytes answer says) ∙ flaw_answer bytes error flaw)

@@ -1,12 +1,12 @@
--- The table that leads from addresses to sites.
-use Rattle.std.specs.Prelude.{◌≡◌, ℕ, ◌+◌, ◌-◌, ◌*◌, ◌^◌, ◌<◌, ◌≤◌, ◌⊎◌, List, [], ◌∷◌, ◌++◌, length, drop, map, sum, filter, find, All, Option, Some, None, option_and_then, ◌==◌, not, if◌then◌else◌}
+-- The address table, which leads from addresses to sites. In this file a table is an address table.
+use Rattle.std.specs.Prelude.{◌≡◌, ℕ, ◌+◌, ◌-◌, ◌*◌, ◌^◌, ◌<◌, ◌≤◌, ◌⊎◌, List, [], ◌∷◌, ◌++◌, length, drop, map, sum, filter, find, All, Option, Some, None, option_and_then, ◌==◌, not, if◌then◌else◌, codes, decimal}
 use Rattle.std.specs.List.Sorted.{IsStrictlyIncreasing}
 use Rattle.grain_base.specs.declared.pos.Error.{Error}
 use Rattle.grain_base.specs.declared.pos.Error.TheVariants as table_error
 use Rattle.grain_base.specs.declared.pos.Site.{Site}
 use Rattle.grain_base.specs.declared.varint.Error.{Error as NumberError}
 use Rattle.grain_base.specs.declared.varint.Error.TheVariants as number_error
-use Rattle.grain_base.specs.Varint.{Begins, U32Fault}
+use Rattle.grain_base.specs.Varint.{Begins, U32Flaw}
 
 -- an address, and the site recorded for it
 abbrev pub Entry : Type 0
@@ -93,7 +93,7 @@ pub record IsUnreadable (bytes : List ℕ) (error : NumberError) : Type 0 where
   pub left : List ℕ
   pub read : Begins bytes numbers left
   pub unfinished : IsUnfinished numbers
-  pub fault : U32Fault left error
+  pub flaw : U32Flaw left error
 
 -- Behind the numbers of whole entries, all in order, another entry is due, and this delta stands there.
 pub record IsNextDelta (bytes numbers : List ℕ) (delta : ℕ) : Type 0 where
@@ -106,13 +106,29 @@ pub record IsNextDelta (bytes numbers : List ℕ) (delta : ℕ) : Type 0 where
 
 -- What is wrong first with bytes that are no table, in the order in which they are read: a number that is due is cut
 -- short; one is too wide, or leads past the greatest address; a delta repeats an address; or bytes follow a whole table.
-abbrev pub FirstFault : List ℕ → Error → Type 0
-FirstFault bytes table_error.Truncated = IsUnreadable bytes number_error.Truncated
-FirstFault bytes table_error.Overflow = IsUnreadable bytes number_error.Overflow ⊎ ((numbers : List ℕ) × (delta : ℕ) × IsNextDelta bytes numbers delta × (2 ^ 32 ≤ sum (deltas numbers) + delta))
-FirstFault bytes (table_error.OutOfOrder at) = (numbers : List ℕ) × IsNextDelta bytes numbers 0 × (0 < length numbers) × (at ≡ sum (deltas numbers))
-FirstFault bytes (table_error.TrailingBytes count) = (table more : List ℕ) × (list : List Entry) × (bytes ≡ table ++ more) × Table table list × (0 < count) × (count ≡ length more)
+abbrev pub FirstFlaw : List ℕ → Error → Type 0
+FirstFlaw bytes table_error.Truncated = IsUnreadable bytes number_error.Truncated
+FirstFlaw bytes table_error.Overflow = IsUnreadable bytes number_error.Overflow ⊎ ((numbers : List ℕ) × (delta : ℕ) × IsNextDelta bytes numbers delta × (2 ^ 32 ≤ sum (deltas numbers) + delta))
+FirstFlaw bytes (table_error.OutOfOrder at) = (numbers : List ℕ) × IsNextDelta bytes numbers 0 × (0 < length numbers) × (at ≡ sum (deltas numbers))
+FirstFlaw bytes (table_error.TrailingBytes count) = (table more : List ℕ) × (list : List Entry) × (bytes ≡ table ++ more) × Table table list × (0 < count) × (count ≡ length more)
 
--- an error of a number as one of a table
+-- an error of a number as one of an address table
 abbrev pub as_table_error : NumberError → Error
 as_table_error number_error.Truncated = table_error.Truncated
 as_table_error number_error.Overflow = table_error.Overflow
+
+-- what is printed of an error
+abbrev pub text_of : Error → List ℕ
+text_of table_error.Truncated = codes "address table ends before its last number"
+text_of table_error.Overflow = codes "address table holds a number or an address too wide to read"
+text_of (table_error.OutOfOrder at) = codes "address table has two entries in a row for address " ++ decimal at
+text_of (table_error.TrailingBytes count) =
+    codes "address table has " ++ decimal count ++ codes " bytes past its last entry"
+
+-- what is printed of an error for programmers: its name and its fields
+abbrev pub debug_text_of : Error → List ℕ
+debug_text_of table_error.Truncated = codes "Truncated"
+debug_text_of table_error.Overflow = codes "Overflow"
+debug_text_of (table_error.OutOfOrder at) = codes "OutOfOrder { at: " ++ decimal at ++ codes " }"
+debug_text_of (table_error.TrailingBytes count) =
+    codes "TrailingBytes { count: " ++ decimal count ++ codes " }"

@@ -60,6 +60,6 @@ caps_table =
 abbrev pub set_of : Caps → ℕ
 set_of caps = caps.0
 
--- what is needed and isn't there
+-- the capabilities that are asked and aren't there
 abbrev pub missing : ℕ → ℕ → ℕ
-missing caps needed = without 16 needed caps
+missing caps asked = without 16 asked caps

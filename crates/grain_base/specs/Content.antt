@@ -58,13 +58,20 @@ abbrev mutual
   same_entries _ _ = false
 
 abbrev mutual
-  -- what can be a key of a switch: no value of the host, at any depth
+  -- what can be a case of a switch: no value of the host, at any depth
   pub hashable : Content → Bool
+  hashable unit = true
+  hashable (boolean b) = true
+  hashable (integer z) = true
+  hashable (character n) = true
+  hashable (text xs) = true
+  hashable (range a b) = true
+  hashable (range_inclusive a b) = true
   hashable (array xs) = hashable_items xs
+  hashable (blob xs) = true
   hashable (object_map es) = hashable_entries es
   hashable (fn_ptr n xs) = hashable_items xs
   hashable (host t i) = false
-  hashable _ = true
 
   pub hashable_items : Items → Bool
   hashable_items no_items = true

@@ -1,6 +1,6 @@
 -- Numbers in groups of seven bits, the lowest group first (LEB128). Bytes are below 256 wherever a contract speaks of
 -- them, so that no definition asks it.
-use Rattle.std.specs.Prelude.{◌≡◌, ℕ, ◌+◌, ◌*◌, ◌%◌, ◌^◌, ◌<◌, ◌≤◌, ◌⊎◌, ℤ, pos, negsuc, List, [], ◌∷◌, ◌++◌, length, take, drop, sum_by, slice_index, slice_range, All, Result, Ok, Err}
+use Rattle.std.specs.Prelude.{◌≡◌, ℕ, ◌+◌, ◌*◌, ◌%◌, ◌^◌, ◌<◌, ◌≤◌, ◌⊎◌, ℤ, pos, negsuc, List, [], ◌∷◌, ◌++◌, length, take, drop, sum_by, slice_index, slice_range, All, Result, Ok, Err, codes}
 use Rattle.std.specs.List.{enumerate_from}
 use Rattle.grain_base.specs.declared.varint.Error.{Error}
 use Rattle.grain_base.specs.declared.varint.Error.TheVariants.{Truncated, Overflow}
@@ -49,19 +49,24 @@ abbrev pub NoneStands : List ℕ → Type 0
 NoneStands bytes = (taken n : ℕ) → Spells (take taken bytes) n → ⊥
 
 -- what is wrong with bytes at whose front no spelling stands
-abbrev pub NumberFault : List ℕ → Error → Type 0
-NumberFault bytes Truncated = IsCutShort bytes
-NumberFault bytes Overflow = NoneStands bytes × ¬ IsCutShort bytes
+abbrev pub NumberFlaw : List ℕ → Error → Type 0
+NumberFlaw bytes Truncated = IsCutShort bytes
+NumberFlaw bytes Overflow = NoneStands bytes × ¬ IsCutShort bytes
 
 -- the same where the number has to fit u32
-abbrev pub U32Fault : List ℕ → Error → Type 0
-U32Fault bytes Truncated = IsCutShort bytes
-U32Fault bytes Overflow = NumberFault bytes Overflow ⊎ ((taken n : ℕ) × Spells (take taken bytes) n × (2 ^ 32 ≤ n))
+abbrev pub U32Flaw : List ℕ → Error → Type 0
+U32Flaw bytes Truncated = IsCutShort bytes
+U32Flaw bytes Overflow = NumberFlaw bytes Overflow ⊎ ((taken n : ℕ) × Spells (take taken bytes) n × (2 ^ 32 ≤ n))
+
+-- what is printed of an error
+abbrev pub text_of : Error → List ℕ
+text_of Truncated = codes "number ends before its last group"
+text_of Overflow = codes "number is too wide to read"
 
 -- what reading the number at a place of the bytes gives, and where the cursor stands after it
 abbrev pub Reads : List ℕ → ℕ → Result ℕ Error → ℕ → Type 0
 Reads bytes from (Ok n) to = StandsAt bytes from n to
-Reads bytes from (Err error) to = NumberFault (drop from bytes) error × (to ≡ from + length (take 10 (drop from bytes)))
+Reads bytes from (Err error) to = NumberFlaw (drop from bytes) error × (to ≡ from + length (take 10 (drop from bytes)))
 
 -- The numbers stand at the front of the bytes, one after another, each spelled as the relation says, and then the rest
 -- follows.

@@ -1,4 +1,4 @@
-//! What a program may need of its host.
+//! What a program may ask of its host.
 
 use bitflags::{Flag, Flags};
 

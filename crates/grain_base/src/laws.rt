@@ -1,22 +1,27 @@
-//! Laws of the definitions that contracts cite, each the contract of a function that does nothing.
+//! Laws of the definitions that contracts cite, each the contract of a function that does nothing else.
 
-ghost use Rattle.std.specs.Prelude.{◌≡◌, ℕ, ℤ, pos, neg_ℤ, ◌+◌, ◌<◌, ◌*ℤ◌, ◌-ℤ◌, ◌≤ℤ◌, ◌<ℤ◌, ◌↔◌, IsTrue, ◌^◌, List, ◌++◌, length, All};
+ghost use Rattle.std.specs.Prelude.{◌≡◌, ℕ, ℤ, None, pos, neg_ℤ, ◌+◌, ◌<◌, ◌*ℤ◌, ◌-ℤ◌, ◌≤ℤ◌, ◌<ℤ◌, ◌↔◌, IsTrue, ◌^◌, List, ◌++◌, length, All};
 ghost use Rattle.grain_base.specs.Varint.{Spells, IsShortest, StandsAt, zigzag};
 ghost use Rattle.grain_base.specs.AddressTable.{Entry, Table, Front};
 ghost use Rattle.std.specs.Int.RustNames.{bit_and};
 ghost use Rattle.bitflags.specs.Sets.{known_bits};
 ghost use Rattle.grain_base.specs.CapBits.{caps_table};
 ghost use Rattle.grain_base.specs.Content.{Content, same};
+ghost use Rattle.grain_base.specs.Place.{place_of};
+
+use crate::position::Position;
 
 /// No spelling of a number begins another, and bytes spell one number at most.
 pub fn no_spelling_begins_another()
-    ensures { (a b x y : List ℕ) (m n : ℕ) → Spells a m → Spells b n → a ++ x ≡ b ++ y → (a ≡ b) × (m ≡ n) }
+    ensures { (a b x y : List ℕ) (m n : ℕ) → Spells a m → Spells b n
+        → a ++ x ≡ b ++ y → (a ≡ b) × (m ≡ n) }
 {}
 
 /// A number that is written is read again, whatever stands before it and whatever follows it.
 pub fn written_is_read()
     ensures { (before spelling after : List ℕ) (n : ℕ) → IsShortest spelling n
-        → StandsAt (before ++ spelling ++ after) (length before) n (length before + length spelling) }
+        → StandsAt (before ++ spelling ++ after) (length before) n
+        (length before + length spelling) }
 {}
 
 /// A number has one shortest spelling.
@@ -38,7 +43,8 @@ pub fn one_front()
 
 /// The front of a table is its list, so a table that `encode` wrote resolves every address as its list does.
 pub fn tables_resolve()
-    ensures front { (bytes : List ℕ) (list front : List Entry) → Table bytes list → Front bytes front → front ≡ list }
+    ensures front { (bytes : List ℕ) (list front : List Entry) → Table bytes list
+        → Front bytes front → front ≡ list }
     ensures one { (bytes : List ℕ) (a b : List Entry) → Table bytes a → Table bytes b → a ≡ b }
 {}
 
@@ -47,6 +53,13 @@ pub fn capabilities_have_the_lowest_bits()
     ensures all { known_bits caps_table ≡ 0x7fff }
     ensures known { (bits : ℕ) → (bit_and bits (known_bits caps_table) ≡ bits) ↔ (bits < 2 ^ 15) }
 {}
+
+/// `Position::NONE`, which this answers, has no place.
+pub fn none_has_no_place() -> Position
+    ensures { place_of result ≡ None }
+{
+    Position::NONE
+}
 
 /// Values are equal exactly where they have one content, in which a shared value stands for what it holds.
 pub fn equality_is_of_content()

@@ -1,5 +1,5 @@
 //! The ground that Rhai Grain bytecode stands on: numbers, the address table, values, the capabilities that a program
-//! may need of its host, source positions and operator tokens.
+//! may ask of its host, source positions and operator tokens.
 #![tactic(auto)]
 
 mod access;

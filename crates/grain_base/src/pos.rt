@@ -1,32 +1,33 @@
 //! The address table: at which line and column of a script an instruction's address stands.
 //!
-//! A table is a count and then, for each entry, how far its address lies behind the one before it, its line and its
+//! An address table is a count and then, for each entry, how far its address lies behind the one before it, its line and its
 //! column, each a varint that fits a `u32`. Addresses strictly ascend. docs/FORMAT.md, "Address table", has the format.
 //!
-//! Tables come from strangers. [`check`] tells whether bytes are one. [`resolve`] answers for any bytes: what is whole
+//! Address tables come from strangers. [`check`] tells whether bytes are one. [`resolve`] answers for any bytes: what is whole
 //! in front of the first damage counts, and nothing behind it. No call that reads takes memory.
 
 ghost use Rattle.std.specs.Prelude.{◌≡◌, ℕ, ◌^◌, ◌<◌, ◌↔◌, List, [], ◌∷◌, length, drop, Ok, Err, IsOk, IsTrue, IfOk, OnErr};
 ghost use Rattle.std.specs.List.Sorted.{IsStrictlyIncreasing};
 ghost use Rattle.grain_base.specs.declared.varint.Error.{Error as NumberError};
 ghost use Rattle.grain_base.specs.declared.pos.Error.{Error as TableError};
-ghost use Rattle.grain_base.specs.Varint.{Begins, U32Fault, AreShortest};
-ghost use Rattle.grain_base.specs.AddressTable.{Entry, addresses, IsNext, NoneNext, Table, Front, FirstFault, site_at, kept, numbers_from, as_table_error};
+ghost use Rattle.grain_base.specs.Varint.{Begins, U32Flaw, AreShortest};
+ghost use Rattle.grain_base.specs.AddressTable.{Entry, addresses, IsNext, NoneNext, Table, Front, FirstFlaw, site_at, kept, numbers_from, as_table_error};
 
 use crate::varint;
 use std::alloc::{AllocError, Global};
+use std::fmt;
 
 /// Where something stands in a script.
 #[derive(Clone, Copy, Debug, PartialEq, Eq)]
 pub struct Site {
-    /// Lines count from 1. In a table 0 says that the line isn't known.
+    /// Lines count from 1. In an address table 0 says that the line isn't known.
     pub line: u32,
     /// Characters of the line count from 1. 0 stands before the first.
     pub column: u32,
 }
 
-/// What is wrong with bytes that are no table.
-#[derive(Clone, Copy, Debug, PartialEq, Eq)]
+/// What is wrong with bytes that are no address table.
+#[derive(Clone, Copy, PartialEq, Eq)]
 pub enum Error {
     /// The bytes end where a number is due or isn't finished.
     Truncated,
@@ -55,10 +56,53 @@ impl From<varint::Error> for Error {
     }
 }
 
+impl fmt::Display for Error {
+    ghost use Rattle.std.specs.Prelude.{Some};
+    ghost use Rattle.grain_base.specs.AddressTable.{text_of};
+
+    ghost output = { λ error. Some (text_of error) };
+
+    fn fmt<W: fmt::Write>(&self, f: &mut fmt::Formatter<W>) -> fmt::Result {
+        match self {
+            Error::Truncated => write!(f, "address table ends before its last number"),
+            Error::Overflow => {
+                write!(
+                    f,
+                    "address table holds a number or an address too wide to read"
+                )
+            }
+            Error::OutOfOrder { at } => {
+                write!(f, "address table has two entries in a row for address {at}")
+            }
+            Error::TrailingBytes { count } => {
+                write!(f, "address table has {count} bytes past its last entry")
+            }
+        }
+    }
+}
+
+/// The error as it is written in code.
+impl fmt::Debug for Error {
+    ghost use Rattle.std.specs.Prelude.{Some};
+    ghost use Rattle.grain_base.specs.AddressTable.{debug_text_of};
+
+    ghost debug_output = { λ error. Some (debug_text_of error) };
+
+    fn fmt<W: fmt::Write>(&self, f: &mut fmt::Formatter<W>) -> fmt::Result {
+        match self {
+            Error::Truncated => write!(f, "Truncated"),
+            Error::Overflow => write!(f, "Overflow"),
+            Error::OutOfOrder { at } => write!(f, "OutOfOrder {{ at: {at} }}"),
+            Error::TrailingBytes { count } => write!(f, "TrailingBytes {{ count: {count} }}"),
+        }
+    }
+}
+
 /// Reads the next entry, whose address is counted from the one before it.
 #[inline]
 fn entry(table: &[u8], at: &mut usize, before: u32) -> Result<(u32, Site), varint::Error>
-    ensures ok { IfOk result (λ entry. IsNext before (drop at.old table.now) entry (drop at.new table.now)) }
+    ensures ok { IfOk result
+        (λ entry. IsNext before (drop at.old table.now) entry (drop at.new table.now)) }
     ensures err { OnErr result (NoneNext before (drop at.old table.now)) }
 {
     let delta = varint::u32(table, at)?;
@@ -98,7 +142,7 @@ pub fn resolve(table: &[u8], address: u32) -> Option<Site>
     None
 }
 
-/// The number of entries that a table states, which is its first number. They needn't be there.
+/// The number of entries that an address table states, which is its first number. They needn't be there.
 ///
 /// # Errors
 ///
@@ -106,20 +150,20 @@ pub fn resolve(table: &[u8], address: u32) -> Option<Site>
 pub fn count(table: &[u8]) -> Result<u32, Error>
     ensures ok { (n : ℕ) → (result ≡ Ok n) ↔ ((rest : List ℕ) × Begins table.now (n ∷ []) rest) }
     ensures err { (e : TableError) → (result ≡ Err e)
-        ↔ ((error : NumberError) × U32Fault table.now error × (e ≡ as_table_error error)) }
+        ↔ ((error : NumberError) × U32Flaw table.now error × (e ≡ as_table_error error)) }
 {
     let mut at = 0;
     Ok(varint::u32(table, &mut at)?)
 }
 
-/// Tests whether the bytes are a table.
+/// Tests whether the bytes are an address table.
 ///
 /// # Errors
 ///
 /// What is wrong first, in the order in which the numbers stand.
 pub fn check(table: &[u8]) -> Result<(), Error>
     ensures ok { IsOk result ↔ ((list : List Entry) × Table table.now list) }
-    ensures err { (e : TableError) → (result ≡ Err e) ↔ FirstFault table.now e }
+    ensures err { (e : TableError) → (result ≡ Err e) ↔ FirstFlaw table.now e }
 {
     let mut at = 0;
     let count = varint::u32(table, &mut at)?;
@@ -166,19 +210,20 @@ fn count_kept(sites: &[(u32, Site)]) -> usize
     sites.iter().filter(|(_, site)| site.line != 0).count()
 }
 
-/// Writes the table of the entries that have a line, in the shortest spellings.
+/// Writes the address table of the entries that have a line, in the shortest spellings.
 ///
 /// Their addresses have to ascend strictly: [`is_ascending`] tells whether they do. What is written of 2 to the power 32
-/// such entries and more is no table, since its count doesn't fit.
+/// such entries and more is no address table, since its count doesn't fit.
 ///
 /// # Errors
 ///
-/// `AllocError` where there is no memory for the table.
+/// `AllocError` where there is no memory for the address table.
 pub fn encode(alloc: Global, sites: &[(u32, Site)]) -> Result<Vec<u8>, AllocError>
     requires { IsStrictlyIncreasing (addresses (kept sites.now)) }
     ensures written { let list = kept sites.now in
         IfOk result (λ table. AreShortest table.items (length list ∷ numbers_from 0 list)) }
-    ensures table { length (kept sites.now) < 2 ^ 32 → IfOk result (λ table. Table table.items (kept sites.now)) }
+    ensures table { length (kept sites.now) < 2 ^ 32
+        → IfOk result (λ table. Table table.items (kept sites.now)) }
 {
     let mut table = Vec::new(alloc);
     varint::put_u64(&mut table, count_kept(sites) as u64)?;

@@ -22,6 +22,9 @@ impl Position {
     pub const NONE: Position = Position { line: 0, column: 0 };
 
     /// The place at this line and column; a column of 0 stands for the line as a whole.
+    ///
+    /// The line has to be 1 or more.
+    #[must_use]
     pub fn new(line: u16, column: u16) -> Position
         requires { 1 ≤ line }
         ensures { place_of result ≡ Some (line, column) }
@@ -29,7 +32,8 @@ impl Position {
         Position { line, column }
     }
 
-    /// The line, which no place hasn't.
+    /// The line, or `None` where this is no place.
+    #[must_use]
     pub fn line(&self) -> Option<usize>
         ensures value { result ≡ line_of self.now }
         ensures small { IfSome result (λ line. line < 2 ^ 16) }
@@ -41,7 +45,8 @@ impl Position {
         }
     }
 
-    /// The column, which no place and a line as a whole haven't.
+    /// The column, or `None` where this is no place or a line as a whole.
+    #[must_use]
     pub fn position(&self) -> Option<usize>
         ensures value { result ≡ column_of self.now }
         ensures small { IfSome result (λ column. column < 2 ^ 16) }
@@ -54,6 +59,7 @@ impl Position {
     }
 
     /// Whether this is no place.
+    #[must_use]
     pub fn is_none(&self) -> bool
         ensures { result ≡ is_none self.now }
     {

@@ -37,8 +37,11 @@ pub struct HostValue {
 pub enum Dynamic {
     /// The value of what gives none.
     Unit,
+    /// A truth value.
     Bool(bool),
+    /// An integer.
     Int(i64),
+    /// A character.
     Char(char),
     /// A text.
     Str(String),
@@ -52,7 +55,7 @@ pub enum Dynamic {
     Blob(Vec<u8>),
     /// An object map: values by the names of its properties.
     Map(BTreeMap<String, Dynamic>),
-    /// A function as a value.
+    /// A function by its name.
     FnPtr(FnPtr),
     /// A value that several variables hold.
     Shared(Box<Dynamic>),
@@ -63,6 +66,7 @@ pub enum Dynamic {
 impl Dynamic {
     /// Whether the value can be a case of a switch: whether no value of the host is in it, at any depth.
     #[cycle(hashable)]
+    #[must_use]
     pub fn is_hashable(&self) -> bool
         ensures { result ≡ hashable (content self.now) }
     {
@@ -72,11 +76,19 @@ impl Dynamic {
             Dynamic::FnPtr(pointer) => are_hashable(&pointer.curry),
             Dynamic::Shared(inner) => inner.is_hashable(),
             Dynamic::Host(_) => false,
-            _ => true,
+            Dynamic::Unit
+            | Dynamic::Bool(_)
+            | Dynamic::Int(_)
+            | Dynamic::Char(_)
+            | Dynamic::Str(_)
+            | Dynamic::Range(_, _)
+            | Dynamic::RangeInclusive(_, _)
+            | Dynamic::Blob(_) => true,
         }
     }
 
     /// The value without the shared marks around it.
+    #[must_use]
     pub fn unshared(&self) -> &Dynamic
         ensures same_content { content result.now ≡ content self.now }
         ensures bare { is_shared result.now ≡ false }
@@ -217,7 +229,8 @@ fn are_items_equal(left: &[Dynamic], right: &[Dynamic]) -> bool
 
 #[cycle(equal)]
 fn are_entries_equal(left: &BTreeMap<String, Dynamic>, right: &BTreeMap<String, Dynamic>) -> bool
-    ensures { result ≡ same_entries (entries_content left.now.entries) (entries_content right.now.entries) }
+    ensures { result
+        ≡ same_entries (entries_content left.now.entries) (entries_content right.now.entries) }
 {
     if left.len() != right.len() {
         return false;
@@ -336,7 +349,8 @@ fn feed_items<H: Hasher>(items: &[Dynamic], state: &mut H)
 #[cycle(feed)]
 #[tactic(auto, using(crate::proofs::Parts::entry_count_is))]
 fn feed_entries<H: Hasher>(entries: &BTreeMap<String, Dynamic>, state: &mut H)
-    ensures { state.new ≡ fold H.write state.old (counted_entries_writes (entries_content entries.now.entries)) }
+    ensures { state.new
+        ≡ fold H.write state.old (counted_entries_writes (entries_content entries.now.entries)) }
 {
     entries.len().hash(state);
     for (key, value) in entries {

@@ -9,10 +9,11 @@
 //! A cursor is handed from call to call: each call reads from `at` on, and leaves it behind the bytes that it read.
 
 ghost use Rattle.std.specs.Prelude.{◌≡◌, ℕ, ℤ, ◌+◌, ◌^◌, ◌<◌, ◌↔◌, length, take, drop, Ok, Err, IfOk, OnOk, OnErr};
-ghost use Rattle.grain_base.specs.Varint.{AppendsShortest, IsShortest, StandsAt, NoneStands, NumberFault, Reads, U32Fault, zigzag};
+ghost use Rattle.grain_base.specs.Varint.{AppendsShortest, IsShortest, StandsAt, NoneStands, NumberFlaw, Reads, U32Flaw, zigzag};
 ghost use Rattle.grain_base.specs.declared.varint.Error.{Error};
 
 use std::alloc::AllocError;
+use std::fmt;
 
 /// What is wrong with bytes that spell no number.
 #[derive(Clone, Copy, Debug, PartialEq, Eq)]
@@ -21,6 +22,20 @@ pub enum Error {
     Truncated,
     /// The number doesn't fit its type, or ten groups don't end it.
     Overflow,
+}
+
+impl fmt::Display for Error {
+    ghost use Rattle.std.specs.Prelude.{Some};
+    ghost use Rattle.grain_base.specs.Varint.{text_of};
+
+    ghost output = { λ error. Some (text_of error) };
+
+    fn fmt<W: fmt::Write>(&self, f: &mut fmt::Formatter<W>) -> fmt::Result {
+        match self {
+            Error::Truncated => write!(f, "number ends before its last group"),
+            Error::Overflow => write!(f, "number is too wide to read"),
+        }
+    }
 }
 
 /// The greatest tenth group: behind nine of them one of 64 bits is left.
@@ -38,10 +53,11 @@ const TENTH_MAX: u8 = 1;
 pub fn u64(bytes: &[u8], at: &mut usize) -> Result<u64, Error>
     // A number is read exactly where one is spelled.
     ensures found { IfOk result (λ n. StandsAt bytes.now at.old n at.new) }
-    ensures spelled { (n end : ℕ) → StandsAt bytes.now at.old n end → (result ≡ Ok n) × (at.new ≡ end) }
+    ensures spelled { (n end : ℕ) → StandsAt bytes.now at.old n end
+        → (result ≡ Ok n) × (at.new ≡ end) }
 
     // Elsewhere the error says what is wrong there.
-    ensures error { (e : Error) → (result ≡ Err e) ↔ NumberFault (drop at.old bytes.now) e }
+    ensures error { (e : Error) → (result ≡ Err e) ↔ NumberFlaw (drop at.old bytes.now) e }
     ensures cursor { OnErr result (at.new ≡ at.old + length (take 10 (drop at.old bytes.now))) }
 {
     // Most numbers are one group.
@@ -92,7 +108,7 @@ pub fn i64(bytes: &[u8], at: &mut usize) -> Result<i64, Error>
         → (result ≡ Ok v) × (at.new ≡ end) }
 
     // Elsewhere the error and the cursor are those of `u64`.
-    ensures error { (e : Error) → (result ≡ Err e) ↔ NumberFault (drop at.old bytes.now) e }
+    ensures error { (e : Error) → (result ≡ Err e) ↔ NumberFlaw (drop at.old bytes.now) e }
     ensures cursor { OnErr result (at.new ≡ at.old + length (take 10 (drop at.old bytes.now))) }
 {
     let raw = u64(bytes, at)?;
@@ -113,7 +129,7 @@ pub fn u32(bytes: &[u8], at: &mut usize) -> Result<u32, Error>
         → (at.new ≡ end) × (n < 2 ^ 32 → result ≡ Ok n) }
 
     // Elsewhere the error says what is wrong there.
-    ensures error { (e : Error) → (result ≡ Err e) ↔ U32Fault (drop at.old bytes.now) e }
+    ensures error { (e : Error) → (result ≡ Err e) ↔ U32Flaw (drop at.old bytes.now) e }
     ensures cursor { NoneStands (drop at.old bytes.now)
         → at.new ≡ at.old + length (take 10 (drop at.old bytes.now)) }
 {

@@ -9,7 +9,7 @@ use Rattle.grain_bytecode.specs.declared.op.Op.{Op}
 use Rattle.grain_bytecode.specs.declared.op.Op.TheVariants as ops
 use Rattle.grain_bytecode.specs.declared.field.Field.{Field}
 use Rattle.grain_bytecode.specs.declared.field.Field.TheVariants.{Index, Slot, Count, Target}
-use Rattle.grain_bytecode.specs.Table.{form, canon, spelling, width_of}
+use Rattle.grain_bytecode.specs.InstructionTable.{form, canon, spelling, width_of}
 use Rattle.grain_bytecode.specs.Disassembly.{placed_from, IsDisassembly}
 use Rattle.grain_bytecode.specs.Fields.{moved}
 use Rattle.grain_bytecode.specs.Assembly.{retarget, assembled, offsets_from, IsAssembly, IsWritable, AreWritable, EachWritable, CanAssemble, index_of, with_indices}

@@ -16,7 +16,7 @@ use Rattle.grain_base.specs.declared.pos.Site.{Site}
 use Rattle.grain_base.specs.declared.position.Position.{Position}
 use Rattle.grain_bytecode.specs.Positions.{Arrived, IsPlaced, site_place, code_site, matched, byte_place, table_places}
 use Rattle.grain_bytecode.specs.Split.{BeginsNone, StandsAt, NoneStandsAt, AreInstructions, starts_from, Split}
-use Rattle.grain_bytecode.specs.Table.{width_of}
+use Rattle.grain_bytecode.specs.InstructionTable.{width_of}
 use Rattle.grain_bytecode.specs.declared.op.Op.{Op}
 use Rattle.grain_bytecode.proofs.Boundaries.{spellings_width, one_end}
 use Rattle.grain_bytecode.proofs.Instructions.{begins_none_nil}

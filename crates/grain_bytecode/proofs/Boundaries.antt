@@ -8,7 +8,7 @@ use Rattle.std.proofs.lemmas.List.Concat.{flat_map-cons}
 use Rattle.std.proofs.lemmas.List.Sums.{sum_by-cons}
 use Rattle.std.proofs.lemmas.Grind.{flat_map-append}
 use Rattle.grain_bytecode.specs.declared.op.Op.{Op}
-use Rattle.grain_bytecode.specs.Table.{spelling, width_of}
+use Rattle.grain_bytecode.specs.InstructionTable.{spelling, width_of}
 use Rattle.grain_bytecode.specs.Split.{IsInstruction, AreInstructions, starts_from, Split, IsBoundary, FrontEnds}
 use Rattle.grain_bytecode.proofs.Instructions.{spelling_width}
 use Rattle.grain_bytecode.proofs.Splits.{one_front}

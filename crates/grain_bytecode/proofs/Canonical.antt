@@ -7,7 +7,7 @@ use Rattle.grain_bytecode.specs.declared.op.Op.TheVariants as ops
 use Rattle.grain_bytecode.specs.declared.op.Receiver.TheVariants as receiver
 use Rattle.grain_bytecode.specs.declared.field.Field.{Field}
 use Rattle.grain_bytecode.specs.declared.field.Field.TheVariants.{Target}
-use Rattle.grain_bytecode.specs.Table.{size_of, form, canon, width_of}
+use Rattle.grain_bytecode.specs.InstructionTable.{size_of, form, canon, width_of}
 use Rattle.grain_bytecode.specs.Fields.{moved}
 use Rattle.grain_bytecode.specs.Assembly.{retarget, assembled}
 

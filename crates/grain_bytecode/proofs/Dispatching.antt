@@ -1,4 +1,4 @@
--- Where a table leads, and where it leads once its targets are offsets.
+-- Where a switch leads, and where it leads once its targets are offsets.
 use Rattle.std.proofs.Common.{◌≡◌, ◌<◌, ℕ, List, [], ◌∷◌, ◌++◌, Bool, true, false, Option, Some, None, IfSome, cond, length, map, option_map, slice_get, unwrap_or, refl, sym, ap, subst, ◌∙◌}
 use Rattle.std.proofs.lemmas.List.{get_or-map, length-map}
 use Rattle.std.proofs.lemmas.List.Elements.{All-contains, All-head, All-map, All-tail, Contains-append_left, Contains-append_right, Contains-get_or, Contains-push}
@@ -11,7 +11,7 @@ use Rattle.grain_base.specs.Content.{Content, integer, hashable, same}
 use Rattle.grain_base.specs.View.{content}
 use Rattle.grain_base.specs.declared.value.Dynamic.{Dynamic}
 use Rattle.grain_bytecode.specs.declared.switch.SwitchRange.{SwitchRange}
-use Rattle.grain_bytecode.specs.Dispatch.{Case, Fits, Table, by_cases, by_ranges, contains, dispatched, listed, offset_at, resolved, resolved_case, resolved_range, targets}
+use Rattle.grain_bytecode.specs.Dispatch.{Case, Fits, Arms, by_cases, by_ranges, contains, dispatched, listed, offset_at, resolved, resolved_case, resolved_range, targets}
 
 -- the image of each element is among the images
 contains_mapped : {X Y : Type 0} (f : X → Y) (xs : List X) → All (λ x. Contains (map f xs) (f x)) xs
@@ -53,7 +53,7 @@ range_among rs x =
     mapped among (λ (r : SwitchRange). r.target) (find (λ r. contains r x) rs)
     (found (λ (r : SwitchRange). among r.target) (λ r. contains r x) rs (contains_mapped (λ (r : SwitchRange). r.target) rs))
 
-pub dispatched_among : (t : Table) (x : Content) → Contains (targets t) (dispatched t x)
+pub dispatched_among : (t : Arms) (x : Content) → Contains (targets t) (dispatched t x)
 dispatched_among t x =
     let among = Contains (targets t) in
     let cases = map (λ (c : Case). c.1.0) (listed t.cases) in
@@ -96,12 +96,12 @@ cond-map : {X Y : Type 0} (f : X → Y) (b : Bool) (x y : X) → cond b (f x) (f
 cond-map f true x y = refl
 cond-map f false x y = refl
 
-pub dispatched-resolved : (offsets : List ℕ) (t : Table) (x : Content) → dispatched (resolved offsets t) x ≡ offset_at offsets (dispatched t x)
+pub dispatched-resolved : (offsets : List ℕ) (t : Arms) (x : Content) → dispatched (resolved offsets t) x ≡ offset_at offsets (dispatched t x)
 dispatched-resolved offsets t x =
     rw (by_cases-resolved offsets t.cases x, by_ranges-resolved offsets t.ranges x, unwrap_or-map (offset_at offsets) (by_ranges t.ranges x) t.otherwise, unwrap_or-map (offset_at offsets) (by_cases t.cases x) (unwrap_or (by_ranges t.ranges x) t.otherwise))
     (cond-map (offset_at offsets) (hashable x) _ t.otherwise)
 
-pub dispatched_offset : (offsets : List ℕ) (t : Table) (x : Content) → Fits (length offsets) t → slice_get offsets (dispatched t x) ≡ Some (dispatched (resolved offsets t) x)
+pub dispatched_offset : (offsets : List ℕ) (t : Arms) (x : Content) → Fits (length offsets) t → slice_get offsets (dispatched t x) ≡ Some (dispatched (resolved offsets t) x)
 dispatched_offset offsets t x fits =
     let inside : dispatched t x < length offsets = All-contains (λ target. target < length offsets) (targets t) (dispatched t x) fits (dispatched_among t x) in
     slice_get-get_or offsets (dispatched t x) (dispatched t x) inside ∙ ap (λ (o : ℕ). Some o) (sym (dispatched-resolved offsets t x))

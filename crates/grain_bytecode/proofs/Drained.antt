@@ -5,7 +5,7 @@ use Rattle.std.specs.Iterator.{Drains}
 use Rattle.std.proofs.lemmas.List.{take-append-drop}
 use Rattle.std.proofs.lemmas.List.Concat.{flat_map-cons}
 use Rattle.grain_bytecode.specs.declared.op.Op.{Op}
-use Rattle.grain_bytecode.specs.Table.{spelling, width_of}
+use Rattle.grain_bytecode.specs.InstructionTable.{spelling, width_of}
 use Rattle.grain_bytecode.specs.Split.{BeginsNone}
 use Rattle.grain_bytecode.specs.Unread.{Unread}
 use Rattle.grain_bytecode.specs.Disassembly.{Steps, placed_from, IsDisassembly}

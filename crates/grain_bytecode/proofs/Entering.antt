@@ -1,6 +1,6 @@
 -- The entries of an address table for positions.
-use Rattle.std.proofs.Common.{◌≡◌, ℕ, zero, suc, ◌+◌, ◌<◌, ◌≤◌, ◌^◌, ◌&&◌, Bool, List, [], ◌∷◌, ◌++◌, length, map, take, get_or, true, false, inl, inr, Option, Some, None, unwrap_or, refl, sym, ap, ◌∙◌, arith, add-one}
-use Rattle.std.specs.Prelude.{Any, filter_map}
+use Rattle.std.proofs.Common.{◌≡◌, ℕ, zero, suc, ◌+◌, ◌<◌, ◌≤◌, ◌^◌, ◌&&◌, Bool, List, [], ◌∷◌, ◌++◌, length, map, take, get_or, slice_index_or, true, false, inl, inr, Option, Some, None, unwrap_or, refl, sym, ap, ◌∙◌, arith, add-one}
+use Rattle.std.specs.Prelude.{All, Any, filter_map}
 use Rattle.std.specs.List.{enumerate_from, cons_option, list_all, AllWithin, HoldsAt}
 use Rattle.std.specs.Option.{is_none}
 use Rattle.std.proofs.Math.Seq.{take-suc}
@@ -85,6 +85,12 @@ any_high at (p ∷ list) (suc i) d line inside some high = any_more (entry_of (a
 
 pub too_high : (list : List Position) (i : ℕ) (d : Position) (line : ℕ) → i < length list → Some line ≡ line_of (get_or list i d) → 2 ^ 32 ≤ i → Any (λ entry. 2 ^ 32 ≤ entry.0) (entries_of (Some (map place_of list)))
 too_high list i d line inside some high = any_high 0 list i d line inside some (omega arith)
+
+-- no address both fits and doesn't
+pub fits_or_not : (entries : List Entry) → All (λ entry. entry.0 < 2 ^ 32) entries → Any (λ entry. 2 ^ 32 ≤ entry.0) entries → ⊥
+fits_or_not entries all (k, entry, inside, is, high) =
+    let low : (slice_index_or entries k entry).0 < 2 ^ 32 = all k entry inside in
+    omega (arith, ap (λ (e : Entry). e.0) is, low, high)
 
 -- an entry for a place has a line
 kept_from : (at : ℕ) (list : List Position) → kept (entries_from at list) ≡ entries_from at list

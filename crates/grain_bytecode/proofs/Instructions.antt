@@ -8,7 +8,7 @@ use Rattle.std.proofs.lemmas.List.Concat.{flat_map-cons}
 use Rattle.grain_bytecode.specs.declared.op.Op.{Op}
 use Rattle.grain_bytecode.specs.declared.field.Field.{Field}
 use Rattle.grain_bytecode.specs.declared.field.Field.TheVariants.{Index, Slot, Count, Target}
-use Rattle.grain_bytecode.specs.Table.{bytes_of, size_of, form, spelling, width_of, Instr}
+use Rattle.grain_bytecode.specs.InstructionTable.{bytes_of, size_of, form, spelling, width_of, Instr}
 use Rattle.grain_bytecode.specs.Split.{Begins, BeginsNone, StandsAt, IsInstruction}
 
 -- a field takes as many bytes as its size says

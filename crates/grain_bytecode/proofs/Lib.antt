@@ -8,13 +8,14 @@ pub mod Cuts
 pub mod Dispatching
 pub mod Drained
 pub mod Entering
-pub mod Faults
+pub mod Flaws
 pub mod Growing
 pub mod Instructions
 pub mod KnownFlags
 pub mod Left
 pub mod Past
 pub mod Placed
+pub mod Printed
 pub mod Reading
 pub mod Rows
 pub mod Slots

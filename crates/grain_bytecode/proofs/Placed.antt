@@ -8,7 +8,7 @@ use Rattle.std.proofs.lemmas.List.Concat.{flat_map-cons}
 use Rattle.std.proofs.lemmas.Grind.{flat_map-append}
 use Rattle.grain_bytecode.specs.declared.op.Op.{Op}
 use Rattle.grain_bytecode.specs.declared.field.Field.{Field}
-use Rattle.grain_bytecode.specs.Table.{FieldFits, bytes_of, form, spelling, width_of}
+use Rattle.grain_bytecode.specs.InstructionTable.{FieldFits, bytes_of, form, spelling, width_of}
 use Rattle.grain_bytecode.specs.Split.{Begins, IsInstruction, AreInstructions, starts_from, Split, StandsAt}
 use Rattle.grain_bytecode.specs.Assembly.{retarget, assembled, offsets_from, IsAssembly}
 use Rattle.grain_bytecode.proofs.Instructions.{spelling_width, begins_spelling}

@@ -12,7 +12,7 @@ use Rattle.std.proofs.lemmas.List.Sums.{sum_by-cons}
 use Rattle.grain_bytecode.specs.declared.op.Op.{Op}
 use Rattle.grain_bytecode.specs.declared.field.Field.{Field}
 use Rattle.grain_bytecode.specs.declared.field.Field.TheVariants.{Index, Slot, Count, Target}
-use Rattle.grain_bytecode.specs.Table.{bytes_of, FieldFits, form, canon, spelling, Instr}
+use Rattle.grain_bytecode.specs.InstructionTable.{bytes_of, FieldFits, form, canon, spelling, Instr}
 use Rattle.grain_bytecode.proofs.Rows.{Letter, index, slot, count, target, field, letter_of, value_of, letter_size, fields, Row, row_of, values_of, IsRowOf, again}
 
 -- every element is a byte

@@ -11,8 +11,8 @@ use Rattle.grain_bytecode.specs.declared.field.Field.{Field}
 use Rattle.grain_bytecode.specs.declared.field.Field.TheVariants.{Index, Slot, Count, Target}
 use Rattle.grain_bytecode.specs.declared.field.Pool.{Pool}
 use Rattle.grain_bytecode.specs.declared.field.Pool.TheVariants.{Constants, Names, Operators, OpAssignments, Fragments, Chains, Switches, SyntaxSites}
-use Rattle.grain_bytecode.specs.declared.code.TheConstants.{WIDTHS}
-use Rattle.grain_bytecode.specs.Table.{form, canon, size_of}
+use Rattle.grain_bytecode.specs.declared.tag_widths.TheConstants.{WIDTHS}
+use Rattle.grain_bytecode.specs.InstructionTable.{form, canon, size_of}
 
 -- a field without its value
 pub data Letter : Type 0 where

@@ -7,6 +7,7 @@ use Rattle.std.proofs.lemmas.List.Folds.{length-flat_map-take}
 use Rattle.std.specs.List.{flat_map}
 use Rattle.grain_bytecode.specs.declared.chain.Chain.{Chain}
 use Rattle.grain_bytecode.specs.declared.chain.Step.{Step}
+use Rattle.grain_bytecode.specs.declared.chain.Step.TheVariants.{Index, Property, Method}
 use Rattle.grain_bytecode.specs.Chain.{positions, root_positions, step_positions, step_slot, steps_positions}
 
 -- one element written over in one of the lists that are joined
@@ -40,6 +41,18 @@ front_slots c i =
 -- the slots before a step and its own
 pub more_slots : (c : Chain) (i : ℕ) (d : Step) → i < length c.steps.items → length (root_positions c.root) + length (steps_positions (take i c.steps.items)) + length (step_positions (get_or c.steps.items i d)) ≤ length (positions c)
 more_slots c i d h = omega (arith, length-append (root_positions c.root) (steps_positions c.steps.items), length-flat_map-take step_positions c.steps.items i d h)
+
+-- a step carries a position, so that its first slot is one of the chain's
+carries_one : (s : Step) → 0 < length (step_positions s)
+carries_one (Index operand flags pos bracket) = omega arith
+carries_one (Property name getter setter flags pos) = omega arith
+carries_one (Method name argc operand flags pos) = omega arith
+
+pub slot_inside : (c : Chain) (i : ℕ) → i < length c.steps.items → length (root_positions c.root) + sum_by (λ s. length (step_positions s)) (take i c.steps.items) < length (positions c)
+slot_inside c i h = beside c.steps.items h where
+  beside : (steps : List Step) → i < length steps → length (root_positions c.root) + sum_by (λ s. length (step_positions s)) (take i c.steps.items) < length (positions c)
+  beside [] k = absurd (omega arith)
+  beside (d ∷ steps) k = omega (arith, more_slots c i d h, carries_one (get_or c.steps.items i d), slots_are_sum (take i c.steps.items))
 
 pub step_slot_is : (c : Chain) (i : ℕ) → i < length c.steps.items → step_slot c i ≡ Some (length (root_positions c.root) + sum_by (λ s. length (step_positions s)) (take i c.steps.items))
 step_slot_is c i h = rw (slots_are_sum (take i c.steps.items)) (grind (arith, nat_tests))

@@ -6,7 +6,7 @@ use Rattle.std.proofs.lemmas.List.Concat.{flat_map-cons}
 use Rattle.std.proofs.lemmas.Grind.{flat_map-append}
 use Rattle.std.proofs.Math.Seq.{take-add}
 use Rattle.grain_bytecode.specs.declared.op.Op.{Op}
-use Rattle.grain_bytecode.specs.Table.{spelling, width_of, Instr}
+use Rattle.grain_bytecode.specs.InstructionTable.{spelling, width_of, Instr}
 use Rattle.grain_bytecode.specs.Split.{Begins, BeginsNone, StandsAt, IsInstruction, AreInstructions, starts_from, Split, FrontEnds}
 use Rattle.grain_bytecode.proofs.Instructions.{begins_none_nil, begins_spelling}
 use Rattle.grain_bytecode.proofs.Reading.{one_instruction}

@@ -1,17 +1,17 @@
 -- What a stream of chain positions is read as: numbers one after another, of which there is one reading.
 use Rattle.std.proofs.Common.{◌≡◌, ℕ, zero, suc, ◌+◌, ◌-◌, ◌*◌, ◌<◌, ◌≤◌, List, [], ◌∷◌, ◌++◌, length, drop, Option, Some, None, Result, Ok, Err, inl, inr, false, eqb, refl, sym, ap, subst, ◌∙◌, arith}
-use Rattle.std.specs.Prelude.{IsOk, ◌↔◌, ◌⊎◌}
+use Rattle.std.specs.Prelude.{IsOk, ◌↔◌}
 use Rattle.std.proofs.lemmas.Bool.{ne_eqb, cases_eq}
 use Rattle.std.proofs.lemmas.List.{length-append, length-drop, drop_at, nil_from_length}
 use Rattle.std.proofs.Math.Seq.{drop-length}
 use Rattle.grain_base.specs.declared.pos.Site.{Site}
 use Rattle.grain_base.specs.declared.varint.Error.{Error as NumberError}
 use Rattle.grain_base.specs.declared.varint.Error.TheVariants as number_error
-use Rattle.grain_base.specs.Varint.{Begins, U32Fault}
-use Rattle.grain_base.proofs.Numbers.{Reading, Number, Fault, reading, begins_once, begins_faultless, begins-append, begins_longer, begins_front, one_u32_fault}
+use Rattle.grain_base.specs.Varint.{Begins, U32Flaw}
+use Rattle.grain_base.proofs.Numbers.{Reading, Number, Flaw, reading, begins_once, begins_flawless, begins-append, begins_longer, begins_front, one_u32_flaw}
 use Rattle.grain_bytecode.specs.declared.sites.StreamError.{StreamError}
 use Rattle.grain_bytecode.specs.declared.sites.StreamError.TheVariants.{Truncated, Overflow, TrailingBytes, OutOfMemory}
-use Rattle.grain_bytecode.specs.ChainStream.{Stream, Records, IsUnfinished, IsUnreadable, Trails, StreamFault, site_of, sites_of, as_stream_error}
+use Rattle.grain_bytecode.specs.ChainStream.{Stream, Records, IsUnfinished, IsUnreadable, Trails, StreamFlaw, site_of, sites_of, as_stream_error}
 
 -- so many numbers, and what is left behind them
 abbrev Read : Type 0
@@ -23,7 +23,7 @@ in_front n (Err error) = Err error
 
 abbrev then_read : {bytes : List ℕ} → Reading bytes → (List ℕ → Read) → Read
 then_read (Number n rest begins) more = in_front n (more rest)
-then_read (Fault error fault) more = Err error
+then_read (Flaw error flaw) more = Err error
 
 abbrev read_many : ℕ → List ℕ → Read
 read_many zero bytes = Ok ([], bytes)
@@ -31,11 +31,11 @@ read_many (suc k) bytes = then_read (reading bytes) (read_many k)
 
 then_number : (bytes : List ℕ) (r : Reading bytes) (n : ℕ) (rest : List ℕ) (more : List ℕ → Read) → Begins bytes (n ∷ []) rest → then_read r more ≡ in_front n (more rest)
 then_number bytes (Number m left begins) n rest more read = let once = begins_once bytes m n left rest begins read in ap (λ k. in_front k (more left)) once.0 ∙ ap (λ xs. in_front n (more xs)) once.1
-then_number bytes (Fault error fault) n rest more read = absurd (begins_faultless bytes n rest error read fault)
+then_number bytes (Flaw error flaw) n rest more read = absurd (begins_flawless bytes n rest error read flaw)
 
-then_fault : (bytes : List ℕ) (r : Reading bytes) (error : NumberError) (more : List ℕ → Read) → U32Fault bytes error → then_read r more ≡ Err error
-then_fault bytes (Number m left begins) error more fault = absurd (begins_faultless bytes m left error begins fault)
-then_fault bytes (Fault other here) error more fault = ap (λ e. Err e) (one_u32_fault bytes other error here fault)
+then_flaw : (bytes : List ℕ) (r : Reading bytes) (error : NumberError) (more : List ℕ → Read) → U32Flaw bytes error → then_read r more ≡ Err error
+then_flaw bytes (Number m left begins) error more flaw = absurd (begins_flawless bytes m left error begins flaw)
+then_flaw bytes (Flaw other here) error more flaw = ap (λ e. Err e) (one_u32_flaw bytes other error here flaw)
 
 first_of : (bytes : List ℕ) (n : ℕ) (ns rest : List ℕ) (begins : Begins bytes (n ∷ ns) rest) → Begins bytes (n ∷ []) begins.1
 first_of bytes n ns rest begins = (begins.0, begins.1, begins.2, begins.3, refl)
@@ -47,13 +47,13 @@ many_read bytes (n ∷ ns) rest begins =
     then_number bytes (reading bytes) n begins.1 (read_many (length ns)) (first_of bytes n ns rest begins) ∙ ap (in_front n) (many_read begins.1 ns rest begins.4)
 
 -- where one can't be read, no more are
-many_unread : (k : ℕ) (bytes ns left : List ℕ) (error : NumberError) → Begins bytes ns left → length ns < k → U32Fault left error → read_many k bytes ≡ Err error
-many_unread zero bytes ns left error begins few fault = absurd (omega arith)
-many_unread (suc k) bytes [] left error begins few fault = then_fault bytes (reading bytes) error (read_many k) (subst (λ xs. U32Fault xs error) (sym begins) fault)
-many_unread (suc k) bytes (n ∷ ns) left error begins few fault =
-    then_number bytes (reading bytes) n begins.1 (read_many k) (first_of bytes n ns left begins) ∙ ap (in_front n) (many_unread k begins.1 ns left error begins.4 (omega arith) fault)
+many_unread : (k : ℕ) (bytes ns left : List ℕ) (error : NumberError) → Begins bytes ns left → length ns < k → U32Flaw left error → read_many k bytes ≡ Err error
+many_unread zero bytes ns left error begins few flaw = absurd (omega arith)
+many_unread (suc k) bytes [] left error begins few flaw = then_flaw bytes (reading bytes) error (read_many k) (subst (λ xs. U32Flaw xs error) (sym begins) flaw)
+many_unread (suc k) bytes (n ∷ ns) left error begins few flaw =
+    then_number bytes (reading bytes) n begins.1 (read_many k) (first_of bytes n ns left begins) ∙ ap (in_front n) (many_unread k begins.1 ns left error begins.4 (omega arith) flaw)
 
--- what the bytes are read as: the sites of a stream, or its fault
+-- what the bytes are read as: the sites of a stream, or its flaw
 abbrev Answer : Type 0
 Answer = Result (List (Option Site)) StreamError
 
@@ -83,9 +83,9 @@ stream_answer bytes slots is = behind_count bytes (length slots) is.numbers [] i
 unreadable_answer : (bytes : List ℕ) (error : NumberError) → IsUnreadable bytes error → answer bytes ≡ Err (as_stream_error error)
 unreadable_answer bytes error is = of_numbers is.numbers is.read is.unfinished where
   of_numbers : (numbers : List ℕ) → Begins bytes numbers is.left → IsUnfinished numbers → answer bytes ≡ Err (as_stream_error error)
-  of_numbers [] read unfinished = ap counted (many_unread 1 bytes [] is.left error read (omega arith) is.fault)
+  of_numbers [] read unfinished = ap counted (many_unread 1 bytes [] is.left error read (omega arith) is.flaw)
   of_numbers (count ∷ numbers) read unfinished =
-      count_read bytes count read.1 (first_of bytes count numbers is.left read) ∙ ap ended (many_unread (2 * count) read.1 numbers is.left error read.4 unfinished is.fault)
+      count_read bytes count read.1 (first_of bytes count numbers is.left read) ∙ ap ended (many_unread (2 * count) read.1 numbers is.left error read.4 unfinished is.flaw)
 
 trailing_answer : (bytes : List ℕ) (count : ℕ) → Trails bytes count → answer bytes ≡ Err (TrailingBytes count)
 trailing_answer bytes count trails =
@@ -95,14 +95,14 @@ trailing_answer bytes count trails =
       some [] long = let positive = trails.some in absurd (omega arith)
       some (byte ∷ bytes) long = ap (λ n. Err (TrailingBytes n)) long
 
-pub fault_answer : (bytes : List ℕ) (error : StreamError) → StreamFault bytes error → answer bytes ≡ Err error
-fault_answer bytes Truncated fault = unreadable_answer bytes number_error.Truncated fault
-fault_answer bytes Overflow fault = unreadable_answer bytes number_error.Overflow fault
-fault_answer bytes (TrailingBytes count) fault = trailing_answer bytes count fault
-fault_answer bytes OutOfMemory fault = absurd fault
+pub flaw_answer : (bytes : List ℕ) (error : StreamError) → StreamFlaw bytes error → answer bytes ≡ Err error
+flaw_answer bytes Truncated flaw = unreadable_answer bytes number_error.Truncated flaw
+flaw_answer bytes Overflow flaw = unreadable_answer bytes number_error.Overflow flaw
+flaw_answer bytes (TrailingBytes count) flaw = trailing_answer bytes count flaw
+flaw_answer bytes OutOfMemory flaw = absurd flaw
 
 -- an error of a number is one of the stream
-pub unreadable : (bytes : List ℕ) (error : NumberError) → IsUnreadable bytes error → StreamFault bytes (as_stream_error error)
+pub unreadable : (bytes : List ℕ) (error : NumberError) → IsUnreadable bytes error → StreamFlaw bytes (as_stream_error error)
 unreadable bytes number_error.Truncated is = is
 unreadable bytes number_error.Overflow is = is
 
@@ -136,13 +136,13 @@ slots_more stream count turns at after line column sites slots read inside = rec
 
 -- a slot can't be read
 pub slots_broken : (stream : List ℕ) (count turns at : ℕ) (sites : List (Option Site)) (error : NumberError) → Slots stream count turns at sites → turns < count
-    → (numbers left : List ℕ) × Begins (drop at stream) numbers left × (length numbers < 2) × U32Fault left error → IsUnreadable stream error
-slots_broken stream count turns at sites error slots more (numbers, left, read, few, fault) = record {
+    → (numbers left : List ℕ) × Begins (drop at stream) numbers left × (length numbers < 2) × U32Flaw left error → IsUnreadable stream error
+slots_broken stream count turns at sites error slots more (numbers, left, read, few, flaw) = record {
   numbers = count ∷ slots.numbers ++ numbers;
   left = left;
   read = begins-append stream (count ∷ slots.numbers) numbers (drop at stream) left slots.read read;
   unfinished = omega (arith, length-append slots.numbers numbers, slots.paired, few, more);
-  fault = fault;
+  flaw = flaw;
 }
 
 -- all slots were read, and no byte is left
@@ -185,17 +185,17 @@ slots_trail stream count at sites slots some =
 -- What is known of an answer by what the bytes are.
 abbrev pub Says : List ℕ → Result (Unit {0}) StreamError → Type 0
 Says bytes (Ok t) = (slots : List (Option Site)) × Stream bytes slots
-Says bytes (Err error) = StreamFault bytes error
+Says bytes (Err error) = StreamFlaw bytes error
 
 pub says_ok : (bytes : List ℕ) (r : Result (Unit {0}) StreamError) → Says bytes r → IsOk r ↔ ((slots : List (Option Site)) × Stream bytes slots)
 says_ok bytes (Ok t) says = (λ ok. says, λ stream. refl)
-says_ok bytes (Err error) says = (λ ok. absurd cc, λ stream. let e = sym (stream_answer bytes stream.0 stream.1) ∙ fault_answer bytes error says in absurd cc)
+says_ok bytes (Err error) says = (λ ok. absurd cc, λ stream. let e = sym (stream_answer bytes stream.0 stream.1) ∙ flaw_answer bytes error says in absurd cc)
 
-pub says_err : (bytes : List ℕ) (r : Result (Unit {0}) StreamError) → Says bytes r → (error : StreamError) → (r ≡ Err error) ↔ StreamFault bytes error
-says_err bytes (Ok t) says error = (λ e. absurd cc, λ fault. let e = sym (stream_answer bytes says.0 says.1) ∙ fault_answer bytes error fault in absurd cc)
+pub says_err : (bytes : List ℕ) (r : Result (Unit {0}) StreamError) → Says bytes r → (error : StreamError) → (r ≡ Err error) ↔ StreamFlaw bytes error
+says_err bytes (Ok t) says error = (λ e. absurd cc, λ flaw. let e = sym (stream_answer bytes says.0 says.1) ∙ flaw_answer bytes error flaw in absurd cc)
 says_err bytes (Err other) says error = (
-  λ e. let same : other ≡ error = cc in subst (StreamFault bytes) same says,
-  λ fault. let e = sym (fault_answer bytes other says) ∙ fault_answer bytes error fault in let same : other ≡ error = cc in ap (λ x. Err x) same,
+  λ e. let same : other ≡ error = cc in subst (StreamFlaw bytes) same says,
+  λ flaw. let e = sym (flaw_answer bytes other says) ∙ flaw_answer bytes error flaw in let same : other ≡ error = cc in ap (λ x. Err x) same,
 )
 
 pub no_site : (line column : ℕ) → line ≡ 0 → None ≡ site_of line column
@@ -205,28 +205,34 @@ pub some_site : (line column : ℕ) → (line ≡ 0 → ⊥) → Some (record { 
 some_site line column some = let other : eqb line 0 ≡ false = ne_eqb line 0 some in rw other refl
 
 -- an answer that hands an error on says it
-pub says_error : (bytes : List ℕ) (r : Result (Unit {0}) StreamError) (error : StreamError) → (returned : StreamError) × (r ≡ Err returned) × (returned ≡ error) → StreamFault bytes error → Says bytes r
-says_error bytes r error (returned, is, same) fault = subst (Says bytes) (sym (is ∙ ap (λ e. Err e) same)) fault
+pub says_error : (bytes : List ℕ) (r : Result (Unit {0}) StreamError) (error : StreamError) → (returned : StreamError) × (r ≡ Err returned) × (returned ≡ error) → StreamFlaw bytes error → Says bytes r
+says_error bytes r error (returned, is, same) flaw = subst (Says bytes) (sym (is ∙ ap (λ e. Err e) same)) flaw
 
 -- the count can't be read
-pub uncounted : (stream : List ℕ) (error : NumberError) → U32Fault stream error → IsUnreadable stream error
-uncounted stream error fault = record { numbers = []; left = stream; read = refl; unfinished = tt; fault = fault }
+pub uncounted : (stream : List ℕ) (error : NumberError) → U32Flaw stream error → IsUnreadable stream error
+uncounted stream error flaw = record { numbers = []; left = stream; read = refl; unfinished = tt; flaw = flaw }
 
--- the only refusal of a stream is want of memory
-pub only_memory : (bytes : List ℕ) (error : StreamError) → (error ≡ OutOfMemory) ⊎ StreamFault bytes error → (slots : List (Option Site)) × Stream bytes slots → error ≡ OutOfMemory
-only_memory bytes error (inl memory) stream = memory
-only_memory bytes error (inr fault) stream = let e = sym (stream_answer bytes stream.0 stream.1) ∙ fault_answer bytes error fault in absurd cc
+-- a stream has no flaw
+pub flawless : (bytes : List ℕ) (error : StreamError) → (slots : List (Option Site)) × Stream bytes slots → StreamFlaw bytes error → ⊥
+flawless bytes error stream flaw = let e = sym (stream_answer bytes stream.0 stream.1) ∙ flaw_answer bytes error flaw in cc
+
+-- no byte of a stream is left behind all of its slots
+pub slots_whole : (stream : List ℕ) (count at : ℕ) (sites : List (Option Site)) → Slots stream count count at sites → (slots : List (Option Site)) × Stream stream slots → Stream stream sites
+slots_whole stream count at sites slots is = slots_all stream count at sites slots (none_left (length stream - at) refl) where
+  none_left : (left : ℕ) → length stream - at ≡ left → length stream - at ≡ 0
+  none_left zero same = same
+  none_left (suc left) same = absurd (flawless stream (TrailingBytes (length stream - at)) is (slots_trail stream count at sites slots (omega (arith, same))))
 
 -- a stream has one list of slots
 pub one_stream : (bytes : List ℕ) (slots other : List (Option Site)) → Stream bytes slots → Stream bytes other → slots ≡ other
 one_stream bytes slots other a b = let e = sym (stream_answer bytes slots a) ∙ stream_answer bytes other b in cc
 
 -- Numbers that can't be read, where a slot's would have to be.
-pub unrecorded : (stream : List ℕ) (numbers left : List ℕ) (error : NumberError) (slot : ℕ) (site : Site) → Begins stream numbers left → length numbers < 2 * slot + 3 → U32Fault left error → Records stream slot site → ⊥
-unrecorded stream numbers left error slot site read few fault records =
+pub unrecorded : (stream : List ℕ) (numbers left : List ℕ) (error : NumberError) (slot : ℕ) (site : Site) → Begins stream numbers left → length numbers < 2 * slot + 3 → U32Flaw left error → Records stream slot site → ⊥
+unrecorded stream numbers left error slot site read few flaw records =
     let all = records.count ∷ records.before ++ site.line ∷ site.column ∷ [] in
     let long : length all ≡ 2 * slot + 3 = omega (arith, length-append records.before (site.line ∷ site.column ∷ []), records.place) in
-    let e = sym (many_unread (length all) stream numbers left error read (omega (arith, long)) fault) ∙ many_read stream all records.rest records.read in
+    let e = sym (many_unread (length all) stream numbers left error read (omega (arith, long)) flaw) ∙ many_read stream all records.rest records.read in
     absurd cc
 
 numbers_of : (ns ms rest more : List ℕ) → ◌≡◌ {A = Read} (Ok (ns, rest)) (Ok (ms, more)) → ns ≡ ms
@@ -271,10 +277,10 @@ past_count stream count slot rest site read past records =
 
 -- a slot at or before it can't be read
 pub broken_before : (stream : List ℕ) (count turns slot at : ℕ) (sites : List (Option Site)) (error : NumberError) (site : Site) → Slots stream count turns at sites → turns ≤ slot
-    → (numbers left : List ℕ) × Begins (drop at stream) numbers left × (length numbers < 2) × U32Fault left error → Records stream slot site → ⊥
-broken_before stream count turns slot at sites error site slots before (numbers, left, read, few, fault) =
+    → (numbers left : List ℕ) × Begins (drop at stream) numbers left × (length numbers < 2) × U32Flaw left error → Records stream slot site → ⊥
+broken_before stream count turns slot at sites error site slots before (numbers, left, read, few, flaw) =
     unrecorded stream (count ∷ slots.numbers ++ numbers) left error slot site (begins-append stream (count ∷ slots.numbers) numbers (drop at stream) left slots.read read)
-    (omega (arith, length-append slots.numbers numbers, slots.paired, few)) fault
+    (omega (arith, length-append slots.numbers numbers, slots.paired, few)) flaw
 
 -- nothing is answered where nothing is recorded
 pub nothing_recorded : (stream : List ℕ) (slot : ℕ) (r : Option Site) → r ≡ None → ((site : Site) → Records stream slot site → ⊥) → (site : Site) → (r ≡ Some site) ↔ Records stream slot site

@@ -12,7 +12,7 @@ use Rattle.std.specs.Result.{is_ok}
 use Rattle.grain_bytecode.specs.declared.strings.BadTable.{BadTable}
 use Rattle.grain_bytecode.specs.declared.strings.BadTable.TheVariants.{NoTerminator, SpanOutOfRange, NotUtf8, TrailingBytes}
 use Rattle.std.proofs.lemmas.Str.{IsUtf8-from_is_utf8, is_utf8-from_IsUtf8}
-use Rattle.grain_bytecode.specs.Names.{span, span_fault, fault_from, first_fault, names_from, names_in, starts_of, IsTable}
+use Rattle.grain_bytecode.specs.Names.{span, span_flaw, flaw_from, first_flaw, names_from, names_in, starts_of, IsTable}
 
 pub length-starts_of : (n : ℕ) (xs : List (List ℕ)) → length (starts_of n xs) ≡ length xs + 1
 length-starts_of n [] = refl
@@ -96,10 +96,10 @@ or_none : (f g : Option BadTable) → option_or f g ≡ None → (f ≡ None) ×
 or_none None g h = (refl, h)
 or_none (Some x) g h = absurd (cc)
 
-faultless : (out text : Bool) (a b : BadTable) → cond out (Some a) (cond text None (Some b)) ≡ None → (out ≡ false) × (text ≡ true)
-faultless true text a b h = absurd (cc)
-faultless false true a b h = (refl, refl)
-faultless false false a b h = absurd (cc)
+flawless : (out text : Bool) (a b : BadTable) → cond out (Some a) (cond text None (Some b)) ≡ None → (out ≡ false) × (text ≡ true)
+flawless true text a b h = absurd (cc)
+flawless false true a b h = (refl, refl)
+flawless false false a b h = absurd (cc)
 
 neither : (a b : Bool) → (a || b) ≡ false → (a ≡ false) × (b ≡ false)
 neither true b h = absurd (cc)
@@ -110,9 +110,9 @@ pub record IsGoodSpan (blob : List ℕ) (from to : ℕ) : Type 0 where
   pub inside : to ≤ length blob
   pub text : is_utf8 (span blob from to) ≡ true
 
-good_span : (blob : List ℕ) (from to : ℕ) → span_fault blob from to ≡ None → IsGoodSpan blob from to
+good_span : (blob : List ℕ) (from to : ℕ) → span_flaw blob from to ≡ None → IsGoodSpan blob from to
 good_span blob from to h =
-    let f = faultless (nat_lt to from || nat_lt (length blob) to) (is_utf8 (span blob from to)) (SpanOutOfRange from to) (NotUtf8 from) h in
+    let f = flawless (nat_lt to from || nat_lt (length blob) to) (is_utf8 (span blob from to)) (SpanOutOfRange from to) (NotUtf8 from) h in
     let n = neither (nat_lt to from) (nat_lt (length blob) to) f.0 in
     record { in_order = grind (arith, nat_tests, n.0); inside = grind (arith, nat_tests, n.1); text = f.1 }
 
@@ -126,12 +126,12 @@ ends : (blob : List ℕ) (from : ℕ) (b : Bool) → nat_eq from (length blob) �
 ends blob from true e h = grind (arith, nat_tests)
 ends blob from false e h = absurd (cc)
 
-table_from : (blob : List ℕ) (from : ℕ) (starts : List ℕ) → fault_from blob from starts ≡ None → IsTableFrom blob from starts
+table_from : (blob : List ℕ) (from : ℕ) (starts : List ℕ) → flaw_from blob from starts ≡ None → IsTableFrom blob from starts
 table_from blob from [] h =
     let e : from ≡ length blob = ends blob from (nat_eq from (length blob)) refl h in
     record { starts_are = refl; blob_is = drop_all from blob (omega arith); texts = refl }
 table_from blob from (to ∷ starts) h =
-    let f = or_none (span_fault blob from to) (fault_from blob to starts) h in
+    let f = or_none (span_flaw blob from to) (flaw_from blob to starts) h in
     let g = good_span blob from to f.0 in
     let t = table_from blob to starts f.1 in
     let long : length (span blob from to) ≡ to - from = (let l : length blob - from ≡ length (drop from blob) = grind (arith, common_steps) in grind (arith, common_steps, g.in_order, g.inside)) in
@@ -148,9 +148,9 @@ begins : (n : ℕ) (b : Bool) (o : Option BadTable) → nat_eq n 0 ≡ b → con
 begins n true o e h = grind (arith, nat_tests)
 begins n false o e h = absurd (cc)
 
-pub table_of : (blob starts : List ℕ) → first_fault blob starts ≡ None → IsTable blob starts
+pub table_of : (blob starts : List ℕ) → first_flaw blob starts ≡ None → IsTable blob starts
 table_of blob [] h = absurd (cc)
 table_of blob (zero ∷ starts) h =
     let t = table_from blob 0 starts h in
     record { starts_are = t.starts_are; blob_is = t.blob_is; texts = t.texts }
-table_of blob (suc n ∷ starts) h = let e : suc n ≡ 0 = begins (suc n) (nat_eq (suc n) 0) (fault_from blob (suc n) starts) refl h in absurd (omega arith)
+table_of blob (suc n ∷ starts) h = let e : suc n ≡ 0 = begins (suc n) (nat_eq (suc n) 0) (flaw_from blob (suc n) starts) refl h in absurd (omega arith)

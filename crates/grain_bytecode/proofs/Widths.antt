@@ -11,8 +11,8 @@ use Rattle.std.proofs.lemmas.Map.Views.{Contains-from_lookup}
 use Rattle.grain_bytecode.specs.declared.op.Op.{Op}
 use Rattle.grain_bytecode.specs.declared.field.Field.{Field}
 use Rattle.grain_bytecode.specs.declared.field.Field.TheVariants.{Index, Slot, Count, Target}
-use Rattle.grain_bytecode.specs.declared.code.TheConstants.{WIDTHS}
-use Rattle.grain_bytecode.specs.Table.{size_of, form, canon, spelling, width_of, Instr}
+use Rattle.grain_bytecode.specs.declared.tag_widths.TheConstants.{WIDTHS}
+use Rattle.grain_bytecode.specs.InstructionTable.{size_of, form, canon, spelling, width_of, Instr}
 use Rattle.grain_bytecode.specs.Split.{StandsAt, NoneStandsAt}
 use Rattle.grain_bytecode.proofs.Rows.{letter_of, letter_size, fields, Row, rows, row_of, IsRowOf, again, written, canonical, row_width, tag_width, widths}
 use Rattle.grain_bytecode.proofs.Instructions.{instr_width, instr_along, begins_fits}

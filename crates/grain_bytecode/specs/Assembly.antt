@@ -1,27 +1,76 @@
 -- Operations written as code.
-use Rattle.std.specs.Prelude.{ℕ, ◌≡◌, ◌+◌, ◌-◌, ◌^◌, ◌<◌, ◌≤◌, ⊤, sum_by, length, map, List, [], ◌∷◌, ◌++◌, slice_index, codes, ◌==◌}
+use Rattle.std.specs.Prelude.{ℕ, ◌≡◌, ◌+◌, ◌-◌, ◌^◌, ◌<◌, ◌≤◌, ⊤, sum_by, length, map, List, [], ◌∷◌, ◌++◌, slice_index, codes, decimal, ◌==◌}
 use Rattle.std.specs.List.{AllByRecursion, position_or_len}
+use Rattle.std.specs.Option.{option_to_list}
+use Rattle.grain_bytecode.specs.Fields.{receiver_name}
 use Rattle.grain_bytecode.specs.declared.op.Op.{Op}
 use Rattle.grain_bytecode.specs.declared.op.Op.TheVariants as ops
-use Rattle.grain_bytecode.specs.declared.op.Receiver.TheVariants as receiver
 use Rattle.grain_bytecode.specs.declared.field.Field.{Field}
 use Rattle.grain_bytecode.specs.declared.field.Field.TheVariants.{Index, Slot, Count, Target}
 use Rattle.grain_bytecode.specs.declared.field.Pool.{Pool}
 use Rattle.grain_bytecode.specs.declared.field.Pool.TheVariants.{Constants, Names, Operators, OpAssignments, Fragments, Chains, Switches, SyntaxSites}
 use Rattle.grain_bytecode.specs.declared.error.AssembleError.{AssembleError}
 use Rattle.grain_bytecode.specs.declared.error.AssembleError.TheVariants as errors
-use Rattle.grain_bytecode.specs.Table.{form, canon, width_of, name}
+use Rattle.grain_bytecode.specs.InstructionTable.{form, canon, width_of, name}
 use Rattle.grain_bytecode.specs.Split.{AreInstructions}
 
 -- the operation with its jump target mapped
 abbrev pub retarget : (ℕ → ℕ) → Op → Op
-retarget f (ops.Jump j) = ops.Jump (f j)
-retarget f (ops.JumpIfTrue j) = ops.JumpIfTrue (f j)
-retarget f (ops.JumpIfFalse j) = ops.JumpIfFalse (f j)
-retarget f (ops.SkipIfNotUnit j) = ops.SkipIfNotUnit (f j)
-retarget f (ops.IterNext j counter) = ops.IterNext (f j) counter
-retarget f (ops.PushHandler j name) = ops.PushHandler (f j) name
-retarget f op = op
+retarget g (ops.Const c) = ops.Const c
+retarget g ops.Unit = ops.Unit
+retarget g (ops.Bool b) = ops.Bool b
+retarget g (ops.LoadLocal s) = ops.LoadLocal s
+retarget g (ops.ExportLocal s n) = ops.ExportLocal s n
+retarget g (ops.StoreLocal s is_const) = ops.StoreLocal s is_const
+retarget g (ops.LoadNamed n) = ops.LoadNamed n
+retarget g (ops.ExportNamed n n') = ops.ExportNamed n n'
+retarget g (ops.AssignNamed n o) = ops.AssignNamed n o
+retarget g (ops.AssignLocal s n o) = ops.AssignLocal s n o
+retarget g (ops.DeclareLocal n is_const is_global) = ops.DeclareLocal n is_const is_global
+retarget g ops.Pop = ops.Pop
+retarget g (ops.Jump j) = ops.Jump (g j)
+retarget g (ops.JumpIfTrue j) = ops.JumpIfTrue (g j)
+retarget g (ops.JumpIfFalse j) = ops.JumpIfFalse (g j)
+retarget g (ops.SkipIfNotUnit j) = ops.SkipIfNotUnit (g j)
+retarget g (ops.Call n a t capture) = ops.Call n a t capture
+retarget g (ops.CallRef n a from capture) = ops.CallRef n a from capture
+retarget g (ops.Rotate a) = ops.Rotate a
+retarget g (ops.Switch w) = ops.Switch w
+retarget g (ops.Share s) = ops.Share s
+retarget g (ops.ShareNamed n) = ops.ShareNamed n
+retarget g (ops.LoadShared s) = ops.LoadShared s
+retarget g (ops.LoadSharedNamed n) = ops.LoadSharedNamed n
+retarget g (ops.MakeClosure n) = ops.MakeClosure n
+retarget g ops.MakeFnPtr = ops.MakeFnPtr
+retarget g ops.IsShared = ops.IsShared
+retarget g (ops.Curry a) = ops.Curry a
+retarget g (ops.CallFnPtr a is_method capture from) = ops.CallFnPtr a is_method capture from
+retarget g (ops.Chain h) = ops.Chain h
+retarget g (ops.MakeArray s) = ops.MakeArray s
+retarget g (ops.MakeMap s) = ops.MakeMap s
+retarget g (ops.CheckSize s is_map) = ops.CheckSize s is_map
+retarget g ops.InterpolateStart = ops.InterpolateStart
+retarget g ops.InterpolateAppend = ops.InterpolateAppend
+retarget g ops.InterpolateEnd = ops.InterpolateEnd
+retarget g (ops.UnwindTo s) = ops.UnwindTo s
+retarget g ops.Tick = ops.Tick
+retarget g ops.Checkpoint = ops.Checkpoint
+retarget g (ops.Statement s) = ops.Statement s
+retarget g ops.Throw = ops.Throw
+retarget g ops.IterInit = ops.IterInit
+retarget g (ops.IterNext j counter) = ops.IterNext (g j) counter
+retarget g ops.IterDrop = ops.IterDrop
+retarget g (ops.PushHandler j n) = ops.PushHandler (g j) n
+retarget g ops.PopHandler = ops.PopHandler
+retarget g (ops.StoreShared s) = ops.StoreShared s
+retarget g ops.Return = ops.Return
+retarget g ops.LoadThis = ops.LoadThis
+retarget g ops.LoadThisShared = ops.LoadThisShared
+retarget g ops.RequireThis = ops.RequireThis
+retarget g (ops.AssignThis o) = ops.AssignThis o
+retarget g (ops.EvalAst f rewind) = ops.EvalAst f rewind
+retarget g (ops.CustomSyntax y) = ops.CustomSyntax y
+retarget g (ops.Import n) = ops.Import n
 
 -- what is decoded where the operation was written: its canonical form, with its target mapped by the offsets
 abbrev pub assembled : List ℕ → Op → Op
@@ -74,9 +123,11 @@ name_of SyntaxSites = codes "custom syntax sites"
 
 -- the error names this field of the operation at an index
 abbrev pub Accuses : ℕ → Field → AssembleError → Type 0
-Accuses at (Index pool x) (errors.PoolTooLarge what entries) = (what.now ≡ name_of pool) × (entries ≡ x)
-Accuses at (Target t) (errors.JumpOutOfRange index target) = (index ≡ at) × (target ≡ t)
-Accuses at field error = ⊥
+Accuses at field (errors.PoolTooLarge what entries) = (pool : Pool) × (field ≡ Index pool entries) × (what.now ≡ name_of pool)
+Accuses at field (errors.JumpOutOfRange index target) = (field ≡ Target target) × (index ≡ at)
+Accuses at field (errors.SwitchTargetOutOfRange table target) = ⊥
+Accuses at field (errors.ChunkTooLarge bytes) = ⊥
+Accuses at field errors.OutOfMemory = ⊥
 
 -- the error names the first of these fields that can't be written
 pub record AccusesFirst (n at : ℕ) (fields : List Field) (error : AssembleError) : Type 0 where
@@ -88,10 +139,10 @@ pub record AccusesFirst (n at : ℕ) (fields : List Field) (error : AssembleErro
   pub fails : IsWritable n bad → ⊥
   pub named : Accuses at bad error
 
--- the fields in the order in which they are tested: of a call through a name that name comes first
+-- the fields in the order in which they are tested: first the name through which a call reaches its receiver, if it does,
+-- and then each in its order
 abbrev pub tested : Op → List Field
-tested (ops.CallRef n a (receiver.Named n') capture) = name n' ∷ name n ∷ []
-tested op = (form op).1
+tested op = map name (option_to_list (receiver_name op)) ++ (form op).1
 
 -- the error names the first field, operation by operation, that can't be written
 pub record AccusesFirstOf (ops : List Op) (error : AssembleError) : Type 0 where
@@ -102,11 +153,13 @@ pub record AccusesFirstOf (ops : List Op) (error : AssembleError) : Type 0 where
   pub passed : EachWritable (length ops) before
   pub named : AccusesFirst (length ops) (length before) (tested op) error
 
--- The error is the first fault of the operations, or want of memory.
-abbrev pub IsAssemblyFault : List Op → AssembleError → Type 0
-IsAssemblyFault ops errors.OutOfMemory = ⊤
-IsAssemblyFault ops (errors.ChunkTooLarge bytes) = (IsShort ops → ⊥) × (bytes ≡ 2 ^ 64 - 1)
-IsAssemblyFault ops error = IsShort ops × AccusesFirstOf ops error
+-- the error is the first flaw of the operations
+abbrev pub IsAssemblyFlaw : List Op → AssembleError → Type 0
+IsAssemblyFlaw ops errors.OutOfMemory = ⊥
+IsAssemblyFlaw ops (errors.ChunkTooLarge bytes) = (IsShort ops → ⊥) × (bytes ≡ 2 ^ 64 - 1)
+IsAssemblyFlaw ops (errors.PoolTooLarge what entries) = IsShort ops × AccusesFirstOf ops (errors.PoolTooLarge what entries)
+IsAssemblyFlaw ops (errors.JumpOutOfRange at target) = IsShort ops × AccusesFirstOf ops (errors.JumpOutOfRange at target)
+IsAssemblyFlaw ops (errors.SwitchTargetOutOfRange table target) = ⊥
 
 -- the index of the operation that is written at an offset
 abbrev pub index_of : List ℕ → ℕ → ℕ
@@ -115,3 +168,14 @@ index_of offsets at = position_or_len (λ offset. offset == at) offsets
 -- disassembled operations, their targets mapped back by the offsets
 abbrev pub with_indices : List ℕ → List (ℕ × Op) → List Op
 with_indices offsets items = map (λ item. retarget (index_of offsets) item.1) items
+
+-- what is printed of an error
+abbrev pub text_of : AssembleError → List ℕ
+text_of (errors.PoolTooLarge what entries) =
+    codes "index " ++ (decimal entries ++ (codes " into the " ++ (what.now ++ codes " is above 65535")))
+text_of (errors.JumpOutOfRange at target) =
+    codes "operation " ++ (decimal at ++ (codes " jumps to index " ++ (decimal target ++ codes ", where no operation is")))
+text_of (errors.SwitchTargetOutOfRange table target) =
+    codes "switch " ++ (decimal table ++ (codes " leads to index " ++ (decimal target ++ codes ", where no offset is")))
+text_of (errors.ChunkTooLarge bytes) = codes "code is longer than 4294967295 bytes"
+text_of errors.OutOfMemory = codes "out of memory"

@@ -44,8 +44,10 @@ assigns (Assign op) = true
 
 -- whether a root lies on the operand stack
 abbrev pub roots_on_stack : Root → Bool
+roots_on_stack (Local slot name) = false
+roots_on_stack (Named name pos) = false
+roots_on_stack (This pos) = false
 roots_on_stack Temporary = true
-roots_on_stack _ = false
 
 -- how many values a chain takes off the operand stack
 abbrev pub consumed : Chain → ℕ

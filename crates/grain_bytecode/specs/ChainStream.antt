@@ -3,7 +3,7 @@ use Rattle.std.specs.Prelude.{◌≡◌, ℕ, ◌*◌, ◌<◌, ⊤, List, [], �
 use Rattle.grain_base.specs.declared.pos.Site.{Site}
 use Rattle.grain_base.specs.declared.varint.Error.{Error as NumberError}
 use Rattle.grain_base.specs.declared.varint.Error.TheVariants as number_error
-use Rattle.grain_base.specs.Varint.{Begins, U32Fault, AreShortest}
+use Rattle.grain_base.specs.Varint.{Begins, U32Flaw, AreShortest}
 use Rattle.grain_base.specs.Place.{place_of, line_of, column_of}
 use Rattle.grain_base.specs.declared.position.Position.{Position}
 use Rattle.std.specs.List.{flat_map}
@@ -19,7 +19,8 @@ site_of line column = if line == 0 then None else Some (record { line = line; co
 -- the sites that lines and columns, in turn, give
 abbrev pub sites_of : List ℕ → List (Option Site)
 sites_of (line ∷ column ∷ numbers) = site_of line column ∷ sites_of numbers
-sites_of _ = []
+sites_of (line ∷ []) = []
+sites_of [] = []
 
 -- The bytes are a stream of these slots: how many they are, and of each a line and a column, all numbers that fit u32.
 pub record Stream (bytes : List ℕ) (slots : List (Option Site)) : Type 0 where
@@ -49,7 +50,7 @@ pub record IsUnreadable (bytes : List ℕ) (error : NumberError) : Type 0 where
   pub left : List ℕ
   pub read : Begins bytes numbers left
   pub unfinished : IsUnfinished numbers
-  pub fault : U32Fault left error
+  pub flaw : U32Flaw left error
 
 -- a stream stands at the front of the bytes, and so many bytes follow it
 pub record Trails (bytes : List ℕ) (count : ℕ) : Type 0 where
@@ -62,11 +63,11 @@ pub record Trails (bytes : List ℕ) (count : ℕ) : Type 0 where
   pub long : length more ≡ count
 
 -- the first thing that is wrong with bytes that are no stream, in the order in which they are read
-abbrev pub StreamFault : List ℕ → StreamError → Type 0
-StreamFault bytes stream_error.Truncated = IsUnreadable bytes number_error.Truncated
-StreamFault bytes stream_error.Overflow = IsUnreadable bytes number_error.Overflow
-StreamFault bytes (stream_error.TrailingBytes count) = Trails bytes count
-StreamFault bytes stream_error.OutOfMemory = ⊥
+abbrev pub StreamFlaw : List ℕ → StreamError → Type 0
+StreamFlaw bytes stream_error.Truncated = IsUnreadable bytes number_error.Truncated
+StreamFlaw bytes stream_error.Overflow = IsUnreadable bytes number_error.Overflow
+StreamFlaw bytes (stream_error.TrailingBytes count) = Trails bytes count
+StreamFlaw bytes stream_error.OutOfMemory = ⊥
 
 -- new is old with the shortest spellings of the numbers behind it
 abbrev pub AppendsAll : List ℕ → List ℕ → List ℕ → Type 0
@@ -80,7 +81,7 @@ all_positions chains = flat_map positions chains
 abbrev pub numbers_of : Position → List ℕ
 numbers_of p = unwrap_or (line_of p) 0 ∷ unwrap_or (column_of p) 0 ∷ []
 
--- the site of a position, which no place hasn't
+-- the site of a position, which is none where the position has no place
 abbrev pub recorded : Position → Option Site
 recorded p = option_map (λ place. record { line = place.0; column = place.1 }) (place_of p)
 

@@ -2,7 +2,7 @@
 use Rattle.std.specs.Prelude.{ℕ, ◌≡◌, ◌+◌, ◌++◌, List, [], ◌∷◌, Option, Some, None, drop}
 use Rattle.std.specs.List.{flat_map, AllByRecursion}
 use Rattle.grain_bytecode.specs.declared.op.Op.{Op}
-use Rattle.grain_bytecode.specs.Table.{spelling, width_of}
+use Rattle.grain_bytecode.specs.InstructionTable.{spelling, width_of}
 use Rattle.grain_bytecode.specs.Split.{Begins, BeginsNone, IsInstruction}
 use Rattle.grain_bytecode.specs.Unread.{Unread}
 

@@ -5,6 +5,7 @@ pub mod ChainStream
 pub mod Disassembly
 pub mod Dispatch
 pub mod Fields
+pub mod InstructionTable
 pub mod Names
 pub mod NamesLeft
 pub mod Numbers
@@ -13,5 +14,4 @@ pub mod Qualified
 pub mod Span
 pub mod Split
 pub mod StepBits
-pub mod Table
 pub mod Unread

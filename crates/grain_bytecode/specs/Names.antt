@@ -1,11 +1,14 @@
--- A table of names: one text after another, and where each begins.
-use Rattle.std.specs.Prelude.{◌≡◌, ℕ, ◌+◌, ◌-◌, List, [], ◌∷◌, ◌||◌, length, map, take, drop, true, cond, nat_lt, nat_eq, Option, Some, None}
+-- Names: one text after another, and where each begins.
+use Rattle.std.specs.Prelude.{◌≡◌, ℕ, ◌+◌, ◌-◌, List, [], ◌∷◌, ◌||◌, ◌++◌, length, map, take, drop, true, cond, nat_lt, nat_eq, Option, Some, None, codes, decimal}
 use Rattle.std.specs.Borrow.{Bor}
 use Rattle.std.specs.List.{concat, list_all}
 use Rattle.std.specs.Option.{option_or}
 use Rattle.std.specs.Str.{is_utf8}
 use Rattle.grain_bytecode.specs.declared.strings.BadTable.{BadTable}
 use Rattle.grain_bytecode.specs.declared.strings.BadTable.TheVariants.{NoTerminator, SpanOutOfRange, NotUtf8, TrailingBytes}
+use Rattle.grain_bytecode.specs.declared.strings.BadTable.TheVariants as bad_table
+use Rattle.grain_bytecode.specs.declared.strings.StringsError.{StringsError}
+use Rattle.grain_bytecode.specs.declared.strings.StringsError.TheVariants as strings_error
 
 -- the bytes of each text
 abbrev pub texts : List (Bor (List ℕ)) → List (List ℕ)
@@ -36,17 +39,31 @@ pub record IsTable (blob starts : List ℕ) : Type 0 where
   pub texts : list_all is_utf8 (names_in blob starts) ≡ true
 
 -- what is wrong with a span
-abbrev pub span_fault : List ℕ → ℕ → ℕ → Option BadTable
-span_fault blob from to =
+abbrev pub span_flaw : List ℕ → ℕ → ℕ → Option BadTable
+span_flaw blob from to =
     cond (nat_lt to from || nat_lt (length blob) to) (Some (SpanOutOfRange from to))
     (cond (is_utf8 (span blob from to)) None (Some (NotUtf8 from)))
 
--- the first fault of the starts after `from`
-abbrev pub fault_from : List ℕ → ℕ → List ℕ → Option BadTable
-fault_from blob from [] = cond (nat_eq from (length blob)) None (Some TrailingBytes)
-fault_from blob from (to ∷ starts) = option_or (span_fault blob from to) (fault_from blob to starts)
+-- the first flaw of the starts after `from`
+abbrev pub flaw_from : List ℕ → ℕ → List ℕ → Option BadTable
+flaw_from blob from [] = cond (nat_eq from (length blob)) None (Some TrailingBytes)
+flaw_from blob from (to ∷ starts) = option_or (span_flaw blob from to) (flaw_from blob to starts)
 
--- the first fault of a table
-abbrev pub first_fault : List ℕ → List ℕ → Option BadTable
-first_fault blob [] = Some NoTerminator
-first_fault blob (from ∷ starts) = cond (nat_eq from 0) (fault_from blob from starts) (Some NoTerminator)
+-- the first flaw of bytes and starts
+abbrev pub first_flaw : List ℕ → List ℕ → Option BadTable
+first_flaw blob [] = Some NoTerminator
+first_flaw blob (from ∷ starts) = cond (nat_eq from 0) (flaw_from blob from starts) (Some NoTerminator)
+
+-- what is printed of a flaw
+abbrev pub bad_table_text : BadTable → List ℕ
+bad_table_text bad_table.NoTerminator = codes "starts of names don't begin with 0"
+bad_table_text (bad_table.SpanOutOfRange from to) =
+    codes "name from " ++ (decimal from ++ (codes " to " ++ (decimal to ++ codes " runs backwards or past the bytes")))
+bad_table_text (bad_table.NotUtf8 at) = codes "name at " ++ (decimal at ++ codes " is not UTF-8")
+bad_table_text bad_table.TrailingBytes = codes "bytes are left behind the last name"
+bad_table_text bad_table.OutOfMemory = codes "out of memory"
+
+-- what is printed where texts make no names
+abbrev pub strings_error_text : StringsError → List ℕ
+strings_error_text strings_error.TooLong = codes "names have more than 4294967295 bytes"
+strings_error_text strings_error.OutOfMemory = codes "out of memory"

@@ -1,7 +1,9 @@
--- The positions of code: for each byte a place in the source text. And how an address table stands for them.
-use Rattle.std.specs.Prelude.{◌≡◌, ◌≢◌, ℕ, ◌≤◌, ◌⊎◌, Bool, true, false, List, [], ◌∷◌, ◌++◌, length, take, map, filter_map, count_by, codes, decimal, nat_lt, nat_le, slice_get, slice_set, Option, Some, None, is_some, is_none, unwrap_or, option_map, option_and_then, ◌==◌, ◌||◌, if◌then◌else◌}
+-- The positions of code: for each byte a place in the source text. And how an address table stands for them; in this file
+-- a table is an address table.
+use Rattle.std.specs.Prelude.{◌≡◌, ◌≢◌, ℕ, ◌-◌, ◌/◌, ◌%◌, ◌^◌, ◌≤◌, ◌⊎◌, replicate, Bool, true, false, List, [], ◌∷◌, ◌++◌, length, take, map, filter_map, count_by, codes, decimal, nat_lt, nat_le, slice_get, slice_set, Option, Some, None, is_some, is_none, unwrap_or, option_map, option_and_then, ◌==◌, ◌||◌, if◌then◌else◌}
+use Rattle.std.specs.Fmt.{digits}
 use Rattle.std.specs.List.{list_all, list_any, enumerate_from, range_with_len}
-use Rattle.grain_base.specs.AddressTable.{Entry, Table, FirstFault, site_at}
+use Rattle.grain_base.specs.AddressTable.{Entry, Table, FirstFlaw, site_at, debug_text_of}
 use Rattle.grain_base.specs.Place.{place_of}
 use Rattle.grain_base.specs.declared.pos.Site.{Site}
 use Rattle.grain_base.specs.declared.position.Position.{Position}
@@ -9,6 +11,8 @@ use Rattle.grain_bytecode.specs.ChainStream.{text_of as stream_text}
 use Rattle.grain_bytecode.specs.Split.{NoneStandsAt, Split}
 use Rattle.grain_bytecode.specs.declared.positions.Positions.{Positions}
 use Rattle.grain_bytecode.specs.declared.positions.Positions.TheVariants.{Stripped, Dense}
+use Rattle.grain_bytecode.specs.declared.positions.StripError.{StripError}
+use Rattle.grain_bytecode.specs.declared.positions.StripError.TheVariants as strip_error
 use Rattle.grain_bytecode.specs.declared.positions.TableError.{TableError}
 use Rattle.grain_bytecode.specs.declared.positions.TableError.TheVariants as table_error
 
@@ -93,20 +97,34 @@ pub record Exceeds (table code : List ℕ) (entries some : ℕ) : Type 0 where
 
 -- why positions can't be read from a table and code; memory is only asked for where the table has entries
 abbrev pub IsRefusal : List ℕ → List ℕ → TableError → Type 0
-IsRefusal table code (table_error.Malformed error) = FirstFault table error
+IsRefusal table code (table_error.Malformed error) = FirstFlaw table error
 IsRefusal table code (table_error.PastTheEnd entries some instructions) = Exceeds table code entries some × (instructions ≡ length code)
 IsRefusal table code table_error.OutOfMemory = (entry : Entry) × (list : List Entry) × Table table (entry ∷ list)
 IsRefusal table code (table_error.WrongProgram expected found) = ⊥
 IsRefusal table code (table_error.ChainStream error) = ⊥
 IsRefusal table code (table_error.ChainCount sites slots) = ⊥
 
--- what is printed of an error, where its parts are printed by this crate
-abbrev pub text_of : TableError → Option (List ℕ)
-text_of (table_error.Malformed error) = None
+-- 16 lower case digits of a number of 64 bits to the base 16
+abbrev pub hex_half : ℕ → List ℕ
+hex_half n = replicate (16 - length (digits 16 false n)) 48 ++ digits 16 false n
+
+-- what is printed of the number of a program: 0x and 32 digits
+abbrev pub id_text : ℕ → List ℕ
+id_text id = codes "0x" ++ (hex_half (id / 2 ^ 64) ++ hex_half (id % 2 ^ 64))
+
+-- what is printed of an error
+abbrev pub text_of : TableError → List ℕ
+text_of (table_error.Malformed error) = codes "position table is malformed: " ++ debug_text_of error
 text_of (table_error.PastTheEnd entries some instructions) =
-    Some (codes "position table has " ++ (decimal entries ++ (codes " entries but only " ++ (decimal some ++ (codes " begin an instruction of this chunk's " ++ (decimal instructions ++ codes " code bytes, so it is a different program's"))))))
-text_of (table_error.WrongProgram expected found) = None
-text_of (table_error.ChainStream error) = Some (stream_text error)
+    codes "position table has " ++ (decimal entries ++ (codes " entries but only " ++ (decimal some ++ (codes " begin an instruction of this chunk's " ++ (decimal instructions ++ codes " code bytes, so it is a different program's")))))
+text_of (table_error.WrongProgram expected found) =
+    codes "sidecar belongs to debug id " ++ (id_text expected ++ (codes ", not to this program's " ++ id_text found))
+text_of (table_error.ChainStream error) = stream_text error
 text_of (table_error.ChainCount sites slots) =
-    Some (codes "chain site stream holds " ++ (decimal sites ++ (codes " sites but this program's chains carry " ++ (decimal slots ++ codes " positions, so it is a different program's"))))
-text_of table_error.OutOfMemory = Some (codes "out of memory")
+    codes "chain site stream holds " ++ (decimal sites ++ (codes " sites but this program's chains carry " ++ (decimal slots ++ codes " positions, so it is a different program's")))
+text_of table_error.OutOfMemory = codes "out of memory"
+
+-- what is printed where positions can't be written
+abbrev pub strip_error_text : StripError → List ℕ
+strip_error_text strip_error.AddressTooWide = codes "a position stands at an address above 4294967295"
+strip_error_text strip_error.OutOfMemory = codes "out of memory"

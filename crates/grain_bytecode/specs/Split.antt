@@ -2,7 +2,7 @@
 use Rattle.std.specs.Prelude.{ℕ, ◌≡◌, ◌+◌, ◌<◌, ◌⊎◌, List, [], ◌∷◌, take, drop, length, Result, Ok, Err}
 use Rattle.std.specs.List.{flat_map, AllByRecursion, Contains}
 use Rattle.grain_bytecode.specs.declared.op.Op.{Op}
-use Rattle.grain_bytecode.specs.Table.{spelling, width_of, Instr}
+use Rattle.grain_bytecode.specs.InstructionTable.{spelling, width_of, Instr}
 
 -- the bytes begin with this instruction
 abbrev pub Begins : List ℕ → Op → Type 0

@@ -6,9 +6,13 @@ use grain_base::Token;
 /// indices of the name pool.
 #[derive(Debug, PartialEq, Eq, Drop)]
 pub struct AssignOp {
+    /// The operator of the op-assignment, as `+=`.
     pub op_assign: Token,
+    /// The name of that operator.
     pub op_assign_name: u32,
+    /// The operator that it stands for, as `+`.
     pub op: Token,
+    /// The name of that operator.
     pub op_name: u32,
 }
 

@@ -3,7 +3,7 @@
 //! A chain is one instruction, so the positions of its parts stand in the chain. In order they are that of the root,
 //! where it has one, and then step by step: of an index its own and that of the bracket, of any other step its own. Each
 //! of them is a slot, counted from 0.
-ghost use Rattle.std.specs.Prelude.{◌≡◌, ◌<◌, ◌^◌, ◌∷◌, [], ◌↔◌, IsTrue, length, map, slice_set, sum_by};
+ghost use Rattle.std.specs.Prelude.{◌≡◌, ◌<◌, ◌≤◌, ◌^◌, ◌∷◌, [], ◌↔◌, IsTrue, IfSome, length, map, slice_set, sum_by};
 ghost use Rattle.grain_bytecode.specs.Chain.{SlotsFit, assigns, consumed, positions, root_positions, root_shape, roots_on_stack, shape, step_positions, step_shape, step_slot, steps_positions};
 ghost use Rattle.grain_bytecode.specs.ChainPositions.{positions_left};
 
@@ -56,6 +56,7 @@ pub enum Step {
     Index {
         /// Where the index lies among the operands of the chain.
         operand: u16,
+        /// How the step behaves.
         flags: StepFlags,
         /// Where the index itself begins in the source.
         pos: Position,
@@ -64,28 +65,35 @@ pub enum Step {
     },
     /// `.name`, which is read by one function and written by another.
     Property {
+        /// The name of the property.
         name: u32,
         /// The name of the function that reads it.
         getter: u32,
         /// The name of the function that writes it.
         setter: u32,
+        /// How the step behaves.
         flags: StepFlags,
+        /// Where the property's name stands in the source.
         pos: Position,
     },
     /// `.name(arguments)`.
     Method {
+        /// The name of the method.
         name: u32,
         /// How many arguments there are, the receiver not counted.
         argc: u8,
         /// Where the first argument lies among the operands of the chain.
         operand: u16,
+        /// How the step behaves.
         flags: StepFlags,
+        /// Where the call stands in the source.
         pos: Position,
     },
 }
 
 impl Step {
     /// How many positions the step carries.
+    #[must_use]
     pub fn position_slots(&self) -> u32
         ensures { result ≡ length (step_positions self.now) }
     {
@@ -98,7 +106,8 @@ impl Step {
     // Replaces the position of the slot, counted from the step's first.
     fn set_position(&mut self, slot: u32, position: Position)
         requires { slot < length (step_positions self.old) }
-        ensures positions { step_positions self.new ≡ slice_set (step_positions self.old) slot position }
+        ensures positions { step_positions self.new
+            ≡ slice_set (step_positions self.old) slot position }
         ensures rest { step_shape position self.new ≡ step_shape position self.old }
     {
         match self {
@@ -115,25 +124,42 @@ impl Step {
 pub enum Tail {
     /// It gives the value that it has come to.
     Read,
-    /// It assigns to what it has come to, where there is an operator through that op-assignment.
-    Assign { op: Option<u32> },
+    /// It assigns to what it has come to.
+    Assign {
+        /// The op-assignment to go through, or none for a plain assignment.
+        op: Option<u32>,
+    },
 }
 
 /// Where a chain begins.
 #[derive(Clone, Debug, PartialEq, Eq, Drop)]
 pub enum Root {
-    /// At a local variable, by its slot; the name serves messages.
-    Local { slot: u16, name: u32 },
+    /// At a local variable.
+    Local {
+        /// The slot of the variable.
+        slot: u16,
+        /// The index of its name, for messages.
+        name: u32,
+    },
     /// At a variable that is looked up by its name.
-    Named { name: u32, pos: Position },
+    Named {
+        /// The index of the name.
+        name: u32,
+        /// Where the name stands in the source.
+        pos: Position,
+    },
     /// At the receiver of the function.
-    This { pos: Position },
+    This {
+        /// Where `this` stands in the source.
+        pos: Position,
+    },
     /// At a value that lies on the operand stack above the operands of the steps.
     Temporary,
 }
 
 impl Root {
     /// How many positions the root carries.
+    #[must_use]
     pub fn position_slots(&self) -> u32
         ensures { result ≡ length (root_positions self.now) }
     {
@@ -160,8 +186,11 @@ impl Root {
 /// A whole chain: where it begins, its steps, and what it does at its end.
 #[derive(Debug, PartialEq, Eq, Drop)]
 pub struct Chain {
+    /// Where it begins.
     pub root: Root,
+    /// Its steps, in order.
     pub steps: Vec<Step>,
+    /// What it does at its end.
     pub tail: Tail,
     /// How many operands the steps take, which isn't all that the chain takes.
     pub operands: u16,
@@ -169,6 +198,7 @@ pub struct Chain {
 
 impl Chain {
     /// Whether the chain takes a value to assign off the operand stack.
+    #[must_use]
     pub fn assigns(&self) -> bool
         ensures { result ≡ assigns self.now.tail }
     {
@@ -176,6 +206,7 @@ impl Chain {
     }
 
     /// Whether the chain takes its root off the operand stack.
+    #[must_use]
     pub fn roots_on_stack(&self) -> bool
         ensures { result ≡ roots_on_stack self.now.root }
     {
@@ -183,9 +214,11 @@ impl Chain {
     }
 
     /// How many values the chain takes off the operand stack: the operands of its steps, its root where that is a
-    /// temporary value, and the value that it assigns.
+    /// temporary value, and the value that it assigns. So there are 65537 at most.
+    #[must_use]
     pub fn consumes(&self) -> usize
-        ensures { result ≡ consumed self.now }
+        ensures value { result ≡ consumed self.now }
+        ensures small { result ≤ 65537 }
     {
         usize::from(self.operands)
             + usize::from(self.roots_on_stack())
@@ -193,6 +226,7 @@ impl Chain {
     }
 
     /// Whether the number of the chain's positions fits 32 bits.
+    #[must_use]
     pub fn slots_fit(&self) -> bool
         ensures { IsTrue result ↔ SlotsFit self.now }
     {
@@ -207,6 +241,9 @@ impl Chain {
     }
 
     /// How many positions the chain carries.
+    ///
+    /// Their number has to fit 32 bits: [`Chain::slots_fit`] tells whether it does.
+    #[must_use]
     pub fn position_slots(&self) -> u32
         requires { SlotsFit self.now }
         ensures { result ≡ length (positions self.now) }
@@ -215,9 +252,14 @@ impl Chain {
     }
 
     /// The first slot of the step at the index, or `None` past the steps.
+    ///
+    /// The number of the chain's positions has to fit 32 bits: [`Chain::slots_fit`] tells whether it does. The slot is
+    /// below [`Chain::position_slots`], so that [`Chain::set_position`] takes it.
+    #[must_use]
     pub fn step_slot(&self, index: usize) -> Option<u32>
         requires { SlotsFit self.now }
-        ensures { result ≡ step_slot self.now index }
+        ensures slot { result ≡ step_slot self.now index }
+        ensures inside { IfSome result (λ slot. slot < length (positions self.now)) }
     {
         if index < self.steps.len() {
             Some(self.root.position_slots() + slots_of(&self.steps[..index]))
@@ -227,6 +269,7 @@ impl Chain {
     }
 
     /// The positions that the chain carries, in the order of their slots.
+    #[must_use]
     pub fn positions(&self) -> ChainPositions<'_>
         ensures { positions_left result ≡ positions self.now }
     {
@@ -241,6 +284,9 @@ impl Chain {
     }
 
     /// Replaces the position of one slot, and nothing else.
+    ///
+    /// The number of the chain's positions has to fit 32 bits, which [`Chain::slots_fit`] tells, and the slot has to be
+    /// below it, below [`Chain::position_slots`].
     pub fn set_position(&mut self, slot: u32, pos: Position)
         requires fit { SlotsFit self.old }
         requires inside { slot < length (positions self.old) }
@@ -301,7 +347,8 @@ fn slots_of(steps: &[Step]) -> u32
 // Replaces the position of one slot of the steps.
 fn set_step_position(steps: &mut [Step], slot: u32, position: Position)
     requires { slot < length (steps_positions steps.old) }
-    ensures positions { steps_positions steps.new ≡ slice_set (steps_positions steps.old) slot position }
+    ensures positions { steps_positions steps.new
+        ≡ slice_set (steps_positions steps.old) slot position }
     ensures rest { map (step_shape position) steps.new ≡ map (step_shape position) steps.old }
 {
     let mut left = slot;

@@ -31,6 +31,7 @@ impl Model for Chunk {
 
 impl Chunk {
     /// The chunk of the code from the entry up to the end, which declares that many operands.
+    #[must_use]
     pub fn new(entry: u32, end: u32, max_stack: u16) -> Chunk
         ensures { result ≡ record { entry = entry; end = end; max_stack = max_stack } }
     {
@@ -42,6 +43,7 @@ impl Chunk {
     }
 
     /// The address of the first instruction.
+    #[must_use]
     pub fn entry(&self) -> u32
         ensures { result ≡ self.now.entry }
     {
@@ -49,6 +51,7 @@ impl Chunk {
     }
 
     /// The address past the last instruction.
+    #[must_use]
     pub fn end(&self) -> u32
         ensures { result ≡ self.now.end }
     {
@@ -56,6 +59,7 @@ impl Chunk {
     }
 
     /// How many operands the chunk declares that it stacks at most.
+    #[must_use]
     pub fn max_stack(&self) -> u16
         ensures { result ≡ self.now.max_stack }
     {
@@ -70,6 +74,7 @@ impl Chunk {
     }
 
     /// The chunk's part of the code, which is empty where the span isn't in the code.
+    #[must_use]
     pub fn body<'a>(&self, code: &'a [u8]) -> &'a [u8]
         ensures { result.now ≡ body self.now code.now }
     {
@@ -79,9 +84,12 @@ impl Chunk {
 
     /// The instructions of the chunk's part of the code, up to the first thing in it that is no instruction. Their
     /// addresses are those in the whole code.
+    #[must_use]
     pub fn ops<'a>(&self, code: &'a [u8]) -> Disassembly<'a>
-        ensures from_the_entry { result ≡ record { at = self.now.entry; bytes = body self.now code.now } }
-        ensures gives { (items : List (ℕ × Op)) → Drains Steps result items → IsDisassembly self.now.entry (body self.now code.now) items }
+        ensures from_the_entry { result
+            ≡ record { at = self.now.entry; bytes = body self.now code.now } }
+        ensures gives { (items : List (ℕ × Op)) → Drains Steps result items
+            → IsDisassembly self.now.entry (body self.now code.now) items }
     {
         disassemble_from(self.front(code), self.entry() as usize)
     }

@@ -5,13 +5,13 @@
 
 ghost use Rattle.std.specs.Prelude.{◌≡◌, IfSome, IfNone, [], ◌∷◌, ◌+◌, ◌≤◌, length};
 ghost use Rattle.std.specs.Int.{w16, from_le_bytes};
-ghost use Rattle.grain_bytecode.specs.Table.{Instr, width_of};
+ghost use Rattle.grain_bytecode.specs.InstructionTable.{Instr, width_of};
 ghost use Rattle.grain_bytecode.specs.Split.{StandsAt, NoneStandsAt};
 ghost use Rattle.grain_bytecode.specs.declared.op.Op.{Op};
 
-use crate::code::width;
 use crate::op::{Op, Receiver};
 use crate::tag;
+use crate::tag_widths::width;
 
 /// An index into a pool.
 #[inline(always)]
@@ -322,7 +322,8 @@ fn instruction(tag: u8, operands: &[u8]) -> Option<Op>
 /// The instruction at an address and its width, or `None` where none stands.
 #[inline(always)]
 pub(crate) fn read(code: &[u8], at: usize) -> Option<(Op, usize)>
-    ensures found { IfSome result (λ found. StandsAt code.now at found.0 × (found.1 ≡ width_of found.0)) }
+    ensures found { IfSome result (λ found. StandsAt code.now at found.0
+        × (found.1 ≡ width_of found.0)) }
     ensures fits { IfSome result (λ found. at + found.1 ≤ length code.now) }
     ensures none { IfNone result (NoneStandsAt code.now at) }
 {

@@ -39,9 +39,11 @@ impl Iterator for Disassembly<'_> {
 }
 
 /// The instructions of code with their addresses, from address 0 up to the first thing that is no instruction.
+#[must_use]
 pub fn disassemble(code: &[u8]) -> Disassembly<'_>
     ensures from_the_start { result ≡ record { at = 0; bytes = code.now } }
-    ensures gives { (items : List (ℕ × Op)) → Drains Steps result items → IsDisassembly 0 code.now items }
+    ensures gives { (items : List (ℕ × Op)) → Drains Steps result items
+        → IsDisassembly 0 code.now items }
 {
     disassemble_from(code, 0)
 }
@@ -49,7 +51,8 @@ pub fn disassemble(code: &[u8]) -> Disassembly<'_>
 /// The instructions of code with their addresses, from an address up to the first thing that is no instruction.
 pub(crate) fn disassemble_from(code: &[u8], at: usize) -> Disassembly<'_>
     ensures from_there { result ≡ record { at = at; bytes = drop at code.now } }
-    ensures gives { (items : List (ℕ × Op)) → Drains Steps result items → IsDisassembly at (drop at code.now) items }
+    ensures gives { (items : List (ℕ × Op)) → Drains Steps result items
+        → IsDisassembly at (drop at code.now) items }
 {
     Disassembly { code, at }
 }

@@ -4,6 +4,7 @@ ghost use Rattle.std.specs.Prelude.{◌≡◌};
 ghost use Rattle.grain_bytecode.specs.declared.error.AssembleError.TheVariants.{OutOfMemory};
 
 use std::alloc::{AllocError, AllocFailed};
+use std::fmt;
 
 /// Why assembling was refused.
 #[derive(Debug, Clone, PartialEq, Eq, Drop)]
@@ -23,9 +24,9 @@ pub enum AssembleError {
         /// The target.
         target: u32,
     },
-    /// A target of a switch table is no index of an offset.
+    /// A target of a switch is no index of an offset.
     SwitchTargetOutOfRange {
-        /// The index of the table.
+        /// The index of the switch.
         table: usize,
         /// The target.
         target: u32,
@@ -52,5 +53,36 @@ impl<T: Drop> From<AllocFailed<T>> for AssembleError {
 
     fn from(_e: AllocFailed<T>) -> AssembleError {
         AssembleError::OutOfMemory
+    }
+}
+
+impl fmt::Display for AssembleError {
+    ghost use Rattle.std.specs.Prelude.{Some};
+    ghost use Rattle.grain_bytecode.specs.Assembly.{text_of};
+
+    ghost output = { λ error. Some (text_of error) };
+
+    fn fmt<W: fmt::Write>(&self, f: &mut fmt::Formatter<W>) -> fmt::Result {
+        match self {
+            AssembleError::PoolTooLarge { what, entries } => {
+                write!(f, "index {entries} into the {what} is above 65535")
+            }
+            AssembleError::JumpOutOfRange { at, target } => {
+                write!(
+                    f,
+                    "operation {at} jumps to index {target}, where no operation is"
+                )
+            }
+            AssembleError::SwitchTargetOutOfRange { table, target } => {
+                write!(
+                    f,
+                    "switch {table} leads to index {target}, where no offset is"
+                )
+            }
+            AssembleError::ChunkTooLarge { .. } => {
+                write!(f, "code is longer than 4294967295 bytes")
+            }
+            AssembleError::OutOfMemory => write!(f, "out of memory"),
+        }
     }
 }

@@ -3,11 +3,11 @@
 ghost use Rattle.std.specs.Prelude.{◌≡◌};
 ghost use Rattle.grain_bytecode.specs.Assembly.{name_of};
 ghost use Rattle.grain_bytecode.specs.Fields.{list_of};
-ghost use Rattle.grain_bytecode.specs.Table.{form, width_of};
+ghost use Rattle.grain_bytecode.specs.InstructionTable.{form, width_of};
 
-use crate::code::WIDTHS;
 use crate::op::{Op, Receiver};
 use crate::tag;
+use crate::tag_widths::WIDTHS;
 
 /// The pools of a program that an index can go into.
 #[derive(Clone, Copy)]

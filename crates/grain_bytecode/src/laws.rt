@@ -10,12 +10,12 @@ ghost use Rattle.bitflags.specs.Sets.{known_bits};
 ghost use Rattle.grain_base.specs.Content.{Content};
 ghost use Rattle.grain_base.specs.declared.pos.Site.{Site};
 ghost use Rattle.grain_bytecode.specs.ChainStream.{Stream};
-ghost use Rattle.grain_bytecode.specs.Dispatch.{Fits, Table, dispatched, resolved, targets};
-ghost use Rattle.grain_bytecode.specs.Names.{first_fault, names_in, starts_of};
+ghost use Rattle.grain_bytecode.specs.Dispatch.{Fits, Arms, dispatched, resolved, targets};
+ghost use Rattle.grain_bytecode.specs.Names.{first_flaw, names_in, starts_of};
 ghost use Rattle.grain_bytecode.specs.Positions.{Arrived};
 ghost use Rattle.grain_bytecode.specs.Qualified.{IsLastCut, last_cut, separator};
 ghost use Rattle.grain_bytecode.specs.StepBits.{flags_table};
-ghost use Rattle.grain_bytecode.specs.Table.{Instr, canon};
+ghost use Rattle.grain_bytecode.specs.InstructionTable.{Instr, canon};
 ghost use Rattle.grain_bytecode.specs.Split.{Split, IsBoundary, FrontEnds};
 ghost use Rattle.grain_bytecode.specs.Disassembly.{IsDisassembly};
 ghost use Rattle.grain_bytecode.specs.Assembly.{IsAssembly, CanAssemble, with_indices};
@@ -34,48 +34,59 @@ pub fn spellings_are_unique()
 
 /// No instruction begins another, and bytes are one instruction at most.
 pub fn no_instruction_begins_another()
-    ensures { (bytes other x y : List ℕ) (op op' : Op) → Instr bytes op → Instr other op' → bytes ++ x ≡ other ++ y → (bytes ≡ other) × (op ≡ op') }
+    ensures { (bytes other x y : List ℕ) (op op' : Op) → Instr bytes op → Instr other op'
+        → bytes ++ x ≡ other ++ y → (bytes ≡ other) × (op ≡ op') }
 {}
 
 /// Code splits in one way, and its longest front that splits ends in one place.
 pub fn code_splits_in_one_way()
-    ensures starts { (code starts starts' : List ℕ) → Split code starts → Split code starts' → starts ≡ starts' }
-    ensures front { (code : List ℕ) (at at' : ℕ) → at ≤ length code → at' ≤ length code → FrontEnds code at → FrontEnds code at' → at ≡ at' }
+    ensures starts { (code starts starts' : List ℕ) → Split code starts → Split code starts'
+        → starts ≡ starts' }
+    ensures front { (code : List ℕ) (at at' : ℕ) → at ≤ length code → at' ≤ length code
+        → FrontEnds code at → FrontEnds code at' → at ≡ at' }
 {}
 
 /// Code that splits is cut by a boundary into two that do.
 pub fn boundaries_cut_code()
     ensures { (code starts : List ℕ) (at : ℕ) → Split code starts → IsBoundary code starts at
-        → ((front : List ℕ) × Split (take at code) front) × ((back : List ℕ) × Split (drop at code) back) }
+        → ((front : List ℕ) × Split (take at code) front)
+        × ((back : List ℕ) × Split (drop at code) back) }
 {}
 
-/// Reading code arrives at one list of addresses, so a table and code give one list of places.
+/// Reading code arrives at one list of addresses, so an address table and code give one list of places.
 pub fn code_is_read_in_one_way()
-    ensures { (code arrived other : List ℕ) → Arrived code arrived → Arrived code other → arrived ≡ other }
+    ensures { (code arrived other : List ℕ) → Arrived code arrived → Arrived code other
+        → arrived ≡ other }
 {}
 
 /// What is disassembled from assembled code can be assembled again, its targets mapped back by the offsets, and gives
 /// the same code and offsets.
 pub fn disassembled_code_assembles_again()
-    ensures can { (ops : List Op) (code offsets : List ℕ) (items : List (ℕ × Op)) → CanAssemble ops → IsAssembly ops code offsets → IsDisassembly 0 code items
+    ensures can { (ops : List Op) (code offsets : List ℕ) (items : List (ℕ × Op))
+        → CanAssemble ops → IsAssembly ops code offsets → IsDisassembly 0 code items
         → CanAssemble (with_indices offsets items) }
-    ensures same { (ops : List Op) (code offsets : List ℕ) (items : List (ℕ × Op)) (again table : List ℕ) → CanAssemble ops → IsAssembly ops code offsets → IsDisassembly 0 code items
+    ensures same { (ops : List Op) (code offsets : List ℕ) (items : List (ℕ × Op))
+        (again table : List ℕ) → CanAssemble ops → IsAssembly ops code offsets
+        → IsDisassembly 0 code items
         → IsAssembly (with_indices offsets items) again table → (again ≡ code) × (table ≡ offsets) }
 {}
 
 /// The bytes of a stream of chain positions have one list of slots.
 pub fn streams_have_one_list()
-    ensures { (bytes : List ℕ) (slots other : List (Option Site)) → Stream bytes slots → Stream bytes other → slots ≡ other }
+    ensures { (bytes : List ℕ) (slots other : List (Option Site)) → Stream bytes slots
+        → Stream bytes other → slots ≡ other }
 {}
 
 /// A switch leads to one of its targets.
 pub fn dispatch_answers_a_target()
-    ensures { (t : Table) (subject : Content) → Contains (targets t) (dispatched t subject) }
+    ensures { (t : Arms) (subject : Content) → Contains (targets t) (dispatched t subject) }
 {}
 
 /// A switch whose targets are replaced by offsets leads to the offset of where it led.
 pub fn dispatch_follows_its_offsets()
-    ensures { (offsets : List ℕ) (t : Table) (subject : Content) → Fits (length offsets) t → slice_get offsets (dispatched t subject) ≡ Some (dispatched (resolved offsets t) subject) }
+    ensures { (offsets : List ℕ) (t : Arms) (subject : Content) → Fits (length offsets) t
+        → slice_get offsets (dispatched t subject)
+        ≡ Some (dispatched (resolved offsets t) subject) }
 {}
 
 /// The flag of a step has the lowest bit: a number is a set of flags exactly where it is below 2.
@@ -86,12 +97,15 @@ pub fn flags_have_the_lowest_bit()
 
 /// A name is cut at the last place where the separator stands, if it stands anywhere.
 pub fn name_is_cut_last()
-    ensures cut { (name before after : List ℕ) → (last_cut name ≡ Some (before, after)) ↔ IsLastCut name before after }
-    ensures uncut { (name : List ℕ) → (last_cut name ≡ None) ↔ ((before after : List ℕ) → name ≢ before ++ separator ++ after) }
+    ensures cut { (name before after : List ℕ) → (last_cut name ≡ Some (before, after))
+        ↔ IsLastCut name before after }
+    ensures uncut { (name : List ℕ) → (last_cut name ≡ None)
+        ↔ ((before after : List ℕ) → name ≢ before ++ separator ++ after) }
 {}
 
-/// The names of a table are cut from its bytes by its starts again.
+/// Names are cut from their bytes by their starts again.
 pub fn table_is_read_again()
     ensures names { (names : List (List ℕ)) → names_in (concat names) (starts_of 0 names) ≡ names }
-    ensures faultless { (names : List (List ℕ)) → list_all is_utf8 names ≡ true → first_fault (concat names) (starts_of 0 names) ≡ None }
+    ensures flawless { (names : List (List ℕ)) → list_all is_utf8 names ≡ true
+        → first_flaw (concat names) (starts_of 0 names) ≡ None }
 {}

@@ -17,6 +17,7 @@ pub fn qualify(alloc: Global, namespace: &str, name: &str) -> Result<String, All
 ///
 /// `None` where `::` stands nowhere, or nothing stands before that place or after it. A `!` at the end is a part of the
 /// name.
+#[must_use]
 pub fn split_qualified(name: &str) -> Option<(&str, &str)>
     ensures { option_map (λ parts. (parts.0.now, parts.1.now)) result ≡ split_qualified name.now }
 {

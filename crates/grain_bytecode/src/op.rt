@@ -16,8 +16,8 @@ pub enum Receiver {
 
 /// One instruction.
 ///
-/// The table of docs/FORMAT.md gives each its tag, its fields and what it does to the operand stack. A few values
-/// can't be told apart once they are written: what is decoded is the canonical form (docs/FORMAT.md, "Canonical
+/// The instruction table of docs/FORMAT.md gives each its tag, its fields and what it does to the operand stack. A few
+/// values can't be told apart once they are written: what is decoded is the canonical form (docs/FORMAT.md, "Canonical
 /// form").
 #[derive(Clone, Debug, PartialEq, Eq, Drop)]
 pub enum Op {
@@ -63,7 +63,7 @@ pub enum Op {
     AssignLocal {
         /// The slot.
         slot: u16,
-        /// The index of the variable's name, for errors.
+        /// The index of the variable's name, for messages.
         var_name: u32,
         /// The op-assignment to go through, or none for a plain assignment.
         op: Option<u32>,
@@ -79,21 +79,21 @@ pub enum Op {
     },
     /// Drops the top of the operand stack.
     Pop,
-    /// Goes on at the target.
+    /// Jumps to the target.
     Jump(u32),
-    /// Pops a condition, and goes on at the target where it holds.
+    /// Pops a condition, and jumps to the target where it holds.
     JumpIfTrue {
-        /// Where to go on.
+        /// Where to jump.
         target: u32,
     },
-    /// Pops a condition, and goes on at the target where it doesn't hold.
+    /// Pops a condition, and jumps to the target where it doesn't hold.
     JumpIfFalse {
-        /// Where to go on.
+        /// Where to jump.
         target: u32,
     },
-    /// Looks at the top of the operand stack, and goes on at the target where it isn't unit.
+    /// Looks at the top of the operand stack, and jumps to the target where it isn't unit.
     SkipIfNotUnit {
-        /// Where to go on.
+        /// Where to jump.
         target: u32,
     },
     /// Pops the arguments, calls a function and pushes what it returns.
@@ -120,7 +120,7 @@ pub enum Op {
     },
     /// Moves the top of the operand stack below so many others.
     Rotate(u8),
-    /// Looks at the top of the operand stack, and goes on where a switch table sends it.
+    /// Looks at the top of the operand stack, and jumps where a switch leads it.
     Switch(u32),
     /// Makes a local slot a shared value.
     Share(u16),
@@ -179,24 +179,24 @@ pub enum Op {
         /// How deep the block of the statement is.
         depth: u16,
     },
-    /// Pops a value and raises it as an error.
+    /// Pops a value and raises it as a fault.
     Throw,
     /// Pops a value and begins to go over it.
     IterInit,
-    /// Pushes the next item of the innermost iterator, or drops the iterator and goes on at the exit.
+    /// Pushes the next item of the innermost iterator, or drops the iterator and jumps to the exit.
     IterNext {
-        /// Where to go on when no item is left.
+        /// Where to jump when no item is left.
         exit: u32,
         /// The slot that counts the items, if one does.
         counter_slot: Option<u16>,
     },
     /// Drops the innermost iterator.
     IterDrop,
-    /// Arms a handler for errors.
+    /// Arms a handler for faults.
     PushHandler {
-        /// Where an error that is caught goes on.
+        /// Where a fault that is caught jumps.
         target: u32,
-        /// The index of the name that the error is bound to, if it is.
+        /// The index of the name that the fault is bound to, if it is.
         catch_var: Option<u32>,
     },
     /// Disarms the innermost handler.
@@ -209,7 +209,7 @@ pub enum Op {
     LoadThis,
     /// Pushes the bound `this`, shared if it is.
     LoadThisShared,
-    /// Raises an error where `this` isn't bound.
+    /// Raises a fault where `this` isn't bound.
     RequireThis,
     /// Pops a value and assigns it to the bound `this`.
     AssignThis {

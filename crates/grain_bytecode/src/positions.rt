@@ -1,9 +1,10 @@
 //! Where in the source text the bytes of code stand.
 //!
-//! Positions travel apart from code, as an address table (docs/FORMAT.md, "Address table"). A table belongs to code where
-//! each of its entries stands at an address at which reading the code arrives.
+//! Positions travel apart from code, as an address table (docs/FORMAT.md, "Address table"). It belongs to code where each
+//! of its entries stands at an address at which reading the code arrives.
 
-ghost use Rattle.std.specs.Prelude.{◌≡◌, ℕ, ◌^◌, ◌<◌, ◌≤◌, List, ◌∷◌, length, map, Some, None, is_none, All, Any, Err, IsOk, IfOk, IfErr};
+ghost use Rattle.std.specs.Prelude.{◌≡◌, ◌↔◌, ℕ, ◌^◌, ◌<◌, ◌≤◌, List, ◌∷◌, length, map, Some, None, is_none, All, Any, Err, IsOk, IfOk, IfErr};
+ghost use Rattle.std.specs.Bool.{OnTrue, OnFalse};
 ghost use Rattle.grain_base.specs.AddressTable.{Entry, Table, numbers_from};
 ghost use Rattle.grain_base.specs.Place.{place_of};
 ghost use Rattle.grain_base.specs.Varint.{AreShortest};
@@ -11,8 +12,8 @@ ghost use Rattle.grain_bytecode.specs.Positions.{Arrived, IsRead, IsRefusal, IsP
 ghost use Rattle.grain_bytecode.specs.declared.positions.StripError.TheVariants as strip_error;
 ghost use Rattle.grain_bytecode.specs.declared.positions.TableError.TheVariants as table_error;
 
-use crate::code::width;
 use crate::sites::StreamError;
+use crate::tag_widths::width;
 use grain_base::pos::Site;
 use grain_base::{Position, pos};
 use std::alloc::{AllocError, AllocFailed, Global};
@@ -27,7 +28,7 @@ pub enum Positions {
     Dense(Vec<Position>),
 }
 
-/// Why positions can't be written as a table.
+/// Why positions can't be written as an address table.
 #[derive(Clone, Debug, PartialEq, Eq, Drop)]
 pub enum StripError {
     /// A position that has a line stands at an address above 4294967295.
@@ -52,18 +53,33 @@ impl<T: Drop> From<AllocFailed<T>> for StripError {
     }
 }
 
+impl fmt::Display for StripError {
+    ghost use Rattle.grain_bytecode.specs.Positions.{strip_error_text};
+
+    ghost output = { λ error. Some (strip_error_text error) };
+
+    fn fmt<W: fmt::Write>(&self, f: &mut fmt::Formatter<W>) -> fmt::Result {
+        match self {
+            StripError::AddressTooWide => {
+                write!(f, "a position stands at an address above 4294967295")
+            }
+            StripError::OutOfMemory => write!(f, "out of memory"),
+        }
+    }
+}
+
 /// Why positions were refused.
 #[derive(Clone, Debug, PartialEq, Eq, Drop)]
 pub enum TableError {
     /// The bytes are no address table.
     Malformed(pos::Error),
-    /// Not as many addresses at which reading the code arrives have a site as the table has entries.
+    /// Not as many addresses at which reading the code arrives have a site as the address table has entries.
     PastTheEnd {
-        /// How many entries the table has.
+        /// How many entries the address table has.
         entries: usize,
         /// How many addresses at which reading the code arrives have a site.
         matched: usize,
-        /// How many bytes the code has.
+        /// How many bytes the code has, whatever the name says.
         instructions: usize,
     },
     /// The positions are those of another program.
@@ -105,7 +121,7 @@ impl From<AllocError> for TableError {
 impl fmt::Display for TableError {
     ghost use Rattle.grain_bytecode.specs.Positions.{text_of};
 
-    ghost output = { text_of };
+    ghost output = { λ error. Some (text_of error) };
 
     fn fmt<W: fmt::Write>(&self, f: &mut fmt::Formatter<W>) -> fmt::Result {
         match self {
@@ -118,10 +134,14 @@ impl fmt::Display for TableError {
                 f,
                 "position table has {entries} entries but only {matched} begin an instruction of this chunk's {instructions} code bytes, so it is a different program's"
             ),
-            TableError::WrongProgram { expected, found } => write!(
-                f,
-                "sidecar belongs to debug id {expected:#034x}, not to this program's {found:#034x}"
-            ),
+            TableError::WrongProgram { expected, found } => {
+                let expected = DebugId(*expected);
+                let found = DebugId(*found);
+                write!(
+                    f,
+                    "sidecar belongs to debug id {expected}, not to this program's {found}"
+                )
+            }
             TableError::ChainStream(error) => write!(f, "{error}"),
             TableError::ChainCount { sites, slots } => write!(
                 f,
@@ -132,7 +152,24 @@ impl fmt::Display for TableError {
     }
 }
 
+/// The number of a program, printed as `0x` and 32 digits to the base 16.
+#[derive(Clone, Copy)]
+struct DebugId(u128);
+
+impl fmt::Display for DebugId {
+    ghost use Rattle.grain_bytecode.specs.Positions.{id_text};
+
+    ghost output = { λ id. Some (id_text id.0) };
+
+    fn fmt<W: fmt::Write>(&self, f: &mut fmt::Formatter<W>) -> fmt::Result {
+        let high = (self.0 >> 64) as u64;
+        let low = (self.0 % (1 << 64)) as u64;
+        write!(f, "0x{high:016x}{low:016x}")
+    }
+}
+
 /// The position of a site: none where its line is 0 or one of its numbers is above 65535.
+#[must_use]
 pub fn site_to_position(site: Site) -> Position
     ensures { place_of result ≡ site_place site }
 {
@@ -144,6 +181,7 @@ pub fn site_to_position(site: Site) -> Position
 
 impl Positions {
     /// The positions of code, byte by byte; stripped where each of them is none.
+    #[must_use]
     pub fn dense(positions: Vec<Position>) -> Positions
         ensures { places result ≡ dense (map place_of positions.items) }
     {
@@ -155,6 +193,7 @@ impl Positions {
     }
 
     /// The position at an address, which is none past the code.
+    #[must_use]
     pub fn get(&self, pc: usize) -> Position
         ensures { place_of result ≡ place_at (places self.now) pc }
     {
@@ -168,6 +207,7 @@ impl Positions {
     }
 
     /// Whether none is known.
+    #[must_use]
     pub fn is_stripped(&self) -> bool
         ensures { result ≡ is_none (places self.now) }
     {
@@ -178,19 +218,24 @@ impl Positions {
     ///
     /// # Errors
     ///
-    /// `AddressTooWide` where one of these stands above 4294967295, and `OutOfMemory` where there is no memory for the
-    /// table.
+    /// `AddressTooWide` where one of these stands above 4294967295; else `OutOfMemory` where there is no memory for the
+    /// address table.
     pub fn to_table(&self, alloc: Global) -> Result<Vec<u8>, StripError>
         ensures written { let list = entries_of (places self.now) in
             IfOk result (λ table. AreShortest table.items (length list ∷ numbers_from 0 list)) }
         ensures table { let list = entries_of (places self.now) in
             length list < 2 ^ 32 → IfOk result (λ table. Table table.items list) }
-        ensures fits { IsOk result → All (λ entry. entry.0 < 2 ^ 32) (entries_of (places self.now)) }
-        ensures wide { result ≡ Err strip_error.AddressTooWide → Any (λ entry. 2 ^ 32 ≤ entry.0) (entries_of (places self.now)) }
+        ensures fits { IsOk result
+            → All (λ entry. entry.0 < 2 ^ 32) (entries_of (places self.now)) }
+        ensures wide { (result ≡ Err strip_error.AddressTooWide)
+            ↔ Any (λ entry. 2 ^ 32 ≤ entry.0) (entries_of (places self.now)) }
     {
         match self {
             Positions::Stripped => Ok(pos::encode(alloc, &[])?),
             Positions::Dense(positions) => {
+                if !addresses_fit(positions) {
+                    return Err(StripError::AddressTooWide);
+                }
                 let sites = sites_of(alloc, positions)?;
                 Ok(pos::encode(alloc, &sites)?)
             }
@@ -199,12 +244,12 @@ impl Positions {
 
     /// Reads the positions of code from an address table.
     ///
-    /// A table of no entries gives `Stripped` for any code.
+    /// An address table of no entries gives `Stripped` for any code.
     ///
     /// # Errors
     ///
-    /// `Malformed` where the bytes are no table; `PastTheEnd` where not as many of the addresses at which reading the code
-    /// arrives have a site as the table has entries; `OutOfMemory` where there is no memory for the positions.
+    /// `Malformed` where the bytes are no address table; `PastTheEnd` where not as many of the addresses at which reading
+    /// the code arrives have a site as it has entries; `OutOfMemory` where there is no memory for the positions.
     pub fn from_table(alloc: Global, table: &[u8], code: &[u8]) -> Result<Positions, TableError>
         ensures ok { IfOk result (λ positions. IsRead table.now code.now (places positions)) }
         ensures err { IfErr result (IsRefusal table.now code.now) }
@@ -228,31 +273,45 @@ impl Positions {
     }
 }
 
+/// Whether the address of each position that has a line fits a `u32`.
+fn addresses_fit(positions: &[Position]) -> bool
+    ensures fit { OnTrue result (All (λ entry. entry.0 < 2 ^ 32)
+        (entries_of (Some (map place_of positions.now)))) }
+    ensures wide { OnFalse result (Any (λ entry. 2 ^ 32 ≤ entry.0)
+        (entries_of (Some (map place_of positions.now)))) }
+{
+    for (at, position) in positions.iter().enumerate() {
+        let Some(_line) = position.line() else {
+            continue;
+        };
+        if at > u32::MAX as usize {
+            return false;
+        }
+    }
+    true
+}
+
 /// An entry for each position that has a line, with its address.
-fn sites_of(alloc: Global, positions: &[Position]) -> Result<Vec<(u32, Site)>, StripError>
-    ensures ok { IfOk result (λ sites. sites.items ≡ entries_of (Some (map place_of positions.now))) }
-    ensures fits { IsOk result → All (λ entry. entry.0 < 2 ^ 32) (entries_of (Some (map place_of positions.now))) }
-    ensures wide { result ≡ Err strip_error.AddressTooWide → Any (λ entry. 2 ^ 32 ≤ entry.0) (entries_of (Some (map place_of positions.now))) }
+fn sites_of(alloc: Global, positions: &[Position]) -> Result<Vec<(u32, Site)>, AllocError>
+    requires { All (λ entry. entry.0 < 2 ^ 32) (entries_of (Some (map place_of positions.now))) }
+    ensures { IfOk result (λ sites. sites.items ≡ entries_of (Some (map place_of positions.now))) }
 {
     let mut sites = Vec::new(alloc);
     for (at, position) in positions.iter().enumerate() {
         let Some(line) = position.line() else {
             continue;
         };
-        let Ok(address) = u32::try_from(at) else {
-            return Err(StripError::AddressTooWide);
-        };
         let column = position.position().unwrap_or(0);
         let site = Site {
             line: line as u32,
             column: column as u32,
         };
-        sites.push((address, site))?;
+        sites.push((at as u32, site))?;
     }
     Ok(sites)
 }
 
-/// The site that a table has for an address of the code.
+/// The site that an address table has for an address of the code.
 fn site_of(table: &[u8], at: usize) -> Option<Site>
     ensures { (list : List Entry) → Table table.now list → result ≡ code_site list at }
 {
@@ -262,10 +321,11 @@ fn site_of(table: &[u8], at: usize) -> Option<Site>
     pos::resolve(table, address)
 }
 
-/// Keeps the position that a table has for an address of the code, and tells whether it has a site for it.
+/// Keeps the position that an address table has for an address of the code, and tells whether it has a site for it.
 fn place(table: &[u8], at: usize, positions: &mut [Position]) -> bool
     requires { at < length positions.old }
-    ensures { (list : List Entry) → Table table.now list → IsPlaced (code_site list at) at positions.old positions.new result }
+    ensures { (list : List Entry) → Table table.now list
+        → IsPlaced (code_site list at) at positions.old positions.new result }
 {
     let Some(site) = site_of(table, at) else {
         return false;
@@ -274,13 +334,15 @@ fn place(table: &[u8], at: usize, positions: &mut [Position]) -> bool
     true
 }
 
-/// Keeps the positions that a table has for the addresses at which reading the code arrives, and counts those that have a
-/// site.
+/// Keeps the positions that an address table has for the addresses at which reading the code arrives, and counts those
+/// that have a site.
 fn place_all(table: &[u8], code: &[u8], positions: &mut [Position]) -> usize
     requires sized { length positions.old ≡ length code.now }
     requires blank { All (λ position. place_of position ≡ None) positions.old }
-    ensures { (arrived : List ℕ) × Arrived code.now arrived × ((list : List Entry) → Table table.now list
-        → (result ≡ matched list arrived) × (map place_of positions.new ≡ table_places list arrived code.now)) }
+    ensures { (arrived : List ℕ) × Arrived code.now arrived
+        × ((list : List Entry) → Table table.now list
+        → (result ≡ matched list arrived)
+        × (map place_of positions.new ≡ table_places list arrived code.now)) }
 {
     let mut at = 0;
     let mut matched = 0;

@@ -11,11 +11,11 @@ ghost use Rattle.std.specs.Prelude.{◌≡◌, ◌<◌, ◌≤◌, ◌+◌, ◌^
 ghost use Rattle.std.specs.List.{flat_map};
 ghost use Rattle.grain_base.specs.declared.pos.Site.{Site};
 ghost use Rattle.grain_base.specs.declared.varint.Error.{Error as NumberError};
-ghost use Rattle.grain_base.specs.Varint.{Begins, U32Fault, AreShortest};
+ghost use Rattle.grain_base.specs.Varint.{Begins, U32Flaw, AreShortest};
 ghost use Rattle.grain_bytecode.specs.declared.sites.StreamError.{StreamError};
 ghost use Rattle.grain_bytecode.specs.declared.sites.StreamError.TheVariants.{OutOfMemory};
 ghost use Rattle.grain_bytecode.specs.Chain.{positions};
-ghost use Rattle.grain_bytecode.specs.ChainStream.{Stream, Records, StreamFault, AppendsAll, site_of, all_positions, numbers_of, recorded, as_stream_error};
+ghost use Rattle.grain_bytecode.specs.ChainStream.{Stream, Records, StreamFlaw, AppendsAll, site_of, all_positions, numbers_of, recorded, as_stream_error};
 
 use crate::chain::Chain;
 use grain_base::pos::Site;
@@ -90,9 +90,13 @@ impl fmt::Display for StreamError {
 
 /// Reads the next slot.
 fn next_slot(stream: &[u8], at: &mut usize) -> Result<Option<Site>, varint::Error>
-    ensures ok { IfOk result (λ site. (line column : ℕ) × Begins (drop at.old stream.now) (line ∷ column ∷ []) (drop at.new stream.now) × (site ≡ site_of line column)) }
+    ensures ok { IfOk result (λ site. (line column : ℕ)
+        × Begins (drop at.old stream.now) (line ∷ column ∷ []) (drop at.new stream.now)
+        × (site ≡ site_of line column)) }
     ensures inside { OnOk result (at.new ≤ length stream.now) }
-    ensures err { IfErr result (λ error. (numbers left : List ℕ) × Begins (drop at.old stream.now) numbers left × (length numbers < 2) × U32Fault left error) }
+    ensures err { IfErr result (λ error. (numbers left : List ℕ)
+        × Begins (drop at.old stream.now) numbers left × (length numbers < 2)
+        × U32Flaw left error) }
 {
     let line = varint::u32(stream, at)?;
     let column = varint::u32(stream, at)?;
@@ -106,6 +110,7 @@ fn next_slot(stream: &[u8], at: &mut usize) -> Result<Option<Site>, varint::Erro
 /// The site that a stream records for a slot, if it does.
 ///
 /// `None` past the counted slots, for line 0, and where the stream breaks at or before the slot.
+#[must_use]
 pub fn resolve(stream: &[u8], slot: u32) -> Option<Site>
     ensures { (site : Site) → (result ≡ Some site) ↔ Records stream.now slot site }
 {
@@ -134,7 +139,7 @@ pub fn resolve(stream: &[u8], slot: u32) -> Option<Site>
 /// The first thing that is wrong, in the order in which a stream is read.
 pub fn check(stream: &[u8]) -> Result<(), StreamError>
     ensures ok { IsOk result ↔ ((slots : List (Option Site)) × Stream stream.now slots) }
-    ensures err { (error : StreamError) → (result ≡ Err error) ↔ StreamFault stream.now error }
+    ensures err { (error : StreamError) → (result ≡ Err error) ↔ StreamFlaw stream.now error }
 {
     let mut at = 0;
     let count = varint::u32(stream, &mut at)?;
@@ -151,23 +156,32 @@ pub fn check(stream: &[u8]) -> Result<(), StreamError>
 ///
 /// # Errors
 ///
-/// As [`check`], and `OutOfMemory` where a growth was refused. Nothing is reserved for more slots than bytes are left.
+/// As [`check`], and `OutOfMemory` where a growth was refused, which is asked for only where the bytes are a stream.
+/// Nothing is reserved for more slots than bytes are left.
 pub fn decode(alloc: Global, stream: &[u8]) -> Result<Vec<Option<Site>>, StreamError>
     ensures ok { IfOk result (λ sites. Stream stream.now sites.items) }
-    ensures whole { ((slots : List (Option Site)) × Stream stream.now slots) → IsOkUnless result OutOfMemory }
-    ensures err { IfErr result (λ error. (error ≡ OutOfMemory) ⊎ StreamFault stream.now error) }
+    ensures whole { ((slots : List (Option Site)) × Stream stream.now slots)
+        → IsOkUnless result OutOfMemory }
+    ensures err { IfErr result (λ error.
+        (error ≡ OutOfMemory) × ((slots : List (Option Site)) × Stream stream.now slots)
+        ⊎ StreamFlaw stream.now error) }
 {
+    check(stream)?;
     let mut at = 0;
     let count = varint::u32(stream, &mut at)?;
-    let left = stream.len() - at;
-    let mut sites = Vec::with_capacity(alloc, left.min(count as usize))?;
+    let mut sites = Vec::with_capacity(alloc, reserve(count, stream.len() - at))?;
     'slots: for _turn in 0..count {
         sites.push(next_slot(stream, &mut at)?)?;
     }
-    match stream.len() - at {
-        0 => Ok(sites),
-        count => Err(StreamError::TrailingBytes { count }),
-    }
+    Ok(sites)
+}
+
+/// For how many slots room is made before they are read, where so many are counted and so many bytes are left.
+fn reserve(count: u32, left: usize) -> usize
+    ensures counted { result ≤ count }
+    ensures there { result ≤ left }
+{
+    left.min(count as usize)
 }
 
 /// Adds the number of a chain's positions to a count; `None` where a `u64` doesn't hold the sum.
@@ -207,7 +221,8 @@ fn put_slot(stream: &mut Vec<u8>, position: Position) -> Result<(), AllocError>
 
 /// Writes the slots of a chain.
 fn put_slots(stream: &mut Vec<u8>, chain: &Chain) -> Result<(), AllocError>
-    ensures ok { OnOk result (AppendsAll stream.old.items stream.new.items (flat_map numbers_of (positions chain.now))) }
+    ensures ok { OnOk result (AppendsAll stream.old.items stream.new.items
+        (flat_map numbers_of (positions chain.now))) }
 {
     for position in chain.positions() {
         put_slot(stream, position)?;

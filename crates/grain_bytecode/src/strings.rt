@@ -1,23 +1,31 @@
-//! Tables of names.
-ghost use Rattle.std.specs.Prelude.{◌≡◌, ◌<◌, ◌^◌, ◌≤◌, ◌⊎◌, true, IfOk, IfErr, IfSome, OnOk, None, Some, MatchResult, length, slice_get, option_map, nat_eq};
+//! Names: the bytes of one after another, and where each of them starts.
+ghost use Rattle.std.specs.Prelude.{◌≡◌, ◌<◌, ◌^◌, ◌≤◌, ◌⊎◌, ◌↔◌, true, Err, IfOk, IfSome, IfNone, OnOk, None, Some, MatchResult, length, slice_get, option_map, nat_eq};
 ghost use Rattle.std.specs.List.{concat, list_all};
 ghost use Rattle.std.specs.Str.{IsUtf8, is_utf8};
-ghost use Rattle.grain_bytecode.specs.Names.{first_fault, names_in, span, span_fault, starts_of, texts};
+ghost use Rattle.grain_bytecode.specs.Names.{first_flaw, names_in, span, span_flaw, starts_of, texts};
 ghost use Rattle.grain_bytecode.specs.NamesLeft.{names_left};
 
 use std::alloc::{AllocError, AllocFailed, Global};
 use std::marker::Model;
-use std::str;
+use std::{fmt, str};
 
-/// Why bytes and starts are no table of names.
+/// Why bytes and starts are no names.
 #[derive(Clone, Debug, PartialEq, Eq, Drop)]
 pub enum BadTable {
     /// There are no starts, or the first isn't 0.
     NoTerminator,
     /// A name runs backwards, or past the bytes.
-    SpanOutOfRange { from: usize, to: usize },
-    /// The name that begins here is not UTF-8.
-    NotUtf8 { at: usize },
+    SpanOutOfRange {
+        /// Where the name begins.
+        from: usize,
+        /// Where it ends.
+        to: usize,
+    },
+    /// A name is not UTF-8.
+    NotUtf8 {
+        /// Where the name begins.
+        at: usize,
+    },
     /// The last start isn't the number of the bytes.
     TrailingBytes,
     /// There was no memory left.
@@ -35,7 +43,29 @@ impl From<AllocError> for BadTable {
     }
 }
 
-/// Why texts make no table of names.
+impl fmt::Display for BadTable {
+    ghost use Rattle.std.specs.Prelude.{Some};
+    ghost use Rattle.grain_bytecode.specs.Names.{bad_table_text};
+
+    ghost output = { λ error. Some (bad_table_text error) };
+
+    fn fmt<W: fmt::Write>(&self, f: &mut fmt::Formatter<W>) -> fmt::Result {
+        match self {
+            BadTable::NoTerminator => write!(f, "starts of names don't begin with 0"),
+            BadTable::SpanOutOfRange { from, to } => {
+                write!(
+                    f,
+                    "name from {from} to {to} runs backwards or past the bytes"
+                )
+            }
+            BadTable::NotUtf8 { at } => write!(f, "name at {at} is not UTF-8"),
+            BadTable::TrailingBytes => write!(f, "bytes are left behind the last name"),
+            BadTable::OutOfMemory => write!(f, "out of memory"),
+        }
+    }
+}
+
+/// Why texts make no names.
 #[derive(Clone, Debug, PartialEq, Eq, Drop)]
 pub enum StringsError {
     /// The texts have more than 4294967295 bytes.
@@ -66,7 +96,21 @@ impl<T: Drop> From<AllocFailed<T>> for StringsError {
     }
 }
 
-/// A table of names: the bytes of one after another, and where each of them starts.
+impl fmt::Display for StringsError {
+    ghost use Rattle.std.specs.Prelude.{Some};
+    ghost use Rattle.grain_bytecode.specs.Names.{strings_error_text};
+
+    ghost output = { λ error. Some (strings_error_text error) };
+
+    fn fmt<W: fmt::Write>(&self, f: &mut fmt::Formatter<W>) -> fmt::Result {
+        match self {
+            StringsError::TooLong => write!(f, "names have more than 4294967295 bytes"),
+            StringsError::OutOfMemory => write!(f, "out of memory"),
+        }
+    }
+}
+
+/// Names: the bytes of one after another, and where each of them starts.
 ///
 /// The starts are one more than the names: the first is 0, and the last is where the last name ends.
 /// Contracts see the list of the names.
@@ -88,35 +132,46 @@ impl Model for Strings {
 }
 
 impl Strings {
-    /// The table of the names, which is refused where they have more bytes than a start of 32 bits can count.
+    /// These names.
+    ///
+    /// # Errors
+    ///
+    /// [`StringsError::TooLong`] where the names have more bytes than a start of 32 bits can count, which is tested
+    /// first, and [`StringsError::OutOfMemory`] where a growth was refused.
     pub fn new(alloc: Global, names: &[&str]) -> Result<Strings, StringsError>
         ensures ok { IfOk result (λ s. s ≡ texts names.now) }
         ensures fits { OnOk result (length (concat (texts names.now)) < 2 ^ 32) }
-        ensures too_long { IfErr result (λ e. e ≡ StringsError.TooLong → 2 ^ 32 ≤ length (concat (texts names.now))) }
+        ensures too_long { (result ≡ Err StringsError.TooLong)
+            ↔ (2 ^ 32 ≤ length (concat (texts names.now))) }
     {
-        let mut blob = Vec::new(alloc);
-        let mut starts = Vec::new(alloc);
+        let Some(len) = total_len(names) else {
+            return Err(StringsError::TooLong);
+        };
+        let mut blob = Vec::with_capacity(alloc, len as usize)?;
+        let mut starts = Vec::with_capacity(alloc, names.len() + 1)?;
         starts.push(0)?;
         for name in names {
             blob.extend_from_slice(name.as_bytes())?;
-            let Ok(end) = u32::try_from(blob.len()) else {
-                return Err(StringsError::TooLong);
-            };
-            starts.push(end)?;
+            starts.push(blob.len() as u32)?;
         }
         Ok(Strings { blob, starts })
     }
 
-    /// The table of the names that the starts cut from the bytes, which are copied; else their first fault.
+    /// The names that the starts cut from the bytes, which are copied.
     ///
-    /// First the starts have to begin with 0. Then, name by name, its span may not run backwards or past the bytes, and
-    /// the bytes in it have to be UTF-8. At last no byte may be left.
+    /// # Errors
+    ///
+    /// The first flaw. First the starts have to begin with 0 ([`BadTable::NoTerminator`]). Then, name by name, its span
+    /// may not run backwards or past the bytes ([`BadTable::SpanOutOfRange`]), and the bytes in it have to be UTF-8
+    /// ([`BadTable::NotUtf8`]). At last no byte may be left ([`BadTable::TrailingBytes`]).
+    ///
+    /// [`BadTable::OutOfMemory`] where there is no flaw, and no memory for the copy.
     pub fn borrowed(alloc: Global, blob: &[u8], starts: Vec<u32>) -> Result<Strings, BadTable>
         ensures names { IfOk result (λ s. s ≡ names_in blob.now starts.items) }
         ensures whole { IfOk result (λ s. (concat s ≡ blob.now) × (starts_of 0 s ≡ starts.items)) }
-        ensures fault { MatchResult result
-            (λ _. first_fault blob.now starts.items ≡ None)
-            (λ e. (e ≡ BadTable.OutOfMemory) ⊎ (first_fault blob.now starts.items ≡ Some e)) }
+        ensures flaw { let flaw = first_flaw blob.now starts.items in MatchResult result
+            (λ _. flaw ≡ None)
+            (λ e. (e ≡ BadTable.OutOfMemory) × (flaw ≡ None) ⊎ (flaw ≡ Some e)) }
     {
         check(blob, &starts)?;
         let blob = blob.to_vec(alloc)?;
@@ -124,6 +179,7 @@ impl Strings {
     }
 
     /// How many names there are.
+    #[must_use]
     pub fn len(&self) -> usize
         ensures { result ≡ length self.now }
     {
@@ -131,6 +187,7 @@ impl Strings {
     }
 
     /// Whether there is no name.
+    #[must_use]
     pub fn is_empty(&self) -> bool
         ensures { result ≡ nat_eq (length self.now) 0 }
     {
@@ -138,6 +195,7 @@ impl Strings {
     }
 
     /// The name at the index, or `None` past the names.
+    #[must_use]
     pub fn get(&self, index: u32) -> Option<&str>
         ensures { option_map (λ s. s.now) result ≡ slice_get self.now index }
     {
@@ -145,6 +203,7 @@ impl Strings {
     }
 
     /// The names in order.
+    #[must_use]
     pub fn iter(&self) -> Names<'_>
         ensures { names_left result ≡ self.now }
     {
@@ -155,6 +214,7 @@ impl Strings {
     }
 
     /// The bytes of all names, one after another.
+    #[must_use]
     pub fn blob(&self) -> &[u8]
         ensures value { result.now ≡ concat self.now }
         ensures texts { list_all is_utf8 self.now ≡ true }
@@ -163,6 +223,7 @@ impl Strings {
     }
 
     /// Where each name begins in the bytes, and where the last one ends.
+    #[must_use]
     pub fn starts(&self) -> &[u32]
         ensures { result.now ≡ starts_of 0 self.now }
     {
@@ -179,7 +240,7 @@ impl Strings {
     }
 }
 
-/// The names of a table, in order.
+/// Names, in order.
 #[derive(Drop)]
 pub struct Names<'a> {
     strings: &'a Strings,
@@ -204,13 +265,31 @@ impl<'a> Iterator for Names<'a> {
     }
 }
 
+// How many bytes the names have, where a start of 32 bits can count them.
+fn total_len(names: &[&str]) -> Option<u32>
+    ensures some { IfSome result (λ len. len ≡ length (concat (texts names.now))) }
+    ensures none { IfNone result (2 ^ 32 ≤ length (concat (texts names.now))) }
+{
+    let mut len = 0u32;
+    for name in names {
+        let Ok(more) = u32::try_from(name.len()) else {
+            return None;
+        };
+        let Some(longer) = len.checked_add(more) else {
+            return None;
+        };
+        len = longer;
+    }
+    Some(len)
+}
+
 fn start_at(starts: &[u32], at: usize) -> Option<usize>
     ensures { result ≡ slice_get starts.now at }
 {
     starts.get(at).map(|start| *start as usize)
 }
 
-// The text from one start to the next. That it is UTF-8 was tested when the table was made, so it isn't tested again.
+// The text from one start to the next. That it is UTF-8 was tested when the names were made, so it isn't tested again.
 fn text_in(blob: &[u8], from: usize, to: usize) -> &str
     requires in_order { from ≤ to }
     requires inside { to ≤ length blob.now }
@@ -222,7 +301,8 @@ fn text_in(blob: &[u8], from: usize, to: usize) -> &str
 
 // What is wrong with the starts, if they don't cut the whole blob into texts.
 fn check(blob: &[u8], starts: &[u32]) -> Result<(), BadTable>
-    ensures { MatchResult result (λ _. first_fault blob.now starts.now ≡ None) (λ e. first_fault blob.now starts.now ≡ Some e) }
+    ensures { MatchResult result (λ _. first_flaw blob.now starts.now ≡ None)
+        (λ e. first_flaw blob.now starts.now ≡ Some e) }
 {
     let [0, rest @ ..] = starts else {
         return Err(BadTable::NoTerminator);
@@ -230,8 +310,8 @@ fn check(blob: &[u8], starts: &[u32]) -> Result<(), BadTable>
     let mut from = 0;
     for start in rest {
         let to = *start as usize;
-        if let Some(fault) = span_fault(blob, from, to) {
-            return Err(fault);
+        if let Some(flaw) = span_flaw(blob, from, to) {
+            return Err(flaw);
         }
         from = to;
     }
@@ -243,8 +323,8 @@ fn check(blob: &[u8], starts: &[u32]) -> Result<(), BadTable>
 }
 
 // What is wrong with the span, if it isn't a text in the blob.
-fn span_fault(blob: &[u8], from: usize, to: usize) -> Option<BadTable>
-    ensures { result ≡ span_fault blob.now from to }
+fn span_flaw(blob: &[u8], from: usize, to: usize) -> Option<BadTable>
+    ensures { result ≡ span_flaw blob.now from to }
 {
     if to < from || blob.len() < to {
         return Some(BadTable::SpanOutOfRange { from, to });

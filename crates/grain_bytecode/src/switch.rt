@@ -1,8 +1,8 @@
-//! Switch tables: where each subject of a switch leads.
+//! Switches: where each subject leads.
 ghost use Rattle.std.specs.Prelude.{◌≡◌, ℕ, map, length, OnOk, IfErr};
 ghost use Rattle.std.specs.List.{All};
 ghost use Rattle.grain_base.specs.View.{content};
-ghost use Rattle.grain_bytecode.specs.Dispatch.{contains, dispatched, by_cases, by_ranges, table, listed, targets, first_past, Fits, offset_at, resolved, resolved_case, resolved_range, IsFirstPast};
+ghost use Rattle.grain_bytecode.specs.Dispatch.{contains, dispatched, by_cases, by_ranges, arms, listed, targets, first_past, Fits, offset_at, resolved, resolved_case, resolved_range, IsFirstPast};
 
 use crate::error::AssembleError;
 use grain_base::Dynamic;
@@ -15,20 +15,27 @@ pub struct SwitchRange {
     pub from: i64,
     /// The last integer of the range where it is inclusive, else the first one past it.
     pub to: i64,
+    /// Whether the range has that last integer.
     pub inclusive: bool,
+    /// Where a subject in the range leads.
     pub target: u32,
 }
 
 impl SwitchRange {
     /// Whether the value is an integer in the range, the shared marks around it apart.
+    #[must_use]
     pub fn contains(&self, value: &Dynamic) -> bool
         ensures { result ≡ contains self.now (content value.now) }
     {
-        match value.unshared() {
-            Dynamic::Int(x) if self.inclusive => self.from <= *x && *x <= self.to,
-            Dynamic::Int(x) => self.from <= *x && *x < self.to,
-            _ => false,
-        }
+        let Dynamic::Int(x) = value.unshared() else {
+            return false;
+        };
+        let ends_later = if self.inclusive {
+            *x <= self.to
+        } else {
+            *x < self.to
+        };
+        self.from <= *x && ends_later
     }
 }
 
@@ -45,9 +52,10 @@ pub struct Switch {
 
 impl Switch {
     /// The target of a subject: that of the case that is equal to it, else of the first range that contains it, else the
-    /// default. A subject that cannot be a case goes to the default too.
+    /// default. A subject that can't be a case leads to the default too.
+    #[must_use]
     pub fn dispatch(&self, subject: &Dynamic) -> u32
-        ensures { result ≡ dispatched (table self.now) (content subject.now) }
+        ensures { result ≡ dispatched (arms self.now) (content subject.now) }
     {
         if !subject.is_hashable() {
             return self.default;
@@ -60,7 +68,7 @@ impl Switch {
 
     // The target of the case that is equal to the subject.
     fn case_target(&self, subject: &Dynamic) -> Option<u32>
-        ensures { result ≡ by_cases (table self.now).cases (content subject.now) }
+        ensures { result ≡ by_cases (arms self.now).cases (content subject.now) }
     {
         let (target, _) = self.cases.as_ref()?.get(subject)?;
         Some(*target)
@@ -77,26 +85,26 @@ impl Switch {
     // A target that is no index of so many offsets, if there is one.
     #[tactic(auto, using(crate::proofs::Past::past_append))]
     fn target_past(&self, offsets: usize) -> Option<u32>
-        ensures { result ≡ first_past offsets (targets (table self.now)) }
+        ensures { result ≡ first_past offsets (targets (arms self.now)) }
     {
-        if let Some(target) = self.case_past(offsets) {
+        if let Some(target) = self.case_target_past(offsets) {
             return Some(target);
         }
-        if let Some(target) = range_past(&self.ranges, offsets) {
+        if let Some(target) = range_target_past(&self.ranges, offsets) {
             return Some(target);
         }
         (self.default as usize >= offsets).then_some(self.default)
     }
 
-    fn case_past(&self, offsets: usize) -> Option<u32>
-        ensures { result ≡ first_past offsets (map (λ c. c.1.0) (listed (table self.now).cases)) }
+    fn case_target_past(&self, offsets: usize) -> Option<u32>
+        ensures { result ≡ first_past offsets (map (λ c. c.1.0) (listed (arms self.now).cases)) }
     {
-        case_past(self.cases.as_ref()?, offsets)
+        case_target_past(self.cases.as_ref()?, offsets)
     }
 
     // Replaces each target by the offset at that index.
     fn resolve(&mut self, offsets: &[u32])
-        ensures { table self.new ≡ resolved offsets.now (table self.old) }
+        ensures { arms self.new ≡ resolved offsets.now (arms self.old) }
     {
         if let Some(cases) = &mut self.cases {
             resolve_cases(cases, offsets);
@@ -106,7 +114,7 @@ impl Switch {
     }
 }
 
-fn case_past(cases: &HashMap<Dynamic, (u32, u32)>, offsets: usize) -> Option<u32>
+fn case_target_past(cases: &HashMap<Dynamic, (u32, u32)>, offsets: usize) -> Option<u32>
     ensures { result ≡ first_past offsets (map (λ c. c.1.0) cases.now.entries) }
 {
     for (_, (target, _)) in cases {
@@ -117,7 +125,7 @@ fn case_past(cases: &HashMap<Dynamic, (u32, u32)>, offsets: usize) -> Option<u32
     None
 }
 
-fn range_past(ranges: &[SwitchRange], offsets: usize) -> Option<u32>
+fn range_target_past(ranges: &[SwitchRange], offsets: usize) -> Option<u32>
     ensures { result ≡ first_past offsets (map (λ r. r.target) ranges.now) }
 {
     ranges
@@ -134,7 +142,8 @@ fn offset_at(offsets: &[u32], target: u32) -> u32
 }
 
 fn resolve_cases(cases: &mut HashMap<Dynamic, (u32, u32)>, offsets: &[u32])
-    ensures { cases.new.entries ≡ map (λ c. (c.0, resolved_case offsets.now c.1)) cases.old.entries }
+    ensures { cases.new.entries
+        ≡ map (λ c. (c.0, resolved_case offsets.now c.1)) cases.old.entries }
 {
     cases.retain(|_, (target, _)| {
         *target = offset_at(offsets, *target);
@@ -150,13 +159,19 @@ fn resolve_ranges(ranges: &mut [SwitchRange], offsets: &[u32])
     }
 }
 
-/// Replaces each target of each table by the offset at that index.
+/// Replaces each target of each switch by the offset at that index.
 ///
-/// Where a target is no index of the offsets, no table is changed, and the first table that has such a target is named.
+/// # Errors
+///
+/// [`AssembleError::SwitchTargetOutOfRange`] where a target is no index of the offsets, with the first switch that has
+/// such a target, and one such target. Then no switch is changed.
 pub fn resolve_switch_targets(switches: &mut [Switch], offsets: &[u32]) -> Result<(), AssembleError>
-    ensures fits { OnOk result (All (λ s. Fits (length offsets.now) (table s)) switches.old) }
-    ensures ok { OnOk result (map table switches.new ≡ map (resolved offsets.now) (map table switches.old)) }
-    ensures err { IfErr result (λ e. (switches.new ≡ switches.old) × ((i : ℕ) × (target : ℕ) × (e ≡ AssembleError.SwitchTargetOutOfRange i target) × IsFirstPast (length offsets.now) switches.old i target)) }
+    ensures fits { OnOk result (All (λ s. Fits (length offsets.now) (arms s)) switches.old) }
+    ensures ok { OnOk result (map arms switches.new
+        ≡ map (resolved offsets.now) (map arms switches.old)) }
+    ensures err { IfErr result (λ e. (switches.new ≡ switches.old)
+        × ((i : ℕ) × (target : ℕ) × (e ≡ AssembleError.SwitchTargetOutOfRange i target)
+        × IsFirstPast (length offsets.now) switches.old i target)) }
 {
     for (table, switch) in switches.iter().enumerate() {
         if let Some(target) = switch.target_past(offsets.len()) {

@@ -33,7 +33,7 @@ pub const DECLARE_CONST: u8 = 0x0a;
 /// Drops the top operand.
 pub const POP: u8 = 0x0b;
 
-/// Goes on at the target. Fields: target.
+/// Jumps to the target. Fields: target.
 pub const JUMP: u8 = 0x0c;
 
 /// Pops a condition and jumps where it holds. Fields: target.
@@ -69,7 +69,7 @@ pub const CHAIN: u8 = 0x16;
 /// Makes an array of so many values. Fields: length.
 pub const MAKE_ARRAY: u8 = 0x17;
 
-/// Goes on where a switch table says. Fields: switch.
+/// Jumps where a switch leads. Fields: switch.
 pub const SWITCH: u8 = 0x18;
 
 /// Pushes the variable of a name. Fields: name.
@@ -105,7 +105,7 @@ pub const POP_HANDLER: u8 = 0x22;
 /// Arms a handler. Fields: catch target.
 pub const PUSH_HANDLER: u8 = 0x23;
 
-/// Arms a handler that binds the error to a name. Fields: catch target, name.
+/// Arms a handler that binds the fault to a name. Fields: catch target, name.
 pub const PUSH_HANDLER_VAR: u8 = 0x24;
 
 /// Pushes the text that an interpolation starts with.
@@ -174,7 +174,7 @@ pub const LOAD_THIS: u8 = 0x39;
 /// Pushes `this`, shared if it is.
 pub const LOAD_THIS_SHARED: u8 = 0x3a;
 
-/// Raises an error where `this` isn't bound.
+/// Raises a fault where `this` isn't bound.
 pub const REQUIRE_THIS: u8 = 0x3b;
 
 /// Pops and assigns to `this`.

@@ -69,5 +69,9 @@ fn copies_of_an_operation_are_equal(rt: HostRuntime) -> Result<(), Fail> {
     let receiver = Receiver::Local(4);
     let copy = receiver;
     assert_eq!(rt; copy, receiver);
+    assert_eq!(rt;
+        format!(in rt.alloc(); "{receiver:?}")?.as_str(),
+        "Local(4)"
+    );
     Ok(())
 }

@@ -1,9 +1,7 @@
 pub mod Sending
 pub mod SearchLaws
 pub mod WordLaws
-pub mod NumberLaws
+pub mod FieldLaws
 pub mod LineLaws
-pub mod ChunkLaws
-pub mod FaultLaws
 pub mod VerdictLaws
 pub mod RunLaws

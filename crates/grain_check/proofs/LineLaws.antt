@@ -1,6 +1,6 @@
 -- Laws of lines, and of the cases among them.
 use Rattle.std.proofs.Common.{◌≡◌, ℕ, Bool, true, false, eqb, eqb-true, List, [], ◌∷◌, ◌++◌, map, length, take, refl, sym, ap, ◌∙◌, arith, append_assoc, append-nil}
-use Rattle.std.specs.Prelude.{count_by, filter, flat_map, if◌then◌else◌, ◌==◌}
+use Rattle.std.specs.Prelude.{count_by, filter, if◌then◌else◌, ◌==◌}
 use Rattle.std.specs.List.{AllByRecursion, slice_split}
 use Rattle.std.specs.Str.Lines.{lines, lines_of_parts, strip_carriage_return}
 use Rattle.std.proofs.lemmas.Bool.Decides.{nat_tests}
@@ -9,32 +9,29 @@ use Rattle.std.proofs.lemmas.List.{map-append, length-map, length-append}
 use Rattle.std.proofs.lemmas.List.Elements.{filter-append, All-append, All-cons, All-head, All-nil, All-tail, recursion_from_All}
 use Rattle.std.proofs.lemmas.List.Splits.{slice_split_at, slice_split_none, length-slice_split}
 use Rattle.std.proofs.Math.Seq.{take-append_seam}
+use Rattle.grain_check.specs.Words.{Lacks}
 use Rattle.grain_check.proofs.SearchLaws.{Lacks-nil}
-use Rattle.grain_check.specs.Lines.{Lacks, IsCut, is_line_feed, is_case, cases_of, complete_cases, complete_lines}
-
--- the lines, each ended by a line feed
-abbrev pub ended : List (List ℕ) → List ℕ
-ended parts = flat_map (λ line. line ++ 10 ∷ []) parts
+use Rattle.grain_check.specs.Lines.{IsCut, ended, ended_lines, is_line_feed, is_case, cases_of, complete_cases, complete_lines}
 
 -- one more line was cut off
-pub ended-more : (all : List ℕ) (parts : List (List ℕ)) (carry piece more : List ℕ)
-    → all ≡ ended parts ++ (carry ++ (piece ++ 10 ∷ more)) → all ≡ ended (parts ++ (carry ++ piece) ∷ []) ++ more
-ended-more all parts carry piece more e = e ∙ sym (ap (λ xs. xs ++ more) (flat_map-append (λ line. line ++ 10 ∷ []) parts ((carry ++ piece) ∷ [])) ∙ simp (append_assoc, append-nil))
+pub ended_lines-more : (all : List ℕ) (parts : List (List ℕ)) (carry piece more : List ℕ)
+    → all ≡ ended_lines parts ++ (carry ++ (piece ++ 10 ∷ more)) → all ≡ ended_lines (parts ++ (carry ++ piece) ∷ []) ++ more
+ended_lines-more all parts carry piece more e = e ∙ sym (ap (λ xs. xs ++ more) (flat_map-append ended parts ((carry ++ piece) ∷ [])) ∙ simp (append_assoc, append-nil))
 
-pub IsCut-append : (input chunk : List ℕ) (parts more : List (List ℕ)) (carry rest : List ℕ)
-    → IsCut input parts carry → IsCut (carry ++ chunk) more rest → IsCut (input ++ chunk) (parts ++ more) rest
-IsCut-append input chunk parts more carry rest first second = record {
-  whole = ap (λ xs. xs ++ chunk) first.whole ∙ append_assoc (ended parts) carry chunk ∙ ap (λ xs. ended parts ++ xs) second.whole
-      ∙ sym (append_assoc (ended parts) (ended more) rest) ∙ sym (ap (λ xs. xs ++ rest) (flat_map-append (λ line. line ++ 10 ∷ []) parts more));
+pub IsCut-append : (input bytes : List ℕ) (parts more : List (List ℕ)) (carry rest : List ℕ)
+    → IsCut input parts carry → IsCut (carry ++ bytes) more rest → IsCut (input ++ bytes) (parts ++ more) rest
+IsCut-append input bytes parts more carry rest first second = record {
+  whole = ap (λ xs. xs ++ bytes) first.whole ∙ append_assoc (ended_lines parts) carry bytes ∙ ap (λ xs. ended_lines parts ++ xs) second.whole
+      ∙ sym (append_assoc (ended_lines parts) (ended_lines more) rest) ∙ sym (ap (λ xs. xs ++ rest) (flat_map-append ended parts more));
   each = All-append (Lacks 10) parts more first.each second.each;
   lacks = second.lacks;
 }
 
-pieces_by : (parts : List (List ℕ)) (rest : List ℕ) → AllByRecursion (Lacks 10) parts → Lacks 10 rest → slice_split is_line_feed (ended parts ++ rest) ≡ parts ++ rest ∷ []
+pieces_by : (parts : List (List ℕ)) (rest : List ℕ) → AllByRecursion (Lacks 10) parts → Lacks 10 rest → slice_split is_line_feed (ended_lines parts ++ rest) ≡ parts ++ rest ∷ []
 pieces_by [] rest each lacks = slice_split_none is_line_feed rest lacks
 pieces_by (line ∷ parts) rest each lacks =
-    let split : (line ++ 10 ∷ []) ++ ended parts ++ rest ≡ line ++ 10 ∷ (ended parts ++ rest) = simp append_assoc in
-    ap (slice_split is_line_feed) split ∙ slice_split_at is_line_feed line 10 (ended parts ++ rest) each.0 refl ∙ ap (λ xs. line ∷ xs) (pieces_by parts rest each.1 lacks)
+    let split : (line ++ 10 ∷ []) ++ ended_lines parts ++ rest ≡ line ++ 10 ∷ (ended_lines parts ++ rest) = simp append_assoc in
+    ap (slice_split is_line_feed) split ∙ slice_split_at is_line_feed line 10 (ended_lines parts ++ rest) each.0 refl ∙ ap (λ xs. line ∷ xs) (pieces_by parts rest each.1 lacks)
 
 -- the pieces between line feeds
 pieces-cut : (input : List ℕ) (parts : List (List ℕ)) (rest : List ℕ) → IsCut input parts rest → slice_split is_line_feed input ≡ parts ++ rest ∷ []

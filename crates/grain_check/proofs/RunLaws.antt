@@ -5,11 +5,12 @@ use Rattle.std.proofs.lemmas.Grind.{common_steps}
 use Rattle.std.proofs.KnownBytes.{Appends-nil, Appends-trans, Consumes-nil, Consumes-trans, Consumes-kept}
 use Rattle.std.specs.Io.KnownBytes.{Appends, Consumes, IsAtEnd, Keeps}
 use Rattle.std.proofs.lemmas.List.Elements.{All-nil}
-use Rattle.grain_check.specs.Lines.{IsCut, Lacks, cases_of, is_case}
-use Rattle.grain_check.specs.Streams.{SendsFront}
-use Rattle.grain_check.specs.Verdicts.{IsVerdictText}
-use Rattle.grain_check.specs.Reports.{Answers, AnswersChunk, CountsOn, Written, nothing, saturated}
-use Rattle.grain_check.specs.Runs.{AnswersAll, AnswersComplete, AnswersFirst, AnswersFront, AreDue}
+use Rattle.grain_check.specs.Lines.{IsCut, cases_of, is_case}
+use Rattle.grain_check.specs.Words.{Lacks}
+use Rattle.grain_check.specs.Stream.{SendsFront}
+use Rattle.grain_check.specs.Verdict.{IsVerdictText}
+use Rattle.grain_check.specs.Report.{Answers, AnswersBytes, CountsOn, Written, nothing, saturated}
+use Rattle.grain_check.specs.Driver.{AnswersAll, AnswersComplete, AnswersFirst, AnswersFront, AreDue}
 use Rattle.grain_check.specs.declared.report.Summary.{Summary}
 use Rattle.grain_check.proofs.SearchLaws.{Lacks-nil}
 use Rattle.grain_check.proofs.LineLaws.{IsCut-append, cases_in, cases_in-append, cases_of-cut, complete_cases-cut, cut_of}
@@ -31,12 +32,12 @@ pending_none left taken = record {
 }
 
 -- more was read, and more cases were answered
-pending_more : {left left' left'' taken taken' : Option (List ℕ)} {input : List ℕ} {cases more : List (List ℕ)} {old new : Written} (chunk : List ℕ)
-    → Pending left left' taken taken' input cases old → Consumes left' left'' chunk → Answers more old new
-    → Pending left left'' taken taken' (input ++ chunk) (cases ++ more) new
-pending_more {left} {left'} {left''} {input = input} {old = old} chunk before read since = record {
+pending_more : {left left' left'' taken taken' : Option (List ℕ)} {input : List ℕ} {cases more : List (List ℕ)} {old new : Written} (bytes : List ℕ)
+    → Pending left left' taken taken' input cases old → Consumes left' left'' bytes → Answers more old new
+    → Pending left left'' taken taken' (input ++ bytes) (cases ++ more) new
+pending_more {left} {left'} {left''} {input = input} {old = old} bytes before read since = record {
   sent = before.sent;
-  read = Consumes-trans left left' left'' input chunk before.read read;
+  read = Consumes-trans left left' left'' input bytes before.read read;
   answers = Answers-append before.answers (record {
     added = since.added;
     verdicts = since.verdicts;
@@ -103,36 +104,36 @@ reading_none left taken carry written empty none = record {
   long = omega arith;
 }
 
--- a chunk was read, and its lines were answered
-fed : {left left' left'' taken taken' : Option (List ℕ)} {turns : ℕ} {carry chunk new_carry : List ℕ} {old new : Written}
-    → (before : Reading left left' taken taken' turns carry old) → Consumes left' left'' chunk → (since : AnswersChunk carry chunk new_carry old new)
-    → Pending left left'' taken taken' (before.input ++ chunk) (cases_in (before.parts ++ since.lines)) new
-fed {left} {left'' = left''} {taken = taken} {taken' = taken'} {chunk = chunk} {new = new} before read since =
-    subst (λ cases. Pending left left'' taken taken' (before.input ++ chunk) cases new) (sym (cases_in-append before.parts since.lines))
-    (pending_more chunk before.state read since.answers)
+-- a bytes was read, and its lines were answered
+fed : {left left' left'' taken taken' : Option (List ℕ)} {turns : ℕ} {carry bytes new_carry : List ℕ} {old new : Written}
+    → (before : Reading left left' taken taken' turns carry old) → Consumes left' left'' bytes → (since : AnswersBytes carry bytes new_carry old new)
+    → Pending left left'' taken taken' (before.input ++ bytes) (cases_in (before.parts ++ since.lines)) new
+fed {left} {left'' = left''} {taken = taken} {taken' = taken'} {bytes = bytes} {new = new} before read since =
+    subst (λ cases. Pending left left'' taken taken' (before.input ++ bytes) cases new) (sym (cases_in-append before.parts since.lines))
+    (pending_more bytes before.state read since.answers)
 
-fed_cut : {left left' taken taken' : Option (List ℕ)} {turns : ℕ} {carry chunk new_carry : List ℕ} {old new : Written}
-    → (before : Reading left left' taken taken' turns carry old) → (since : AnswersChunk carry chunk new_carry old new)
-    → IsCut (before.input ++ chunk) (before.parts ++ since.lines) new_carry
-fed_cut {carry = carry} {chunk = chunk} {new_carry = new_carry} before since = IsCut-append before.input chunk before.parts since.lines carry new_carry before.cut since.cut
+fed_cut : {left left' taken taken' : Option (List ℕ)} {turns : ℕ} {carry bytes new_carry : List ℕ} {old new : Written}
+    → (before : Reading left left' taken taken' turns carry old) → (since : AnswersBytes carry bytes new_carry old new)
+    → IsCut (before.input ++ bytes) (before.parts ++ since.lines) new_carry
+fed_cut {carry = carry} {bytes = bytes} {new_carry = new_carry} before since = IsCut-append before.input bytes before.parts since.lines carry new_carry before.cut since.cut
 
 -- its verdicts were sent too
-pub reading_more : {left left' left'' taken taken' taken'' : Option (List ℕ)} {turns : ℕ} {carry chunk new_carry last_carry : List ℕ} {old new last : Written}
-    → Reading left left' taken taken' turns carry old → Consumes left' left'' chunk → 0 < length chunk → AnswersChunk carry chunk new_carry old new
+pub reading_more : {left left' left'' taken taken' taken'' : Option (List ℕ)} {turns : ℕ} {carry bytes new_carry last_carry : List ℕ} {old new last : Written}
+    → Reading left left' taken taken' turns carry old → Consumes left' left'' bytes → 0 < length bytes → AnswersBytes carry bytes new_carry old new
     → Appends taken' taken'' new.text → last.text ≡ [] → last.summary ≡ new.summary → last_carry ≡ new_carry
     → Reading left left'' taken taken'' (turns + 1) last_carry last
-reading_more {chunk = chunk} before read some since sent none same same_carry = record {
-  input = before.input ++ chunk;
+reading_more {bytes = bytes} before read some since sent none same same_carry = record {
+  input = before.input ++ bytes;
   parts = before.parts ++ since.lines;
-  cut = subst (IsCut (before.input ++ chunk) (before.parts ++ since.lines)) (sym same_carry) (fed_cut before since);
+  cut = subst (IsCut (before.input ++ bytes) (before.parts ++ since.lines)) (sym same_carry) (fed_cut before since);
   state = pending_sent (fed before read since) sent none same;
   sent = none;
-  long = omega (arith, length-append before.input chunk, before.long);
+  long = omega (arith, length-append before.input bytes, before.long);
 }
 
 -- only a front of its verdicts was sent
-pub reading_cut : {left left' left'' taken taken' taken'' : Option (List ℕ)} {turns : ℕ} {carry chunk new_carry : List ℕ} {old new : Written}
-    → Reading left left' taken taken' turns carry old → Consumes left' left'' chunk → AnswersChunk carry chunk new_carry old new
+pub reading_cut : {left left' left'' taken taken' taken'' : Option (List ℕ)} {turns : ℕ} {carry bytes new_carry : List ℕ} {old new : Written}
+    → Reading left left' taken taken' turns carry old → Consumes left' left'' bytes → AnswersBytes carry bytes new_carry old new
     → SendsFront taken' taken'' new.text → AnswersFront left left'' taken taken''
 reading_cut {new_carry = new_carry} before read since sent =
     pending_cut (fed before read since) (inl (sym (complete_cases-cut _ _ new_carry (fed_cut before since)))) sent
@@ -156,18 +157,18 @@ reading_left {left' = left'} before = reading_failed before (kept left') where
   kept None = tt
   kept (Some bytes) = refl
 
--- there was no memory for a chunk
-pub reading_stopped : {left left' left'' taken taken' : Option (List ℕ)} {turns : ℕ} {carry : List ℕ} {written : Written} (chunk : List ℕ)
-    → Reading left left' taken taken' turns carry written → Consumes left' left'' chunk → AnswersFirst left left'' taken taken'
-reading_stopped {left} {left'} {left''} {carry = carry} chunk before read =
-    let (lines, rest, cut) = cut_of (carry ++ chunk) in
-    let all = IsCut-append before.input chunk before.parts lines carry rest before.cut cut in
+-- there was no memory for a bytes
+pub reading_stopped : {left left' left'' taken taken' : Option (List ℕ)} {turns : ℕ} {carry : List ℕ} {written : Written} (bytes : List ℕ)
+    → Reading left left' taken taken' turns carry written → Consumes left' left'' bytes → AnswersFirst left left'' taken taken'
+reading_stopped {left} {left'} {left''} {carry = carry} bytes before read =
+    let (lines, rest, cut) = cut_of (carry ++ bytes) in
+    let all = IsCut-append before.input bytes before.parts lines carry rest before.cut cut in
     record {
-      input = before.input ++ chunk;
+      input = before.input ++ bytes;
       cases = cases_in before.parts;
       later = cases_in lines;
       text = before.state.sent;
-      read = Consumes-trans left left' left'' before.input chunk before.state.read read;
+      read = Consumes-trans left left' left'' before.input bytes before.state.read read;
       first = complete_cases-cut _ _ rest all ∙ cases_in-append before.parts lines;
       verdicts = sent_of before.state before.sent;
       written = before.state.sending;
@@ -187,24 +188,24 @@ nothing_read left taken = record {
 }
 
 -- the source ended, and the last line was answered
-finished : {left left' left'' taken taken' : Option (List ℕ)} {turns : ℕ} {carry : List ℕ} {old new : Written} (chunk : List ℕ)
-    → (before : Reading left left' taken taken' turns carry old) → Consumes left' left'' chunk → chunk ≡ []
+finished : {left left' left'' taken taken' : Option (List ℕ)} {turns : ℕ} {carry : List ℕ} {old new : Written} (bytes : List ℕ)
+    → (before : Reading left left' taken taken' turns carry old) → Consumes left' left'' bytes → bytes ≡ []
     → Answers (filter is_case (carry ∷ [])) old new → Pending left left'' taken taken' before.input (cases_of before.input) new
-finished {left} {left'' = left''} {taken = taken} {taken' = taken'} {carry = carry} {new = new} chunk before read empty since =
-    let all : before.input ++ chunk ≡ before.input = ap (λ xs. before.input ++ xs) empty ∙ append-nil before.input in
+finished {left} {left'' = left''} {taken = taken} {taken' = taken'} {carry = carry} {new = new} bytes before read empty since =
+    let all : before.input ++ bytes ≡ before.input = ap (λ xs. before.input ++ xs) empty ∙ append-nil before.input in
     subst (λ input. Pending left left'' taken taken' input (cases_of before.input) new) all
-    (subst (λ cases. Pending left left'' taken taken' (before.input ++ chunk) cases new) (sym (cases_of-cut before.input before.parts carry before.cut))
-    (pending_more chunk before.state read since))
+    (subst (λ cases. Pending left left'' taken taken' (before.input ++ bytes) cases new) (sym (cases_of-cut before.input before.parts carry before.cut))
+    (pending_more bytes before.state read since))
 
 total : (new n : ℕ) → CountsOn 0 new n → new ≡ saturated n
 total new n counts = let e : 0 + n ≡ n = omega arith in counts 0 refl ∙ ap saturated e
 
 -- its verdict was sent too
-pub reading_all : {left left' left'' taken taken' taken'' : Option (List ℕ)} {turns : ℕ} {carry : List ℕ} {old new last : Written} {summary : Summary} (chunk : List ℕ)
-    → Reading left left' taken taken' turns carry old → Consumes left' left'' chunk → chunk ≡ [] → IsAtEnd left'' → Answers (filter is_case (carry ∷ [])) old new
+pub reading_all : {left left' left'' taken taken' taken'' : Option (List ℕ)} {turns : ℕ} {carry : List ℕ} {old new last : Written} {summary : Summary} (bytes : List ℕ)
+    → Reading left left' taken taken' turns carry old → Consumes left' left'' bytes → bytes ≡ [] → IsAtEnd left'' → Answers (filter is_case (carry ∷ [])) old new
     → Appends taken' taken'' new.text → last.text ≡ [] → last.summary ≡ new.summary → summary ≡ last.summary → AnswersAll left left'' taken taken'' summary
-reading_all {left} {left'' = left''} {taken = taken} {taken'' = taken''} {last = last} chunk before read empty at_end since sent none same is =
-    let all : Pending left left'' taken taken'' before.input (cases_of before.input) last = pending_sent (finished chunk before read empty since) sent none same in
+reading_all {left} {left'' = left''} {taken = taken} {taken'' = taken''} {last = last} bytes before read empty at_end since sent none same is =
+    let all : Pending left left'' taken taken'' before.input (cases_of before.input) last = pending_sent (finished bytes before read empty since) sent none same in
     subst (AnswersAll left left'' taken taken'') (sym is) (record {
       input = before.input;
       text = all.sent;
@@ -217,10 +218,10 @@ reading_all {left} {left'' = left''} {taken = taken} {taken'' = taken''} {last =
     })
 
 -- only a front of it was sent
-pub reading_last_cut : {left left' left'' taken taken' taken'' : Option (List ℕ)} {turns : ℕ} {carry : List ℕ} {old new : Written} (chunk : List ℕ)
-    → Reading left left' taken taken' turns carry old → Consumes left' left'' chunk → chunk ≡ [] → IsAtEnd left'' → Answers (filter is_case (carry ∷ [])) old new
+pub reading_last_cut : {left left' left'' taken taken' taken'' : Option (List ℕ)} {turns : ℕ} {carry : List ℕ} {old new : Written} (bytes : List ℕ)
+    → Reading left left' taken taken' turns carry old → Consumes left' left'' bytes → bytes ≡ [] → IsAtEnd left'' → Answers (filter is_case (carry ∷ [])) old new
     → SendsFront taken' taken'' new.text → AnswersFront left left'' taken taken''
-reading_last_cut chunk before read empty at_end since sent = pending_cut (finished chunk before read empty since) (inr (at_end, refl)) sent
+reading_last_cut bytes before read empty at_end since sent = pending_cut (finished bytes before read empty since) (inr (at_end, refl)) sent
 
 pub take_none : (n : ℕ) (xs : List ℕ) → n ≡ 0 → take n xs ≡ []
 take_none n xs e = grind (arith, common_steps)

@@ -2,7 +2,7 @@
 use Rattle.std.proofs.Common.{◌≡◌, ℕ, false, eqb, List, [], ◌++◌, take, drop, sym, ap, ◌∙◌, append_assoc}
 use Rattle.std.proofs.lemmas.List.{take-append-drop}
 use Rattle.std.proofs.lemmas.List.Elements.{All-append, All-nil}
-use Rattle.grain_check.specs.Lines.{Lacks, Skips}
+use Rattle.grain_check.specs.Words.{Lacks, Skips}
 
 pub Lacks-nil : (byte : ℕ) → Lacks byte []
 Lacks-nil byte = All-nil (λ b. eqb b byte ≡ false)

@@ -1,7 +1,8 @@
 -- Laws of verdicts, and of the count of cases.
-use Rattle.std.proofs.Common.{◌≡◌, ℕ, length, ◌+◌, zero-add, Bool, true, cond, List, [], ◌∷◌, ◌++◌, Some, None, Option, Result, refl, sym, ap, subst, ◌∙◌, arith, append_assoc, append-nil, codes}
-use Rattle.std.specs.Prelude.{is_none, filter, flat_map, count_by}
+use Rattle.std.proofs.Common.{◌≡◌, ℕ, length, ◌+◌, zero-add, Bool, true, false, cond, List, [], ◌∷◌, ◌++◌, Some, None, Option, Result, Ok, Err, refl, sym, ap, subst, ◌∙◌, arith, append_assoc, append-nil}
+use Rattle.std.specs.Prelude.{is_none, is_some, not, filter, count_by}
 use Rattle.std.specs.List.{AllZip}
+use Rattle.std.specs.Option.{option_map}
 use Rattle.std.proofs.lemmas.Grind.{flat_map-append}
 use Rattle.std.specs.Str.Lines.{strip_carriage_return}
 use Rattle.std.proofs.lemmas.List.{length-append}
@@ -9,20 +10,17 @@ use Rattle.std.proofs.lemmas.List.Sums.{sum_by-append}
 use Rattle.grain.specs.AddressTable.{Entry, Front, site_at}
 use Rattle.grain.specs.Split.{IsCount}
 use Rattle.grain.specs.Site.{Site}
-use Rattle.grain.specs.Span.{Span}
-use Rattle.grain_check.specs.Lines.{is_case}
-use Rattle.grain_check.specs.Verdicts.{code, site, verify, program, asked, is_bad, code_text, site_text, CodeVerdict, SiteVerdict, VerifyVerdict, Verdict, IsVerdictText}
-use Rattle.grain_check.specs.Reports.{Adds, Answers, CountsOn, Written, saturated}
+use Rattle.grain.specs.Accepted.{Input}
+use Rattle.grain.specs.declared.error.VerifyError.{VerifyError}
+use Rattle.grain_check.specs.Lines.{ended, ended_lines, is_case}
+use Rattle.grain_check.specs.Case.{asked, is_bad, view}
+use Rattle.grain_check.specs.declared.case.Case.{Case}
+use Rattle.grain_check.specs.Verdict.{Adds, IsJudged, VerifyVerdict, accepted_text, refused_text, code_text, site_text, CodeVerdict, SiteVerdict, IsVerdictOn, Verdict, IsVerdictText}
+use Rattle.grain_check.specs.Report.{Answers, CountsOn, Written, saturated}
 use Rattle.grain_check.proofs.LineLaws.{cases_in, cases_in-append}
 
 pub adds_count : (bytes old new : List ℕ) (counted : Result ℕ ℕ) → IsCount bytes counted → new ≡ old ++ code_text counted → Adds (CodeVerdict bytes) old new
 adds_count bytes old new counted count is = record { added = code_text counted; kind = record { counted = counted; count = count; is = refl }; text = is }
-
-pub adds_bad : (line old new : List ℕ) → asked line ≡ None → new ≡ old ++ codes "bad case" → Adds (Verdict line) old new
-adds_bad line old new none is = record { added = codes "bad case"; kind = rw none refl; text = is }
-
-pub adds_code : (line bytes old new : List ℕ) → asked line ≡ Some (code bytes) → Adds (CodeVerdict bytes) old new → Adds (Verdict line) old new
-adds_code line bytes old new some adds = record { added = adds.added; kind = rw some adds.kind; text = adds.text }
 
 pub adds_found : (table old new : List ℕ) (address : ℕ) (entries : List Entry) (found : Option Site) → Front table entries → found ≡ site_at entries address
     → new ≡ old ++ site_text found → Adds (SiteVerdict table address) old new
@@ -32,23 +30,37 @@ adds_found table old new address entries found front found_is is = record {
   text = is;
 }
 
-pub adds_site : (line table old new : List ℕ) (address : ℕ) → asked line ≡ Some (site table address) → Adds (SiteVerdict table address) old new → Adds (Verdict line) old new
-adds_site line table old new address some adds = record { added = adds.added; kind = rw some adds.kind; text = adds.text }
+pub adds_accepted : (judged : Input) (numbers old new : List ℕ) → IsJudged judged (Ok numbers) → new ≡ old ++ accepted_text numbers
+    → Adds (VerifyVerdict judged) old new
+adds_accepted judged numbers old new right is = record { added = accepted_text numbers; kind = record { found = Ok numbers; right = right; is = refl }; text = is }
 
-pub adds_judged : (line bytes old new : List ℕ) (caps : ℕ) (chunks : List Span) → asked line ≡ Some (verify caps bytes chunks)
-    → Adds (VerifyVerdict (program caps bytes chunks)) old new → Adds (Verdict line) old new
-adds_judged line bytes old new caps chunks some adds = record { added = adds.added; kind = rw some adds.kind; text = adds.text }
+pub adds_refused : (judged : Input) (error : VerifyError) (old new : List ℕ) → IsJudged judged (Err error) → new ≡ old ++ refused_text error
+    → Adds (VerifyVerdict judged) old new
+adds_refused judged error old new right is = record { added = refused_text error; kind = record { found = Err error; right = right; is = refl }; text = is }
+
+-- a line without a form spells no case
+bad-view : (found : Option Case) (bad : Bool) → is_some found ≡ not bad → bad ≡ is_none (option_map view found)
+bad-view (Some case) true e = e
+bad-view (Some case) false e = refl
+bad-view None true e = refl
+bad-view None false e = e
 
 -- a case was answered and counted
-pub answers_one : (line mid : List ℕ) (old new : Written) (bad : Bool) → is_case line ≡ true → bad ≡ is_none (asked line)
-    → Adds (Verdict line) old.text mid → new.text ≡ mid ++ 10 ∷ [] → CountsOn old.summary.cases new.summary.cases 1 → CountsOn old.summary.bad new.summary.bad (cond bad 1 0)
-    → Answers (filter is_case (line ∷ [])) old new
-answers_one line mid old new bad is none adds e cases bads = rw is (record {
-  added = adds.added ++ 10 ∷ [];
-  verdicts = record { verdicts = adds.added ∷ []; each = (adds.kind, tt); whole = sym (append-nil (adds.added ++ 10 ∷ [])) };
-  text = e ∙ ap (λ xs. xs ++ 10 ∷ []) adds.text ∙ append_assoc old.text adds.added (10 ∷ []);
+pub answers_one : (line mid : List ℕ) (old new : Written) (found : Option Case) (bad : Bool) → is_case line ≡ true → option_map view found ≡ asked line
+    → is_some found ≡ not bad → Adds (IsVerdictOn (option_map view found)) old.text mid → new.text ≡ mid ++ 10 ∷ []
+    → CountsOn old.summary.cases new.summary.cases 1 → CountsOn old.summary.bad new.summary.bad (cond bad 1 0) → Answers (filter is_case (line ∷ [])) old new
+answers_one line mid old new found bad is found_is bad_is adds e cases bads = rw is (record {
+  added = ended adds.added;
+  verdicts = record {
+    verdicts = adds.added ∷ [];
+    each = (subst (λ question. IsVerdictOn question adds.added) found_is adds.kind, tt);
+    whole = sym (append-nil (ended adds.added));
+  };
+  text = e ∙ ap ended adds.text ∙ append_assoc old.text adds.added (10 ∷ []);
   counted = cases;
-  counted_bad = rw (sym none) (subst (CountsOn old.summary.bad new.summary.bad) (sym (zero-add (cond bad 1 0))) bads);
+  counted_bad =
+      let same : is_bad line ≡ bad = sym (bad-view found bad bad_is ∙ ap is_none found_is) in
+      rw same (subst (CountsOn old.summary.bad new.summary.bad) (sym (zero-add (cond bad 1 0))) bads);
 })
 
 AllZip-append : (cases more : List (List ℕ)) (texts more_texts : List (List ℕ)) → AllZip Verdict cases texts → AllZip Verdict more more_texts
@@ -63,8 +75,8 @@ IsVerdictText-append : (cases more : List (List ℕ)) (text more_text : List ℕ
 IsVerdictText-append cases more text more_text first second = record {
   verdicts = first.verdicts ++ second.verdicts;
   each = AllZip-append cases more first.verdicts second.verdicts first.each second.each;
-  whole = ap (λ xs. xs ++ more_text) first.whole ∙ ap (λ xs. flat_map (λ verdict. verdict ++ 10 ∷ []) first.verdicts ++ xs) second.whole
-      ∙ sym (flat_map-append (λ verdict. verdict ++ 10 ∷ []) first.verdicts second.verdicts);
+  whole = ap (λ xs. xs ++ more_text) first.whole ∙ ap (λ xs. ended_lines first.verdicts ++ xs) second.whole
+      ∙ sym (flat_map-append ended first.verdicts second.verdicts);
 }
 
 CountsOn-none : (count : ℕ) → CountsOn count count 0

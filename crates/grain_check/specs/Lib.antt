@@ -1,11 +1,10 @@
-pub mod Lines
 pub mod Words
 pub mod Fields
-pub mod Refusals
-pub mod Verdicts
-pub mod Views
-pub mod Reports
-pub mod Streams
+pub mod Case
+pub mod Verdict
+pub mod Lines
+pub mod Report
+pub mod Stream
 pub mod Wrappers
-pub mod Runs
+pub mod Driver
 pub mod Status

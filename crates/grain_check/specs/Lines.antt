@@ -1,10 +1,21 @@
--- The lines of an input, and which of them are cases. How an input is cut into lines is std's `lines`: a line feed ends a line, the last
--- line may lack it, and one carriage return before the line feed belongs to neither.
-use Rattle.std.specs.Prelude.{◌≡◌, All, ℕ, ◌==◌, Bool, false, not, List, [], ◌∷◌, count_by, filter, flat_map, take, ◌++◌}
+-- The lines of an input, and which of them are cases. How an input is cut into lines is std's `lines`:
+-- a line feed ends a line, the last line may lack it, and one carriage return before the line feed
+-- belongs to neither.
+use Rattle.std.specs.Prelude.{◌≡◌, All, ℕ, ◌==◌, Bool, false, not, List, [], ◌∷◌, ◌++◌, count_by}
+use Rattle.std.specs.Prelude.{filter, flat_map, take}
 use Rattle.std.specs.Str.Lines.{lines}
+use Rattle.grain_check.specs.Words.{Lacks}
 
 abbrev pub is_line_feed : ℕ → Bool
 is_line_feed byte = byte == 10
+
+-- a line with the line feed (10) that ends it
+abbrev pub ended : List ℕ → List ℕ
+ended line = line ++ 10 ∷ []
+
+-- lines one after the other, each ended by a line feed
+abbrev pub ended_lines : List (List ℕ) → List ℕ
+ended_lines parts = flat_map ended parts
 
 -- the lines that a line feed ends: the first ones, as many as there are line feeds
 abbrev pub complete_lines : List ℕ → List (List ℕ)
@@ -23,18 +34,8 @@ cases_of input = filter is_case (lines input)
 abbrev pub complete_cases : List ℕ → List (List ℕ)
 complete_cases input = filter is_case (complete_lines input)
 
--- no such byte stands in the text
-abbrev pub Lacks : ℕ → List ℕ → Type 0
-Lacks byte text = All (λ b. (b == byte) ≡ false) text
-
 -- the input is these lines, each ended by a line feed, and then a rest without one
 pub record IsCut (input : List ℕ) (lines : List (List ℕ)) (rest : List ℕ) : Type 0 where
-  pub whole : input ≡ flat_map (λ line. line ++ 10 ∷ []) lines ++ rest
+  pub whole : input ≡ ended_lines lines ++ rest
   pub each : All (Lacks 10) lines
   pub lacks : Lacks 10 rest
-
--- the text ends with the rest, and what stands before that lacks the byte
-pub record Skips (byte : ℕ) (text rest : List ℕ) : Type 0 where
-  pub front : List ℕ
-  pub parts : text ≡ front ++ rest
-  pub lacks : Lacks byte front

@@ -2,8 +2,8 @@
 
 ghost use Rattle.std.specs.Prelude.{◌≡◌, ◌≢◌, ◌<◌, vec_len, IfOk};
 ghost use Rattle.std.specs.Result.{IsErrOf};
-ghost use Rattle.grain_check.specs.Runs.{AnswersAll, AnswersComplete, AnswersFirst};
-ghost use Rattle.grain_check.specs.Runs.{AnswersFront, ReadFailed};
+ghost use Rattle.grain_check.specs.Driver.{AnswersAll, AnswersComplete, AnswersFirst};
+ghost use Rattle.grain_check.specs.Driver.{AnswersFront, ReadFailed};
 ghost use Rattle.grain_check.specs.declared.driver.RunError.TheVariants.{OutOfMemory};
 
 use crate::report::{Report, Summary};
@@ -13,8 +13,8 @@ use std::alloc::{AllocError, Global};
 #[cfg(test)]
 mod tests;
 
-/// How many bytes a read asks for.
-const CHUNK: usize = 65536;
+/// How many bytes a read asks for at most.
+const BUFFER_LEN: usize = 65536;
 
 /// Why a run stopped before the end.
 #[derive(Clone, Copy, Debug, PartialEq, Eq)]
@@ -23,7 +23,7 @@ pub enum RunError {
     Read,
     /// A write failed or took none of some bytes.
     Write,
-    /// A growth was refused.
+    /// Memory was refused.
     OutOfMemory,
 }
 
@@ -39,19 +39,22 @@ impl From<AllocError> for RunError {
 fn room(alloc: Global) -> Result<Vec<u8>, AllocError>
     ensures { IfOk result (λ buffer. 0 < vec_len buffer) }
 {
-    vec![in alloc; 0u8; CHUNK]
+    vec![in alloc; 0u8; BUFFER_LEN]
 }
 
 /// Reads all there is, and writes a verdict for each case as soon as its line is complete or the
 /// input has ended.
 ///
-/// It holds one line at a time with the bytes that its digits spell, one buffer of the input and
-/// the verdicts on the cases of that buffer. Nothing is tried again after an error.
+/// Lines, cases and verdicts are those of docs/FORMAT.md, "Lines, cases and verdicts". It holds one
+/// line at a time with the bytes that its digits spell, one buffer of the input and the verdicts on
+/// the cases of that buffer. Nothing is tried again after an error.
 ///
 /// # Errors
-/// - [`RunError::Read`] where a read failed. The complete cases that were read are answered.
-/// - [`RunError::Write`] where a write failed. A beginning of the verdicts was written.
-/// - [`RunError::OutOfMemory`] where a growth was refused. The first of the cases are answered.
+/// - [`RunError::Read`] where a read failed, or 18446744073709551615 reads gave bytes. The complete
+///   cases that were read are answered.
+/// - [`RunError::Write`] where a write failed or took none of some bytes. A beginning of the
+///   verdicts was written, but not all of them.
+/// - [`RunError::OutOfMemory`] where memory was refused. The first of the cases are answered.
 pub fn run<S: Source, K: Sink>(
     alloc: Global,
     reader: &mut S,

@@ -5,11 +5,13 @@
 //! to stop before the end. The forms of cases and verdicts are those of docs/FORMAT.md.
 #![tactic(auto)]
 
+mod case;
 mod driver;
-mod line;
+mod fields;
 mod report;
 mod stream;
-mod verify_case;
+mod verdict;
+mod words;
 
 ghost use Rattle.std.specs.Prelude.{◌≡◌};
 ghost use Rattle.grain_check.specs.Status.{status_of};
@@ -22,8 +24,9 @@ use std::process::ExitCode;
 
 /// The status that the process ends with.
 ///
-/// It is 0 where each case had a form and 2 where one had none. Where the run stopped before the
-/// end it is 3 for a read, 4 for a write and 5 for want of memory.
+/// It is 0 where every case had a form and 2 where some case had none. Where the run stopped before
+/// the end, it is 3 for a failed read, 4 for a failed write and 5 for want of memory
+/// (docs/FORMAT.md, "Lines, cases and verdicts").
 pub fn status(outcome: &Result<Summary, RunError>) -> u8
     ensures { result ≡ status_of outcome.now }
 {

@@ -1,25 +1,24 @@
-//! The verdicts on the lines of an input that comes in chunks, and the count of its cases.
+//! The verdicts on the lines of an input that comes buffer by buffer, and the count of its cases.
 
 ghost use Rattle.std.specs.Prelude.{◌≡◌, ◌≢◌, [], ◌∷◌, ◌++◌, List, ℕ, filter, OnOk, OnErr};
-ghost use Rattle.std.specs.Prelude.{IfOk, is_none, if◌then◌else◌, string_bytes};
+ghost use Rattle.std.specs.Prelude.{if◌then◌else◌, string_bytes};
 ghost use Rattle.std.specs.Io.KnownBytes.{Appends};
 ghost use Rattle.std.specs.Str.Lines.{strip_carriage_return};
-ghost use Rattle.grain_check.specs.Streams.{SendsFront};
-ghost use Rattle.grain_check.specs.Lines.{Lacks, is_case};
-ghost use Rattle.grain_check.specs.Verdicts.{asked, CodeVerdict, SiteVerdict, Verdict};
-ghost use Rattle.grain_check.specs.Reports.{Adds, Answers, AnswersChunk, CountsOn};
-ghost use Rattle.grain_check.specs.Reports.{Written, nothing};
+ghost use Rattle.grain_check.specs.Stream.{SendsFront};
+ghost use Rattle.grain_check.specs.Words.{Lacks};
+ghost use Rattle.grain_check.specs.Lines.{is_case};
+ghost use Rattle.grain_check.specs.Report.{Answers, AnswersBytes, CountsOn, Written, nothing};
 
-use crate::line::{Case, case_of, split_at_byte, without_return};
+use crate::case::case_of;
 use crate::stream::{Failed, Sink, send};
-use crate::verify_case::write_judged;
-use grain::{count_instructions, pos};
+use crate::verdict::write_verdict;
+use crate::words::split_at_byte;
 use std::alloc::{AllocError, Global};
 use std::marker::Model;
 
 /// How many cases were answered, and how many of these had no form of a case.
 ///
-/// Both numbers stay at the greatest value.
+/// A number that reaches the greatest value stays there.
 #[derive(Clone, Copy, Debug, PartialEq, Eq)]
 pub struct Summary {
     /// The cases that were answered.
@@ -39,6 +38,16 @@ impl Summary {
     }
 }
 
+/// The line without the carriage return at its end, if one is there.
+pub(crate) fn without_return(line: &[u8]) -> &[u8]
+    ensures { result.now ≡ strip_carriage_return line.now }
+{
+    match line {
+        [front @ .., b'\r'] => front,
+        _ => line,
+    }
+}
+
 /// Whether the line is neither empty nor a comment.
 fn is_case(line: &[u8]) -> bool
     ensures { result ≡ is_case line.now }
@@ -46,59 +55,7 @@ fn is_case(line: &[u8]) -> bool
     !matches!(line, [] | [b'#', ..])
 }
 
-/// Writes the verdict on code behind the text.
-fn write_count(text: &mut String, code: &[u8]) -> Result<(), AllocError>
-    ensures { OnOk result
-        (Adds (CodeVerdict code.now) (string_bytes text.old) (string_bytes text.new)) }
-{
-    match count_instructions(code) {
-        Ok(count) => write!(text, "whole {count}")?,
-        Err(at) => write!(text, "undecodable at={at}")?,
-    }
-    Ok(())
-}
-
-/// Writes the verdict on an address behind the text.
-fn write_site(text: &mut String, table: &[u8], address: u32) -> Result<(), AllocError>
-    ensures { OnOk result (Adds (SiteVerdict table.now address)
-        (string_bytes text.old) (string_bytes text.new)) }
-{
-    match pos::resolve(table, address) {
-        Some(site) => write!(text, "site {}:{}", site.line, site.column)?,
-        None => text.push_str("none")?,
-    }
-    Ok(())
-}
-
-/// Writes a verdict on the line behind the text, and answers whether the line has no form of a
-/// case.
-#[tactic(auto, using(crate::proofs::VerdictLaws::adds_bad, crate::proofs::VerdictLaws::adds_code, crate::proofs::VerdictLaws::adds_site, crate::proofs::VerdictLaws::adds_judged))]
-fn write_verdict(alloc: Global, line: &[u8], text: &mut String) -> Result<bool, AllocError>
-    ensures bad { IfOk result (λ bad. bad ≡ is_none (asked line.now)) }
-    ensures text { OnOk result
-        (Adds (Verdict line.now) (string_bytes text.old) (string_bytes text.new)) }
-{
-    match case_of(alloc, line)? {
-        Some(Case::Code(code)) => {
-            write_count(text, &code)?;
-            Ok(false)
-        }
-        Some(Case::Site(table, address)) => {
-            write_site(text, &table, address)?;
-            Ok(false)
-        }
-        Some(Case::Verify(caps, code, chunks)) => {
-            write_judged(alloc, text, caps, &code, &chunks)?;
-            Ok(false)
-        }
-        None => {
-            text.push_str("bad case")?;
-            Ok(true)
-        }
-    }
-}
-
-/// The verdicts that weren't sent yet, and the count of all cases.
+/// The verdicts that haven't been sent yet, and the count of all cases.
 #[derive(Drop)]
 struct Verdicts {
     text: String,
@@ -128,38 +85,25 @@ impl Verdicts {
         if !is_case(line) {
             return Ok(());
         }
-        let is_bad = write_verdict(alloc, line, &mut self.text)?;
+        let case = case_of(alloc, line)?;
+        write_verdict(alloc, &mut self.text, &case)?;
         self.text.push_str("\n")?;
-        self.summary.count(is_bad);
-        Ok(())
-    }
-
-    /// Writes the verdicts that weren't sent yet.
-    fn send_to<K: Sink>(&mut self, writer: &mut K) -> Result<(), Failed>
-        ensures ok { OnOk result (Appends (K.taken writer.old) (K.taken writer.new) self.old.text) }
-        ensures unmarked { OnOk result (K.mark writer.new ≡ K.mark writer.old) }
-        ensures err { OnErr result
-            (SendsFront (K.taken writer.old) (K.taken writer.new) self.old.text) }
-        ensures marked { OnErr result (K.mark writer.new ≢ K.mark writer.old) }
-        ensures text { OnOk result (self.new.text ≡ []) }
-        ensures summary { self.new.summary ≡ self.old.summary }
-    {
-        send(writer, self.text.as_bytes())?;
-        self.text.clear();
+        self.summary.count(case.is_none());
         Ok(())
     }
 }
 
-/// Takes an input chunk by chunk, and answers each line once it is complete.
+/// Takes the bytes of an input, and answers each line once it is complete.
 #[derive(Drop)]
 pub(crate) struct Report {
     alloc: Global,
-    /// What has come of the line that isn't complete.
+    /// What has been read of a line that isn't complete yet.
     carry: Vec<u8>,
     verdicts: Verdicts,
 }
 
 impl Report {
+    /// A report before the first byte of an input.
     pub(crate) fn new(alloc: Global) -> Self
         ensures carry { result.carry.items ≡ [] }
         ensures verdicts { result.verdicts ≡ nothing }
@@ -190,12 +134,15 @@ impl Report {
     }
 
     /// Takes the next bytes of the input, and answers the lines that are complete now.
-    pub(crate) fn feed(&mut self, chunk: &[u8]) -> Result<(), AllocError>
+    ///
+    /// # Errors
+    /// [`AllocError`] where memory was refused.
+    pub(crate) fn feed(&mut self, bytes: &[u8]) -> Result<(), AllocError>
         requires { Lacks 10 self.old.carry.items }
-        ensures { OnOk result (AnswersChunk self.old.carry.items chunk.now self.new.carry.items
+        ensures { OnOk result (AnswersBytes self.old.carry.items bytes.now self.new.carry.items
             self.old.verdicts self.new.verdicts) }
     {
-        let mut rest = chunk;
+        let mut rest = bytes;
         'cutting: while let Some((piece, more)) = split_at_byte(rest, b'\n') {
             self.end_line(piece)?;
             rest = more;
@@ -204,7 +151,10 @@ impl Report {
         Ok(())
     }
 
-    /// Answers what has come of the last line. The input has ended.
+    /// Answers what has been read of the last line. The input has ended.
+    ///
+    /// # Errors
+    /// [`AllocError`] where memory was refused.
     pub(crate) fn finish(&mut self) -> Result<(), AllocError>
         ensures { OnOk result (Answers (filter is_case (self.old.carry.items ∷ []))
             self.old.verdicts self.new.verdicts) }
@@ -212,7 +162,10 @@ impl Report {
         self.verdicts.answer(self.alloc, &self.carry)
     }
 
-    /// Writes the verdicts that weren't sent yet.
+    /// Writes the verdicts that haven't been sent yet.
+    ///
+    /// # Errors
+    /// [`Failed`] where a write failed or took none of some bytes. A beginning of them was written.
     pub(crate) fn send_to<K: Sink>(&mut self, writer: &mut K) -> Result<(), Failed>
         ensures ok { OnOk result
             (Appends (K.taken writer.old) (K.taken writer.new) self.old.verdicts.text) }
@@ -224,9 +177,12 @@ impl Report {
         ensures summary { self.new.verdicts.summary ≡ self.old.verdicts.summary }
         ensures carry { self.new.carry ≡ self.old.carry }
     {
-        self.verdicts.send_to(writer)
+        send(writer, self.verdicts.text.as_bytes())?;
+        self.verdicts.text.clear();
+        Ok(())
     }
 
+    /// The count of the cases that have been answered.
     pub(crate) fn summary(&self) -> Summary
         ensures { result ≡ self.now.verdicts.summary }
     {

@@ -3,11 +3,11 @@
 ghost use Rattle.std.specs.Prelude.{◌≡◌, ◌≢◌, ℕ, ◌+◌, ◌%◌, ◌^◌, List, Option, None, OnOk, OnErr};
 ghost use Rattle.std.specs.Io.{ReadsAtMost, WritesAtMost};
 ghost use Rattle.std.specs.Io.KnownBytes.{Appends, ReadConsumes, WriteAppends};
-ghost use Rattle.grain_check.specs.Streams.{IsFailedWrite, SendsFront};
+ghost use Rattle.grain_check.specs.Stream.{IsFailedWrite, SendsFront};
 
 use std::io;
 
-/// A read or a write failed. Why, the program doesn't tell.
+/// A read or a write failed. It doesn't say why.
 #[derive(Clone, Copy, Debug, PartialEq, Eq)]
 pub struct Failed;
 
@@ -51,7 +51,15 @@ pub trait Sink {
         ensures marked { IsFailedWrite result bytes.now → mark self.new ≢ mark self.old };
 }
 
-/// Any of std's readers as a source that doesn't tell its bytes.
+/// The count of failures after one more of them, modulo 2^64.
+fn one_more(failures: u64) -> u64
+    ensures counted { result ≡ (failures + 1) % 2 ^ 64 }
+    ensures changed { result ≢ failures }
+{
+    failures.wrapping_add(1)
+}
+
+/// One of std's readers as a source that doesn't tell its bytes.
 ///
 /// Its mark is how many reads failed, modulo 2^64.
 #[derive(Drop)]
@@ -97,14 +105,14 @@ impl<R: io::Read> Source for OverRead<R> {
         match self.reader.read(buf) {
             Ok(count) => Ok(count),
             Err(_) => {
-                self.failures = self.failures.wrapping_add(1);
+                self.failures = one_more(self.failures);
                 Err(Failed)
             }
         }
     }
 }
 
-/// Any of std's writers as a sink that doesn't tell its bytes.
+/// One of std's writers as a sink that doesn't tell its bytes.
 ///
 /// Its mark is how many writes failed, modulo 2^64.
 #[derive(Drop)]
@@ -151,12 +159,12 @@ impl<W: io::Write> Sink for OverWrite<W> {
     {
         match self.writer.write(bytes) {
             Ok(0) if !bytes.is_empty() => {
-                self.failures = self.failures.wrapping_add(1);
+                self.failures = one_more(self.failures);
                 Ok(0)
             }
             Ok(count) => Ok(count),
             Err(_) => {
-                self.failures = self.failures.wrapping_add(1);
+                self.failures = one_more(self.failures);
                 Err(Failed)
             }
         }

@@ -129,6 +129,65 @@ fn indices_inside_chains_are_bounded(rt: HostRuntime) -> Result<(), Fail> {
 }
 
 #[test]
+fn chains_within_bounds_are_accepted(rt: HostRuntime) -> Result<(), Fail> {
+    let alloc = rt.alloc();
+    let code = [0x02, 0x02, 0x16, 0x00, 0x00, 0x13];
+    let pos = Position::NONE;
+    let mut reading = chain(
+        alloc,
+        Root::Named { name: 0, pos },
+        Some(property(0)),
+        Tail::Read,
+    )?;
+    reading.steps.push(method(0))?;
+    reading.operands = 2;
+    match said(alloc, &code, &["x"], &vec![in alloc; reading]?, &[])? {
+        Ok(numbers) => assert_eq!(rt; numbers.as_slice(), [2].as_slice()),
+        Err(e) => assert!(rt; false, "{e:?}"),
+    }
+    Ok(())
+}
+
+#[test]
+fn conflicts_name_the_first_count_and_the_other(rt: HostRuntime) -> Result<(), Fail> {
+    let alloc = rt.alloc();
+    let operands = [0x02, 0x0e, 0x07, 0, 0, 0, 0x02, 0x13];
+    let iterators = [0x02, 0x0e, 0x08, 0, 0, 0, 0x02, 0x1d, 0x02, 0x13];
+    let handlers = [0x04, 0x0e, 0x0b, 0, 0, 0, 0x23, 0x0b, 0, 0, 0, 0x13];
+    for (code, at, expected, found) in [
+        (operands.as_slice(), 7, 1, 0),
+        (iterators.as_slice(), 8, 0, 0),
+        (handlers.as_slice(), 11, 0, 0),
+    ] {
+        let refused = said(alloc, code, &[], &[], &[])?.err();
+        let wanted = VerifyError::DepthConflict {
+            at,
+            expected,
+            found,
+        };
+        assert_eq!(rt; refused, Some(wanted));
+    }
+    Ok(())
+}
+
+#[test]
+fn long_code_with_branches_is_accepted(rt: HostRuntime) -> Result<(), Fail> {
+    let alloc = rt.alloc();
+    let mut code = Vec::new(alloc);
+    for block in 1..=3000u32 {
+        code.extend_from_slice(&[0x04, 0x0e])?;
+        code.extend_from_slice(&(8 * block).to_le_bytes())?;
+        code.extend_from_slice(&[0x02, 0x0b])?;
+    }
+    code.push(0x13)?;
+    match said(alloc, &code, &[], &[], &[])? {
+        Ok(numbers) => assert_eq!(rt; numbers.as_slice(), [1].as_slice()),
+        Err(e) => assert!(rt; false, "{e:?}"),
+    }
+    Ok(())
+}
+
+#[test]
 fn constants_ask_capabilities(rt: HostRuntime) -> Result<(), Fail> {
     let alloc = rt.alloc();
     let names = Strings::new(alloc, &[])?;

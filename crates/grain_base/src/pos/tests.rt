@@ -25,13 +25,23 @@ fn writes(rt: HostRuntime) -> Result<(), Fail> {
 }
 
 #[test]
-fn writes_a_hundred(rt: HostRuntime) -> Result<(), Fail> {
+fn long_tables_are_written_and_read(rt: HostRuntime) -> Result<(), Fail> {
     let mut sites = Vec::new(rt.alloc());
     for address in 0..100u32 {
         sites.push((address, site(1, 1)))?;
     }
     assert!(rt; is_ascending(sites.as_slice()));
     assert_eq!(rt; encode(rt.alloc(), sites.as_slice())?.len(), 301);
+    for address in 100..2000 {
+        sites.push((address, site(address, 2)))?;
+    }
+    assert!(rt; is_ascending(sites.as_slice()));
+    let table = encode(rt.alloc(), sites.as_slice())?;
+    assert_eq!(rt; (check(&table), count(&table)), (Ok(()), Ok(2000)));
+    for (address, want) in [(0, (1, 1)), (1024, (1024, 2)), (1999, (1999, 2))] {
+        assert_eq!(rt; resolve(&table, address), Some(site(want.0, want.1)));
+    }
+    assert_eq!(rt; resolve(&table, 2000), None);
     Ok(())
 }
 
@@ -116,31 +126,30 @@ fn damage_is_answered(rt: HostRuntime) {
 }
 
 #[test]
-fn names_itself(rt: HostRuntime) -> Result<(), Fail> {
-    let texts = [
+fn sites_and_errors_are_printed(rt: HostRuntime) -> Result<(), Fail> {
+    let place = format!(in rt.alloc(); "{:?}", site(1, 5))?;
+    assert_eq!(rt; place.as_str(), "Site { line: 1, column: 5 }");
+    let rows = [
         (
-            format!(in rt.alloc(); "{:?}", site(1, 5))?,
-            "Site { line: 1, column: 5 }",
+            Error::from(varint::Error::Truncated),
+            "Truncated: address table ends before its last number",
         ),
         (
-            format!(in rt.alloc(); "{:?}", Error::from(varint::Error::Overflow))?,
-            "Overflow",
+            Error::from(varint::Error::Overflow),
+            "Overflow: address table holds a number or an address too wide to read",
         ),
         (
-            format!(in rt.alloc(); "{:?}", Error::OutOfOrder { at: 3 })?,
-            "OutOfOrder { at: 3 }",
+            Error::OutOfOrder { at: 3 },
+            "OutOfOrder { at: 3 }: address table has two entries in a row for address 3",
         ),
         (
-            format!(in rt.alloc(); "{:?}", Error::TrailingBytes { count: 1 })?,
-            "TrailingBytes { count: 1 }",
-        ),
-        (
-            format!(in rt.alloc(); "{:?}", varint::Error::Truncated)?,
-            "Truncated",
+            Error::TrailingBytes { count: 1 },
+            "TrailingBytes { count: 1 }: address table has 1 bytes past its last entry",
         ),
     ];
-    for (text, want) in &texts {
-        assert_eq!(rt; text.as_str(), *want);
+    for (error, wanted) in rows {
+        let text = format!(in rt.alloc(); "{error:?}: {error}")?;
+        assert_eq!(rt; text.as_str(), wanted);
     }
     Ok(())
 }

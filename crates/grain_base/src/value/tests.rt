@@ -112,6 +112,9 @@ fn a_part_of_the_host_is_not_hashable(rt: HostRuntime) -> Result<(), Fail> {
     let alloc = rt.alloc();
     let inner = Dynamic::Host(host(alloc, 1)?);
     assert!(rt; !array_of(alloc, map_of(alloc, "a", inner)?)?.is_hashable());
+    let inner = Dynamic::Host(host(alloc, 1)?);
+    assert!(rt; !array_of(alloc, inner)?.is_hashable());
+    assert!(rt; shared(alloc, text(alloc, "a")?)?.is_hashable());
     let pointer = pointer_to(alloc, "f", Dynamic::Host(host(alloc, 1)?))?;
     assert_eq!(rt;
         hash_of(&pointer),

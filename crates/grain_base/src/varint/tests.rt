@@ -64,6 +64,22 @@ fn reads_what_was_written(rt: HostRuntime) -> Result<(), Fail> {
 }
 
 #[test]
+fn errors_are_printed(rt: HostRuntime) -> Result<(), Fail> {
+    let rows = [
+        (
+            Error::Truncated,
+            "Truncated: number ends before its last group",
+        ),
+        (Error::Overflow, "Overflow: number is too wide to read"),
+    ];
+    for (error, wanted) in rows {
+        let text = format!(in rt.alloc(); "{error:?}: {error}")?;
+        assert_eq!(rt; text.as_str(), wanted);
+    }
+    Ok(())
+}
+
+#[test]
 fn writes_signed(rt: HostRuntime) -> Result<(), Fail> {
     let mut out = Vec::new(rt.alloc());
     put_i64(&mut out, -64)?;

@@ -1,7 +1,8 @@
 //! Operations written and read again.
 
 use super::*;
-use crate::{decode, disassemble};
+use crate::samples::both_texts;
+use crate::{count_instructions, decode, disassemble};
 use std::test::Fail;
 
 fn bytes_of(alloc: Global, ops: &[Op]) -> Result<Vec<u8>, AssembleError> {
@@ -119,6 +120,8 @@ fn takes_the_greatest_index_and_the_end(rt: HostRuntime) -> Result<(), Fail> {
     assert_eq!(rt; code.as_slice(), [0x0cu8, 5, 0, 0, 0].as_slice());
     let far = AssembleError::JumpOutOfRange { at: 0, target: 2 };
     assert_eq!(rt; bytes_of(rt.alloc(), &[Op::Jump(2)]).err(), Some(far));
+    let alone = AssembleError::JumpOutOfRange { at: 0, target: 99 };
+    assert_eq!(rt; bytes_of(rt.alloc(), &[Op::Jump(99)]).err(), Some(alone));
     let wild = AssembleError::JumpOutOfRange { at: 1, target: 99 };
     let ops = [Op::Unit, Op::JumpIfTrue { target: 99 }];
     assert_eq!(rt; bytes_of(rt.alloc(), &ops).err(), Some(wild.clone()?));
@@ -299,6 +302,56 @@ fn each_operation_is_read_again(rt: HostRuntime) -> Result<(), Fail> {
         let code = bytes_of(rt.alloc(), &ops)?;
         assert_eq!(rt; decode(&code, 0).as_ref(), Some(op));
         assert_eq!(rt; disassemble(&code).count(), 1);
+    }
+    Ok(())
+}
+
+#[test]
+fn long_code_is_written_and_read(rt: HostRuntime) -> Result<(), Fail> {
+    let mut ops = Vec::new(rt.alloc());
+    for index in 0..12_000u32 {
+        ops.push(if index % 2 == 0 {
+            Op::Const(index)
+        } else {
+            Op::Jump(index)
+        })?;
+    }
+    let (code, offsets) = assemble(rt.alloc(), &ops)?;
+    assert_eq!(rt; (code.len(), offsets.len()), (48_000, 12_001));
+    assert_eq!(rt; offsets.last(), Some(&48_000));
+    assert_eq!(rt; count_instructions(&code), Ok(12_000));
+    assert_eq!(rt; disassemble(&code).count(), 12_000);
+    assert_eq!(rt; decode(&code, 47_995), Some(Op::Jump(47_995)));
+    Ok(())
+}
+
+#[test]
+fn errors_are_printed(rt: HostRuntime) -> Result<(), Fail> {
+    let rows = [
+        (
+            too_large("constants", 70000),
+            "PoolTooLarge { what: \"constants\", entries: 70000 }: index 70000 into the constants is above 65535",
+        ),
+        (
+            AssembleError::JumpOutOfRange { at: 1, target: 99 },
+            "JumpOutOfRange { at: 1, target: 99 }: operation 1 jumps to index 99, where no operation is",
+        ),
+        (
+            AssembleError::SwitchTargetOutOfRange {
+                table: 2,
+                target: 5,
+            },
+            "SwitchTargetOutOfRange { table: 2, target: 5 }: switch 2 leads to index 5, where no offset is",
+        ),
+        (
+            AssembleError::ChunkTooLarge { bytes: 7 },
+            "ChunkTooLarge { bytes: 7 }: code is longer than 4294967295 bytes",
+        ),
+        (AssembleError::OutOfMemory, "OutOfMemory: out of memory"),
+    ];
+    for (error, wanted) in rows {
+        let text = both_texts(rt.alloc(), &error)?;
+        assert_eq!(rt; text.as_str(), wanted);
     }
     Ok(())
 }

@@ -1,33 +1,8 @@
 use super::*;
+use crate::samples::chain;
 use std::alloc::{AllocError, Global};
 use std::hash::{DefaultHasher, Hash, Hasher};
 use std::test::Fail;
-
-// `a[i].b`, with its four positions in the first line.
-fn chain(alloc: Global) -> Result<Chain, AllocError> {
-    let index = Step::Index {
-        operand: 0,
-        flags: StepFlags::empty(),
-        pos: Position::new(1, 3),
-        bracket: Position::new(1, 2),
-    };
-    let property = Step::Property {
-        name: 1,
-        getter: 2,
-        setter: 3,
-        flags: StepFlags::SKIP_IF_UNIT,
-        pos: Position::new(1, 6),
-    };
-    Ok(Chain {
-        root: Root::Named {
-            name: 0,
-            pos: Position::new(1, 1),
-        },
-        steps: vec![in alloc; index, property]?,
-        tail: Tail::Read,
-        operands: 1,
-    })
-}
 
 // The positions, one after another.
 fn text(alloc: Global, chain: &Chain) -> Result<String, AllocError> {
@@ -56,6 +31,11 @@ fn positions_have_slots(rt: HostRuntime) -> Result<(), Fail> {
     assert_eq!(rt;
         (chain.step_slot(0), chain.step_slot(1), chain.step_slot(2)),
         (Some(1), Some(3), None)
+    );
+    let text = format!(in rt.alloc(); "{chain:?}")?;
+    assert_eq!(rt;
+        text.as_str(),
+        "Chain { root: Named { name: 0, pos: 1:1 }, steps: [Index { operand: 0, flags: StepFlags(0), pos: 1:3, bracket: 1:2 }, Property { name: 1, getter: 2, setter: 3, flags: StepFlags(1), pos: 1:6 }], tail: Read, operands: 1 }"
     );
     let rows = [
         (0, "4:4 1:3 1:2 1:6 "),

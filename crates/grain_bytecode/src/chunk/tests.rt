@@ -18,6 +18,7 @@ fn chunks_are_spans(rt: HostRuntime) -> Result<(), Fail> {
     for outside in [Chunk::new(1, 9, 8), Chunk::new(2, 1, 8)] {
         assert_eq!(rt; outside.body(&code), [].as_slice());
     }
+    assert_eq!(rt; Chunk::new(1, 9, 8).body(&[2, 19]), [].as_slice());
     Ok(())
 }
 

@@ -1,4 +1,5 @@
 use super::*;
+use crate::samples::both_texts;
 use std::test::Fail;
 
 // What is read of a table and code, as it is printed.
@@ -81,6 +82,27 @@ fn tables_are_written(rt: HostRuntime) -> Result<(), Fail> {
 }
 
 #[test]
+fn long_tables_are_written_and_read(rt: HostRuntime) -> Result<(), Fail> {
+    let mut list = Vec::new(rt.alloc());
+    for at in 0..12_000u16 {
+        list.push(if at % 8 == 0 {
+            Position::new(at / 8 + 1, 1)
+        } else {
+            Position::NONE
+        })?;
+    }
+    let table = Positions::dense(list).to_table(rt.alloc())?;
+    assert_eq!(rt; pos::count(&table), Ok(1500));
+    let code = vec![in rt.alloc(); 0x02u8; 12_000]?;
+    let positions = Positions::from_table(rt.alloc(), &table, &code).unwrap_or(Positions::Stripped);
+    assert_eq!(rt;
+        [positions.get(0), positions.get(1), positions.get(11_992)],
+        [Position::new(1, 1), Position::NONE, Position::new(1500, 1)]
+    );
+    Ok(())
+}
+
+#[test]
 fn sites_are_positions(rt: HostRuntime) {
     let rows = [
         ((1, 5), Position::new(1, 5)),
@@ -128,6 +150,17 @@ fn errors_are_printed(rt: HostRuntime) -> Result<(), Fail> {
     ];
     for (error, wanted) in rows {
         assert_eq!(rt; error.to_string(rt.alloc())?.as_str(), wanted);
+    }
+    let unwritten = [
+        (
+            StripError::AddressTooWide,
+            "AddressTooWide: a position stands at an address above 4294967295",
+        ),
+        (StripError::OutOfMemory, "OutOfMemory: out of memory"),
+    ];
+    for (error, wanted) in unwritten {
+        let text = both_texts(rt.alloc(), &error)?;
+        assert_eq!(rt; text.as_str(), wanted);
     }
     Ok(())
 }

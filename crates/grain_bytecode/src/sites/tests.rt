@@ -1,6 +1,5 @@
 use super::*;
-use crate::chain::{Root, Step, StepFlags, Tail};
-use bitflags::Flags;
+use crate::samples::{both_texts, call, chain};
 use std::test::Fail;
 
 // The positions of `a[i].b`: 1:1, 1:3, its bracket 1:2, and 1:6.
@@ -8,49 +7,6 @@ const STREAM: &[u8] = &[4, 1, 1, 1, 3, 1, 2, 1, 6];
 
 fn site(line: u32, column: u32) -> Option<Site> {
     Some(Site { line, column })
-}
-
-// `a[i].b` with those positions.
-fn chain(alloc: Global) -> Result<Chain, AllocError> {
-    let index = Step::Index {
-        operand: 0,
-        flags: StepFlags::empty(),
-        pos: Position::new(1, 3),
-        bracket: Position::new(1, 2),
-    };
-    let property = Step::Property {
-        name: 1,
-        getter: 2,
-        setter: 3,
-        flags: StepFlags::empty(),
-        pos: Position::new(1, 6),
-    };
-    Ok(Chain {
-        root: Root::Named {
-            name: 0,
-            pos: Position::new(1, 1),
-        },
-        steps: vec![in alloc; index, property]?,
-        tail: Tail::Read,
-        operands: 1,
-    })
-}
-
-// A call of a method of a temporary value, at that position.
-fn call(alloc: Global, pos: Position) -> Result<Chain, AllocError> {
-    let method = Step::Method {
-        name: 0,
-        argc: 0,
-        operand: 0,
-        flags: StepFlags::empty(),
-        pos,
-    };
-    Ok(Chain {
-        root: Root::Temporary,
-        steps: vec![in alloc; method]?,
-        tail: Tail::Read,
-        operands: 0,
-    })
 }
 
 #[test]
@@ -145,15 +101,47 @@ fn streams_are_decoded(rt: HostRuntime) -> Result<(), Fail> {
 }
 
 #[test]
+fn long_streams_are_written_and_read(rt: HostRuntime) -> Result<(), Fail> {
+    let alloc = rt.alloc();
+    let mut chains = Vec::new(alloc);
+    for line in 1..2000u16 {
+        chains.push(call(alloc, Position::new(line, 2))?)?;
+    }
+    let stream = encode(alloc, &chains)?;
+    assert_eq!(rt; check(&stream), Ok(()));
+    assert_eq!(rt;
+        [
+            resolve(&stream, 0),
+            resolve(&stream, 1998),
+            resolve(&stream, 1999)
+        ],
+        [site(1, 2), site(1999, 2), None]
+    );
+    let sites = decode(alloc, &stream).unwrap_or(Vec::new(alloc));
+    assert_eq!(rt; (sites.len(), sites.last()), (1999, Some(&site(1999, 2))));
+    Ok(())
+}
+
+#[test]
 fn errors_are_printed(rt: HostRuntime) -> Result<(), Fail> {
-    let tail = StreamError::TrailingBytes { count: 12 };
-    let text = format!(in rt.alloc();
-        "{}; {tail}; {}",
-        StreamError::Truncated,
-        StreamError::OutOfMemory
-    )?;
-    let wanted =
-        "chain position stream ends mid-slot; chain position stream has 12 bytes past its last slot; out of memory";
-    assert_eq!(rt; text.as_str(), wanted);
+    let rows = [
+        (
+            StreamError::Truncated,
+            "Truncated: chain position stream ends mid-slot",
+        ),
+        (
+            StreamError::Overflow,
+            "Overflow: chain position stream holds a number too wide to read",
+        ),
+        (
+            StreamError::TrailingBytes { count: 12 },
+            "TrailingBytes { count: 12 }: chain position stream has 12 bytes past its last slot",
+        ),
+        (StreamError::OutOfMemory, "OutOfMemory: out of memory"),
+    ];
+    for (error, wanted) in rows {
+        let text = both_texts(rt.alloc(), &error)?;
+        assert_eq!(rt; text.as_str(), wanted);
+    }
     Ok(())
 }

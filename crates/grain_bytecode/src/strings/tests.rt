@@ -1,4 +1,5 @@
 use super::*;
+use crate::samples::both_texts;
 use std::test::Fail;
 
 fn refusal(alloc: Global, blob: &[u8], starts: &[u32]) -> Result<Option<BadTable>, AllocError> {
@@ -20,8 +21,8 @@ fn names_are_read(rt: HostRuntime) -> Result<(), Fail> {
     );
     let again = Strings::borrowed(alloc, names.blob(), names.starts().to_vec(alloc)?)?;
     assert_eq!(rt;
-        format!(in alloc; "{names:?}")?,
-        format!(in alloc; "{again:?}")?
+        format!(in alloc; "{again:?}")?.as_str(),
+        "Strings { blob: [97, 108, 112, 104, 97, 98, 103, 97, 109, 109, 97], starts: [0, 5, 6, 6, 11] }"
     );
     Ok(())
 }
@@ -62,14 +63,47 @@ fn bad_tables_are_refused(rt: HostRuntime) -> Result<(), Fail> {
         (b"abcd".as_slice(), &[0, 3], BadTable::TrailingBytes),
         (b"abcd".as_slice(), &[0], BadTable::TrailingBytes),
     ];
-    for (blob, starts, fault) in rows {
-        assert_eq!(rt; refusal(rt.alloc(), blob, starts)?, Some(fault.clone()?));
+    for (blob, starts, flaw) in rows {
+        assert_eq!(rt; refusal(rt.alloc(), blob, starts)?, Some(flaw.clone()?));
     }
-    let texts = format!(in rt.alloc();
-        "{:?} {:?}",
-        BadTable::NotUtf8 { at: 1 },
-        StringsError::TooLong.clone()?
-    )?;
-    assert_eq!(rt; texts.as_str(), "NotUtf8 { at: 1 } TooLong");
+    Ok(())
+}
+
+#[test]
+fn errors_are_printed(rt: HostRuntime) -> Result<(), Fail> {
+    let rows = [
+        (
+            BadTable::NoTerminator,
+            "NoTerminator: starts of names don't begin with 0",
+        ),
+        (
+            BadTable::SpanOutOfRange { from: 2, to: 1 },
+            "SpanOutOfRange { from: 2, to: 1 }: name from 2 to 1 runs backwards or past the bytes",
+        ),
+        (
+            BadTable::NotUtf8 { at: 1 },
+            "NotUtf8 { at: 1 }: name at 1 is not UTF-8",
+        ),
+        (
+            BadTable::TrailingBytes,
+            "TrailingBytes: bytes are left behind the last name",
+        ),
+        (BadTable::OutOfMemory, "OutOfMemory: out of memory"),
+    ];
+    for (error, wanted) in rows {
+        let text = both_texts(rt.alloc(), &error)?;
+        assert_eq!(rt; text.as_str(), wanted);
+    }
+    let rows = [
+        (
+            StringsError::TooLong,
+            "TooLong: names have more than 4294967295 bytes",
+        ),
+        (StringsError::OutOfMemory, "OutOfMemory: out of memory"),
+    ];
+    for (error, wanted) in rows {
+        let text = both_texts(rt.alloc(), &error)?;
+        assert_eq!(rt; text.as_str(), wanted);
+    }
     Ok(())
 }

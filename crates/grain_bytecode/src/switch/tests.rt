@@ -104,11 +104,11 @@ fn targets_become_offsets(rt: HostRuntime) -> Result<(), Fail> {
     let alloc = rt.alloc();
     let offsets = [0, 3, 4];
     let mut tables = [without_cases(alloc, 1), without_cases(alloc, 5)];
-    let fault = AssembleError::SwitchTargetOutOfRange {
+    let flaw = AssembleError::SwitchTargetOutOfRange {
         table: 1,
         target: 5,
     };
-    assert_eq!(rt; resolve_switch_targets(&mut tables, &offsets), Err(fault));
+    assert_eq!(rt; resolve_switch_targets(&mut tables, &offsets), Err(flaw));
     assert_eq!(rt; (tables[0].default, tables[1].default), (1, 5));
     tables[1].default = 2;
     assert_eq!(rt; resolve_switch_targets(&mut tables, &offsets), Ok(()));

@@ -6,7 +6,9 @@ ghost use Rattle.grain_check.specs.declared.driver.tests.TheConstants.{ROOM};
 use super::*;
 use crate::status;
 use crate::stream::Failed;
+use std::process::Abort;
 
+mod long_lines;
 mod verify_lines;
 
 /// Gives its bytes, at most so many a call, and fails once so many were given.
@@ -189,18 +191,49 @@ site 0400010503010b250702010900 3",
     ),
 ];
 
+/// A run over the input with at most so many bytes a call, and what it wrote.
+fn run_over(alloc: Global, input: &[u8], each: usize) -> (Result<Summary, RunError>, Taken) {
+    let mut reader = Given::new(input, each, usize::MAX);
+    let mut writer = Taken::new(each, usize::MAX);
+    let outcome = run(alloc, &mut reader, &mut writer);
+    (outcome, writer)
+}
+
+/// Asserts that the line is answered by this verdict.
+fn assert_verdict(rt: &impl Abort, alloc: Global, line: &str, verdict: &str) {
+    let (outcome, writer) = run_over(alloc, line.as_bytes(), usize::MAX);
+    let text = writer.bytes().strip_suffix(b"\n").unwrap_or_default();
+    assert_eq!(rt; text, verdict.as_bytes(), "{verdict}");
+    let bad = u64::from(verdict == "bad case");
+    assert_eq!(rt; outcome, Ok(Summary { cases: 1, bad }), "{verdict}");
+}
+
 #[test]
 fn answers_lines(rt: HostRuntime) {
     for (input, text, cases, bad, wanted) in ROWS {
         for each in [1, 7, 100000] {
-            let mut reader = Given::new(input, each, usize::MAX);
-            let mut writer = Taken::new(each, usize::MAX);
-            let outcome = run(rt.alloc(), &mut reader, &mut writer);
-            assert_eq!(rt; outcome, Ok(Summary { cases, bad }));
+            let (outcome, writer) = run_over(rt.alloc(), input, each);
             assert_eq!(rt; writer.bytes(), text);
+            assert_eq!(rt; outcome, Ok(Summary { cases, bad }));
             assert_eq!(rt; status(&outcome), wanted);
         }
     }
+}
+
+#[test]
+fn shows_what_came_of_a_run(rt: HostRuntime) {
+    let summary = Summary { cases: 2, bad: 1 };
+    let text = format!(in rt.alloc();
+        "{summary:?} {:?} {:?} {:?} {Failed:?}",
+        RunError::Read,
+        RunError::Write,
+        RunError::OutOfMemory
+    )
+    .expect(&rt, "memory");
+    assert_eq!(rt;
+        text.as_str(),
+        "Summary { cases: 2, bad: 1 } Read Write OutOfMemory Failed"
+    );
 }
 
 #[test]

@@ -1,6 +1,6 @@
 use Rattle.std.proofs.Common.{◌≡◌, map, take}
 use Rattle.grain.specs.Capabilities.{chain_caps}
-use Rattle.grain.specs.PoolNeeds.{numbers}
+use Rattle.grain.specs.PoolCaps.{numbers}
 use Rattle.grain.proofs.capabilities.all_chain_caps.Given as goal
 
 abbrev pub invariant-loop-chain : goal.invariant-loop-chain

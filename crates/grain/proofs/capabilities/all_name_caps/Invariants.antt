@@ -1,7 +1,7 @@
 use Rattle.std.proofs.Common.{◌≡◌, ◌++◌, map}
 use Rattle.grain_bytecode.specs.NamesLeft.{names_left}
 use Rattle.grain.specs.Capabilities.{name_caps}
-use Rattle.grain.specs.PoolNeeds.{numbers}
+use Rattle.grain.specs.PoolCaps.{numbers}
 use Rattle.grain.proofs.capabilities.all_name_caps.Given as goal
 
 -- these and those of the names that are left are those of all names

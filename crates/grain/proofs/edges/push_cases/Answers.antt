@@ -1,8 +1,8 @@
 use Rattle.std.proofs.Common.{ap, map, ◌∷◌, []}
 use Rattle.std.proofs.lemmas.Result.{err_from_is_err_and}
-use Rattle.grain.specs.Edges.{IsMarkedIn}
-use Rattle.grain.specs.Pushed.{case_targets}
-use Rattle.grain.specs.View.{coming, view}
+use Rattle.grain.specs.Marks.{IsMarkedIn}
+use Rattle.grain.specs.Arrivals.{case_targets}
+use Rattle.grain.specs.Arrivals.{coming, view}
 use Rattle.grain.proofs.Pushing.{pushed_next, marked_next, left_next, one_left, refused_of}
 use Rattle.grain.proofs.edges.push_cases.Goals as goal
 

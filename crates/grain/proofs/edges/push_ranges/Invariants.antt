@@ -1,8 +1,9 @@
 use Rattle.std.proofs.Common.{◌≡◌, ◌++◌, ℕ, drop, map}
 use Rattle.std.specs.List.{All, Contains}
-use Rattle.grain.specs.Edges.{IsMarkedIn, all_to}
-use Rattle.grain.specs.Pushed.{range_targets}
-use Rattle.grain.specs.View.{coming, view}
+use Rattle.grain.specs.Marks.{IsMarkedIn}
+use Rattle.grain.specs.Arrivals.{all_to}
+use Rattle.grain.specs.Arrivals.{range_targets}
+use Rattle.grain.specs.Arrivals.{coming, view}
 use Rattle.grain.proofs.edges.push_ranges.Given as goal
 
 -- what is left to push decides

@@ -1,5 +1,5 @@
 use Rattle.std.proofs.Common.{◌≡◌, ◌-◌, length}
-use Rattle.grain.specs.Edges.{MarksTo}
+use Rattle.grain.specs.Marks.{MarksTo}
 use Rattle.grain.proofs.starts.mark_starts.Given as goal
 
 abbrev pub invariant-loop-at : goal.invariant-loop-at

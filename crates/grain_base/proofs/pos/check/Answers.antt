@@ -9,15 +9,15 @@ use Rattle.grain_base.proofs.pos.check.Goals as goal
 pub returns-in_err-count : goal.returns-in_err-count
 returns-in_err-count c =
     let error = c.in_err-count.field-0.0 in
-    let fault = bad_count c.args.table.now error ((c.in_err-count.ensures.error error).0 refl) in
-    let says = says_error _ _ _ (err_from_is_err_and _ c.from_residual.ensures.1) fault in
+    let flaw = bad_count c.args.table.now error ((c.in_err-count.ensures.error error).0 refl) in
+    let says = says_error _ _ _ (err_from_is_err_and _ c.from_residual.ensures.1) flaw in
     record { ok = says_ok _ _ says; err = says_err _ _ says }
 
 pub returns-in_err-delta : goal.returns-in_err-delta
 returns-in_err-delta c =
     let error = c.in_err-delta.field-0.0 in
-    let fault = bad_delta _ _ _ _ _ error c.loop-entry.invariant c.loop-entry-test.true ((c.in_err-delta.ensures.error error).0 refl) in
-    let says = says_error _ _ _ (err_from_is_err_and _ c.from_residual-in_err-delta.ensures.1) fault in
+    let flaw = bad_delta _ _ _ _ _ error c.loop-entry.invariant c.loop-entry-test.true ((c.in_err-delta.ensures.error error).0 refl) in
+    let says = says_error _ _ _ (err_from_is_err_and _ c.from_residual-in_err-delta.ensures.1) flaw in
     record { ok = says_ok _ _ says; err = says_err _ _ says }
 
 pub returns-then-entry-ne0 : goal.returns-then-entry-ne0
@@ -30,10 +30,10 @@ returns-then-entry-ne0 c =
 pub returns-in_err-address : goal.returns-in_err-address
 returns-in_err-address c =
     let delta = begins_at _ _ _ _ c.in_ok-delta.ensures.found (search rules) in
-    let fault = past _ _ _ _ _ _ _ c.loop-entry.invariant c.loop-entry-test.true delta (grind arith) in
+    let flaw = past _ _ _ _ _ _ _ c.loop-entry.invariant c.loop-entry-test.true delta (grind arith) in
     let overflow : c.in_err-address.field-0.0 ≡ Overflow = grind arith in
     let exit = err_from_is_err_and c.from_residual-in_err-address.result c.from_residual-in_err-address.ensures.1 in
-    let says = says_error c.args.table.now c.from_residual-in_err-address.result Overflow (exit.0, exit.1, exit.2 ∙ overflow) fault in
+    let says = says_error c.args.table.now c.from_residual-in_err-address.result Overflow (exit.0, exit.1, exit.2 ∙ overflow) flaw in
     record { ok = says_ok _ _ says; err = says_err _ _ says }
 
 pub returns-in_err-_line : goal.returns-in_err-_line
@@ -41,8 +41,8 @@ returns-in_err-_line c =
     let error = c.in_err-_line.field-0.0 in
     let delta = begins_at _ _ _ _ c.in_ok-delta.ensures.found (search rules) in
     let leads : Leads c.loop-entry.entry c.loop-entry.address c.in_ok-delta.delta = record { later = grind arith; fits = grind arith } in
-    let fault = bad_line _ _ _ _ _ _ _ error c.loop-entry.invariant c.loop-entry-test.true leads delta ((c.in_err-_line.ensures.error error).0 refl) in
-    let says = says_error _ _ _ (err_from_is_err_and _ c.from_residual-in_err-_line.ensures.1) fault in
+    let flaw = bad_line _ _ _ _ _ _ _ error c.loop-entry.invariant c.loop-entry-test.true leads delta ((c.in_err-_line.ensures.error error).0 refl) in
+    let says = says_error _ _ _ (err_from_is_err_and _ c.from_residual-in_err-_line.ensures.1) flaw in
     record { ok = says_ok _ _ says; err = says_err _ _ says }
 
 pub returns-in_err-_column : goal.returns-in_err-_column
@@ -51,8 +51,8 @@ returns-in_err-_column c =
     let delta = begins_at _ _ _ _ c.in_ok-delta.ensures.found (search rules) in
     let line = begins_at _ _ _ _ c.in_ok-_line.ensures.found (search rules) in
     let leads : Leads c.loop-entry.entry c.loop-entry.address c.in_ok-delta.delta = record { later = grind arith; fits = grind arith } in
-    let fault = bad_column _ _ _ _ _ _ _ _ _ error c.loop-entry.invariant c.loop-entry-test.true leads delta line ((c.in_err-_column.ensures.error error).0 refl) in
-    let says = says_error _ _ _ (err_from_is_err_and _ c.from_residual-in_err-_column.ensures.1) fault in
+    let flaw = bad_column _ _ _ _ _ _ _ _ _ error c.loop-entry.invariant c.loop-entry-test.true leads delta line ((c.in_err-_column.ensures.error error).0 refl) in
+    let says = says_error _ _ _ (err_from_is_err_and _ c.from_residual-in_err-_column.ensures.1) flaw in
     record { ok = says_ok _ _ says; err = says_err _ _ says }
 
 pub loop-entry-preserved : goal.loop-entry-preserved

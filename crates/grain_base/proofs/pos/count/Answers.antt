@@ -7,9 +7,9 @@ use Rattle.grain_base.proofs.pos.count.Goals as goal
 pub returns-in_err-u32 : goal.returns-in_err-u32
 returns-in_err-u32 c =
     let error = c.in_err-u32.field-0.0 in
-    let fault = (c.in_err-u32.ensures.error error).0 refl in
+    let flaw = (c.in_err-u32.ensures.error error).0 refl in
     let exit = err_from_is_err_and c.from_residual.result c.from_residual.ensures.1 in
-    rw (exit.1, exit.2) (record { ok = first_unread _ error _ fault; err = the_error as_table_error _ error fault })
+    rw (exit.1, exit.2) (record { ok = first_unread _ error _ flaw; err = the_error as_table_error _ error flaw })
 
 pub returns : goal.returns
 returns c =

@@ -1,11 +1,11 @@
 use Rattle.std.proofs.Common.{[], sym}
 use Rattle.std.proofs.lemmas.Result.{err_from_is_err_and}
-use Rattle.grain_bytecode.specs.Table.{name}
-use Rattle.grain_bytecode.proofs.Faults.{tested_through}
+use Rattle.grain_bytecode.specs.InstructionTable.{name}
+use Rattle.grain_bytecode.proofs.Flaws.{tested_through}
 use Rattle.grain_bytecode.proofs.assembler.check_receiver.Goals as goal
 
-pub returns-in_err-pool_index : goal.returns-in_err-pool_index
-returns-in_err-pool_index c n at =
+pub returns-in_err-check_index : goal.returns-in_err-check_index
+returns-in_err-check_index c n at =
     let p = err_from_is_err_and c.from_residual.result c.from_residual.ensures.1 in
     let first = tested_through c.args.op.now c.in-Some.variable (sym c.in-Some.ensures) in
     rw (p.1, p.2) (record {
@@ -14,6 +14,6 @@ returns-in_err-pool_index c n at =
       later = first.0;
       order = first.1;
       passed = tt;
-      fails = c.in_err-pool_index.ensures.0;
-      named = c.in_err-pool_index.ensures.1 at;
+      fails = c.in_err-check_index.ensures.0;
+      named = c.in_err-check_index.ensures.1 at;
     })

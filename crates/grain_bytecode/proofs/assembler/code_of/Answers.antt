@@ -1,36 +1,25 @@
 use Rattle.std.proofs.Common.{◌≡◌, ◌-◌, List, length, take, map, get_or, subst, sym, arith}
-use Rattle.std.proofs.lemmas.Result.{err_from_is_err_and}
 use Rattle.std.proofs.lemmas.List.{take_more}
 use Rattle.grain_bytecode.specs.declared.op.Op.{Op}
 use Rattle.grain_bytecode.specs.declared.op.Op.TheVariants as operations
-use Rattle.grain_bytecode.specs.Table.{form}
+use Rattle.grain_bytecode.specs.InstructionTable.{form}
 use Rattle.grain_bytecode.specs.Split.{AreInstructions}
-use Rattle.grain_bytecode.specs.Fields.{OrMemory}
-use Rattle.grain_bytecode.specs.Assembly.{assembled, tested, AreWritable, EachWritable, AccusesFirst, AccusesFirstOf}
+use Rattle.grain_bytecode.specs.Assembly.{assembled, AreWritable}
 use Rattle.grain_bytecode.proofs.Placed.{one_more_written}
-use Rattle.grain_bytecode.proofs.Faults.{first_op, or_memory, each_writable_more}
+use Rattle.grain_bytecode.proofs.Flaws.{writable_at}
 use Rattle.grain_bytecode.proofs.assembler.code_of.Goals as goal
 
-pub loop-index-preserved : goal.loop-index-preserved
-loop-index-preserved c =
+pub put-requires-clause-writable : goal.put-requires-clause-writable
+put-requires-clause-writable c =
     let ops = c.args.ops.now in
-    let i = c.loop-index.index in
-    let op = get_or ops i (operations.Const 0) in
-    let more = take_more ops i (operations.Const 0) c.loop-index-test.true in
-    let put = c.in_ok-put.ensures in
-    let count : length c.args.offsets.now - 1 ≡ length ops = omega (arith, c.requires) in
-    record {
-      code = subst (λ (xs : List Op). AreInstructions c.put.new.code.items (map (assembled c.args.offsets.now) xs)) (sym more)
-          (one_more_written c.args.offsets.now c.put.new.code.items c.loop-index.code.items (take i ops) op c.loop-index.invariant.code put.fits put.ok);
-      writable = subst (EachWritable (length ops)) (sym more)
-          (each_writable_more (length ops) (take i ops) op c.loop-index.invariant.writable (subst (λ n. AreWritable n (form op).1) count put.writable));
-    }
+    let count : length ops ≡ length c.args.offsets.now - 1 = omega (arith, c.requires.placed) in
+    subst (λ n. AreWritable n (form (get_or ops c.loop-op.op-index (operations.Const 0))).1) count
+    (writable_at (length ops) ops c.loop-op.op-index (operations.Const 0) c.loop-op-test.true c.requires.writable)
 
-pub returns-in_err-put-clause-err : goal.returns-in_err-put-clause-err
-returns-in_err-put-clause-err c =
+pub loop-op-preserved : goal.loop-op-preserved
+loop-op-preserved c =
     let ops = c.args.ops.now in
-    let i = c.loop-index.index in
-    let p = err_from_is_err_and c.from_residual-in_err-put.result c.from_residual-in_err-put.ensures.1 in
-    let count : length c.args.offsets.now - 1 ≡ length ops = omega (arith, c.requires) in
-    rw (p.1, p.2) (or_memory (AccusesFirst (length ops) i (tested (get_or ops i (operations.Const 0)))) (AccusesFirstOf ops) (first_op ops i (operations.Const 0) c.loop-index-test.true c.loop-index.invariant.writable) _
-    (subst (λ n. OrMemory (AccusesFirst n i (tested (get_or ops i (operations.Const 0)))) c.in_err-put.field-0.0) count c.in_err-put.ensures.err))
+    let i = c.loop-op.op-index in
+    let op = get_or ops i (operations.Const 0) in
+    subst (λ (xs : List Op). AreInstructions c.put.new.code.items (map (assembled c.args.offsets.now) xs)) (sym (take_more ops i (operations.Const 0) c.loop-op-test.true))
+    (one_more_written c.args.offsets.now c.put.new.code.items c.loop-op.code.items (take i ops) op c.loop-op.invariant c.in_ok-put.ensures.fits c.in_ok-put.ensures.ok)

@@ -1,6 +1,6 @@
 use Rattle.std.proofs.Common.{◌≡◌, ◌<◌, ℕ, List, ◌∙◌, ap, rules}
 use Rattle.grain_bytecode.specs.declared.field.Field.{Field}
-use Rattle.grain_bytecode.specs.Table.{form}
+use Rattle.grain_bytecode.specs.InstructionTable.{form}
 use Rattle.grain_bytecode.proofs.Rows.{tag_width}
 use Rattle.grain_bytecode.proofs.Widths.{table_is, width_is}
 use Rattle.grain_bytecode.proofs.field.width_of.Goals as goal

@@ -6,18 +6,18 @@ use Rattle.grain_bytecode.proofs.Streams.{Slots, Says, says_ok, says_err, says_e
 use Rattle.grain_bytecode.proofs.sites.check.Goals as goal
 use Rattle.grain_bytecode.proofs.sites.check.Goals.{After-from_residual, After-from_residual-in_err-next_slot, In-0, In_default}
 
-count_fault : (c : After-from_residual) → Says c.args.stream.now c.from_residual.result
-count_fault c = says_error _ _ _ (err_from_is_err_and c.from_residual.result c.from_residual.ensures.1) (unreadable _ _ (uncounted _ _ ((c.in_err-count.ensures.error _).0 refl)))
+count_flaw : (c : After-from_residual) → Says c.args.stream.now c.from_residual.result
+count_flaw c = says_error _ _ _ (err_from_is_err_and c.from_residual.result c.from_residual.ensures.1) (unreadable _ _ (uncounted _ _ ((c.in_err-count.ensures.error _).0 refl)))
 
-slot_fault : (c : After-from_residual-in_err-next_slot) → Says c.args.stream.now c.from_residual-in_err-next_slot.result
-slot_fault c = says_error _ _ _ (err_from_is_err_and c.from_residual-in_err-next_slot.result c.from_residual-in_err-next_slot.ensures.1)
+slot_flaw : (c : After-from_residual-in_err-next_slot) → Says c.args.stream.now c.from_residual-in_err-next_slot.result
+slot_flaw c = says_error _ _ _ (err_from_is_err_and c.from_residual-in_err-next_slot.result c.from_residual-in_err-next_slot.ensures.1)
     (unreadable _ _ (slots_broken _ c.in_ok-count.count c.slots._turn c.slots.at _ _ c.slots.invariant.1 (omega arith) c.in_err-next_slot.ensures.err))
 
 pub returns-in_err-count-clause-ok : goal.returns-in_err-count-clause-ok
-returns-in_err-count-clause-ok c = says_ok _ _ (count_fault c)
+returns-in_err-count-clause-ok c = says_ok _ _ (count_flaw c)
 
 pub returns-in_err-count-clause-err : goal.returns-in_err-count-clause-err
-returns-in_err-count-clause-err c = says_err _ _ (count_fault c)
+returns-in_err-count-clause-err c = says_err _ _ (count_flaw c)
 
 pub slots-init : goal.slots-init
 slots-init c =
@@ -25,10 +25,10 @@ slots-init c =
     ([], slots_none _ c.in_ok-count.count c.u32.new.at (begins_at _ _ _ _ c.in_ok-count.ensures.found fits) (c.in_ok-count.ensures.found.0))
 
 pub returns-in_err-next_slot-clause-ok : goal.returns-in_err-next_slot-clause-ok
-returns-in_err-next_slot-clause-ok c = says_ok _ _ (slot_fault c)
+returns-in_err-next_slot-clause-ok c = says_ok _ _ (slot_flaw c)
 
 pub returns-in_err-next_slot-clause-err : goal.returns-in_err-next_slot-clause-err
-returns-in_err-next_slot-clause-err c = says_err _ _ (slot_fault c)
+returns-in_err-next_slot-clause-err c = says_err _ _ (slot_flaw c)
 
 pub slots-preserved : goal.slots-preserved
 slots-preserved c =

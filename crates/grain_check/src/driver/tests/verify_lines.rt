@@ -18,7 +18,11 @@ verify 7fff 1e0500000013 0:6:8 => refused iterator-underflow at=0
 verify 7fff 130c63000000 0:6:8 => accepted 0
 verify 7fff 050213 1:3:8 => refused jump-into-an-instruction at=1 target=1
 verify 7fff 050213 0:0:8 => refused falls-off-the-end
+verify 7fff 050213 1:2:8 => refused jump-into-an-instruction at=1 target=1
+verify 7fff 0205000013 0:3:8 => refused jump-into-an-instruction at=0 target=3
 verify 7fff 0213 0:9:8 => refused chunk-out-of-range entry=0 end=9 len=2
+verify 7fff 0213 2:1:8 => refused chunk-out-of-range entry=2 end=1 len=2
+verify 7fff 0213 2:2:8 => refused falls-off-the-end
 verify 7fff 0c0300000013 0:6:8 => refused jump-into-an-instruction at=0 target=3
 verify 7fff 0c0600000013 0:6:8 => refused jump-out-of-range at=0 target=6
 verify 7fff 02130c0000000013 0:2:8 2:8:8 => refused jump-out-of-range at=2 target=0
@@ -66,12 +70,6 @@ verify 7ffg 0213 0:2:8 => bad case
 fn answers_verify_lines(rt: HostRuntime) {
     for row in ROWS.lines() {
         let (line, verdict) = row.split_once(" => ").expect(&rt, "a line and its verdict");
-        let mut reader = Given::new(line.as_bytes(), 100, usize::MAX);
-        let mut writer = Taken::new(100, usize::MAX);
-        let outcome = run(rt.alloc(), &mut reader, &mut writer);
-        let bad = u64::from(verdict == "bad case");
-        assert_eq!(rt; outcome, Ok(Summary { cases: 1, bad }));
-        let text = writer.bytes().strip_suffix(b"\n").unwrap_or_default();
-        assert_eq!(rt; text, verdict.as_bytes(), "{row}");
+        assert_verdict(&rt, rt.alloc(), line, verdict);
     }
 }

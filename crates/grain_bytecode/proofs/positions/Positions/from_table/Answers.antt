@@ -8,8 +8,8 @@ use Rattle.grain_bytecode.proofs.positions.Positions.from_table.Goals as goal
 pub returns-in_err-entries-clause-err : goal.returns-in_err-entries-clause-err
 returns-in_err-entries-clause-err c =
     let table = c.in_ok-check.ensures.ok.0 refl in
-    let fault = (c.in_err-entries.ensures.err _).0 refl in
-    absurd (countable c.args.table.now table.0 fault.0 table.1 fault.1)
+    let flaw = (c.in_err-entries.ensures.err _).0 refl in
+    absurd (countable c.args.table.now table.0 flaw.0 table.1 flaw.1)
 
 pub returns-then-entries-eq0-clause-ok : goal.returns-then-entries-eq0-clause-ok
 returns-then-entries-eq0-clause-ok c =

@@ -6,18 +6,18 @@ use Rattle.grain_bytecode.proofs.Entering.{entries_ascend, entries_kept}
 use Rattle.grain_bytecode.proofs.positions.Positions.to_table.Goals as goal
 
 pub encode-requires-in-Dense : goal.encode-requires-in-Dense
-encode-requires-in-Dense c = rw (c.deref-in-Dense.ensures.value ∙ c.in_ok-sites-in-Dense.ensures.ok) (entries_ascend c.deref.result.now)
+encode-requires-in-Dense c = rw (c.deref-in-Dense-2.ensures.value ∙ c.in_ok-sites-in-Dense.ensures) (entries_ascend c.deref-in-Dense.result.now)
 
 pub returns-in_ok-encode-in-Dense-clause-written : goal.returns-in_ok-encode-in-Dense-clause-written
 returns-in_ok-encode-in-Dense-clause-written c =
-    let all : kept c.deref-in-Dense.result.now ≡ entries_of (places c.args.self.now) =
-    ap kept (c.deref-in-Dense.ensures.value ∙ c.in_ok-sites-in-Dense.ensures.ok) ∙ entries_kept c.deref.result.now
-    ∙ ap (λ list. entries_of (Some (map place_of list))) c.deref.ensures.value ∙ ap (λ positions. entries_of (places positions)) (sym c.in-Dense.is) in
+    let all : kept c.deref-in-Dense-2.result.now ≡ entries_of (places c.args.self.now) =
+    ap kept (c.deref-in-Dense-2.ensures.value ∙ c.in_ok-sites-in-Dense.ensures) ∙ entries_kept c.deref-in-Dense.result.now
+    ∙ ap (λ list. entries_of (Some (map place_of list))) c.deref-in-Dense.ensures.value ∙ ap (λ positions. entries_of (places positions)) (sym c.in-Dense.is) in
     rw (← all) c.in_ok-encode-in-Dense.ensures.written
 
 pub returns-in_ok-encode-in-Dense-clause-table : goal.returns-in_ok-encode-in-Dense-clause-table
 returns-in_ok-encode-in-Dense-clause-table c =
-    let all : kept c.deref-in-Dense.result.now ≡ entries_of (places c.args.self.now) =
-    ap kept (c.deref-in-Dense.ensures.value ∙ c.in_ok-sites-in-Dense.ensures.ok) ∙ entries_kept c.deref.result.now
-    ∙ ap (λ list. entries_of (Some (map place_of list))) c.deref.ensures.value ∙ ap (λ positions. entries_of (places positions)) (sym c.in-Dense.is) in
+    let all : kept c.deref-in-Dense-2.result.now ≡ entries_of (places c.args.self.now) =
+    ap kept (c.deref-in-Dense-2.ensures.value ∙ c.in_ok-sites-in-Dense.ensures) ∙ entries_kept c.deref-in-Dense.result.now
+    ∙ ap (λ list. entries_of (Some (map place_of list))) c.deref-in-Dense.ensures.value ∙ ap (λ positions. entries_of (places positions)) (sym c.in-Dense.is) in
     rw (← all) c.in_ok-encode-in-Dense.ensures.table

@@ -1,0 +1,84 @@
+-- What `verify` is given of a program, and what its indices find.
+use Rattle.std.proofs.Common.{◌≡◌, ℕ, ◌<◌, zero, suc, List, [], ◌∷◌, length, map, refl, sym, subst, arith}
+use Rattle.std.specs.List.{All, AllByRecursion, slice_get}
+use Rattle.std.specs.Option.{IsSome}
+use Rattle.std.proofs.lemmas.List.{length-map}
+use Rattle.std.proofs.lemmas.Option.{slice_get-get_or}
+use Rattle.grain_base.specs.declared.caps.Caps.{Caps}
+use Rattle.grain_base.specs.declared.value.Dynamic.{Dynamic}
+use Rattle.grain_bytecode.specs.Span.{Span}
+use Rattle.grain_bytecode.specs.declared.field.Field.{Field}
+use Rattle.grain_bytecode.specs.declared.field.Field.TheVariants.{Index, Slot, Count, Target}
+use Rattle.grain_bytecode.specs.declared.field.Pool.TheVariants.{Constants, Names, Operators, OpAssignments, Fragments, Chains, Switches, SyntaxSites}
+use Rattle.grain_bytecode.specs.declared.function.Function.{Function}
+use Rattle.grain_bytecode.specs.declared.op.Op.{Op}
+use Rattle.grain.specs.Accepted.{IsAccepted, input}
+use Rattle.grain.specs.Code.{switch_targets}
+use Rattle.grain.specs.Indices.{Indexed, IsBounded, cases_of, fields_of}
+use Rattle.grain.specs.Lookups.{AreFound, FindsIndices, IsFound}
+use Rattle.grain.specs.Program.{Program, chunks_of, input_of, setting_of}
+use Rattle.grain.specs.Setting.{case_consts}
+use Rattle.grain.specs.declared.pools.Pools.{Pools}
+
+-- the pools of a program
+pub record ArePools (p : Program) (pools : Pools) : Type 0 where
+  pub consts : pools.consts ≡ length p.consts
+  pub names : pools.names.now ≡ p.names
+  pub tokens : pools.tokens ≡ length p.tokens
+  pub assign_ops : pools.assign_ops ≡ length p.assign_ops
+  pub residuals : pools.residuals ≡ p.residuals
+  pub chains : pools.chains.now ≡ p.chains
+  pub switches : pools.switches.now ≡ p.switches
+
+pub same_input : (p : Program) (caps : Caps) (consts : List Dynamic) (bytes : List ℕ) (functions : List Function) (chunks : List Span) (pools : Pools) → caps ≡ p.caps → consts ≡ p.consts → bytes ≡ p.code → functions ≡ p.functions → chunks ≡ chunks_of p → ArePools p pools → input caps consts bytes functions chunks pools ≡ input_of p
+same_input p caps consts bytes functions chunks pools e a b f g h = λ i. record {
+  code = record {
+    setting = record {
+      caps = (e i).0;
+      consts = h.consts i;
+      names = h.names i;
+      tokens = h.tokens i;
+      assign_ops = h.assign_ops i;
+      residuals = h.residuals i;
+      chains = h.chains i;
+      cases = map case_consts (h.switches i);
+    };
+    bytes = b i;
+    switches = map switch_targets (h.switches i);
+  };
+  consts = a i;
+  functions = f i;
+  chunks = g i;
+}
+
+finds_there : {X : Type 0} (xs : List X) (i : ℕ) → i < length xs → IsSome (slice_get xs i)
+finds_there [] i l = absurd (omega arith)
+finds_there (x ∷ xs) i l = subst IsSome (sym (slice_get-get_or (x ∷ xs) i x l)) refl
+
+bounded_found : (p : Program) (f : Field) → IsBounded (setting_of p) f → IsFound p f
+bounded_found p (Index Constants x) h = finds_there p.consts x h
+bounded_found p (Index Names x) h = finds_there p.names x h
+bounded_found p (Index Operators x) h = finds_there p.tokens x h
+bounded_found p (Index OpAssignments x) h = finds_there p.assign_ops x h
+bounded_found p (Index Fragments x) h = h
+bounded_found p (Index Chains x) h = finds_there p.chains x h
+bounded_found p (Index Switches x) h = finds_there p.switches x (subst (λ n. x < n) (length-map p.switches case_consts) h)
+bounded_found p (Index SyntaxSites x) h = absurd (omega arith)
+bounded_found p (Slot x) h = tt
+bounded_found p (Count x) h = tt
+bounded_found p (Target x) h = tt
+
+each : {X : Type 0} (P Q : X → Type 0) (xs : List X) → ((x : X) → P x → Q x) → AllByRecursion P xs → All Q xs
+each P Q [] f h k d l = absurd (omega arith)
+each P Q (x ∷ xs) f h zero d l = f x h.0
+each P Q (x ∷ xs) f h (suc k) d l = each P Q xs f h.1 k d (omega arith)
+
+indices_found : (p : Program) (op : Op) → Indexed (setting_of p) op → AreFound p op
+indices_found p op h = record {
+  fields = each (IsBounded (setting_of p)) (IsFound p) (fields_of (setting_of p) op) (bounded_found p) h.fields;
+  cases = each (λ x. x < length p.consts) (λ x. IsSome (slice_get p.consts x)) (cases_of (setting_of p) op) (finds_there p.consts) h.cases;
+}
+
+-- each index that an instruction of an accepted program names is found
+pub accepted_finds : (p : Program) → IsAccepted (input_of p) → FindsIndices p
+accepted_finds p h = (h.code.0, h.code.1, λ k d l. indices_found p _ (h.code.2 k d l))
