@@ -3,6 +3,7 @@ use Rattle.std.specs.Prelude.{◌<◌, ⊤, ℕ, Bool, false, ◌&&◌, ◌==◌
 use Rattle.std.specs.Cmp.Lexicographic.{pointwise}
 use Rattle.std.specs.List.{All}
 use Rattle.std.specs.Option.{option_map_or}
+use Rattle.grain_bytecode.specs.Pools.{Pools}
 use Rattle.grain_bytecode.specs.Split.{AreInstructions}
 use Rattle.grain_bytecode.specs.declared.function.Function.{Function}
 use Rattle.grain_bytecode.specs.declared.field.Field.{Field}
@@ -11,6 +12,17 @@ use Rattle.grain_bytecode.specs.declared.field.Pool.TheVariants.{Constants, Name
 use Rattle.grain_bytecode.specs.declared.op.Op.{Op}
 use Rattle.grain.specs.Indices.{cases_of, fields_of}
 use Rattle.grain.specs.Program.{Program, setting_of}
+
+-- the pools of a program, as its look-ups see them
+abbrev pub pools_of : Program → Pools
+pools_of p = record {
+  names = p.names;
+  constants = p.consts;
+  tokens = p.tokens;
+  assign_ops = p.assign_ops;
+  chains = p.chains;
+  switches = p.switches;
+}
 
 -- whether the index finds this text among the names
 abbrev pub is_text : List (List ℕ) → List ℕ → ℕ → Bool

@@ -8,17 +8,9 @@ use grain_base::{Dynamic, Token};
 use grain_bytecode::{AssignOp, Chain, Function, Lookups, Strings, Switch};
 
 impl Lookups for Program {
-    ghost names = { λ p. p.names };
+    ghost use Rattle.grain.specs.Lookups.{pools_of};
 
-    ghost constants = { λ p. p.consts };
-
-    ghost tokens = { λ p. p.tokens };
-
-    ghost assign_ops = { λ p. p.assign_ops };
-
-    ghost chains = { λ p. p.chains };
-
-    ghost switches = { λ p. p.switches };
+    ghost pools = { pools_of };
 
     fn name(&self, index: u32) -> Option<&str> {
         self.parts.names.get(index)

@@ -6,6 +6,8 @@ ghost use Rattle.std.specs.Prelude.{◌≡◌, false, fold};
 ghost use Rattle.grain_base.specs.Content.{same, same_items, same_entries, hashable, hashable_items, hashable_entries, hash_writes, counted_items_writes, counted_entries_writes};
 ghost use Rattle.grain_base.specs.View.{is_shared, content, pointer_content, items_content, entries_content};
 
+mod text;
+
 use std::collections::BTreeMap;
 use std::hash::{Hash, Hasher};
 

@@ -6,9 +6,11 @@ pub mod Disassembly
 pub mod Dispatch
 pub mod Fields
 pub mod InstructionTable
+pub mod LookedUp
 pub mod Names
 pub mod NamesLeft
 pub mod Numbers
+pub mod Pools
 pub mod Positions
 pub mod Qualified
 pub mod Span

@@ -25,6 +25,7 @@ mod strings;
 mod switch;
 pub mod tag;
 mod tag_widths;
+mod text;
 
 pub use assembler::assemble;
 pub use assign_op::AssignOp;
@@ -41,6 +42,7 @@ pub use positions::{Positions, StripError, TableError, site_to_position};
 pub use strings::{BadTable, Names, Strings, StringsError};
 pub use switch::{Switch, SwitchRange, resolve_switch_targets};
 pub use tag_widths::width;
+pub use text::DisassembleError;
 
 #[cfg(test)]
 mod samples;
