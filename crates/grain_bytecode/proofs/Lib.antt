@@ -4,6 +4,7 @@ pub mod Appending
 pub mod Arriving
 pub mod Boundaries
 pub mod Canonical
+pub mod CaseOrder
 pub mod Cuts
 pub mod Dispatching
 pub mod Drained
@@ -13,6 +14,7 @@ pub mod Growing
 pub mod Instructions
 pub mod KnownFlags
 pub mod Left
+pub mod Missing
 pub mod Past
 pub mod Placed
 pub mod Printed

@@ -133,6 +133,7 @@ fn write_step<L: Lookups>(
 }
 
 // Writes the steps with a space between them.
+#[tactic(auto, using(crate::proofs::Missing::first_missing_append))]
 fn write_steps<L: Lookups>(
     out: &mut String,
     lookups: &L,
@@ -191,6 +192,7 @@ fn write_tail<L: Lookups>(
     }
 }
 
+#[tactic(auto, using(crate::proofs::Missing::first_missing_append))]
 fn write_chain<L: Lookups>(
     out: &mut String,
     lookups: &L,

@@ -1,5 +1,6 @@
 //! The texts of switches and of their ranges.
-ghost use Rattle.std.specs.Prelude.{◌≡◌, OnOk, IfOk, IfErr};
+ghost use Rattle.std.specs.Prelude.{◌≡◌, map, OnOk, IfOk, IfErr};
+ghost use Rattle.grain_bytecode.specs.Dispatch.{arms, listed};
 ghost use Rattle.grain_bytecode.specs.LookedUp.{FindsAll, NamesMissing, LooksUp, cases_sought, ordered_cases, switch_sought, switch_at_sought};
 
 use super::error::DisassembleError;
@@ -55,18 +56,28 @@ fn write_range(out: &mut String, range: &SwitchRange) -> Result<(), AllocError> 
     }
 }
 
-// Of each case its target and the index of its constant, in the order of the text.
+// Of each case its target and the index of its constant.
+fn cases_of(alloc: Global, switch: &Switch) -> Result<Vec<(u32, u32)>, AllocError>
+    ensures { IfOk result
+        (λ cases. cases.items ≡ map (λ c. c.1) (listed (arms switch.now).cases)) }
+{
+    let mut listed = Vec::new(alloc);
+    let Some(cases) = &switch.cases else {
+        return Ok(listed);
+    };
+    for (_, case) in cases {
+        listed.push(*case)?;
+    }
+    Ok(listed)
+}
+
+// The same in the order of the text.
 fn ordered_cases(alloc: Global, switch: &Switch) -> Result<Vec<(u32, u32)>, AllocError>
     ensures { IfOk result (λ cases. cases.items ≡ ordered_cases switch.now) }
 {
-    let mut ordered = Vec::new(alloc);
-    if let Some(cases) = &switch.cases {
-        for (_, case) in cases {
-            ordered.push(*case)?;
-        }
-    }
-    ordered.sort_unstable();
-    Ok(ordered)
+    let mut cases = cases_of(alloc, switch)?;
+    cases.sort_unstable();
+    Ok(cases)
 }
 
 // Writes the cases, each with a comma behind it.
