@@ -95,8 +95,12 @@ abbrev pub tail_sought : Tail → Pools → List Sought
 tail_sought tails.Read p = []
 tail_sought (tails.Assign o) p = assigned_sought o p
 
+-- of a chain's steps and its tail
+abbrev pub path_sought : List Step → Tail → Pools → List Sought
+path_sought ss tail p = steps_sought ss p ++ tail_sought tail p
+
 abbrev pub chain_sought : Chain → Pools → List Sought
-chain_sought c p = root_sought c.root p ++ (steps_sought c.steps.items p ++ tail_sought c.tail p)
+chain_sought c p = root_sought c.root p ++ path_sought c.steps.items c.tail p
 
 abbrev pub chain_at_sought : ℕ → Pools → List Sought
 chain_at_sought i p = chain i ∷ option_map_or (λ c. chain_sought c p) (slice_get p.chains i) []
@@ -193,15 +197,18 @@ op_sought (ops.EvalAst f rewind) p = []
 op_sought (ops.CustomSyntax y) p = syntax_site y ∷ []
 op_sought (ops.Import n) p = name n ∷ []
 
+-- the error is want of memory, or names this
+abbrev pub Names : Option Sought → DisassembleError → Type 0
+Names first (errors.Missing what index) = IsSomeAnd first (λ x. (what.now ≡ word_of x) × (index ≡ index_of x))
+Names first errors.OutOfMemory = ⊤
+
 -- each index that is looked up finds something
 abbrev pub FindsAll : Pools → (Pools → List Sought) → Type 0
 FindsAll p sought = first_missing p (sought p) ≡ None
 
 -- the error is want of memory, or names the first index that finds nothing
 abbrev pub NamesMissing : Pools → (Pools → List Sought) → DisassembleError → Type 0
-NamesMissing p sought (errors.Missing what index) =
-    IsSomeAnd (first_missing p (sought p)) (λ x. (what.now ≡ word_of x) × (index ≡ index_of x))
-NamesMissing p sought errors.OutOfMemory = ⊤
+NamesMissing p sought error = Names (first_missing p (sought p)) error
 
 -- what the answer of a call says that looks these up
 abbrev pub LooksUp : {T : Type 0} → Pools → (Pools → List Sought) → Result T DisassembleError → Type 0

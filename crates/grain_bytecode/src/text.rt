@@ -9,6 +9,8 @@ mod error;
 mod found;
 mod function;
 mod op;
+#[cfg(test)]
+mod sample;
 mod switch;
 
 pub use error::DisassembleError;

@@ -1,6 +1,6 @@
 //! The texts of chains and of their steps and tails.
 ghost use Rattle.std.specs.Prelude.{OnOk, IfErr};
-ghost use Rattle.grain_bytecode.specs.LookedUp.{FindsAll, NamesMissing, LooksUp, chain_sought, chain_at_sought, root_sought, step_sought, steps_sought, tail_sought};
+ghost use Rattle.grain_bytecode.specs.LookedUp.{FindsAll, NamesMissing, LooksUp, chain_sought, chain_at_sought, path_sought, root_sought, step_sought, steps_sought, tail_sought};
 
 use super::assign_op::write_assign_op_at;
 use super::error::DisassembleError;
@@ -192,6 +192,20 @@ fn write_tail<L: Lookups>(
     }
 }
 
+// Writes the steps and the tail.
+fn write_path<L: Lookups>(
+    out: &mut String,
+    lookups: &L,
+    steps: &[Step],
+    tail: &Tail,
+) -> Result<(), DisassembleError>
+    ensures { LooksUp (L.pools lookups.now) (path_sought steps.now tail.now) result }
+{
+    write_steps(out, lookups, steps)?;
+    out.push(' ')?;
+    write_tail(out, lookups, tail)
+}
+
 #[tactic(auto, using(crate::proofs::Missing::first_missing_append))]
 fn write_chain<L: Lookups>(
     out: &mut String,
@@ -202,9 +216,7 @@ fn write_chain<L: Lookups>(
 {
     write_root(out, lookups, &chain.root)?;
     out.push(' ')?;
-    write_steps(out, lookups, &chain.steps)?;
-    out.push(' ')?;
-    write_tail(out, lookups, &chain.tail)
+    write_path(out, lookups, &chain.steps, &chain.tail)
 }
 
 // Writes the number of operands and the text of the chain at the index.
