@@ -124,3 +124,34 @@ fn a_part_of_the_host_is_not_hashable(rt: HostRuntime) -> Result<(), Fail> {
     assert!(rt; !Dynamic::FnPtr(pointer).is_hashable());
     Ok(())
 }
+
+#[test]
+fn each_kind_has_a_text(rt: HostRuntime) -> Result<(), Fail> {
+    let alloc = rt.alloc();
+    let mut texts = String::new(alloc);
+    for value in &each_kind(alloc)? {
+        texts.push_str(value.to_string(alloc)?.as_str())?;
+        texts.push(' ')?;
+    }
+    assert_eq!(rt;
+        texts.as_str(),
+        "() true 49 1 1 1..2 1..=2 [1] [1] #{1: 1} Fn(1) <Timer> "
+    );
+    Ok(())
+}
+
+#[test]
+fn parts_have_their_texts(rt: HostRuntime) -> Result<(), Fail> {
+    let alloc = rt.alloc();
+    let mut entries = BTreeMap::new(alloc);
+    let _ = entries.insert(String::from_str(alloc, "b")?, Dynamic::Bool(false))?;
+    let blob = Dynamic::Blob(vec![in alloc; 0, 255]?);
+    let _ = entries.insert(String::from_str(alloc, "a")?, blob)?;
+    let marked = shared(alloc, array_of(alloc, text(alloc, "t")?)?)?;
+    let items = vec![in alloc; Dynamic::Map(entries), marked, Dynamic::Int(-3)]?;
+    let texts = format!(in alloc; "{}", Dynamic::Array(items))?;
+    assert_eq!(rt; texts.as_str(), "[#{a: [0, 255], b: false}, [t], -3]");
+    let empty = Dynamic::Map(BTreeMap::new(alloc));
+    assert_eq!(rt; empty.to_string(alloc)?.as_str(), "#{}");
+    Ok(())
+}

@@ -12,7 +12,7 @@ use std::collections::HashMap;
 use std::test::Fail;
 
 #[derive(Drop)]
-pub(super) struct Sample {
+pub(super) struct TestPools {
     names: Strings,
     constants: Vec<Dynamic>,
     tokens: Vec<Token>,
@@ -21,7 +21,7 @@ pub(super) struct Sample {
     switches: Vec<Switch>,
 }
 
-impl Lookups for Sample {
+impl Lookups for TestPools {
     ghost pools = { λ s. record {
         names = s.names;
         constants = s.constants.items;
@@ -57,14 +57,14 @@ impl Lookups for Sample {
 }
 
 /// The names `x`, `y`, `+=` and `+`, the constants 5 and 1, and one of each other thing.
-pub(super) fn sample(alloc: Global) -> Result<Sample, Fail> {
+pub(super) fn sample(alloc: Global) -> Result<TestPools, Fail> {
     let plus = AssignOp {
         op_assign: Token::PlusAssign,
         op_assign_name: 2,
         op: Token::Plus,
         op_name: 3,
     };
-    Ok(Sample {
+    Ok(TestPools {
         names: Strings::new(alloc, &["x", "y", "+=", "+"])?,
         constants: vec![in alloc; Dynamic::Int(5), Dynamic::Int(1)]?,
         tokens: vec![in alloc; Token::Plus]?,
