@@ -47,9 +47,11 @@ pub use Rattle.grain_bytecode.specs.ChainStream
 pub use Rattle.grain_bytecode.specs.Disassembly
 pub use Rattle.grain_bytecode.specs.Dispatch
 pub use Rattle.grain_bytecode.specs.InstructionTable
+pub use Rattle.grain_bytecode.specs.LookedUp
 pub use Rattle.grain_bytecode.specs.Names
 pub use Rattle.grain_bytecode.specs.NamesLeft
 pub use Rattle.grain_bytecode.specs.Numbers
+pub use Rattle.grain_bytecode.specs.Pools
 pub use Rattle.grain_bytecode.specs.Positions
 pub use Rattle.grain_bytecode.specs.Qualified
 pub use Rattle.grain_bytecode.specs.Span

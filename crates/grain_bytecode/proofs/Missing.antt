@@ -2,7 +2,7 @@
 use Rattle.std.proofs.Common.{◌≡◌, ◌∙◌, List, ◌++◌, Option, Some, None, Result, MatchResult, ap, subst, sym}
 use Rattle.std.specs.Option.{option_or}
 use Rattle.std.proofs.lemmas.List.Folds.{find-append}
-use Rattle.grain_bytecode.specs.LookedUp.{LooksUp, Names, NamesMissing, Sought, first_missing, is_missing}
+use Rattle.grain_bytecode.specs.LookedUp.{LooksUp, NamesFirst, NamesMissing, Sought, first_missing, is_missing}
 use Rattle.grain_bytecode.specs.Pools.{Pools}
 use Rattle.grain_bytecode.specs.declared.text.error.DisassembleError.{DisassembleError}
 use Rattle.grain_bytecode.specs.declared.text.error.DisassembleError.TheVariants as errors
@@ -15,16 +15,16 @@ first_missing_append p xs ys = find-append (is_missing p) xs ys
 pub later_decide : {T : Type 0} (p : Pools) (xs ys : List Sought) (r : Result T DisassembleError) → first_missing p xs ≡ None → LooksUp p (λ _. ys) r → LooksUp p (λ _. xs ++ ys) r
 later_decide p xs ys r none h =
     let same : first_missing p (xs ++ ys) ≡ first_missing p ys = first_missing_append p xs ys ∙ ap (λ (o : Option Sought). option_or o (first_missing p ys)) none in
-    let P : Option Sought → Type 0 = λ o. MatchResult r (λ _. o ≡ None) (Names o) in
+    let P : Option Sought → Type 0 = λ o. MatchResult r (λ _. o ≡ None) (NamesFirst o) in
     subst P (sym same) h
 
-Names-or : (o z : Option Sought) (error : DisassembleError) → Names o error → Names (option_or o z) error
-Names-or None z (errors.Missing what index) h = absurd h
-Names-or None z errors.OutOfMemory h = h
-Names-or (Some x) z error h = h
+NamesFirst-or : (o z : Option Sought) (error : DisassembleError) → NamesFirst o error → NamesFirst (option_or o z) error
+NamesFirst-or None z (errors.Missing what index) h = absurd h
+NamesFirst-or None z errors.OutOfMemory h = h
+NamesFirst-or (Some x) z error h = h
 
 -- what an error names among the earlier ones
 pub earlier_named : (p : Pools) (xs ys : List Sought) (error : DisassembleError) → NamesMissing p (λ _. xs) error → NamesMissing p (λ _. xs ++ ys) error
 earlier_named p xs ys error h =
-    let P : Option Sought → Type 0 = λ o. Names o error in
-    subst P (sym (first_missing_append p xs ys)) (Names-or (first_missing p xs) (first_missing p ys) error h)
+    let P : Option Sought → Type 0 = λ o. NamesFirst o error in
+    subst P (sym (first_missing_append p xs ys)) (NamesFirst-or (first_missing p xs) (first_missing p ys) error h)

@@ -198,9 +198,9 @@ op_sought (ops.CustomSyntax y) p = syntax_site y ∷ []
 op_sought (ops.Import n) p = name n ∷ []
 
 -- the error is want of memory, or names this
-abbrev pub Names : Option Sought → DisassembleError → Type 0
-Names first (errors.Missing what index) = IsSomeAnd first (λ x. (what.now ≡ word_of x) × (index ≡ index_of x))
-Names first errors.OutOfMemory = ⊤
+abbrev pub NamesFirst : Option Sought → DisassembleError → Type 0
+NamesFirst first (errors.Missing what index) = IsSomeAnd first (λ x. (what.now ≡ word_of x) × (index ≡ index_of x))
+NamesFirst first errors.OutOfMemory = ⊤
 
 -- each index that is looked up finds something
 abbrev pub FindsAll : Pools → (Pools → List Sought) → Type 0
@@ -208,7 +208,7 @@ FindsAll p sought = first_missing p (sought p) ≡ None
 
 -- the error is want of memory, or names the first index that finds nothing
 abbrev pub NamesMissing : Pools → (Pools → List Sought) → DisassembleError → Type 0
-NamesMissing p sought error = Names (first_missing p (sought p)) error
+NamesMissing p sought error = NamesFirst (first_missing p (sought p)) error
 
 -- what the answer of a call says that looks these up
 abbrev pub LooksUp : {T : Type 0} → Pools → (Pools → List Sought) → Result T DisassembleError → Type 0

@@ -163,3 +163,5 @@ fn programs_are_printed_by_their_counts(rt: HostRuntime) -> Result<(), Fail> {
     );
     Ok(())
 }
+
+mod texts;
