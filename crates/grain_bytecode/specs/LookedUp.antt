@@ -3,9 +3,7 @@ use Rattle.std.specs.Prelude.{ℕ, ◌≡◌, ⊤, Bool, true, List, [], ◌∷�
 use Rattle.std.specs.List.{find, flat_map}
 use Rattle.std.specs.Option.{option_map_or, option_to_list}
 use Rattle.std.specs.Ordering.{is_lt, nat_cmp, ordering_then}
-use Rattle.grain_base.specs.declared.token.Token.{Token}
-use Rattle.grain_base.specs.declared.value.Dynamic.{Dynamic}
-use Rattle.grain_bytecode.specs.Dispatch.{Arms, arms, listed}
+use Rattle.grain_bytecode.specs.Dispatch.{arms, listed}
 use Rattle.grain_bytecode.specs.declared.assign_op.AssignOp.{AssignOp}
 use Rattle.grain_bytecode.specs.declared.chain.Chain.{Chain}
 use Rattle.grain_bytecode.specs.declared.chain.Root.{Root}

@@ -73,7 +73,9 @@ fn write_op<L: Lookups>(out: &mut String, lookups: &L, op: &Op) -> Result<(), Di
             Ok(())
         }
         Op::Call {
-            name, op: operator, ..
+            name,
+            op: operator,
+            ..
         } => {
             write_named(out, lookups, op, *name)?;
             write_operator(out, lookups, *operator)

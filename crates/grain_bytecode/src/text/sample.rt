@@ -23,12 +23,12 @@ pub(super) struct TestPools {
 
 impl Lookups for TestPools {
     ghost pools = { λ s. record {
-        names = s.names;
-        constants = s.constants.items;
-        tokens = s.tokens.items;
-        assign_ops = s.assign_ops.items;
-        chains = s.chains.items;
-        switches = s.switches.items;
+      names = s.names;
+      constants = s.constants.items;
+      tokens = s.tokens.items;
+      assign_ops = s.assign_ops.items;
+      chains = s.chains.items;
+      switches = s.switches.items;
     } };
 
     fn name(&self, index: u32) -> Option<&str> {

@@ -253,7 +253,10 @@ fn cases_go_by_their_targets(rt: HostRuntime) -> Result<(), Fail> {
     let alloc = rt.alloc();
     let pools = sample(alloc)?;
     let mut table = switch(alloc, 8)?;
-    assert_eq!(rt; table.disassemble(alloc, &pools), Err(missing("constant", 8)));
+    assert_eq!(rt;
+        table.disassemble(alloc, &pools),
+        Err(missing("constant", 8))
+    );
     table = switch(alloc, 0)?;
     if let Some(cases) = &mut table.cases {
         let _ = cases.insert(Dynamic::Bool(true), (10, 1))?;
