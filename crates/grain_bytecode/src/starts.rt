@@ -57,11 +57,11 @@ impl Starts {
         let mut bits = 0;
         let mut at = 0;
         let mut count = 0;
-        while let Some(width) = width(code, at) {
+        'reading: while let Some(width) = width(code, at) {
             bits |= 1u64 << (at % 64);
             count += 1;
             at += width;
-            while words.len() < at / 64 {
+            'closing: while words.len() < at / 64 {
                 words.push_reserved(Word { before, bits });
                 before = count;
                 bits = 0;

@@ -6,9 +6,9 @@ use Rattle.grain_bytecode.proofs.Fronts.{whole_front}
 use Rattle.grain_bytecode.proofs.Splits.{one_more}
 use Rattle.grain_bytecode.proofs.starts.Starts.of.Goals as goal
 
-pub loop-width-2-init : goal.loop-width-2-init
-loop-width-2-init c =
-    let s = c.loop-width in
+pub closing-init : goal.closing-init
+closing-init c =
+    let s = c.reading in
     let code = c.args.code.now in
     let front = s.invariant.front in
     let found = c.in-Some.ensures.found in
@@ -22,25 +22,25 @@ loop-width-2-init c =
       front = (ops, are, rw (next_start code s.at front.0 found.0 s.invariant.in_code front.1) filling);
     }
 
-pub loop-width-2-preserved : goal.loop-width-2-preserved
-loop-width-2-preserved c =
-    let s = c.loop-width-2 in
+pub closing-preserved : goal.closing-preserved
+closing-preserved c =
+    let s = c.closing in
     let front = s.invariant.front in
     record {
       room = omega (arith, s.invariant.room, c.push_reserved.ensures.capacity);
-      opened = omega (arith, c.push_reserved.ensures.len, c.loop-width-2-test.true);
-      front = (front.0, front.1, rw c.push_reserved.ensures.items (filling_word s.words.items s.before s.bits _ _ (starts_from 0 front.0) (omega (arith, c.loop-width-2-test.true)) front.2));
+      opened = omega (arith, c.push_reserved.ensures.len, c.closing-test.true);
+      front = (front.0, front.1, rw c.push_reserved.ensures.items (filling_word s.words.items s.before s.bits _ _ (starts_from 0 front.0) (omega (arith, c.closing-test.true)) front.2));
     }
 
 pub invariant_of-result : goal.invariant_of-result
 invariant_of-result c =
-    let s = c.loop-width in
+    let s = c.reading in
     let front = s.invariant.front in
     rw c.push_reserved-2.ensures.items (filled s.words.items s.before s.bits s.count s.at (starts_from 0 front.0) (omega (arith, s.invariant.opened)) front.2).1
 
 pub returns-clause-front : goal.returns-clause-front
 returns-clause-front c =
-    let s = c.loop-width in
+    let s = c.reading in
     let front = s.invariant.front in
     let these = (filled s.words.items s.before s.bits s.count s.at (starts_from 0 front.0) (omega (arith, s.invariant.opened)) front.2).0 in
     record {

@@ -5,8 +5,8 @@ use Rattle.grain_bytecode.proofs.Filling.{Filling}
 use Rattle.grain_bytecode.proofs.starts.Starts.of.Given as goal
 
 -- the code so far is instructions, their starts are in the words, and the word of the next address is open
-abbrev pub invariant-loop-width : goal.invariant-loop-width
-invariant-loop-width l = record {
+abbrev pub invariant-reading : goal.invariant-reading
+invariant-reading l = record {
   in_code : l.at ≤ length l.code;
   few : l.count ≤ l.at;
   room : length l.code / 64 + 1 ≤ vec_capacity l.words;
@@ -14,16 +14,16 @@ invariant-loop-width l = record {
   front : (ops : List Op) × AreInstructions (take l.at l.code) ops × Filling l.words.items l.before l.bits l.count l.at (starts_from 0 ops);
 }
 
-abbrev pub decreases-loop-width : goal.decreases-loop-width
-decreases-loop-width l = length l.code - l.at
+abbrev pub decreases-reading : goal.decreases-reading
+decreases-reading l = length l.code - l.at
 
 -- the same, but the open word may be an earlier one
-abbrev pub invariant-loop-width-2 : goal.invariant-loop-width-2
-invariant-loop-width-2 l = record {
+abbrev pub invariant-closing : goal.invariant-closing
+invariant-closing l = record {
   room : length l.code / 64 + 1 ≤ vec_capacity l.words;
   opened : length l.words.items ≤ l.at / 64;
   front : (ops : List Op) × AreInstructions (take l.at l.code) ops × Filling l.words.items l.before l.bits l.count l.at (starts_from 0 ops);
 }
 
-abbrev pub decreases-loop-width-2 : goal.decreases-loop-width-2
-decreases-loop-width-2 l = l.at / 64 - length l.words.items
+abbrev pub decreases-closing : goal.decreases-closing
+decreases-closing l = l.at / 64 - length l.words.items
