@@ -42,7 +42,7 @@ impl Starts {
 
     /// The starts of the longest front of the code that splits.
     ///
-    /// It reads the code once, from its beginning to where the front ends, and takes memory once.
+    /// It reads the code once, up to where the front ends, in time linear in the code, and takes memory once.
     ///
     /// # Errors
     ///
@@ -77,7 +77,7 @@ impl Starts {
 
     /// Where the front ends: the address of the first thing that is no instruction, or the end of the code.
     ///
-    /// It takes the same time for all code.
+    /// It takes constant time.
     #[must_use]
     pub fn end(&self) -> usize
         ensures { result ≡ self.now.end }
@@ -87,7 +87,7 @@ impl Starts {
 
     /// How many starts there are.
     ///
-    /// It takes the same time for all code.
+    /// It takes constant time.
     #[must_use]
     pub fn count(&self) -> usize
         ensures { result ≡ length self.now.starts }
@@ -97,7 +97,7 @@ impl Starts {
 
     /// Whether an address is a start. The end of the front is none.
     ///
-    /// It takes the same time for all code and all addresses.
+    /// It takes constant time, and answers for every address.
     #[must_use]
     pub fn contains(&self, at: usize) -> bool
         ensures { IsTrue result ↔ Contains self.now.starts at }
@@ -110,7 +110,7 @@ impl Starts {
 
     /// How many starts have lower addresses than a start, or `None` where the address is none.
     ///
-    /// It takes the same time for all code and all addresses.
+    /// It takes constant time, and answers for every address.
     #[must_use]
     pub fn ordinal(&self, at: usize) -> Option<usize>
         ensures place { (k : ℕ) → (result ≡ Some k) ↔ (slice_get self.now.starts k ≡ Some at) }
