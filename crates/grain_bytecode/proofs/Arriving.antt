@@ -118,7 +118,7 @@ starts-push n (o ∷ ops) op =
     let end : n + width_of o + sum_by width_of ops ≡ n + sum_by width_of (o ∷ ops) = omega (arith, sum_by-cons width_of o ops) in
     ap (λ starts. n ∷ starts) (starts-push (n + width_of o) ops op ∙ ap (λ k. starts_from (n + width_of o) ops ++ k ∷ []) end)
 
-next_start : (code : List ℕ) (at : ℕ) (ops : List Op) (op : Op) → at ≤ length code → AreInstructions (take at code) ops → starts_from 0 (ops ++ op ∷ []) ≡ starts_from 0 ops ++ at ∷ []
+pub next_start : (code : List ℕ) (at : ℕ) (ops : List Op) (op : Op) → at ≤ length code → AreInstructions (take at code) ops → starts_from 0 (ops ++ op ∷ []) ≡ starts_from 0 ops ++ at ∷ []
 next_start code at ops op inside are =
     let long : 0 + sum_by width_of ops ≡ at = omega (arith, length-take-le at code inside, ap length are.whole, spellings_width ops) in
     starts-push 0 ops op ∙ ap (λ n. starts_from 0 ops ++ n ∷ []) long

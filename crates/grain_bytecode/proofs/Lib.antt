@@ -9,7 +9,9 @@ pub mod Cuts
 pub mod Dispatching
 pub mod Drained
 pub mod Entering
+pub mod Filling
 pub mod Flaws
+pub mod Fronts
 pub mod Growing
 pub mod Instructions
 pub mod KnownFlags
@@ -20,9 +22,11 @@ pub mod Placed
 pub mod Printed
 pub mod Reading
 pub mod Rows
+pub mod SetBelow
 pub mod Slots
 pub mod Spans
 pub mod Splits
 pub mod Streams
 pub mod Tables
 pub mod Widths
+pub mod Words

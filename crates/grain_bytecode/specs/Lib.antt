@@ -15,5 +15,6 @@ pub mod Positions
 pub mod Qualified
 pub mod Span
 pub mod Split
+pub mod Starts
 pub mod StepBits
 pub mod Unread

@@ -1,0 +1,38 @@
+-- The starts of code as contracts see them, and how bits stand for them.
+use Rattle.std.specs.Prelude.{◌≡◌, ℕ, ◌*◌, ◌/◌, ◌%◌, ◌≤◌, ◌==◌, Bool, List, map, length, take, filter, slice_get, slice_index, Some}
+use Rattle.std.specs.Int.{bit_at}
+use Rattle.std.specs.List.{range_with_len}
+use Rattle.grain_bytecode.specs.Split.{Split, NoneStandsAt}
+use Rattle.grain_bytecode.specs.declared.starts.Word.{Word}
+
+-- a front of code: where it ends, and where its instructions begin
+pub record Front : Type 0 where
+  pub end : ℕ
+  pub starts : List ℕ
+
+-- it is the longest front of the code that splits
+pub record IsLongestFront (code : List ℕ) (front : Front) : Type 0 where
+  pub inside : front.end ≤ length code
+  pub splits : Split (take front.end code) front.starts
+  pub longest : NoneStandsAt code front.end
+
+-- whether the bit of an address is set, in words of 64 bits each, the lowest bit first
+abbrev pub is_set : List ℕ → ℕ → Bool
+is_set bits at = bit_at (slice_index bits (at / 64)) (at % 64) == 1
+
+-- the addresses below a limit that have their bits set
+abbrev pub set_below : List ℕ → ℕ → List ℕ
+set_below bits limit = filter (is_set bits) (range_with_len 0 limit)
+
+-- the bits of the words
+abbrev pub bits_of : List Word → List ℕ
+bits_of words = map (λ word. word.bits) words
+
+-- the addresses that have their bits set in these words
+abbrev pub starts_in : List Word → List ℕ
+starts_in words = set_below (bits_of words) (64 * length words)
+
+-- each word counts the starts before its own addresses, and all of them are so many
+pub record IsCounted (words : List Word) (count : ℕ) : Type 0 where
+  pub before : (i : ℕ) (word : Word) → slice_get words i ≡ Some word → word.before ≡ length (set_below (bits_of words) (64 * i))
+  pub all : count ≡ length (starts_in words)
