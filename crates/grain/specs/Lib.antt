@@ -56,5 +56,6 @@ pub use Rattle.grain_bytecode.specs.Positions
 pub use Rattle.grain_bytecode.specs.Qualified
 pub use Rattle.grain_bytecode.specs.Span
 pub use Rattle.grain_bytecode.specs.Split
+pub use Rattle.grain_bytecode.specs.Starts
 pub use Rattle.grain_bytecode.specs.StepBits
 pub use Rattle.grain_bytecode.specs.Unread

@@ -24,7 +24,7 @@ mod program;
 mod samples;
 mod sidecar;
 mod slots;
-mod starts;
+mod start_marks;
 mod state;
 mod tighten;
 mod verifier;
@@ -38,7 +38,7 @@ pub use grain_base::{
 };
 pub use grain_bytecode::{
     AssembleError, AssignOp, BadTable, Chain, ChainPositions, Chunk, DisassembleError, Disassembly, Field, Function,
-    Lookups, Names, Op, Pool, Positions, Receiver, Root, Step, StepFlags, Strings, StringsError,
+    Lookups, Names, Op, Pool, Positions, Receiver, Root, Step, Starts, StepFlags, Strings, StringsError,
     StripError, Switch, SwitchRange, TableError, Tail, assemble, count_instructions, decode,
     disassemble, names, resolve_switch_targets, site_to_position, sites, tag, u16_at, u32_at,
     width,

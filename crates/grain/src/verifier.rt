@@ -17,7 +17,7 @@ use crate::error::VerifyError;
 use crate::functions::check_functions;
 use crate::indices::check_code;
 use crate::pools::Pools;
-use crate::starts::mark_starts;
+use crate::start_marks::mark_starts;
 use crate::visited::Visited;
 use crate::walk::Prepared;
 use grain_base::{Caps, Dynamic};

@@ -1,6 +1,6 @@
 use Rattle.std.proofs.Common.{◌≡◌, ◌-◌, length}
 use Rattle.grain.specs.Marks.{MarksTo}
-use Rattle.grain.proofs.starts.mark_starts.Given as goal
+use Rattle.grain.proofs.start_marks.mark_starts.Given as goal
 
 abbrev pub invariant-loop-at : goal.invariant-loop-at
 invariant-loop-at l = record {

@@ -1,6 +1,6 @@
 use Rattle.std.proofs.Common.{◌≡◌, ◌≤◌, ◌-◌, length}
 use Rattle.grain.specs.Marks.{MarksTo}
-use Rattle.grain.proofs.starts.mark_one_byte_instructions.Given as goal
+use Rattle.grain.proofs.start_marks.mark_one_byte_instructions.Given as goal
 
 abbrev pub invariant-loop-marks : goal.invariant-loop-marks
 invariant-loop-marks l = record {

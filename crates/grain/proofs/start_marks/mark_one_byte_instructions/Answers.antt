@@ -2,7 +2,7 @@ use Rattle.std.proofs.Common.{◌+◌, ◌<◌, length, set, true, sym, subst, �
 use Rattle.std.proofs.lemmas.List.{length-set}
 use Rattle.grain.specs.Marks.{MarksTo}
 use Rattle.grain.proofs.Marks.{marked_more}
-use Rattle.grain.proofs.starts.mark_one_byte_instructions.Goals as goal
+use Rattle.grain.proofs.start_marks.mark_one_byte_instructions.Goals as goal
 
 pub loop-marks-preserved : goal.loop-marks-preserved
 loop-marks-preserved c =

@@ -1,7 +1,7 @@
 use Rattle.std.proofs.Common.{◌≡◌, length, replicate, false, rules, arith}
 use Rattle.grain.proofs.Marks.{boundary_start, marked_start, marked_more, marked_all}
 use Rattle.grain.proofs.Splits.{start_op}
-use Rattle.grain.proofs.starts.mark_starts.Goals as goal
+use Rattle.grain.proofs.start_marks.mark_starts.Goals as goal
 
 pub mark_one_byte_instructions-at-requires-clause-marked : goal.mark_one_byte_instructions-at-requires-clause-marked
 mark_one_byte_instructions-at-requires-clause-marked c =
