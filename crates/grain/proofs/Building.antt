@@ -1,20 +1,18 @@
 -- What is handed over passes by index exactly where the program that it makes is accepted.
-use Rattle.std.proofs.Common.{◌≡◌, ◌≢◌, ℕ, ◌+◌, ◌<◌, ◌≤◌, zero, suc, List, [], ◌∷◌, ◌++◌, length, map, Option, Some, None, refl, sym, ap, subst, ◌∙◌, arith}
+use Rattle.std.proofs.Common.{◌≡◌, ℕ, ◌+◌, ◌<◌, ◌≤◌, zero, suc, List, [], ◌∷◌, ◌++◌, length, map, Option, Some, None, refl, sym, ap, subst, ◌∙◌, arith}
 use Rattle.std.specs.Prelude.{option_map, slice_index}
 use Rattle.std.specs.List.{All, AllByRecursion, AllZip}
-use Rattle.std.proofs.lemmas.List.{get_or_default, length-map, map-append}
+use Rattle.std.proofs.lemmas.List.{get_or_default, map-append}
 use Rattle.std.proofs.lemmas.List.Elements.{All-map}
 use Rattle.std.proofs.lemmas.Simd.{map-map}
 use Rattle.grain_base.specs.CapBits.{FUNCTION}
 use Rattle.grain_base.specs.declared.caps.Caps.{Caps}
-use Rattle.grain_base.specs.declared.value.Dynamic.{Dynamic}
-use Rattle.grain_bytecode.specs.Assembly.{IsAssembly, assembled, retarget}
+use Rattle.grain_bytecode.specs.Assembly.{assembled, retarget}
 use Rattle.grain_bytecode.specs.Dispatch as dispatch
 use Rattle.grain_bytecode.specs.Dispatch.{Arms, Case, arms, offset_at, resolved, resolved_case, resolved_range, targets}
 use Rattle.grain_bytecode.specs.Fields as fields
 use Rattle.grain_bytecode.specs.InstructionTable.{form}
 use Rattle.grain_bytecode.specs.Span.{Span}
-use Rattle.grain_bytecode.specs.Split.{AreInstructions, BeginsNone, IsInstruction}
 use Rattle.grain_bytecode.specs.declared.field.Field.{Field}
 use Rattle.grain_bytecode.specs.declared.field.Field.TheVariants.{Index, Slot, Count, Target}
 use Rattle.grain_bytecode.specs.declared.function.Function.{Function}
@@ -30,8 +28,8 @@ use Rattle.grain.specs.Build.{AreDeepestByIndex, CanBuild, CanLay, Draft, IsLaid
 use Rattle.grain.specs.ByIndex.{IsCut, LeadWithin, moved}
 use Rattle.grain.specs.Capabilities.{Allows}
 use Rattle.grain.specs.Code.{Bytecode, coded, switch_targets}
-use Rattle.grain.specs.Indices.{Indexed, IsBounded, all_case_constants, all_inner, case_constants, cases_of, inner_fields}
-use Rattle.grain.specs.Program.{Program, chunks_of, input_of, made, setting_of}
+use Rattle.grain.specs.Indices.{Indexed, IsBounded, all_case_constants, all_inner, case_constants, inner_fields}
+use Rattle.grain.specs.Program.{Program, chunks_of, input_of, setting_of}
 use Rattle.grain.specs.Setting.{Setting, case_consts}
 use Rattle.grain.specs.Typing.{HasTyping, IsDeepest}
 use Rattle.grain.specs.declared.builder.Head.{Head}
