@@ -2,6 +2,7 @@ pub mod Arriving
 pub mod Attaching
 pub mod Bodies
 pub mod Bounds
+pub mod Building
 pub mod Chunks
 pub mod Declared
 pub mod Drawing
@@ -13,6 +14,7 @@ pub mod Growth
 pub mod Indexing
 pub mod Inputs
 pub mod Law
+pub mod Laying
 pub mod Marks
 pub mod Most
 pub mod Offsets

@@ -20,6 +20,7 @@ pub mod Lookups
 pub mod Tightened
 pub mod Sidecars
 pub mod ByIndex
+pub mod Build
 -- what the parts of the walk promise each other, and those of other calls
 pub mod Arrivals
 pub mod FirstOut

@@ -19,8 +19,10 @@ ghost use Rattle.grain.specs.EdgeSteps.{IsArmed, IsEdgeCatch, IsEdgeStep, armed_
 ghost use Rattle.grain.specs.Setting.{Setting};
 ghost use Rattle.grain.specs.Typing.{HasTyping, IsDeepest, IsInChunk, IsTyping, Passes, Reached};
 
+mod building;
 mod positions;
 
+pub use building::building_is_verifying;
 pub use positions::stripped_positions_come_back;
 
 /// In a chunk that has a typing, counts are reached exactly where a kept run has them, and each state of a kept run

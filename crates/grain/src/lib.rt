@@ -7,6 +7,7 @@
 //! same words. Capabilities are made and joined through the trait [`Flags`].
 #![tactic(auto)]
 
+mod builder;
 mod capabilities;
 mod constants;
 mod edges;
@@ -31,6 +32,7 @@ mod verifier;
 mod visited;
 mod walk;
 
+pub use builder::{BuildError, Cut, Head, build};
 pub use constants::constant_caps;
 pub use error::VerifyError;
 pub use grain_base::{

@@ -1,6 +1,5 @@
 use super::*;
 use crate::samples::{function, parts};
-use crate::sidecar::Sidecar;
 use grain_base::Flags;
 use grain_bytecode::{Lookups, Root, Step, StepFlags, Tail};
 use std::test::Fail;
@@ -82,7 +81,7 @@ fn verified(program: &Program, alloc: Global) -> Result<String, Fail> {
 }
 
 #[test]
-fn programs_are_verified_tightened_stripped_and_attached(rt: HostRuntime) -> Result<(), Fail> {
+fn programs_are_verified_and_tightened(rt: HostRuntime) -> Result<(), Fail> {
     let alloc = rt.alloc();
     let mut program = compiled(alloc)?;
 
@@ -95,6 +94,13 @@ fn programs_are_verified_tightened_stripped_and_attached(rt: HostRuntime) -> Res
     assert_eq!(rt; program.main().max_stack(), 1);
     assert_eq!(rt; program.max_stack(), 2);
     assert_eq!(rt; verified(&program, alloc)?.as_str(), "Ok([1, 2, 1])");
+    Ok(())
+}
+
+#[test]
+fn functions_and_entries_are_found(rt: HostRuntime) -> Result<(), Fail> {
+    let alloc = rt.alloc();
+    let program = compiled(alloc)?;
 
     // A host calls functions by name, and a method by the type of its receiver.
     let double = program.function_named("double", 1);
@@ -106,6 +112,13 @@ fn programs_are_verified_tightened_stripped_and_attached(rt: HostRuntime) -> Res
     assert_eq!(rt; program.name(3), Some("len"));
     assert_eq!(rt; program.token(0), Some(&Token::Plus));
     assert!(rt; program.chain(0).is_some() && program.chain(1).is_none());
+    Ok(())
+}
+
+#[test]
+fn positions_go_apart_and_come_back(rt: HostRuntime) -> Result<(), Fail> {
+    let alloc = rt.alloc();
+    let mut program = compiled(alloc)?;
 
     // Positions are shipped apart. What runs is the same.
     let sidecar = program.strip_positions()?;
@@ -114,13 +127,7 @@ fn programs_are_verified_tightened_stripped_and_attached(rt: HostRuntime) -> Res
     assert!(rt; program.position(3).is_none());
     assert_eq!(rt; verified(&program, alloc)?.as_str(), "Ok([1, 2, 1])");
 
-    // Whoever looks into a crash gives them back, but not to another program.
-    let foreign = Sidecar {
-        debug_id: 8,
-        positions: Vec::new(alloc),
-        chains: Vec::new(alloc),
-    };
-    assert!(rt; program.attach_positions(&foreign).is_err());
+    // Whoever looks into a crash gives them back.
     assert!(rt; program.attach_positions(&sidecar).is_ok());
     assert_eq!(rt; program.position(3), Position::new(1, 1));
     let places = program.chains().first().map(|chain| chain.positions());
