@@ -37,6 +37,7 @@ pub use Rattle.grain_base.proofs.KnownCaps
 pub use Rattle.grain_base.specs.AddressTable
 pub use Rattle.grain_base.specs.CapBits
 pub use Rattle.grain_base.specs.Content
+pub use Rattle.grain_base.specs.EntriesLeft
 pub use Rattle.grain_base.specs.Place
 pub use Rattle.grain_base.specs.Varint
 pub use Rattle.grain_base.specs.View

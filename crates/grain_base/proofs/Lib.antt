@@ -1,5 +1,6 @@
 pub mod Checked
 pub mod Deltas
+pub mod Drained
 pub mod Encoding
 pub mod Entries
 pub mod Groups

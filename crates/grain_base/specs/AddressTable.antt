@@ -6,6 +6,7 @@ use Rattle.grain_base.specs.declared.pos.Error.TheVariants as table_error
 use Rattle.grain_base.specs.declared.pos.Site.{Site}
 use Rattle.grain_base.specs.declared.varint.Error.{Error as NumberError}
 use Rattle.grain_base.specs.declared.varint.Error.TheVariants as number_error
+use Rattle.grain_base.specs.EntriesLeft.{EntriesLeft}
 use Rattle.grain_base.specs.Varint.{Begins, U32Flaw}
 
 -- an address, and the site recorded for it
@@ -52,6 +53,12 @@ pub record Holds (bytes : List ℕ) (list : List Entry) : Type 0 where
 pub record Front (bytes : List ℕ) (list : List Entry) : Type 0 where
   pub held : (list ≡ []) ⊎ Holds bytes list
   pub longest : (other : List Entry) → Holds bytes other → length other ≤ length list
+
+-- One step gives the entry that comes first, and leaves what follows it. It gives nothing, and leaves all, where no entry
+-- is due or none comes.
+abbrev pub EntrySteps : EntriesLeft → Option Entry → EntriesLeft → Type 0
+EntrySteps old None new = ((old.count ≡ 0) ⊎ NoneNext old.before old.bytes) × (new ≡ old)
+EntrySteps old (Some entry) new = (old.count ≡ new.count + 1) × IsNext old.before old.bytes entry new.bytes × (new.before ≡ entry.0)
 
 -- line 0 says that the site isn't known
 abbrev pub known : Entry → Option Site

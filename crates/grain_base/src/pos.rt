@@ -7,15 +7,19 @@
 //! in front of the first damage counts, and nothing behind it. No call that reads takes memory.
 
 ghost use Rattle.std.specs.Prelude.{◌≡◌, ℕ, ◌^◌, ◌<◌, ◌↔◌, List, [], ◌∷◌, length, drop, Ok, Err, IsOk, IsTrue, IfOk, OnErr};
+ghost use Rattle.std.specs.Iterator.{Drains};
 ghost use Rattle.std.specs.List.Sorted.{IsStrictlyIncreasing};
 ghost use Rattle.grain_base.specs.declared.varint.Error.{Error as NumberError};
 ghost use Rattle.grain_base.specs.declared.pos.Error.{Error as TableError};
 ghost use Rattle.grain_base.specs.Varint.{Begins, U32Flaw, AreShortest};
-ghost use Rattle.grain_base.specs.AddressTable.{Entry, addresses, IsNext, NoneNext, Table, Front, FirstFlaw, site_at, kept, numbers_from, as_table_error};
+ghost use Rattle.grain_base.specs.AddressTable.{Entry, addresses, IsNext, NoneNext, Table, Front, EntrySteps, FirstFlaw, site_at, kept, numbers_from, as_table_error};
+
+mod walk;
 
 use crate::varint;
 use std::alloc::{AllocError, Global};
 use std::fmt;
+pub use walk::Entries;
 
 /// Where something stands in a script.
 #[derive(Clone, Copy, Debug, PartialEq, Eq)]
@@ -110,6 +114,37 @@ fn entry(table: &[u8], at: &mut usize, before: u32) -> Result<(u32, Site), varin
     let line = varint::u32(table, at)?;
     let column = varint::u32(table, at)?;
     Ok((address, Site { line, column }))
+}
+
+/// The entries of an address table in order, each with its address: docs/FORMAT.md, "Address table".
+///
+/// They are those that stand whole in front of the first damage, and no more than the count says; entries of line 0 and
+/// repeated addresses are among them. Behind the last there is nothing more, however often it is asked. Where the bytes
+/// begin with no count that fits a `u32` there are none.
+///
+/// To read them all takes time by the length of the address table, and no memory.
+#[must_use]
+pub fn entries(table: &[u8]) -> Entries<'_>
+    ensures from_the_start { (n : ℕ) (after : List ℕ) → Begins table.now (n ∷ []) after
+        → result ≡ record { count = n; before = 0; bytes = after } }
+    ensures gives { (items : List Entry) → Drains EntrySteps result items
+        → Front table.now items }
+{
+    let mut at = 0;
+    let Ok(count) = varint::u32(table, &mut at) else {
+        return Entries {
+            table,
+            at,
+            before: 0,
+            count: 0,
+        };
+    };
+    Entries {
+        table,
+        at,
+        before: 0,
+        count,
+    }
 }
 
 /// Looks up an address: the site of the first entry there.

@@ -74,6 +74,44 @@ fn resolves(rt: HostRuntime) {
 }
 
 #[test]
+fn entries_are_given(rt: HostRuntime) -> Result<(), Fail> {
+    let cases: [(&[u8], &[(u32, Site)]); 9] = [
+        (
+            &TABLE,
+            &[
+                (0, site(1, 5)),
+                (3, site(1, 11)),
+                (40, site(7, 2)),
+                (41, site(9, 0)),
+            ],
+        ),
+        (&[4, 0, 1, 5, 3], &[(0, site(1, 5))]),
+        (&[2, 0, 1, 1, 0, 2, 2], &[(0, site(1, 1)), (0, site(2, 2))]),
+        (&[], &[]),
+        (&[0, 0, 1, 5], &[]),
+        (&[1, 0, 1, 5, 3, 1, 11], &[(0, site(1, 5))]),
+        (&[2, 0, 0, 1, 7, 1, 1], &[(0, site(0, 1)), (7, site(1, 1))]),
+        (
+            &[2, 0xff, 0xff, 0xff, 0xff, 0x0f, 1, 1, 1, 1, 1],
+            &[(u32::MAX, site(1, 1))],
+        ),
+        (&[0x80, 0x80, 0x80, 0x80, 0x10, 0, 1, 5], &[]),
+    ];
+    for (table, want) in cases {
+        let all: Vec<(u32, Site)> = entries(table).collect(rt.alloc())?;
+        assert_eq!(rt; all.as_slice(), want);
+        let mut left = entries(table);
+        for entry in want {
+            assert_eq!(rt; left.next(), Some(*entry));
+        }
+        for _ in 0..3 {
+            assert_eq!(rt; left.next(), None);
+        }
+    }
+    Ok(())
+}
+
+#[test]
 fn checks(rt: HostRuntime) {
     let longer = [4u8, 0, 1, 5, 3, 1, 11, 37, 7, 2, 1, 9, 0, 0];
     let cases: [(&[u8], Result<(), Error>); 7] = [
