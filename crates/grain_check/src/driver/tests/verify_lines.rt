@@ -47,6 +47,17 @@ verify 7fff 0100 0:2:8 => refused undecodable at=0
 verify 7fff 2307000000221302022213 0:11:8 => accepted 2
 verify 7fff 0c00000000 0:5:0 => accepted 0
 verify 7fff 0213ff 0:2:8 => refused undecodable at=2
+verify 7fff - 0:0:8 => refused falls-off-the-end
+verify 7fff 23 0:1:8 => refused undecodable at=0
+verify 7fff 2308 0:2:8 => refused undecodable at=0
+verify 7fff 230800 0:3:8 => refused undecodable at=0
+verify 7fff 23080000 0:4:8 => refused undecodable at=0
+verify 7fff 2308000000 0:5:8 => refused jump-out-of-range at=0 target=8
+verify 7fff 230800000002 0:6:8 => refused jump-out-of-range at=0 target=8
+verify 7fff 23080000000222 0:7:8 => refused jump-out-of-range at=0 target=8
+verify 7fff 2308000000022213 0:8:8 => refused jump-out-of-range at=0 target=8
+verify 7fff 230800000002221322 0:9:8 => refused falls-off-the-end
+verify 7fff 23080000000222132202 0:10:8 => refused falls-off-the-end
  verify  0FfF  0213  00:002:0008  => accepted 1
 verify => bad case
 verify 7fff => bad case
