@@ -37,11 +37,11 @@ pub use grain_base::{
     Caps, Dynamic, Flags, FnAccess, FnPtr, HostValue, Position, Token, pos, varint,
 };
 pub use grain_bytecode::{
-    AssembleError, AssignOp, BadTable, Chain, ChainPositions, Chunk, DisassembleError, Disassembly, Field, Function,
-    Lookups, Names, Op, Pool, Positions, Receiver, Root, Step, StepFlags, Strings, StringsError,
-    StripError, Switch, SwitchRange, TableError, Tail, assemble, count_instructions, decode,
-    disassemble, names, resolve_switch_targets, site_to_position, sites, tag, u16_at, u32_at,
-    width,
+    AssembleError, AssignOp, BadTable, Chain, ChainPositions, Chunk, DisassembleError, Disassembly,
+    Field, Function, Lookups, Names, Op, Pool, Positions, Receiver, Root, Step, StepFlags, Strings,
+    StringsError, StripError, Switch, SwitchRange, TableError, Tail, assemble, count_instructions,
+    decode, disassemble, names, resolve_switch_targets, site_to_position, sites, tag, u16_at,
+    u32_at, width,
 };
 pub use pools::Pools;
 pub use program::{Parts, Program};
