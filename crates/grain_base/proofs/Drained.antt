@@ -6,7 +6,7 @@ use Rattle.grain_base.specs.Varint.{Begins, U32Flaw}
 use Rattle.grain_base.specs.EntriesLeft.{EntriesLeft}
 use Rattle.grain_base.specs.AddressTable.{Entry, NoneNext, Front, EntrySteps}
 use Rattle.grain_base.proofs.Numbers.{begins_once}
-use Rattle.grain_base.proofs.Entries.{entries_from, entries_more, entries_none, entries_over, front, front_counted, front_uncounted, front_is}
+use Rattle.grain_base.proofs.Entries.{entries_from, entries_more, entries_none, entries_over, entries_drain, front, front_counted, front_uncounted, front_is, front_once}
 
 -- the entries that are left
 abbrev pub left : EntriesLeft → List Entry
@@ -47,3 +47,7 @@ start_once table m n rest after first second =
     let number = one.0 in
     let bytes = one.1 in
     cc
+
+-- what is left where the entries are the front of the bytes
+pub all_left : (table : List ℕ) (s : EntriesLeft) → ((items : List Entry) → Drains EntrySteps s items → Front table items) → left s ≡ front table
+all_left table s gives = front_once table (left s) (front table) (gives (left s) (entries_drain s.count s.before s.bytes)) (front_is table)

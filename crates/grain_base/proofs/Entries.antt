@@ -1,9 +1,11 @@
 -- The entries that stand in bytes: there is one way to read them, and a longest list.
 use Rattle.std.proofs.Common.{◌≡◌, ℕ, zero, suc, ◌+◌, ◌^◌, ◌<◌, ◌≤◌, ◌⊎◌, inl, inr, List, [], ◌∷◌, length, None, find, nat_eq, refl, sym, ap, subst, ◌∙◌, arith}
+use Rattle.std.specs.Iterator.{Drains}
 use Rattle.std.proofs.lemmas.Bool.{cases_lt, ne_eqb}
 use Rattle.grain_base.specs.declared.varint.Error.{Error}
 use Rattle.grain_base.specs.Varint.{Begins, U32Flaw}
-use Rattle.grain_base.specs.AddressTable.{Entry, IsNext, NoneNext, AreEntries, Table, Holds, Front}
+use Rattle.grain_base.specs.EntriesLeft.{EntriesLeft}
+use Rattle.grain_base.specs.AddressTable.{Entry, IsNext, NoneNext, AreEntries, EntrySteps, Table, Holds, Front}
 use Rattle.grain_base.proofs.Numbers.{AreThree, three, begins-append, begins_once, begins_flawless, Reading, Number, Flaw, reading}
 
 -- an entry of its three numbers
@@ -133,6 +135,21 @@ entries_longest zero before bytes (entry ∷ list) rest are short = absurd (omeg
 entries_longest (suc count) before bytes (entry ∷ list) rest are short =
     let more = entries_longest count entry.0 are.0 list rest are.2 (omega arith) in
     rw (entries_more count before bytes entry are.0 are.1) (omega (arith, more))
+
+-- they are what is given where they are read one by one
+pub entries_drain : (count before : ℕ) (bytes : List ℕ) → Drains EntrySteps (record { count = count; before = before; bytes = bytes }) (entries_from count before bytes)
+unfolding entries_from joined
+entries_drain zero before bytes =
+    let s : EntriesLeft = record { count = 0; before = before; bytes = bytes } in
+    (s, (s, refl, (inl refl, refl)))
+entries_drain (suc count) before bytes =
+    let s : EntriesLeft = record { count = suc count; before = before; bytes = bytes } in
+    let more = entries_drain count in
+    let less : suc count ≡ count + 1 = omega arith in
+    elim (here before bytes) as (λ h. Drains EntrySteps s (joined h (λ e r. entries_from count e.0 r))) [
+      | There e r found ↦ ((more e.0 r).0, ((more e.0 r).1.0, (record { count = count; before = e.0; bytes = r }, (less, found, refl), (more e.0 r).1.1), (more e.0 r).1.2))
+      | Nowhere none ↦ (s, (s, refl, (inr none, refl)))
+    ]
 
 -- as many entries are the same
 pub entries_same : (before : ℕ) (bytes : List ℕ) (a b : List Entry) (rest more : List ℕ) → AreEntries before bytes a rest → AreEntries before bytes b more → length a ≡ length b → a ≡ b

@@ -60,6 +60,10 @@ abbrev pub EntrySteps : EntriesLeft → Option Entry → EntriesLeft → Type 0
 EntrySteps old None new = ((old.count ≡ 0) ⊎ NoneNext old.before old.bytes) × (new ≡ old)
 EntrySteps old (Some entry) new = (old.count ≡ new.count + 1) × IsNext old.before old.bytes entry new.bytes × (new.before ≡ entry.0)
 
+-- these entries are due, and stand there
+abbrev pub AreDue : EntriesLeft → List Entry → Type 0
+AreDue left list = (rest : List ℕ) × AreEntries left.before left.bytes list rest × (left.count ≡ length list)
+
 -- line 0 says that the site isn't known
 abbrev pub known : Entry → Option Site
 known entry = if entry.1.line == 0 then None else Some entry.1

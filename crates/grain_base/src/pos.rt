@@ -156,15 +156,7 @@ pub fn entries(table: &[u8]) -> Entries<'_>
 pub fn resolve(table: &[u8], address: u32) -> Option<Site>
     ensures { (front : List Entry) × Front table.now front × (result ≡ site_at front address) }
 {
-    let mut at = 0;
-    let Ok(count) = varint::u32(table, &mut at) else {
-        return None;
-    };
-    let mut before = 0;
-    for _ in 0..count {
-        let Ok((here, site)) = entry(table, &mut at, before) else {
-            return None;
-        };
+    for (here, site) in entries(table) {
         if here == address {
             return if site.line == 0 { None } else { Some(site) };
         }
@@ -172,7 +164,6 @@ pub fn resolve(table: &[u8], address: u32) -> Option<Site>
         if here > address {
             return None;
         }
-        before = here;
     }
     None
 }

@@ -1,5 +1,5 @@
 -- Reading code from its beginning, and what a table has for the addresses on the way.
-use Rattle.std.proofs.Common.{◌≡◌, ◌≢◌, ℕ, ◌+◌, ◌<◌, ◌≤◌, ◌^◌, List, [], ◌∷◌, ◌++◌, length, map, take, get_or, slice_set, true, false, Bool, cond, ◌||◌, eqb, nat_le, nat_lt, inl, inr, Option, Some, None, is_some, refl, sym, ap, subst, ◌∙◌, arith}
+use Rattle.std.proofs.Common.{◌≡◌, ◌≢◌, ℕ, ◌+◌, ◌<◌, ◌≤◌, List, [], ◌∷◌, ◌++◌, length, map, take, get_or, slice_set, true, false, Bool, cond, ◌||◌, eqb, nat_lt, inl, inr, Option, Some, None, is_some, refl, sym, ap, subst, ◌∙◌, arith}
 use Rattle.std.specs.Prelude.{sum_by, All, option_and_then}
 use Rattle.std.specs.List.{list_any}
 use Rattle.std.proofs.lemmas.Bool.{cases_eq, eq-eqb, ne_eqb}
@@ -9,8 +9,7 @@ use Rattle.std.proofs.lemmas.List as lists
 use Rattle.std.proofs.lemmas.List.Folds.{list_any-append}
 use Rattle.std.proofs.lemmas.List.FromFn.{fill_by_all}
 use Rattle.std.proofs.lemmas.List.Sums.{sum_by_push, sum_by-cons}
-use Rattle.grain_base.proofs.Entries.{front_once, table_front}
-use Rattle.grain_base.specs.AddressTable.{Entry, Table, Front, site_at}
+use Rattle.grain_base.specs.AddressTable.{Entry, Table}
 use Rattle.grain_base.specs.Place.{place_of}
 use Rattle.grain_base.specs.declared.pos.Site.{Site}
 use Rattle.grain_base.specs.declared.position.Position.{Position}
@@ -21,12 +20,6 @@ use Rattle.grain_bytecode.specs.declared.op.Op.{Op}
 use Rattle.grain_bytecode.proofs.Boundaries.{spellings_width, one_end}
 use Rattle.grain_bytecode.proofs.Instructions.{begins_none_nil}
 use Rattle.grain_bytecode.proofs.Splits.{one_more, one_split}
-
--- what is looked up in a table is the site of its list
-pub looked_up : (table : List ℕ) (list front : List Entry) (at address : ℕ) (r : Option Site) → Table table list → Front table front → r ≡ site_at front address → (at < 2 ^ 32) × (address ≡ at) → r ≡ code_site list at
-looked_up table list front at address r is held found (small, same) =
-    let fits : nat_le at 4294967295 ≡ true = grind (arith, nat_tests) in
-    rw fits (found ∙ ap (λ (entries : List Entry). site_at entries address) (front_once table front list held (table_front table list is)) ∙ ap (site_at list) same)
 
 -- each byte has its place, where reading has arrived at these addresses
 abbrev pub Placed : List Entry → List ℕ → ℕ → List Position → Type 0

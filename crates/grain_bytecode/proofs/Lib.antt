@@ -1,5 +1,6 @@
 pub mod Accepting
 pub mod Again
+pub mod Ahead
 pub mod Appending
 pub mod Arriving
 pub mod Boundaries

@@ -1,9 +1,10 @@
 -- The positions of code: for each byte a place in the source text. And how an address table stands for them; in this file
 -- a table is an address table.
-use Rattle.std.specs.Prelude.{◌≡◌, ◌≢◌, ℕ, ◌-◌, ◌/◌, ◌%◌, ◌^◌, ◌≤◌, ◌⊎◌, replicate, Bool, true, false, List, [], ◌∷◌, ◌++◌, length, take, map, filter_map, count_by, codes, decimal, nat_lt, nat_le, slice_get, slice_set, Option, Some, None, is_some, is_none, unwrap_or, option_map, option_and_then, ◌==◌, ◌||◌, if◌then◌else◌}
+use Rattle.std.specs.Prelude.{◌≡◌, ◌≢◌, ℕ, ◌-◌, ◌/◌, ◌%◌, ◌^◌, ◌≤◌, ◌⊎◌, replicate, Bool, true, false, List, [], ◌∷◌, ◌++◌, length, take, drop, map, filter_map, count_by, codes, decimal, nat_lt, nat_le, slice_get, slice_set, Option, Some, None, is_some, is_none, unwrap_or, option_map, option_and_then, ◌==◌, ◌||◌, if◌then◌else◌}
 use Rattle.std.specs.Fmt.{digits}
-use Rattle.std.specs.List.{list_all, list_any, enumerate_from, range_with_len}
-use Rattle.grain_base.specs.AddressTable.{Entry, Table, FirstFlaw, site_at, debug_text_of}
+use Rattle.std.specs.List.{prefix_len, list_all, list_any, enumerate_from, range_with_len}
+use Rattle.grain_base.specs.AddressTable.{Entry, Table, AreDue, FirstFlaw, site_at, debug_text_of}
+use Rattle.grain_base.specs.EntriesLeft.{EntriesLeft}
 use Rattle.grain_base.specs.Place.{place_of}
 use Rattle.grain_base.specs.declared.pos.Site.{Site}
 use Rattle.grain_base.specs.declared.position.Position.{Position}
@@ -84,6 +85,15 @@ pub record IsRead (table code : List ℕ) (found : Option (List Place)) : Type 0
 abbrev pub IsPlaced : Option Site → ℕ → List Position → List Position → Bool → Type 0
 IsPlaced None at old new met = (new ≡ old) × (met ≡ false)
 IsPlaced (Some site) at old new met = (position : Position) × (place_of position ≡ site_place site) × (new ≡ slice_set old at position) × (met ≡ true)
+
+-- The entries ahead of a walk over a table: the one that was read last, and those that are due, which stand there.
+abbrev pub AreAhead : Option Entry → EntriesLeft → List Entry → Type 0
+AreAhead None left list = list ≡ []
+AreAhead (Some entry) left list = (others : List Entry) × AreDue left others × (list ≡ entry ∷ others)
+
+-- the entries from the first on that stands at an address or behind it
+abbrev pub from_address : ℕ → List Entry → List Entry
+from_address at list = drop (prefix_len (λ entry. nat_lt entry.0 at) list) list
 
 -- The table is one, but has this many entries, of which only so many have a place in the code.
 pub record Exceeds (table code : List ℕ) (entries some : ℕ) : Type 0 where

@@ -3,18 +3,18 @@
 //! Positions travel apart from code, as an address table (docs/FORMAT.md, "Address table"). It belongs to code where each
 //! of its entries stands at an address at which reading the code arrives.
 
-ghost use Rattle.std.specs.Prelude.{◌≡◌, ◌↔◌, ℕ, ◌^◌, ◌<◌, ◌≤◌, List, ◌∷◌, length, map, Some, None, is_none, All, Any, Err, IsOk, IfOk, IfErr};
+ghost use Rattle.std.specs.Prelude.{◌≡◌, ◌↔◌, ℕ, ◌^◌, ◌<◌, ◌≤◌, List, ◌∷◌, length, map, Some, None, is_none, option_to_list, All, Any, Err, IsOk, IfOk, IfErr};
 ghost use Rattle.std.specs.Bool.{OnTrue, OnFalse};
 ghost use Rattle.grain_base.specs.AddressTable.{Entry, Table, numbers_from};
 ghost use Rattle.grain_base.specs.Place.{place_of};
 ghost use Rattle.grain_base.specs.Varint.{AreShortest};
-ghost use Rattle.grain_bytecode.specs.Positions.{Arrived, IsRead, IsRefusal, IsPlaced, places, dense, place_at, site_place, entries_of, code_site, matched, table_places};
+ghost use Rattle.grain_bytecode.specs.Positions.{Arrived, IsRead, IsRefusal, IsPlaced, places, dense, place_at, site_place, entries_of, code_site, matched, table_places, AreAhead, from_address};
 ghost use Rattle.grain_bytecode.specs.declared.positions.StripError.TheVariants as strip_error;
 ghost use Rattle.grain_bytecode.specs.declared.positions.TableError.TheVariants as table_error;
 
 use crate::sites::StreamError;
 use crate::tag_widths::width;
-use grain_base::pos::Site;
+use grain_base::pos::{Entries, Site};
 use grain_base::{Position, pos};
 use std::alloc::{AllocError, AllocFailed, Global};
 use std::fmt;
@@ -244,7 +244,8 @@ impl Positions {
 
     /// Reads the positions of code from an address table.
     ///
-    /// An address table of no entries gives `Stripped` for any code.
+    /// An address table of no entries gives `Stripped` for any code. The entries and the instructions are read side by side,
+    /// so that the time goes by the lengths of the address table and the code.
     ///
     /// # Errors
     ///
@@ -311,31 +312,51 @@ fn sites_of(alloc: Global, positions: &[Position]) -> Result<Vec<(u32, Site)>, A
     Ok(sites)
 }
 
-/// The site that an address table has for an address of the code.
-fn site_of(table: &[u8], at: usize) -> Option<Site>
-    ensures { (list : List Entry) → Table table.now list → result ≡ code_site list at }
+/// The site of an entry for an address of the code: none where the entry stands elsewhere or its line is 0.
+fn site_of(entry: Option<(u32, Site)>, at: usize) -> Option<Site>
+    ensures { result ≡ code_site (option_to_list entry) at }
 {
-    let Ok(address) = u32::try_from(at) else {
+    let (address, site) = entry?;
+    if address as usize != at || site.line == 0 {
         return None;
-    };
-    pos::resolve(table, address)
+    }
+    Some(site)
 }
 
-/// Keeps the position that an address table has for an address of the code, and tells whether it has a site for it.
-fn place(table: &[u8], at: usize, positions: &mut [Position]) -> bool
+/// Keeps the position of an entry for an address of the code, and tells whether it has a site for it.
+fn place(entry: Option<(u32, Site)>, at: usize, positions: &mut [Position]) -> bool
     requires { at < length positions.old }
-    ensures { (list : List Entry) → Table table.now list
-        → IsPlaced (code_site list at) at positions.old positions.new result }
+    ensures { IsPlaced (code_site (option_to_list entry) at) at
+        positions.old positions.new result }
 {
-    let Some(site) = site_of(table, at) else {
+    let Some(site) = site_of(entry, at) else {
         return false;
     };
     positions[at] = site_to_position(site);
     true
 }
 
+/// The first entry at an address or behind it, of one that was read and those that are left.
+fn entry_from(
+    entries: &mut Entries<'_>,
+    read: Option<(u32, Site)>,
+    at: usize,
+) -> Option<(u32, Site)>
+    ensures { (list : List Entry) → AreAhead read entries.old list
+        → AreAhead result entries.new (from_address at list) }
+{
+    let mut next = read;
+    while let Some((address, _)) = next {
+        if address as usize >= at {
+            return next;
+        }
+        next = entries.next();
+    }
+    None
+}
+
 /// Keeps the positions that an address table has for the addresses at which reading the code arrives, and counts those
-/// that have a site.
+/// that have a site. The entries and the code are walked side by side, each once.
 fn place_all(table: &[u8], code: &[u8], positions: &mut [Position]) -> usize
     requires sized { length positions.old ≡ length code.now }
     requires blank { All (λ position. place_of position ≡ None) positions.old }
@@ -344,10 +365,13 @@ fn place_all(table: &[u8], code: &[u8], positions: &mut [Position]) -> usize
         → (result ≡ matched list arrived)
         × (map place_of positions.new ≡ table_places list arrived code.now)) }
 {
+    let mut entries = pos::entries(table);
+    let mut next = entries.next();
     let mut at = 0;
     let mut matched = 0;
     while at < code.len() {
-        matched += usize::from(place(table, at, positions));
+        next = entry_from(&mut entries, next, at);
+        matched += usize::from(place(next, at, positions));
         let Some(width) = width(code, at) else {
             return matched;
         };

@@ -103,6 +103,23 @@ fn long_tables_are_written_and_read(rt: HostRuntime) -> Result<(), Fail> {
 }
 
 #[test]
+fn a_table_may_have_each_start(rt: HostRuntime) -> Result<(), Fail> {
+    let list = vec![in rt.alloc(); Position::new(1, 1); 1_000]?;
+    let table = Positions::dense(list).to_table(rt.alloc())?;
+    assert_eq!(rt;
+        (pos::check(&table), pos::count(&table)),
+        (Ok(()), Ok(1_000))
+    );
+    let code = vec![in rt.alloc(); 0x02u8; 1_000]?;
+    let positions = Positions::from_table(rt.alloc(), &table, &code).unwrap_or(Positions::Stripped);
+    for at in 0..1_000 {
+        assert_eq!(rt; positions.get(at), Position::new(1, 1));
+    }
+    assert_eq!(rt; positions.get(1_000), Position::NONE);
+    Ok(())
+}
+
+#[test]
 fn sites_are_positions(rt: HostRuntime) {
     let rows = [
         ((1, 5), Position::new(1, 5)),

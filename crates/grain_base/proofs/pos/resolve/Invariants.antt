@@ -1,7 +1,8 @@
-use Rattle.std.proofs.Common.{◌≡◌, ◌-◌, drop}
+use Rattle.std.proofs.Common.{◌≡◌}
 use Rattle.grain_base.specs.AddressTable.{site_at}
-use Rattle.grain_base.proofs.Entries.{entries_from, front}
+use Rattle.grain_base.proofs.Entries.{front}
+use Rattle.grain_base.proofs.Drained.{left}
 use Rattle.grain_base.proofs.pos.resolve.Given as goal
 
-abbrev pub invariant-loop : goal.invariant-loop
-invariant-loop l = site_at (entries_from (l.count - l.counter) l.before (drop l.at l.table)) l.address ≡ site_at (front l.table) l.address
+abbrev pub invariant-loop-here : goal.invariant-loop-here
+invariant-loop-here l = (goal.iterator-loop-here).can_next l.here-iterator × (goal.iterator-loop-here).is_finite l.here-iterator × (site_at (left l.here-iterator) l.address ≡ site_at (front l.table) l.address)
