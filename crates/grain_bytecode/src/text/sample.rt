@@ -58,6 +58,11 @@ impl Lookups for TestPools {
 
 /// The names `x`, `y`, `+=` and `+`, the constants 5 and 1, and one of each other thing.
 pub(super) fn sample(alloc: Global) -> Result<TestPools, Fail> {
+    with_names(alloc, &["x", "y", "+=", "+"])
+}
+
+/// The same with other names.
+pub(super) fn with_names(alloc: Global, names: &[&str]) -> Result<TestPools, Fail> {
     let plus = AssignOp {
         op_assign: Token::PlusAssign,
         op_assign_name: 2,
@@ -65,7 +70,7 @@ pub(super) fn sample(alloc: Global) -> Result<TestPools, Fail> {
         op_name: 3,
     };
     Ok(TestPools {
-        names: Strings::new(alloc, &["x", "y", "+=", "+"])?,
+        names: Strings::new(alloc, names)?,
         constants: vec![in alloc; Dynamic::Int(5), Dynamic::Int(1)]?,
         tokens: vec![in alloc; Token::Plus]?,
         assign_ops: vec![in alloc; plus]?,

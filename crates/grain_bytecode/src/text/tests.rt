@@ -1,4 +1,4 @@
-use super::sample::{chain, sample, switch};
+use super::sample::{chain, sample, switch, with_names};
 use super::*;
 use crate::chain::{Chain, Root, Step, StepFlags, Tail};
 use crate::chunk::Chunk;
@@ -149,10 +149,10 @@ fn switches_and_chains_are_written_out(rt: HostRuntime) -> Result<(), Fail> {
         text(alloc, &Op::Chain(0))?.as_str(),
         "Chain(0, 1 total operands): Named { name: 0, pos: 1:1 } x [0] .y "
     );
-    let pools = sample(alloc)?;
+    let pools = with_names(alloc, &["a", "b"])?;
     assert_eq!(rt;
         chain(alloc)?.disassemble(alloc, &pools)?.as_str(),
-        "Named { name: 0, pos: 1:1 } x [0] .y "
+        "Named { name: 0, pos: 1:1 } a [0] .b "
     );
     Ok(())
 }
@@ -299,6 +299,9 @@ fn what_is_missing_is_named(rt: HostRuntime) -> Result<(), Fail> {
     for (op, what, index) in rows {
         assert_eq!(rt; op.disassemble(alloc, &pools), Err(missing(what, index)));
     }
+    let nameless = with_names(alloc, &[])?;
+    let name = Op::LoadNamed(3).disassemble(alloc, &nameless);
+    assert_eq!(rt; name, Err(missing("name", 3)));
     Ok(())
 }
 
