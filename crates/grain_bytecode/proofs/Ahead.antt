@@ -50,17 +50,6 @@ skipped_more at read from entry old new r skipped below step list is =
     let same : from_address at others ≡ from_address at list = sym (passed at entry others below) ∙ ap (from_address at) (sym w.1.2) ∙ w.2 in
     (others, ahead_next old new r others w.1.1 step, same)
 
-pub skipped_here : (at : ℕ) (read : Option Entry) (from : EntriesLeft) (entry : Entry) (left : EntriesLeft) → Skipped at read from (Some entry) left → at ≤ entry.0 → (list : List Entry) → AreAhead read from list → AreAhead (Some entry) left (from_address at list)
-skipped_here at read from entry left skipped behind list is =
-    let w = skipped list is in
-    let others = w.1.0 in
-    (others, w.1.1, sym w.2 ∙ ap (from_address at) w.1.2 ∙ kept at entry others behind)
-
-pub skipped_all : (at : ℕ) (read : Option Entry) (from left : EntriesLeft) → Skipped at read from None left → (list : List Entry) → AreAhead read from list → from_address at list ≡ []
-skipped_all at read from left skipped list is =
-    let w = skipped list is in
-    sym w.2 ∙ ap (from_address at) w.1
-
 -- The entries ahead rise, and from an address on they have the sites of all.
 pub record Nears (list ahead : List Entry) (at : ℕ) : Type 0 where
   pub least : ℕ
