@@ -3,7 +3,7 @@ use Rattle.std.proofs.Common.{◌≡◌, ℕ, ◌+◌, ◌<◌, ◌≤◌, zero,
 use Rattle.std.specs.Prelude.{option_map, slice_index}
 use Rattle.std.specs.List.{All, AllByRecursion, AllZip}
 use Rattle.std.proofs.lemmas.List.{get_or_default, map-append}
-use Rattle.std.proofs.lemmas.List.Elements.{All-map}
+use Rattle.std.proofs.lemmas.List.Elements.{All-map, All-weaker}
 use Rattle.std.proofs.lemmas.Simd.{map-map}
 use Rattle.grain_base.specs.CapBits.{FUNCTION}
 use Rattle.grain_base.specs.declared.caps.Caps.{Caps}
@@ -21,7 +21,6 @@ use Rattle.grain_bytecode.specs.declared.switch.Switch.{Switch}
 use Rattle.grain_bytecode.specs.declared.switch.SwitchRange.{SwitchRange}
 use Rattle.grain_bytecode.proofs.Canonical.{form_canon, form_retarget}
 use Rattle.grain_bytecode.proofs.Instructions.{begins_none_nil}
-use Rattle.grain_bytecode.proofs.Placed.{length-offsets_from}
 use Rattle.grain_bytecode.proofs.Splits.{one_front}
 use Rattle.grain.specs.Accepted.{AreDeepest, ChunkPasses, ConstantPasses, IsAccepted}
 use Rattle.grain.specs.Build.{AreDeepestByIndex, CanBuild, CanLay, Draft, IsLaid, by_index, head_of, leads, setting_with}
@@ -33,6 +32,8 @@ use Rattle.grain.specs.Program.{Program, chunks_of, input_of, setting_of}
 use Rattle.grain.specs.Setting.{Setting, case_consts}
 use Rattle.grain.specs.Typing.{HasTyping, IsDeepest}
 use Rattle.grain.specs.declared.builder.Head.{Head}
+use Rattle.grain.proofs.Laying.{All-before_map}
+use Rattle.grain.proofs.Offsets.{offset_count}
 use Rattle.grain.proofs.Transport.{deepest_here, deepest_there, framed_there, typed_here, typed_there}
 
 -- mapped targets leave the indices of fields as they are
@@ -102,14 +103,6 @@ module _ (s : Setting) (offsets : List ℕ) (op : Op) where
         subst (AllByRecursion (λ c. c < s.consts)) (cases_moved s g own)
         (subst (λ (fs : List Field). AllByRecursion (λ c. c < s.consts) (all_case_constants s fs)) fields_same h.cases);
   }
-
-all_before : {X Y : Type 0} (P : Y → Type 0) (f : X → Y) (xs : List X) → All P (map f xs) → All (λ x. P (f x)) xs
-all_before P f [] h k d l = absurd (omega arith)
-all_before P f (x ∷ xs) h zero d l = h 0 (f x) (omega arith)
-all_before P f (x ∷ xs) h (suc k) d l = all_before P f xs (λ j y m. h (suc j) y (omega arith)) k d (omega arith)
-
-all_so : {X : Type 0} (P Q : X → Type 0) (xs : List X) → ((x : X) → P x → Q x) → All P xs → All Q xs
-all_so P Q xs f h k d l = f _ (h k d l)
 
 -- the constants of the cases don't change with the targets
 abbrev consts_in : Option (List Case) → List ℕ
@@ -190,7 +183,7 @@ module _ (d : Draft) (p : Program) (lays : CanLay d) (laid : IsLaid d p) where
   there = record { setting = s; bytes = p.code; switches = map (map f) (leads d) }
 
   count : length laid.offsets ≡ length d.ops + 1
-  count = ap (λ (xs : List ℕ). length xs) laid.code.placed ∙ length-offsets_from 0 d.ops
+  count = offset_count d.ops p.code laid.offsets laid.code
 
   same_setting : setting_of p ≡ s
   same_setting =
@@ -229,7 +222,7 @@ module _ (d : Draft) (p : Program) (lays : CanLay d) (laid : IsLaid d p) where
     code = (
       map (assembled laid.offsets) d.ops,
       laid.code.written,
-      subst (λ (t : Setting). All (Indexed t) (map (assembled laid.offsets) d.ops)) (sym same_setting) (All-map (Indexed s) (assembled laid.offsets) d.ops (all_so (Indexed s) (λ op. Indexed s (assembled laid.offsets op)) d.ops (indexed_there s laid.offsets) h.indexed)),
+      subst (λ (t : Setting). All (Indexed t) (map (assembled laid.offsets) d.ops)) (sym same_setting) (All-map (Indexed s) (assembled laid.offsets) d.ops (All-weaker (Indexed s) (λ op. Indexed s (assembled laid.offsets op)) (indexed_there s laid.offsets) d.ops h.indexed)),
     );
     functions = λ some. subst (λ (c : Caps). Allows c.0 FUNCTION) (sym same_caps) (h.functions (λ none. some (no_functions p.functions (laid.heads ∙ none))));
     chunks =
@@ -247,11 +240,11 @@ module _ (d : Draft) (p : Program) (lays : CanLay d) (laid : IsLaid d p) where
         let code = h.code in
         let one = (one_front code.0 (map (assembled laid.offsets) d.ops) [] [] code.1.each laid.code.written.each begins_none_nil begins_none_nil (ap (λ (b : List ℕ). b ++ []) (sym code.1.whole ∙ laid.code.written.whole))).0 in
         let indexed : All (Indexed s) (map (assembled laid.offsets) d.ops) = subst (All (Indexed s)) one (subst (λ (t : Setting). All (Indexed t) code.0) same_setting code.2) in
-        indexed_here s laid.offsets _ (all_before (Indexed s) (assembled laid.offsets) d.ops indexed k op l);
+        indexed_here s laid.offsets _ (All-before_map (Indexed s) (assembled laid.offsets) d.ops indexed k op l);
     functions = λ some. subst (λ (c : Caps). Allows c.0 FUNCTION) same_caps (h.functions (λ none. some (sym laid.heads ∙ ap (map head_of) none)));
     typed = λ k cut l.
         let chunks : All (ChunkPasses there) (map (moved f) d.cuts) = subst (All (ChunkPasses there)) laid.chunks (subst (λ (c : Bytecode). All (ChunkPasses c) (chunks_of p)) same_code h.chunks) in
-        chunk_here _ (lays.cuts k cut l) (all_before (ChunkPasses there) (moved f) d.cuts chunks k cut l);
+        chunk_here _ (lays.cuts k cut l) (All-before_map (ChunkPasses there) (moved f) d.cuts chunks k cut l);
   }
 
   each_deepest : (cuts : List Span) (numbers : List ℕ) → All (IsCut (length d.ops)) cuts → AllZip (IsDeepest (coded there)) (map (moved f) cuts) numbers → AllZip (IsDeepest (by_index d)) cuts numbers

@@ -3,15 +3,12 @@ use Rattle.std.proofs.Common.{◌≡◌, ℕ, ◌+◌, ◌-◌, ◌<◌, ◌≤�
 use Rattle.std.specs.List.{All, zip}
 use Rattle.std.proofs.Math.ListN.{get_or-map}
 use Rattle.std.proofs.lemmas.List.{length-map}
-use Rattle.std.proofs.lemmas.List.Elements.{All-contains}
+use Rattle.std.proofs.lemmas.List.Elements.{All-contains, All-drop, All-map, All-take}
 use Rattle.std.proofs.lemmas.Simd.{map-map}
 use Rattle.std.proofs.lemmas.Slice.Zip.{firsts-zip, get_or-zip, seconds-zip}
-use Rattle.grain_bytecode.specs.Assembly.{offsets_from}
 use Rattle.grain_bytecode.specs.Dispatch.{Fits, IsFirstPast, arms}
 use Rattle.grain_bytecode.specs.Span.{Span}
-use Rattle.grain_bytecode.specs.declared.op.Op.{Op}
 use Rattle.grain_bytecode.specs.declared.switch.Switch.{Switch}
-use Rattle.grain_bytecode.proofs.Placed.{length-offsets_from}
 use Rattle.grain.specs.Build.{span_of}
 use Rattle.grain.specs.ByIndex.{IsCut, LeadWithin}
 use Rattle.grain.specs.Code.{switch_targets}
@@ -45,19 +42,17 @@ module _ (heads : List Head) (cuts : List Cut) (count : length cuts ≡ length h
       ∙ sym (map-map g (λ (q : Head × Cut). q.1) (zip heads cuts))
       ∙ ap (map g) (seconds-zip heads cuts count)
 
+-- what holds of each thing that is made of some holds of what they are made of
+pub All-before_map : {X Y : Type 0} (P : Y → Type 0) (f : X → Y) (xs : List X) → All P (map f xs) → All (λ x. P (f x)) xs
+All-before_map P f [] h k d l = absurd (omega arith)
+All-before_map P f (x ∷ xs) h zero d l = h 0 (f x) (omega arith)
+All-before_map P f (x ∷ xs) h (suc k) d l = All-before_map P f xs (λ j y m. h (suc j) y (omega arith)) k d (omega arith)
+
 -- the cuts behind the first
-take_all : {X : Type 0} (xs : List X) (n : ℕ) → n ≡ length xs → take n xs ≡ xs
-take_all [] n e = ap (λ (k : ℕ). take k []) e
-take_all (x ∷ xs) n e = ap (λ (k : ℕ). take k (x ∷ xs)) e ∙ ap (λ rest. x ∷ rest) (take_all xs (length xs) refl)
-
 pub others_lie : (P : Span → Type 0) (cuts : List Cut) → All P (map span_of cuts) → All P (map span_of (take (length cuts - 1) (drop 1 cuts)))
-others_lie P [] all = λ k d l. absurd (omega arith)
-others_lie P (c ∷ cs) all =
-    subst (λ (rest : List Cut). All P (map span_of rest)) (sym (take_all cs (suc (length cs) - 1) (omega arith))) (λ k d l. all (suc k) d (omega arith))
-
--- an offset for each operation and one for the end
-pub offset_count : (ops : List Op) (offsets : List ℕ) → offsets ≡ offsets_from 0 ops → length offsets ≡ length ops + 1
-offset_count ops offsets e = ap (λ (xs : List ℕ). length xs) e ∙ length-offsets_from 0 ops
+others_lie P cuts all =
+    let each : Cut → Type 0 = λ cut. P (span_of cut) in
+    All-map P span_of (take (length cuts - 1) (drop 1 cuts)) (All-take each (length cuts - 1) (drop 1 cuts) (All-drop each 1 cuts (All-before_map P span_of cuts all)))
 
 -- switches that lead to operations or their end have targets among the offsets, and the other way round
 fits_lead : (n : ℕ) (ss : List Switch) → All (λ s. Fits (n + 1) (arms s)) ss → LeadWithin n (map switch_targets ss)

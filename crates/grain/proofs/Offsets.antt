@@ -34,11 +34,15 @@ module _ (all : List Op) (code offsets : List ℕ) (made : IsAssembly all code o
   pub op_here : (i : ℕ) → i < length all → (op : Op) × (slice_get all i ≡ Some op)
   op_here i l = (get_or all i ops.Unit, slice_get-get_or all i ops.Unit l)
 
+  -- an offset for each operation, and one for the end
+  pub offset_count : length offsets ≡ length all + 1
+  offset_count = ap (λ (xs : List ℕ). length xs) made.placed ∙ length-offsets_from 0 all
+
   starts_count : length (split_there all code offsets made).0 ≡ length all
   starts_count =
       let s = split_there all code offsets made in
       let a : length offsets ≡ length s.0 + 1 = ap (λ (xs : List ℕ). length xs) s.2 ∙ length-append s.0 (length code ∷ []) in
-      let b : length offsets ≡ length all + 1 = ap (λ (xs : List ℕ). length xs) made.placed ∙ length-offsets_from 0 all in
+      let b = offset_count in
       omega arith
 
   -- the last offset is the code's end

@@ -1,6 +1,7 @@
 //! Building a program from operations whose targets are indices.
 ghost use Rattle.std.specs.Prelude.{◌≡◌, ◌↔◌, ◌⊎◌, ℕ, ◌+◌, ◌-◌, ◌<◌, IfErr, IfOk, IsTrue, OnOk, length, map, slice_index};
 ghost use Rattle.std.specs.List.{All};
+ghost use Rattle.grain_bytecode.specs.Assembly.{CanAssemble};
 ghost use Rattle.grain.specs.Build.{AreCuts, AreDeepestByIndex, BuildFlaw, CanBuild, CanLay, IsFirstBadCut, IsLaid, draft, head_of, span_of};
 ghost use Rattle.grain.specs.ByIndex.{IsCut, moved};
 
@@ -167,7 +168,7 @@ fn place_functions(
     Ok(functions)
 }
 
-/// The program of these operations, which nothing has tested but that they can be written.
+/// The program of these operations. Nothing is tested but whether they can be written.
 fn lay(
     alloc: Global,
     caps: Caps,
@@ -184,6 +185,7 @@ fn lay(
         → IfErr result (λ e. e ≡ BuildError.OutOfMemory) }
     ensures flaws { IfErr result (λ e. (e ≡ BuildError.OutOfMemory)
         ⊎ BuildFlaw (draft caps ops.now cuts.now heads.items parts) e) }
+    ensures memory { IfErr result (λ e. e ≡ BuildError.OutOfMemory → CanAssemble ops.now) }
 {
     let (code, offsets) = assemble(alloc, ops)?;
     resolve_switch_targets(&mut parts.switches, &offsets)?;
@@ -204,7 +206,8 @@ fn lay(
 /// # Errors
 /// Tested in this order: `BadCut` with the first cut that runs backwards or past the operations; `Assemble` as
 /// [`assemble`] and then [`resolve_switch_targets`]; `Verify` as [`Program::verify`] of the program that the operations
-/// make. `OutOfMemory` where a growth was refused in any of them.
+/// make. `OutOfMemory` where a growth was refused in any of them, which comes only where the cuts lie in the list and the
+/// operations can be assembled.
 pub fn build(
     alloc: Global,
     caps: Caps,
@@ -228,6 +231,10 @@ pub fn build(
         → IfErr result (λ e. e ≡ BuildError.OutOfMemory) }
     ensures flaws { IfErr result (λ e. (e ≡ BuildError.OutOfMemory)
         ⊎ BuildFlaw (draft caps ops.now cuts.now heads.items parts) e) }
+
+    // Memory is wanted only where the cuts lie in the list and the operations can be assembled.
+    ensures memory { IfErr result (λ e. e ≡ BuildError.OutOfMemory
+        → AreCuts (draft caps ops.now cuts.now heads.items parts) × CanAssemble ops.now) }
 {
     check_cuts(cuts, ops.len())?;
     let program = lay(alloc, caps, ops, cuts, heads, parts)?;

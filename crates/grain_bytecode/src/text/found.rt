@@ -13,13 +13,10 @@ use grain_base::{Dynamic, Token};
 pub(super) fn find_name<L: Lookups>(lookups: &L, index: u32) -> Result<&str, DisassembleError>
     ensures { LooksUp (L.pools lookups.now) (λ _. name index ∷ []) result }
 {
-    match lookups.name(index) {
-        Some(name) => Ok(name),
-        None => Err(DisassembleError::Missing {
-            what: "name",
-            index,
-        }),
-    }
+    lookups.name(index).ok_or(DisassembleError::Missing {
+        what: "name",
+        index,
+    })
 }
 
 // The constant at the index.
@@ -29,26 +26,20 @@ pub(super) fn find_constant<L: Lookups>(
 ) -> Result<&Dynamic, DisassembleError>
     ensures { LooksUp (L.pools lookups.now) (λ _. constant index ∷ []) result }
 {
-    match lookups.constant(index) {
-        Some(constant) => Ok(constant),
-        None => Err(DisassembleError::Missing {
-            what: "constant",
-            index,
-        }),
-    }
+    lookups.constant(index).ok_or(DisassembleError::Missing {
+        what: "constant",
+        index,
+    })
 }
 
 // The operator at the index.
 pub(super) fn find_token<L: Lookups>(lookups: &L, index: u32) -> Result<&Token, DisassembleError>
     ensures { LooksUp (L.pools lookups.now) (λ _. operator index ∷ []) result }
 {
-    match lookups.token(index) {
-        Some(token) => Ok(token),
-        None => Err(DisassembleError::Missing {
-            what: "operator",
-            index,
-        }),
-    }
+    lookups.token(index).ok_or(DisassembleError::Missing {
+        what: "operator",
+        index,
+    })
 }
 
 // The op-assignment at the index.
@@ -60,13 +51,10 @@ pub(super) fn find_assign_op<L: Lookups>(
     ensures found { IfOk result (λ assign_op.
         slice_get (L.pools lookups.now).assign_ops index ≡ Some assign_op.now) }
 {
-    match lookups.assign_op(index) {
-        Some(assign_op) => Ok(assign_op),
-        None => Err(DisassembleError::Missing {
-            what: "op-assignment",
-            index,
-        }),
-    }
+    lookups.assign_op(index).ok_or(DisassembleError::Missing {
+        what: "op-assignment",
+        index,
+    })
 }
 
 // The chain at the index.
@@ -75,13 +63,10 @@ pub(super) fn find_chain<L: Lookups>(lookups: &L, index: u32) -> Result<&Chain, 
     ensures found { IfOk result (λ chain.
         slice_get (L.pools lookups.now).chains index ≡ Some chain.now) }
 {
-    match lookups.chain(index) {
-        Some(chain) => Ok(chain),
-        None => Err(DisassembleError::Missing {
-            what: "chain",
-            index,
-        }),
-    }
+    lookups.chain(index).ok_or(DisassembleError::Missing {
+        what: "chain",
+        index,
+    })
 }
 
 // The switch at the index.
@@ -90,11 +75,8 @@ pub(super) fn find_switch<L: Lookups>(lookups: &L, index: u32) -> Result<&Switch
     ensures found { IfOk result (λ switch.
         slice_get (L.pools lookups.now).switches index ≡ Some switch.now) }
 {
-    match lookups.switch(index) {
-        Some(switch) => Ok(switch),
-        None => Err(DisassembleError::Missing {
-            what: "switch",
-            index,
-        }),
-    }
+    lookups.switch(index).ok_or(DisassembleError::Missing {
+        what: "switch",
+        index,
+    })
 }
