@@ -130,3 +130,7 @@ one_instruction a b x y op other h h' e =
     let there : read (b ++ y) ≡ Some other = ap (λ s. read (s ++ y)) h'.spelled ∙ read_again other y h'.fit ∙ ap Some h'.canonical in
     let same : op ≡ other = let both : Some op ≡ Some other = sym here ∙ ap read e ∙ there in cc in
     (h.spelled ∙ ap spelling same ∙ sym h'.spelled, same)
+
+-- bytes are one instruction at most
+pub same_instruction : (bytes : List ℕ) (op other : Op) → Instr bytes op → Instr bytes other → op ≡ other
+same_instruction bytes op other h k = (one_instruction bytes bytes [] [] op other h k refl).1

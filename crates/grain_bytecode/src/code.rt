@@ -9,7 +9,7 @@ ghost use Rattle.grain_bytecode.specs.InstructionTable.{width_of};
 ghost use Rattle.grain_bytecode.specs.Split.{StandsAt, NoneStandsAt, Split, IsCount};
 ghost use Rattle.grain_bytecode.specs.declared.op.Op.{Op};
 
-use crate::decoder::read;
+use crate::instruction::read;
 use crate::op::Op;
 use crate::tag_widths::width;
 

@@ -3,15 +3,13 @@
 //! The width of the tag tells how many bytes belong to it. One function for each number of bytes then has an arm for
 //! each tag.
 
-ghost use Rattle.std.specs.Prelude.{◌≡◌, IfSome, IfNone, [], ◌∷◌, ◌+◌, ◌≤◌, length};
+ghost use Rattle.std.specs.Prelude.{◌≡◌, IfSome, IfNone, [], ◌∷◌};
 ghost use Rattle.std.specs.Int.{w16, from_le_bytes};
-ghost use Rattle.grain_bytecode.specs.InstructionTable.{Instr, width_of};
-ghost use Rattle.grain_bytecode.specs.Split.{StandsAt, NoneStandsAt};
+ghost use Rattle.grain_bytecode.specs.InstructionTable.{Instr};
 ghost use Rattle.grain_bytecode.specs.declared.op.Op.{Op};
 
 use crate::op::{Op, Receiver};
 use crate::tag;
-use crate::tag_widths::width;
 
 /// An index into a pool.
 #[inline(always)]
@@ -301,13 +299,13 @@ fn with_six(tag: u8, a: u8, b: u8, c: u8, d: u8, e: u8, f: u8) -> Option<Op>
     }
 }
 
-/// The instruction of a tag and its operand bytes, or `None` where they are none.
+/// The instruction of a tag and the bytes of its fields, or `None` where they are none.
 #[inline(always)]
-fn instruction(tag: u8, operands: &[u8]) -> Option<Op>
-    ensures found { IfSome result (λ op. Instr (tag ∷ operands.now) op) }
-    ensures none { IfNone result ((op : Op) → Instr (tag ∷ operands.now) op → ⊥) }
+pub(crate) fn op_of(tag: u8, fields: &[u8]) -> Option<Op>
+    ensures found { IfSome result (λ op. Instr (tag ∷ fields.now) op) }
+    ensures none { IfNone result ((op : Op) → Instr (tag ∷ fields.now) op → ⊥) }
 {
-    match operands {
+    match fields {
         [] => bare(tag),
         [a] => with_one(tag, *a),
         [a, b] => with_two(tag, *a, *b),
@@ -317,17 +315,4 @@ fn instruction(tag: u8, operands: &[u8]) -> Option<Op>
         [a, b, c, d, e, f] => with_six(tag, *a, *b, *c, *d, *e, *f),
         _ => None,
     }
-}
-
-/// The instruction at an address and its width, or `None` where none stands.
-#[inline(always)]
-pub(crate) fn read(code: &[u8], at: usize) -> Option<(Op, usize)>
-    ensures found { IfSome result (λ found. StandsAt code.now at found.0
-        × (found.1 ≡ width_of found.0)) }
-    ensures fits { IfSome result (λ found. at + found.1 ≤ length code.now) }
-    ensures none { IfNone result (NoneStandsAt code.now at) }
-{
-    let width = width(code, at)?;
-    let op = instruction(code[at], &code[at + 1..at + width])?;
-    Some((op, width))
 }

@@ -6,7 +6,7 @@ ghost use Rattle.grain_bytecode.specs.Unread.{Unread};
 ghost use Rattle.grain_bytecode.specs.Disassembly.{Steps, IsDisassembly};
 ghost use Rattle.grain_bytecode.specs.declared.op.Op.{Op};
 
-use crate::decoder::read;
+use crate::instruction::read;
 use crate::op::Op;
 use std::marker::Model;
 
