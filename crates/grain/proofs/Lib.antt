@@ -15,8 +15,7 @@ pub mod Indexing
 pub mod Inputs
 pub mod Law
 pub mod Laying
-pub mod Marks
-pub mod Most
+pub mod Numbering
 pub mod Offsets
 pub mod Once
 pub mod PassedBits
@@ -25,7 +24,6 @@ pub mod Progress
 pub mod Pushing
 pub mod Refusing
 pub mod Restoring
-pub mod Sparse
 pub mod Splits
 pub mod Tightening
 pub mod Transport

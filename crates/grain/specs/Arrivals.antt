@@ -1,6 +1,6 @@
 -- What the walk expects: counts on their way to an address, and how those are refused that cannot arrive.
-use Rattle.std.specs.Prelude.{◌≡◌, ◌≢◌, ℕ, ◌+◌, ◌<◌, ◌≤◌, ◌⊎◌, Bool, true, cond, List, [], ◌∷◌, ◌++◌, map, Some, slice_get}
-use Rattle.std.specs.List.{Contains}
+use Rattle.std.specs.Prelude.{◌≡◌, ◌≢◌, ℕ, ◌+◌, ◌<◌, ◌≤◌, ◌⊎◌, cond, List, [], ◌∷◌, ◌++◌, get_or, map, Option, None, Some, option_map, slice_get, slice_set}
+use Rattle.std.specs.List.{All, Contains}
 use Rattle.grain_base.specs.CapBits.{missing}
 use Rattle.grain_bytecode.specs.Dispatch.{Case}
 use Rattle.grain_bytecode.specs.Span.{Span}
@@ -11,6 +11,7 @@ use Rattle.grain.specs.Capabilities.{Allows, caps_of}
 use Rattle.grain.specs.Code.{Bytecode}
 use Rattle.grain.specs.Counts.{Counts}
 use Rattle.grain.specs.Effects.{needs, iterators_needed, handlers_needed, targets, falls_through, after_jump, after_fall}
+use Rattle.grain.specs.Flow.{Flow, Switches, targets_for}
 use Rattle.grain.specs.declared.error.VerifyError.{VerifyError}
 use Rattle.grain.specs.declared.error.VerifyError.TheVariants as errors
 use Rattle.grain.specs.declared.state.Arrival.{Arrival}
@@ -28,15 +29,57 @@ pub record Coming : Type 0 where
 abbrev pub coming : Arrival → Coming
 coming a = record { at = a.at; counts = view a.state }
 
+-- counts on their way to each of these addresses
+abbrev pub all_to : Counts → List ℕ → List Coming
+all_to c ts = map (λ (t : ℕ). record { at = t; counts = c }) ts
+
+-- one of the starts, in the chunk
+pub record IsStartIn (starts : List ℕ) (chunk : Span) (at : ℕ) : Type 0 where
+  pub entry : chunk.entry ≤ at
+  pub end : at < chunk.end
+  pub start : Contains starts at
+
+-- an arrival in the chunk is at the start of its ordinal
+abbrev pub IsPlaced : List ℕ → Span → Arrival → Type 0
+IsPlaced starts chunk a = a.at < chunk.end → slice_get starts a.ordinal ≡ Some a.at
+
 -- how a target is refused that is none
-abbrev pub RefusesTarget : List Bool → Span → ℕ → ℕ → VerifyError → Type 0
-RefusesTarget marks chunk at target (errors.JumpOutOfRange a t) = (a ≡ at) × (t ≡ target) × ((t < chunk.entry) ⊎ (chunk.end ≤ t))
-RefusesTarget marks chunk at target (errors.JumpIntoAnInstruction a t) = (a ≡ at) × (t ≡ target) × (chunk.entry ≤ t) × (t < chunk.end) × (slice_get marks t ≢ Some true)
-RefusesTarget marks chunk at target e = ⊥
+abbrev pub RefusesTarget : List ℕ → Span → ℕ → ℕ → VerifyError → Type 0
+RefusesTarget starts chunk at target (errors.JumpOutOfRange a t) = (a ≡ at) × (t ≡ target) × ((t < chunk.entry) ⊎ (chunk.end ≤ t))
+RefusesTarget starts chunk at target (errors.JumpIntoAnInstruction a t) = (a ≡ at) × (t ≡ target) × (chunk.entry ≤ t) × (t < chunk.end) × (Contains starts t → ⊥)
+RefusesTarget starts chunk at target e = ⊥
 
 -- the refusal is want of memory, or that of one of these targets
-abbrev pub RefusesTargetOf : List Bool → Span → ℕ → List ℕ → VerifyError → Type 0
-RefusesTargetOf marks chunk at ts e = (e ≡ errors.OutOfMemory) ⊎ ((t : ℕ) × Contains ts t × RefusesTarget marks chunk at t e)
+abbrev pub RefusesTargetOf : List ℕ → Span → ℕ → List ℕ → VerifyError → Type 0
+RefusesTargetOf starts chunk at ts e = (e ≡ errors.OutOfMemory) ⊎ ((t : ℕ) × Contains ts t × RefusesTarget starts chunk at t e)
+
+-- the states with which switches were sent before, as counts
+abbrev pub sent_by : List (Option State) → List (Option Counts)
+sent_by states = map (option_map view) states
+
+-- counts are sent to each target, all of them starts of the chunk, and where it is those of a switch that is noted
+pub record SendsAll (starts : List ℕ) (chunk : Span) (switches : List (List ℕ)) (f : Flow) (after : Counts) (sent new_sent : List (Option Counts)) (old new : List Coming) : Type 0 where
+  pub starts_in : All (IsStartIn starts chunk) (targets_for switches f)
+  pub added : new ≡ old ++ all_to after (targets_for switches f)
+  pub noted : (new_sent ≡ sent) ⊎ ((w : ℕ) × (f ≡ Switches w) × (new_sent ≡ slice_set sent w (Some after)))
+
+-- the counts were sent to the targets of this switch before
+pub record SendsNone (f : Flow) (after : Counts) (sent new_sent : List (Option Counts)) (old new : List Coming) : Type 0 where
+  pub added : new ≡ old
+  pub kept : new_sent ≡ sent
+  pub switch : ℕ
+  pub is : f ≡ Switches switch
+  pub before : get_or sent switch None ≡ Some after
+
+-- how counts are sent to the targets of a flow
+abbrev pub Sends : List ℕ → Span → List (List ℕ) → Flow → Counts → List (Option Counts) → List (Option Counts) → List Coming → List Coming → Type 0
+Sends starts chunk switches f after sent new_sent old new = SendsAll starts chunk switches f after sent new_sent old new ⊎ SendsNone f after sent new_sent old new
+
+-- other counts were sent to the targets of its switch before
+abbrev pub RefusesCounts : List (List ℕ) → Flow → Counts → List (Option Counts) → VerifyError → Type 0
+RefusesCounts switches f after sent (errors.DepthConflict a expected found) =
+    (w : ℕ) × (before : Counts) × (f ≡ Switches w) × (get_or sent w None ≡ Some before) × (before ≢ after) × Contains (get_or switches w []) a × (expected ≡ before.operands) × (found ≡ after.operands)
+RefusesCounts switches f after sent e = ⊥
 
 -- how an instruction is refused that lacks something with these counts
 abbrev pub RefusesState : Bytecode → Op → ℕ → Counts → VerifyError → Type 0
@@ -49,10 +92,6 @@ RefusesState code op at c (errors.IteratorUnderflow a) =
 RefusesState code op at c (errors.HandlerUnderflow a) =
     (a ≡ at) × Allows code.setting.caps (caps_of code.setting op) × (c.handlers < handlers_needed op)
 RefusesState code op at c e = ⊥
-
--- counts on their way to each of these addresses
-abbrev pub all_to : Counts → List ℕ → List Coming
-all_to c ts = map (λ (t : ℕ). record { at = t; counts = c }) ts
 
 -- what falls through to the next instruction, if it does
 abbrev pub falling : Bytecode → Op → ℕ → Counts → List Coming

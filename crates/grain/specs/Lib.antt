@@ -25,12 +25,13 @@ pub mod Build
 pub mod Arrivals
 pub mod FirstOut
 pub mod FlowView
-pub mod Marks
+pub mod Meter
 pub mod Plain
 pub mod Slots
+pub mod States
 pub mod PoolCaps
 pub mod Passed
-pub mod Visited
+pub mod Progress
 pub mod Walk
 -- definitions of the crates below, of every call that this crate re-exports
 pub use Rattle.grain_base.proofs.KnownCaps

@@ -1,14 +1,27 @@
 -- Operations that do no more than take some operands and give some.
-use Rattle.std.specs.Prelude.{◌≡◌, ℕ, List}
+use Rattle.std.specs.Prelude.{◌≡◌, ℕ, ◌+◌, ◌-◌, ◌≤◌, List}
+use Rattle.grain_bytecode.specs.InstructionTable.{width_of}
+use Rattle.grain_bytecode.specs.Split.{StandsAt}
 use Rattle.grain_bytecode.specs.declared.chain.Chain.{Chain}
 use Rattle.grain_bytecode.specs.declared.op.Op.{Op}
 use Rattle.grain.specs.Capabilities.{caps_of}
 use Rattle.grain.specs.Effects.{stack_effect}
 use Rattle.grain.specs.Flow.{Falls, flow_of}
 use Rattle.grain.specs.Setting.{Setting}
+use Rattle.grain.specs.declared.state.Arrival.{Arrival}
 
 -- it needs what it takes, asks nothing of the host, and falls through
 pub record IsPlain (op : Op) (takes gives : ℕ) : Type 0 where
   pub operands : (chains : List Chain) → (takes, takes, gives) ≡ stack_effect chains op
   pub caps : (s : Setting) → caps_of s op ≡ 0
   pub flow : flow_of op ≡ Falls
+
+-- the plain instruction here finds the operands that it takes, and falls through to the next arrival
+pub record IsPlainStep (code : List ℕ) (here next : Arrival) : Type 0 where
+  pub op : Op
+  pub takes : ℕ
+  pub gives : ℕ
+  pub stands : StandsAt code here.at op
+  pub plain : IsPlain op takes gives
+  pub there : takes ≤ here.state.operands
+  pub is : next ≡ record { at = here.at + width_of op; ordinal = here.ordinal + 1; state = record here.state { operands = here.state.operands - takes + gives } }

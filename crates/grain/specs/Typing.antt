@@ -1,5 +1,6 @@
 -- Stack typings of a chunk, and what walks along its edges reach.
-use Rattle.std.specs.Prelude.{◌≡◌, ℕ, ◌<◌, ◌≤◌, Option, Some}
+use Rattle.std.specs.Prelude.{◌≡◌, ◌↔◌, ℕ, ◌<◌, ◌≤◌, List, Option, Some, length, nat_eq}
+use Rattle.std.specs.List.{Contains, IsDistinct}
 use Rattle.grain_bytecode.specs.Span.{Span}
 use Rattle.grain_bytecode.specs.declared.op.Op.{Op}
 use Rattle.grain.specs.Capabilities.{Allows, caps_of}
@@ -45,3 +46,10 @@ pub data Reached (code : Code) (chunk : Span) : ℕ → Counts → Type 0 where
 pub record IsDeepest (code : Code) (chunk : Span) (n : ℕ) : Type 0 where
   pub most : (at : ℕ) (c : Counts) → Reached code chunk at c → c.operands ≤ n
   pub attained : (at : ℕ) × ((c : Counts) × Reached code chunk at c × (c.operands ≡ n))
+
+-- so many places are reached
+pub record IsReachedCount (code : Code) (chunk : Span) (n : ℕ) : Type 0 where
+  pub places : List ℕ
+  pub distinct : IsDistinct nat_eq places
+  pub reached : (at : ℕ) → Contains places at ↔ ((c : Counts) × Reached code chunk at c)
+  pub count : length places ≡ n

@@ -1,59 +1,58 @@
 //! Pushing where an instruction may lead.
-ghost use Rattle.std.specs.Prelude.{◌≡◌, ◌≤◌, ◌++◌, ◌∷◌, [], get_or, length, map, OnOk, IfErr};
+ghost use Rattle.std.specs.Prelude.{◌≡◌, ◌++◌, ◌∷◌, ◌⊎◌, [], Some, get_or, length, map, slice_get, IfErr, IfOk, OnOk};
 ghost use Rattle.std.specs.List.{All};
 ghost use Rattle.grain_bytecode.specs.Dispatch.{listed, arms};
-ghost use Rattle.grain.specs.Arrivals.{RefusesTarget, RefusesTargetOf, all_to, case_targets, coming};
-ghost use Rattle.grain.specs.Arrivals.{range_targets, view};
+ghost use Rattle.grain.specs.Arrivals.{IsPlaced, IsStartIn, RefusesCounts, RefusesTarget, RefusesTargetOf, Sends};
+ghost use Rattle.grain.specs.Arrivals.{all_to, case_targets, coming, range_targets, sent_by, view};
 ghost use Rattle.grain.specs.Code.{switch_targets};
-ghost use Rattle.grain.specs.Marks.{IsMarkedIn};
+ghost use Rattle.grain.specs.Flow as flows;
 
 use crate::error::VerifyError;
-use crate::state::{Arrival, State};
+use crate::state::{Arrival, State, check_same};
+use crate::states::States;
 use grain_base::Dynamic;
-use grain_bytecode::{Chunk, Switch, SwitchRange};
+use grain_bytecode::{Chunk, Starts, Switch, SwitchRange};
 use std::collections::HashMap;
 
-/// Whether a target is a start of the chunk.
+/// How many instructions stand before a target, which has to be a start of the chunk.
 #[inline(always)]
-pub(crate) fn check_target(
-    starts: &[bool],
-    chunk: &Chunk,
-    at: u32,
-    target: u32,
-) -> Result<(), VerifyError>
-    requires { chunk.now.end ≤ length starts.now }
-    ensures ok { OnOk result (IsMarkedIn starts.now chunk.now target) }
-    ensures err { IfErr result (λ e. RefusesTarget starts.now chunk.now at target e) }
+fn place_of(starts: &Starts, chunk: &Chunk, at: u32, target: u32) -> Result<usize, VerifyError>
+    ensures ok { OnOk result (IsStartIn starts.now.starts chunk.now target) }
+    ensures place { IfOk result (λ k. slice_get starts.now.starts k ≡ Some target) }
+    ensures err { IfErr result (λ e. RefusesTarget starts.now.starts chunk.now at target e) }
 {
     let at = at as usize;
     if target < chunk.entry() || target >= chunk.end() {
         return Err(VerifyError::JumpOutOfRange { at, target });
     }
-    if !starts[target as usize] {
-        return Err(VerifyError::JumpIntoAnInstruction { at, target });
+    match starts.ordinal(target as usize) {
+        Some(ordinal) => Ok(ordinal),
+        None => Err(VerifyError::JumpIntoAnInstruction { at, target }),
     }
-    Ok(())
 }
 
 /// Pushes the state to one target.
 #[inline(always)]
 pub(crate) fn push_target(
-    starts: &[bool],
+    starts: &Starts,
     chunk: &Chunk,
     at: u32,
     target: u32,
     after: State,
     work: &mut Vec<Arrival>,
 ) -> Result<(), VerifyError>
-    requires { chunk.now.end ≤ length starts.now }
     ensures pushed { OnOk result (map coming work.new.items
         ≡ map coming work.old.items ++ all_to (view after) (target ∷ [])) }
-    ensures marked { OnOk result (IsMarkedIn starts.now chunk.now target) }
-    ensures err { IfErr result (λ e. RefusesTargetOf starts.now chunk.now at (target ∷ []) e) }
+    ensures inside { OnOk result (IsStartIn starts.now.starts chunk.now target) }
+    ensures placed { All (IsPlaced starts.now.starts chunk.now) work.old.items
+        → OnOk result (All (IsPlaced starts.now.starts chunk.now) work.new.items) }
+    ensures err { IfErr result (λ e.
+        RefusesTargetOf starts.now.starts chunk.now at (target ∷ []) e) }
 {
-    check_target(starts, chunk, at, target)?;
+    let ordinal = place_of(starts, chunk, at, target)?;
     work.push(Arrival {
         at: target,
+        ordinal,
         state: after,
     })?;
     Ok(())
@@ -61,19 +60,20 @@ pub(crate) fn push_target(
 
 /// Pushes the state to the target of each case.
 fn push_cases(
-    starts: &[bool],
+    starts: &Starts,
     chunk: &Chunk,
     at: u32,
     cases: &HashMap<Dynamic, (u32, u32)>,
     after: State,
     work: &mut Vec<Arrival>,
 ) -> Result<(), VerifyError>
-    requires { chunk.now.end ≤ length starts.now }
     ensures pushed { OnOk result (map coming work.new.items
         ≡ map coming work.old.items ++ all_to (view after) (case_targets cases.now.entries)) }
-    ensures marked { OnOk result
-        (All (IsMarkedIn starts.now chunk.now) (case_targets cases.now.entries)) }
-    ensures err { IfErr result (λ e. RefusesTargetOf starts.now chunk.now at
+    ensures inside { OnOk result
+        (All (IsStartIn starts.now.starts chunk.now) (case_targets cases.now.entries)) }
+    ensures placed { All (IsPlaced starts.now.starts chunk.now) work.old.items
+        → OnOk result (All (IsPlaced starts.now.starts chunk.now) work.new.items) }
+    ensures err { IfErr result (λ e. RefusesTargetOf starts.now.starts chunk.now at
         (case_targets cases.now.entries) e) }
 {
     for (_, (target, _)) in cases {
@@ -84,19 +84,20 @@ fn push_cases(
 
 /// Pushes the state to the target of each range.
 fn push_ranges(
-    starts: &[bool],
+    starts: &Starts,
     chunk: &Chunk,
     at: u32,
     ranges: &[SwitchRange],
     after: State,
     work: &mut Vec<Arrival>,
 ) -> Result<(), VerifyError>
-    requires { chunk.now.end ≤ length starts.now }
     ensures pushed { OnOk result (map coming work.new.items
         ≡ map coming work.old.items ++ all_to (view after) (range_targets ranges.now)) }
-    ensures marked { OnOk result
-        (All (IsMarkedIn starts.now chunk.now) (range_targets ranges.now)) }
-    ensures err { IfErr result (λ e. RefusesTargetOf starts.now chunk.now at
+    ensures inside { OnOk result
+        (All (IsStartIn starts.now.starts chunk.now) (range_targets ranges.now)) }
+    ensures placed { All (IsPlaced starts.now.starts chunk.now) work.old.items
+        → OnOk result (All (IsPlaced starts.now.starts chunk.now) work.new.items) }
+    ensures err { IfErr result (λ e. RefusesTargetOf starts.now.starts chunk.now at
         (range_targets ranges.now) e) }
 {
     for range in ranges {
@@ -107,20 +108,21 @@ fn push_ranges(
 
 /// Pushes the state to the target of each case, if there are any.
 fn push_all_cases(
-    starts: &[bool],
+    starts: &Starts,
     chunk: &Chunk,
     at: u32,
     switch: &Switch,
     after: State,
     work: &mut Vec<Arrival>,
 ) -> Result<(), VerifyError>
-    requires { chunk.now.end ≤ length starts.now }
     ensures pushed { OnOk result (map coming work.new.items
         ≡ map coming work.old.items
         ++ all_to (view after) (case_targets (listed (arms switch.now).cases))) }
-    ensures marked { OnOk result (All (IsMarkedIn starts.now chunk.now)
+    ensures inside { OnOk result (All (IsStartIn starts.now.starts chunk.now)
         (case_targets (listed (arms switch.now).cases))) }
-    ensures err { IfErr result (λ e. RefusesTargetOf starts.now chunk.now at
+    ensures placed { All (IsPlaced starts.now.starts chunk.now) work.old.items
+        → OnOk result (All (IsPlaced starts.now.starts chunk.now) work.new.items) }
+    ensures err { IfErr result (λ e. RefusesTargetOf starts.now.starts chunk.now at
         (case_targets (listed (arms switch.now).cases)) e) }
 {
     match &switch.cases {
@@ -131,19 +133,20 @@ fn push_all_cases(
 
 /// Pushes the state to each target of the switch.
 fn push_switch(
-    starts: &[bool],
+    starts: &Starts,
     chunk: &Chunk,
     at: u32,
     switch: &Switch,
     after: State,
     work: &mut Vec<Arrival>,
 ) -> Result<(), VerifyError>
-    requires { chunk.now.end ≤ length starts.now }
     ensures pushed { OnOk result (map coming work.new.items
         ≡ map coming work.old.items ++ all_to (view after) (switch_targets switch.now)) }
-    ensures marked { OnOk result
-        (All (IsMarkedIn starts.now chunk.now) (switch_targets switch.now)) }
-    ensures err { IfErr result (λ e. RefusesTargetOf starts.now chunk.now at
+    ensures inside { OnOk result
+        (All (IsStartIn starts.now.starts chunk.now) (switch_targets switch.now)) }
+    ensures placed { All (IsPlaced starts.now.starts chunk.now) work.old.items
+        → OnOk result (All (IsPlaced starts.now.starts chunk.now) work.new.items) }
+    ensures err { IfErr result (λ e. RefusesTargetOf starts.now.starts chunk.now at
         (switch_targets switch.now) e) }
 {
     push_all_cases(starts, chunk, at, switch, after, work)?;
@@ -152,27 +155,43 @@ fn push_switch(
     Ok(())
 }
 
-/// Pushes the state to each target of the switch of an index, if there is one.
+/// Pushes the state to each target of the switch of an index, if there is one, unless it was sent there before.
+///
+/// # Errors
+/// Those of the first target that is none, and `DepthConflict` where another state was sent there before.
 pub(crate) fn push_table(
-    starts: &[bool],
+    starts: &Starts,
     chunk: &Chunk,
     at: u32,
     switches: &[Switch],
     index: u32,
     after: State,
+    sent: &mut States,
     work: &mut Vec<Arrival>,
 ) -> Result<(), VerifyError>
-    requires { chunk.now.end ≤ length starts.now }
-    ensures pushed { OnOk result (map coming work.new.items
-        ≡ map coming work.old.items
-        ++ all_to (view after) (get_or (map switch_targets switches.now) index [])) }
-    ensures marked { OnOk result (All (IsMarkedIn starts.now chunk.now)
-        (get_or (map switch_targets switches.now) index [])) }
-    ensures err { IfErr result (λ e. RefusesTargetOf starts.now chunk.now at
-        (get_or (map switch_targets switches.now) index []) e) }
+    requires { length sent.old ≡ length switches.now }
+    ensures sends { OnOk result (Sends starts.now.starts chunk.now
+        (map switch_targets switches.now) (flows.Switches index) (view after)
+        (sent_by sent.old) (sent_by sent.new)
+        (map coming work.old.items) (map coming work.new.items)) }
+    ensures long { OnOk result (length sent.new ≡ length sent.old) }
+    ensures placed { All (IsPlaced starts.now.starts chunk.now) work.old.items
+        → OnOk result (All (IsPlaced starts.now.starts chunk.now) work.new.items) }
+    ensures err { IfErr result (λ e.
+        RefusesTargetOf starts.now.starts chunk.now at
+        (get_or (map switch_targets switches.now) index []) e
+        ⊎ RefusesCounts (map switch_targets switches.now) (flows.Switches index) (view after)
+        (sent_by sent.old) e) }
 {
-    match switches.get(index as usize) {
-        Some(switch) => push_switch(starts, chunk, at, switch, after, work),
-        None => Ok(()),
+    let Some(switch) = switches.get(index as usize) else {
+        return Ok(());
+    };
+    match sent.get(index as usize) {
+        Some(before) => check_same(switch.default, before, after),
+        None => {
+            push_switch(starts, chunk, at, switch, after, work)?;
+            sent.set(index as usize, after);
+            Ok(())
+        }
     }
 }

@@ -17,6 +17,7 @@ mod functions;
 mod indices;
 pub mod laws;
 mod lookup;
+mod meter;
 mod passed;
 mod plain;
 mod pools;
@@ -25,11 +26,10 @@ mod program;
 mod samples;
 mod sidecar;
 mod slots;
-mod start_marks;
 mod state;
+mod states;
 mod tighten;
 mod verifier;
-mod visited;
 mod walk;
 
 pub use builder::{BuildError, Cut, Head, build};
@@ -40,12 +40,13 @@ pub use grain_base::{
 };
 pub use grain_bytecode::{
     AssembleError, AssignOp, BadTable, Chain, ChainPositions, Chunk, DisassembleError, Disassembly,
-    Field, Function, Lookups, Names, Op, Pool, Positions, Receiver, Root, Starts, Step, StepFlags,
+    Field, Function, Instruction, Lookups, Names, Op, Pool, Positions, Receiver, Root, Starts, Step, StepFlags,
     Strings, StringsError, StripError, Switch, SwitchRange, TableError, Tail, assemble,
     count_instructions, decode, disassemble, names, resolve_switch_targets, site_to_position,
     sites, tag, u16_at, u32_at, width,
 };
+pub use meter::Meter;
 pub use pools::Pools;
 pub use program::{Parts, Program};
 pub use sidecar::Sidecar;
-pub use verifier::verify;
+pub use verifier::{verify, verify_metered};

@@ -1,5 +1,6 @@
 //! What every path to an instruction has to agree on, and states on their way.
-ghost use Rattle.std.specs.Prelude.{◌≡◌, ◌+◌, ◌-◌, ◌<◌, ◌≤◌, ◌^◌, IfErr, IfOk};
+ghost use Rattle.std.specs.Prelude.{◌≡◌, ◌≢◌, ◌+◌, ◌-◌, ◌<◌, ◌≤◌, ◌^◌, IfErr, IfOk, OnOk};
+ghost use Rattle.grain.specs.Arrivals.{view};
 
 use crate::effects::Effect;
 use crate::error::VerifyError;
@@ -16,10 +17,56 @@ pub(crate) struct State {
 #[derive(Clone, Copy, PartialEq, Eq, Debug)]
 pub(crate) struct Arrival {
     pub(crate) at: u32,
+    /// How many instructions stand before the address in the code.
+    pub(crate) ordinal: usize,
     pub(crate) state: State,
 }
 
+/// Whether what is at an address already has the state that comes to it.
+///
+/// # Errors
+/// `DepthConflict` at the address.
+#[inline(always)]
+pub(crate) fn check_same(at: u32, before: State, state: State) -> Result<(), VerifyError>
+    ensures ok { OnOk result (before ≡ state) }
+    ensures err { IfErr result (λ e.
+        (e ≡ VerifyError.DepthConflict at before.operands state.operands)
+        × (view before ≢ view state)) }
+{
+    if before != state {
+        return Err(VerifyError::DepthConflict {
+            at: at as usize,
+            expected: before.operands as usize,
+            found: state.operands as usize,
+        });
+    }
+    Ok(())
+}
+
+impl Arrival {
+    /// What falls through an instruction of this width, with this state.
+    #[inline(always)]
+    pub(crate) fn next(self, width: usize, after: State) -> Arrival
+        requires room { self.at + width < 2 ^ 32 }
+        requires few { self.ordinal + 1 < 2 ^ 64 }
+        ensures { result ≡ record { at = self.at + width; ordinal = self.ordinal + 1; state = after } }
+    {
+        Arrival {
+            at: self.at + width as u32,
+            ordinal: self.ordinal + 1,
+            state: after,
+        }
+    }
+}
+
 impl State {
+    /// No operands, no iterators and no handlers.
+    pub(crate) const NOTHING: State = State {
+        operands: 0,
+        iterators: 0,
+        handlers: 0,
+    };
+
     /// The state with what an operation leaves of the operands.
     #[inline(always)]
     pub(crate) fn with(self, effect: Effect) -> State

@@ -1,11 +1,14 @@
 //! The verifier.
-ghost use Rattle.std.specs.Prelude.{◌≡◌, ◌≢◌, ◌⊎◌, IfErr, IfOk, List, OnOk};
+ghost use Rattle.std.specs.Prelude.{◌≡◌, ◌≢◌, ◌⊎◌, ℕ, IfErr, IfOk, List, OnOk};
 ghost use Rattle.std.specs.List.{All, AllZip};
 ghost use Rattle.grain_bytecode.specs.Span.{Span};
+ghost use Rattle.grain_bytecode.specs.Split.{Split};
 ghost use Rattle.grain.specs.Accepted.{ChunkPasses, IsAccepted, input};
 ghost use Rattle.grain.specs.Accepted.{AreIndexed};
 ghost use Rattle.grain.specs.Code.{bytecode, coded};
 ghost use Rattle.grain.specs.Flaw.{Flaw, IsFirstFlaw};
+ghost use Rattle.grain.specs.Meter.{IsMetered};
+ghost use Rattle.grain.specs.Progress.{AreMeteredChunks};
 ghost use Rattle.grain.specs.Setting.{setting};
 ghost use Rattle.grain.specs.Typing.{HasTyping, IsDeepest};
 ghost use Rattle.grain.specs.Verdict.{IsVerdict, ReachesChunks};
@@ -16,12 +19,11 @@ use crate::constants::check_constants;
 use crate::error::VerifyError;
 use crate::functions::check_functions;
 use crate::indices::check_code;
+use crate::meter::Meter;
 use crate::pools::Pools;
-use crate::start_marks::mark_starts;
-use crate::visited::Visited;
-use crate::walk::Prepared;
+use crate::walk::{Prepared, Traversal};
 use grain_base::{Caps, Dynamic};
-use grain_bytecode::{Chunk, Function};
+use grain_bytecode::{Chunk, Function, Starts};
 use std::alloc::Global;
 
 /// The tests before the chunks: of the constants, of the code and its indices, and of the functions. They take no
@@ -54,6 +56,7 @@ fn walk_chunks(
     alloc: Global,
     prepared: &Prepared<'_>,
     chunks: &[Chunk],
+    meter: &mut Meter,
 ) -> Result<Vec<u16>, VerifyError>
     requires { IsReady prepared.now }
     ensures passes { OnOk result (All (ChunkPasses (bytecode_of prepared.now)) chunks.now) }
@@ -65,13 +68,15 @@ fn walk_chunks(
         → IfErr result (λ e. e ≡ VerifyError.OutOfMemory) }
     ensures flaws { IfErr result (λ e. (e ≡ VerifyError.OutOfMemory)
         ⊎ IsFirstFlaw (bytecode_of prepared.now) chunks.now e) }
+    ensures metered { AreMeteredChunks (bytecode_of prepared.now) prepared.now.starts.starts
+        chunks.now meter.old meter.new result }
 {
-    let mut visited = Visited::new(alloc, prepared.code.len())?;
-    let mut work = Vec::new(alloc);
-    let mut deepest = Vec::new(alloc);
+    let switches = prepared.pools.switches.len();
+    let mut traversal = Traversal::new(alloc, prepared.starts.count(), switches)?;
+    let mut deepest = Vec::with_capacity(alloc, chunks.len())?;
     for chunk in chunks {
-        let needed = prepared.verify_chunk(chunk, &mut visited, &mut work)?;
-        deepest.push(needed)?;
+        let needed = prepared.verify_chunk(chunk, &mut traversal, meter)?;
+        deepest.push_reserved(needed);
     }
     Ok(deepest)
 }
@@ -83,6 +88,7 @@ fn verify_chunks(
     code: &[u8],
     pools: &Pools<'_>,
     chunks: &[Chunk],
+    meter: &mut Meter,
 ) -> Result<Vec<u16>, VerifyError>
     requires { AreIndexed (setting caps pools.now) code.now }
     ensures passes { OnOk result (All (ChunkPasses (bytecode caps pools.now code.now)) chunks.now) }
@@ -94,8 +100,10 @@ fn verify_chunks(
         → IfErr result (λ e. e ≡ VerifyError.OutOfMemory) }
     ensures flaws { IfErr result (λ e. (e ≡ VerifyError.OutOfMemory)
         ⊎ IsFirstFlaw (bytecode caps pools.now code.now) chunks.now e) }
+    ensures metered { (starts : List ℕ) → Split code.now starts → AreMeteredChunks
+        (bytecode caps pools.now code.now) starts chunks.now meter.old meter.new result }
 {
-    let starts = mark_starts(alloc, code)?;
+    let starts = Starts::of(alloc, code)?;
     let asked = PoolCaps::new(alloc, pools)?;
     let prepared = Prepared {
         caps,
@@ -104,7 +112,7 @@ fn verify_chunks(
         starts,
         asked,
     };
-    let deepest = walk_chunks(alloc, &prepared, chunks)?;
+    let deepest = walk_chunks(alloc, &prepared, chunks, meter)?;
     Ok(deepest)
 }
 
@@ -134,8 +142,37 @@ pub fn verify(
     ensures memory { IfErr result (λ e. e ≡ VerifyError.OutOfMemory → ReachesChunks
         (input caps consts.now code.now functions.now chunks.now pools.now)) }
 {
+    let mut meter = Meter::new();
+    verify_metered(
+        alloc, caps, consts, code, functions, chunks, pools, &mut meter,
+    )
+}
+
+/// The same as [`verify`]. The meter counts each instruction that the walks look at: where the program is accepted those
+/// that each chunk reaches, else no more than those that each chunk has.
+///
+/// # Errors
+/// Those of [`verify`].
+pub fn verify_metered(
+    alloc: Global,
+    caps: Caps,
+    consts: &[Dynamic],
+    code: &[u8],
+    functions: &[Function],
+    chunks: &[Chunk],
+    pools: &Pools<'_>,
+    meter: &mut Meter,
+) -> Result<Vec<u16>, VerifyError>
+    ensures verdict { IsVerdict
+        (input caps consts.now code.now functions.now chunks.now pools.now) result }
+    ensures memory { IfErr result (λ e. e ≡ VerifyError.OutOfMemory → ReachesChunks
+        (input caps consts.now code.now functions.now chunks.now pools.now)) }
+    ensures metered { IsMetered
+        (input caps consts.now code.now functions.now chunks.now pools.now)
+        meter.old meter.new result }
+{
     check_before_chunks(caps, consts, code, functions, pools)?;
-    verify_chunks(alloc, caps, code, pools, chunks)
+    verify_chunks(alloc, caps, code, pools, chunks, meter)
 }
 
 #[cfg(test)]

@@ -1,31 +1,38 @@
 //! The walk over one chunk.
-ghost use Rattle.std.specs.Prelude.{◌≡◌, ◌≢◌, ◌+◌, ◌-◌, ◌≤◌, ◌<◌, ◌^◌, ◌++◌, ◌⊎◌, [], None, Some};
-ghost use Rattle.std.specs.Prelude.{cond, length, map, IfErr, IfNone, IfOk, OnOk};
+ghost use Rattle.std.specs.Prelude.{◌≡◌, ◌≢◌, ℕ, ◌+◌, ◌-◌, ◌≤◌, ◌<◌, ◌^◌, ◌++◌, ◌⊎◌, [], None, Some};
+ghost use Rattle.std.specs.Prelude.{cond, length, map, replicate, slice_get, IfErr, IfNone, IfOk, IfSome, OnOk};
 ghost use Rattle.std.specs.Option.{option_map, option_to_list};
 ghost use Rattle.std.specs.List.{All};
+ghost use Rattle.grain_bytecode.specs.InstructionTable.{width_of};
+ghost use Rattle.grain_bytecode.specs.Split.{StandsAt};
 ghost use Rattle.grain_bytecode.specs.declared.op.Op.{Op};
 ghost use Rattle.grain.specs.Accepted.{ChunkPasses, IsFramed};
-ghost use Rattle.grain.specs.Arrivals.{RefusesState, RefusesTargetOf, all_to, coming, view};
+ghost use Rattle.grain.specs.Arrivals.{IsPlaced, RefusesCounts, RefusesState, RefusesTargetOf, Sends, coming, sent_by, view};
 ghost use Rattle.grain.specs.Capabilities.{Allows, caps_of};
 ghost use Rattle.grain.specs.Code.{coded};
 ghost use Rattle.grain.specs.Effects.{needs};
 ghost use Rattle.grain.specs.Flaw.{ChunkFlaw};
 ghost use Rattle.grain.specs.Flow.{fall_for, falls_for, jump_for, targets_for};
 ghost use Rattle.grain.specs.FlowView.{IsMetBy, IsShort, flow};
-ghost use Rattle.grain.specs.Marks.{IsMarkedIn};
+ghost use Rattle.grain.specs.Layout.{IsStart};
+ghost use Rattle.grain.specs.Meter.{starts_within};
+ghost use Rattle.grain.specs.Plain.{IsPlainStep};
+ghost use Rattle.grain.specs.Progress.{Fits, HaltsAt, HasVisited, IsMeteredChunk, IsWalking, visits_in};
 ghost use Rattle.grain.specs.Typing.{HasTyping, IsDeepest};
-ghost use Rattle.grain.specs.Walk.{ComesTo, IsReady, Visits, bytecode_of};
+ghost use Rattle.grain.specs.Walk.{IsReady, bytecode_of};
 
 use crate::capabilities::{PoolCaps, missing};
 use crate::edges::{push_table, push_target};
 use crate::effects::{Effect, Flow};
 use crate::error::VerifyError;
+use crate::meter::Meter;
 use crate::plain::plain_effect;
 use crate::pools::Pools;
-use crate::state::{Arrival, State};
-use crate::visited::Visited;
+use crate::state::{Arrival, State, check_same};
+use crate::states::States;
 use grain_base::{Caps, Flags};
-use grain_bytecode::{Chunk, decode, width};
+use grain_bytecode::{Chunk, Instruction, Starts};
+use std::alloc::{AllocError, Global};
 
 /// What the walks of all chunks share: code that is whole instructions with its indices in bounds, and what walks ask of
 /// it again and again.
@@ -34,10 +41,51 @@ pub(crate) struct Prepared<'a> {
     pub(crate) caps: Caps,
     pub(crate) code: &'a [u8],
     pub(crate) pools: &'a Pools<'a>,
-    /// Whether an instruction begins at the address.
-    pub(crate) starts: Vec<bool>,
+    /// Where instructions begin.
+    pub(crate) starts: Starts,
     /// What the names and the chains of the pools ask of the host.
     pub(crate) asked: PoolCaps,
+}
+
+/// What a walk writes. It serves one chunk after another.
+#[derive(Drop)]
+pub(crate) struct Traversal {
+    /// The state with which each instruction was visited, by its ordinal.
+    pub(crate) states: States,
+    /// The state that was sent to the targets of each switch.
+    pub(crate) sent: States,
+    /// The worklist.
+    pub(crate) work: Vec<Arrival>,
+}
+
+impl Traversal {
+    /// Room for walks over so many instructions and switches.
+    ///
+    /// # Errors
+    /// [`AllocError`] where the memory was refused.
+    pub(crate) fn new(alloc: Global, instructions: usize, switches: usize) -> Result<Traversal, AllocError>
+        ensures states { IfOk result (λ t. length t.states ≡ instructions) }
+        ensures sent { IfOk result (λ t. length t.sent ≡ switches) }
+    {
+        let states = States::new(alloc, instructions)?;
+        let sent = States::new(alloc, switches)?;
+        Ok(Traversal {
+            states,
+            sent,
+            work: Vec::new(alloc),
+        })
+    }
+
+    /// Begins the next chunk, in which nothing was visited.
+    fn begin_chunk(&mut self)
+        ensures states { self.new.states ≡ replicate (length self.old.states) None }
+        ensures sent { self.new.sent ≡ replicate (length self.old.sent) None }
+        ensures work { self.new.work.items ≡ [] }
+    {
+        self.states.begin_chunk();
+        self.sent.begin_chunk();
+        self.work.clear();
+    }
 }
 
 /// The arrival that is next, or else the last of the list.
@@ -51,24 +99,6 @@ fn take_next(next: Option<Arrival>, work: &mut Vec<Arrival>) -> Option<Arrival>
         Some(arrival) => Some(arrival),
         None => work.pop(),
     }
-}
-
-/// Whether an address is visited again with the state of the first visit.
-#[inline(always)]
-fn check_same(at: u32, visited: State, state: State) -> Result<(), VerifyError>
-    ensures ok { OnOk result (visited ≡ state) }
-    ensures err { IfErr result (λ e.
-        (e ≡ VerifyError.DepthConflict at visited.operands state.operands)
-        × (view visited ≢ view state)) }
-{
-    if visited != state {
-        return Err(VerifyError::DepthConflict {
-            at: at as usize,
-            expected: visited.operands as usize,
-            found: state.operands as usize,
-        });
-    }
-    Ok(())
 }
 
 impl Prepared<'_> {
@@ -100,41 +130,50 @@ impl Prepared<'_> {
         Ok(())
     }
 
-    /// Pushes the targets of an instruction that has what it asks and the operands that it needs, and answers the state
-    /// with which it falls through, if it does.
+    /// Sends the state that an instruction leaves to its targets, where it has what it asks and the operands that it
+    /// needs, and answers the state with which it falls through, if it does.
     #[inline(always)]
     fn follow(
         &self,
         chunk: &Chunk,
         effect: Effect,
-        at: u32,
-        state: State,
-        work: &mut Vec<Arrival>,
+        here: Arrival,
+        traversal: &mut Traversal,
     ) -> Result<Option<State>, VerifyError>
-        requires long { chunk.now.end ≤ length self.now.starts.items }
-        requires operands { effect.needs ≤ state.operands }
-        requires operands_room { state.operands + 1 < 2 ^ 32 }
-        requires iterators_room { state.iterators + 1 < 2 ^ 32 }
-        requires handlers_room { state.handlers + 1 < 2 ^ 32 }
-        ensures met { OnOk result (IsMetBy (flow effect.flow) (view state)) }
-        ensures pushed { OnOk result (map coming work.new.items
-            ≡ map coming work.old.items ++ all_to
+        requires long { length traversal.old.sent ≡ length self.now.pools.now.switches.now }
+        requires operands { effect.needs ≤ here.state.operands }
+        requires operands_room { here.state.operands + 1 < 2 ^ 32 }
+        requires iterators_room { here.state.iterators + 1 < 2 ^ 32 }
+        requires handlers_room { here.state.handlers + 1 < 2 ^ 32 }
+        ensures met { OnOk result (IsMetBy (flow effect.flow) (view here.state)) }
+        ensures sends { OnOk result (Sends self.now.starts.starts chunk.now
+            (bytecode_of self.now).switches (flow effect.flow)
             (jump_for (flow effect.flow)
-            (state.operands - effect.takes + effect.gives) (view state))
-            (targets_for (bytecode_of self.now).switches (flow effect.flow))) }
-        ensures marked { OnOk result (All (IsMarkedIn self.now.starts.items chunk.now)
-            (targets_for (bytecode_of self.now).switches (flow effect.flow))) }
+            (here.state.operands - effect.takes + effect.gives) (view here.state))
+            (sent_by traversal.old.sent) (sent_by traversal.new.sent)
+            (map coming traversal.old.work.items) (map coming traversal.new.work.items)) }
         ensures falls { IfOk result (λ after. option_map view after
             ≡ cond (falls_for (flow effect.flow))
             (Some (fall_for (flow effect.flow)
-            (state.operands - effect.takes + effect.gives) (view state)))
+            (here.state.operands - effect.takes + effect.gives) (view here.state)))
             None) }
-        ensures err { IfErr result (λ e. IsShort (flow effect.flow) at (view state) e
-            ⊎ (IsMetBy (flow effect.flow) (view state)
-            × RefusesTargetOf self.now.starts.items chunk.now at
-            (targets_for (bytecode_of self.now).switches (flow effect.flow)) e)) }
+        ensures states { OnOk result (traversal.new.states ≡ traversal.old.states) }
+        ensures long { OnOk result (length traversal.new.sent ≡ length traversal.old.sent) }
+        ensures placed { All (IsPlaced self.now.starts.starts chunk.now) traversal.old.work.items
+            → OnOk result
+            (All (IsPlaced self.now.starts.starts chunk.now) traversal.new.work.items) }
+        ensures err { IfErr result (λ e. IsShort (flow effect.flow) here.at (view here.state) e
+            ⊎ (IsMetBy (flow effect.flow) (view here.state)
+            × (RefusesTargetOf self.now.starts.starts chunk.now here.at
+            (targets_for (bytecode_of self.now).switches (flow effect.flow)) e
+            ⊎ RefusesCounts (bytecode_of self.now).switches (flow effect.flow)
+            (jump_for (flow effect.flow)
+            (here.state.operands - effect.takes + effect.gives) (view here.state))
+            (sent_by traversal.old.sent) e))) }
     {
         let starts = &self.starts;
+        let work = &mut traversal.work;
+        let Arrival { at, state, .. } = here;
         let after = state.with(effect);
         match effect.flow {
             Flow::Falls => Ok(Some(after)),
@@ -148,7 +187,9 @@ impl Prepared<'_> {
                 Ok(Some(after))
             }
             Flow::Switches(index) => {
-                push_table(starts, chunk, at, self.pools.switches, index, after, work)?;
+                let switches = self.pools.switches;
+                let sent = &mut traversal.sent;
+                push_table(starts, chunk, at, switches, index, after, sent, work)?;
                 Ok(None)
             }
             Flow::BeginsIterator => Ok(Some(State {
@@ -176,126 +217,156 @@ impl Prepared<'_> {
         }
     }
 
-    /// Visits the instruction at an address, which it decodes.
-    #[inline(always)]
-    fn visit_decoded(
-        &self,
-        chunk: &Chunk,
-        at: u32,
-        state: State,
-        work: &mut Vec<Arrival>,
-    ) -> Result<Option<Arrival>, VerifyError>
-        requires { ComesTo self.now chunk.now at state }
-        ensures ok { IfOk result (λ next. Visits (bytecode_of self.now) chunk.now at (view state)
-            (map coming work.old.items)
-            (map coming (work.new.items ++ option_to_list next))) }
-        ensures err { IfErr result (λ e. (e ≡ VerifyError.OutOfMemory)
-            ⊎ ChunkFlaw (bytecode_of self.now) chunk.now e) }
-    {
-        let Some(width) = width(self.code, at as usize) else {
-            unreachable!();
-        };
-        let Some(op) = decode(self.code, at as usize) else {
-            unreachable!();
-        };
-        let effect = Effect::of(&op, self.pools.chains, &self.asked);
-        self.check_needs(effect, at, state)?;
-        let fallen = self.follow(chunk, effect, at, state, work)?;
-        match fallen {
-            Some(after) => Ok(Some(Arrival {
-                at: at + width as u32,
-                state: after,
-            })),
-            None => Ok(None),
-        }
-    }
-
-    /// Visits the instruction at an address with a state: pushes its targets, and answers where and with which state it
-    /// falls through, if it does. An instruction that is plain by its tag isn't decoded.
+    /// Visits an instruction: tests what it asks and needs, sends its state to its targets, and answers what falls
+    /// through, if it does.
     #[inline(always)]
     fn visit(
         &self,
         chunk: &Chunk,
-        at: u32,
-        state: State,
-        work: &mut Vec<Arrival>,
+        here: Arrival,
+        traversal: &mut Traversal,
     ) -> Result<Option<Arrival>, VerifyError>
-        requires { ComesTo self.now chunk.now at state }
-        ensures ok { IfOk result (λ next. Visits (bytecode_of self.now) chunk.now at (view state)
-            (map coming work.old.items)
-            (map coming (work.new.items ++ option_to_list next))) }
+        requires ready { IsReady self.now }
+        requires framed { IsFramed (bytecode_of self.now) chunk.now }
+        requires halts { (deepest : ℕ) × HaltsAt self.now chunk.now traversal.old here deepest }
+        ensures ok { (deepest : ℕ) → HaltsAt self.now chunk.now traversal.old here deepest
+            → IfOk result (λ next. IsWalking self.now chunk.now traversal.new
+            (traversal.new.work.items ++ option_to_list next) deepest) }
+        ensures states { OnOk result (traversal.new.states ≡ traversal.old.states) }
         ensures err { IfErr result (λ e. (e ≡ VerifyError.OutOfMemory)
             ⊎ ChunkFlaw (bytecode_of self.now) chunk.now e) }
     {
-        let Some(width) = width(self.code, at as usize) else {
+        let Some(instruction) = Instruction::at(self.code, here.at as usize) else {
             unreachable!();
         };
-        match plain_effect(self.code[at as usize]) {
-            Some((takes, gives)) if takes <= state.operands => Ok(Some(Arrival {
-                at: at + width as u32,
-                state: State {
-                    operands: state.operands - takes + gives,
-                    ..state
-                },
-            })),
-            _ => self.visit_decoded(chunk, at, state, work),
+        let Some(op) = instruction.op() else {
+            unreachable!();
+        };
+        let effect = Effect::of(&op, self.pools.chains, &self.asked);
+        self.check_needs(effect, here.at, here.state)?;
+        match self.follow(chunk, effect, here, traversal)? {
+            Some(after) => Ok(Some(here.next(instruction.width(), after))),
+            None => Ok(None),
         }
     }
 
-    /// Walks from the chunk's entry, and answers the greatest operand count that it meets.
+    /// What falls through an instruction, where that is plain: it does no more than its tag tells, and finds the operands
+    /// that it takes.
+    #[inline(always)]
+    fn plain_next(&self, here: Arrival) -> Option<Arrival>
+        requires start { IsStart self.now.code.now here.at }
+        requires room { (op : Op) → StandsAt self.now.code.now here.at op
+            → here.at + width_of op < 2 ^ 32 }
+        requires operands_room { here.state.operands + 1 < 2 ^ 32 }
+        requires ordinal_room { here.ordinal + 1 < 2 ^ 64 }
+        ensures { IfSome result (λ next. IsPlainStep self.now.code.now here next) }
+    {
+        let Some(instruction) = Instruction::at(self.code, here.at as usize) else {
+            unreachable!();
+        };
+        match plain_effect(instruction.tag) {
+            Some((takes, gives)) if takes <= here.state.operands => {
+                let after = State {
+                    operands: here.state.operands - takes + gives,
+                    ..here.state
+                };
+                Some(here.next(instruction.width(), after))
+            }
+            _ => None,
+        }
+    }
+
+    /// Visits plain instructions from one arrival to the next, marks each as visited, and answers the first other
+    /// instruction that it comes to, marked too; none where nothing is coming any more.
+    #[inline(always)]
+    fn visit_plain(
+        &self,
+        chunk: &Chunk,
+        from: Option<Arrival>,
+        traversal: &mut Traversal,
+        meter: &mut Meter,
+        deepest: &mut u32,
+    ) -> Result<Option<Arrival>, VerifyError>
+        requires ready { IsReady self.now }
+        requires framed { IsFramed (bytecode_of self.now) chunk.now }
+        requires walking { IsWalking self.now chunk.now traversal.old
+            (traversal.old.work.items ++ option_to_list from) deepest.old }
+        ensures halts { IfOk result (λ next. IfSome next (λ here.
+            HaltsAt self.now chunk.now traversal.new here deepest.new)) }
+        ensures ends { IfOk result (λ next. IfNone next
+            (IsWalking self.now chunk.now traversal.new [] deepest.new)) }
+        ensures further { IfOk result (λ next. IfSome next (λ _.
+            visits_in traversal.old.states < visits_in traversal.new.states)) }
+        ensures ticked { HasVisited traversal.old.states traversal.new.states meter.old meter.new }
+        ensures within { visits_in traversal.new.states
+            ≤ starts_within self.now.starts.starts chunk.now }
+        ensures err { IfErr result (ChunkFlaw (bytecode_of self.now) chunk.now) }
+    {
+        let mut next = from;
+        while let Some(here) = take_next(next, &mut traversal.work) {
+            if here.at >= chunk.end() {
+                return Err(VerifyError::FallsOffTheEnd);
+            }
+            next = match traversal.states.get(here.ordinal) {
+                Some(before) => {
+                    check_same(here.at, before, here.state)?;
+                    None
+                }
+                None => {
+                    traversal.states.set(here.ordinal, here.state);
+                    meter.tick();
+                    *deepest = (*deepest).max(here.state.operands);
+                    match self.plain_next(here) {
+                        Some(arrival) => Some(arrival),
+                        None => return Ok(Some(here)),
+                    }
+                }
+            };
+        }
+        Ok(None)
+    }
+
+    /// Walks from the chunk's entry, an instruction of this ordinal, and answers the greatest operand count that it meets.
     fn walk(
         &self,
         chunk: &Chunk,
-        visited: &mut Visited,
-        work: &mut Vec<Arrival>,
+        ordinal: usize,
+        traversal: &mut Traversal,
+        meter: &mut Meter,
     ) -> Result<u32, VerifyError>
         requires ready { IsReady self.now }
         requires framed { IsFramed (bytecode_of self.now) chunk.now }
         requires holds { chunk.now.entry < chunk.now.end }
-        requires long { length visited.old.places.items ≡ length self.now.code.now }
-        requires nothing { work.old.items ≡ [] }
+        requires place { slice_get self.now.starts.starts ordinal ≡ Some chunk.now.entry }
+        requires fits { Fits self.now traversal.old }
         ensures typed { IfOk result (λ n. HasTyping (coded (bytecode_of self.now)) chunk.now n) }
         ensures deepest { IfOk result (λ n. IsDeepest (coded (bytecode_of self.now)) chunk.now n) }
+        ensures metered { IsMeteredChunk (bytecode_of self.now)
+            self.now.starts.starts chunk.now meter.old meter.new result }
         ensures err { IfErr result (λ e. (e ≡ VerifyError.OutOfMemory)
             ⊎ ChunkFlaw (bytecode_of self.now) chunk.now e) }
-        ensures long { OnOk result (length visited.new.places.items ≡ length self.now.code.now) }
-        ensures done { OnOk result (work.new.items ≡ []) }
+        ensures fits { OnOk result (Fits self.now traversal.new) }
     {
-        visited.begin_chunk();
+        traversal.begin_chunk();
+        let mut deepest = 0;
         let mut next = Some(Arrival {
             at: chunk.entry(),
-            state: State {
-                operands: 0,
-                iterators: 0,
-                handlers: 0,
-            },
+            ordinal,
+            state: State::NOTHING,
         });
-        let mut deepest = 0;
-        while let Some(arrival) = take_next(next, work) {
-            let Arrival { at, state } = arrival;
-            if at >= chunk.end() {
-                return Err(VerifyError::FallsOffTheEnd);
-            }
-            match visited.get(at) {
-                Some(before) => {
-                    check_same(at, before, state)?;
-                    next = None;
-                }
-                None => {
-                    visited.insert(at, state)?;
-                    next = self.visit(chunk, at, state, work)?;
-                    deepest = deepest.max(state.operands);
-                }
-            }
+        while let Some(here) = self.visit_plain(chunk, next, traversal, meter, &mut deepest)? {
+            next = self.visit(chunk, here, traversal)?;
         }
         Ok(deepest)
     }
 
-    /// Whether the chunk lies in the code and begins and ends where instructions do.
-    fn check_frame(&self, chunk: &Chunk) -> Result<(), VerifyError>
+    /// How many instructions stand before the chunk's entry, where the chunk lies in the code and begins and ends where
+    /// instructions do.
+    fn check_frame(&self, chunk: &Chunk) -> Result<usize, VerifyError>
         requires { IsReady self.now }
         ensures framed { OnOk result (IsFramed (bytecode_of self.now) chunk.now) }
         ensures holds { OnOk result (chunk.now.entry < chunk.now.end) }
+        ensures place { IfOk result (λ k. slice_get self.now.starts.starts k ≡ Some chunk.now.entry) }
         ensures err { IfErr result (λ e. ChunkFlaw (bytecode_of self.now) chunk.now e
             × (e ≢ VerifyError.OutOfMemory)) }
     {
@@ -312,32 +383,30 @@ impl Prepared<'_> {
         if entry == end {
             return Err(VerifyError::FallsOffTheEnd);
         }
-        if !self.starts[entry] {
+        let Some(ordinal) = self.starts.ordinal(entry) else {
             return Err(VerifyError::JumpIntoAnInstruction {
                 at: entry,
                 target: chunk.entry(),
             });
-        }
-        if end < len && !self.starts[end] {
+        };
+        if end < len && !self.starts.contains(end) {
             return Err(VerifyError::JumpIntoAnInstruction {
                 at: entry,
                 target: chunk.end(),
             });
         }
-        Ok(())
+        Ok(ordinal)
     }
 
-    /// The deepest operand stack of the chunk, or why it is refused. What was visited and the work list serve the next
-    /// chunk.
+    /// The deepest operand stack of the chunk, or why it is refused.
     pub(crate) fn verify_chunk(
         &self,
         chunk: &Chunk,
-        visited: &mut Visited,
-        work: &mut Vec<Arrival>,
+        traversal: &mut Traversal,
+        meter: &mut Meter,
     ) -> Result<u16, VerifyError>
         requires ready { IsReady self.now }
-        requires long { length visited.old.places.items ≡ length self.now.code.now }
-        requires nothing { work.old.items ≡ [] }
+        requires fits { Fits self.now traversal.old }
         ensures passes { OnOk result (ChunkPasses (bytecode_of self.now) chunk.now) }
         ensures typed { IfOk result (λ n. HasTyping (coded (bytecode_of self.now)) chunk.now n) }
         ensures deepest { IfOk result (λ n. IsDeepest (coded (bytecode_of self.now)) chunk.now n) }
@@ -345,11 +414,12 @@ impl Prepared<'_> {
             → IfErr result (λ e. e ≡ VerifyError.OutOfMemory) }
         ensures flaws { IfErr result (λ e. (e ≡ VerifyError.OutOfMemory)
             ⊎ ChunkFlaw (bytecode_of self.now) chunk.now e) }
-        ensures long { OnOk result (length visited.new.places.items ≡ length self.now.code.now) }
-        ensures done { OnOk result (work.new.items ≡ []) }
+        ensures metered { IsMeteredChunk (bytecode_of self.now)
+            self.now.starts.starts chunk.now meter.old meter.new result }
+        ensures fits { OnOk result (Fits self.now traversal.new) }
     {
-        self.check_frame(chunk)?;
-        let needed = self.walk(chunk, visited, work)?;
+        let ordinal = self.check_frame(chunk)?;
+        let needed = self.walk(chunk, ordinal, traversal, meter)?;
         let declared = chunk.max_stack();
         if needed > u32::from(declared) {
             return Err(VerifyError::StackExceedsDeclared {

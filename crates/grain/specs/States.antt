@@ -1,0 +1,12 @@
+-- States by number, valid in one chunk.
+use Rattle.std.specs.Prelude.{ℕ, List, Option, None, Some, cond, map, nat_eq}
+use Rattle.grain.specs.declared.state.State.{State}
+use Rattle.grain.specs.declared.states.Entry.{Entry}
+
+-- what an entry says in the chunk of this number
+abbrev pub state_in : ℕ → Entry → Option State
+state_in chunk e = cond (nat_eq e.chunk chunk) (Some e.state) None
+
+-- what they say, one by one
+abbrev pub states_of : ℕ → List Entry → List (Option State)
+states_of chunk entries = map (state_in chunk) entries
