@@ -20,6 +20,7 @@ pub mod Offsets
 pub mod Once
 pub mod PassedBits
 pub mod Passing
+pub mod Places
 pub mod Progress
 pub mod Pushing
 pub mod Refusing

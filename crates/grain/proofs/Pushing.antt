@@ -1,5 +1,5 @@
 -- Pushing one state to many targets.
-use Rattle.std.proofs.Common.{◌≡◌, ℕ, ◌+◌, ◌<◌, inl, inr, Bool, List, [], ◌∷◌, ◌++◌, length, get_or, drop, drop-cons, add-one, sym, ap, subst, ◌∙◌, append_assoc}
+use Rattle.std.proofs.Common.{◌≡◌, ℕ, ◌+◌, ◌<◌, inl, inr, List, [], ◌∷◌, ◌++◌, length, get_or, drop, drop-cons, add-one, sym, ap, subst, ◌∙◌, append_assoc}
 use Rattle.std.specs.List.{All, Contains}
 use Rattle.std.proofs.lemmas.List.Elements.{All-cons, All-push, All-append, Contains-append_left, Contains-append_right}
 use Rattle.grain_bytecode.specs.Span.{Span}
@@ -16,8 +16,8 @@ pub pushed_next : (s : Counts) (first work new : List Coming) (left ts : List �
 pushed_next s first work new left ts x e f g =
     ap (λ (ys : List Coming). ys ++ all_to s ts) f ∙ (append_assoc work (all_to s (x ∷ [])) (all_to s ts) ∙ (ap (λ (ys : List ℕ). work ++ all_to s ys) (sym e) ∙ g))
 
-pub marked_next : (P : ℕ → Type 0) (left ts : List ℕ) (x : ℕ) → left ≡ x ∷ ts → P x → All P ts → All P left
-marked_next P left ts x e p h = subst (All P) (sym e) (All-cons P x ts p h)
+pub inside_next : (P : ℕ → Type 0) (left ts : List ℕ) (x : ℕ) → left ≡ x ∷ ts → P x → All P ts → All P left
+inside_next P left ts x e p h = subst (All P) (sym e) (All-cons P x ts p h)
 
 pub left_next : (left ts : List ℕ) (x t : ℕ) → left ≡ x ∷ ts → Contains ts t → Contains left t
 left_next left ts x t e c = subst (λ (ys : List ℕ). Contains ys t) (sym e) (in_tail x ts t c)
@@ -42,6 +42,6 @@ pub all_three : (P : ℕ → Type 0) (xs ys : List ℕ) (x : ℕ) → All P xs �
 all_three P xs ys x a b p = All-push P (xs ++ ys) x (All-append P xs ys a b) p
 
 -- the refusal of one target of some is that of one of more
-pub refused_of : (marks : List Bool) (chunk : Span) (at : ℕ) (xs ys : List ℕ) (e : VerifyError) → ((t : ℕ) → Contains xs t → Contains ys t) → RefusesTargetOf marks chunk at xs e → RefusesTargetOf marks chunk at ys e
-refused_of marks chunk at xs ys e f (inl m) = inl m
-refused_of marks chunk at xs ys e f (inr r) = inr (r.0, f r.0 r.1, r.2)
+pub refused_of : (starts : List ℕ) (chunk : Span) (at : ℕ) (xs ys : List ℕ) (e : VerifyError) → ((t : ℕ) → Contains xs t → Contains ys t) → RefusesTargetOf starts chunk at xs e → RefusesTargetOf starts chunk at ys e
+refused_of starts chunk at xs ys e f (inl m) = inl m
+refused_of starts chunk at xs ys e f (inr r) = inr (r.0, f r.0 r.1, r.2)

@@ -1,19 +1,27 @@
 -- What the walk's parts refuse is a flaw.
-use Rattle.std.proofs.Common.{◌≡◌, ℕ, inr, Bool, List, sym, subst}
+use Rattle.std.proofs.Common.{◌≡◌, ℕ, inr, List, IfErr, Ok, Err, Result, sym, subst}
+use Rattle.std.specs.List.{Contains}
 use Rattle.grain_bytecode.specs.Span.{Span}
+use Rattle.grain_bytecode.specs.Split.{Split}
 use Rattle.grain_bytecode.specs.declared.op.Op.{Op}
+use Rattle.grain_bytecode.proofs.Splits.{one_split}
 use Rattle.grain.specs.Accepted.{IsFramed}
 use Rattle.grain.specs.Code.{Bytecode, coded}
 use Rattle.grain.specs.Counts.{Counts}
-use Rattle.grain.specs.Marks.{MarksStarts, IsMarkedIn}
-use Rattle.grain.specs.Arrivals.{RefusesTarget, RefusesState}
+use Rattle.grain.specs.Arrivals.{IsStartIn, RefusesTarget, RefusesState}
+use Rattle.grain.specs.Layout.{IsStart}
 use Rattle.grain.specs.Flaw.{ChunkFlaw, Comes, Leads}
 use Rattle.grain.specs.Typing.{IsInChunk}
 use Rattle.grain.specs.declared.error.VerifyError.{VerifyError}
 use Rattle.grain.specs.declared.error.VerifyError.TheVariants as errors
 
-pub marked_in : (code : Bytecode) (marks : List Bool) (chunk : Span) (at : ℕ) → MarksStarts code.bytes marks → IsMarkedIn marks chunk at → IsInChunk (coded code) chunk at
-marked_in code marks chunk at m h = record { entry = h.entry; end = h.end; place = m.sound at h.marked }
+-- what follows from each refusal follows from one
+pub err_so : {A : Type 0} {P Q : VerifyError → Type 0} (r : Result A VerifyError) → ((e : VerifyError) → P e → Q e) → IfErr r P → IfErr r Q
+err_so (Ok x) f h = tt
+err_so (Err e) f h = f e h
+
+pub start_in : (code : Bytecode) (starts : List ℕ) (chunk : Span) (at : ℕ) → Split code.bytes starts → IsStartIn starts chunk at → IsInChunk (coded code) chunk at
+start_in code starts chunk at split h = record { entry = h.entry; end = h.end; place = record { starts = starts; split = split; here = h.start } }
 
 comes_at : (code : Bytecode) (chunk : Span) (at a : ℕ) (op : Op) (c : Counts) → Comes code chunk at op c → a ≡ at → Comes code chunk a op c
 comes_at code chunk at a op c comes e = subst (λ (x : ℕ). Comes code chunk x op c) (sym e) comes
@@ -28,7 +36,11 @@ refused_state code chunk at op c e f comes h = absurd h
 renamed : (code : Bytecode) (chunk : Span) (at a target t : ℕ) → Leads code chunk at target → a ≡ at → t ≡ target → Leads code chunk a t
 renamed code chunk at a target t n e f = subst (λ (x : ℕ). Leads code chunk x t) (sym e) (subst (λ (x : ℕ). Leads code chunk at x) (sym f) n)
 
-pub refused_target : (code : Bytecode) (marks : List Bool) (chunk : Span) (at target : ℕ) (e : VerifyError) → MarksStarts code.bytes marks → IsFramed code chunk → Leads code chunk at target → RefusesTarget marks chunk at target e → ChunkFlaw code chunk e
-refused_target code marks chunk at target (errors.JumpOutOfRange a t) m f n (ea, et, out) = (f, renamed code chunk at a target t n ea et, out)
-refused_target code marks chunk at target (errors.JumpIntoAnInstruction a t) m f n (ea, et, low, high, un) = inr (f, renamed code chunk at a target t n ea et, low, high, λ s. un (m.complete t s))
-refused_target code marks chunk at target e m f n h = absurd h
+-- a start is one of the starts
+pub start_listed : (bytes starts : List ℕ) (at : ℕ) → Split bytes starts → IsStart bytes at → Contains starts at
+start_listed bytes starts at split s = subst (λ (xs : List ℕ). Contains xs at) (one_split bytes s.starts starts s.split split) s.here
+
+pub refused_target : (code : Bytecode) (starts : List ℕ) (chunk : Span) (at target : ℕ) (e : VerifyError) → Split code.bytes starts → IsFramed code chunk → Leads code chunk at target → RefusesTarget starts chunk at target e → ChunkFlaw code chunk e
+refused_target code starts chunk at target (errors.JumpOutOfRange a t) split f n (ea, et, out) = (f, renamed code chunk at a target t n ea et, out)
+refused_target code starts chunk at target (errors.JumpIntoAnInstruction a t) split f n (ea, et, low, high, un) = inr (f, renamed code chunk at a target t n ea et, low, high, λ s. un (start_listed code.bytes starts t split s))
+refused_target code starts chunk at target e split f n h = absurd h

@@ -1,5 +1,5 @@
 //! Pushing where an instruction may lead.
-ghost use Rattle.std.specs.Prelude.{◌≡◌, ◌++◌, ◌∷◌, ◌⊎◌, [], Some, get_or, length, map, slice_get, IfErr, IfOk, OnOk};
+ghost use Rattle.std.specs.Prelude.{◌≡◌, ◌<◌, ◌++◌, ◌∷◌, ◌⊎◌, [], Some, get_or, length, map, slice_get, IfErr, IfNone, IfOk, IfSome, OnOk};
 ghost use Rattle.std.specs.List.{All};
 ghost use Rattle.grain_bytecode.specs.Dispatch.{listed, arms};
 ghost use Rattle.grain.specs.Arrivals.{IsPlaced, IsStartIn, RefusesCounts, RefusesTarget, RefusesTargetOf, Sends};
@@ -155,6 +155,16 @@ fn push_switch(
     Ok(())
 }
 
+/// The switch of an index, if there is one.
+#[inline(always)]
+fn switch_at(switches: &[Switch], index: u32) -> Option<&Switch>
+    ensures found { IfSome result (λ s. (index < length switches.now)
+        × (get_or (map switch_targets switches.now) index [] ≡ switch_targets s.now)) }
+    ensures none { IfNone result (get_or (map switch_targets switches.now) index [] ≡ []) }
+{
+    switches.get(index as usize)
+}
+
 /// Pushes the state to each target of the switch of an index, if there is one, unless it was sent there before.
 ///
 /// # Errors
@@ -183,7 +193,7 @@ pub(crate) fn push_table(
         ⊎ RefusesCounts (map switch_targets switches.now) (flows.Switches index) (view after)
         (sent_by sent.old) e) }
 {
-    let Some(switch) = switches.get(index as usize) else {
+    let Some(switch) = switch_at(switches, index) else {
         return Ok(());
     };
     match sent.get(index as usize) {
