@@ -8,6 +8,7 @@ use Rattle.grain.specs.Code.{Code}
 use Rattle.grain.specs.Counts.{Counts}
 use Rattle.grain.specs.Effects.{Edge, Meets, stack_effect, operands_after}
 use Rattle.grain.specs.Flow.{Flow, AdvancesIterator, BeginsIterator, EndsIterator, PopsHandler, PushesHandler, fall_for, flow_of, jump_for}
+use Rattle.grain.specs.Progress.{IsSmall}
 use Rattle.grain.specs.Setting.{Setting}
 
 -- an operation takes no more than it needs
@@ -21,12 +22,6 @@ pub gives_few : (chains : List Chain) (op : Op) → (stack_effect chains op).2 �
 gives_few chains (ops.CallRef n a (receiver.Local slot) capture) = omega arith
 gives_few chains ops.InterpolateAppend = omega arith
 gives_few chains op = omega arith
-
--- no count is above this
-pub record IsSmall (most : ℕ) (c : Counts) : Type 0 where
-  pub operands : c.operands ≤ most
-  pub iterators : c.iterators ≤ most
-  pub handlers : c.handlers ≤ most
 
 after_few : (s : Setting) (op : Op) (m : ℕ) (c : Counts) → Meets s op c → c.operands ≤ m → operands_after s op c.operands ≤ m + 1
 after_few s op m c meets h = let t = takes_few s.chains op in let g = gives_few s.chains op in let n = meets.operands in omega arith

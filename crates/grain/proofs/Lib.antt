@@ -18,6 +18,7 @@ pub mod Laying
 pub mod Numbering
 pub mod Offsets
 pub mod Once
+pub mod Ordinals
 pub mod PassedBits
 pub mod Passing
 pub mod Places
@@ -29,5 +30,6 @@ pub mod Splits
 pub mod Tightening
 pub mod Transport
 pub mod Verdicts
+pub mod VisitCounts
 pub mod Walking
 pub mod Whole

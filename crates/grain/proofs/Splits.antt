@@ -81,7 +81,7 @@ split_next code at (x ∷ xs) a op (e, l, (o, j, h)) c i =
     ]
 
 -- no start stands before the first
-split_above : (code : List ℕ) (at : ℕ) (xs : List ℕ) (a : ℕ) → SplitsFrom code at xs → Contains xs a → at ≤ a
+pub split_above : (code : List ℕ) (at : ℕ) (xs : List ℕ) (a : ℕ) → SplitsFrom code at xs → Contains xs a → at ≤ a
 split_above code at [] a h c = absurd (in_nil a c)
 split_above code at (x ∷ xs) a (e, l, (op, i, h)) c =
     elim (in_cons x xs a c) [

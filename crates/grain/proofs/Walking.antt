@@ -1,103 +1,80 @@
--- How far a walk has come.
-use Rattle.std.proofs.Common.{◌≡◌, ◌≢◌, ℕ, zero, suc, ◌+◌, ◌*◌, ◌<◌, ◌≤◌, inl, inr, max, List, [], ◌∷◌, ◌++◌, length, get_or, set, slice_get, map, Option, Some, None, option_map, refl, sym, ap, subst, ◌∙◌, arith}
-use Rattle.std.specs.List.{Contains}
-use Rattle.std.proofs.lemmas.List.{append-nil, length-append, length-map, length_push, map_push}
-use Rattle.std.proofs.lemmas.List.Elements.{All-contains, Contains-push}
+-- How far a walk has come, in its own variables.
+use Rattle.std.proofs.Common.{◌≡◌, ◌≢◌, ◌⊎◌, inl, inr, ℕ, ◌+◌, ◌<◌, ◌≤◌, max, cond, nat_eq, nat_le, nat_lt, ◌&&◌, Bool, true, false, List, [], ◌∷◌, ◌++◌, length, get_or, set, slice_get, map, filter, replicate, sum_by, Option, Some, None, option_map, refl, sym, ap, subst, ◌∙◌, arith}
+use Rattle.std.specs.List.{Contains, IsDistinct, list_any}
 use Rattle.std.proofs.lemmas.Bool.{cases_eq}
+use Rattle.std.proofs.lemmas.Bool.Decides.{nat_tests}
+use Rattle.std.proofs.lemmas.List.{get_or-set_same, get_or-set_other, get_or-replicate, get_or_past, length-replicate}
+use Rattle.std.proofs.lemmas.List.Folds.{sum_by-replicate}
+use Rattle.std.proofs.lemmas.List.Sums.{sum_by-set}
+use Rattle.std.proofs.lemmas.List.Elements.{Contains-push}
+use Rattle.std.proofs.lemmas.Bool.{cases_lt}
+use Rattle.std.proofs.lemmas.Option.{same_Some, slice_get_within}
 use Rattle.grain_bytecode.specs.Span.{Span}
+use Rattle.grain_bytecode.specs.Split.{Split}
 use Rattle.grain_bytecode.specs.declared.op.Op.{Op}
 use Rattle.grain.specs.Accepted.{IsFramed}
+use Rattle.grain.specs.Arrivals.{Coming, coming, view}
 use Rattle.grain.specs.Code.{Bytecode, coded}
 use Rattle.grain.specs.Counts.{Counts, nothing}
-use Rattle.grain.specs.Arrivals.{Coming, arrivals, coming, view}
 use Rattle.grain.specs.Effects.{targets}
 use Rattle.grain.specs.Flaw.{FallsOff}
-use Rattle.grain.specs.Visited.{state_at, visited_at}
-use Rattle.grain.specs.Typing.{IsInChunk, HasTyping, Passes, IsDeepest, Reached}
-use Rattle.grain.specs.Walk.{Visits}
+use Rattle.grain.specs.Progress.{Progress, Seen, Waits, Walking, one_if_some, visits_in}
+use Rattle.grain.specs.Typing.{IsInChunk, HasTyping, IsReachedCount, Passes, IsDeepest, Reached}
 use Rattle.grain.specs.declared.state.Arrival.{Arrival}
 use Rattle.grain.specs.declared.state.State.{State}
-use Rattle.grain.specs.declared.visited.Entry.{Entry}
-use Rattle.grain.specs.declared.visited.Visited.{Visited}
-use Rattle.grain.proofs.Most.{all_targets, arrivals_few}
-use Rattle.grain.proofs.Sparse.{noted_here, noted_others}
-use Rattle.grain.proofs.Progress.{Seen, Waits, Progress, progress_start, progress_skip, progress_visit, progress_end}
+use Rattle.grain.proofs.Numbering.{none}
+use Rattle.grain.proofs.Ordinals.{one_ordinal}
+use Rattle.grain.proofs.Progress.{Comes, progress_start, progress_skip, progress_visit, progress_end}
 
--- what was visited, as counts
-abbrev pub counts_in : Visited → Seen
-counts_in t at = option_map view (visited_at t at)
+-- one more address is seen
+noted : Seen → ℕ → Counts → Seen
+noted seen a c at = cond (nat_eq at a) (Some c) (seen at)
 
--- whether it wasn't visited
-abbrev gap : Option Counts → ℕ
-gap None = 1
-gap (Some c) = 0
+noted_here : (seen : Seen) (a : ℕ) (c : Counts) → noted seen a c a ≡ Some c
+unfolding noted
+noted_here seen a c = let e : nat_eq a a ≡ true = grind (arith, nat_tests) in ap (λ b. cond b (Some c) (seen a)) e
 
--- how many addresses below `end` weren't visited
-abbrev pub unvisited : Seen → ℕ → ℕ
-unvisited seen zero = 0
-unvisited seen (suc end) = unvisited seen end + gap (seen end)
+noted_other : (seen : Seen) (a : ℕ) (c : Counts) (at : ℕ) → at ≢ a → noted seen a c at ≡ seen at
+unfolding noted
+noted_other seen a c at ne = let e : nat_eq at a ≡ false = grind (arith, nat_tests, ne) in ap (λ b. cond b (Some c) (seen at)) e
 
--- How far the walk has come, where it has visited so many addresses.
-pub record Walking (code : Bytecode) (chunk : Span) (seen : Seen) (marked : ℕ) (work : List Coming) (deepest : ℕ) : Type 0 where
-  pub counted : marked + unvisited seen chunk.end ≡ chunk.end
-  pub progress : Progress code chunk seen marked work deepest
+-- a state more is a visit more
+pub visited_more : (states : List (Option State)) (k : ℕ) (s : State) → k < length states → get_or states k None ≡ None → visits_in (set states k (Some s)) ≡ visits_in states + 1
+visited_more states k s inside fresh =
+    let h = sum_by-set one_if_some states k (Some s) None inside in
+    let e : one_if_some (get_or states k None) ≡ 0 = ap one_if_some fresh in
+    omega (arith, h, e)
 
-unvisited_empty : (seen : Seen) (end : ℕ) → ((at : ℕ) → seen at ≡ None) → unvisited seen end ≡ end
-unvisited_empty seen zero empty = refl
-unvisited_empty seen (suc end) empty =
-    let e = unvisited_empty seen end empty in
-    let f : gap (seen end) ≡ 1 = ap gap (empty end) in
-    omega (arith, e, f)
-
-unvisited_same : (seen new : Seen) (at end : ℕ) → end ≤ at → ((b : ℕ) → b ≢ at → new b ≡ seen b) → unvisited new end ≡ unvisited seen end
-unvisited_same seen new at zero l others = refl
-unvisited_same seen new at (suc end) l others =
-    let e = unvisited_same seen new at end (omega arith) others in
-    let f : gap (new end) ≡ gap (seen end) = ap gap (others end (λ s. absurd (omega arith))) in
-    omega (arith, e, f)
-
-pub unvisited_noted : (seen new : Seen) (at end : ℕ) (c : Counts) → at < end → seen at ≡ None → new at ≡ Some c → ((b : ℕ) → b ≢ at → new b ≡ seen b) → unvisited new end + 1 ≡ unvisited seen end
-unvisited_noted seen new at zero c l fresh here others = absurd (omega arith)
-unvisited_noted seen new at (suc end) c l fresh here others = elim (cases_eq end at) [
-  | inl s ↦
-      let e = unvisited_same seen new at end (omega arith) others in
-      let f : gap (new end) ≡ 0 = ap gap (ap new s ∙ here) in
-      let g : gap (seen end) ≡ 1 = ap gap (ap seen s ∙ fresh) in
-      omega (arith, e, f, g)
-  | inr ne ↦
-      let e = unvisited_noted seen new at end c (omega arith) fresh here others in
-      let f : gap (new end) ≡ gap (seen end) = ap gap (others end ne) in
-      omega (arith, e, f)
+nothing_at : (n k : ℕ) → get_or (replicate n none) k None ≡ None
+nothing_at n k = elim (cases_lt k n) [
+  | inl l ↦ get_or-replicate n k none None l
+  | inr g ↦ get_or_past (replicate n none) k None (let e : length (replicate n none) ≡ n = length-replicate n none in omega arith)
 ]
 
-some_unvisited : (seen : Seen) (at end : ℕ) → at < end → seen at ≡ None → 0 < unvisited seen end
-some_unvisited seen at zero l fresh = absurd (omega arith)
-some_unvisited seen at (suc end) l fresh = elim (cases_eq end at) [
-  | inl s ↦ let g : gap (seen end) ≡ 1 = ap gap (ap seen s ∙ fresh) in omega (arith, g)
-  | inr ne ↦ let h = some_unvisited seen at end (omega arith) fresh in omega (arith, h)
-]
+pub visits_nothing : (n : ℕ) → visits_in (replicate n none) ≡ 0
+visits_nothing n = omega (arith, sum_by-replicate one_if_some n none)
 
-pub walking_start : (code : Bytecode) (chunk : Span) (seen : Seen) → IsFramed code chunk → chunk.entry < chunk.end → ((at : ℕ) → seen at ≡ None) → Walking code chunk seen 0 (record { at = chunk.entry; counts = nothing } ∷ []) 0
-walking_start code chunk seen f holds empty = record {
-  counted = let e = unvisited_empty seen chunk.end empty in omega arith;
-  progress = progress_start code chunk seen f holds empty;
+pub walking_start : (code : Bytecode) (chunk : Span) (starts : List ℕ) (n : ℕ) (sent : List (Option Counts)) → IsFramed code chunk → chunk.entry < chunk.end → ((w : ℕ) → get_or sent w None ≡ None) → Walking code chunk starts (replicate n none) sent (record { at = chunk.entry; counts = nothing } ∷ []) 0
+walking_start code chunk starts n sent f holds unsent = record {
+  seen = λ at. None;
+  agrees = λ k at e. ap (option_map view) (nothing_at n k);
+  progress = subst (λ v. Progress code chunk (λ at. None) sent v (record { at = chunk.entry; counts = nothing } ∷ []) 0) (sym (visits_nothing n)) (progress_start code chunk (λ at. None) sent f holds (λ at. refl) unsent);
 }
 
-pub walking_skip : (code : Bytecode) (chunk : Span) (seen : Seen) (marked : ℕ) (work : List Coming) (a : Arrival) (deepest : ℕ) → seen a.at ≡ Some (view a.state) → Walking code chunk seen marked (work ++ coming a ∷ []) deepest → Walking code chunk seen marked work deepest
-walking_skip code chunk seen marked work a deepest e w = record { counted = w.counted; progress = progress_skip code chunk seen marked work (coming a) deepest e w.progress }
+module _ (code : Bytecode) (chunk : Span) (starts : List ℕ) (states : List (Option State)) (sent : List (Option Counts)) (work : List Coming) (a : Arrival) (deepest : ℕ) (w : Walking code chunk starts states sent (work ++ coming a ∷ []) deepest) where
+  -- an arrival with the state that was visited is skipped
+  pub walking_skip : slice_get starts a.ordinal ≡ Some a.at → get_or states a.ordinal None ≡ Some a.state → Walking code chunk starts states sent work deepest
+  walking_skip place same = record {
+    seen = w.seen;
+    agrees = w.agrees;
+    progress = progress_skip code chunk w.seen sent (visits_in states) work (coming a) deepest (sym (w.agrees a.ordinal a.at place) ∙ ap (option_map view) same) w.progress;
+  }
 
-pub walking_visit : (code : Bytecode) (chunk : Span) (seen new : Seen) (marked : ℕ) (work : List Coming) (a : Arrival) (deepest : ℕ) (op : Op) → IsFramed code chunk → a.at < chunk.end → seen a.at ≡ None → new a.at ≡ Some (view a.state) → ((b : ℕ) → b ≢ a.at → new b ≡ seen b) → Passes (coded code) chunk a.at (view a.state) op → ((x : ℕ) → Contains (targets code.switches op) x → IsInChunk (coded code) chunk x) → Walking code chunk seen marked (work ++ coming a ∷ []) deepest → Walking code chunk new (marked + 1) (work ++ arrivals code op a.at (view a.state)) (max deepest a.state.operands)
-walking_visit code chunk seen new marked work a deepest op f l fresh here others passes inside w = record {
-  counted = let u = unvisited_noted seen new a.at chunk.end (view a.state) l fresh here others in let c = w.counted in omega arith;
-  progress = progress_visit code chunk seen new marked work (coming a) deepest op f fresh passes inside here others w.progress;
-}
+  -- what was visited before was reached
+  pub before_reached : (s : State) → slice_get starts a.ordinal ≡ Some a.at → get_or states a.ordinal None ≡ Some s → Reached (coded code) chunk a.at (view s)
+  before_reached s place same = w.progress.reached a.at (view s) (sym (w.agrees a.ordinal a.at place) ∙ ap (option_map view) same)
 
-pub walking_end : (code : Bytecode) (chunk : Span) (seen : Seen) (marked deepest : ℕ) → Walking code chunk seen marked [] deepest → HasTyping (coded code) chunk deepest × IsDeepest (coded code) chunk deepest
-walking_end code chunk seen marked deepest w = progress_end code chunk seen marked deepest w.progress
-
--- what is known of the arrival that was taken off
-module _ (code : Bytecode) (chunk : Span) (seen : Seen) (marked : ℕ) (work : List Coming) (a : Arrival) (deepest : ℕ) (w : Walking code chunk seen marked (work ++ coming a ∷ []) deepest) where
-  taken : Waits code chunk marked (coming a)
+  taken : Waits code chunk (visits_in states) (coming a)
   taken = w.progress.waiting (coming a) (Contains-push work (coming a))
 
   pub taken_reached : Reached (coded code) chunk a.at (view a.state)
@@ -109,66 +86,35 @@ module _ (code : Bytecode) (chunk : Span) (seen : Seen) (marked : ℕ) (work : L
   pub taken_falls : chunk.end ≤ a.at → FallsOff code chunk
   taken_falls g = elim taken.lands [ inl h ↦ absurd (let q = h.end in omega arith) | inr e ↦ e.1 ]
 
-  pub taken_room : a.at < chunk.end → seen a.at ≡ None → marked < chunk.end
-  taken_room l fresh =
-      let u = some_unvisited seen a.at chunk.end l fresh in
-      let c = w.counted in
-      omega arith
+-- the first visit of an instruction, of which come what its edges lead to, but for what was sent there before
+module _ (code : Bytecode) (chunk : Span) (starts : List ℕ) (states : List (Option State)) (sent sent' : List (Option Counts)) (work come : List Coming) (a : Arrival) (deepest : ℕ) (op : Op) (split : Split code.bytes starts) (long : length states ≡ length starts) (framed : IsFramed code chunk) (place : slice_get starts a.ordinal ≡ Some a.at) (fresh : get_or states a.ordinal None ≡ None) (passes : Passes (coded code) chunk a.at (view a.state) op) (inside : (x : ℕ) → Contains (targets code.switches op) x → IsInChunk (coded code) chunk x) (comes : Comes code sent sent' op a.at (view a.state) come) (w : Walking code chunk starts states sent (work ++ coming a ∷ []) deepest) where
+  within : a.ordinal < length states
+  within = let l = slice_get_within starts a.ordinal a.at place in omega arith
 
-  pub taken_small : a.at < chunk.end → seen a.at ≡ None → (a.state.operands < chunk.end) × (a.state.iterators < chunk.end) × (a.state.handlers < chunk.end)
-  taken_small l fresh = let k = taken.small in let r = taken_room l fresh in (omega (arith, k.operands), omega (arith, k.iterators), omega (arith, k.handlers))
+  agrees : (k at : ℕ) → slice_get starts k ≡ Some at → option_map view (get_or (set states a.ordinal (Some a.state)) k None) ≡ noted w.seen a.at (view a.state) at
+  agrees k at e = elim (cases_eq k a.ordinal) [
+    | inl same ↦
+        let here : at ≡ a.at = same_Some at a.at (sym e ∙ ap (slice_get starts) same ∙ place) in
+        ap (λ n. option_map view (get_or (set states a.ordinal (Some a.state)) n None)) same
+        ∙ ap (option_map view) (get_or-set_same states a.ordinal (Some a.state) None within)
+        ∙ sym (noted_here w.seen a.at (view a.state))
+        ∙ ap (noted w.seen a.at (view a.state)) (sym here)
+    | inr other ↦
+        let apart : at ≢ a.at = λ same. other (one_ordinal code.bytes starts split k a.ordinal at e (place ∙ ap (λ (x : ℕ). Some x) (sym same))) in
+        ap (option_map view) (get_or-set_other states a.ordinal k (Some a.state) None other)
+        ∙ w.agrees k at e
+        ∙ sym (noted_other w.seen a.at (view a.state) at apart)
+  ]
 
--- the same, as counts
-module _ (t new : Visited) (at : ℕ) (s : State) (inside : at < length t.places.items) (places : new.places.items ≡ set t.places.items at (length t.entries.items)) (entries : new.entries.items ≡ t.entries.items ++ record { at = at; state = s } ∷ []) where
-  pub counts_here : counts_in new at ≡ Some (view s)
-  counts_here = ap (option_map view) (noted_here t new at s inside places entries)
+  pub walking_visit : Walking code chunk starts (set states a.ordinal (Some a.state)) sent' (work ++ come) (max deepest a.state.operands)
+  walking_visit = record {
+    seen = noted w.seen a.at (view a.state);
+    agrees = agrees;
+    progress =
+        subst (λ v. Progress code chunk (noted w.seen a.at (view a.state)) sent' v (work ++ come) (max deepest a.state.operands)) (sym (visited_more states a.ordinal a.state within fresh))
+        (progress_visit code chunk w.seen (noted w.seen a.at (view a.state)) sent sent' (visits_in states) work come (coming a) deepest op framed (sym (w.agrees a.ordinal a.at place) ∙ ap (option_map view) fresh) passes inside comes (noted_here w.seen a.at (view a.state)) (noted_other w.seen a.at (view a.state)) w.progress);
+  }
 
-  pub counts_others : (b : ℕ) → b ≢ at → counts_in new b ≡ counts_in t b
-  counts_others b ne = ap (option_map view) (noted_others t new at s inside places entries b ne)
-
--- without entries nothing was visited
-pub counts_none : (t : Visited) → t.entries.items ≡ [] → (at : ℕ) → counts_in t at ≡ None
-counts_none t e at =
-    ap (λ (es : List Entry). option_map view (state_at at (slice_get es (get_or t.places.items at 0)))) e
-
-pub popped : (code : Bytecode) (chunk : Span) (seen : Seen) (marked deepest : ℕ) (stack rest : List Arrival) (a : Arrival) → stack ≡ rest ++ a ∷ [] → Walking code chunk seen marked (map coming stack) deepest → Walking code chunk seen marked (map coming rest ++ coming a ∷ []) deepest
-popped code chunk seen marked deepest stack rest a e w =
-    subst (λ (xs : List Coming). Walking code chunk seen marked xs deepest) (ap (map coming) e ∙ map_push coming rest a) w
-
--- where no instruction leads to more than `most` places, this falls with each visit
-pub falls : (most u' u news olds rest few : ℕ) → u' + 1 ≡ u → few ≤ most → news ≡ rest + few → olds ≡ rest + 1 → (most + 1) * u' + news < (most + 1) * u + olds
-falls most u' u news olds rest few e f g h = rw (← e) (omega (arith, f, g, h))
-
--- how much the walk has left, where so many addresses below the chunk's end weren't visited and so many states are coming
-abbrev pub left_to_walk : Bytecode → Span → Visited → List Arrival → ℕ
-left_to_walk code chunk v coming = (all_targets code.switches + 2 + 1) * unvisited (counts_in v) chunk.end + length coming
-
--- A turn that visits an address for the first time: the walk has come further, and has less left.
-pub record Turns (code : Bytecode) (chunk : Span) (v new : Visited) (stack later : List Arrival) (a : Arrival) (deepest : ℕ) : Type 0 where
-  pub walking : Walking code chunk (counts_in new) (length new.entries.items) (map coming later) (max deepest a.state.operands)
-  pub less : left_to_walk code chunk new later < left_to_walk code chunk v stack
-
-pub turn : (code : Bytecode) (chunk : Span) (v new : Visited) (stack rest later : List Arrival) (a : Arrival) (deepest : ℕ) → IsFramed code chunk → length v.places.items ≡ length code.bytes → a.at < chunk.end → stack ≡ rest ++ a ∷ [] → visited_at v a.at ≡ None → new.places.items ≡ set v.places.items a.at (length v.entries.items) → new.entries.items ≡ v.entries.items ++ record { at = a.at; state = a.state } ∷ [] → Visits code chunk a.at (view a.state) (map coming rest) (map coming later) → Walking code chunk (counts_in v) (length v.entries.items) (map coming stack) deepest → Turns code chunk v new stack later a deepest
-turn code chunk v new stack rest later a deepest framed long l off fresh places entries visits walking =
-    let inside : a.at < length v.places.items = let f = framed.inside in omega arith in
-    let none = ap (option_map view) fresh in
-    let here = counts_here v new a.at a.state inside places entries in
-    let others = counts_others v new a.at a.state inside places entries in
-    let come = arrivals code visits.op a.at (view a.state) in
-    let w = popped _ _ _ _ _ stack rest a off walking in
-    let further = walking_visit code chunk (counts_in v) (counts_in new) (length v.entries.items) (map coming rest) a deepest visits.op framed l none here others visits.passes (λ x k. All-contains (IsInChunk (coded code) chunk) (targets code.switches visits.op) x visits.inside k) w in
-    let more : length new.entries.items ≡ length v.entries.items + 1 = ap (λ (es : List Entry). length es) entries ∙ length_push v.entries.items (record { at = a.at; state = a.state }) in
-    let fewer = unvisited_noted (counts_in v) (counts_in new) a.at chunk.end (view a.state) l none here others in
-    let grown : length later ≡ length rest + length come = sym (length-map later coming) ∙ (ap (λ (xs : List Coming). length xs) visits.added ∙ (length-append (map coming rest) come ∙ ap (λ k. k + length come) (length-map rest coming))) in
-    let taken : length stack ≡ length rest + 1 = ap (λ (xs : List Arrival). length xs) off ∙ length_push rest a in
-    record {
-      walking = subst (λ (xs : List Coming). Walking code chunk (counts_in new) (length new.entries.items) xs (max deepest a.state.operands)) (sym visits.added) (subst (λ n. Walking code chunk (counts_in new) n (map coming rest ++ come) (max deepest a.state.operands)) (sym more) further);
-      less = falls (all_targets code.switches + 2) (unvisited (counts_in new) chunk.end) (unvisited (counts_in v) chunk.end) (length later) (length stack) (length rest) (length come) fewer (arrivals_few code visits.op a.at (view a.state)) grown taken;
-    }
-
--- an arrival that is skipped leaves one fewer
-pub skip_falls : (others : ℕ) (old rest : List Arrival) (a : Arrival) → old ≡ rest ++ a ∷ [] → others + length (rest ++ []) < others + length old
-skip_falls others old rest a e =
-    let k : length old ≡ length rest + 1 = ap (λ (xs : List Arrival). length xs) e ∙ length_push rest a in
-    let l : length (rest ++ []) ≡ length rest = ap (λ (xs : List Arrival). length xs) (append-nil rest) in
-    omega (arith, k, l)
+-- where nothing is coming any more
+pub walking_end : (code : Bytecode) (chunk : Span) (starts : List ℕ) (states : List (Option State)) (sent : List (Option Counts)) (deepest : ℕ) → Walking code chunk starts states sent [] deepest → HasTyping (coded code) chunk deepest × IsDeepest (coded code) chunk deepest × IsReachedCount (coded code) chunk (visits_in states)
+walking_end code chunk starts states sent deepest w = progress_end code chunk w.seen sent (visits_in states) deepest w.progress
