@@ -5,7 +5,7 @@ use Rattle.std.proofs.lemmas.List.{take_all}
 use Rattle.std.proofs.lemmas.List.Elements.{All-nil, All-push, All-weaker}
 use Rattle.grain_base.specs.declared.caps.Caps.{Caps}
 use Rattle.grain_bytecode.specs.Split.{AreInstructions, StandsAt}
-use Rattle.grain_bytecode.specs.InstructionTable.{form, size_of, width_of}
+use Rattle.grain_bytecode.specs.InstructionTable.{Instr, form, size_of, width_of}
 use Rattle.grain_bytecode.specs.declared.op.Op.{Op}
 use Rattle.grain_bytecode.proofs.Splits.{one_more}
 use Rattle.grain.specs.Accepted.{AreIndexed}
@@ -63,6 +63,10 @@ tag_at code at op inside h =
     let e : take (n + 1) (drop at code) ≡ get_or code at 0 ∷ take n (drop (suc at) code) =
     ap (take (n + 1)) (drop-cons code at 0 inside) ∙ front_is (get_or code at 0) n (drop (suc at) code) in
     ap (λ (bs : List ℕ). get_or bs 0 0) (sym h.spelled ∙ e)
+
+-- the first byte of an instruction is its tag
+pub tag_of : (tag : ℕ) (fields : List ℕ) (op : Op) → Instr (tag ∷ fields) op → (form op).0 ≡ tag
+tag_of tag fields op h = ap (λ (bs : List ℕ). get_or bs 0 0) (sym h.spelled)
 
 -- an instruction of one byte has no index
 pub byte_indexed : (s : Setting) (op : Op) → 1 ≡ width_of op → Indexed s op

@@ -9,6 +9,7 @@ pub mod Drawing
 pub mod Exact
 pub mod Firsts
 pub mod Flows
+pub mod Following
 pub mod FourDigits
 pub mod Growth
 pub mod Indexing

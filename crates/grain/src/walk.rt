@@ -7,13 +7,13 @@ ghost use Rattle.grain_bytecode.specs.InstructionTable.{width_of};
 ghost use Rattle.grain_bytecode.specs.Split.{StandsAt};
 ghost use Rattle.grain_bytecode.specs.declared.op.Op.{Op};
 ghost use Rattle.grain.specs.Accepted.{ChunkPasses, IsFramed};
-ghost use Rattle.grain.specs.Arrivals.{IsPlaced, RefusesCounts, RefusesState, RefusesTargetOf, Sends, coming, sent_by, view};
+ghost use Rattle.grain.specs.Arrivals.{IsPlaced, RefusesState, Sends, coming, sent_by, view};
 ghost use Rattle.grain.specs.Capabilities.{Allows, caps_of};
 ghost use Rattle.grain.specs.Code.{coded};
 ghost use Rattle.grain.specs.Effects.{needs};
 ghost use Rattle.grain.specs.Flaw.{ChunkFlaw};
-ghost use Rattle.grain.specs.Flow.{fall_for, falls_for, jump_for, targets_for};
-ghost use Rattle.grain.specs.FlowView.{IsMetBy, IsShort, flow};
+ghost use Rattle.grain.specs.Flow.{fall_for, falls_for, jump_for};
+ghost use Rattle.grain.specs.FlowView.{IsMetBy, RefusesFlow, flow};
 ghost use Rattle.grain.specs.Layout.{IsStart};
 ghost use Rattle.grain.specs.Meter.{starts_within};
 ghost use Rattle.grain.specs.Plain.{IsPlainStep};
@@ -162,14 +162,10 @@ impl Prepared<'_> {
         ensures placed { All (IsPlaced self.now.starts.starts chunk.now) traversal.old.work.items
             → OnOk result
             (All (IsPlaced self.now.starts.starts chunk.now) traversal.new.work.items) }
-        ensures err { IfErr result (λ e. IsShort (flow effect.flow) here.at (view here.state) e
-            ⊎ (IsMetBy (flow effect.flow) (view here.state)
-            × (RefusesTargetOf self.now.starts.starts chunk.now here.at
-            (targets_for (bytecode_of self.now).switches (flow effect.flow)) e
-            ⊎ RefusesCounts (bytecode_of self.now).switches (flow effect.flow)
-            (jump_for (flow effect.flow)
-            (here.state.operands - effect.takes + effect.gives) (view here.state))
-            (sent_by traversal.old.sent) e))) }
+        ensures err { IfErr result (RefusesFlow self.now.starts.starts chunk.now
+            (bytecode_of self.now).switches here.at (view here.state)
+            (here.state.operands - effect.takes + effect.gives)
+            (sent_by traversal.old.sent) (flow effect.flow)) }
     {
         let starts = &self.starts;
         let work = &mut traversal.work;
