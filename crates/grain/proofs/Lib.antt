@@ -1,4 +1,3 @@
-pub mod Arriving
 pub mod Attaching
 pub mod Bodies
 pub mod Bounds
@@ -30,6 +29,7 @@ pub mod Restoring
 pub mod Splits
 pub mod Tightening
 pub mod Transport
+pub mod Turns
 pub mod Verdicts
 pub mod VisitCounts
 pub mod Walking

@@ -82,7 +82,7 @@ progress_skip code chunk seen sent visits work a deepest e p = record {
 same_coming : (b c : ℕ) (t u : Counts) → b ≡ c → t ≡ u → to b t ≡ to c u
 same_coming b c t u e f = λ i. record { at = e i; counts = f i }
 
-in_map : (t' : Counts) (ts : List ℕ) (b : ℕ) (t : Counts) → Contains ts b → t ≡ t' → Contains (map (λ (target : ℕ). to target t') ts) (to b t)
+pub in_map : (t' : Counts) (ts : List ℕ) (b : ℕ) (t : Counts) → Contains ts b → t ≡ t' → Contains (map (λ (target : ℕ). to target t') ts) (to b t)
 in_map t' [] b t c e = absurd (in_nil b c)
 in_map t' (x ∷ xs) b t c e =
     elim (in_cons x xs b c) [
@@ -90,7 +90,7 @@ in_map t' (x ∷ xs) b t c e =
       | inr k ↦ in_tail (to x t') (map (λ (target : ℕ). to target t') xs) (to b t) (in_map t' xs b t k e)
     ]
 
-map_out : (t' : Counts) (ts : List ℕ) (a : Coming) → Contains (map (λ (target : ℕ). to target t') ts) a → Contains ts a.at × (a.counts ≡ t')
+pub map_out : (t' : Counts) (ts : List ℕ) (a : Coming) → Contains (map (λ (target : ℕ). to target t') ts) a → Contains ts a.at × (a.counts ≡ t')
 map_out t' [] a c = absurd (in_nil a c)
 map_out t' (x ∷ xs) a c =
     elim (in_cons (to x t') (map (λ (target : ℕ). to target t') xs) a c) [
@@ -98,11 +98,11 @@ map_out t' (x ∷ xs) a c =
       | inr k ↦ let h = map_out t' xs a k in (in_tail x xs a.at h.0, h.1)
     ]
 
-goes_in : (on : Bool) (next : ℕ) (t' : Counts) (b : ℕ) (t : Counts) → on ≡ true → b ≡ next → t ≡ t' → Contains (cond on (to next t' ∷ []) []) (to b t)
+pub goes_in : (on : Bool) (next : ℕ) (t' : Counts) (b : ℕ) (t : Counts) → on ≡ true → b ≡ next → t ≡ t' → Contains (cond on (to next t' ∷ []) []) (to b t)
 goes_in true next t' b t h e f = subst (λ (y : Coming). Contains (to next t' ∷ []) y) (same_coming next b t' t (sym e) (sym f)) (in_head (to next t') [])
 goes_in false next t' b t h e f = absurd cc
 
-goes_out : (on : Bool) (next : ℕ) (t' : Counts) (a : Coming) → Contains (cond on (to next t' ∷ []) []) a → (on ≡ true) × (a.at ≡ next) × (a.counts ≡ t')
+pub goes_out : (on : Bool) (next : ℕ) (t' : Counts) (a : Coming) → Contains (cond on (to next t' ∷ []) []) a → (on ≡ true) × (a.at ≡ next) × (a.counts ≡ t')
 goes_out true next t' a c =
     elim (in_cons (to next t') [] a c) [
       | inl k ↦ (refl, ap (λ (y : Coming). y.at) (sym k), ap (λ (y : Coming). y.counts) (sym k))

@@ -86,6 +86,9 @@ module _ (code : Bytecode) (chunk : Span) (starts : List ℕ) (states : List (Op
   pub taken_falls : chunk.end ≤ a.at → FallsOff code chunk
   taken_falls g = elim taken.lands [ inl h ↦ absurd (let q = h.end in omega arith) | inr e ↦ e.1 ]
 
+  pub taken_small : visits_in states < chunk.end → (a.state.operands < chunk.end) × (a.state.iterators < chunk.end) × (a.state.handlers < chunk.end)
+  taken_small room = let k = taken.small in (omega (arith, k.operands), omega (arith, k.iterators), omega (arith, k.handlers))
+
 -- the first visit of an instruction, of which come what its edges lead to, but for what was sent there before
 module _ (code : Bytecode) (chunk : Span) (starts : List ℕ) (states : List (Option State)) (sent sent' : List (Option Counts)) (work come : List Coming) (a : Arrival) (deepest : ℕ) (op : Op) (split : Split code.bytes starts) (long : length states ≡ length starts) (framed : IsFramed code chunk) (place : slice_get starts a.ordinal ≡ Some a.at) (fresh : get_or states a.ordinal None ≡ None) (passes : Passes (coded code) chunk a.at (view a.state) op) (inside : (x : ℕ) → Contains (targets code.switches op) x → IsInChunk (coded code) chunk x) (comes : Comes code sent sent' op a.at (view a.state) come) (w : Walking code chunk starts states sent (work ++ coming a ∷ []) deepest) where
   within : a.ordinal < length states

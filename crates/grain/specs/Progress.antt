@@ -1,5 +1,5 @@
 -- How far the walk over a chunk has come.
-use Rattle.std.specs.Prelude.{◌≡◌, ◌↔◌, ℕ, ◌+◌, ◌<◌, ◌≤◌, ◌⊎◌, List, ◌∷◌, [], ◌++◌, Option, None, Some, get_or, length, map, max, nat_eq, option_map, slice_get, slice_set, sum_by, OnOk, Result}
+use Rattle.std.specs.Prelude.{◌≡◌, ◌↔◌, ℕ, ◌+◌, ◌<◌, ◌^◌, ◌≤◌, ◌⊎◌, List, ◌∷◌, [], ◌++◌, Option, None, Some, get_or, length, map, max, nat_eq, option_map, slice_get, slice_set, sum_by, OnOk, Result}
 use Rattle.std.specs.List.{All, Contains, IsDistinct}
 use Rattle.grain_bytecode.specs.Span.{Span}
 use Rattle.grain_bytecode.specs.Split.{StandsAt}
@@ -97,6 +97,7 @@ pub record HaltsAt (p : Prepared) (chunk : Span) (t : Traversal) (here : Arrival
   pub marked : t.states ≡ slice_set before here.ordinal (Some here.state)
   pub deeper : deepest ≡ max earlier here.state.operands
   pub within : here.at < chunk.end
+  pub addresses : chunk.end < 2 ^ 32
   pub is : IsWalking p chunk (record t { states = before }) (t.work.items ++ here ∷ []) earlier
 
 -- the meter has counted the addresses that were visited meanwhile

@@ -1,7 +1,6 @@
-use Rattle.std.proofs.Common.{◌≡◌, ◌+◌, ◌∷◌, length, ap, sym, subst, ◌∙◌, arith}
+use Rattle.std.proofs.Common.{◌≡◌, ◌+◌, ◌-◌, ◌∷◌, length, ap, ◌∙◌, arith}
 use Rattle.grain_bytecode.specs.InstructionTable.{form, width_of}
 use Rattle.grain_bytecode.proofs.Instructions.{instr_width}
-use Rattle.grain.specs.declared.state.Arrival.{Arrival}
 use Rattle.grain.proofs.Splits.{start_op}
 use Rattle.grain.proofs.Indexing.{tag_of}
 use Rattle.grain.proofs.walk.Prepared.plain_next.Goals as goal
@@ -23,5 +22,5 @@ returns-in-Some-plain_effect c =
       stands = found.1;
       plain = c.in-Some-plain_effect.ensures.plain found.0 (tag_of i.tag i.fields.now found.0 found.2);
       there = c.if-takes-here.true;
-      is = c.next.ensures ∙ ap (λ n. record { at = c.args.here.at + n; ordinal = c.args.here.ordinal + 1; state = c.next.result.state }) wide;
+      is = c.next.ensures ∙ ap (λ n. record { at = c.args.here.at + n; ordinal = c.args.here.ordinal + 1; state = record c.args.here.state { operands = c.args.here.state.operands - c.in-Some-plain_effect.takes + c.in-Some-plain_effect.gives } }) wide;
     }
