@@ -27,10 +27,12 @@ pub mod Pushing
 pub mod Refusing
 pub mod Restoring
 pub mod Splits
+pub mod Ticks
 pub mod Tightening
 pub mod Transport
 pub mod Turns
 pub mod Verdicts
 pub mod VisitCounts
+pub mod Visiting
 pub mod Walking
 pub mod Whole

@@ -46,22 +46,40 @@ member xs x = (is_member-Decides Decides-eqb xs x).0
 no_more : (xs ys : List ℕ) → IsDistinct nat_eq xs → ((x : ℕ) → Contains xs x → Contains ys x) → length xs ≤ length ys
 no_more xs ys distinct inside = length-le_from_is_member same_number xs ys distinct (λ q h. (is_member-Decides Decides-eqb ys q).1 (inside q (member xs q h)))
 
-module _ (code : Bytecode) (chunk : Span) (starts : List ℕ) (states : List (Option State)) (sent : List (Option Counts)) (work : List Coming) (deepest : ℕ) (w : Walking code chunk starts states sent work deepest) where
-  visited_inside : (at : ℕ) → Contains w.progress.visited at → IsInChunk (coded code) chunk at
-  visited_inside at c = let h = (w.progress.listed at).0 c in (w.progress.passed at h.0 h.1).1.stands.within
+-- distinct addresses of a chunk are no more than it has starts
+few_starts : (code : Bytecode) (chunk : Span) (starts xs : List ℕ) → Split code.bytes starts → IsDistinct nat_eq xs → ((at : ℕ) → Contains xs at → IsInChunk (coded code) chunk at) → length xs ≤ starts_within starts chunk
+few_starts code chunk starts xs split distinct inside =
+    let test : ℕ → Bool = λ at. nat_le chunk.entry at && nat_lt at chunk.end in
+    let most = no_more xs (filter test starts) distinct (λ at c.
+        let h = inside at c in
+        let low = h.entry in
+        let high = h.end in
+        passing test starts at (start_listed code.bytes starts at split h.place) (grind (arith, nat_tests, low, high))) in
+    let f = length-filter test starts in
+    omega arith
 
-  -- no more addresses were visited than the chunk has starts
-  pub visits_within : Split code.bytes starts → visits_in states ≤ starts_within starts chunk
-  visits_within split =
-      let test : ℕ → Bool = λ at. nat_le chunk.entry at && nat_lt at chunk.end in
-      let most = no_more w.progress.visited (filter test starts) w.progress.distinct (λ at c.
-          let h = visited_inside at c in
-          let low = h.entry in
-          let high = h.end in
-          passing test starts at (start_listed code.bytes starts at split h.place) (grind (arith, nat_tests, low, high))) in
-      let e = w.progress.count in
-      let f = length-filter test starts in
-      omega arith
+visited_inside : (code : Bytecode) (chunk : Span) (starts : List ℕ) (states : List (Option State)) (sent : List (Option Counts)) (work : List Coming) (deepest : ℕ) (w : Walking code chunk starts states sent work deepest) → (at : ℕ) → Contains w.progress.visited at → IsInChunk (coded code) chunk at
+visited_inside code chunk starts states sent work deepest w at c = let h = (w.progress.listed at).0 c in (w.progress.passed at h.0 h.1).1.stands.within
+
+-- no more addresses were visited than the chunk has starts
+pub visits_within : (code : Bytecode) (chunk : Span) (starts : List ℕ) (states : List (Option State)) (sent : List (Option Counts)) (work : List Coming) (deepest : ℕ) → Walking code chunk starts states sent work deepest → Split code.bytes starts → visits_in states ≤ starts_within starts chunk
+visits_within code chunk starts states sent work deepest w split =
+    let most = few_starts code chunk starts w.progress.visited split w.progress.distinct (visited_inside code chunk starts states sent work deepest w) in
+    let e = w.progress.count in
+    omega arith
+
+-- nor with one more that wasn't visited
+pub visits_more_within : (code : Bytecode) (chunk : Span) (starts : List ℕ) (states : List (Option State)) (sent : List (Option Counts)) (work : List Coming) (a : Arrival) (deepest : ℕ) → Walking code chunk starts states sent (work ++ coming a ∷ []) deepest → Split code.bytes starts → slice_get starts a.ordinal ≡ Some a.at → get_or states a.ordinal None ≡ None → IsInChunk (coded code) chunk a.at → visits_in states + 1 ≤ starts_within starts chunk
+visits_more_within code chunk starts states sent work a deepest w split place fresh inside =
+    let p = w.progress in
+    let none = sym (w.agrees a.ordinal a.at place) ∙ ap (option_map view) fresh in
+    let distinct = fresh_more code chunk w.seen sent (visits_in states) (work ++ coming a ∷ []) deepest p a.at none in
+    let most = few_starts code chunk starts (a.at ∷ p.visited) split distinct (λ at c. elim (in_cons a.at p.visited at c) [
+      | inl e ↦ subst (IsInChunk (coded code) chunk) e inside
+      | inr k ↦ visited_inside code chunk starts states sent (work ++ coming a ∷ []) deepest w at k
+    ]) in
+    let e = p.count in
+    omega arith
 
 -- an address of the chunk that wasn't visited leaves room for one visit more
 pub visits_room : (code : Bytecode) (chunk : Span) (starts : List ℕ) (states : List (Option State)) (sent : List (Option Counts)) (work : List Coming) (a : Arrival) (deepest : ℕ) → Walking code chunk starts states sent (work ++ coming a ∷ []) deepest → slice_get starts a.ordinal ≡ Some a.at → get_or states a.ordinal None ≡ None → a.at < chunk.end → visits_in states < chunk.end

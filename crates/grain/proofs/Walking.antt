@@ -5,7 +5,7 @@ use Rattle.std.proofs.lemmas.Bool.{cases_eq}
 use Rattle.std.proofs.lemmas.Bool.Decides.{nat_tests}
 use Rattle.std.proofs.lemmas.List.{get_or-set_same, get_or-set_other, get_or-replicate, get_or_past, length-replicate}
 use Rattle.std.proofs.lemmas.List.Folds.{sum_by-replicate}
-use Rattle.std.proofs.lemmas.List.Sums.{sum_by-set}
+use Rattle.std.proofs.lemmas.List.Sums.{sum_by-cons, sum_by-set}
 use Rattle.std.proofs.lemmas.List.Elements.{Contains-push}
 use Rattle.std.proofs.lemmas.Bool.{cases_lt}
 use Rattle.std.proofs.lemmas.Option.{same_Some, slice_get_within}
@@ -38,6 +38,10 @@ noted_other : (seen : Seen) (a : ℕ) (c : Counts) (at : ℕ) → at ≢ a → n
 unfolding noted
 noted_other seen a c at ne = let e : nat_eq at a ≡ false = grind (arith, nat_tests, ne) in ap (λ b. cond b (Some c) (seen at)) e
 
+at_most_one : (s : Option State) → one_if_some s ≤ 1
+at_most_one None = omega arith
+at_most_one (Some s) = omega arith
+
 -- a state more is a visit more
 pub visited_more : (states : List (Option State)) (k : ℕ) (s : State) → k < length states → get_or states k None ≡ None → visits_in (set states k (Some s)) ≡ visits_in states + 1
 visited_more states k s inside fresh =
@@ -45,7 +49,11 @@ visited_more states k s inside fresh =
     let e : one_if_some (get_or states k None) ≡ 0 = ap one_if_some fresh in
     omega (arith, h, e)
 
-nothing_at : (n k : ℕ) → get_or (replicate n none) k None ≡ None
+pub visits_few : (states : List (Option State)) → visits_in states ≤ length states
+visits_few [] = omega arith
+visits_few (s ∷ states) = let more = visits_few states in let e = sum_by-cons one_if_some s states in let one = at_most_one s in omega (arith, e, more, one)
+
+pub nothing_at : (n k : ℕ) → get_or (replicate n none) k None ≡ None
 nothing_at n k = elim (cases_lt k n) [
   | inl l ↦ get_or-replicate n k none None l
   | inr g ↦ get_or_past (replicate n none) k None (let e : length (replicate n none) ≡ n = length-replicate n none in omega arith)

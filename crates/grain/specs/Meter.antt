@@ -1,5 +1,5 @@
 -- What the meter of a verification counts.
-use Rattle.std.specs.Prelude.{◌≡◌, ℕ, ◌+◌, ◌-◌, ◌^◌, ◌≤◌, ◌&&◌, min, nat_le, nat_lt, List, IfErr, IfOk, Result, Vec}
+use Rattle.std.specs.Prelude.{◌≡◌, ℕ, ◌+◌, ◌-◌, ◌^◌, ◌≤◌, ◌&&◌, max, min, nat_le, nat_lt, List, IfErr, IfOk, Result, Vec}
 use Rattle.std.specs.List.{AllZip, count_by, sum_by}
 use Rattle.std.specs.declared.alloc.Global.{Global}
 use Rattle.grain_bytecode.specs.Span.{Span}
@@ -9,9 +9,9 @@ use Rattle.grain.specs.Code.{Bytecode, coded}
 use Rattle.grain.specs.Typing.{IsReachedCount}
 use Rattle.grain.specs.declared.error.VerifyError.{VerifyError}
 
--- the meter has counted so many more, and stays at the greatest number that it can show
+-- the meter has counted so many more, up to the greatest number that it can show
 abbrev pub HasCounted : ℕ → ℕ → ℕ → Type 0
-HasCounted old new n = new ≡ min (old + n) (2 ^ 128 - 1)
+HasCounted old new n = new ≡ min (old + n) (max old (2 ^ 128 - 1))
 
 -- how many of the starts lie in the chunk
 abbrev pub starts_within : List ℕ → Span → ℕ

@@ -1,2 +1,2 @@
-use Rattle.grain.proofs.Turns.{turned, falls_placed}
+use Rattle.grain.proofs.Visiting.{walking_begun}
 use Rattle.grain.proofs.walk.take_next.Goals as goal

@@ -1,0 +1,171 @@
+-- The walk over plain instructions, in its own variables.
+use Rattle.std.proofs.Common.{◌≡◌, ◌⊎◌, inl, inr, ℕ, ◌+◌, ◌-◌, ◌<◌, ◌≤◌, ◌^◌, max, cond, true, List, [], ◌∷◌, ◌++◌, length, get_or, set, slice_get, map, replicate, Option, Some, None, option_map, refl, sym, ap, subst, ◌∙◌, arith}
+use Rattle.std.specs.List.{All, Contains}
+use Rattle.std.specs.Option.{option_to_list}
+use Rattle.std.proofs.lemmas.List.{append-nil, length-replicate, length-set, map_push}
+use Rattle.std.proofs.Math.ListN.{get_or-map}
+use Rattle.std.proofs.lemmas.List.Elements.{All-contains, All-contains_itself, All-nil, All-push, All-weaker, Contains-append_left, Contains-push}
+use Rattle.std.proofs.lemmas.Option.{slice_get_within}
+use Rattle.grain_bytecode.specs.InstructionTable.{width_of}
+use Rattle.grain_bytecode.specs.Span.{Span}
+use Rattle.grain.specs.Accepted.{IsFramed}
+use Rattle.grain.specs.Arrivals.{Coming, IsPlaced, IsStartIn, coming, sent_by, view}
+use Rattle.grain.specs.Code.{coded}
+use Rattle.grain.specs.Counts.{nothing}
+use Rattle.grain.specs.Flow.{Falls}
+use Rattle.grain.specs.Flaw.{ChunkFlaw, FallsOff}
+use Rattle.grain.specs.Meter.{HasCounted, starts_within}
+use Rattle.grain.specs.Plain.{IsPlainStep}
+use Rattle.grain.specs.Progress.{Fits, HaltsAt, HasVisited, IsWalking, Walking, visits_in}
+use Rattle.grain.specs.Typing.{IsInChunk, Reached}
+use Rattle.grain.specs.Walk.{IsReady, bytecode_of}
+use Rattle.grain.specs.declared.error.VerifyError.{VerifyError}
+use Rattle.grain.specs.declared.error.VerifyError.TheVariants.{DepthConflict}
+use Rattle.grain.specs.declared.state.Arrival.{Arrival}
+use Rattle.grain.specs.declared.state.State.{State}
+use Rattle.grain.specs.declared.walk.Prepared.{Prepared}
+use Rattle.grain.specs.declared.walk.Traversal.{Traversal}
+use Rattle.grain.proofs.Numbering.{none}
+use Rattle.grain.proofs.Flows.{nothing_missing}
+use Rattle.grain.proofs.Ticks.{counted_both}
+use Rattle.grain.proofs.Turns.{visited}
+use Rattle.grain.proofs.VisitCounts.{visits_more_within, visits_room, visits_within}
+use Rattle.grain.proofs.Walking.{before_reached, nothing_at, taken_falls, taken_inside, taken_reached, taken_small, visited_more, visits_few, walking_skip, walking_start}
+
+-- an arrival was taken off the worklist, or was next
+module _ (p : Prepared) (chunk : Span) (t : Traversal) (stack rest : List Arrival) (a : Arrival) (deepest : ℕ) (off : stack ≡ rest ++ a ∷ []) (w : IsWalking p chunk t stack deepest) where
+  off_walking : Walking (bytecode_of p) chunk p.starts.starts t.states (sent_by t.sent) (map coming rest ++ coming a ∷ []) deepest
+  off_walking =
+      subst (λ (xs : List Coming). Walking (bytecode_of p) chunk p.starts.starts t.states (sent_by t.sent) xs deepest) (map_push coming rest a)
+      (subst (λ (xs : List Arrival). Walking (bytecode_of p) chunk p.starts.starts t.states (sent_by t.sent) (map coming xs) deepest) off w.walking)
+
+  off_placed : All (IsPlaced p.starts.starts chunk) (rest ++ a ∷ [])
+  off_placed = subst (All (IsPlaced p.starts.starts chunk)) off w.placed
+
+  pub off_place : a.at < chunk.end → slice_get p.starts.starts a.ordinal ≡ Some a.at
+  off_place l = All-contains (IsPlaced p.starts.starts chunk) (rest ++ a ∷ []) a off_placed (Contains-push rest a) l
+
+  pub off_known : a.at < chunk.end → a.ordinal < length t.states
+  off_known l = let k = slice_get_within p.starts.starts a.ordinal a.at (off_place l) in let e = w.fits.states in omega arith
+
+  pub off_falls : chunk.end ≤ a.at → FallsOff (bytecode_of p) chunk
+  off_falls = taken_falls _ _ _ _ _ _ a _ off_walking
+
+  pub off_inside : a.at < chunk.end → IsInChunk (coded (bytecode_of p)) chunk a.at
+  off_inside = taken_inside _ _ _ _ _ _ a _ off_walking
+
+  -- it was visited with another state
+  pub off_conflicts : (before : State) → IsFramed (bytecode_of p) chunk → a.at < chunk.end → get_or t.states a.ordinal None ≡ Some before → (view before ≡ view a.state → ⊥) → ChunkFlaw (bytecode_of p) chunk (DepthConflict a.at before.operands a.state.operands)
+  off_conflicts before framed l was unlike = (
+    framed,
+    off_inside l,
+    record {
+      one = view before;
+      other = view a.state;
+      one_reached = before_reached _ _ _ _ _ _ a _ off_walking before (off_place l) was;
+      other_reached = taken_reached _ _ _ _ _ _ a _ off_walking;
+      unlike = unlike;
+      expected_is = refl;
+      found_is = refl;
+    },
+  )
+
+  -- it was visited with the same
+  pub off_skipped : (new : Traversal) → new.states ≡ t.states → new.sent ≡ t.sent → a.at < chunk.end → get_or t.states a.ordinal None ≡ Some a.state → IsWalking p chunk new (rest ++ []) deepest
+  off_skipped new states sent l was =
+      let P = IsPlaced p.starts.starts chunk in
+      let kept : All P rest = All-weaker (Contains rest) P (λ b k. All-contains P (rest ++ a ∷ []) b off_placed (Contains-append_left rest (a ∷ []) b k)) rest (All-contains_itself rest) in
+      rw (append-nil rest, states, sent) (record {
+        fits = record { states = w.fits.states; sent = w.fits.sent };
+        placed = kept;
+        walking = walking_skip _ _ _ _ _ _ a _ off_walking (off_place l) was;
+      })
+
+  pub off_small : a.at < chunk.end → get_or t.states a.ordinal None ≡ None → a.state.operands < chunk.end
+  off_small l fresh = (taken_small _ _ _ _ _ _ a _ off_walking (visits_room _ _ _ _ _ _ a _ off_walking (off_place l) fresh l)).0
+
+  -- no more were visited than the chunk has starts, nor with this one
+  pub off_within : IsReady p → visits_in t.states ≤ starts_within p.starts.starts chunk
+  off_within ready = visits_within _ _ _ _ _ _ _ off_walking ready.starts
+
+  pub off_more_within : IsReady p → a.at < chunk.end → get_or t.states a.ordinal None ≡ None → visits_in t.states + 1 ≤ starts_within p.starts.starts chunk
+  off_more_within ready l fresh = visits_more_within _ _ _ _ _ _ a _ off_walking ready.starts (off_place l) fresh (off_inside l)
+
+-- an arrival that wasn't visited is marked
+pub off_marked : (p : Prepared) (chunk : Span) (t new : Traversal) (stack : List Arrival) (a : Arrival) (deepest later : ℕ) → stack ≡ new.work.items ++ a ∷ [] → IsWalking p chunk t stack deepest → new.states ≡ set t.states a.ordinal (Some a.state) → new.sent ≡ t.sent → a.at < chunk.end → chunk.end < 2 ^ 32 → get_or t.states a.ordinal None ≡ None → later ≡ max deepest a.state.operands → HaltsAt p chunk new a later
+off_marked p chunk t new stack a deepest later off w states sent l addresses fresh deeper =
+    let rest = new.work.items in
+    record {
+      before = t.states;
+      earlier = deepest;
+      fresh = fresh;
+      marked = states;
+      deeper = deeper;
+      within = l;
+      addresses = addresses;
+      is = rw (sent) (record {
+        fits = record { states = w.fits.states; sent = w.fits.sent };
+        placed = off_placed p chunk t stack rest a deepest off w;
+        walking = subst (λ (xs : List Coming). Walking (bytecode_of p) chunk p.starts.starts t.states (sent_by t.sent) xs deepest) (sym (map_push coming rest a)) (off_walking p chunk t stack rest a deepest off w);
+      });
+    }
+
+-- one visit more was counted
+pub counted_visit : (old states : List (Option State)) (k : ℕ) (s : State) (count mid new : ℕ) → k < length states → get_or states k None ≡ None → HasVisited old states count mid → HasCounted mid new 1 → HasVisited old (set states k (Some s)) count new
+counted_visit old states k s count mid new inside fresh v tick = record {
+  visits = v.visits + 1;
+  more = let e = visited_more states k s inside fresh in let f = v.more in omega arith;
+  counted = counted_both count mid new v.visits 1 v.counted tick;
+}
+
+-- a plain instruction that is marked leads to the next arrival
+pub plain_visited : (p : Prepared) (chunk : Span) (t : Traversal) (here next : Arrival) (deepest : ℕ) → IsReady p → IsFramed (bytecode_of p) chunk → HaltsAt p chunk t here deepest → IsPlainStep p.code.now here next → IsWalking p chunk t (t.work.items ++ next ∷ []) deepest
+plain_visited p chunk t here next deepest ready framed h step =
+    let code = bytecode_of p in
+    let after : State = record here.state { operands = here.state.operands - step.takes + step.gives } in
+    rw (step.is) (visited p chunk t t here deepest step.op (width_of step.op) (Some after) ready framed h step.stands refl 0 step.takes step.takes step.gives Falls (sym (step.plain.caps code.setting)) (step.plain.operands code.setting.chains) (sym step.plain.flow) (nothing_missing code.setting.caps) step.there (record { iterators = omega arith; handlers = omega arith })
+    (inl (record { starts_in = All-nil (IsStartIn p.starts.starts chunk); added = sym (append-nil (map coming t.work.items)); noted = inl refl })) refl refl refl (λ all. all))
+
+-- a turn leaves fewer that weren't visited, with as many coming
+pub fewer_left : (states : List (Option State)) (k : ℕ) (s : State) (now later : ℕ) → k < length states → get_or states k None ≡ None → later ≡ now → length (set states k (Some s)) - visits_in (set states k (Some s)) + later < length states - visits_in states + now
+fewer_left states k s now later inside fresh same =
+    let e = visited_more states k s inside fresh in
+    let f = visits_few (set states k (Some s)) in
+    let g = length-set states k (Some s) in
+    omega (arith, e, f, g)
+
+-- nothing is coming any more
+pub walked : (p : Prepared) (chunk : Span) (t new : Traversal) (stack rest : List Arrival) (deepest : ℕ) → new.states ≡ t.states → new.sent ≡ t.sent → stack ≡ rest ++ [] → rest ≡ [] → IsWalking p chunk t stack deepest → IsWalking p chunk new [] deepest
+walked p chunk t new stack rest deepest states sent off empty w =
+    let none : stack ≡ [] = off ∙ (append-nil rest ∙ empty) in
+    let P = IsPlaced p.starts.starts chunk in
+    rw (states, sent) (record {
+      fits = record { states = w.fits.states; sent = w.fits.sent };
+      placed = subst (All P) none w.placed;
+      walking = subst (λ (xs : List Arrival). Walking (bytecode_of p) chunk p.starts.starts t.states (sent_by t.sent) (map coming xs) deepest) none w.walking;
+    })
+
+-- what was counted before and since
+pub counted_visits : (old new : List (Option State)) (count mid later : ℕ) → HasCounted count mid (visits_in old) → HasVisited old new mid later → HasCounted count later (visits_in new)
+counted_visits old new count mid later before v =
+    subst (HasCounted count later) (sym v.more) (counted_both count mid later (visits_in old) v.visits before v.counted)
+
+-- the walk begins at the chunk's entry
+pub walking_begun : (p : Prepared) (chunk : Span) (t : Traversal) (entry ordinal n m : ℕ) → IsFramed (bytecode_of p) chunk → chunk.entry < chunk.end → entry ≡ chunk.entry → slice_get p.starts.starts ordinal ≡ Some chunk.entry → t.states ≡ replicate n none → t.sent ≡ replicate m none → t.work.items ≡ [] → n ≡ length p.starts.starts → m ≡ length p.pools.now.switches.now → IsWalking p chunk t (t.work.items ++ record { at = entry; ordinal = ordinal; state = record { operands = 0; iterators = 0; handlers = 0 } } ∷ []) 0
+walking_begun p chunk t entry ordinal n m framed holds named place states sent work long switches =
+    let a : Arrival = record { at = entry; ordinal = ordinal; state = record { operands = 0; iterators = 0; handlers = 0 } } in
+    let P = IsPlaced p.starts.starts chunk in
+    let alone : t.work.items ++ a ∷ [] ≡ a ∷ [] = ap (λ (xs : List Arrival). xs ++ a ∷ []) work in
+    record {
+      fits = record {
+        states = ap (λ (s : List (Option State)). length s) states ∙ length-replicate n none ∙ long;
+        sent = ap (λ (s : List (Option State)). length s) sent ∙ length-replicate m none ∙ switches;
+      };
+      placed = subst (All P) (sym alone) (All-push P [] a (All-nil P) (λ l. place ∙ ap (λ (k : ℕ). Some k) (sym named)));
+      walking =
+          subst (λ (xs : List Arrival). Walking (bytecode_of p) chunk p.starts.starts t.states (sent_by t.sent) (map coming xs) 0) (sym alone)
+          (subst (λ (s : List (Option State)). Walking (bytecode_of p) chunk p.starts.starts s (sent_by t.sent) (coming a ∷ []) 0) (sym states)
+          (subst (λ at. Walking (bytecode_of p) chunk p.starts.starts (replicate n none) (sent_by t.sent) (record { at = at; counts = nothing } ∷ []) 0) (sym named)
+          (walking_start (bytecode_of p) chunk p.starts.starts n (sent_by t.sent) framed holds (λ w.
+              ap (λ (s : List (Option State)). get_or (sent_by s) w None) sent ∙ get_or-map (option_map view) (replicate m none) w None ∙ ap (option_map view) (nothing_at m w)))));
+    }
