@@ -15,6 +15,7 @@ pub mod Indexing
 pub mod Inputs
 pub mod Law
 pub mod Laying
+pub mod Metering
 pub mod Numbering
 pub mod Offsets
 pub mod Once

@@ -114,7 +114,14 @@ pub record IsMeteredChunk {A : Type 0} (code : Bytecode) (starts : List ℕ) (ch
   pub counted : HasCounted old new visits
   pub reached : OnOk result (IsReachedCount (coded code) chunk visits)
 
--- the same of many chunks
+-- what it has counted of chunks that were walked to the end
+pub record AreCounted (code : Bytecode) (starts : List ℕ) (chunks : List Span) (old new : ℕ) : Type 0 where
+  pub visits : ℕ
+  pub within : visits ≤ sum_by (starts_within starts) chunks
+  pub counted : HasCounted old new visits
+  pub reached : AreReached code chunks visits
+
+-- what it has counted of chunks, of which one may be refused
 pub record AreMeteredChunks {A : Type 0} (code : Bytecode) (starts : List ℕ) (chunks : List Span) (old new : ℕ) (result : Result A VerifyError) : Type 0 where
   pub visits : ℕ
   pub within : visits ≤ sum_by (starts_within starts) chunks

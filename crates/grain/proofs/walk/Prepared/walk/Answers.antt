@@ -58,7 +58,7 @@ returns-clause-typed c =
 pub returns-clause-deepest : goal.returns-clause-deepest
 returns-clause-deepest c =
     let w = subst (λ (o : Option Arrival). IfNone o (IsWalking c.args.self.now c.args.chunk.now c.visit_plain.new.traversal [] c.visit_plain.new.deepest)) c.in_default.is c.in_ok-here.ensures.ends in
-    (walking_end _ _ _ _ _ _ w.walking).1.0
+    (walking_end _ _ _ _ _ _ w.walking).1
 
 pub returns-clause-metered : goal.returns-clause-metered
 returns-clause-metered c =
@@ -67,5 +67,5 @@ returns-clause-metered c =
       visits = visits_in c.visit_plain.new.traversal.states;
       within = c.visit_plain.ensures.within;
       counted = counted_visits _ _ _ _ _ c.loop-here.invariant.ticked c.visit_plain.ensures.ticked;
-      reached = (walking_end _ _ _ _ _ _ w.walking).1.1;
+      reached = (walking_end _ _ _ _ _ _ w.walking).2;
     }
