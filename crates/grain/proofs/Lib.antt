@@ -16,6 +16,7 @@ pub mod Inputs
 pub mod Law
 pub mod Laying
 pub mod Metering
+pub mod Most
 pub mod Numbering
 pub mod Offsets
 pub mod Once
@@ -28,6 +29,7 @@ pub mod Pushing
 pub mod Refusing
 pub mod Restoring
 pub mod Splits
+pub mod Telling
 pub mod Ticks
 pub mod Tightening
 pub mod Transport

@@ -71,11 +71,11 @@ module _ (p : Prepared) (chunk : Span) (t : Traversal) (stack rest : List Arriva
   )
 
   -- it was visited with the same
-  pub off_skipped : (new : Traversal) → new.states ≡ t.states → new.sent ≡ t.sent → a.at < chunk.end → get_or t.states a.ordinal None ≡ Some a.state → IsWalking p chunk new (rest ++ []) deepest
+  pub off_skipped : (new : Traversal) → new.states ≡ t.states → new.sent ≡ t.sent → a.at < chunk.end → get_or t.states a.ordinal None ≡ Some a.state → IsWalking p chunk new rest deepest
   off_skipped new states sent l was =
       let P = IsPlaced p.starts.starts chunk in
       let kept : All P rest = All-weaker (Contains rest) P (λ b k. All-contains P (rest ++ a ∷ []) b off_placed (Contains-append_left rest (a ∷ []) b k)) rest (All-contains_itself rest) in
-      rw (append-nil rest, states, sent) (record {
+      rw (states, sent) (record {
         fits = record { states = w.fits.states; sent = w.fits.sent };
         placed = kept;
         walking = walking_skip _ _ _ _ _ _ a _ off_walking (off_place l) was;
@@ -123,26 +123,29 @@ pub plain_visited : (p : Prepared) (chunk : Span) (t : Traversal) (here next : A
 plain_visited p chunk t here next deepest ready framed h step =
     let code = bytecode_of p in
     let after : State = record here.state { operands = here.state.operands - step.takes + step.gives } in
-    rw (step.is) (visited p chunk t t here deepest step.op (width_of step.op) (Some after) ready framed h step.stands refl 0 step.takes step.takes step.gives Falls (sym (step.plain.caps code.setting)) (step.plain.operands code.setting.chains) (sym step.plain.flow) (nothing_missing code.setting.caps) step.there (record { iterators = omega arith; handlers = omega arith })
+    rw (step.is) (visited p chunk t t here deepest step.op (width_of step.op) (Some after) ready framed h step.stands refl 0 step.needs step.takes step.gives Falls (sym (step.plain.caps code.setting)) (step.plain.operands code.setting.chains) (sym step.plain.flow) (nothing_missing code.setting.caps) step.there (record { iterators = omega arith; handlers = omega arith })
     (inl (record { starts_in = All-nil (IsStartIn p.starts.starts chunk); added = sym (append-nil (map coming t.work.items)); noted = inl refl })) refl refl refl (λ all. all))
 
--- a turn leaves fewer that weren't visited, with as many coming
-pub fewer_left : (states : List (Option State)) (k : ℕ) (s : State) (now later : ℕ) → k < length states → get_or states k None ≡ None → later ≡ now → length (set states k (Some s)) - visits_in (set states k (Some s)) + later < length states - visits_in states + now
-fewer_left states k s now later inside fresh same =
+-- a turn leaves fewer that weren't visited
+pub fewer_left : (states : List (Option State)) (k : ℕ) (s : State) → k < length states → get_or states k None ≡ None → length (set states k (Some s)) - visits_in (set states k (Some s)) < length states - visits_in states
+fewer_left states k s inside fresh =
     let e = visited_more states k s inside fresh in
     let f = visits_few (set states k (Some s)) in
     let g = length-set states k (Some s) in
     omega (arith, e, f, g)
 
 -- nothing is coming any more
-pub walked : (p : Prepared) (chunk : Span) (t new : Traversal) (stack rest : List Arrival) (deepest : ℕ) → new.states ≡ t.states → new.sent ≡ t.sent → stack ≡ rest ++ [] → rest ≡ [] → IsWalking p chunk t stack deepest → IsWalking p chunk new [] deepest
-walked p chunk t new stack rest deepest states sent off empty w =
-    let none : stack ≡ [] = off ∙ (append-nil rest ∙ empty) in
-    let P = IsPlaced p.starts.starts chunk in
+pub nothing_comes : (p : Prepared) (chunk : Span) (t : Traversal) (stack rest : List Arrival) (deepest : ℕ) → stack ≡ rest ++ [] → rest ≡ [] → IsWalking p chunk t stack deepest → Walking (bytecode_of p) chunk p.starts.starts t.states (sent_by t.sent) [] deepest
+nothing_comes p chunk t stack rest deepest off empty w =
+    subst (λ (xs : List Arrival). Walking (bytecode_of p) chunk p.starts.starts t.states (sent_by t.sent) (map coming xs) deepest) (off ∙ (append-nil rest ∙ empty)) w.walking
+
+-- an arrival is taken off the worklist, or is next
+pub taken_next : (p : Prepared) (chunk : Span) (t new : Traversal) (stack rest : List Arrival) (a : Arrival) (deepest : ℕ) → new.states ≡ t.states → new.sent ≡ t.sent → stack ≡ rest ++ a ∷ [] → IsWalking p chunk t stack deepest → IsWalking p chunk new (rest ++ a ∷ []) deepest
+taken_next p chunk t new stack rest a deepest states sent off w =
     rw (states, sent) (record {
       fits = record { states = w.fits.states; sent = w.fits.sent };
-      placed = subst (All P) none w.placed;
-      walking = subst (λ (xs : List Arrival). Walking (bytecode_of p) chunk p.starts.starts t.states (sent_by t.sent) (map coming xs) deepest) none w.walking;
+      placed = off_placed p chunk t stack rest a deepest off w;
+      walking = subst (λ (xs : List Arrival). Walking (bytecode_of p) chunk p.starts.starts t.states (sent_by t.sent) (map coming xs) deepest) off w.walking;
     })
 
 -- what was counted before and since

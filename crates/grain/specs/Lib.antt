@@ -29,6 +29,7 @@ pub mod Meter
 pub mod Plain
 pub mod Slots
 pub mod States
+pub mod TagEffects
 pub mod PoolCaps
 pub mod Passed
 pub mod Progress

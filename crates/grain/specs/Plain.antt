@@ -10,18 +10,19 @@ use Rattle.grain.specs.Flow.{Falls, flow_of}
 use Rattle.grain.specs.Setting.{Setting}
 use Rattle.grain.specs.declared.state.Arrival.{Arrival}
 
--- it needs what it takes, asks nothing of the host, and falls through
-pub record IsPlain (op : Op) (takes gives : ℕ) : Type 0 where
-  pub operands : (chains : List Chain) → (takes, takes, gives) ≡ stack_effect chains op
+-- it asks nothing of the host, and falls through
+pub record IsPlain (op : Op) (needs takes gives : ℕ) : Type 0 where
+  pub operands : (chains : List Chain) → (needs, takes, gives) ≡ stack_effect chains op
   pub caps : (s : Setting) → caps_of s op ≡ 0
   pub flow : flow_of op ≡ Falls
 
--- the plain instruction here finds the operands that it takes, and falls through to the next arrival
+-- the plain instruction here finds the operands that it needs, and falls through to the next arrival
 pub record IsPlainStep (code : List ℕ) (here next : Arrival) : Type 0 where
   pub op : Op
+  pub needs : ℕ
   pub takes : ℕ
   pub gives : ℕ
   pub stands : StandsAt code here.at op
-  pub plain : IsPlain op takes gives
-  pub there : takes ≤ here.state.operands
+  pub plain : IsPlain op needs takes gives
+  pub there : needs ≤ here.state.operands
   pub is : next ≡ record { at = here.at + width_of op; ordinal = here.ordinal + 1; state = record here.state { operands = here.state.operands - takes + gives } }

@@ -64,6 +64,10 @@ pub record Progress (code : Bytecode) (chunk : Span) (seen : Seen) (sent : List 
   pub listed : (at : ℕ) → Contains visited at ↔ ((c : Counts) × (seen at ≡ Some c))
   pub count : length visited ≡ visits
 
+-- how many targets all switches have
+abbrev pub all_targets : List (List ℕ) → ℕ
+all_targets switches = sum_by (λ (ts : List ℕ). length ts) switches
+
 -- how many states there are
 abbrev pub one_if_some : Option State → ℕ
 one_if_some None = 0

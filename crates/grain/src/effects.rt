@@ -9,6 +9,7 @@ ghost use Rattle.grain.specs.PoolCaps.{AreAsked};
 ghost use Rattle.grain.specs.Setting.{Setting};
 
 use crate::capabilities::PoolCaps;
+use crate::tag_effects::TagEffect;
 use grain_base::{Caps, Flags};
 use grain_bytecode::{Chain, Op, Receiver};
 
@@ -155,6 +156,26 @@ impl Effect {
             Op::UnwindTo(_) | Op::Tick | Op::Checkpoint | Op::Statement { .. } => {
                 Effect::taking(0, 0)
             }
+        }
+    }
+
+    /// What instructions with a tag do, with this flow.
+    #[inline(always)]
+    pub(crate) fn of_tag(told: TagEffect, flow: Flow) -> Effect
+        requires there { told.takes ≤ told.needs }
+        requires by_one { told.gives ≤ told.takes + 1 }
+        ensures asks { result.asks.0 ≡ 0 }
+        ensures needs { result.needs ≡ told.needs }
+        ensures takes { result.takes ≡ told.takes }
+        ensures gives { result.gives ≡ told.gives }
+        ensures flow { result.flow ≡ flow }
+    {
+        Effect {
+            asks: Caps::empty(),
+            needs: u32::from(told.needs),
+            takes: u32::from(told.takes),
+            gives: u32::from(told.gives),
+            flow,
         }
     }
 

@@ -19,7 +19,6 @@ pub mod laws;
 mod lookup;
 mod meter;
 mod passed;
-mod plain;
 mod pools;
 mod program;
 #[cfg(test)]
@@ -28,6 +27,7 @@ mod sidecar;
 mod slots;
 mod state;
 mod states;
+mod tag_effects;
 mod tighten;
 mod verifier;
 mod walk;

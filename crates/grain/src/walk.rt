@@ -1,9 +1,9 @@
 //! The walk over one chunk.
-ghost use Rattle.std.specs.Prelude.{◌≡◌, ◌≢◌, ℕ, ◌+◌, ◌-◌, ◌≤◌, ◌<◌, ◌^◌, ◌++◌, ◌⊎◌, [], None, Some};
+ghost use Rattle.std.specs.Prelude.{◌≡◌, ◌≢◌, ℕ, ◌+◌, ◌-◌, ◌≤◌, ◌<◌, ◌^◌, ◌++◌, ◌∷◌, ◌⊎◌, [], None, Some};
 ghost use Rattle.std.specs.Prelude.{cond, length, map, replicate, slice_get, IfErr, IfNone, IfOk, IfSome, OnOk};
 ghost use Rattle.std.specs.Option.{option_map, option_to_list};
 ghost use Rattle.std.specs.List.{All};
-ghost use Rattle.grain_bytecode.specs.InstructionTable.{width_of};
+ghost use Rattle.grain_bytecode.specs.InstructionTable.{Instr, width_of};
 ghost use Rattle.grain_bytecode.specs.Split.{StandsAt};
 ghost use Rattle.grain_bytecode.specs.declared.op.Op.{Op};
 ghost use Rattle.grain.specs.Accepted.{ChunkPasses, IsFramed};
@@ -17,7 +17,8 @@ ghost use Rattle.grain.specs.FlowView.{IsMetBy, RefusesFlow, flow};
 ghost use Rattle.grain.specs.Layout.{IsStart};
 ghost use Rattle.grain.specs.Meter.{starts_within};
 ghost use Rattle.grain.specs.Plain.{IsPlainStep};
-ghost use Rattle.grain.specs.Progress.{Fits, HaltsAt, HasVisited, IsMeteredChunk, IsWalking, visits_in};
+ghost use Rattle.grain.specs.Progress.{Fits, HaltsAt, HasVisited, IsMeteredChunk, IsWalking, all_targets, visits_in};
+ghost use Rattle.grain.specs.TagEffects.{IsEffectIn};
 ghost use Rattle.grain.specs.Typing.{HasTyping, IsDeepest};
 ghost use Rattle.grain.specs.Walk.{IsReady, bytecode_of};
 
@@ -26,7 +27,7 @@ use crate::edges::{push_table, push_target};
 use crate::effects::{Effect, Flow};
 use crate::error::VerifyError;
 use crate::meter::Meter;
-use crate::plain::plain_effect;
+use crate::tag_effects::{Way, effect_by_tag, tag_effect};
 use crate::pools::Pools;
 use crate::state::{Arrival, State, check_same};
 use crate::states::States;
@@ -213,6 +214,22 @@ impl Prepared<'_> {
         }
     }
 
+    /// What an instruction does. It is decoded where its tag and its target don't tell.
+    #[inline(always)]
+    fn effect_of(&self, instruction: &Instruction<'_>) -> Effect
+        requires { (op : Op) × Instr (instruction.now.tag ∷ instruction.now.fields.now) op }
+        ensures { (op : Op) → Instr (instruction.now.tag ∷ instruction.now.fields.now) op
+            → IsEffectIn self.now.pools.now.chains.now self.now.asked result op }
+    {
+        if let Some(effect) = effect_by_tag(instruction) {
+            return effect;
+        }
+        let Some(op) = instruction.op() else {
+            unreachable!();
+        };
+        Effect::of(&op, self.pools.chains, &self.asked)
+    }
+
     /// Visits an instruction: tests what it asks and needs, sends its state to its targets, and answers what falls
     /// through, if it does.
     #[inline(always)]
@@ -229,16 +246,16 @@ impl Prepared<'_> {
             → IfOk result (λ next. IsWalking self.now chunk.now traversal.new
             (traversal.new.work.items ++ option_to_list next) deepest) }
         ensures states { OnOk result (traversal.new.states ≡ traversal.old.states) }
+        ensures few { IfOk result (λ next. length (traversal.new.work.items ++ option_to_list next)
+            ≤ length traversal.old.work.items
+            + (all_targets (bytecode_of self.now).switches + 2)) }
         ensures err { IfErr result (λ e. (e ≡ VerifyError.OutOfMemory)
             ⊎ ChunkFlaw (bytecode_of self.now) chunk.now e) }
     {
         let Some(instruction) = Instruction::at(self.code, here.at as usize) else {
             unreachable!();
         };
-        let Some(op) = instruction.op() else {
-            unreachable!();
-        };
-        let effect = Effect::of(&op, self.pools.chains, &self.asked);
+        let effect = self.effect_of(&instruction);
         self.check_needs(effect, here.at, here.state)?;
         match self.follow(chunk, effect, here, traversal)? {
             Some(after) => Ok(Some(here.next(instruction.width(), after))),
@@ -260,10 +277,12 @@ impl Prepared<'_> {
         let Some(instruction) = Instruction::at(self.code, here.at as usize) else {
             unreachable!();
         };
-        match plain_effect(instruction.tag) {
-            Some((takes, gives)) if takes <= here.state.operands => {
+        let told = tag_effect(instruction.tag);
+        match told.way {
+            Way::Falls if u32::from(told.needs) <= here.state.operands => {
+                let left = here.state.operands - u32::from(told.takes) + u32::from(told.gives);
                 let after = State {
-                    operands: here.state.operands - takes + gives,
+                    operands: left,
                     ..here.state
                 };
                 Some(here.next(instruction.width(), after))
@@ -272,13 +291,13 @@ impl Prepared<'_> {
         }
     }
 
-    /// Visits plain instructions from one arrival to the next, marks each as visited, and answers the first other
-    /// instruction that it comes to, marked too; none where nothing is coming any more.
+    /// Visits plain instructions one after another, from an arrival on, and marks each as visited. It answers the first
+    /// other instruction that it comes to, marked too; none where it comes to one that was visited with the same state.
     #[inline(always)]
     fn visit_plain(
         &self,
         chunk: &Chunk,
-        from: Option<Arrival>,
+        from: Arrival,
         traversal: &mut Traversal,
         meter: &mut Meter,
         deepest: &mut u32,
@@ -286,40 +305,34 @@ impl Prepared<'_> {
         requires ready { IsReady self.now }
         requires framed { IsFramed (bytecode_of self.now) chunk.now }
         requires walking { IsWalking self.now chunk.now traversal.old
-            (traversal.old.work.items ++ option_to_list from) deepest.old }
+            (traversal.old.work.items ++ from ∷ []) deepest.old }
         ensures halts { IfOk result (λ next. IfSome next (λ here.
             HaltsAt self.now chunk.now traversal.new here deepest.new)) }
-        ensures ends { IfOk result (λ next. IfNone next
-            (IsWalking self.now chunk.now traversal.new [] deepest.new)) }
+        ensures skips { IfOk result (λ next. IfNone next
+            (IsWalking self.now chunk.now traversal.new traversal.new.work.items deepest.new)) }
         ensures further { IfOk result (λ next. IfSome next (λ _.
             visits_in traversal.old.states < visits_in traversal.new.states)) }
         ensures ticked { HasVisited traversal.old.states traversal.new.states meter.old meter.new }
         ensures within { visits_in traversal.new.states
             ≤ starts_within self.now.starts.starts chunk.now }
+        ensures work { traversal.new.work ≡ traversal.old.work }
         ensures err { IfErr result (ChunkFlaw (bytecode_of self.now) chunk.now) }
     {
-        let mut next = from;
-        while let Some(here) = take_next(next, &mut traversal.work) {
-            if here.at >= chunk.end() {
-                return Err(VerifyError::FallsOffTheEnd);
+        let mut here = from;
+        while here.at < chunk.end() {
+            if let Some(before) = traversal.states.get(here.ordinal) {
+                check_same(here.at, before, here.state)?;
+                return Ok(None);
             }
-            next = match traversal.states.get(here.ordinal) {
-                Some(before) => {
-                    check_same(here.at, before, here.state)?;
-                    None
-                }
-                None => {
-                    traversal.states.set(here.ordinal, here.state);
-                    meter.tick();
-                    *deepest = (*deepest).max(here.state.operands);
-                    match self.plain_next(here) {
-                        Some(arrival) => Some(arrival),
-                        None => return Ok(Some(here)),
-                    }
-                }
-            };
+            traversal.states.set(here.ordinal, here.state);
+            meter.tick();
+            *deepest = (*deepest).max(here.state.operands);
+            match self.plain_next(here) {
+                Some(next) => here = next,
+                None => return Ok(Some(here)),
+            }
         }
-        Ok(None)
+        Err(VerifyError::FallsOffTheEnd)
     }
 
     /// Walks from the chunk's entry, an instruction of this ordinal, and answers the greatest operand count that it meets.
@@ -350,8 +363,11 @@ impl Prepared<'_> {
             ordinal,
             state: State::NOTHING,
         });
-        while let Some(here) = self.visit_plain(chunk, next, traversal, meter, &mut deepest)? {
-            next = self.visit(chunk, here, traversal)?;
+        while let Some(from) = take_next(next, &mut traversal.work) {
+            next = match self.visit_plain(chunk, from, traversal, meter, &mut deepest)? {
+                Some(here) => self.visit(chunk, here, traversal)?,
+                None => None,
+            };
         }
         Ok(deepest)
     }

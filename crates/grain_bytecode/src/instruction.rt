@@ -1,7 +1,9 @@
 //! An instruction where it stands in code, as its bytes.
-ghost use Rattle.std.specs.Prelude.{◌≡◌, ◌+◌, ◌≤◌, ◌∷◌, IfSome, IfNone, length};
-ghost use Rattle.grain_bytecode.specs.InstructionTable.{Instr, width_of};
+ghost use Rattle.std.specs.Prelude.{◌≡◌, ℕ, ◌+◌, ◌≤◌, ◌∷◌, IfSome, IfNone, List, Some, length};
+ghost use Rattle.grain_bytecode.specs.InstructionTable.{Instr, form, width_of};
 ghost use Rattle.grain_bytecode.specs.Split.{StandsAt, NoneStandsAt};
+ghost use Rattle.grain_bytecode.specs.declared.field.Field.{Field};
+ghost use Rattle.grain_bytecode.specs.declared.field.Field.TheVariants.{Target};
 ghost use Rattle.grain_bytecode.specs.declared.op.Op.{Op};
 
 use crate::decoder::op_of;
@@ -43,6 +45,21 @@ impl<'a> Instruction<'a> {
         ensures { result ≡ length self.now.fields.now + 1 }
     {
         self.fields.len() + 1
+    }
+
+    /// The target of a jump, an iterator's exit or a catch, which is the first field of each instruction that has one; the
+    /// first four bytes behind the tag. `None` where there are fewer.
+    #[inline(always)]
+    #[must_use]
+    pub fn target(&self) -> Option<u32>
+        ensures { (op : Op) (target : ℕ) (others : List Field)
+            → Instr (self.now.tag ∷ self.now.fields.now) op
+            → (form op).1 ≡ Target target ∷ others → result ≡ Some target }
+    {
+        match self.fields {
+            [a, b, c, d, ..] => Some(u32::from_le_bytes([*a, *b, *c, *d])),
+            _ => None,
+        }
     }
 
     /// What it is, or `None` where these bytes are no instruction. It takes no memory.

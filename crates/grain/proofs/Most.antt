@@ -1,0 +1,51 @@
+-- No instruction sends its state to more places than all switches have targets, and one.
+use Rattle.std.proofs.Common.{◌≡◌, ℕ, ◌+◌, ◌*◌, ◌-◌, ◌<◌, ◌≤◌, inl, inr, Option, Some, None, List, [], ◌∷◌, ◌++◌, length, get_or, map, ap, sym, ◌∙◌, arith}
+use Rattle.std.specs.List.{sum_by}
+use Rattle.std.specs.Option.{option_to_list}
+use Rattle.std.proofs.Math.Nat.{mul-le-mul_left}
+use Rattle.std.proofs.lemmas.List.{length-append, length-map, get_or_past}
+use Rattle.std.proofs.lemmas.List.Sums.{get_or-le-sum_by}
+use Rattle.std.proofs.lemmas.Bool.{cases_lt}
+use Rattle.grain_bytecode.specs.Span.{Span}
+use Rattle.grain.specs.Arrivals.{Coming, Sends, all_to, coming}
+use Rattle.grain.specs.Counts.{Counts}
+use Rattle.grain.specs.Flow.{Flow, Switches, targets_for}
+use Rattle.grain.specs.Progress.{all_targets}
+use Rattle.grain.specs.declared.state.Arrival.{Arrival}
+
+few_by : (switches : List (List ℕ)) (f : Flow) → length (targets_for switches f) ≤ all_targets switches + 1
+few_by switches (Switches w) = elim (cases_lt w (length switches)) [
+  | inl l ↦ let h = get_or-le-sum_by (λ (ts : List ℕ). length ts) switches w [] l in omega arith
+  | inr g ↦ let e : length (get_or switches w []) ≡ 0 = ap (λ (ts : List ℕ). length ts) (get_or_past switches w [] g) in omega arith
+]
+few_by switches f = omega arith
+
+-- what is sent makes the worklist longer by no more
+pub sends_few : (starts : List ℕ) (chunk : Span) (switches : List (List ℕ)) (f : Flow) (after : Counts) (sent new_sent : List (Option Counts)) (old new : List Arrival) → Sends starts chunk switches f after sent new_sent (map coming old) (map coming new) → length new ≤ length old + (all_targets switches + 1)
+sends_few starts chunk switches f after sent new_sent old new (inl all) =
+    let e : length (map coming new) ≡ length (map coming old) + length (all_to after (targets_for switches f)) = ap (λ (xs : List Coming). length xs) all.added ∙ length-append (map coming old) (all_to after (targets_for switches f)) in
+    let a = length-map new coming in
+    let b = length-map old coming in
+    let d : length (all_to after (targets_for switches f)) ≡ length (targets_for switches f) = length-map (targets_for switches f) (λ (t : ℕ). record { at = t; counts = after }) in
+    let few = few_by switches f in
+    omega (arith, e, a, b, d, few)
+sends_few starts chunk switches f after sent new_sent old new (inr none) =
+    let e : length (map coming new) ≡ length (map coming old) = ap (λ (xs : List Coming). length xs) none.added in
+    let a = length-map new coming in
+    let b = length-map old coming in
+    omega (arith, e, a, b)
+
+-- and what falls through by one
+pub next_few : (work : List Arrival) (next : Option Arrival) → length (work ++ option_to_list next) ≤ length work + 1
+next_few work None = let e = length-append work [] in omega (arith, e)
+next_few work (Some a) = let e = length-append work (a ∷ []) in omega (arith, e)
+
+-- fewer that weren't visited outweigh what is sent
+pub outweighs : (most before later news olds : ℕ) → later < before → news ≤ olds + most → (most + 1) * later + news < (most + 1) * before + olds
+outweighs most before later news olds l few =
+    let less = mul-le-mul_left (most + 1) (let h : later + 1 ≤ before = omega (arith, l) in h) in
+    omega (arith, few, less)
+
+-- as many that weren't visited, with fewer coming
+pub skips : (most before later news olds : ℕ) → later ≤ before → news < olds → most * later + news < most * before + olds
+skips most before later news olds l less = let k = mul-le-mul_left most l in omega (arith, k, less)

@@ -1,0 +1,56 @@
+-- What tags tell of instructions.
+use Rattle.std.specs.Prelude.{◌≡◌, ⊤, ℕ, List, ◌∷◌}
+use Rattle.grain_bytecode.specs.InstructionTable.{form}
+use Rattle.grain_bytecode.specs.declared.chain.Chain.{Chain}
+use Rattle.grain_bytecode.specs.declared.field.Field.{Field}
+use Rattle.grain_bytecode.specs.declared.field.Field.TheVariants.{Target}
+use Rattle.grain_bytecode.specs.declared.op.Op.{Op}
+use Rattle.grain.specs.Capabilities.{caps_of}
+use Rattle.grain.specs.Effects.{stack_effect}
+use Rattle.grain.specs.Flow as flows
+use Rattle.grain.specs.Flow.{flow_of}
+use Rattle.grain.specs.FlowView.{flow}
+use Rattle.grain.specs.PoolCaps.{AreAsked}
+use Rattle.grain.specs.Setting.{Setting}
+use Rattle.grain.specs.declared.capabilities.PoolCaps.{PoolCaps}
+use Rattle.grain.specs.declared.effects.Effect.{Effect}
+use Rattle.grain.specs.declared.tag_effects.TagEffect.{TagEffect}
+use Rattle.grain.specs.declared.tag_effects.Way.{Way}
+use Rattle.grain.specs.declared.tag_effects.Way.TheVariants as ways
+
+-- its needs, what it takes and what it gives are these whatever the pools hold, and it asks nothing of the host
+pub record IsFixed (op : Op) (effect : ℕ × ℕ × ℕ) : Type 0 where
+  pub operands : (chains : List Chain) → effect ≡ stack_effect chains op
+  pub caps : (s : Setting) → caps_of s op ≡ 0
+
+-- it is left by this flow, whose target is its first field
+abbrev pub FlowsTo : Op → (ℕ → flows.Flow) → Type 0
+FlowsTo op f = (target : ℕ) × (others : List Field) × ((form op).1 ≡ Target target ∷ others) × (flow_of op ≡ f target)
+
+abbrev pub TellsWay : Way → ℕ × ℕ × ℕ → Op → Type 0
+TellsWay ways.Unknown e op = ⊤
+TellsWay ways.Falls e op = IsFixed op e × (flow_of op ≡ flows.Falls)
+TellsWay ways.Ends e op = IsFixed op e × (flow_of op ≡ flows.Ends)
+TellsWay ways.Jumps e op = IsFixed op e × FlowsTo op flows.Jumps
+TellsWay ways.Branches e op = IsFixed op e × FlowsTo op flows.Branches
+TellsWay ways.BeginsIterator e op = IsFixed op e × (flow_of op ≡ flows.BeginsIterator)
+TellsWay ways.AdvancesIterator e op = IsFixed op e × FlowsTo op flows.AdvancesIterator
+TellsWay ways.EndsIterator e op = IsFixed op e × (flow_of op ≡ flows.EndsIterator)
+TellsWay ways.PushesHandler e op = IsFixed op e × FlowsTo op flows.PushesHandler
+TellsWay ways.PopsHandler e op = IsFixed op e × (flow_of op ≡ flows.PopsHandler)
+
+-- what a tag tells is what the operation does
+abbrev pub Tells : TagEffect → Op → Type 0
+Tells told op = TellsWay told.way (told.needs, told.takes, told.gives) op
+
+-- the effect is that of the operation, whatever the pools hold, and asks nothing of the host
+pub record IsEffectOf (e : Effect) (op : Op) : Type 0 where
+  pub operands : (chains : List Chain) → (e.needs, e.takes, e.gives) ≡ stack_effect chains op
+  pub asks : (s : Setting) → e.asks.0 ≡ caps_of s op
+  pub flow_is : flow e.flow ≡ flow_of op
+
+-- the effect is that of the operation, with these chains in the pool, and names and chains that ask this of the host
+pub record IsEffectIn (chains : List Chain) (asked : PoolCaps) (e : Effect) (op : Op) : Type 0 where
+  pub operands : (e.needs, e.takes, e.gives) ≡ stack_effect chains op
+  pub asks : (s : Setting) → AreAsked s asked → e.asks.0 ≡ caps_of s op
+  pub flow_is : flow e.flow ≡ flow_of op
