@@ -25,7 +25,7 @@ use Rattle.grain.specs.declared.state.Arrival.{Arrival}
 use Rattle.grain.specs.declared.state.State.{State}
 use Rattle.grain.specs.declared.walk.Prepared.{Prepared}
 use Rattle.grain.specs.declared.walk.Traversal.{Traversal}
-use Rattle.grain.proofs.Numbering.{none}
+use Rattle.grain.specs.States.{no_state as none}
 use Rattle.grain.proofs.Flows.{nothing_missing}
 use Rattle.grain.proofs.Ticks.{counted_both}
 use Rattle.grain.proofs.Turns.{visited}

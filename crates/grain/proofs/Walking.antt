@@ -22,7 +22,7 @@ use Rattle.grain.specs.Progress.{Progress, Seen, Waits, Walking, one_if_some, vi
 use Rattle.grain.specs.Typing.{IsInChunk, HasTyping, IsReachedCount, Passes, IsDeepest, Reached}
 use Rattle.grain.specs.declared.state.Arrival.{Arrival}
 use Rattle.grain.specs.declared.state.State.{State}
-use Rattle.grain.proofs.Numbering.{none}
+use Rattle.grain.specs.States.{no_state as none}
 use Rattle.grain.proofs.Ordinals.{one_ordinal}
 use Rattle.grain.proofs.Progress.{Comes, progress_start, progress_skip, progress_visit, progress_end}
 
