@@ -1,11 +1,13 @@
 -- What the tests of an operation say once they are passed: of its fields, and of the operands that the steps of its chain take.
-use Rattle.std.proofs.Common.{◌≡◌, ℕ, ◌<◌, ◌≤◌, zero, suc, inl, inr, List, [], ◌∷◌, ◌++◌, map, get_or, Option, Some, None, length, refl, ap, subst, ◌∙◌, arith}
-use Rattle.std.specs.List.{AllByRecursion, Contains, flat_map, slice_get}
+use Rattle.std.proofs.Common.{◌≡◌, ℕ, ◌<◌, ◌≤◌, zero, suc, inl, inr, List, [], ◌∷◌, ◌++◌, map, get_or, Option, Some, None, length, refl, sym, ap, subst, ◌∙◌, arith}
+use Rattle.std.specs.List.{All, AllByRecursion, Contains, flat_map, slice_get}
 use Rattle.std.specs.Option.{option_to_list}
 use Rattle.std.proofs.lemmas.List.{get_or-map}
+use Rattle.std.proofs.lemmas.List.Elements.{All-contains}
 use Rattle.std.proofs.lemmas.Option.{get_or_from_slice_get}
 use Rattle.grain_bytecode.specs.Chain.{TakesOperand, last_operand}
 use Rattle.grain_bytecode.specs.InstructionTable.{form}
+use Rattle.grain_bytecode.specs.Split.{AreInstructions}
 use Rattle.grain_bytecode.specs.declared.chain.Chain.{Chain}
 use Rattle.grain_bytecode.specs.declared.chain.Step.{Step}
 use Rattle.grain_bytecode.specs.declared.field.Field.{Field}
@@ -14,7 +16,10 @@ use Rattle.grain_bytecode.specs.declared.field.Pool.{Pool}
 use Rattle.grain_bytecode.specs.declared.field.Pool.TheVariants.{Constants, Names, Operators, OpAssignments, Fragments, Chains, Switches, SyntaxSites}
 use Rattle.grain_bytecode.specs.declared.op.Op.{Op}
 use Rattle.grain_bytecode.specs.declared.op.Op.TheVariants as ops
+use Rattle.grain_bytecode.proofs.Instructions.{begins_none_nil}
 use Rattle.grain_bytecode.proofs.LastOperands.{taken_last, taken_none}
+use Rattle.grain_bytecode.proofs.Splits.{one_front}
+use Rattle.grain.specs.Accepted.{Input, IsAccepted}
 use Rattle.grain.specs.Indices.{Indexed, IsBounded, IsPassed, IsWithinPools, all_inner, chain_fields, chain_tests, field_tests, inner, operand_test, operand_tests, root_fields, step_fields, step_tests, tail_fields}
 use Rattle.grain.specs.Setting.{Setting}
 use Rattle.grain.proofs.Splits.{in_cons, in_nil}
@@ -118,7 +123,7 @@ steps_within s operands (first ∷ all) step place h among taken =
     ]
 
 -- so do the steps of a chain that an operation names whose indices are in bounds
-pub operands_within : (s : Setting) (x : ℕ) (c : Chain) (step : Step) (place : ℕ) → Indexed s (ops.Chain x) → slice_get s.chains x ≡ Some c → Contains c.steps.items step → TakesOperand step place → place < c.operands
+operands_within : (s : Setting) (x : ℕ) (c : Chain) (step : Step) (place : ℕ) → Indexed s (ops.Chain x) → slice_get s.chains x ≡ Some c → Contains c.steps.items step → TakesOperand step place → place < c.operands
 operands_within s x c step place h found among taken =
     let inside : x < length s.chains = h.tests.0 in
     let here = each_front IsPassed (get_or (map (chain_tests s) s.chains) x []) [] h.tests.1 in
@@ -127,3 +132,11 @@ operands_within s x c step place h found among taken =
     let middle = flat_map (step_tests s c.operands) c.steps.items in
     let front = each_front IsPassed (root ++ middle) (field_tests s (tail_fields c.tail)) (subst (AllByRecursion IsPassed) is here) in
     steps_within s c.operands c.steps.items step place (each_back IsPassed root middle front) among taken
+
+-- and of one that an instruction of an accepted program names
+pub accepted_within : (i : Input) → IsAccepted i → (all : List Op) → AreInstructions i.code.bytes all → (x : ℕ) → Contains all (ops.Chain x) → (c : Chain) → slice_get i.code.setting.chains x ≡ Some c → (step : Step) → Contains c.steps.items step → (place : ℕ) → TakesOperand step place → place < c.operands
+accepted_within i accepted all are x named c found step among place taken =
+    let code = accepted.code in
+    let same = (one_front code.0 all [] [] code.1.each are.each begins_none_nil begins_none_nil (ap (λ (b : List ℕ). b ++ []) (sym code.1.whole ∙ are.whole))).0 in
+    let indexed = subst (All (Indexed i.code.setting)) same code.2 in
+    operands_within i.code.setting x c step place (All-contains (Indexed i.code.setting) all (ops.Chain x) indexed named) found among taken

@@ -1,13 +1,15 @@
 -- The first of some indices that is out of bounds.
-use Rattle.std.specs.Prelude.{◌≡◌, ℕ, List, [], ◌∷◌, Option, Some, None, Result, Ok, Err, cond, nat_lt, map, get_or}
+use Rattle.std.specs.Prelude.{◌≡◌, ℕ, List, [], ◌∷◌, Option, Some, None, Result, Ok, Err, cond, nat_lt, map, get_or, codes}
 use Rattle.grain_bytecode.specs.declared.field.Field.{Field}
 use Rattle.grain_bytecode.specs.declared.op.Receiver.{Receiver}
 use Rattle.grain_bytecode.specs.declared.op.Receiver.TheVariants as receiver
 use Rattle.grain_bytecode.specs.InstructionTable.{name}
 use Rattle.grain_bytecode.specs.Dispatch.{first_past}
-use Rattle.grain.specs.Indices.{Test, chain_tests}
+use Rattle.grain.specs.Indices.{Test, chain_tests, entry_name}
 use Rattle.grain.specs.Setting.{Setting, case_consts, pools_with}
 use Rattle.grain.specs.declared.indices.BadIndex.{BadIndex}
+use Rattle.grain.specs.declared.indices.Bound.{Bound}
+use Rattle.grain.specs.declared.indices.Bound.TheVariants as bounds
 use Rattle.grain.specs.Passed.{HasPassed}
 use Rattle.grain.specs.declared.pools.Pools.{Pools}
 
@@ -39,7 +41,12 @@ pub record HavePassed (pools : Pools) (chains switches : List ℕ) : Type 0 wher
   pub chains_pass : ChainsPass pools chains
   pub switches_pass : CasesPass pools switches
 
+-- what a refusal calls an index with this bound
+abbrev pub word_of : Bound → List ℕ
+word_of (bounds.Pool pool) = entry_name pool
+word_of bounds.Operands = codes "operand"
+
 -- what a refusal calls the index, and the index
 abbrev pub refused : {T : Type 0} → Result T BadIndex → Option (List ℕ × ℕ)
 refused (Ok x) = None
-refused (Err bad) = Some (bad.what.now, bad.index)
+refused (Err bad) = Some (word_of bad.bound, bad.index)

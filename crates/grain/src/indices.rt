@@ -11,7 +11,7 @@ ghost use Rattle.grain_bytecode.specs.declared.field.Pool.{Pool};
 ghost use Rattle.grain.specs.Accepted.{AreIndexed};
 ghost use Rattle.grain.specs.Flaw.{CodeFlaw};
 ghost use Rattle.grain.specs.FirstOut.{CasesPass, ChainsPass, HavePassed, alone, first_out};
-ghost use Rattle.grain.specs.FirstOut.{receiver_fields, refused};
+ghost use Rattle.grain.specs.FirstOut.{receiver_fields, refused, word_of};
 ghost use Rattle.grain.specs.Indices.{Indexed, IsOut, cases_of, chain_tests, entry_name, field_tests, operand_tests, root_fields, size, step_fields, step_tests, tail_fields, tests_of};
 ghost use Rattle.grain.specs.Setting.{Setting, case_consts, setting};
 
@@ -22,11 +22,19 @@ use grain_base::Dynamic;
 use grain_bytecode::{Chain, Op, Pool, Receiver, Root, Step, Switch, Tail, decode, tag, width};
 use std::collections::HashMap;
 
+/// What an index has to be below.
+#[derive(Clone, Copy)]
+pub(crate) enum Bound {
+    /// The size of the pool that it goes into.
+    Pool(Pool),
+    /// The operands of the chain whose step it is in.
+    Operands,
+}
+
 /// An index that is out of bounds.
 #[derive(Clone, Copy)]
 pub(crate) struct BadIndex {
-    /// What a refusal calls it.
-    pub(crate) what: &'static str,
+    pub(crate) bound: Bound,
     pub(crate) index: u32,
 }
 
@@ -43,6 +51,16 @@ fn entry_name(pool: Pool) -> &'static str
         Pool::Chains => "chain",
         Pool::Switches => "switch",
         Pool::SyntaxSites => "custom syntax site",
+    }
+}
+
+/// What a refusal calls an index with this bound.
+fn word_of(bound: Bound) -> &'static str
+    ensures { result.now ≡ word_of bound }
+{
+    match bound {
+        Bound::Pool(pool) => entry_name(pool),
+        Bound::Operands => "operand",
     }
 }
 
@@ -71,7 +89,7 @@ fn check(pools: &Pools<'_>, pool: Pool, index: u32) -> Result<(), BadIndex>
         Ok(())
     } else {
         Err(BadIndex {
-            what: entry_name(pool),
+            bound: Bound::Pool(pool),
             index,
         })
     }
@@ -127,7 +145,7 @@ fn check_last_operand(operands: u16, step: &Step) -> Result<(), BadIndex>
         Ok(())
     } else {
         Err(BadIndex {
-            what: "operand",
+            bound: Bound::Operands,
             index,
         })
     }
@@ -181,7 +199,7 @@ fn check_chain_at(pools: &Pools<'_>, passed: &mut [u64], index: u32) -> Result<(
 {
     let Some(chain) = pools.chains.get(index as usize) else {
         return Err(BadIndex {
-            what: entry_name(Pool::Chains),
+            bound: Bound::Pool(Pool::Chains),
             index,
         });
     };
@@ -347,12 +365,12 @@ fn check_op<const N: usize>(
     ensures passed { HavePassed pools.now passed.new.chains passed.new.switches }
     ensures ok { OnOk result (Indexed (alone pools.now) op.now) }
     ensures err { IfErr result
-        (λ bad. IsOut (alone pools.now) op.now bad.what.now bad.index) }
+        (λ bad. IsOut (alone pools.now) op.now (word_of bad.bound) bad.index) }
 {
     check_fields(pools, &mut passed.chains, op)?;
     match bad_constant_of(pools, &mut passed.switches, op) {
         Some(index) => Err(BadIndex {
-            what: entry_name(Pool::Constants),
+            bound: Bound::Pool(Pool::Constants),
             index,
         }),
         None => Ok(()),
@@ -443,7 +461,7 @@ fn check_at<const N: usize>(
         Ok(()) => Ok(at + width),
         Err(bad) => Err(VerifyError::BadIndex {
             at,
-            what: bad.what,
+            what: word_of(bad.bound),
             index: bad.index,
         }),
     }

@@ -14,7 +14,7 @@ ghost use Rattle.grain_bytecode.specs.declared.chain.Step.{Step};
 ghost use Rattle.grain_bytecode.specs.declared.op.Op.{Op};
 ghost use Rattle.grain_bytecode.specs.declared.op.Op.TheVariants as ops;
 ghost use Rattle.grain.specs.Code.{Bytecode, Code, coded};
-ghost use Rattle.grain.specs.Accepted.{ChunkPasses};
+ghost use Rattle.grain.specs.Accepted.{ChunkPasses, Input, IsAccepted};
 ghost use Rattle.grain.specs.ByIndex.{IsCut, LeadWithin, listed, moved, placed};
 ghost use Rattle.grain.specs.Counts.{Counts};
 ghost use Rattle.grain.specs.Effects.{Edge, after_jump};
@@ -79,18 +79,21 @@ pub fn switches_lead_inside()
         × ((c : Counts) × (typing (dispatched arms subject) ≡ Some c)) }
 {}
 
-/// Where all indices of an operation are in bounds, those into pools are: the stricter rule that steps of chains stay
-/// within the operands of their chain lets nothing through that passes without it.
+/// Where all indices of an operation are in bounds, those into pools are. So the rule that steps stay within the operands
+/// of their chain only refuses more.
 pub fn indices_in_bounds_lie_in_pools()
     ensures { (s : Setting) (op : Op) → Indexed s op → IsWithinPools s op }
 {}
 
-/// Where all indices of a `Chain` are in bounds, each place at which a step takes an operand is below the operands that
-/// its chain takes.
+/// Each place at which a step takes an operand, in a chain that an instruction of an accepted program names, is below the
+/// chain's `operands`.
 pub fn steps_stay_within_operands()
-    ensures { (s : Setting) (x : ℕ) (chain : Chain) (step : Step) (place : ℕ)
-        → Indexed s (ops.Chain x) → slice_get s.chains x ≡ Some chain
-        → Contains chain.steps.items step → TakesOperand step place → place < chain.operands }
+    ensures { (input : Input) → IsAccepted input
+        → (all : List Op) → AreInstructions input.code.bytes all
+        → (x : ℕ) → Contains all (ops.Chain x)
+        → (chain : Chain) → slice_get input.code.setting.chains x ≡ Some chain
+        → (step : Step) → Contains chain.steps.items step
+        → (place : ℕ) → TakesOperand step place → place < chain.operands }
 {}
 
 /// A cut of operations has a typing by index exactly where the chunk that is assembled of it has one by address; what is

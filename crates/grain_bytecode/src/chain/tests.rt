@@ -94,7 +94,11 @@ fn method(argc: u8, operand: u16) -> Step {
 #[test]
 fn steps_take_operands(rt: HostRuntime) -> Result<(), Fail> {
     let chain = chain(rt.alloc())?;
-    let last: Vec<Option<u32>> = chain.steps.iter().map(Step::last_operand).collect(rt.alloc())?;
+    let last: Vec<Option<u32>> = chain
+        .steps
+        .iter()
+        .map(Step::last_operand)
+        .collect(rt.alloc())?;
     assert_eq!(rt; last.as_slice(), [Some(0), None].as_slice());
     assert_eq!(rt; method(2, 1).last_operand(), Some(2));
     assert_eq!(rt; method(0, 65535).last_operand(), None);
