@@ -1,5 +1,5 @@
 -- What is handed over passes by index exactly where the program that it makes is accepted.
-use Rattle.std.proofs.Common.{◌≡◌, ℕ, ◌+◌, ◌<◌, ◌≤◌, zero, suc, List, [], ◌∷◌, ◌++◌, length, map, Option, Some, None, refl, sym, ap, subst, ◌∙◌, arith}
+use Rattle.std.proofs.Common.{◌≡◌, ℕ, ◌+◌, ◌<◌, ◌≤◌, suc, List, [], ◌∷◌, ◌++◌, length, map, Option, Some, None, refl, sym, ap, subst, ◌∙◌, arith}
 use Rattle.std.specs.Prelude.{option_map, slice_index}
 use Rattle.std.specs.List.{All, AllByRecursion, AllZip}
 use Rattle.std.proofs.lemmas.List.{get_or_default, map-append}
@@ -27,7 +27,7 @@ use Rattle.grain.specs.Build.{AreDeepestByIndex, CanBuild, CanLay, Draft, IsLaid
 use Rattle.grain.specs.ByIndex.{IsCut, LeadWithin, moved}
 use Rattle.grain.specs.Capabilities.{Allows}
 use Rattle.grain.specs.Code.{Bytecode, coded, switch_targets}
-use Rattle.grain.specs.Indices.{Indexed, IsBounded, all_case_constants, all_inner, case_constants, inner_fields}
+use Rattle.grain.specs.Indices.{Indexed, IsPassed, Test, all_case_constants, all_inner, case_constants, cases_of, chain_tests, field_test, field_tests, inner, tests_of}
 use Rattle.grain.specs.Program.{Program, chunks_of, input_of, setting_of}
 use Rattle.grain.specs.Setting.{Setting, case_consts}
 use Rattle.grain.specs.Typing.{HasTyping, IsDeepest}
@@ -36,23 +36,18 @@ use Rattle.grain.proofs.Laying.{All-before_map}
 use Rattle.grain.proofs.Offsets.{offset_count}
 use Rattle.grain.proofs.Transport.{deepest_here, deepest_there, framed_there, typed_here, typed_there}
 
--- mapped targets leave the indices of fields as they are
+-- mapped targets leave the tests of fields as they are, and what is inside what they name
 module _ (s : Setting) (g : ℕ → ℕ) where
-  bounded_moved : (f : Field) → IsBounded s f → IsBounded s (fields.moved g f)
-  bounded_moved (Index pool x) h = h
-  bounded_moved (Slot x) h = h
-  bounded_moved (Count x) h = h
-  bounded_moved (Target t) h = h
+  tests_moved : (fs : List Field) → field_tests s (map (fields.moved g) fs) ≡ field_tests s fs
+  tests_moved [] = refl
+  tests_moved (Index pool x ∷ fs) = ap (λ (rest : List Test). field_test s (Index pool x) ++ rest) (tests_moved fs)
+  tests_moved (Slot x ∷ fs) = tests_moved fs
+  tests_moved (Count x ∷ fs) = tests_moved fs
+  tests_moved (Target t ∷ fs) = tests_moved fs
 
-  bounded_before : (f : Field) → IsBounded s (fields.moved g f) → IsBounded s f
-  bounded_before (Index pool x) h = h
-  bounded_before (Slot x) h = h
-  bounded_before (Count x) h = h
-  bounded_before (Target t) h = h
-
-  inner_moved : (fs : List Field) → all_inner s (map (fields.moved g) fs) ≡ all_inner s fs
+  inner_moved : (fs : List Field) → all_inner (chain_tests s) s (map (fields.moved g) fs) ≡ all_inner (chain_tests s) s fs
   inner_moved [] = refl
-  inner_moved (Index pool x ∷ fs) = ap (λ (rest : List Field). inner_fields s pool x ++ rest) (inner_moved fs)
+  inner_moved (Index pool x ∷ fs) = ap (λ (rest : List Test). inner (chain_tests s) s pool x ++ rest) (inner_moved fs)
   inner_moved (Slot x ∷ fs) = inner_moved fs
   inner_moved (Count x ∷ fs) = inner_moved fs
   inner_moved (Target t ∷ fs) = inner_moved fs
@@ -63,14 +58,6 @@ module _ (s : Setting) (g : ℕ → ℕ) where
   cases_moved (Slot x ∷ fs) = cases_moved fs
   cases_moved (Count x ∷ fs) = cases_moved fs
   cases_moved (Target t ∷ fs) = cases_moved fs
-
-  each_moved : (fs rest : List Field) → AllByRecursion (IsBounded s) (fs ++ rest) → AllByRecursion (IsBounded s) (map (fields.moved g) fs ++ rest)
-  each_moved [] rest h = h
-  each_moved (f ∷ fs) rest h = (bounded_moved f h.0, each_moved fs rest h.1)
-
-  each_before : (fs rest : List Field) → AllByRecursion (IsBounded s) (map (fields.moved g) fs ++ rest) → AllByRecursion (IsBounded s) (fs ++ rest)
-  each_before [] rest h = h
-  each_before (f ∷ fs) rest h = (bounded_before f h.0, each_before fs rest h.1)
 
 -- so an operation's indices pass exactly where they pass once it is assembled
 module _ (s : Setting) (offsets : List ℕ) (op : Op) where
@@ -83,25 +70,24 @@ module _ (s : Setting) (offsets : List ℕ) (op : Op) where
   fields_same : (form (assembled offsets op)).1 ≡ map (fields.moved g) own
   fields_same = ap (λ (p : ℕ × List Field). p.1) (form_canon (retarget g op) ∙ form_retarget g op)
 
+  tests_same : tests_of s (assembled offsets op) ≡ tests_of s op
+  tests_same =
+      ap (λ (fs : List Field). field_tests s fs ++ all_inner (chain_tests s) s fs) fields_same
+      ∙ (λ i. tests_moved s g own i ++ inner_moved s g own i)
+
+  cases_same : cases_of s (assembled offsets op) ≡ cases_of s op
+  cases_same = ap (all_case_constants s) fields_same ∙ cases_moved s g own
+
   indexed_there : Indexed s op → Indexed s (assembled offsets op)
   indexed_there h = record {
-    fields =
-        subst (λ (fs : List Field). AllByRecursion (IsBounded s) (fs ++ all_inner s fs)) (sym fields_same)
-        (subst (λ (rest : List Field). AllByRecursion (IsBounded s) (map (fields.moved g) own ++ rest)) (sym (inner_moved s g own)) (each_moved s g own (all_inner s own) h.fields));
-    cases =
-        subst (λ (fs : List Field). AllByRecursion (λ c. c < s.consts) (all_case_constants s fs)) (sym fields_same)
-        (subst (AllByRecursion (λ c. c < s.consts)) (sym (cases_moved s g own)) h.cases);
+    tests = subst (AllByRecursion IsPassed) (sym tests_same) h.tests;
+    cases = subst (AllByRecursion (λ c. c < s.consts)) (sym cases_same) h.cases;
   }
 
   indexed_here : Indexed s (assembled offsets op) → Indexed s op
   indexed_here h = record {
-    fields =
-        each_before s g own (all_inner s own)
-        (subst (λ (rest : List Field). AllByRecursion (IsBounded s) (map (fields.moved g) own ++ rest)) (inner_moved s g own)
-        (subst (λ (fs : List Field). AllByRecursion (IsBounded s) (fs ++ all_inner s fs)) fields_same h.fields));
-    cases =
-        subst (AllByRecursion (λ c. c < s.consts)) (cases_moved s g own)
-        (subst (λ (fs : List Field). AllByRecursion (λ c. c < s.consts) (all_case_constants s fs)) fields_same h.cases);
+    tests = subst (AllByRecursion IsPassed) tests_same h.tests;
+    cases = subst (AllByRecursion (λ c. c < s.consts)) cases_same h.cases;
   }
 
 -- the constants of the cases don't change with the targets

@@ -31,7 +31,7 @@ indexed_more s code at width op other front stands here too is =
     )
 
 indexed_any : (caps : Caps) (pools : Pools) (op : Op) → Indexed (alone pools) op → Indexed (setting caps pools) op
-indexed_any caps pools op h = record { fields = h.fields; cases = h.cases }
+indexed_any caps pools op h = record { tests = h.tests; cases = h.cases }
 
 -- whatever the capabilities are
 pub code_any : (caps : Caps) (pools : Pools) (code : List ℕ) → AreIndexed (alone pools) code → AreIndexed (setting caps pools) code
@@ -45,7 +45,7 @@ passes_any : (caps : Caps) (pools : Pools) (code : List ℕ) (at : ℕ) → Pass
 passes_any caps pools code at h = record { inside = h.inside; front = code_any caps pools (take at code) h.front }
 
 out_any : (caps : Caps) (pools : Pools) (op : Op) (what : List ℕ) (index : ℕ) → IsOut (alone pools) op what index → IsOut (setting caps pools) op what index
-out_any caps pools op what index (inl h) = inl (record { earlier = h.earlier; bad = h.bad; later = h.later; order = h.order; passed = h.passed; fails = h.fails; named = h.named })
+out_any caps pools op what index (inl h) = inl (record { earlier = h.earlier; bad = h.bad; later = h.later; order = h.order; passed = h.passed; fails = h.fails; what_is = h.what_is; index_is = h.index_is })
 out_any caps pools op what index (inr h) = inr (record { passed = h.passed; case = h.case; fails = h.fails; named = h.named })
 
 pub flaw_any : (caps : Caps) (pools : Pools) (code : List ℕ) (e : VerifyError) → CodeFlaw (alone pools) code e → CodeFlaw (setting caps pools) code e

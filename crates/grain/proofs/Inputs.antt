@@ -19,6 +19,7 @@ use Rattle.grain.specs.Lookups.{AreFound, FindsIndices, IsFound}
 use Rattle.grain.specs.Program.{Program, chunks_of, input_of, setting_of}
 use Rattle.grain.specs.Setting.{case_consts}
 use Rattle.grain.specs.declared.pools.Pools.{Pools}
+use Rattle.grain.proofs.ChainTests.{within_pools}
 
 -- the pools of a program
 pub record ArePools (p : Program) (pools : Pools) : Type 0 where
@@ -75,7 +76,7 @@ each P Q (x ∷ xs) f h (suc k) d l = each P Q xs f h.1 k d (omega arith)
 
 indices_found : (p : Program) (op : Op) → Indexed (setting_of p) op → AreFound p op
 indices_found p op h = record {
-  fields = each (IsBounded (setting_of p)) (IsFound p) (fields_of (setting_of p) op) (bounded_found p) h.fields;
+  fields = each (IsBounded (setting_of p)) (IsFound p) (fields_of (setting_of p) op) (bounded_found p) (within_pools (setting_of p) op h).fields;
   cases = each (λ x. x < length p.consts) (λ x. IsSome (slice_get p.consts x)) (cases_of (setting_of p) op) (finds_there p.consts) h.cases;
 }
 

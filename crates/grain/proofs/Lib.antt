@@ -2,6 +2,7 @@ pub mod Attaching
 pub mod Bodies
 pub mod Bounds
 pub mod Building
+pub mod ChainTests
 pub mod Chunks
 pub mod Declared
 pub mod Drawing

@@ -14,7 +14,7 @@ use Rattle.grain_bytecode.proofs.Splits.{begins_cons, no_front_inside}
 use Rattle.grain.specs.Accepted.{AllowsConst, AreIndexed, ChunkPasses, CodePasses, ConstantPasses, ConstantsPass, FunctionsPass, Input, IsSafe}
 use Rattle.grain.specs.Code.{Bytecode, coded}
 use Rattle.grain.specs.Flaw.{CodeFlaw, Flaw, IsFirstFlaw, ConstantAsks}
-use Rattle.grain.specs.Indices.{Indexed, IsOut, IsBounded, cases_of}
+use Rattle.grain.specs.Indices.{Indexed, IsOut, IsPassed, cases_of}
 use Rattle.grain.specs.Setting.{Setting}
 use Rattle.grain.specs.Typing.{IsDeepest}
 use Rattle.grain.specs.declared.error.VerifyError.{VerifyError}
@@ -61,7 +61,9 @@ in_middle (z ∷ xs) x ys = in_tail z (xs ++ x ∷ ys) x (in_middle xs x ys)
 -- an operation whose indices are in bounds has none out of bounds
 none_out : (s : Setting) (op : Op) (what : List ℕ) (index : ℕ) → Indexed s op → IsOut s op what index → ⊥
 none_out s op what index h (inl o) =
-    o.fails (in_all (IsBounded s) (o.earlier ++ o.bad ∷ o.later) o.bad (subst (AllByRecursion (IsBounded s)) o.order h.fields) (in_middle o.earlier o.bad o.later))
+    let k : o.bad.index < o.bad.bound = in_all IsPassed (o.earlier ++ o.bad ∷ o.later) o.bad (subst (AllByRecursion IsPassed) o.order h.tests) (in_middle o.earlier o.bad o.later) in
+    let g = o.fails in
+    omega arith
 none_out s op what index h (inr o) =
     let k : index < s.consts = in_all (λ c. c < s.consts) (cases_of s op) index h.cases o.case in
     let g = o.fails in

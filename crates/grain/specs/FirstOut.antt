@@ -1,15 +1,15 @@
--- The first of some fields whose index is out of bounds.
-use Rattle.std.specs.Prelude.{◌≡◌, ℕ, List, [], ◌∷◌, Option, Some, None, Result, Ok, Err, cond, nat_lt, map, get_or}
+-- The first of some indices that is out of bounds.
+use Rattle.std.specs.Prelude.{◌≡◌, ℕ, List, [], ◌∷◌, Option, Some, None, Result, Ok, Err, cond, nat_lt, map, get_or, codes}
 use Rattle.grain_bytecode.specs.declared.field.Field.{Field}
-use Rattle.grain_bytecode.specs.declared.field.Field.TheVariants.{Index, Slot, Count, Target}
-use Rattle.grain_bytecode.specs.declared.field.Pool.{Pool}
 use Rattle.grain_bytecode.specs.declared.op.Receiver.{Receiver}
 use Rattle.grain_bytecode.specs.declared.op.Receiver.TheVariants as receiver
 use Rattle.grain_bytecode.specs.InstructionTable.{name}
 use Rattle.grain_bytecode.specs.Dispatch.{first_past}
-use Rattle.grain.specs.Indices.{chain_fields, size}
+use Rattle.grain.specs.Indices.{Test, chain_tests, entry_name}
 use Rattle.grain.specs.Setting.{Setting, case_consts, pools_with}
 use Rattle.grain.specs.declared.indices.BadIndex.{BadIndex}
+use Rattle.grain.specs.declared.indices.Bound.{Bound}
+use Rattle.grain.specs.declared.indices.Bound.TheVariants as bounds
 use Rattle.grain.specs.Passed.{HasPassed}
 use Rattle.grain.specs.declared.pools.Pools.{Pools}
 
@@ -17,13 +17,10 @@ use Rattle.grain.specs.declared.pools.Pools.{Pools}
 abbrev pub alone : Pools → Setting
 alone pools = pools_with 0 pools
 
--- the pool and the index of the first field that is out of bounds
-abbrev pub first_out : Setting → List Field → Option (Pool × ℕ)
-first_out s [] = None
-first_out s (Index pool x ∷ fs) = cond (nat_lt x (size s pool)) (first_out s fs) (Some (pool, x))
-first_out s (Slot x ∷ fs) = first_out s fs
-first_out s (Count x ∷ fs) = first_out s fs
-first_out s (Target x ∷ fs) = first_out s fs
+-- what the first index is called that is out of bounds, and the index
+abbrev pub first_out : List Test → Option (List ℕ × ℕ)
+first_out [] = None
+first_out (t ∷ ts) = cond (nat_lt t.index t.bound) (first_out ts) (Some (t.what, t.index))
 
 -- the name that a receiver has
 abbrev pub receiver_fields : Receiver → List Field
@@ -33,7 +30,7 @@ receiver_fields receiver.This = []
 
 -- the chains that have passed have no index out of bounds
 abbrev pub ChainsPass : Pools → List ℕ → Type 0
-ChainsPass pools passed = (i : ℕ) → HasPassed passed i → first_out (alone pools) (get_or (map chain_fields pools.chains.now) i []) ≡ None
+ChainsPass pools passed = (i : ℕ) → HasPassed passed i → first_out (get_or (map (chain_tests (alone pools)) pools.chains.now) i []) ≡ None
 
 -- the switches that have passed have no case whose constant is out of bounds
 abbrev pub CasesPass : Pools → List ℕ → Type 0
@@ -44,7 +41,12 @@ pub record HavePassed (pools : Pools) (chains switches : List ℕ) : Type 0 wher
   pub chains_pass : ChainsPass pools chains
   pub switches_pass : CasesPass pools switches
 
--- what a refusal names
-abbrev pub refused : {T : Type 0} → Result T BadIndex → Option (Pool × ℕ)
+-- what a refusal calls an index with this bound
+abbrev pub word_of : Bound → List ℕ
+word_of (bounds.Pool pool) = entry_name pool
+word_of bounds.Operands = codes "operand"
+
+-- what a refusal calls the index, and the index
+abbrev pub refused : {T : Type 0} → Result T BadIndex → Option (List ℕ × ℕ)
 refused (Ok x) = None
-refused (Err bad) = Some (bad.pool, bad.index)
+refused (Err bad) = Some (word_of bad.bound, bad.index)

@@ -1,7 +1,8 @@
--- Indices into pools, and their bounds.
+-- Indices into pools and among the operands of chains, and their bounds.
 use Rattle.std.specs.Prelude.{◌≡◌, ⊤, ◌⊎◌, ◌≤◌, ◌<◌, ℕ, List, [], ◌∷◌, ◌++◌, length, map, get_or, codes}
 use Rattle.std.specs.List.{AllByRecursion, Contains, flat_map}
 use Rattle.std.specs.Option.{option_to_list}
+use Rattle.grain_bytecode.specs.Chain.{last_operand}
 use Rattle.grain_bytecode.specs.InstructionTable.{form, name, op_assignment}
 use Rattle.grain_bytecode.specs.declared.op.Op.{Op}
 use Rattle.grain_bytecode.specs.declared.field.Field.{Field}
@@ -39,12 +40,39 @@ entry_name Chains = codes "chain"
 entry_name Switches = codes "switch"
 entry_name SyntaxSites = codes "custom syntax site"
 
--- an index is below the size of its pool
+-- an index into a pool is below its size
 abbrev pub IsBounded : Setting → Field → Type 0
 IsBounded s (Index pool x) = x < size s pool
 IsBounded s (Slot x) = ⊤
 IsBounded s (Count x) = ⊤
 IsBounded s (Target x) = ⊤
+
+-- an index that is tested: what a refusal calls it, and the number that it has to be below
+pub record Test : Type 0 where
+  pub what : List ℕ
+  pub index : ℕ
+  pub bound : ℕ
+
+abbrev pub IsPassed : Test → Type 0
+IsPassed t = t.index < t.bound
+
+-- the test of a field: an index has one, against the size of its pool
+abbrev pub field_test : Setting → Field → List Test
+field_test s (Index pool x) = record { what = entry_name pool; index = x; bound = size s pool } ∷ []
+field_test s (Slot x) = []
+field_test s (Count x) = []
+field_test s (Target x) = []
+
+abbrev pub field_tests : Setting → List Field → List Test
+field_tests s fs = flat_map (field_test s) fs
+
+-- the test of a place among so many operands
+abbrev pub operand_test : ℕ → ℕ → Test
+operand_test operands place = record { what = codes "operand"; index = place; bound = operands }
+
+-- the test of the last place at which a step takes an operand, if it takes any
+abbrev pub operand_tests : ℕ → Step → List Test
+operand_tests operands step = map (operand_test operands) (option_to_list (last_operand step))
 
 abbrev pub root_fields : Root → List Field
 root_fields (roots.Local slot n) = name n ∷ []
@@ -65,28 +93,43 @@ tail_fields (tails.Assign op) = map op_assignment (option_to_list op)
 abbrev pub chain_fields : Chain → List Field
 chain_fields c = root_fields c.root ++ flat_map step_fields c.steps.items ++ tail_fields c.tail
 
--- the indices inside what an index names, those of cases apart: a chain has some; past the chains there are none
-abbrev pub inner_fields : Setting → Pool → ℕ → List Field
-inner_fields s Constants x = []
-inner_fields s Names x = []
-inner_fields s Operators x = []
-inner_fields s OpAssignments x = []
-inner_fields s Fragments x = []
-inner_fields s Chains x = get_or (map chain_fields s.chains) x []
-inner_fields s Switches x = []
-inner_fields s SyntaxSites x = []
+-- the tests of a step of a chain with so many operands: those of its fields, and then that of its last operand
+abbrev pub step_tests : Setting → ℕ → Step → List Test
+step_tests s operands step = field_tests s (step_fields step) ++ operand_tests operands step
 
--- those inside what some fields name, in order
-abbrev pub all_inner : Setting → List Field → List Field
-all_inner s [] = []
-all_inner s (Index pool x ∷ fs) = inner_fields s pool x ++ all_inner s fs
-all_inner s (Slot x ∷ fs) = all_inner s fs
-all_inner s (Count x ∷ fs) = all_inner s fs
-all_inner s (Target x ∷ fs) = all_inner s fs
+-- the tests inside a chain, in order
+abbrev pub chain_tests : Setting → Chain → List Test
+chain_tests s c =
+    field_tests s (root_fields c.root)
+    ++ flat_map (step_tests s c.operands) c.steps.items
+    ++ field_tests s (tail_fields c.tail)
 
--- the fields of an operation in the order in which they are tested: its own, and then those inside
+-- what is inside what an index names, where this is inside a chain: a chain has some; past the chains there is none
+abbrev pub inner : {X : Type 0} → (Chain → List X) → Setting → Pool → ℕ → List X
+inner f s Constants x = []
+inner f s Names x = []
+inner f s Operators x = []
+inner f s OpAssignments x = []
+inner f s Fragments x = []
+inner f s Chains x = get_or (map f s.chains) x []
+inner f s Switches x = []
+inner f s SyntaxSites x = []
+
+-- the same of what some fields name, in order
+abbrev pub all_inner : {X : Type 0} → (Chain → List X) → Setting → List Field → List X
+all_inner f s [] = []
+all_inner f s (Index pool x ∷ fs) = inner f s pool x ++ all_inner f s fs
+all_inner f s (Slot x ∷ fs) = all_inner f s fs
+all_inner f s (Count x ∷ fs) = all_inner f s fs
+all_inner f s (Target x ∷ fs) = all_inner f s fs
+
+-- the fields of an operation: its own, and then those inside its chain
 abbrev pub fields_of : Setting → Op → List Field
-fields_of s op = (form op).1 ++ all_inner s (form op).1
+fields_of s op = (form op).1 ++ all_inner chain_fields s (form op).1
+
+-- the tests of an operation in order: those of its own fields, and then those inside its chain
+abbrev pub tests_of : Setting → Op → List Test
+tests_of s op = field_tests s (form op).1 ++ all_inner (chain_tests s) s (form op).1
 
 -- the constants of the cases of what an index names: a switch has some; past the switches there are none
 abbrev pub case_constants : Setting → Pool → ℕ → List ℕ
@@ -111,29 +154,30 @@ all_case_constants s (Target x ∷ fs) = all_case_constants s fs
 abbrev pub cases_of : Setting → Op → List ℕ
 cases_of s op = all_case_constants s (form op).1
 
--- every index of the operation, inside chains and switches too, is below its bound
-pub record Indexed (s : Setting) (op : Op) : Type 0 where
+-- every index of the operation into a pool, inside chains and switches too, is below the size of the pool
+pub record IsWithinPools (s : Setting) (op : Op) : Type 0 where
   pub fields : AllByRecursion (IsBounded s) (fields_of s op)
   pub cases : AllByRecursion (λ c. c < s.consts) (cases_of s op)
 
--- what a field is called, and its index
-abbrev pub IsField : List ℕ → ℕ → Field → Type 0
-IsField what index (Index pool x) = (what ≡ entry_name pool) × (index ≡ x)
-IsField what index field = ⊥
+-- every index of the operation, inside chains and switches too, is below its bound
+pub record Indexed (s : Setting) (op : Op) : Type 0 where
+  pub tests : AllByRecursion IsPassed (tests_of s op)
+  pub cases : AllByRecursion (λ c. c < s.consts) (cases_of s op)
 
--- the first field that is out of bounds is called so and has this index
+-- the first test that isn't passed is of this index, which is called so
 pub record IsFirstOut (s : Setting) (op : Op) (what : List ℕ) (index : ℕ) : Type 0 where
-  pub earlier : List Field
-  pub bad : Field
-  pub later : List Field
-  pub order : fields_of s op ≡ earlier ++ bad ∷ later
-  pub passed : AllByRecursion (IsBounded s) earlier
-  pub fails : IsBounded s bad → ⊥
-  pub named : IsField what index bad
+  pub earlier : List Test
+  pub bad : Test
+  pub later : List Test
+  pub order : tests_of s op ≡ earlier ++ bad ∷ later
+  pub passed : AllByRecursion IsPassed earlier
+  pub fails : bad.bound ≤ bad.index
+  pub what_is : what ≡ bad.what
+  pub index_is : index ≡ bad.index
 
--- all fields are in bounds, and a case's constant isn't
+-- all tests are passed, and a case's constant is out of bounds
 pub record IsCaseOut (s : Setting) (op : Op) (what : List ℕ) (index : ℕ) : Type 0 where
-  pub passed : AllByRecursion (IsBounded s) (fields_of s op)
+  pub passed : AllByRecursion IsPassed (tests_of s op)
   pub case : Contains (cases_of s op) index
   pub fails : s.consts ≤ index
   pub named : what ≡ entry_name Constants

@@ -92,13 +92,13 @@ pub enum VerifyError {
         /// The instruction that needs one.
         at: usize,
     },
-    /// An index is at or above the size of its pool.
+    /// An index is at or above the size of its pool, or a step takes an operand that its chain doesn't take.
     BadIndex {
         /// The instruction that has the index, or names the chain or the switch that has it.
         at: usize,
-        /// What the index names, as `constant` or `name`.
+        /// What the index names, as `constant`, `name` or `operand`.
         what: &'static str,
-        /// The index.
+        /// The index; of a step's operands, that of the last.
         index: u32,
     },
     /// A growth was refused.

@@ -1,5 +1,5 @@
-//! Indices into pools.
-ghost use Rattle.std.specs.Prelude.{◌≡◌, [], ◌∷◌, ◌+◌, ◌<◌, ◌≤◌, IfErr, IfOk, IsTrue, OnOk, ℕ, get_or, length, map, take};
+//! Indices into pools and among the operands of chains.
+ghost use Rattle.std.specs.Prelude.{◌≡◌, [], ◌∷◌, ◌++◌, ◌+◌, ◌<◌, ◌≤◌, IfErr, IfOk, IsTrue, OnOk, ℕ, get_or, length, map, take};
 ghost use Rattle.std.specs.Option.{option_to_list};
 ghost use Rattle.std.specs.List.{flat_map};
 ghost use Rattle.grain_bytecode.specs.InstructionTable.{form};
@@ -11,8 +11,8 @@ ghost use Rattle.grain_bytecode.specs.declared.field.Pool.{Pool};
 ghost use Rattle.grain.specs.Accepted.{AreIndexed};
 ghost use Rattle.grain.specs.Flaw.{CodeFlaw};
 ghost use Rattle.grain.specs.FirstOut.{CasesPass, ChainsPass, HavePassed, alone, first_out};
-ghost use Rattle.grain.specs.FirstOut.{receiver_fields, refused};
-ghost use Rattle.grain.specs.Indices.{Indexed, IsOut, cases_of, chain_fields, fields_of, entry_name, root_fields, size, step_fields, tail_fields};
+ghost use Rattle.grain.specs.FirstOut.{receiver_fields, refused, word_of};
+ghost use Rattle.grain.specs.Indices.{Indexed, IsOut, cases_of, chain_tests, entry_name, field_tests, operand_tests, root_fields, size, step_fields, step_tests, tail_fields, tests_of};
 ghost use Rattle.grain.specs.Setting.{Setting, case_consts, setting};
 
 use crate::error::VerifyError;
@@ -22,10 +22,19 @@ use grain_base::Dynamic;
 use grain_bytecode::{Chain, Op, Pool, Receiver, Root, Step, Switch, Tail, decode, tag, width};
 use std::collections::HashMap;
 
-/// An index that is at or above the size of its pool.
+/// What an index has to be below.
+#[derive(Clone, Copy)]
+pub(crate) enum Bound {
+    /// The size of the pool that it goes into.
+    Pool(Pool),
+    /// The operands of the chain whose step it is in.
+    Operands,
+}
+
+/// An index that is out of bounds.
 #[derive(Clone, Copy)]
 pub(crate) struct BadIndex {
-    pub(crate) pool: Pool,
+    pub(crate) bound: Bound,
     pub(crate) index: u32,
 }
 
@@ -42,6 +51,16 @@ fn entry_name(pool: Pool) -> &'static str
         Pool::Chains => "chain",
         Pool::Switches => "switch",
         Pool::SyntaxSites => "custom syntax site",
+    }
+}
+
+/// What a refusal calls an index with this bound.
+fn word_of(bound: Bound) -> &'static str
+    ensures { result.now ≡ word_of bound }
+{
+    match bound {
+        Bound::Pool(pool) => entry_name(pool),
+        Bound::Operands => "operand",
     }
 }
 
@@ -63,19 +82,23 @@ fn size_of(pools: &Pools<'_>, pool: Pool) -> usize
 
 /// Tests an index against the size of its pool.
 fn check(pools: &Pools<'_>, pool: Pool, index: u32) -> Result<(), BadIndex>
-    ensures { refused result ≡ first_out (alone pools.now) (Index pool index ∷ []) }
+    ensures { refused result
+        ≡ first_out (field_tests (alone pools.now) (Index pool index ∷ [])) }
 {
     if (index as usize) < size_of(pools, pool) {
         Ok(())
     } else {
-        Err(BadIndex { pool, index })
+        Err(BadIndex {
+            bound: Bound::Pool(pool),
+            index,
+        })
     }
 }
 
 /// Tests an index where there is one.
 fn check_some(pools: &Pools<'_>, pool: Pool, index: Option<u32>) -> Result<(), BadIndex>
-    ensures { refused result ≡ first_out (alone pools.now)
-        (map (Index pool) (option_to_list index)) }
+    ensures { refused result ≡ first_out (field_tests (alone pools.now)
+        (map (Index pool) (option_to_list index))) }
 {
     match index {
         Some(index) => check(pools, pool, index),
@@ -84,7 +107,7 @@ fn check_some(pools: &Pools<'_>, pool: Pool, index: Option<u32>) -> Result<(), B
 }
 
 fn check_root(pools: &Pools<'_>, root: &Root) -> Result<(), BadIndex>
-    ensures { refused result ≡ first_out (alone pools.now) (root_fields root.now) }
+    ensures { refused result ≡ first_out (field_tests (alone pools.now) (root_fields root.now)) }
 {
     match root {
         Root::Local { name, .. } | Root::Named { name, .. } => check(pools, Pool::Names, *name),
@@ -92,8 +115,8 @@ fn check_root(pools: &Pools<'_>, root: &Root) -> Result<(), BadIndex>
     }
 }
 
-fn check_step(pools: &Pools<'_>, step: &Step) -> Result<(), BadIndex>
-    ensures { refused result ≡ first_out (alone pools.now) (step_fields step.now) }
+fn check_step_names(pools: &Pools<'_>, step: &Step) -> Result<(), BadIndex>
+    ensures { refused result ≡ first_out (field_tests (alone pools.now) (step_fields step.now)) }
 {
     match step {
         Step::Index { .. } => Ok(()),
@@ -111,17 +134,43 @@ fn check_step(pools: &Pools<'_>, step: &Step) -> Result<(), BadIndex>
     }
 }
 
-fn check_steps(pools: &Pools<'_>, steps: &[Step]) -> Result<(), BadIndex>
-    ensures { refused result ≡ first_out (alone pools.now) (flat_map step_fields steps.now) }
+/// Tests the last operand of a step, where there is one, against the operands of its chain.
+fn check_last_operand(operands: u16, step: &Step) -> Result<(), BadIndex>
+    ensures { refused result ≡ first_out (operand_tests operands step.now) }
+{
+    let Some(index) = step.last_operand() else {
+        return Ok(());
+    };
+    if index < u32::from(operands) {
+        Ok(())
+    } else {
+        Err(BadIndex {
+            bound: Bound::Operands,
+            index,
+        })
+    }
+}
+
+/// Tests the names of a step, and then its last operand.
+fn check_step(pools: &Pools<'_>, operands: u16, step: &Step) -> Result<(), BadIndex>
+    ensures { refused result ≡ first_out (step_tests (alone pools.now) operands step.now) }
+{
+    check_step_names(pools, step)?;
+    check_last_operand(operands, step)
+}
+
+fn check_steps(pools: &Pools<'_>, operands: u16, steps: &[Step]) -> Result<(), BadIndex>
+    ensures { refused result
+        ≡ first_out (flat_map (step_tests (alone pools.now) operands) steps.now) }
 {
     for step in steps {
-        check_step(pools, step)?;
+        check_step(pools, operands, step)?;
     }
     Ok(())
 }
 
 fn check_tail(pools: &Pools<'_>, tail: &Tail) -> Result<(), BadIndex>
-    ensures { refused result ≡ first_out (alone pools.now) (tail_fields tail.now) }
+    ensures { refused result ≡ first_out (field_tests (alone pools.now) (tail_fields tail.now)) }
 {
     match tail {
         Tail::Read => Ok(()),
@@ -129,13 +178,13 @@ fn check_tail(pools: &Pools<'_>, tail: &Tail) -> Result<(), BadIndex>
     }
 }
 
-/// Tests the indices inside a chain: those of its root, of its steps in order, and of its tail.
+/// Tests the indices inside a chain: that of its root, those of its steps in order, and that of its tail.
 #[tactic(auto, using(crate::proofs::Bounds::out_append))]
 fn check_chain(pools: &Pools<'_>, chain: &Chain) -> Result<(), BadIndex>
-    ensures { refused result ≡ first_out (alone pools.now) (chain_fields chain.now) }
+    ensures { refused result ≡ first_out (chain_tests (alone pools.now) chain.now) }
 {
     check_root(pools, &chain.root)?;
-    check_steps(pools, &chain.steps)?;
+    check_steps(pools, chain.operands, &chain.steps)?;
     check_tail(pools, &chain.tail)
 }
 
@@ -144,12 +193,13 @@ fn check_chain(pools: &Pools<'_>, chain: &Chain) -> Result<(), BadIndex>
 fn check_chain_at(pools: &Pools<'_>, passed: &mut [u64], index: u32) -> Result<(), BadIndex>
     requires { ChainsPass pools.now passed.old }
     ensures passed { ChainsPass pools.now passed.new }
-    ensures refused { refused result ≡ first_out (alone pools.now)
-        (Index Pool.Chains index ∷ get_or (map chain_fields pools.now.chains.now) index []) }
+    ensures refused { refused result
+        ≡ first_out (field_tests (alone pools.now) (Index Pool.Chains index ∷ [])
+        ++ get_or (map (chain_tests (alone pools.now)) pools.now.chains.now) index []) }
 {
     let Some(chain) = pools.chains.get(index as usize) else {
         return Err(BadIndex {
-            pool: Pool::Chains,
+            bound: Bound::Pool(Pool::Chains),
             index,
         });
     };
@@ -162,7 +212,7 @@ fn check_chain_at(pools: &Pools<'_>, passed: &mut [u64], index: u32) -> Result<(
 
 /// Tests the name of a receiver that has one.
 fn check_receiver(pools: &Pools<'_>, receiver: Receiver) -> Result<(), BadIndex>
-    ensures { refused result ≡ first_out (alone pools.now) (receiver_fields receiver) }
+    ensures { refused result ≡ first_out (field_tests (alone pools.now) (receiver_fields receiver)) }
 {
     match receiver {
         Receiver::Named(name) => check(pools, Pool::Names, name),
@@ -174,8 +224,7 @@ fn check_receiver(pools: &Pools<'_>, receiver: Receiver) -> Result<(), BadIndex>
 fn check_fields(pools: &Pools<'_>, passed: &mut [u64], op: &Op) -> Result<(), BadIndex>
     requires { ChainsPass pools.now passed.old }
     ensures passed { ChainsPass pools.now passed.new }
-    ensures refused { refused result
-        ≡ first_out (alone pools.now) (fields_of (alone pools.now) op.now) }
+    ensures refused { refused result ≡ first_out (tests_of (alone pools.now) op.now) }
 {
     match op {
         Op::Const(constant) => check(pools, Pool::Constants, *constant),
@@ -306,7 +355,7 @@ fn bad_constant_of(pools: &Pools<'_>, passed: &mut [u64], op: &Op) -> Option<u32
 }
 
 /// Tests every index of an operation: its own, those inside the chain that it names, and those of the cases of its switch.
-#[tactic(auto, using(crate::proofs::Bounds::indexed, crate::proofs::Bounds::field_out, crate::proofs::Bounds::case_out))]
+#[tactic(auto, using(crate::proofs::Bounds::indexed, crate::proofs::Bounds::index_out, crate::proofs::Bounds::case_out))]
 fn check_op<const N: usize>(
     pools: &Pools<'_>,
     passed: &mut Passed<N>,
@@ -316,12 +365,12 @@ fn check_op<const N: usize>(
     ensures passed { HavePassed pools.now passed.new.chains passed.new.switches }
     ensures ok { OnOk result (Indexed (alone pools.now) op.now) }
     ensures err { IfErr result
-        (λ bad. IsOut (alone pools.now) op.now (entry_name bad.pool) bad.index) }
+        (λ bad. IsOut (alone pools.now) op.now (word_of bad.bound) bad.index) }
 {
     check_fields(pools, &mut passed.chains, op)?;
     match bad_constant_of(pools, &mut passed.switches, op) {
         Some(index) => Err(BadIndex {
-            pool: Pool::Constants,
+            bound: Bound::Pool(Pool::Constants),
             index,
         }),
         None => Ok(()),
@@ -412,7 +461,7 @@ fn check_at<const N: usize>(
         Ok(()) => Ok(at + width),
         Err(bad) => Err(VerifyError::BadIndex {
             at,
-            what: entry_name(bad.pool),
+            what: word_of(bad.bound),
             index: bad.index,
         }),
     }
@@ -469,3 +518,6 @@ pub(crate) fn check_code(pools: &Pools<'_>, code: &[u8]) -> Result<(), VerifyErr
         check_instructions(pools, &mut Passed::<WORDS>::new(), code)
     }
 }
+
+#[cfg(test)]
+mod tests;

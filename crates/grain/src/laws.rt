@@ -1,19 +1,24 @@
 //! Laws of the definitions that contracts cite.
 //!
 //! Each function does nothing: its contract is the law.
-ghost use Rattle.std.specs.Prelude.{◌≡◌, ◌≤◌, ◌↔◌, ◌⊎◌, ℕ, List, [], Option, Some, get_or, length, slice_index};
+ghost use Rattle.std.specs.Prelude.{◌≡◌, ◌<◌, ◌≤◌, ◌↔◌, ◌⊎◌, ℕ, List, [], Option, Some, get_or, length, slice_get, slice_index};
+ghost use Rattle.std.specs.List.{Contains};
 ghost use Rattle.grain_base.specs.Content.{Content};
 ghost use Rattle.grain_bytecode.specs.Assembly.{CanAssemble, IsAssembly};
+ghost use Rattle.grain_bytecode.specs.Chain.{TakesOperand};
 ghost use Rattle.grain_bytecode.specs.Dispatch.{Arms, dispatched, targets};
 ghost use Rattle.grain_bytecode.specs.Span.{Span, body};
 ghost use Rattle.grain_bytecode.specs.Split.{AreInstructions};
+ghost use Rattle.grain_bytecode.specs.declared.chain.Chain.{Chain};
+ghost use Rattle.grain_bytecode.specs.declared.chain.Step.{Step};
 ghost use Rattle.grain_bytecode.specs.declared.op.Op.{Op};
-ghost use Rattle.grain_bytecode.specs.declared.op.Op.TheVariants.{Switch};
+ghost use Rattle.grain_bytecode.specs.declared.op.Op.TheVariants as ops;
 ghost use Rattle.grain.specs.Code.{Bytecode, Code, coded};
-ghost use Rattle.grain.specs.Accepted.{ChunkPasses};
+ghost use Rattle.grain.specs.Accepted.{ChunkPasses, Input, IsAccepted};
 ghost use Rattle.grain.specs.ByIndex.{IsCut, LeadWithin, listed, moved, placed};
 ghost use Rattle.grain.specs.Counts.{Counts};
 ghost use Rattle.grain.specs.Effects.{Edge, after_jump};
+ghost use Rattle.grain.specs.Indices.{Indexed, IsWithinPools};
 ghost use Rattle.grain.specs.Machine.{Catches, Finds, IsKept, IsOnKeptRun, Machine, counts};
 ghost use Rattle.grain.specs.EdgeSteps.{IsArmed, IsEdgeCatch, IsEdgeStep, armed_counts};
 ghost use Rattle.grain.specs.Setting.{Setting};
@@ -68,10 +73,27 @@ pub fn switches_lead_inside()
     ensures { (code : Bytecode) (chunk : Span) (m : ℕ) (typing : ℕ → Option Counts)
         → IsTyping (coded code) chunk m typing
         → (x : Machine) → IsOnKeptRun (coded code) chunk x
-        → (w : ℕ) → Finds (coded code) chunk x (Switch w)
+        → (w : ℕ) → Finds (coded code) chunk x (ops.Switch w)
         → (arms : Arms) (subject : Content) → get_or code.switches w [] ≡ targets arms
         → IsInChunk (coded code) chunk (dispatched arms subject)
         × ((c : Counts) × (typing (dispatched arms subject) ≡ Some c)) }
+{}
+
+/// Where all indices of an operation are in bounds, those into pools are. So the rule that steps stay within the operands
+/// of their chain only refuses more.
+pub fn indices_in_bounds_lie_in_pools()
+    ensures { (s : Setting) (op : Op) → Indexed s op → IsWithinPools s op }
+{}
+
+/// Each place at which a step takes an operand, in a chain that an instruction of an accepted program names, is below the
+/// chain's `operands`.
+pub fn steps_stay_within_operands()
+    ensures { (input : Input) → IsAccepted input
+        → (all : List Op) → AreInstructions input.code.bytes all
+        → (x : ℕ) → Contains all (ops.Chain x)
+        → (chain : Chain) → slice_get input.code.setting.chains x ≡ Some chain
+        → (step : Step) → Contains chain.steps.items step
+        → (place : ℕ) → TakesOperand step place → place < chain.operands }
 {}
 
 /// A cut of operations has a typing by index exactly where the chunk that is assembled of it has one by address; what is

@@ -16,6 +16,7 @@ pub mod Fronts
 pub mod Growing
 pub mod Instructions
 pub mod KnownFlags
+pub mod LastOperands
 pub mod Left
 pub mod Missing
 pub mod Past

@@ -1,5 +1,5 @@
--- The positions of a chain, and what it takes off the stack.
-use Rattle.std.specs.Prelude.{ℕ, ◌+◌, ◌<◌, ◌^◌, Bool, true, false, List, [], ◌∷◌, ◌++◌, Option, Some, None, cond, length, map, nat_lt, take}
+-- The positions of a chain, and what it and its steps take off the stack.
+use Rattle.std.specs.Prelude.{◌≡◌, ℕ, ◌+◌, ◌-◌, ◌<◌, ◌≤◌, ◌^◌, Bool, true, false, List, [], ◌∷◌, ◌++◌, Option, Some, None, cond, length, map, nat_lt, take}
 use Rattle.std.specs.List.{flat_map}
 use Rattle.grain_base.specs.declared.position.Position.{Position}
 use Rattle.grain_bytecode.specs.declared.chain.Chain.{Chain}
@@ -52,6 +52,18 @@ roots_on_stack Temporary = true
 -- how many values a chain takes off the operand stack
 abbrev pub consumed : Chain → ℕ
 consumed c = c.operands + cond (roots_on_stack c.root) 1 0 + cond (assigns c.tail) 1 0
+
+-- a step takes the operand at this place among those of its chain: an index one, a method one for each argument
+abbrev pub TakesOperand : Step → ℕ → Type 0
+TakesOperand (Index operand flags pos bracket) place = place ≡ operand
+TakesOperand (Property name getter setter flags pos) place = ⊥
+TakesOperand (Method name argc operand flags pos) place = (operand ≤ place) × (place < operand + argc)
+
+-- the last place at which a step takes an operand, if it takes any
+abbrev pub last_operand : Step → Option ℕ
+last_operand (Index operand flags pos bracket) = Some operand
+last_operand (Property name getter setter flags pos) = None
+last_operand (Method name argc operand flags pos) = cond (nat_lt 0 argc) (Some (operand + argc - 1)) None
 
 -- what a root, a step and a chain are, their positions apart: with this position in place of each
 abbrev pub root_shape : Position → Root → Root

@@ -4,7 +4,7 @@
 //! where it has one, and then step by step: of an index its own and that of the bracket, of any other step its own. Each
 //! of them is a slot, counted from 0.
 ghost use Rattle.std.specs.Prelude.{◌≡◌, ◌<◌, ◌≤◌, ◌^◌, ◌∷◌, [], ◌↔◌, IsTrue, IfSome, length, map, slice_set, sum_by};
-ghost use Rattle.grain_bytecode.specs.Chain.{SlotsFit, assigns, consumed, positions, root_positions, root_shape, roots_on_stack, shape, step_positions, step_shape, step_slot, steps_positions};
+ghost use Rattle.grain_bytecode.specs.Chain.{SlotsFit, assigns, consumed, last_operand, positions, root_positions, root_shape, roots_on_stack, shape, step_positions, step_shape, step_slot, steps_positions};
 ghost use Rattle.grain_bytecode.specs.ChainPositions.{positions_left};
 
 use bitflags::{Flag, Flags};
@@ -100,6 +100,24 @@ impl Step {
         match self {
             Step::Index { .. } => 2,
             Step::Property { .. } | Step::Method { .. } => 1,
+        }
+    }
+
+    /// The last place at which the step takes an operand, among those of its chain: an index's own, and a method's last
+    /// argument's. `None` where it takes none.
+    ///
+    /// In a program that verifies it is below [`Chain::operands`].
+    #[must_use]
+    pub fn last_operand(&self) -> Option<u32>
+        ensures { result ≡ last_operand self.now }
+    {
+        match self {
+            Step::Index { operand, .. } => Some(u32::from(*operand)),
+            Step::Property { .. } => None,
+            Step::Method { argc, operand, .. } => {
+                let further = argc.checked_sub(1)?;
+                Some(u32::from(*operand) + u32::from(further))
+            }
         }
     }
 

@@ -9,6 +9,7 @@ ghost use Rattle.std.specs.Str.{is_utf8};
 ghost use Rattle.bitflags.specs.Sets.{known_bits};
 ghost use Rattle.grain_base.specs.Content.{Content};
 ghost use Rattle.grain_base.specs.declared.pos.Site.{Site};
+ghost use Rattle.grain_bytecode.specs.Chain.{TakesOperand, last_operand};
 ghost use Rattle.grain_bytecode.specs.ChainStream.{Stream};
 ghost use Rattle.grain_bytecode.specs.Dispatch.{Fits, Arms, dispatched, resolved, targets};
 ghost use Rattle.grain_bytecode.specs.Names.{first_flaw, names_in, starts_of};
@@ -19,6 +20,7 @@ ghost use Rattle.grain_bytecode.specs.InstructionTable.{Instr, canon};
 ghost use Rattle.grain_bytecode.specs.Split.{Split, IsBoundary, FrontEnds};
 ghost use Rattle.grain_bytecode.specs.Disassembly.{IsDisassembly};
 ghost use Rattle.grain_bytecode.specs.Assembly.{IsAssembly, CanAssemble, with_indices};
+ghost use Rattle.grain_bytecode.specs.declared.chain.Step.{Step};
 ghost use Rattle.grain_bytecode.specs.declared.op.Op.{Op};
 
 /// The canonical form of a canonical form is that form, and each instruction is its own canonical form.
@@ -87,6 +89,14 @@ pub fn dispatch_follows_its_offsets()
     ensures { (offsets : List ℕ) (t : Arms) (subject : Content) → Fits (length offsets) t
         → slice_get offsets (dispatched t subject)
         ≡ Some (dispatched (resolved offsets t) subject) }
+{}
+
+/// The last operand of a step is the last place at which it takes one; where there is none, it takes none.
+pub fn last_operand_is_the_last()
+    ensures last { (step : Step) (last : ℕ) → last_operand step ≡ Some last
+        → TakesOperand step last × ((place : ℕ) → TakesOperand step place → place ≤ last) }
+    ensures none { (step : Step) → last_operand step ≡ None
+        → (place : ℕ) → TakesOperand step place → ⊥ }
 {}
 
 /// The flag of a step has the lowest bit: a number is a set of flags exactly where it is below 2.

@@ -81,6 +81,31 @@ fn chains_take_operands(rt: HostRuntime) -> Result<(), Fail> {
     Ok(())
 }
 
+fn method(argc: u8, operand: u16) -> Step {
+    Step::Method {
+        name: 0,
+        argc,
+        operand,
+        flags: StepFlags::empty(),
+        pos: Position::NONE,
+    }
+}
+
+#[test]
+fn steps_take_operands(rt: HostRuntime) -> Result<(), Fail> {
+    let chain = chain(rt.alloc())?;
+    let last: Vec<Option<u32>> = chain
+        .steps
+        .iter()
+        .map(Step::last_operand)
+        .collect(rt.alloc())?;
+    assert_eq!(rt; last.as_slice(), [Some(0), None].as_slice());
+    assert_eq!(rt; method(2, 1).last_operand(), Some(2));
+    assert_eq!(rt; method(0, 65535).last_operand(), None);
+    assert_eq!(rt; method(255, 65535).last_operand(), Some(65789));
+    Ok(())
+}
+
 #[test]
 fn flags_are_sets_of_bits(rt: HostRuntime) -> Result<(), Fail> {
     let skip = StepFlags::SKIP_IF_UNIT;
