@@ -27,6 +27,8 @@ mod sidecar;
 mod slots;
 mod start_marks;
 mod state;
+#[cfg(test)]
+mod tests;
 mod tighten;
 mod verifier;
 mod visited;
