@@ -42,7 +42,7 @@ pub struct Parts {
 /// A compiled script, as a host keeps it. Nothing says that it passes [`Program::verify`].
 ///
 /// Contracts see a record of what it has. Its allocator and the room that its lists keep are no part of that. A call that
-/// makes one, or tells what it has, takes constant time, unless its own text says more.
+/// makes one, tells what it has or finds something by an index takes constant time, unless its own text says more.
 #[derive(Drop)]
 pub struct Program {
     pub(crate) alloc: Global,
