@@ -201,7 +201,7 @@ fn lay(
 /// the program, whose targets are addresses, and the greatest operand count that any run of each cut reaches. All that
 /// decides, and the numbers, are said of the operations by index alone.
 ///
-/// Costs one assembly and one verification.
+/// It costs one assembly and one verification, and goes over the cuts, the heads and the switches a few times.
 ///
 /// # Errors
 /// Tested in this order: `BadCut` with the first cut that runs backwards or past the operations; `Assemble` as

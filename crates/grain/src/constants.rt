@@ -13,7 +13,8 @@ use std::collections::BTreeMap;
 
 /// The capabilities that a constant asks, those of its parts among them (docs/FORMAT.md, "Capabilities").
 ///
-/// `None` for a value that can't be said to be a constant: one that is shared or the host's, or has such a part.
+/// `None` for a value that can't be said to be a constant: one that is shared or the host's, or has such a part. It looks at
+/// each value in it once at most, and takes no memory but the call stack, by the depth.
 #[must_use]
 #[cycle(caps)]
 pub fn constant_caps(value: &Dynamic) -> Option<Caps>

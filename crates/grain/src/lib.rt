@@ -28,6 +28,8 @@ mod slots;
 mod state;
 mod states;
 mod tag_effects;
+#[cfg(test)]
+mod tests;
 mod tighten;
 mod verifier;
 mod walk;

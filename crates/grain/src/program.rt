@@ -41,7 +41,8 @@ pub struct Parts {
 
 /// A compiled script, as a host keeps it. Nothing says that it passes [`Program::verify`].
 ///
-/// Contracts see a record of what it has. Its allocator and the room that its lists keep are no part of that.
+/// Contracts see a record of what it has. Its allocator and the room that its lists keep are no part of that. A call that
+/// makes one, tells what it has or finds something by an index takes constant time, unless its own text says more.
 #[derive(Drop)]
 pub struct Program {
     pub(crate) alloc: Global,
@@ -129,7 +130,7 @@ impl Program {
         allows(self.caps, Caps::FN_PTR)
     }
 
-    /// The most operands that the main chunk or a function declares.
+    /// The most operands that the main chunk or a function declares. It takes time by the number of functions.
     pub fn max_stack(&self) -> u16
         ensures { IsGreatest (declared_by self.now) result }
     {

@@ -28,7 +28,7 @@ pub struct Sidecar {
 }
 
 impl Program {
-    /// Writes the positions of the program, which keeps them.
+    /// Writes the positions of the program, which keeps them, as [`Positions::to_table`] and [`sites::encode`] do.
     ///
     /// # Errors
     /// `AddressTooWide` where a position that has a line stands above 4294967295, and `OutOfMemory` where there is no memory
@@ -47,7 +47,8 @@ impl Program {
         })
     }
 
-    /// Writes the positions of the program, and takes them off it.
+    /// Writes the positions of the program, and takes them off it. It costs as much as [`Program::sidecar`], and goes over
+    /// the chains once more.
     ///
     /// # Errors
     /// As [`Program::sidecar`], the program being unchanged.
@@ -66,7 +67,8 @@ impl Program {
         Ok(sidecar)
     }
 
-    /// Gives the program the positions of a sidecar.
+    /// Gives the program the positions of a sidecar. It goes over the sidecar, the code and the chains a few times, and takes
+    /// memory for the positions and the sites.
     ///
     /// # Errors
     /// The first test that fails, by its name: `WrongProgram` where the sidecar is of another program; `Malformed` and

@@ -15,7 +15,7 @@ use std::alloc::AllocError;
 
 impl Program {
     /// The greatest operand count that any run of each chunk reaches, the main chunk before those of the functions, or why
-    /// the program is refused.
+    /// the program is refused. It costs as much as [`verify`](crate::verify) of what the program has.
     ///
     /// # Errors
     /// As [`verify`](crate::verify) of what the program has. `OutOfMemory` may come before any test.
@@ -39,7 +39,7 @@ impl Program {
         )
     }
 
-    /// Has each chunk declare the number that [`Program::verify`] answers for it.
+    /// Has each chunk declare the number that [`Program::verify`] answers for it, and costs as much.
     ///
     /// # Errors
     /// As [`Program::verify`], the program being unchanged.

@@ -120,7 +120,7 @@ fn verify_chunks(
 ///
 /// The constants are tested first, then every instruction of the code and its indices, then whether functions are
 /// allowed, and then the chunks in order (docs/FORMAT.md, "Verification"). The first three take no memory. `consts` are
-/// the constants themselves, while `pools.consts` bounds the indices that name one.
+/// the constants themselves, while `pools.consts` bounds the indices that name one. What it costs is in docs/COSTS.md.
 ///
 /// # Errors
 /// The first test that fails, by its name; within a chunk one of its flaws. `OutOfMemory` where memory was wanted, which

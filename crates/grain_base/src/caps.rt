@@ -2,7 +2,7 @@
 
 use bitflags::{Flag, Flags};
 
-/// A set of capabilities, one bit for each; no capability has the highest bit.
+/// A set of capabilities, one bit for each; no capability has the highest bit. Each call takes constant time.
 #[derive(Clone, Copy, Debug, PartialEq, Eq)]
 pub struct Caps(u16);
 

@@ -152,6 +152,8 @@ pub fn entries(table: &[u8]) -> Entries<'_>
 /// `None` where no entry has the address, and where the line of the first that has it is 0. The entries are those that
 /// stand whole in front of the first damage, and no more than the count says. An address that is repeated is no damage
 /// here.
+///
+/// It reads the address table up to the entry, and takes no memory.
 #[must_use]
 pub fn resolve(table: &[u8], address: u32) -> Option<Site>
     ensures { (front : List Entry) × Front table.now front × (result ≡ site_at front address) }
@@ -168,7 +170,8 @@ pub fn resolve(table: &[u8], address: u32) -> Option<Site>
     None
 }
 
-/// The number of entries that an address table states, which is its first number. They needn't be there.
+/// The number of entries that an address table states, which is its first number. They needn't be there. It takes constant
+/// time.
 ///
 /// # Errors
 ///
@@ -182,7 +185,7 @@ pub fn count(table: &[u8]) -> Result<u32, Error>
     Ok(varint::u32(table, &mut at)?)
 }
 
-/// Tests whether the bytes are an address table.
+/// Tests whether the bytes are an address table. It reads them once, and takes no memory.
 ///
 /// # Errors
 ///
@@ -209,7 +212,8 @@ pub fn check(table: &[u8]) -> Result<(), Error>
     }
 }
 
-/// Whether the addresses of the entries that have a line strictly ascend, as [`encode`] asks.
+/// Whether the addresses of the entries that have a line strictly ascend, as [`encode`] asks. It goes over the entries
+/// once, and takes no memory.
 #[must_use]
 pub fn is_ascending(sites: &[(u32, Site)]) -> bool
     ensures { IsTrue result ↔ IsStrictlyIncreasing (addresses (kept sites.now)) }
@@ -240,6 +244,8 @@ fn count_kept(sites: &[(u32, Site)]) -> usize
 ///
 /// Their addresses have to ascend strictly: [`is_ascending`] tells whether they do. What is written of 2 to the power 32
 /// such entries and more is no address table, since its count doesn't fit.
+///
+/// It goes over the entries twice, and takes memory for what it writes.
 ///
 /// # Errors
 ///

@@ -5,7 +5,7 @@ use std::fmt;
 
 /// A line of the source text and a column in it, or no place at all.
 ///
-/// Lines and columns are counted from 1; a column of 0 stands for the line as a whole.
+/// Lines and columns are counted from 1; a column of 0 stands for the line as a whole. Each call takes constant time.
 #[derive(Clone, Copy, PartialEq, Eq)]
 pub struct Position {
     line: u16,

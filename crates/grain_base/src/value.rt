@@ -34,6 +34,10 @@ pub struct HostValue {
 ///
 /// Two values are equal where they have the same kind and the same content. A shared value has the kind and the content
 /// of what it holds, at every depth, and equal values have equal hashes.
+///
+/// The size of a value counts it and each value in it, at every depth, each shared mark, and each byte of its texts and
+/// blobs. To compare two values takes time by both sizes at most, to hash one by its own. No memory is taken but the call
+/// stack, by the depth.
 #[derive(Drop)]
 #[cycle(value)]
 pub enum Dynamic {
@@ -67,6 +71,8 @@ pub enum Dynamic {
 
 impl Dynamic {
     /// Whether the value can be a case of a switch: whether no value of the host is in it, at any depth.
+    ///
+    /// It looks at each value in it once at most, and takes no memory but the call stack, by the depth.
     #[cycle(hashable)]
     #[must_use]
     pub fn is_hashable(&self) -> bool
@@ -89,7 +95,7 @@ impl Dynamic {
         }
     }
 
-    /// The value without the shared marks around it.
+    /// The value without the shared marks around it. It takes time by their number.
     #[must_use]
     pub fn unshared(&self) -> &Dynamic
         ensures same_content { content result.now ≡ content self.now }

@@ -6,7 +6,8 @@
 //! -2v - 1 where it is negative, so that numbers near 0 are short on both sides. docs/FORMAT.md, "Varints", has the
 //! format.
 //!
-//! A cursor is handed from call to call: each call reads from `at` on, and leaves it behind the bytes that it read.
+//! A cursor is handed from call to call: each call reads from `at` on, and leaves it behind the bytes that it read. It
+//! takes constant time, since these are ten at most.
 
 ghost use Rattle.std.specs.Prelude.{◌≡◌, ℕ, ℤ, ◌+◌, ◌^◌, ◌<◌, ◌↔◌, length, take, drop, Ok, Err, IfOk, OnOk, OnErr};
 ghost use Rattle.grain_base.specs.Varint.{AppendsShortest, IsShortest, StandsAt, NoneStands, NumberFlaw, Reads, U32Flaw, zigzag};
@@ -140,7 +141,7 @@ pub fn u32(bytes: &[u8], at: &mut usize) -> Result<u32, Error>
     }
 }
 
-/// Appends the shortest spelling of a number.
+/// Appends the shortest spelling of a number. It takes constant time, but for a growth of `out`, which doubles its room.
 ///
 /// # Errors
 ///
@@ -161,7 +162,8 @@ pub fn put_u64(out: &mut Vec<u8>, value: u64) -> Result<(), AllocError>
     out.extend_from_slice(&groups[..=last])
 }
 
-/// Appends the shortest spelling of a signed number: of 2v, or of -2v - 1 where v is negative.
+/// Appends the shortest spelling of a signed number, of 2v, or of -2v - 1 where v is negative, in as much time as
+/// [`put_u64`].
 ///
 /// # Errors
 ///

@@ -205,6 +205,8 @@ fn code_of(alloc: Global, ops: &[Op], offsets: &[u32]) -> Result<Vec<u8>, AllocE
 /// Answers the code, and where each operation is written, with one offset more, where the code ends. What is decoded
 /// at an offset is the canonical form of its operation, with the target mapped by the offsets.
 ///
+/// It goes over the operations a few times, and takes memory for the code and the offsets.
+///
 /// # Errors
 ///
 /// Tested in this order: [`AssembleError::ChunkTooLarge`] where the widths' sum passes `u32`; then operation by

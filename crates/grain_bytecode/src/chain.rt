@@ -10,7 +10,7 @@ ghost use Rattle.grain_bytecode.specs.ChainPositions.{positions_left};
 use bitflags::{Flag, Flags};
 use grain_base::Position;
 
-/// How a step behaves.
+/// How a step behaves. Each call takes constant time.
 #[derive(Clone, Copy, Debug, Default, PartialEq, Eq, PartialOrd, Ord, Hash)]
 pub struct StepFlags(u8);
 
@@ -176,7 +176,7 @@ pub enum Root {
 }
 
 impl Root {
-    /// How many positions the root carries.
+    /// How many positions the root carries. It takes constant time.
     #[must_use]
     pub fn position_slots(&self) -> u32
         ensures { result ≡ length (root_positions self.now) }
@@ -215,7 +215,7 @@ pub struct Chain {
 }
 
 impl Chain {
-    /// Whether the chain takes a value to assign off the operand stack.
+    /// Whether the chain takes a value to assign off the operand stack. It takes constant time.
     #[must_use]
     pub fn assigns(&self) -> bool
         ensures { result ≡ assigns self.now.tail }
@@ -223,7 +223,7 @@ impl Chain {
         matches!(self.tail, Tail::Assign { .. })
     }
 
-    /// Whether the chain takes its root off the operand stack.
+    /// Whether the chain takes its root off the operand stack. It takes constant time.
     #[must_use]
     pub fn roots_on_stack(&self) -> bool
         ensures { result ≡ roots_on_stack self.now.root }
@@ -232,7 +232,7 @@ impl Chain {
     }
 
     /// How many values the chain takes off the operand stack: the operands of its steps, its root where that is a
-    /// temporary value, and the value that it assigns. So there are 65537 at most.
+    /// temporary value, and the value that it assigns. So there are 65537 at most. It takes constant time.
     #[must_use]
     pub fn consumes(&self) -> usize
         ensures value { result ≡ consumed self.now }
@@ -243,7 +243,7 @@ impl Chain {
             + usize::from(self.assigns())
     }
 
-    /// Whether the number of the chain's positions fits 32 bits.
+    /// Whether the number of the chain's positions fits 32 bits. It takes time by the number of steps.
     #[must_use]
     pub fn slots_fit(&self) -> bool
         ensures { IsTrue result ↔ SlotsFit self.now }
@@ -258,7 +258,7 @@ impl Chain {
         true
     }
 
-    /// How many positions the chain carries.
+    /// How many positions the chain carries. It takes time by the number of steps.
     ///
     /// Their number has to fit 32 bits: [`Chain::slots_fit`] tells whether it does.
     #[must_use]
@@ -272,7 +272,8 @@ impl Chain {
     /// The first slot of the step at the index, or `None` past the steps.
     ///
     /// The number of the chain's positions has to fit 32 bits: [`Chain::slots_fit`] tells whether it does. The slot is
-    /// below [`Chain::position_slots`], so that [`Chain::set_position`] takes it.
+    /// below [`Chain::position_slots`], so that [`Chain::set_position`] takes it. It takes time by the number of steps
+    /// before that one.
     #[must_use]
     pub fn step_slot(&self, index: usize) -> Option<u32>
         requires { SlotsFit self.now }
@@ -286,7 +287,7 @@ impl Chain {
         }
     }
 
-    /// The positions that the chain carries, in the order of their slots.
+    /// The positions that the chain carries, in the order of their slots. To read them all goes over the steps once.
     #[must_use]
     pub fn positions(&self) -> ChainPositions<'_>
         ensures { positions_left result ≡ positions self.now }
@@ -304,7 +305,7 @@ impl Chain {
     /// Replaces the position of one slot, and nothing else.
     ///
     /// The number of the chain's positions has to fit 32 bits, which [`Chain::slots_fit`] tells, and the slot has to be
-    /// below it, below [`Chain::position_slots`].
+    /// below it, below [`Chain::position_slots`]. It takes time by the number of steps before the slot.
     pub fn set_position(&mut self, slot: u32, pos: Position)
         requires fit { SlotsFit self.old }
         requires inside { slot < length (positions self.old) }
@@ -320,7 +321,7 @@ impl Chain {
     }
 }
 
-/// The positions of a chain, in the order of their slots.
+/// The positions of a chain, in the order of their slots. Each takes constant time.
 #[derive(Drop)]
 pub struct ChainPositions<'a> {
     // The position of the root or of a bracket, which comes before those of the steps.

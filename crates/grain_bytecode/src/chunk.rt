@@ -11,7 +11,7 @@ use std::marker::Model;
 /// One body of code, as the top level of a program or a function of it: a span of the code that all chunks share, and
 /// how many operands the stack has to hold for it.
 ///
-/// Contracts see a `Span`.
+/// Contracts see a `Span`. Each call takes constant time.
 #[derive(Clone, Copy, Debug, Default, PartialEq, Eq)]
 pub struct Chunk {
     entry: u32,
@@ -83,7 +83,7 @@ impl Chunk {
     }
 
     /// The instructions of the chunk's part of the code, up to the first thing in it that is no instruction. Their
-    /// addresses are those in the whole code.
+    /// addresses are those in the whole code. To read them all reads that part once.
     #[must_use]
     pub fn ops<'a>(&self, code: &'a [u8]) -> Disassembly<'a>
         ensures from_the_entry { result

@@ -10,7 +10,7 @@ use crate::instruction::read;
 use crate::op::Op;
 use std::marker::Model;
 
-/// The instructions of code with their addresses, as far as the code is instructions.
+/// The instructions of code with their addresses, as far as the code is instructions. Each takes constant time.
 #[derive(Drop)]
 pub struct Disassembly<'a> {
     code: &'a [u8],
@@ -38,7 +38,8 @@ impl Iterator for Disassembly<'_> {
     }
 }
 
-/// The instructions of code with their addresses, from address 0 up to the first thing that is no instruction.
+/// The instructions of code with their addresses, from address 0 up to the first thing that is no instruction. To read
+/// them all reads the code once, and takes no memory.
 #[must_use]
 pub fn disassemble(code: &[u8]) -> Disassembly<'_>
     ensures from_the_start { result ≡ record { at = 0; bytes = code.now } }

@@ -6,7 +6,7 @@ use std::alloc::{AllocError, Global};
 
 const SEPARATOR: &str = "::";
 
-/// The name in the namespace: the namespace, `::` and the name.
+/// The name in the namespace: the namespace, `::` and the name. It takes time and memory by their lengths.
 pub fn qualify(alloc: Global, namespace: &str, name: &str) -> Result<String, AllocError>
     ensures { IfOk result (λ s. string_bytes s ≡ namespace.now ++ separator ++ name.now) }
 {
@@ -16,7 +16,7 @@ pub fn qualify(alloc: Global, namespace: &str, name: &str) -> Result<String, All
 /// The namespace and the name in it, cut at the last place where `::` stands.
 ///
 /// `None` where `::` stands nowhere, or nothing stands before that place or after it. A `!` at the end is a part of the
-/// name.
+/// name. It takes time by the length of the name, and no memory.
 #[must_use]
 pub fn split_qualified(name: &str) -> Option<(&str, &str)>
     ensures { option_map (λ parts. (parts.0.now, parts.1.now)) result ≡ split_qualified name.now }

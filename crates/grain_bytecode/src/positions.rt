@@ -168,7 +168,7 @@ impl fmt::Display for DebugId {
     }
 }
 
-/// The position of a site: none where its line is 0 or one of its numbers is above 65535.
+/// The position of a site: none where its line is 0 or one of its numbers is above 65535. It takes constant time.
 #[must_use]
 pub fn site_to_position(site: Site) -> Position
     ensures { place_of result ≡ site_place site }
@@ -180,7 +180,7 @@ pub fn site_to_position(site: Site) -> Position
 }
 
 impl Positions {
-    /// The positions of code, byte by byte; stripped where each of them is none.
+    /// The positions of code, byte by byte; stripped where each of them is none. It looks at each once at most.
     #[must_use]
     pub fn dense(positions: Vec<Position>) -> Positions
         ensures { places result ≡ dense (map place_of positions.items) }
@@ -192,7 +192,7 @@ impl Positions {
         }
     }
 
-    /// The position at an address, which is none past the code.
+    /// The position at an address, which is none past the code. It takes constant time.
     #[must_use]
     pub fn get(&self, pc: usize) -> Position
         ensures { place_of result ≡ place_at (places self.now) pc }
@@ -206,7 +206,7 @@ impl Positions {
         }
     }
 
-    /// Whether none is known.
+    /// Whether none is known. It takes constant time.
     #[must_use]
     pub fn is_stripped(&self) -> bool
         ensures { result ≡ is_none (places self.now) }
@@ -214,7 +214,8 @@ impl Positions {
         matches!(self, Positions::Stripped)
     }
 
-    /// Writes the address table of the positions that have a line.
+    /// Writes the address table of the positions that have a line. It goes over the positions a few times, and takes memory
+    /// for an entry for each that has a line, and for what it writes.
     ///
     /// # Errors
     ///
@@ -245,7 +246,8 @@ impl Positions {
     /// Reads the positions of code from an address table.
     ///
     /// An address table of no entries gives `Stripped` for any code. The entries and the instructions are read side by side,
-    /// so that the time goes by the lengths of the address table and the code.
+    /// so that the time goes by the lengths of the address table and the code. The memory is a position for each byte of
+    /// the code.
     ///
     /// # Errors
     ///

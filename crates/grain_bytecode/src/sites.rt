@@ -109,7 +109,8 @@ fn next_slot(stream: &[u8], at: &mut usize) -> Result<Option<Site>, varint::Erro
 
 /// The site that a stream records for a slot, if it does.
 ///
-/// `None` past the counted slots, for line 0, and where the stream breaks at or before the slot.
+/// `None` past the counted slots, for line 0, and where the stream breaks at or before the slot. It reads the stream up to
+/// the slot, and takes no memory.
 #[must_use]
 pub fn resolve(stream: &[u8], slot: u32) -> Option<Site>
     ensures { (site : Site) → (result ≡ Some site) ↔ Records stream.now slot site }
@@ -132,7 +133,7 @@ pub fn resolve(stream: &[u8], slot: u32) -> Option<Site>
     }
 }
 
-/// Whether the bytes are a stream.
+/// Whether the bytes are a stream. It reads them once, and takes no memory.
 ///
 /// # Errors
 ///
@@ -152,7 +153,7 @@ pub fn check(stream: &[u8]) -> Result<(), StreamError>
     }
 }
 
-/// The sites of a stream, slot by slot.
+/// The sites of a stream, slot by slot. It reads the stream twice, and takes memory for the sites.
 ///
 /// # Errors
 ///
@@ -232,7 +233,8 @@ fn put_slots(stream: &mut Vec<u8>, chain: &Chain) -> Result<(), AllocError>
 
 /// Writes the stream of the positions of chains, chain by chain, in the shortest spellings.
 ///
-/// What is written of 2 to the power 32 positions and more is no stream, since its count doesn't fit.
+/// What is written of 2 to the power 32 positions and more is no stream, since its count doesn't fit. It goes over the
+/// chains and their steps twice, and takes memory for what it writes.
 ///
 /// # Errors
 ///

@@ -113,7 +113,7 @@ impl fmt::Display for StringsError {
 /// Names: the bytes of one after another, and where each of them starts.
 ///
 /// The starts are one more than the names: the first is 0, and the last is where the last name ends.
-/// Contracts see the list of the names.
+/// Contracts see the list of the names. A call on them takes constant time.
 #[derive(Debug, Drop)]
 pub struct Strings {
     blob: Vec<u8>,
@@ -132,7 +132,7 @@ impl Model for Strings {
 }
 
 impl Strings {
-    /// These names.
+    /// These names. It goes over them twice, and takes memory for their bytes and starts.
     ///
     /// # Errors
     ///
@@ -157,7 +157,8 @@ impl Strings {
         Ok(Strings { blob, starts })
     }
 
-    /// The names that the starts cut from the bytes, which are copied.
+    /// The names that the starts cut from the bytes, which are copied. It goes over the bytes and the starts once before
+    /// they are copied.
     ///
     /// # Errors
     ///
@@ -240,7 +241,7 @@ impl Strings {
     }
 }
 
-/// Names, in order.
+/// Names, in order. Each takes constant time.
 #[derive(Drop)]
 pub struct Names<'a> {
     strings: &'a Strings,

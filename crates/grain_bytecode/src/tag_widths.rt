@@ -19,7 +19,7 @@ pub(crate) static WIDTHS: [u8; 256] = [
 
 /// How many bytes the instruction at an address takes, or `None` where none stands.
 ///
-/// The tag and the length of the code decide, whatever the fields hold.
+/// The tag and the length of the code decide, whatever the fields hold. It takes constant time.
 #[inline(always)]
 #[must_use]
 pub fn width(code: &[u8], at: usize) -> Option<usize>

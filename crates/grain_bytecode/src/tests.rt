@@ -1,6 +1,8 @@
 use super::*;
 use std::test::Fail;
 
+mod damage;
+
 #[test]
 fn numbers(rt: HostRuntime) {
     let bytes = [1u8, 2, 3, 4, 5];

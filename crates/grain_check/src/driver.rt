@@ -47,7 +47,8 @@ fn room(alloc: Global) -> Result<Vec<u8>, AllocError>
 ///
 /// Lines, cases and verdicts are those of docs/FORMAT.md, "Lines, cases and verdicts". It holds one
 /// line at a time with the bytes that its digits spell, one buffer of the input and the verdicts on
-/// the cases of that buffer. Nothing is tried again after an error.
+/// the cases of that buffer. It goes over each line a few times, and makes the call that the case
+/// asks for (docs/COSTS.md). Nothing is tried again after an error.
 ///
 /// # Errors
 /// - [`RunError::Read`] where a read failed, or 18446744073709551615 reads gave bytes. The complete

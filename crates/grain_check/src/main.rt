@@ -26,7 +26,7 @@ use std::process::ExitCode;
 ///
 /// It is 0 where every case had a form and 2 where some case had none. Where the run stopped before
 /// the end, it is 3 for a failed read, 4 for a failed write and 5 for want of memory
-/// (docs/FORMAT.md, "Lines, cases and verdicts").
+/// (docs/FORMAT.md, "Lines, cases and verdicts"). It takes constant time.
 pub fn status(outcome: &Result<Summary, RunError>) -> u8
     ensures { result ≡ status_of outcome.now }
 {

@@ -142,3 +142,51 @@ fn chains_have_their_positions_back(rt: HostRuntime) -> Result<(), Fail> {
     assert_eq!(rt; restored.chains.as_slice(), stream.as_slice());
     Ok(())
 }
+
+// `a[i].b` at 1:1, 1:3 with its bracket at 1:2, and 1:6.
+fn chain(alloc: Global) -> Result<Chain, Fail> {
+    let index = Step::Index {
+        operand: 0,
+        flags: StepFlags::empty(),
+        pos: Position::new(1, 3),
+        bracket: Position::new(1, 2),
+    };
+    let property = Step::Property {
+        name: 0,
+        getter: 0,
+        setter: 0,
+        flags: StepFlags::empty(),
+        pos: Position::new(1, 6),
+    };
+    Ok(Chain {
+        root: Root::Named {
+            name: 0,
+            pos: Position::new(1, 1),
+        },
+        steps: vec![in alloc; index, property]?,
+        tail: Tail::Read,
+        operands: 1,
+    })
+}
+
+#[test]
+fn a_byte_behind_the_stream_is_refused(rt: HostRuntime) -> Result<(), Fail> {
+    let alloc = rt.alloc();
+    let mut parts = parts(alloc, &["a"])?;
+    parts.positions = Positions::dense([Position::new(1, 1)].to_vec(alloc)?);
+    parts.chains = vec![in alloc; chain(alloc)?]?;
+    let mut program = program(alloc, &[0x13], 1, parts)?;
+    let kept = program.sidecar()?;
+    let stream = [4, 1, 1, 1, 3, 1, 2, 1, 6];
+    assert_eq!(rt; bytes(&kept), ([1, 0, 1, 1].as_slice(), stream.as_slice()));
+
+    let longer = Sidecar {
+        debug_id: 7,
+        positions: [0].to_vec(alloc)?,
+        chains: [4, 1, 1, 1, 3, 1, 2, 1, 6, 0].to_vec(alloc)?,
+    };
+    let trailing = TableError::ChainStream(StreamError::TrailingBytes { count: 1 });
+    assert_eq!(rt; program.attach_positions(&longer).err(), Some(trailing));
+    assert_eq!(rt; bytes(&program.sidecar()?), bytes(&kept));
+    Ok(())
+}

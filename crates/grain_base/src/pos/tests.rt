@@ -152,6 +152,7 @@ fn damage_is_answered(rt: HostRuntime) {
     }
     assert_eq!(rt; check(&table), Ok(()));
     for bytes in [
+        [].as_slice(),
         [0xffu8; 32].as_slice(),
         [0xffu8].as_slice(),
         [0x80u8; 12].as_slice(),

@@ -8,7 +8,7 @@ ghost use Rattle.grain_base.specs.AddressTable.{EntrySteps};
 use super::{Site, entry};
 use std::marker::Model;
 
-/// The entries of an address table that are left, in order.
+/// The entries of an address table that are left, in order. Each takes constant time.
 #[derive(Drop)]
 pub struct Entries<'a> {
     pub(super) table: &'a [u8],

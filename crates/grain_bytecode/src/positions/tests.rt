@@ -9,7 +9,7 @@ fn read(alloc: Global, table: &[u8], code: &[u8]) -> Result<String, AllocError> 
 
 #[test]
 fn tables_are_read(rt: HostRuntime) -> Result<(), Fail> {
-    let rows: [(&[u8], &[u8], &str); 12] = [
+    let rows: [(&[u8], &[u8], &str); 13] = [
         (
             &[1, 0, 0, 0],
             &[2, 2, 2, 2],
@@ -50,6 +50,11 @@ fn tables_are_read(rt: HostRuntime) -> Result<(), Fail> {
             "Err(Malformed(OutOfOrder { at: 1 }))",
         ),
         (&[], &[], "Err(Malformed(Truncated))"),
+        (
+            &[0xff, 0xff, 0xff, 0xff, 0x0f],
+            &[2],
+            "Err(Malformed(Truncated))",
+        ),
     ];
     for (table, code, wanted) in rows {
         assert_eq!(rt; read(rt.alloc(), table, code)?.as_str(), wanted);

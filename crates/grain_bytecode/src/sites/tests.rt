@@ -92,7 +92,9 @@ fn streams_are_decoded(rt: HostRuntime) -> Result<(), Fail> {
     let sites = vec![in rt.alloc(); site(1, 1), site(1, 3), site(1, 2), site(1, 6)]?;
     assert_eq!(rt; decode(rt.alloc(), STREAM), Ok(sites));
     let greatest = [0xff, 0xff, 0xff, 0xff, 0x0f, 1, 1];
-    assert_eq!(rt; decode(rt.alloc(), &greatest), Err(StreamError::Truncated));
+    for stream in [&greatest[..5], &greatest] {
+        assert_eq!(rt; decode(rt.alloc(), stream), Err(StreamError::Truncated));
+    }
     assert_eq!(rt;
         decode(rt.alloc(), &[0, 5]),
         Err(StreamError::TrailingBytes { count: 1 })

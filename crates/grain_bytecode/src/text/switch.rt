@@ -10,7 +10,7 @@ use crate::switch::{Switch, SwitchRange};
 use std::alloc::{AllocError, Global};
 
 impl SwitchRange {
-    /// The text of the range: `range`, its ends, and where it leads (docs/FORMAT.md, "Texts").
+    /// The text of the range: `range`, its ends, and where it leads (docs/FORMAT.md, "Texts"). It takes constant time.
     ///
     /// # Errors
     ///
