@@ -48,8 +48,8 @@ module _ (code : Bytecode) (op : Op) (at : ℕ) (c : Counts) (sent : List (Optio
       | inl inside ↦
           let is_after : d ≡ after_jump code.setting op c = sym (same_Some (after_jump code.setting op c) d (sym (get_or-set_same sent w (Some (after_jump code.setting op c)) None inside) ∙ ap (λ n. get_or (set sent w (Some (after_jump code.setting op c))) n None) (sym same) ∙ e)) in
           inr (λ t k.
-              let named : Contains (targets code.switches op) t = subst (λ (f : Flow). Contains (targets_for code.switches f) t) (sym is) (subst (λ n. Contains (get_or code.switches n []) t) same k) in
-              (named, is_after, subst (λ (x : Counts). Contains (arrivals code op at c) (record { at = t; counts = x })) (sym is_after) (sent_all t named)))
+          let named : Contains (targets code.switches op) t = subst (λ (f : Flow). Contains (targets_for code.switches f) t) (sym is) (subst (λ n. Contains (get_or code.switches n []) t) same k) in
+          (named, is_after, subst (λ (x : Counts). Contains (arrivals code op at c) (record { at = t; counts = x })) (sym is_after) (sent_all t named)))
     ]
   ]
 
@@ -178,8 +178,7 @@ refused_counts p chunk t here deepest op needs takes gives f (errors.DepthConfli
     let left = left_is code.setting op needs takes gives here.state.operands known in
     let after : jump_for f (here.state.operands - takes + gives) (view here.state) ≡ after_jump code.setting op (view here.state) =
     ap (λ (g : Flow). jump_for g (here.state.operands - takes + gives) (view here.state)) same ∙ ap (λ n. jump_for (flow_of op) n (view here.state)) left in
-    let jumps : Contains (targets code.switches op) a = subst (λ (g : Flow). Contains (targets_for code.switches g) a) (sym is ∙ same) named in
-    (
+    let jumps : Contains (targets code.switches op) a = subst (λ (g : Flow). Contains (targets_for code.switches g) a) (sym is ∙ same) named in (
       framed,
       there.0,
       record {

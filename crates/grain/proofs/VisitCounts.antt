@@ -51,10 +51,10 @@ few_starts : (code : Bytecode) (chunk : Span) (starts xs : List ℕ) → Split c
 few_starts code chunk starts xs split distinct inside =
     let test : ℕ → Bool = λ at. nat_le chunk.entry at && nat_lt at chunk.end in
     let most = no_more xs (filter test starts) distinct (λ at c.
-        let h = inside at c in
-        let low = h.entry in
-        let high = h.end in
-        passing test starts at (start_listed code.bytes starts at split h.place) (grind (arith, nat_tests, low, high))) in
+    let h = inside at c in
+    let low = h.entry in
+    let high = h.end in
+    passing test starts at (start_listed code.bytes starts at split h.place) (grind (arith, nat_tests, low, high))) in
     let f = length-filter test starts in
     omega arith
 

@@ -170,5 +170,5 @@ walking_begun p chunk t entry ordinal n m framed holds named place states sent w
           (subst (λ (s : List (Option State)). Walking (bytecode_of p) chunk p.starts.starts s (sent_by t.sent) (coming a ∷ []) 0) (sym states)
           (subst (λ at. Walking (bytecode_of p) chunk p.starts.starts (replicate n none) (sent_by t.sent) (record { at = at; counts = nothing } ∷ []) 0) (sym named)
           (walking_start (bytecode_of p) chunk p.starts.starts n (sent_by t.sent) framed holds (λ w.
-              ap (λ (s : List (Option State)). get_or (sent_by s) w None) sent ∙ get_or-map (option_map view) (replicate m none) w None ∙ ap (option_map view) (nothing_at m w)))));
+          ap (λ (s : List (Option State)). get_or (sent_by s) w None) sent ∙ get_or-map (option_map view) (replicate m none) w None ∙ ap (option_map view) (nothing_at m w)))));
     }

@@ -42,10 +42,10 @@ pub use grain_base::{
 };
 pub use grain_bytecode::{
     AssembleError, AssignOp, BadTable, Chain, ChainPositions, Chunk, DisassembleError, Disassembly,
-    Field, Function, Instruction, Lookups, Names, Op, Pool, Positions, Receiver, Root, Starts, Step, StepFlags,
-    Strings, StringsError, StripError, Switch, SwitchRange, TableError, Tail, assemble,
-    count_instructions, decode, disassemble, names, resolve_switch_targets, site_to_position,
-    sites, tag, u16_at, u32_at, width,
+    Field, Function, Instruction, Lookups, Names, Op, Pool, Positions, Receiver, Root, Starts,
+    Step, StepFlags, Strings, StringsError, StripError, Switch, SwitchRange, TableError, Tail,
+    assemble, count_instructions, decode, disassemble, names, resolve_switch_targets,
+    site_to_position, sites, tag, u16_at, u32_at, width,
 };
 pub use meter::Meter;
 pub use pools::Pools;

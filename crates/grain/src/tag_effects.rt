@@ -49,90 +49,105 @@ const OTHER: TagEffect = TagEffect {
     gives: 0,
     way: Way::Unknown,
 };
+
 const GIVES: TagEffect = TagEffect {
     needs: 0,
     takes: 0,
     gives: 1,
     way: Way::Falls,
 };
+
 const TAKES: TagEffect = TagEffect {
     needs: 1,
     takes: 1,
     gives: 0,
     way: Way::Falls,
 };
+
 const EXCHANGES: TagEffect = TagEffect {
     needs: 1,
     takes: 1,
     gives: 1,
     way: Way::Falls,
 };
+
 const APPENDS: TagEffect = TagEffect {
     needs: 2,
     takes: 1,
     gives: 0,
     way: Way::Falls,
 };
+
 const KEEPS: TagEffect = TagEffect {
     needs: 0,
     takes: 0,
     gives: 0,
     way: Way::Falls,
 };
+
 const RETURNS: TagEffect = TagEffect {
     needs: 0,
     takes: 0,
     gives: 0,
     way: Way::Ends,
 };
+
 const THROWS: TagEffect = TagEffect {
     needs: 1,
     takes: 1,
     gives: 0,
     way: Way::Ends,
 };
+
 const JUMPS: TagEffect = TagEffect {
     needs: 0,
     takes: 0,
     gives: 0,
     way: Way::Jumps,
 };
+
 const TESTS: TagEffect = TagEffect {
     needs: 1,
     takes: 1,
     gives: 0,
     way: Way::Branches,
 };
+
 const SKIPS: TagEffect = TagEffect {
     needs: 1,
     takes: 0,
     gives: 0,
     way: Way::Branches,
 };
+
 const BEGINS: TagEffect = TagEffect {
     needs: 1,
     takes: 1,
     gives: 0,
     way: Way::BeginsIterator,
 };
+
 const ADVANCES: TagEffect = TagEffect {
     needs: 0,
     takes: 0,
     gives: 0,
     way: Way::AdvancesIterator,
 };
+
 const DROPS: TagEffect = TagEffect {
     needs: 0,
     takes: 0,
     gives: 0,
     way: Way::EndsIterator,
 };
+
 const ARMS: TagEffect = TagEffect {
     needs: 0,
     takes: 0,
     gives: 0,
     way: Way::PushesHandler,
 };
+
 const DISARMS: TagEffect = TagEffect {
     needs: 0,
     takes: 0,
@@ -142,38 +157,26 @@ const DISARMS: TagEffect = TagEffect {
 
 /// What the instructions with each tag do (docs/FORMAT.md, "Instructions").
 static TAG_EFFECTS: [TagEffect; 256] = [
-    OTHER, GIVES, GIVES, GIVES, GIVES, GIVES, TAKES, TAKES,
-    TAKES, TAKES, TAKES, TAKES, JUMPS, TESTS, TESTS, OTHER,
-    OTHER, KEEPS, KEEPS, RETURNS, GIVES, GIVES, OTHER, OTHER,
-    OTHER, OTHER, TAKES, TAKES, THROWS, BEGINS, ADVANCES, DROPS,
-    TAKES, ADVANCES, DISARMS, ARMS, ARMS, GIVES, APPENDS, EXCHANGES,
-    OTHER, OTHER, OTHER, OTHER, OTHER, OTHER, GIVES, OTHER,
-    OTHER, KEEPS, EXCHANGES, EXCHANGES, OTHER, OTHER, OTHER, OTHER,
-    GIVES, OTHER, OTHER, OTHER, OTHER, OTHER, OTHER, OTHER,
-    OTHER, OTHER, SKIPS, OTHER, OTHER, OTHER, OTHER, KEEPS,
-    TAKES, OTHER, OTHER, TAKES, OTHER, OTHER, OTHER, OTHER,
-    OTHER, OTHER, OTHER, OTHER, OTHER, OTHER, OTHER, OTHER,
-    OTHER, OTHER, OTHER, OTHER, OTHER, OTHER, OTHER, OTHER,
-    OTHER, OTHER, OTHER, OTHER, OTHER, OTHER, OTHER, OTHER,
-    OTHER, OTHER, OTHER, OTHER, OTHER, OTHER, OTHER, OTHER,
-    OTHER, OTHER, OTHER, OTHER, OTHER, OTHER, OTHER, OTHER,
-    OTHER, OTHER, OTHER, OTHER, OTHER, OTHER, OTHER, OTHER,
-    OTHER, OTHER, OTHER, OTHER, OTHER, OTHER, OTHER, OTHER,
-    OTHER, OTHER, OTHER, OTHER, OTHER, OTHER, OTHER, OTHER,
-    OTHER, OTHER, OTHER, OTHER, OTHER, OTHER, OTHER, OTHER,
-    OTHER, OTHER, OTHER, OTHER, OTHER, OTHER, OTHER, OTHER,
-    OTHER, OTHER, OTHER, OTHER, OTHER, OTHER, OTHER, OTHER,
-    OTHER, OTHER, OTHER, OTHER, OTHER, OTHER, OTHER, OTHER,
-    OTHER, OTHER, OTHER, OTHER, OTHER, OTHER, OTHER, OTHER,
-    OTHER, OTHER, OTHER, OTHER, OTHER, OTHER, OTHER, OTHER,
-    OTHER, OTHER, OTHER, OTHER, OTHER, OTHER, OTHER, OTHER,
-    OTHER, OTHER, OTHER, OTHER, OTHER, OTHER, OTHER, OTHER,
-    OTHER, OTHER, OTHER, OTHER, OTHER, OTHER, OTHER, OTHER,
-    OTHER, OTHER, OTHER, OTHER, OTHER, OTHER, OTHER, OTHER,
-    OTHER, OTHER, OTHER, OTHER, OTHER, OTHER, OTHER, OTHER,
-    OTHER, OTHER, OTHER, OTHER, OTHER, OTHER, OTHER, OTHER,
-    OTHER, OTHER, OTHER, OTHER, OTHER, OTHER, OTHER, OTHER,
-    OTHER, OTHER, OTHER, OTHER, OTHER, OTHER, OTHER, OTHER,
+    OTHER, GIVES, GIVES, GIVES, GIVES, GIVES, TAKES, TAKES, TAKES, TAKES, TAKES, TAKES, JUMPS,
+    TESTS, TESTS, OTHER, OTHER, KEEPS, KEEPS, RETURNS, GIVES, GIVES, OTHER, OTHER, OTHER, OTHER,
+    TAKES, TAKES, THROWS, BEGINS, ADVANCES, DROPS, TAKES, ADVANCES, DISARMS, ARMS, ARMS, GIVES,
+    APPENDS, EXCHANGES, OTHER, OTHER, OTHER, OTHER, OTHER, OTHER, GIVES, OTHER, OTHER, KEEPS,
+    EXCHANGES, EXCHANGES, OTHER, OTHER, OTHER, OTHER, GIVES, OTHER, OTHER, OTHER, OTHER, OTHER,
+    OTHER, OTHER, OTHER, OTHER, SKIPS, OTHER, OTHER, OTHER, OTHER, KEEPS, TAKES, OTHER, OTHER,
+    TAKES, OTHER, OTHER, OTHER, OTHER, OTHER, OTHER, OTHER, OTHER, OTHER, OTHER, OTHER, OTHER,
+    OTHER, OTHER, OTHER, OTHER, OTHER, OTHER, OTHER, OTHER, OTHER, OTHER, OTHER, OTHER, OTHER,
+    OTHER, OTHER, OTHER, OTHER, OTHER, OTHER, OTHER, OTHER, OTHER, OTHER, OTHER, OTHER, OTHER,
+    OTHER, OTHER, OTHER, OTHER, OTHER, OTHER, OTHER, OTHER, OTHER, OTHER, OTHER, OTHER, OTHER,
+    OTHER, OTHER, OTHER, OTHER, OTHER, OTHER, OTHER, OTHER, OTHER, OTHER, OTHER, OTHER, OTHER,
+    OTHER, OTHER, OTHER, OTHER, OTHER, OTHER, OTHER, OTHER, OTHER, OTHER, OTHER, OTHER, OTHER,
+    OTHER, OTHER, OTHER, OTHER, OTHER, OTHER, OTHER, OTHER, OTHER, OTHER, OTHER, OTHER, OTHER,
+    OTHER, OTHER, OTHER, OTHER, OTHER, OTHER, OTHER, OTHER, OTHER, OTHER, OTHER, OTHER, OTHER,
+    OTHER, OTHER, OTHER, OTHER, OTHER, OTHER, OTHER, OTHER, OTHER, OTHER, OTHER, OTHER, OTHER,
+    OTHER, OTHER, OTHER, OTHER, OTHER, OTHER, OTHER, OTHER, OTHER, OTHER, OTHER, OTHER, OTHER,
+    OTHER, OTHER, OTHER, OTHER, OTHER, OTHER, OTHER, OTHER, OTHER, OTHER, OTHER, OTHER, OTHER,
+    OTHER, OTHER, OTHER, OTHER, OTHER, OTHER, OTHER, OTHER, OTHER, OTHER, OTHER, OTHER, OTHER,
+    OTHER, OTHER, OTHER, OTHER, OTHER, OTHER, OTHER, OTHER, OTHER, OTHER, OTHER, OTHER, OTHER,
+    OTHER, OTHER, OTHER, OTHER, OTHER, OTHER, OTHER, OTHER, OTHER, OTHER, OTHER, OTHER,
 ];
 
 /// What the instructions with a tag do, as far as it tells.

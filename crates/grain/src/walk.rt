@@ -27,10 +27,10 @@ use crate::edges::{push_table, push_target};
 use crate::effects::{Effect, Flow};
 use crate::error::VerifyError;
 use crate::meter::Meter;
-use crate::tag_effects::{Way, effect_by_tag, tag_effect};
 use crate::pools::Pools;
 use crate::state::{Arrival, State, check_same};
 use crate::states::States;
+use crate::tag_effects::{Way, effect_by_tag, tag_effect};
 use grain_base::{Caps, Flags};
 use grain_bytecode::{Chunk, Instruction, Starts};
 use std::alloc::{AllocError, Global};
@@ -64,7 +64,11 @@ impl Traversal {
     ///
     /// # Errors
     /// [`AllocError`] where the memory was refused.
-    pub(crate) fn new(alloc: Global, instructions: usize, switches: usize) -> Result<Traversal, AllocError>
+    pub(crate) fn new(
+        alloc: Global,
+        instructions: usize,
+        switches: usize,
+    ) -> Result<Traversal, AllocError>
         ensures states { IfOk result (λ t. length t.states ≡ instructions) }
         ensures sent { IfOk result (λ t. length t.sent ≡ switches) }
     {

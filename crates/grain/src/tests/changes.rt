@@ -1,8 +1,9 @@
 //! Code of which one bit was changed.
 
 use crate::error::VerifyError;
+use crate::meter::Meter;
 use crate::samples::{parts, program};
-use crate::verifier::verify;
+use crate::verifier::{verify, verify_metered};
 use std::alloc::Global;
 use std::test::Fail;
 
@@ -22,6 +23,7 @@ fn answers(alloc: Global, code: &[u8]) -> Result<Vec<Answer>, Fail> {
     let (caps, chunks, pools) = (program.caps(), [program.main()], program.pools());
     let all = vec![in alloc;
         verify(alloc, caps, &[], code, &[], &chunks, &pools),
+        verify_metered(alloc, caps, &[], code, &[], &chunks, &pools, &mut Meter::new()),
         program.verify(),
     ]?;
     Ok(all)

@@ -11,15 +11,18 @@ pub returns-in_default-clause-err : goal.returns-in_default-clause-err
 returns-in_default-clause-err c =
     let starts = c.args.self.now.starts.starts in
     let entry = c.args.chunk.now.entry in
-    let named = c.entry-entry.ensures in
-    (
+    let named = c.entry-entry.ensures in (
       inl (
         let l = c.if-end-len.false in let e = c.end-end.ensures in omega arith,
         let a = c.if-entry-end.false in let b = c.if-entry-end-2.false in let e = c.end-end.ensures in omega arith,
         named,
-        inl (c.entry-in_default.ensures, λ s.
-            let place = contains_place starts entry (start_listed c.args.self.now.code.now starts entry c.requires.starts s) in
-            c.in_default.not-Some place.0 ((c.ordinal.ensures.place place.0).1 (place.1 ∙ ap (λ (n : ℕ). Some n) (sym named))))),
+        inl (
+          c.entry-in_default.ensures,
+          λ s.
+              let place = contains_place starts entry (start_listed c.args.self.now.code.now starts entry c.requires.starts s) in
+              c.in_default.not-Some place.0 ((c.ordinal.ensures.place place.0).1 (place.1 ∙ ap (λ (n : ℕ). Some n) (sym named))),
+        ),
+      ),
       λ e. absurd cc,
     )
 
@@ -35,8 +38,7 @@ returns-then-not-contains-clause-err c =
     let entry = c.entry-entry.ensures in
     let end = c.end-end.ensures in
     let last = c.end-then-not-contains.ensures in
-    let un : Contains starts c.args.chunk.now.end → ⊥ = λ h. (let t : c.contains.result ≡ true = c.contains.ensures.1 (subst (Contains starts) (sym end) h) in let f = c.if-not-contains.true in cc) in
-    (
+    let un : Contains starts c.args.chunk.now.end → ⊥ = λ h. (let t : c.contains.result ≡ true = c.contains.ensures.1 (subst (Contains starts) (sym end) h) in let f = c.if-not-contains.true in cc) in (
       inl (
         let l = c.if-end-len.false in omega arith,
         let a = c.if-entry-end.false in let b = c.if-entry-end-2.false in omega arith,
@@ -45,7 +47,8 @@ returns-then-not-contains-clause-err c =
           last,
           record { starts = starts; split = c.requires.starts; here = subst (Contains starts) entry (placed_contains starts c.in-Some.ordinal c.entry-entry.result ((c.ordinal.ensures.place c.in-Some.ordinal).0 c.in-Some.is)) },
           not_listed bytes starts c.args.chunk.now.end c.requires.starts un (let l = c.if-end-len-2.true in omega arith),
-        )),
+        ),
+      ),
       λ e. absurd cc,
     )
 
