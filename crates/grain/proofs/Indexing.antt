@@ -22,13 +22,12 @@ pub indexed_none : (s : Setting) → AreIndexed s []
 indexed_none s = ([], record { each = tt; whole = refl }, All-nil (Indexed s))
 
 -- the front up to an address, and the instruction there, of which the width is known
-pub indexed_more : (s : Setting) (code : List ℕ) (at width : ℕ) (op other : Op) → AreIndexed s (take at code) → StandsAt code at op → Indexed s op → StandsAt code at other → width ≡ width_of other → AreIndexed s (take (at + width) code)
-indexed_more s code at width op other front stands here too is =
-    let wide : width_of op ≡ width = ap width_of (stands_once code at op other stands too) ∙ sym is in (
-      front.0 ++ op ∷ [],
-      subst (λ n. AreInstructions (take (at + n) code) (front.0 ++ op ∷ [])) wide (one_more code at front.0 op front.1 stands),
-      All-push (Indexed s) front.0 op front.2 here,
-    )
+pub indexed_more : (s : Setting) (code : List ℕ) (at width : ℕ) (op : Op) → AreIndexed s (take at code) → StandsAt code at op → Indexed s op → width ≡ width_of op → AreIndexed s (take (at + width) code)
+indexed_more s code at width op front stands here is = (
+  front.0 ++ op ∷ [],
+  subst (λ n. AreInstructions (take (at + n) code) (front.0 ++ op ∷ [])) (sym is) (one_more code at front.0 op front.1 stands),
+  All-push (Indexed s) front.0 op front.2 here,
+)
 
 indexed_any : (caps : Caps) (pools : Pools) (op : Op) → Indexed (alone pools) op → Indexed (setting caps pools) op
 indexed_any caps pools op h = record { tests = h.tests; cases = h.cases }
@@ -55,14 +54,6 @@ flaw_any caps pools code e h = absurd h
 
 front_is : (x n : ℕ) (rest : List ℕ) → take (n + 1) (x ∷ rest) ≡ x ∷ take n rest
 front_is x n rest = rw add-one refl
-
--- the byte at an address is the tag of the instruction there
-pub tag_at : (code : List ℕ) (at : ℕ) (op : Op) → at < length code → StandsAt code at op → (form op).0 ≡ get_or code at 0
-tag_at code at op inside h =
-    let n = sum_by size_of (form op).1 in
-    let e : take (n + 1) (drop at code) ≡ get_or code at 0 ∷ take n (drop (suc at) code) =
-    ap (take (n + 1)) (drop-cons code at 0 inside) ∙ front_is (get_or code at 0) n (drop (suc at) code) in
-    ap (λ (bs : List ℕ). get_or bs 0 0) (sym h.spelled ∙ e)
 
 -- the first byte of an instruction is its tag
 pub tag_of : (tag : ℕ) (fields : List ℕ) (op : Op) → Instr (tag ∷ fields) op → (form op).0 ≡ tag

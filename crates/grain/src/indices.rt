@@ -19,7 +19,9 @@ use crate::error::VerifyError;
 use crate::passed::{Passed, WORDS, add_passed, has_passed};
 use crate::pools::Pools;
 use grain_base::Dynamic;
-use grain_bytecode::{Chain, Op, Pool, Receiver, Root, Step, Switch, Tail, decode, tag, width};
+use grain_bytecode::{
+    Chain, Instruction, Op, Pool, Receiver, Root, Step, Switch, Tail, tag, width,
+};
 use std::collections::HashMap;
 
 /// What an index has to be below.
@@ -448,17 +450,18 @@ fn check_at<const N: usize>(
     ensures ok { IfOk result (λ next. AreIndexed (alone pools.now) (take next code.now)) }
     ensures err { IfErr result (λ e. CodeFlaw (alone pools.now) code.now e) }
 {
-    let Some(width) = width(code, at) else {
+    let Some(instruction) = Instruction::at(code, at) else {
         return Err(VerifyError::Undecodable { at });
     };
-    if is_unindexed(code[at]) {
-        return Ok(at + width);
+    let next = at + instruction.width();
+    if is_unindexed(instruction.tag) {
+        return Ok(next);
     }
-    let Some(op) = decode(code, at) else {
-        return Err(VerifyError::Undecodable { at });
+    let Some(op) = instruction.op() else {
+        unreachable!();
     };
     match check_op(pools, passed, &op) {
-        Ok(()) => Ok(at + width),
+        Ok(()) => Ok(next),
         Err(bad) => Err(VerifyError::BadIndex {
             at,
             what: word_of(bad.bound),

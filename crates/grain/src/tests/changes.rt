@@ -23,7 +23,16 @@ fn answers(alloc: Global, code: &[u8]) -> Result<Vec<Answer>, Fail> {
     let (caps, chunks, pools) = (program.caps(), [program.main()], program.pools());
     let all = vec![in alloc;
         verify(alloc, caps, &[], code, &[], &chunks, &pools),
-        verify_metered(alloc, caps, &[], code, &[], &chunks, &pools, &mut Meter::new()),
+        verify_metered(
+            alloc,
+            caps,
+            &[],
+            code,
+            &[],
+            &chunks,
+            &pools,
+            &mut Meter::new()
+        ),
         program.verify(),
     ]?;
     Ok(all)

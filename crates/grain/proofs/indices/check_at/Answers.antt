@@ -1,17 +1,41 @@
-use Rattle.std.proofs.Common.{refl}
+use Rattle.std.proofs.Common.{◌∷◌, ◌+◌, ◌≡◌, ℕ, List, length, refl, sym, subst, arith}
+use Rattle.grain_bytecode.specs.InstructionTable.{width_of}
+use Rattle.grain_bytecode.specs.Split.{StandsAt}
+use Rattle.grain_bytecode.specs.declared.op.Op.{Op}
+use Rattle.grain_bytecode.proofs.Instructions.{instr_width}
+use Rattle.grain_bytecode.proofs.Reading.{same_instruction}
 use Rattle.grain.specs.FirstOut.{alone}
-use Rattle.grain.proofs.Indexing.{indexed_more, tag_at}
+use Rattle.grain.specs.Indices.{IsOut}
+use Rattle.grain.proofs.Indexing.{indexed_more, tag_of}
 use Rattle.grain.proofs.indices.check_at.Goals as goal
 
 pub returns-then-is_unindexed-clause-ok : goal.returns-then-is_unindexed-clause-ok
 returns-then-is_unindexed-clause-ok g c =
     let s = alone c.args.pools.now in
+    let i = c.in-Some.instruction in
     let found = c.in-Some.ensures.found in
-    let here = c.if-is_unindexed.ensures refl s found.0 (tag_at c.args.code.now c.args.at found.0 c.requires.inside found.1) in
-    indexed_more s c.args.code.now c.args.at c.in-Some.width found.0 found.0 c.requires.front found.1 here found.1 found.2
+    let here = c.if-is_unindexed.ensures refl s found.0 (tag_of i.tag i.fields.now found.0 found.2) in
+    let wide : c.width.result ≡ width_of found.0 = let e = c.width.ensures in let w = instr_width (i.tag ∷ i.fields.now) found.0 found.2 in omega arith in
+    indexed_more s c.args.code.now c.args.at c.width.result found.0 c.requires.front found.1 here wide
+
+pub unreachable-requires : goal.unreachable-requires
+unreachable-requires g c = let found = c.in-Some.ensures.found in c.in_default-op.ensures.none found.0 found.2
 
 pub returns-in-Ok-clause-ok : goal.returns-in-Ok-clause-ok
 returns-in-Ok-clause-ok g c =
+    let s = alone c.args.pools.now in
+    let i = c.in-Some.instruction in
     let found = c.in-Some.ensures.found in
-    let decoded = c.in-Some-decode in
-    indexed_more (alone c.args.pools.now) c.args.code.now c.args.at c.in-Some.width decoded.op found.0 c.requires.front decoded.ensures.found c.in-Ok.ensures.ok found.1 found.2
+    let op = c.in-Some-op.op in
+    let same = same_instruction (i.tag ∷ i.fields.now) found.0 op found.2 c.in-Some-op.ensures.found in
+    let stands = subst (λ (o : Op). StandsAt c.args.code.now c.args.at o) same found.1 in
+    let wide : c.width.result ≡ width_of op = let e = c.width.ensures in let w = instr_width (i.tag ∷ i.fields.now) op c.in-Some-op.ensures.found in omega arith in
+    indexed_more s c.args.code.now c.args.at c.width.result op c.requires.front stands c.in-Ok.ensures.ok wide
+
+pub returns-in-Err-clause-err : goal.returns-in-Err-clause-err
+returns-in-Err-clause-err g c =
+    let i = c.in-Some.instruction in
+    let found = c.in-Some.ensures.found in
+    let op = c.in-Some-op.op in
+    let same = same_instruction (i.tag ∷ i.fields.now) found.0 op found.2 c.in-Some-op.ensures.found in
+    (record { inside = c.requires.inside; front = c.requires.front }, (op, subst (λ (o : Op). StandsAt c.args.code.now c.args.at o) same found.1, subst (λ (what : List ℕ). IsOut (alone c.args.pools.now) op what c.in-Err.bad.index) (sym c.word_of.ensures) c.in-Err.ensures.err))

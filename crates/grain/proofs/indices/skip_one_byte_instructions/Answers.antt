@@ -12,5 +12,5 @@ loop-at-preserved c =
     record {
       further = let f = c.loop-at.invariant.further in omega arith;
       inside = let f = here.fits in let e = c.in-Some-eq1.field-0-test in omega arith;
-      indexed = λ s front. indexed_more s code at 1 op op (c.loop-at.invariant.indexed s front) here.found.1 (byte_indexed s op one) here.found.1 one;
+      indexed = λ s front. indexed_more s code at 1 op (c.loop-at.invariant.indexed s front) here.found.1 (byte_indexed s op one) one;
     }
