@@ -86,3 +86,6 @@ pub(crate) fn read(code: &[u8], at: usize) -> Option<(Op, usize)>
     let op = instruction.op()?;
     Some((op, instruction.width()))
 }
+
+#[cfg(test)]
+mod tests;
