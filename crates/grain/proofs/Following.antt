@@ -1,5 +1,5 @@
 -- How the flow of an instruction is refused.
-use Rattle.std.proofs.Common.{◌≡◌, ◌⊎◌, inl, inr, ℕ, List, Option, sym, subst}
+use Rattle.std.proofs.Common.{◌≡◌, ◌⊎◌, inr, ℕ, List, Option, sym, subst}
 use Rattle.grain_bytecode.specs.Span.{Span}
 use Rattle.grain.specs.Arrivals.{RefusesCounts, RefusesTargetOf}
 use Rattle.grain.specs.Counts.{Counts}

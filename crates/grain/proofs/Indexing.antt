@@ -1,11 +1,10 @@
 -- Code whose indices are in bounds: one instruction more and its tag, and that capabilities don't matter to it.
-use Rattle.std.proofs.Common.{◌≡◌, ℕ, suc, ◌+◌, ◌<◌, ◌≤◌, List, [], ◌∷◌, ◌++◌, length, take, drop, get_or, refl, sym, ap, subst, ◌∙◌, inl, inr, add-one, drop-cons, rules}
-use Rattle.std.specs.Prelude.{sum_by}
+use Rattle.std.proofs.Common.{◌≡◌, ℕ, ◌+◌, ◌≤◌, List, [], ◌∷◌, ◌++◌, length, take, get_or, refl, sym, ap, subst, inl, inr, add-one, rules}
 use Rattle.std.proofs.lemmas.List.{take_all}
 use Rattle.std.proofs.lemmas.List.Elements.{All-nil, All-push, All-weaker}
 use Rattle.grain_base.specs.declared.caps.Caps.{Caps}
 use Rattle.grain_bytecode.specs.Split.{AreInstructions, StandsAt}
-use Rattle.grain_bytecode.specs.InstructionTable.{Instr, form, size_of, width_of}
+use Rattle.grain_bytecode.specs.InstructionTable.{Instr, form, width_of}
 use Rattle.grain_bytecode.specs.declared.op.Op.{Op}
 use Rattle.grain_bytecode.proofs.Splits.{one_more}
 use Rattle.grain.specs.Accepted.{AreIndexed}
@@ -16,7 +15,6 @@ use Rattle.grain.specs.Setting.{Setting, setting}
 use Rattle.grain.specs.declared.error.VerifyError.{VerifyError}
 use Rattle.grain.specs.declared.error.VerifyError.TheVariants as errors
 use Rattle.grain.specs.declared.pools.Pools.{Pools}
-use Rattle.grain.proofs.Once.{stands_once}
 
 pub indexed_none : (s : Setting) → AreIndexed s []
 indexed_none s = ([], record { each = tt; whole = refl }, All-nil (Indexed s))

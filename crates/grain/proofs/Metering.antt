@@ -9,7 +9,7 @@ use Rattle.grain_bytecode.specs.Split.{Split}
 use Rattle.grain_bytecode.proofs.Splits.{one_split}
 use Rattle.grain.specs.Accepted.{Input}
 use Rattle.grain.specs.Code.{Bytecode, coded}
-use Rattle.grain.specs.Meter.{AreReached, HasCounted, IsMetered, IsWithinAll, starts_within}
+use Rattle.grain.specs.Meter.{IsMetered, starts_within}
 use Rattle.grain.specs.Progress.{AreCounted, AreMeteredChunks, IsMeteredChunk}
 use Rattle.grain.specs.Typing.{IsReachedCount}
 use Rattle.grain.specs.declared.error.VerifyError.{VerifyError}

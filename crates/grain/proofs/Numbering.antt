@@ -1,5 +1,5 @@
 -- States that are valid in one chunk.
-use Rattle.std.proofs.Common.{◌≡◌, ℕ, ◌+◌, ◌-◌, ◌<◌, ◌≤◌, suc, zero, cond, nat_eq, true, false, List, [], ◌∷◌, ◌++◌, length, map, replicate, set, Option, None, Some, refl, sym, ap, subst, ◌∙◌, append_assoc, arith}
+use Rattle.std.proofs.Common.{◌≡◌, ℕ, ◌+◌, ◌-◌, ◌<◌, ◌≤◌, suc, zero, cond, nat_eq, true, false, List, [], ◌∷◌, ◌++◌, length, map, replicate, set, Option, None, Some, refl, sym, ap, ◌∙◌, append_assoc, arith}
 use Rattle.std.specs.List.{All}
 use Rattle.std.proofs.lemmas.List.{length-append, length-map, length-replicate, length-set, length_push, map-set, map_push, set-append_left}
 use Rattle.std.proofs.Math.Seq.{set-append_seam}

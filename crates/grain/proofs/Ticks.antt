@@ -1,7 +1,5 @@
 -- Counting with a meter.
-use Rattle.std.proofs.Common.{◌≡◌, ℕ, ◌+◌, ◌-◌, ◌^◌, ◌≤◌, max, min, inl, inr, arith}
-use Rattle.std.proofs.lemmas.Bool.{cases_lt}
-use Rattle.std.proofs.lemmas.Grind.{common_steps}
+use Rattle.std.proofs.Common.{◌≡◌, ℕ, ◌+◌, ◌-◌, ◌^◌, max, min, arith}
 use Rattle.grain.specs.Meter.{HasCounted}
 
 stays : (a most : ℕ) → a ≡ min (a + 0) (max a most)

@@ -1,5 +1,5 @@
 -- A turn of the walk: an instruction is visited.
-use Rattle.std.proofs.Common.{◌≡◌, ◌≢◌, ◌⊎◌, inl, inr, ℕ, ◌+◌, ◌-◌, ◌<◌, ◌≤◌, max, cond, Bool, true, false, List, [], ◌∷◌, ◌++◌, length, get_or, set, slice_get, map, Option, Some, None, option_map, refl, sym, ap, subst, ◌∙◌, append_assoc, add-one, arith}
+use Rattle.std.proofs.Common.{◌≡◌, ◌⊎◌, inl, inr, ℕ, ◌+◌, ◌-◌, ◌<◌, ◌≤◌, max, cond, Bool, true, false, List, [], ◌∷◌, ◌++◌, length, get_or, set, slice_get, map, Option, Some, None, option_map, refl, sym, ap, subst, ◌∙◌, append_assoc, add-one, arith}
 use Rattle.std.specs.List.{All, Contains}
 use Rattle.std.specs.Option.{option_to_list}
 use Rattle.std.proofs.lemmas.Bool.{cases_eq, cases_lt}
@@ -8,14 +8,14 @@ use Rattle.std.proofs.lemmas.List.Elements.{All-contains, All-contains_itself, A
 use Rattle.std.proofs.lemmas.Option.{same_Some, none-some}
 use Rattle.grain_bytecode.specs.InstructionTable.{width_of}
 use Rattle.grain_bytecode.specs.Span.{Span}
-use Rattle.grain_bytecode.specs.Split.{Split, StandsAt}
+use Rattle.grain_bytecode.specs.Split.{StandsAt}
 use Rattle.grain_bytecode.specs.declared.op.Op.{Op}
 use Rattle.grain.specs.Accepted.{IsFramed}
-use Rattle.grain.specs.Arrivals.{Coming, IsPlaced, IsStartIn, RefusesCounts, Sends, SendsAll, SendsNone, all_to, arrivals, coming, falling, sent_by, view}
+use Rattle.grain.specs.Arrivals.{Coming, IsPlaced, IsStartIn, RefusesCounts, Sends, all_to, arrivals, coming, falling, sent_by, view}
 use Rattle.grain.specs.Code.{Bytecode, coded}
 use Rattle.grain.specs.Counts.{Counts}
 use Rattle.grain.specs.Capabilities.{Allows, caps_of}
-use Rattle.grain.specs.Effects.{after_fall, after_jump, falls_through, operands_after, stack_effect, targets}
+use Rattle.grain.specs.Effects.{after_jump, operands_after, stack_effect, targets}
 use Rattle.grain.specs.FlowView.{IsMetBy}
 use Rattle.grain.specs.Flow.{Flow, Switches, fall_for, falls_for, flow_of, jump_for, targets_for}
 use Rattle.grain.specs.Flaw.{ChunkFlaw}

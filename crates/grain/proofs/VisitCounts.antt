@@ -1,7 +1,7 @@
 -- No more addresses are visited than there are.
-use Rattle.std.proofs.Common.{◌≡◌, ℕ, ◌+◌, ◌<◌, ◌≤◌, ◌&&◌, ◌⊎◌, inl, inr, Bool, true, false, cond, eqb, nat_eq, nat_le, nat_lt, List, [], ◌∷◌, ◌++◌, length, get_or, slice_get, filter, Option, Some, None, option_map, refl, sym, ap, subst, ◌∙◌, arith}
+use Rattle.std.proofs.Common.{◌≡◌, ℕ, ◌+◌, ◌<◌, ◌≤◌, ◌&&◌, ◌⊎◌, inl, inr, Bool, true, false, cond, nat_eq, nat_le, nat_lt, List, [], ◌∷◌, ◌++◌, length, get_or, slice_get, filter, Option, Some, None, option_map, refl, sym, ap, subst, ◌∙◌, arith}
 use Rattle.std.specs.Cmp.{IsEquivalence}
-use Rattle.std.specs.List.{Contains, IsDistinct, list_any}
+use Rattle.std.specs.List.{Contains, IsDistinct}
 use Rattle.std.specs.Set.{is_member}
 use Rattle.std.proofs.lemmas.Bool.Decides.{Decides-eqb, nat_tests}
 use Rattle.std.proofs.lemmas.List.Sums.{length-filter}
@@ -13,7 +13,7 @@ use Rattle.grain.specs.Arrivals.{Coming, coming, view}
 use Rattle.grain.specs.Code.{Bytecode, coded}
 use Rattle.grain.specs.Counts.{Counts}
 use Rattle.grain.specs.Meter.{starts_within}
-use Rattle.grain.specs.Progress.{Progress, Seen, Walking, visits_in}
+use Rattle.grain.specs.Progress.{Walking, visits_in}
 use Rattle.grain.specs.Typing.{IsInChunk}
 use Rattle.grain.specs.declared.state.Arrival.{Arrival}
 use Rattle.grain.specs.declared.state.State.{State}

@@ -1,7 +1,6 @@
 -- The walk over plain instructions, in its own variables.
-use Rattle.std.proofs.Common.{◌≡◌, ◌⊎◌, inl, inr, ℕ, ◌+◌, ◌-◌, ◌<◌, ◌≤◌, ◌^◌, max, cond, true, List, [], ◌∷◌, ◌++◌, length, get_or, set, slice_get, map, replicate, Option, Some, None, option_map, refl, sym, ap, subst, ◌∙◌, arith}
+use Rattle.std.proofs.Common.{◌≡◌, inl, ℕ, ◌+◌, ◌-◌, ◌<◌, ◌≤◌, ◌^◌, max, List, [], ◌∷◌, ◌++◌, length, get_or, set, slice_get, map, replicate, Option, Some, None, option_map, refl, sym, ap, subst, ◌∙◌, arith}
 use Rattle.std.specs.List.{All, Contains}
-use Rattle.std.specs.Option.{option_to_list}
 use Rattle.std.proofs.lemmas.List.{append-nil, length-replicate, length-set, map_push}
 use Rattle.std.proofs.Math.ListN.{get_or-map}
 use Rattle.std.proofs.lemmas.List.Elements.{All-contains, All-contains_itself, All-nil, All-push, All-weaker, Contains-append_left, Contains-push}
@@ -16,10 +15,9 @@ use Rattle.grain.specs.Flow.{Falls}
 use Rattle.grain.specs.Flaw.{ChunkFlaw, FallsOff}
 use Rattle.grain.specs.Meter.{HasCounted, starts_within}
 use Rattle.grain.specs.Plain.{IsPlainStep}
-use Rattle.grain.specs.Progress.{Fits, HaltsAt, HasVisited, IsWalking, Walking, visits_in}
-use Rattle.grain.specs.Typing.{IsInChunk, Reached}
+use Rattle.grain.specs.Progress.{HaltsAt, HasVisited, IsWalking, Walking, visits_in}
+use Rattle.grain.specs.Typing.{IsInChunk}
 use Rattle.grain.specs.Walk.{IsReady, bytecode_of}
-use Rattle.grain.specs.declared.error.VerifyError.{VerifyError}
 use Rattle.grain.specs.declared.error.VerifyError.TheVariants.{DepthConflict}
 use Rattle.grain.specs.declared.state.Arrival.{Arrival}
 use Rattle.grain.specs.declared.state.State.{State}

@@ -4,7 +4,7 @@ use Rattle.std.proofs.lemmas.Result.{err_from_is_err_and}
 use Rattle.grain_bytecode.specs.Dispatch.{listed, arms}
 use Rattle.grain_bytecode.specs.declared.switch.SwitchRange.{SwitchRange}
 use Rattle.grain.specs.Code.{switch_targets}
-use Rattle.grain.specs.Arrivals.{IsPlaced, IsStartIn}
+use Rattle.grain.specs.Arrivals.{IsStartIn}
 use Rattle.grain.specs.Arrivals.{RefusesTargetOf}
 use Rattle.grain.specs.Arrivals.{case_targets, range_targets}
 use Rattle.grain.proofs.Pushing.{all_three, in_first, in_second, in_third, refused_of}

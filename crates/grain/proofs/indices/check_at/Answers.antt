@@ -1,4 +1,4 @@
-use Rattle.std.proofs.Common.{◌∷◌, ◌+◌, ◌≡◌, ℕ, List, length, refl, sym, subst, arith}
+use Rattle.std.proofs.Common.{◌∷◌, ◌≡◌, ℕ, List, refl, sym, subst, arith}
 use Rattle.grain_bytecode.specs.InstructionTable.{width_of}
 use Rattle.grain_bytecode.specs.Split.{StandsAt}
 use Rattle.grain_bytecode.specs.declared.op.Op.{Op}

@@ -1,4 +1,3 @@
-use Rattle.std.proofs.Common.{◌+◌, ◌≤◌, arith}
 use Rattle.grain.proofs.Telling.{told_by, sound_at}
 use Rattle.grain.proofs.tag_effects.tag_effect.Goals as goal
 

@@ -1,9 +1,7 @@
-use Rattle.std.proofs.Common.{◌≡◌, ap, refl, sym, subst, ◌∙◌, List, ℕ, Err, Ok}
+use Rattle.std.proofs.Common.{ap, refl, sym, subst}
 use Rattle.std.proofs.lemmas.Result.{err_from_is_err_and}
 use Rattle.grain_bytecode.specs.Split.{Split, starts_from}
 use Rattle.grain_bytecode.specs.Starts.{Front}
-use Rattle.grain.specs.Code.{bytecode}
-use Rattle.grain.specs.Progress.{AreMeteredChunks}
 use Rattle.grain.proofs.verifier.verify_chunks.Goals as goal
 
 pub walk_chunks-requires : goal.walk_chunks-requires

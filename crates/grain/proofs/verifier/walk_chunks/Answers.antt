@@ -1,4 +1,4 @@
-use Rattle.std.proofs.Common.{◌≡◌, ◌⊎◌, inl, inr, Err, ap, ◌∙◌, ◌<◌, ◌≤◌, length, arith}
+use Rattle.std.proofs.Common.{◌≡◌, ◌⊎◌, inl, inr, Err, ap, ◌∙◌, arith}
 use Rattle.std.proofs.lemmas.Result.{err_from_is_err_and}
 use Rattle.grain.specs.Code.{coded}
 use Rattle.grain.specs.Flaw.{IsFirstFlaw}
@@ -6,7 +6,7 @@ use Rattle.grain.specs.Typing.{HasTyping, IsDeepest}
 use Rattle.grain.specs.Walk.{bytecode_of}
 use Rattle.grain.specs.declared.error.VerifyError.{VerifyError}
 use Rattle.grain.specs.declared.error.VerifyError.TheVariants.{OutOfMemory}
-use Rattle.grain.proofs.Metering.{counted_all, counted_more, counted_none, counted_refused}
+use Rattle.grain.proofs.Metering.{counted_all, counted_more, counted_refused}
 use Rattle.grain.proofs.Chunks.{passes_more, passes_there, first_flaw, number_more}
 use Rattle.grain.proofs.verifier.walk_chunks.Goals as goal
 

@@ -1,4 +1,4 @@
-use Rattle.std.proofs.Common.{◌+◌, ◌∷◌, length, subst, arith}
+use Rattle.std.proofs.Common.{◌∷◌, subst, arith}
 use Rattle.grain_bytecode.specs.Split.{StandsAt}
 use Rattle.grain_bytecode.specs.declared.op.Op.{Op}
 use Rattle.grain_bytecode.proofs.Instructions.{instr_width}

@@ -1,4 +1,4 @@
-use Rattle.std.proofs.Common.{◌≡◌, ◌<◌, ◌≤◌, length, List, Option, Some, set, ap, sym, ◌∙◌, arith}
+use Rattle.std.proofs.Common.{◌<◌, length, List, Option, Some, set, ap, sym, ◌∙◌, arith}
 use Rattle.grain.specs.States.{states_of}
 use Rattle.grain.specs.declared.state.State.{State}
 use Rattle.grain.proofs.Numbering.{set_here, set_next, states_long}

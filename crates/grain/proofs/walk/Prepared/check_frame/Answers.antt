@@ -1,4 +1,4 @@
-use Rattle.std.proofs.Common.{◌≡◌, ◌<◌, ◌≤◌, inl, inr, ap, sym, ◌∙◌, subst, ℕ, List, length, Some, true, arith}
+use Rattle.std.proofs.Common.{◌≡◌, ◌<◌, inl, inr, ap, sym, ◌∙◌, subst, ℕ, List, length, Some, true, arith}
 use Rattle.std.specs.List.{Contains}
 use Rattle.grain_bytecode.specs.Split.{Split}
 use Rattle.grain.specs.Layout.{IsBoundary}

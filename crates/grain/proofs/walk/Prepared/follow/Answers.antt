@@ -1,4 +1,4 @@
-use Rattle.std.proofs.Common.{◌⊎◌, ◌<◌, ◌≤◌, inl, subst, arith}
+use Rattle.std.proofs.Common.{◌⊎◌, inl, subst, arith}
 use Rattle.std.proofs.lemmas.Result.{err_from_is_err_and}
 use Rattle.grain.specs.Arrivals.{RefusesCounts, RefusesTargetOf, sent_by, view}
 use Rattle.grain.specs.Flow as flows

@@ -1,16 +1,13 @@
-use Rattle.std.proofs.Common.{◌≡◌, ◌⊎◌, ◌+◌, ◌-◌, ◌<◌, ◌∷◌, inl, inr, ℕ, List, Option, Some, None, option_map, length, ap, sym, subst, ◌∙◌, refl, arith}
+use Rattle.std.proofs.Common.{◌≡◌, ◌⊎◌, ◌∷◌, inl, inr, ℕ, Option, Some, None, option_map, ap, sym, subst, ◌∙◌, refl, arith}
 use Rattle.std.specs.List.{Contains}
 use Rattle.std.proofs.lemmas.Result.{err_from_is_err_and}
-use Rattle.grain_bytecode.specs.InstructionTable.{Instr, width_of}
-use Rattle.grain_bytecode.specs.Split.{StandsAt}
-use Rattle.grain_bytecode.specs.declared.op.Op.{Op}
+use Rattle.grain_bytecode.specs.InstructionTable.{width_of}
 use Rattle.grain_bytecode.proofs.Instructions.{instr_width}
-use Rattle.grain_bytecode.proofs.Reading.{same_instruction}
-use Rattle.grain.specs.Arrivals.{sent_by, view}
+use Rattle.grain.specs.Arrivals.{view}
 use Rattle.grain.specs.Capabilities.{Allows}
 use Rattle.grain.specs.Code.{coded}
 use Rattle.grain.specs.Flaw.{ChunkFlaw, Comes}
-use Rattle.grain.specs.Flow.{Flow, flow_of, jump_for, targets_for}
+use Rattle.grain.specs.Flow.{Flow, targets_for}
 use Rattle.grain.specs.FlowView.{flow}
 use Rattle.grain.specs.Typing.{StandsIn}
 use Rattle.grain.specs.Walk.{bytecode_of}
@@ -21,7 +18,7 @@ use Rattle.grain.proofs.Ordinals.{ordinal_low}
 use Rattle.grain.proofs.Most.{next_few, sends_few}
 use Rattle.grain.proofs.Refusing.{refused_state, refused_target}
 use Rattle.grain.proofs.Splits.{boundary_apart, start_op}
-use Rattle.grain.proofs.Turns.{halts_inside, halts_place, halts_reached, halts_sent, halts_small, refused_counts, visited}
+use Rattle.grain.proofs.Turns.{halts_inside, halts_place, halts_reached, halts_small, refused_counts, visited}
 use Rattle.grain.proofs.walk.Prepared.visit.Goals as goal
 
 pub unreachable-requires : goal.unreachable-requires

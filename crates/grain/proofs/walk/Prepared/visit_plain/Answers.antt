@@ -1,11 +1,7 @@
-use Rattle.std.proofs.Common.{◌≡◌, ◌+◌, ◌-◌, ◌<◌, ◌≤◌, ◌++◌, ◌∷◌, [], ℕ, List, inr, Some, None, Option, max, length, set, sym, ◌∙◌, ap, refl, subst, arith, rules}
+use Rattle.std.proofs.Common.{◌<◌, inr, Some, sym, ◌∙◌, ap, refl, subst, arith}
 use Rattle.std.proofs.lemmas.Result.{err_from_is_err_and}
-use Rattle.grain.specs.Arrivals.{view}
-use Rattle.grain.specs.Code.{coded}
 use Rattle.grain.specs.Flaw.{ChunkFlaw}
-use Rattle.grain.specs.Progress.{visits_in}
 use Rattle.grain.specs.Walk.{bytecode_of}
-use Rattle.grain.specs.declared.state.Arrival.{Arrival}
 use Rattle.grain.specs.declared.state.State.{State}
 use Rattle.grain.specs.declared.walk.Traversal.{Traversal}
 use Rattle.grain.proofs.Splits.{boundary_apart}

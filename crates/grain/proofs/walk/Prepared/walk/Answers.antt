@@ -1,19 +1,17 @@
-use Rattle.std.proofs.Common.{◌≡◌, ◌+◌, ◌-◌, ◌<◌, ◌≤◌, ◌++◌, ◌∷◌, [], ℕ, List, IfNone, IfSome, Some, None, Option, length, Vec, sym, ◌∙◌, ap, refl, subst, arith}
+use Rattle.std.proofs.Common.{◌≡◌, ◌+◌, ◌-◌, ◌<◌, ◌++◌, [], ℕ, List, IfNone, IfSome, None, Option, length, Vec, sym, ◌∙◌, ap, refl, subst, arith}
 use Rattle.std.specs.declared.alloc.Global.{Global}
 use Rattle.std.proofs.lemmas.List.{append-nil, length_push}
 use Rattle.std.proofs.lemmas.Result.{err_from_is_err_and}
 use Rattle.grain_bytecode.specs.Span.{Span}
-use Rattle.grain.specs.Code.{coded}
 use Rattle.grain.specs.Meter.{HasCounted}
-use Rattle.grain.specs.Progress.{HaltsAt, HasVisited, IsWalking, Walking, all_targets, visits_in}
-use Rattle.grain.specs.Typing.{HasTyping, IsDeepest, IsReachedCount}
+use Rattle.grain.specs.Progress.{HaltsAt, IsWalking, all_targets, visits_in}
 use Rattle.grain.specs.Walk.{bytecode_of}
 use Rattle.grain.specs.declared.state.Arrival.{Arrival}
 use Rattle.grain.specs.declared.state.State.{State}
 use Rattle.grain.specs.declared.walk.Prepared.{Prepared}
 use Rattle.grain.specs.declared.walk.Traversal.{Traversal}
 use Rattle.grain.proofs.Most.{outweighs, skips}
-use Rattle.grain.proofs.Ticks.{counted_both, counted_nothing}
+use Rattle.grain.proofs.Ticks.{counted_nothing}
 use Rattle.grain.proofs.Visiting.{counted_visits, nothing_comes, taken_next, walking_begun}
 use Rattle.grain.proofs.VisitCounts.{visits_within}
 use Rattle.grain.proofs.Walking.{visits_few, visits_nothing, walking_end}
