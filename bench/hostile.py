@@ -90,8 +90,14 @@ def handlers_on_operands(n):
     return [verify(code + RETURN)], verdict % n
 
 
+def handlers_of_unlike_bases(n):
+    """One handler after another is armed with none around it, each with one iterator more below it."""
+    code = b"".join(UNIT + ITER_INIT + to(PUSH_HANDLER, 8 * i + 7) + POP_HANDLER for i in range(n))
+    return [verify(code + UNIT + RETURN)], b"accepted 1"
+
+
 def handlers_that_meet(n):
-    """Two branches that arm n handlers each and then meet n times."""
+    """Two branches that arm n handlers of the same bases each, by other instructions, and then meet n times."""
     branch = 11 * n + 1
     ends = 6 + 2 * branch
     code = bytearray(UNIT + to(IF_FALSE, 6 + branch))
@@ -241,6 +247,7 @@ SHAPES = [
     handlers_nested,
     handlers_to_the_next,
     handlers_on_operands,
+    handlers_of_unlike_bases,
     handlers_that_meet,
     tries,
     branches_to_one_place,

@@ -6,15 +6,17 @@ use Rattle.grain_bytecode.specs.declared.op.Op.{Op}
 use Rattle.grain.specs.Accepted.{ChunkPasses, IsSafe}
 use Rattle.grain.specs.Capabilities.{Allows, caps_of}
 use Rattle.grain.specs.Code.{Bytecode, Code, coded}
-use Rattle.grain.specs.Counts.{Counts, nothing}
+use Rattle.grain.specs.Counts.{Base, Counts, last_base, nothing}
 use Rattle.grain.specs.Effects.{Meets, after_fall, after_jump}
 use Rattle.grain.specs.Flaw.{ChunkFlaw, Comes, FallsOff, Leads}
 use Rattle.grain.specs.Machine.{counts}
+use Rattle.grain.specs.Sinking.{FallsShortOf, ReachesUpTo, Stays, untouched}
 use Rattle.grain.specs.Typing.{IsInChunk, HasTyping, Passes, Reached, IsDeepest}
 use Rattle.grain.specs.declared.error.VerifyError.{VerifyError}
 use Rattle.grain.specs.declared.error.VerifyError.TheVariants as errors
 use Rattle.grain.proofs.Law.{typing_covers, reached_is_run, run_passes}
 use Rattle.grain.proofs.Once.{stands_once}
+use Rattle.grain.proofs.Quiet.{run_kept}
 
 module _ (code : Bytecode) (chunk : Span) (m : ℕ) (typed : HasTyping (coded code) chunk m) where
   covered : (at : ℕ) (c : Counts) → Reached (coded code) chunk at c → typed.0 at ≡ Some c
@@ -43,8 +45,16 @@ module _ (code : Bytecode) (chunk : Span) (m : ℕ) (typed : HasTyping (coded co
   allowed_here : (at : ℕ) (op : Op) (c : Counts) → Comes code chunk at op c → Allows code.setting.caps (caps_of code.setting op)
   allowed_here at op c comes = (passes_here at op c comes).allowed
 
+  stays_here : (at : ℕ) (op : Op) (c : Counts) → Comes code chunk at op c → Stays code.setting op c
+  stays_here at op c comes = (passes_here at op c comes).stays
+
   one_state : (at : ℕ) (c d : Counts) → Reached (coded code) chunk at c → Reached (coded code) chunk at d → c ≡ d
   one_state at c d r q = same_Some c d (sym (covered at c r) ∙ covered at d q)
+
+-- stacks that reach up to a base don't fall short of it
+reaches : (base stacks : Base) (need have : ℕ) → ReachesUpTo base stacks → FallsShortOf base stacks need have → ⊥
+reaches base stacks need have r (inl (en, eh, l)) = let k = r.operands in omega arith
+reaches base stacks need have r (inr (enough, en, eh, l)) = let k = r.iterators in omega arith
 
 -- a chunk that has a typing holds something
 pub typed_holds : (code : Bytecode) (chunk : Span) (m : ℕ) → HasTyping (coded code) chunk m → chunk.entry < chunk.end
@@ -64,6 +74,8 @@ no_flaw code chunk (errors.DepthConflict at expected found) p (f, i, c) = c.unli
 no_flaw code chunk (errors.Underflow at need have) p (f, (op, c, comes, en, eh, l)) = let h = (met_here code chunk chunk.max_stack p.typed at op c comes.comes).operands in omega arith
 no_flaw code chunk (errors.IteratorUnderflow at) p (f, (op, c, comes, l)) = let h = (met_here code chunk chunk.max_stack p.typed at op c comes.comes).iterators in omega arith
 no_flaw code chunk (errors.HandlerUnderflow at) p (f, (op, c, comes, l)) = let h = (met_here code chunk chunk.max_stack p.typed at op c comes.comes).handlers in omega arith
+no_flaw code chunk (errors.SinksBelowHandler at need have) p (f, (op, c, comes, meets, (loud, short))) =
+    reaches (last_base c.bases) (untouched code.setting op c) need have (stays_here code chunk chunk.max_stack p.typed at op c comes.comes loud) short
 no_flaw code chunk errors.FallsOffTheEnd p (inl h) = let k = h.0 in let l = typed_holds code chunk chunk.max_stack p.typed in omega arith
 no_flaw code chunk errors.FallsOffTheEnd p (inr h) = falls_nowhere code chunk chunk.max_stack p.typed h.1
 no_flaw code chunk (errors.StackExceedsDeclared needed declared) p (f, e, l, d, w) =
@@ -89,4 +101,5 @@ deepest_safe code chunk n m t d =
       finds = λ x run. (let w = run_passes (coded code) chunk m t x run in (w.0, record { stands = w.1.stands; meets = w.1.meets }, w.1.allowed));
       most = λ x run. d.most x.address (counts x) ((reached_is_run (coded code) chunk m t x.address (counts x)).1 (x, run, refl, refl));
       attained = (h.0, h.1, ap (λ (c : Counts). c.operands) h.3 ∙ a.1.2);
+      kept = λ x earlier run. run_kept (coded code) chunk m t earlier x run;
     }

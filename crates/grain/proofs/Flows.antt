@@ -1,5 +1,5 @@
 -- What an operation does, where its flow is known.
-use Rattle.std.proofs.Common.{◌≡◌, ℕ, ◌+◌, ◌-◌, ◌^◌, ◌<◌, ◌≤◌, ap, subst}
+use Rattle.std.proofs.Common.{◌≡◌, ℕ, ◌+◌, ◌-◌, ◌^◌, ◌<◌, ◌≤◌, length, ap, subst}
 use Rattle.std.specs.Int.Bits.{and_zero_l}
 use Rattle.grain_bytecode.specs.Span.{Span}
 use Rattle.grain_bytecode.specs.declared.op.Op.{Op}
@@ -11,6 +11,7 @@ use Rattle.grain.specs.Effects.{stack_effect, needs, Meets, operands_after}
 use Rattle.grain.specs.Flow.{Flow, flow_of, iterators_for, handlers_for}
 use Rattle.grain.specs.FlowView.{IsMetBy, IsShort}
 use Rattle.grain.specs.Setting.{Setting}
+use Rattle.grain.specs.Sinking.{Stays}
 use Rattle.grain.specs.Typing.{Passes, StandsIn}
 use Rattle.grain.specs.declared.error.VerifyError.{VerifyError}
 use Rattle.grain.specs.declared.error.VerifyError.TheVariants as errors
@@ -23,22 +24,23 @@ pub meets_known : (s : Setting) (op : Op) (c : Counts) (f : Flow) → f ≡ flow
 meets_known s op c f same there met = record {
   operands = there;
   iterators = subst (λ (g : Flow). iterators_for g ≤ c.iterators) same met.iterators;
-  handlers = subst (λ (g : Flow). handlers_for g ≤ c.handlers) same met.handlers;
+  handlers = subst (λ (g : Flow). handlers_for g ≤ length c.bases) same met.handlers;
 }
 
 pub short_state : (code : Bytecode) (op : Op) (at : ℕ) (c : Counts) (f : Flow) (e : VerifyError) → f ≡ flow_of op → Allows code.setting.caps (caps_of code.setting op) → IsShort f at c e → RefusesState code op at c e
 short_state code op at c f (errors.IteratorUnderflow a) same allowed (ea, l) = (ea, allowed, subst (λ (g : Flow). c.iterators < iterators_for g) same l)
-short_state code op at c f (errors.HandlerUnderflow a) same allowed (ea, l) = (ea, allowed, subst (λ (g : Flow). c.handlers < handlers_for g) same l)
+short_state code op at c f (errors.HandlerUnderflow a) same allowed (ea, l) = (ea, allowed, subst (λ (g : Flow). length c.bases < handlers_for g) same l)
 short_state code op at c f e same allowed h = absurd h
 
 -- where nothing is asked, all of it is there
 pub nothing_missing : (caps : ℕ) → Allows caps 0
 nothing_missing caps = and_zero_l (2 ^ 16 - 1 - caps)
 
--- an operation that finds all that it needs passes
-pub passes_known : (code : Bytecode) (chunk : Span) (at : ℕ) (op : Op) (c : Counts) (caps needs takes gives : ℕ) (f : Flow) → StandsIn (coded code) chunk at op → caps ≡ caps_of code.setting op → (needs, takes, gives) ≡ stack_effect code.setting.chains op → f ≡ flow_of op → Allows code.setting.caps caps → needs ≤ c.operands → IsMetBy f c → Passes (coded code) chunk at c op
-passes_known code chunk at op c caps needs takes gives f stands asked known same allowed there met = record {
+-- an operation that finds all that it needs, and stays above the base of the last handler, passes
+pub passes_known : (code : Bytecode) (chunk : Span) (at : ℕ) (op : Op) (c : Counts) (caps needs takes gives : ℕ) (f : Flow) → StandsIn (coded code) chunk at op → caps ≡ caps_of code.setting op → (needs, takes, gives) ≡ stack_effect code.setting.chains op → f ≡ flow_of op → Allows code.setting.caps caps → needs ≤ c.operands → IsMetBy f c → Stays code.setting op c → Passes (coded code) chunk at c op
+passes_known code chunk at op c caps needs takes gives f stands asked known same allowed there met stays = record {
   stands = stands;
   meets = meets_known code.setting op c f same (subst (λ n. n ≤ c.operands) (ap (λ (e : ℕ × ℕ × ℕ). e.0) known) there) met;
   allowed = subst (Allows code.setting.caps) asked allowed;
+  stays = stays;
 }

@@ -27,17 +27,17 @@ after_few : (s : Setting) (op : Op) (m : ℕ) (c : Counts) → Meets s op c → 
 after_few s op m c meets h = let t = takes_few s.chains op in let g = gives_few s.chains op in let n = meets.operands in omega arith
 
 jump_small : (f : Flow) (left m : ℕ) (c : Counts) → left ≤ m + 1 → IsSmall m c → IsSmall (m + 1) (jump_for f left c)
-jump_small (AdvancesIterator exit) left m c l h = record { operands = (let k = h.operands in omega arith); iterators = (let k = h.iterators in omega arith); handlers = (let k = h.handlers in omega arith) }
-jump_small (PushesHandler target) left m c l h = record { operands = (let k = h.operands in omega arith); iterators = (let k = h.iterators in omega arith); handlers = (let k = h.handlers in omega arith) }
-jump_small f left m c l h = record { operands = l; iterators = (let k = h.iterators in omega arith); handlers = (let k = h.handlers in omega arith) }
+jump_small (AdvancesIterator exit) left m c l h = record { operands = (let k = h.operands in omega arith); iterators = (let k = h.iterators in omega arith) }
+jump_small (PushesHandler target) left m c l h = record { operands = (let k = h.operands in omega arith); iterators = (let k = h.iterators in omega arith) }
+jump_small f left m c l h = record { operands = l; iterators = (let k = h.iterators in omega arith) }
 
 fall_small : (f : Flow) (left m : ℕ) (c : Counts) → left ≤ m + 1 → IsSmall m c → IsSmall (m + 1) (fall_for f left c)
-fall_small BeginsIterator left m c l h = record { operands = l; iterators = (let k = h.iterators in omega arith); handlers = (let k = h.handlers in omega arith) }
-fall_small EndsIterator left m c l h = record { operands = (let k = h.operands in omega arith); iterators = (let k = h.iterators in omega arith); handlers = (let k = h.handlers in omega arith) }
-fall_small (AdvancesIterator exit) left m c l h = record { operands = (let k = h.operands in omega arith); iterators = (let k = h.iterators in omega arith); handlers = (let k = h.handlers in omega arith) }
-fall_small (PushesHandler target) left m c l h = record { operands = (let k = h.operands in omega arith); iterators = (let k = h.iterators in omega arith); handlers = (let k = h.handlers in omega arith) }
-fall_small PopsHandler left m c l h = record { operands = (let k = h.operands in omega arith); iterators = (let k = h.iterators in omega arith); handlers = (let k = h.handlers in omega arith) }
-fall_small f left m c l h = record { operands = l; iterators = (let k = h.iterators in omega arith); handlers = (let k = h.handlers in omega arith) }
+fall_small BeginsIterator left m c l h = record { operands = l; iterators = (let k = h.iterators in omega arith) }
+fall_small EndsIterator left m c l h = record { operands = (let k = h.operands in omega arith); iterators = (let k = h.iterators in omega arith) }
+fall_small (AdvancesIterator exit) left m c l h = record { operands = (let k = h.operands in omega arith); iterators = (let k = h.iterators in omega arith) }
+fall_small (PushesHandler target) left m c l h = record { operands = (let k = h.operands in omega arith); iterators = (let k = h.iterators in omega arith) }
+fall_small PopsHandler left m c l h = record { operands = (let k = h.operands in omega arith); iterators = (let k = h.iterators in omega arith) }
+fall_small f left m c l h = record { operands = l; iterators = (let k = h.iterators in omega arith) }
 
 pub edge_small : (code : Code) (op : Op) (at : ℕ) (m : ℕ) (c : Counts) (b : ℕ) (d : Counts) → Meets code.setting op c → IsSmall m c → Edge code op at c b d → IsSmall (m + 1) d
 edge_small code op at m c b d meets h (inl j) = subst (λ (x : Counts). IsSmall (m + 1) x) (sym j.1) (jump_small (flow_of op) (operands_after code.setting op c.operands) m c (after_few code.setting op m c meets h.operands) h)

@@ -1,16 +1,16 @@
 -- What walks reach is what kept runs reach.
-use Rattle.std.proofs.Common.{◌≡◌, ℕ, ◌+◌, ◌-◌, ◌<◌, ◌≤◌, ◌⊎◌, ◌↔◌, inl, inr, suc, zero, Bool, true, false, cond, List, [], ◌∷◌, length, min, Option, Some, refl, sym, ap, subst, ◌∙◌, arith}
+use Rattle.std.proofs.Common.{◌≡◌, ℕ, ◌<◌, ◌≤◌, ◌⊎◌, ◌↔◌, inl, inr, suc, zero, Bool, true, false, cond, List, [], ◌∷◌, map, min, Option, Some, refl, sym, ap, subst, ◌∙◌, arith}
 use Rattle.std.specs.List.{Contains}
 use Rattle.std.proofs.lemmas.Option.{same_Some, none-some}
 use Rattle.std.proofs.lemmas.List.Elements.{Contains-push}
 use Rattle.grain_bytecode.specs.Span.{Span}
 use Rattle.grain_bytecode.specs.declared.op.Op.{Op}
 use Rattle.grain.specs.Code.{Code}
-use Rattle.grain.specs.Counts.{Counts}
+use Rattle.grain.specs.Counts.{Base, Counts, armed, without_last}
 use Rattle.grain.specs.Effects.{Edge, after_fall, after_jump, falls_through, operands_after, targets}
 use Rattle.grain.specs.Flow.{Flow, PopsHandler, PushesHandler, fall_for, falls_for, flow_of, jump_for, targets_for}
 use Rattle.grain.specs.Layout.{next, switches}
-use Rattle.grain.specs.Machine.{Handler, Machine, first, counts, Finds, without_last, handlers_for, handlers_after, jumps_for, Flows, Steps, innermost, Catches, IsKept, Moves, IsKeptRun, IsOnKeptRun}
+use Rattle.grain.specs.Machine.{Handler, Machine, first, base_of, counts, Finds, handlers_for, handlers_after, jumps_for, Flows, Steps, innermost, Catches, IsKept, Moves, IsKeptRun, IsOnKeptRun}
 use Rattle.grain.specs.EdgeSteps.{IsArmed, armed_counts, IsEdgeStep, IsEdgeCatch}
 use Rattle.grain.specs.Typing.{IsTyping, HasTyping, Passes, Reached, begin, onward}
 use Rattle.grain.proofs.Once.{reads_once}
@@ -30,35 +30,35 @@ only_one x y (suc k, l, e) = absurd (let h : suc k < suc 0 = l in omega arith)
 min_right : {a b : ℕ} → b ≤ a → b ≡ min a b
 min_right {a} {b} h = omega arith
 
-pub counts_ext : (c d : Counts) → c.operands ≡ d.operands → c.iterators ≡ d.iterators → c.handlers ≡ d.handlers → c ≡ d
-counts_ext c d x y z = λ i. record { operands = x i; iterators = y i; handlers = z i }
+pub counts_ext : (c d : Counts) → c.operands ≡ d.operands → c.iterators ≡ d.iterators → c.bases ≡ d.bases → c ≡ d
+counts_ext c d x y z = λ i. record { operands = x i; iterators = y i; bases = z i }
 
--- how many handlers are armed after an operation of such a flow
-abbrev armed_for : Flow → ℕ → ℕ
-armed_for (PushesHandler target) h = h + 1
-armed_for PopsHandler h = h - 1
-armed_for f h = h
+-- the bases after an operation of such a flow
+abbrev pub bases_for : Flow → Counts → List Base
+bases_for (PushesHandler target) c = armed c
+bases_for PopsHandler c = without_last c.bases
+bases_for f c = c.bases
 
-fall_handlers : (f : Flow) (left : ℕ) (c : Counts) → (fall_for f left c).handlers ≡ armed_for f c.handlers
-fall_handlers (PushesHandler target) left c = refl
-fall_handlers f left c = refl
+fall_bases : (f : Flow) (left : ℕ) (c : Counts) → (fall_for f left c).bases ≡ bases_for f c
+fall_bases (PushesHandler target) left c = refl
+fall_bases f left c = refl
 
-jump_handlers : (f : Flow) (switches : List (List ℕ)) (left : ℕ) (c : Counts) (b : ℕ) → Contains (targets_for switches f) b → (jump_for f left c).handlers ≡ armed_for f c.handlers
-jump_handlers PopsHandler switches left c b h = absurd (not_in_nil b h)
-jump_handlers f switches left c b h = refl
+jump_bases : (f : Flow) (switches : List (List ℕ)) (left : ℕ) (c : Counts) (b : ℕ) → Contains (targets_for switches f) b → (jump_for f left c).bases ≡ bases_for f c
+jump_bases PopsHandler switches left c b h = absurd (not_in_nil b h)
+jump_bases f switches left c b h = refl
 
-edge_handlers : (code : Code) (op : Op) (at : ℕ) (c : Counts) (b : ℕ) (d : Counts) → Edge code op at c b d → d.handlers ≡ armed_for (flow_of op) c.handlers
-edge_handlers code op at c b d (inl j) = ap (λ (x : Counts). x.handlers) j.1 ∙ jump_handlers (flow_of op) (switches code.layout) (operands_after code.setting op c.operands) c b j.0
-edge_handlers code op at c b d (inr g) = ap (λ (x : Counts). x.handlers) g.2 ∙ fall_handlers (flow_of op) (operands_after code.setting op c.operands) c
+pub edge_bases : (code : Code) (op : Op) (at : ℕ) (c : Counts) (b : ℕ) (d : Counts) → Edge code op at c b d → d.bases ≡ bases_for (flow_of op) c
+edge_bases code op at c b d (inl j) = ap (λ (x : Counts). x.bases) j.1 ∙ jump_bases (flow_of op) (switches code.layout) (operands_after code.setting op c.operands) c b j.0
+edge_bases code op at c b d (inr g) = ap (λ (x : Counts). x.bases) g.2 ∙ fall_bases (flow_of op) (operands_after code.setting op c.operands) c
 
-length_without_last : (hs : List Handler) → length (without_last hs) ≡ length hs - 1
-length_without_last [] = omega arith
-length_without_last (h ∷ hs) = omega arith
+map_without_last : (hs : List Handler) → map base_of (without_last hs) ≡ without_last (map base_of hs)
+map_without_last [] = refl
+map_without_last (h ∷ hs) = refl
 
-handlers_count : (f : Flow) (m : Machine) → length (handlers_for f m) ≡ armed_for f (length m.handlers)
-handlers_count (PushesHandler target) m = omega arith
-handlers_count PopsHandler m = length_without_last m.handlers
-handlers_count f m = refl
+handlers_bases : (f : Flow) (m : Machine) → map base_of (handlers_for f m) ≡ bases_for f (counts m)
+handlers_bases (PushesHandler target) m = refl
+handlers_bases PopsHandler m = map_without_last m.handlers
+handlers_bases f m = refl
 
 flows_edge : (code : Code) (op : Op) (at : ℕ) (c : Counts) (b : ℕ) (d : Counts) → Flows code op at c b d → Edge code op at c b d
 flows_edge code op at c b d (inl j) = inl j.1
@@ -98,14 +98,14 @@ handlers_armed code chunk op m PopsHandler e p h = without_last_armed code chunk
 handlers_armed code chunk op m f e p h = h.armed
 
 -- the catch edge of an instruction that arms a handler
-catch_edge : (code : Code) (op : Op) (target : ℕ) (c : Counts) → flow_of op ≡ PushesHandler target → Contains (targets (switches code.layout) op) target × (record c { handlers = c.handlers + 1 } ≡ after_jump code.setting op c)
+catch_edge : (code : Code) (op : Op) (target : ℕ) (c : Counts) → flow_of op ≡ PushesHandler target → Contains (targets (switches code.layout) op) target × (record c { bases = armed c } ≡ after_jump code.setting op c)
 catch_edge code op target c e = (
   subst (λ (f : Flow). Contains (targets_for (switches code.layout) f) target) (sym e) (Contains-push [] target),
   ap (λ (f : Flow). jump_for f (operands_after code.setting op c.operands) c) (sym e),
 )
 
 -- where an armed handler catches is reached
-armed_reached : (code : Code) (chunk : Span) (h : Handler) (outer : List Handler) → IsArmed code chunk h outer → Reached code chunk h.target (record { operands = h.operands; iterators = h.iterators; handlers = length outer + 1 })
+armed_reached : (code : Code) (chunk : Span) (h : Handler) (outer : List Handler) → IsArmed code chunk h outer → Reached code chunk h.target (record { operands = h.operands; iterators = h.iterators; bases = base_of h ∷ map base_of outer })
 armed_reached code chunk h outer a = onward a.reached a.passes (inl (catch_edge code a.op h.target (armed_counts h outer) a.arms))
 
 -- some state of a kept run
@@ -124,10 +124,10 @@ module _ (code : Code) (chunk : Span) (d : ℕ) (typed : HasTyping code chunk d)
   tied_step : (m n : Machine) → Steps code chunk m n → IsTied code chunk m → IsTied code chunk n
   tied_step m n step h =
       let e = flows_edge code step.op m.address (counts m) n.address step.counted step.edge in
-      let k = edge_handlers code step.op m.address (counts m) n.address step.counted e in
-      let l = handlers_count (flow_of step.op) m in
+      let k = edge_bases code step.op m.address (counts m) n.address step.counted e in
+      let l = handlers_bases (flow_of step.op) m in
       let p = found_passes m step.op h.reached step.finds in
-      let same : step.counted ≡ counts n = counts_ext step.counted (counts n) (sym step.operands) (sym step.iterators) (k ∙ (sym l ∙ ap length (sym step.handlers))) in
+      let same : step.counted ≡ counts n = counts_ext step.counted (counts n) (sym step.operands) (sym step.iterators) (k ∙ (sym l ∙ ap (map base_of) (sym step.handlers))) in
       record {
         reached = subst (λ (c : Counts). Reached code chunk n.address c) same (onward h.reached p e);
         armed = subst (λ (hs : List Handler). AreArmed code chunk hs) (sym step.handlers) (handlers_armed code chunk step.op m (flow_of step.op) refl p h);
@@ -138,9 +138,8 @@ module _ (code : Code) (chunk : Span) (d : ℕ) (typed : HasTyping code chunk d)
       let a = innermost_kept (AreArmed code chunk) (λ x hs q. q.1) m.handlers fault.handler fault.outer h.armed fault.caught in
       let eo : fault.handler.operands ≡ min fault.operands_found fault.handler.operands = min_right kept.operands in
       let ei : fault.handler.iterators ≡ min fault.iterators_found fault.handler.iterators = min_right kept.iterators in
-      let eh : length fault.outer + 1 ≡ suc (length fault.outer) = omega arith in
       subst (λ (x : Machine). IsTied code chunk x) (sym fault.lands) (record {
-        reached = subst (λ (c : Counts). Reached code chunk fault.handler.target c) (counts_ext _ _ eo ei eh) (armed_reached code chunk fault.handler fault.outer a.0);
+        reached = subst (λ (c : Counts). Reached code chunk fault.handler.target c) (counts_ext _ _ eo ei refl) (armed_reached code chunk fault.handler fault.outer a.0);
         armed = (record { place = a.0.place; op = a.0.op; reached = a.0.reached; passes = a.0.passes; arms = a.0.arms }, a.1);
       })
 
@@ -168,29 +167,28 @@ module _ (code : Code) (chunk : Span) (d : ℕ) (typed : HasTyping code chunk d)
       let a = innermost_kept (AreArmed code chunk) (λ x hs q. q.1) m.handlers fault.handler fault.outer h.armed fault.caught in
       let eo : min fault.operands_found fault.handler.operands ≡ fault.handler.operands = sym (min_right kept.operands) in
       let ei : min fault.iterators_found fault.handler.iterators ≡ fault.handler.iterators = sym (min_right kept.iterators) in
-      let eh : suc (length fault.outer) ≡ length fault.outer + 1 = omega arith in
-      (a.0, ap (λ (x : Machine). x.address) fault.lands, ap counts fault.lands ∙ (counts_ext _ _ eo ei eh ∙ (catch_edge code a.0.op fault.handler.target (armed_counts fault.handler fault.outer) a.0.arms).1))
+      (a.0, ap (λ (x : Machine). x.address) fault.lands, ap counts fault.lands ∙ (counts_ext _ _ eo ei refl ∙ (catch_edge code a.0.op fault.handler.target (armed_counts fault.handler fault.outer) a.0.arms).1))
 
   -- a step along an edge
   flow_step : (m : Machine) (op : Op) (b : ℕ) (d' : Counts) → Finds code chunk m op → Flows code op m.address (counts m) b d' → IsEdgeStep code chunk m b d'
   flow_step m op b d' p f =
       let n : Machine = record { address = b; operands = d'.operands; iterators = d'.iterators; handlers = handlers_after op m } in
-      let k = edge_handlers code op m.address (counts m) b d' (flows_edge code op m.address (counts m) b d' f) in
+      let k = edge_bases code op m.address (counts m) b d' (flows_edge code op m.address (counts m) b d' f) in
       record {
         after = n;
         step = record { op = op; counted = d'; finds = p; edge = f; operands = refl; iterators = refl; handlers = refl };
         address = refl;
-        same = counts_ext (counts n) d' refl refl (handlers_count (flow_of op) m ∙ sym k);
+        same = counts_ext (counts n) d' refl refl (handlers_bases (flow_of op) m ∙ sym k);
       }
 
   -- the catch edge: arming, and then a fault that finds the stacks whole
   catch_steps : (m : Machine) (op : Op) (target : ℕ) → flow_of op ≡ PushesHandler target → IsOnKeptRun code chunk m → Finds code chunk m op → IsEdgeCatch code chunk m target (after_jump code.setting op (counts m))
   catch_steps m op target e run p =
       let h : Handler = record { target = target; operands = m.operands; iterators = m.iterators; spent = false } in
-      let armed : Machine = record { address = next code.layout m.address op; operands = m.operands; iterators = m.iterators; handlers = h ∷ m.handlers } in
+      let after_arming : Machine = record { address = next code.layout m.address op; operands = m.operands; iterators = m.iterators; handlers = h ∷ m.handlers } in
       let falls : falls_through op ≡ true = ap falls_for e in
-      let after : after_fall code.setting op (counts m) ≡ record (counts m) { handlers = length m.handlers + 1 } = ap (λ (f : Flow). fall_for f (operands_after code.setting op m.operands) (counts m)) e in
-      let arming : Steps code chunk m armed = record {
+      let after : after_fall code.setting op (counts m) ≡ record (counts m) { bases = armed (counts m) } = ap (λ (f : Flow). fall_for f (operands_after code.setting op m.operands) (counts m)) e in
+      let arming : Steps code chunk m after_arming = record {
         op = op;
         counted = after_fall code.setting op (counts m);
         finds = p;
@@ -199,9 +197,9 @@ module _ (code : Code) (chunk : Span) (d : ℕ) (typed : HasTyping code chunk d)
         iterators = ap (λ (x : Counts). x.iterators) (sym after);
         handlers = ap (λ (f : Flow). handlers_for f m) (sym e);
       } in
-      let w = run_finds armed (m ∷ run.0, (inl arming, run.1)) in
+      let w = run_finds after_arming (m ∷ run.0, (inl arming, run.1)) in
       let n : Machine = record { address = target; operands = min m.operands m.operands; iterators = min m.iterators m.iterators; handlers = record h { spent = true } ∷ m.handlers } in
-      let caught : Catches code chunk armed n = record {
+      let caught : Catches code chunk after_arming n = record {
         op = w.0;
         operands_found = m.operands;
         iterators_found = m.iterators;
@@ -216,7 +214,7 @@ module _ (code : Code) (chunk : Span) (d : ℕ) (typed : HasTyping code chunk d)
         lands = refl;
       } in
       record {
-        armed = armed;
+        armed = after_arming;
         arming = arming;
         after = n;
         fault = caught;
@@ -224,7 +222,7 @@ module _ (code : Code) (chunk : Span) (d : ℕ) (typed : HasTyping code chunk d)
         whole_iterators = refl;
         kept = record { operands = omega arith; iterators = omega arith };
         address = refl;
-        same = counts_ext (counts n) (record (counts m) { handlers = length m.handlers + 1 }) (omega arith) (omega arith) (omega arith) ∙ (catch_edge code op target (counts m) e).1;
+        same = counts_ext (counts n) (record (counts m) { bases = armed (counts m) }) (omega arith) (omega arith) refl ∙ (catch_edge code op target (counts m) e).1;
       }
 
   -- every written edge is one or two steps of a kept run

@@ -2,11 +2,13 @@ pub mod Attaching
 pub mod Bodies
 pub mod Bounds
 pub mod Building
+pub mod ByDepth
 pub mod ChainTests
 pub mod Chunks
 pub mod Declared
 pub mod Drawing
 pub mod Exact
+pub mod FirstLists
 pub mod Firsts
 pub mod Flows
 pub mod Following
@@ -18,6 +20,7 @@ pub mod Law
 pub mod Laying
 pub mod Metering
 pub mod Most
+pub mod NamedLists
 pub mod Numbering
 pub mod Offsets
 pub mod Once
@@ -27,9 +30,13 @@ pub mod Passing
 pub mod Places
 pub mod Progress
 pub mod Pushing
+pub mod Quiet
 pub mod Refusing
 pub mod Restoring
+pub mod Sending
+pub mod Sharing
 pub mod Splits
+pub mod Staying
 pub mod Telling
 pub mod Ticks
 pub mod Tightening

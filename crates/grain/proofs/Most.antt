@@ -6,11 +6,11 @@ use Rattle.std.proofs.lemmas.List.{length-append, length-map, get_or_past}
 use Rattle.std.proofs.lemmas.List.Sums.{get_or-le-sum_by}
 use Rattle.std.proofs.lemmas.Bool.{cases_lt}
 use Rattle.grain_bytecode.specs.Span.{Span}
-use Rattle.grain.specs.Arrivals.{Coming, Sends, all_to, coming}
-use Rattle.grain.specs.Counts.{Counts}
+use Rattle.grain.specs.Arrivals.{Sends, Underway, all_underway, underway}
 use Rattle.grain.specs.Flow.{Flow, Switches, targets_for}
 use Rattle.grain.specs.Progress.{all_targets}
 use Rattle.grain.specs.declared.state.Arrival.{Arrival}
+use Rattle.grain.specs.declared.state.State.{State}
 
 few_by : (switches : List (List ℕ)) (f : Flow) → length (targets_for switches f) ≤ all_targets switches + 1
 few_by switches (Switches w) = elim (cases_lt w (length switches)) [
@@ -20,18 +20,18 @@ few_by switches (Switches w) = elim (cases_lt w (length switches)) [
 few_by switches f = omega arith
 
 -- what is sent makes the worklist longer by no more
-pub sends_few : (starts : List ℕ) (chunk : Span) (switches : List (List ℕ)) (f : Flow) (after : Counts) (sent new_sent : List (Option Counts)) (old new : List Arrival) → Sends starts chunk switches f after sent new_sent (map coming old) (map coming new) → length new ≤ length old + (all_targets switches + 1)
+pub sends_few : (starts : List ℕ) (chunk : Span) (switches : List (List ℕ)) (f : Flow) (after : State) (sent new_sent : List (Option State)) (old new : List Arrival) → Sends starts chunk switches f after sent new_sent (map underway old) (map underway new) → length new ≤ length old + (all_targets switches + 1)
 sends_few starts chunk switches f after sent new_sent old new (inl all) =
-    let e : length (map coming new) ≡ length (map coming old) + length (all_to after (targets_for switches f)) = ap (λ (xs : List Coming). length xs) all.added ∙ length-append (map coming old) (all_to after (targets_for switches f)) in
-    let a = length-map new coming in
-    let b = length-map old coming in
-    let d : length (all_to after (targets_for switches f)) ≡ length (targets_for switches f) = length-map (targets_for switches f) (λ (t : ℕ). record { at = t; counts = after }) in
+    let e : length (map underway new) ≡ length (map underway old) + length (all_underway after (targets_for switches f)) = ap (λ (xs : List Underway). length xs) all.added ∙ length-append (map underway old) (all_underway after (targets_for switches f)) in
+    let a = length-map new underway in
+    let b = length-map old underway in
+    let d : length (all_underway after (targets_for switches f)) ≡ length (targets_for switches f) = length-map (targets_for switches f) (λ (t : ℕ). record { at = t; state = after }) in
     let few = few_by switches f in
     omega (arith, e, a, b, d, few)
 sends_few starts chunk switches f after sent new_sent old new (inr none) =
-    let e : length (map coming new) ≡ length (map coming old) = ap (λ (xs : List Coming). length xs) none.added in
-    let a = length-map new coming in
-    let b = length-map old coming in
+    let e : length (map underway new) ≡ length (map underway old) = ap (λ (xs : List Underway). length xs) none.added in
+    let a = length-map new underway in
+    let b = length-map old underway in
     omega (arith, e, a, b)
 
 -- and what falls through by one

@@ -41,7 +41,7 @@ progress_start code chunk seen sent f holds empty unsent = record {
     | inl e ↦ subst (λ (x : Coming). Waits code chunk 0 x) e (record {
       reached = begin;
       lands = inl (record { entry = omega arith; end = holds; place = f.entry });
-      small = record { operands = omega arith; iterators = omega arith; handlers = omega arith };
+      small = record { operands = omega arith; iterators = omega arith };
     })
     | inr k ↦ absurd (in_nil a k)
   ];
@@ -202,7 +202,7 @@ module _ (code : Bytecode) (chunk : Span) (seen seen' : Seen) (sent sent' : List
   waiting_old x c =
       let w = p.waiting x (Contains-append_left work (a ∷ []) x c) in
       let h = w.small in
-      record { reached = w.reached; lands = w.lands; small = record { operands = omega (arith, h.operands); iterators = omega (arith, h.iterators); handlers = omega (arith, h.handlers) } }
+      record { reached = w.reached; lands = w.lands; small = record { operands = omega (arith, h.operands); iterators = omega (arith, h.iterators) } }
 
   closed_new : (at : ℕ) (s : Counts) (o : Op) (b : ℕ) (t : Counts) → seen' at ≡ Some s → StandsAt code.bytes at o → Edge (coded code) o at s b t → Pending seen' (work ++ come) b t
   closed_new at s o b t e i j =

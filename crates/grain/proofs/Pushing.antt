@@ -4,17 +4,17 @@ use Rattle.std.specs.List.{All, Contains}
 use Rattle.std.proofs.lemmas.List.Elements.{All-cons, All-push, All-append, Contains-append_left, Contains-append_right}
 use Rattle.grain_bytecode.specs.Span.{Span}
 use Rattle.grain_bytecode.specs.declared.switch.SwitchRange.{SwitchRange}
-use Rattle.grain.specs.Counts.{Counts}
-use Rattle.grain.specs.Arrivals.{RefusesTargetOf, all_to}
+use Rattle.grain.specs.Arrivals.{RefusesTargetOf, all_underway}
 use Rattle.grain.specs.Arrivals.{range_targets}
-use Rattle.grain.specs.Arrivals.{Coming}
+use Rattle.grain.specs.Arrivals.{Underway}
 use Rattle.grain.specs.declared.error.VerifyError.{VerifyError}
+use Rattle.grain.specs.declared.state.State.{State}
 use Rattle.grain.proofs.Splits.{in_tail}
 
 -- one target pushed, of those that are left
-pub pushed_next : (s : Counts) (first work new : List Coming) (left ts : List ℕ) (x : ℕ) → left ≡ x ∷ ts → new ≡ work ++ all_to s (x ∷ []) → work ++ all_to s left ≡ first → new ++ all_to s ts ≡ first
+pub pushed_next : (s : State) (first work new : List Underway) (left ts : List ℕ) (x : ℕ) → left ≡ x ∷ ts → new ≡ work ++ all_underway s (x ∷ []) → work ++ all_underway s left ≡ first → new ++ all_underway s ts ≡ first
 pushed_next s first work new left ts x e f g =
-    ap (λ (ys : List Coming). ys ++ all_to s ts) f ∙ (append_assoc work (all_to s (x ∷ [])) (all_to s ts) ∙ (ap (λ (ys : List ℕ). work ++ all_to s ys) (sym e) ∙ g))
+    ap (λ (ys : List Underway). ys ++ all_underway s ts) f ∙ (append_assoc work (all_underway s (x ∷ [])) (all_underway s ts) ∙ (ap (λ (ys : List ℕ). work ++ all_underway s ys) (sym e) ∙ g))
 
 pub inside_next : (P : ℕ → Type 0) (left ts : List ℕ) (x : ℕ) → left ≡ x ∷ ts → P x → All P ts → All P left
 inside_next P left ts x e p h = subst (All P) (sym e) (All-cons P x ts p h)

@@ -1,5 +1,5 @@
 -- What the walk's parts refuse is a flaw.
-use Rattle.std.proofs.Common.{◌≡◌, ℕ, inr, List, IfErr, Ok, Err, Result, sym, subst}
+use Rattle.std.proofs.Common.{◌≡◌, ℕ, inr, List, IfErr, OnOk, Ok, Err, Result, sym, subst}
 use Rattle.std.specs.List.{Contains}
 use Rattle.grain_bytecode.specs.Span.{Span}
 use Rattle.grain_bytecode.specs.Split.{Split}
@@ -7,10 +7,14 @@ use Rattle.grain_bytecode.specs.declared.op.Op.{Op}
 use Rattle.grain_bytecode.proofs.Splits.{one_split}
 use Rattle.grain.specs.Accepted.{IsFramed}
 use Rattle.grain.specs.Code.{Bytecode, coded}
-use Rattle.grain.specs.Counts.{Counts}
+use Rattle.grain.specs.Capabilities.{Allows, caps_of}
+use Rattle.grain.specs.Counts.{Counts, last_base}
+use Rattle.grain.specs.Effects.{Meets}
 use Rattle.grain.specs.Arrivals.{IsStartIn, RefusesTarget, RefusesState}
 use Rattle.grain.specs.Layout.{IsStart}
 use Rattle.grain.specs.Flaw.{ChunkFlaw, Comes, Leads}
+use Rattle.grain.specs.Sinking.{untouched}
+use Rattle.grain.specs.SinkingView.{RefusesSinking}
 use Rattle.grain.specs.Typing.{IsInChunk}
 use Rattle.grain.specs.declared.error.VerifyError.{VerifyError}
 use Rattle.grain.specs.declared.error.VerifyError.TheVariants as errors
@@ -19,6 +23,11 @@ use Rattle.grain.specs.declared.error.VerifyError.TheVariants as errors
 pub err_so : {A : Type 0} {P Q : VerifyError → Type 0} (r : Result A VerifyError) → ((e : VerifyError) → P e → Q e) → IfErr r P → IfErr r Q
 err_so (Ok x) f h = tt
 err_so (Err e) f h = f e h
+
+-- and what follows from success
+pub ok_so : {A : Type 0} {P Q : Type 0} (r : Result A VerifyError) → (P → Q) → OnOk r P → OnOk r Q
+ok_so (Ok x) f h = f h
+ok_so (Err e) f h = tt
 
 pub start_in : (code : Bytecode) (starts : List ℕ) (chunk : Span) (at : ℕ) → Split code.bytes starts → IsStartIn starts chunk at → IsInChunk (coded code) chunk at
 start_in code starts chunk at split h = record { entry = h.entry; end = h.end; place = record { starts = starts; split = split; here = h.start } }
@@ -31,7 +40,13 @@ refused_state code chunk at op c (errors.MissingCaps artifact absent a) f comes 
 refused_state code chunk at op c (errors.Underflow a need have) f comes (ea, al, en, eh, l) = (f, (op, c, record { comes = comes_at code chunk at a op c comes ea; allowed = al }, en, eh, l))
 refused_state code chunk at op c (errors.IteratorUnderflow a) f comes (ea, al, l) = (f, (op, c, record { comes = comes_at code chunk at a op c comes ea; allowed = al }, l))
 refused_state code chunk at op c (errors.HandlerUnderflow a) f comes (ea, al, l) = (f, (op, c, record { comes = comes_at code chunk at a op c comes ea; allowed = al }, l))
+refused_state code chunk at op c (errors.SinksBelowHandler a need have) f comes (ea, al, meets, sinks) = (f, (op, c, record { comes = comes_at code chunk at a op c comes ea; allowed = al }, meets, sinks))
 refused_state code chunk at op c e f comes h = absurd h
+
+-- the refusal of an instruction that sinks below the base of the last handler
+pub refused_sinking : (code : Bytecode) (chunk : Span) (at : ℕ) (op : Op) (c : Counts) (e : VerifyError) → IsFramed code chunk → Comes code chunk at op c → Allows code.setting.caps (caps_of code.setting op) → Meets code.setting op c → RefusesSinking op at (last_base c.bases) (untouched code.setting op c) e → ChunkFlaw code chunk e
+refused_sinking code chunk at op c (errors.SinksBelowHandler a need have) f comes allowed meets (ea, loud, short) = refused_state code chunk at op c (errors.SinksBelowHandler a need have) f comes (ea, allowed, meets, (loud, short))
+refused_sinking code chunk at op c e f comes allowed meets h = absurd h
 
 renamed : (code : Bytecode) (chunk : Span) (at a target t : ℕ) → Leads code chunk at target → a ≡ at → t ≡ target → Leads code chunk a t
 renamed code chunk at a target t n e f = subst (λ (x : ℕ). Leads code chunk x t) (sym e) (subst (λ (x : ℕ). Leads code chunk at x) (sym f) n)

@@ -24,6 +24,7 @@ passes_again code chunk n at c op p = record {
   stands = record { within = record { entry = p.stands.within.entry; end = p.stands.within.end; place = p.stands.within.place }; is = p.stands.is };
   meets = p.meets;
   allowed = p.allowed;
+  stays = p.stays;
 }
 
 reached_again : (code : Code) (chunk : Span) (n at : ℕ) (c : Counts) → Reached code chunk at c → Reached code (declaring n chunk) at c

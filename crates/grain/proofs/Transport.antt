@@ -19,12 +19,13 @@ use Rattle.grain.specs.Accepted.{IsFramed}
 use Rattle.grain.specs.ByIndex.{IsCut, LeadWithin, listed, moved, placed}
 use Rattle.grain.specs.Capabilities.{Allows, caps_of}
 use Rattle.grain.specs.Code.{Bytecode, Code}
-use Rattle.grain.specs.Counts.{Counts, nothing}
-use Rattle.grain.specs.Effects.{Edge, Meets, after_fall, after_jump, falls_through, handlers_needed, iterators_needed, needs, operands_after, stack_effect, targets}
+use Rattle.grain.specs.Counts.{Counts, last_base, nothing}
+use Rattle.grain.specs.Effects.{Edge, Meets, after_fall, after_jump, falls_through, handlers_needed, iterators_needed, needs, operands_after, stack_effect, takes, targets}
 use Rattle.grain.specs.Flow as flows
 use Rattle.grain.specs.Flow.{Flow, fall_for, falls_for, flow_of, handlers_for, iterators_for, jump_for, targets_for}
 use Rattle.grain.specs.Layout.{Reads}
 use Rattle.grain.specs.Setting.{Setting}
+use Rattle.grain.specs.Sinking.{ReachesUpTo, Stays, is_quiet, untouched}
 use Rattle.grain.specs.Typing.{HasTyping, IsDeepest, Passes, Reached, StandsIn, begin, onward}
 use Rattle.grain.proofs.Offsets.{apart, ascends, before, next_there, not_after, offset_end, op_here, rises_to, same_or_below, start_there}
 use Rattle.grain.proofs.Once.{reads_once}
@@ -66,6 +67,14 @@ same_caps s offsets (ops.DeclareLocal n false is_global) = refl
 same_caps s offsets (ops.DeclareLocal n true is_global) = refl
 same_caps s offsets op = refl
 
+same_quiet : (offsets : List ℕ) (op : Op) → is_quiet (assembled offsets op) ≡ is_quiet op
+same_quiet offsets (ops.CallFnPtr a is_method capture (Some from)) = refl
+same_quiet offsets (ops.CallFnPtr a true capture None) = refl
+same_quiet offsets (ops.CallFnPtr a false capture None) = refl
+same_quiet offsets (ops.DeclareLocal n false is_global) = refl
+same_quiet offsets (ops.DeclareLocal n true is_global) = refl
+same_quiet offsets op = refl
+
 flow_assembled : (offsets : List ℕ) (op : Op) → flow_of (assembled offsets op) ≡ flow_along (slice_index offsets) (flow_of op)
 flow_assembled offsets (ops.CallFnPtr a is_method capture (Some from)) = refl
 flow_assembled offsets (ops.CallFnPtr a true capture None) = refl
@@ -98,7 +107,7 @@ targets_along : (f : ℕ → ℕ) (switches : List (List ℕ)) (flow : Flow) →
 targets_along f switches (flows.Switches w) = get_or-map (map f) switches w []
 targets_along f switches flow = refl
 
--- what meets its needs by index meets them by address
+-- what meets its needs by index meets them by address, and sinks as far
 module _ (s : Setting) (offsets : List ℕ) (op : Op) where
   needs_same : needs s (assembled offsets op) ≡ needs s op
   needs_same = ap (λ (e : ℕ × ℕ × ℕ). e.0) (same_effect s.chains offsets op)
@@ -116,15 +125,27 @@ module _ (s : Setting) (offsets : List ℕ) (op : Op) where
   meets_there c h = record {
     operands = subst (λ n. n ≤ c.operands) (sym needs_same) h.operands;
     iterators = subst (λ n. n ≤ c.iterators) (sym iterators_same) h.iterators;
-    handlers = subst (λ n. n ≤ c.handlers) (sym handlers_same) h.handlers;
+    handlers = subst (λ n. n ≤ length c.bases) (sym handlers_same) h.handlers;
   }
 
   meets_here : (c : Counts) → Meets s (assembled offsets op) c → Meets s op c
   meets_here c h = record {
     operands = subst (λ n. n ≤ c.operands) needs_same h.operands;
     iterators = subst (λ n. n ≤ c.iterators) iterators_same h.iterators;
-    handlers = subst (λ n. n ≤ c.handlers) handlers_same h.handlers;
+    handlers = subst (λ n. n ≤ length c.bases) handlers_same h.handlers;
   }
+
+  takes_same : takes s (assembled offsets op) ≡ takes s op
+  takes_same = ap (λ (e : ℕ × ℕ × ℕ). e.1) (same_effect s.chains offsets op)
+
+  untouched_same : (c : Counts) → untouched s (assembled offsets op) c ≡ untouched s op c
+  untouched_same c = λ i. record { operands = c.operands - takes_same i; iterators = c.iterators - iterators_same i }
+
+  stays_there : (c : Counts) → Stays s op c → Stays s (assembled offsets op) c
+  stays_there c h = λ loud. subst (ReachesUpTo (last_base c.bases)) (sym (untouched_same c)) (h (sym (same_quiet offsets op) ∙ loud))
+
+  stays_here : (c : Counts) → Stays s (assembled offsets op) c → Stays s op c
+  stays_here c h = λ loud. subst (ReachesUpTo (last_base c.bases)) (untouched_same c) (h (same_quiet offsets op ∙ loud))
 
   jump_same : (c : Counts) → after_jump s (assembled offsets op) c ≡ after_jump s op c
   jump_same c =
@@ -291,6 +312,7 @@ module _ (s : Setting) (all : List Op) (switches : List (List ℕ)) (code offset
     stands = stands_in_there cut i op part p.stands;
     meets = meets_there s offsets op c p.meets;
     allowed = subst (Allows s.caps) (sym (same_caps s offsets op)) p.allowed;
+    stays = stays_there s offsets op c p.stays;
   }
 
   -- what stands in the chunk is the operation of an index of the cut
@@ -310,6 +332,7 @@ module _ (s : Setting) (all : List Op) (switches : List (List ℕ)) (code offset
           };
           meets = meets_here s offsets o.0 c p'.meets;
           allowed = subst (Allows s.caps) (same_caps s offsets o.0) p'.allowed;
+          stays = stays_here s offsets o.0 c p'.stays;
         },
         same,
       )

@@ -5,35 +5,40 @@ use Rattle.std.specs.Option.{option_to_list}
 use Rattle.std.proofs.lemmas.Bool.{cases_eq, cases_lt}
 use Rattle.std.proofs.lemmas.List.{append-nil, get_or-set_same, get_or-set_other, get_or_past, length-set, map-append, map_push}
 use Rattle.std.proofs.lemmas.List.Elements.{All-contains, All-contains_itself, All-push, All-weaker, Contains-append_cases, Contains-append_left, Contains-append_right, Contains-push}
-use Rattle.std.proofs.lemmas.Option.{same_Some, none-some}
+use Rattle.std.proofs.lemmas.Option.{same_Some, none-some, slice_get_within}
 use Rattle.grain_bytecode.specs.InstructionTable.{width_of}
 use Rattle.grain_bytecode.specs.Span.{Span}
 use Rattle.grain_bytecode.specs.Split.{StandsAt}
 use Rattle.grain_bytecode.specs.declared.op.Op.{Op}
 use Rattle.grain.specs.Accepted.{IsFramed}
-use Rattle.grain.specs.Arrivals.{Coming, IsPlaced, IsStartIn, RefusesCounts, Sends, all_to, arrivals, coming, falling, sent_by, view}
+use Rattle.grain.specs.Arrivals.{Coming, IsPlaced, IsStartIn, RefusesSwitch, Sends, all_to, arrivals, coming, falling, sent_by, underway, view}
 use Rattle.grain.specs.Code.{Bytecode, coded}
 use Rattle.grain.specs.Counts.{Counts}
 use Rattle.grain.specs.Capabilities.{Allows, caps_of}
-use Rattle.grain.specs.Effects.{after_jump, operands_after, stack_effect, targets}
-use Rattle.grain.specs.FlowView.{IsMetBy}
-use Rattle.grain.specs.Flow.{Flow, Switches, fall_for, falls_for, flow_of, jump_for, targets_for}
+use Rattle.grain.specs.Effects.{after_fall, after_jump, operands_after, stack_effect, targets}
+use Rattle.grain.specs.FlowView.{IsMetBy, fallen, jumped}
+use Rattle.grain.specs.Flow.{Flow, Switches, bases_for, fall_for, falls_for, flow_of, jump_for, targets_for}
 use Rattle.grain.specs.Flaw.{ChunkFlaw}
-use Rattle.grain.specs.Progress.{HaltsAt, IsWalking, Walking}
+use Rattle.grain.specs.Lists.{Grows, list_of, size}
+use Rattle.grain.specs.Progress.{HaltsAt, IsWalking, KnowsLists, NameLists, NamesList, Walking, visits_in}
+use Rattle.grain.specs.Sinking.{Stays}
 use Rattle.grain.specs.Typing.{IsInChunk, Passes, Reached, onward}
 use Rattle.grain.specs.Walk.{IsReady, bytecode_of}
 use Rattle.grain.specs.declared.error.VerifyError.{VerifyError}
 use Rattle.grain.specs.declared.error.VerifyError.TheVariants as errors
+use Rattle.grain.specs.declared.lists.Lists.{Lists}
 use Rattle.grain.specs.declared.state.Arrival.{Arrival}
 use Rattle.grain.specs.declared.state.State.{State}
 use Rattle.grain.specs.declared.walk.Prepared.{Prepared}
 use Rattle.grain.specs.declared.walk.Traversal.{Traversal}
 use Rattle.grain.proofs.Flows.{left_is, passes_known}
+use Rattle.grain.proofs.NamedLists.{all_named_more, arrivals_named_more, fallen_named, grows_not, jumped_named, named_more, named_set, named_there, view_kept, walking_kept}
 use Rattle.grain.proofs.Ordinals.{next_ordinal}
 use Rattle.grain.proofs.Progress.{Comes, in_map, map_out}
 use Rattle.grain.proofs.Refusing.{start_in}
+use Rattle.grain.proofs.Sending.{come_all, come_none, noted_as, sends_named, switches_named, unlike_views, view_fallen, view_jumped, was_sent}
 use Rattle.grain.proofs.VisitCounts.{visits_room}
-use Rattle.grain.proofs.Walking.{taken_inside, taken_reached, taken_small, walking_visit}
+use Rattle.grain.proofs.Walking.{taken_inside, taken_reached, taken_small, visited_more, walking_visit}
 
 -- what comes by all edges, with the counts that are sent to a switch noted
 module _ (code : Bytecode) (op : Op) (at : ℕ) (c : Counts) (sent : List (Option Counts)) where
@@ -70,59 +75,102 @@ module _ (code : Bytecode) (op : Op) (at : ℕ) (c : Counts) (sent : List (Optio
     noted = λ v d k. inl (ap (λ (s : List (Option Counts)). get_or s v None) (sym e) ∙ k);
   }
 
--- an instruction at which the walk halts
-module _ (p : Prepared) (chunk : Span) (t : Traversal) (here : Arrival) (deepest : ℕ) (h : HaltsAt p chunk t here deepest) where
+-- an instruction at which the walk halts, where lists may since have come to those that there were
+module _ (p : Prepared) (chunk : Span) (t : Traversal) (old lists : Lists) (here : Arrival) (deepest : ℕ) (grows : Grows old lists) (h : HaltsAt p chunk old t here deepest) where
   pub halts_place : slice_get p.starts.starts here.ordinal ≡ Some here.at
   halts_place = All-contains (IsPlaced p.starts.starts chunk) (t.work.items ++ here ∷ []) here h.is.placed (Contains-push t.work.items here) h.within
 
-  pub halts_walking : Walking (bytecode_of p) chunk p.starts.starts h.before (sent_by t.sent) (map coming t.work.items ++ coming here ∷ []) h.earlier
-  halts_walking = subst (λ (xs : List Coming). Walking (bytecode_of p) chunk p.starts.starts h.before (sent_by t.sent) xs h.earlier) (map_push coming t.work.items here) h.is.walking
+  pub halts_named : NamesList old here.state
+  halts_named = All-contains (λ (a : Arrival). NamesList old a.state) (t.work.items ++ here ∷ []) here h.is.known.waiting (Contains-push t.work.items here)
 
-  pub halts_reached : Reached (coded (bytecode_of p)) chunk here.at (view here.state)
-  halts_reached = taken_reached _ _ _ _ _ _ here _ halts_walking
+  pub halts_view : view lists here.state ≡ view old here.state
+  halts_view = view_kept old lists grows here.state halts_named
+
+  pub halts_walking : Walking (bytecode_of p) chunk p.starts.starts lists h.before (sent_by lists t.sent) (map (coming lists) t.work.items ++ coming lists here ∷ []) h.earlier
+  halts_walking =
+      subst (λ (xs : List Coming). Walking (bytecode_of p) chunk p.starts.starts lists h.before (sent_by lists t.sent) xs h.earlier) (map_push (coming lists) t.work.items here)
+      (walking_kept old lists grows (bytecode_of p) chunk p.starts.starts h.before t.sent (t.work.items ++ here ∷ []) h.earlier h.is.known.states h.is.known.sent h.is.known.waiting h.is.walking)
+
+  pub halts_reached : Reached (coded (bytecode_of p)) chunk here.at (view lists here.state)
+  halts_reached = taken_reached _ _ _ _ _ _ _ here _ halts_walking
 
   pub halts_inside : IsInChunk (coded (bytecode_of p)) chunk here.at
-  halts_inside = taken_inside _ _ _ _ _ _ here _ halts_walking h.within
+  halts_inside = taken_inside _ _ _ _ _ _ _ here _ halts_walking h.within
 
-  pub halts_small : (here.state.operands < chunk.end) × (here.state.iterators < chunk.end) × (here.state.handlers < chunk.end)
-  halts_small = taken_small _ _ _ _ _ _ here _ halts_walking (visits_room _ _ _ _ _ _ here _ halts_walking halts_place h.fresh h.within)
+  -- there is room for another visit, and so for another list
+  pub halts_room : visits_in h.before < chunk.end
+  halts_room = visits_room _ _ _ _ _ _ _ here _ halts_walking halts_place h.fresh h.within
+
+  pub halts_small : (here.state.operands < chunk.end) × (here.state.iterators < chunk.end)
+  halts_small = taken_small _ _ _ _ _ _ _ here _ halts_walking halts_room
 
   -- what was sent to a switch before was reached at each of its targets
-  pub halts_sent : (w : ℕ) (c : Counts) → get_or (sent_by t.sent) w None ≡ Some c → (x : ℕ) → Contains (get_or (bytecode_of p).switches w []) x → IsInChunk (coded (bytecode_of p)) chunk x × Reached (coded (bytecode_of p)) chunk x c
+  pub halts_sent : (w : ℕ) (c : Counts) → get_or (sent_by lists t.sent) w None ≡ Some c → (x : ℕ) → Contains (get_or (bytecode_of p).switches w []) x → IsInChunk (coded (bytecode_of p)) chunk x × Reached (coded (bytecode_of p)) chunk x c
   halts_sent w c e x k = let s = halts_walking.progress.sent_there w c e x k in (s.inside, s.reached)
 
 -- its edges are followed
-module _ (p : Prepared) (chunk : Span) (t new : Traversal) (here : Arrival) (deepest : ℕ) (op : Op) (next : Option Arrival) (ready : IsReady p) (framed : IsFramed (bytecode_of p) chunk) (h : HaltsAt p chunk t here deepest) (passes : Passes (coded (bytecode_of p)) chunk here.at (view here.state) op) (falls : map coming (option_to_list next) ≡ falling (bytecode_of p) op here.at (view here.state)) (states : new.states ≡ t.states) (long : length new.sent ≡ length t.sent) (placed : All (IsPlaced p.starts.starts chunk) (new.work.items ++ option_to_list next)) where
-  followed : (come : List Coming) → Comes (bytecode_of p) (sent_by t.sent) (sent_by new.sent) op here.at (view here.state) come → ((x : ℕ) → Contains (targets (bytecode_of p).switches op) x → IsInChunk (coded (bytecode_of p)) chunk x) → map coming (new.work.items ++ option_to_list next) ≡ map coming t.work.items ++ come → IsWalking p chunk new (new.work.items ++ option_to_list next) deepest
+module _ (p : Prepared) (chunk : Span) (t new : Traversal) (here : Arrival) (deepest : ℕ) (op : Op) (next : Option Arrival) (ready : IsReady p) (framed : IsFramed (bytecode_of p) chunk) (old lists : Lists) (grows : Grows old lists) (h : HaltsAt p chunk old t here deepest) (passes : Passes (coded (bytecode_of p)) chunk here.at (view lists here.state) op) (falls : map (coming lists) (option_to_list next) ≡ falling (bytecode_of p) op here.at (view lists here.state)) (states : new.states ≡ t.states) (long : length new.sent ≡ length t.sent) (placed : All (IsPlaced p.starts.starts chunk) (new.work.items ++ option_to_list next)) (sent_named : NameLists lists new.sent) (named : All (λ (a : Arrival). NamesList lists a.state) (new.work.items ++ option_to_list next)) where
+  marked : new.states ≡ set h.before here.ordinal (Some here.state)
+  marked = states ∙ h.marked
+
+  inside_states : here.ordinal < length h.before
+  inside_states = let place = halts_place p chunk t old lists here deepest grows h in let l = slice_get_within p.starts.starts here.ordinal here.at place in let f = h.is.fits.states in omega arith
+
+  knows : KnowsLists lists new (new.work.items ++ option_to_list next)
+  knows = record {
+    shared = grows.shared;
+    states = subst (NameLists lists) (sym marked) (named_set lists h.before here.ordinal here.state (named_more old lists grows here.state (halts_named p chunk t old lists here deepest grows h)) (all_named_more old lists grows h.before h.is.known.states));
+    sent = sent_named;
+    waiting = named;
+    few = (
+        let more : visits_in new.states ≡ visits_in h.before + 1 = ap visits_in marked ∙ visited_more h.before here.ordinal here.state inside_states h.fresh in
+        let few = h.is.known.few in
+        let one = grows.few in
+        omega (arith, more)
+        );
+  }
+
+  followed : (come : List Coming) → Comes (bytecode_of p) (sent_by lists t.sent) (sent_by lists new.sent) op here.at (view lists here.state) come → ((x : ℕ) → Contains (targets (bytecode_of p).switches op) x → IsInChunk (coded (bytecode_of p)) chunk x) → map (coming lists) (new.work.items ++ option_to_list next) ≡ map (coming lists) t.work.items ++ come → IsWalking p chunk lists new (new.work.items ++ option_to_list next) deepest
   followed come comes inside added =
       let fits = h.is.fits in
-      let marked : new.states ≡ set h.before here.ordinal (Some here.state) = states ∙ h.marked in
-      let w = walking_visit (bytecode_of p) chunk p.starts.starts h.before (sent_by t.sent) (sent_by new.sent) (map coming t.work.items) come here h.earlier op ready.starts fits.states framed (halts_place p chunk t here deepest h) h.fresh passes inside comes (halts_walking p chunk t here deepest h) in
+      let walk : List (Option State) → List Coming → ℕ → Type 0 = λ s xs n. Walking (bytecode_of p) chunk p.starts.starts lists s (sent_by lists new.sent) xs n in
+      let before = set h.before here.ordinal (Some here.state) in
+      let w = walking_visit (bytecode_of p) chunk p.starts.starts lists h.before (sent_by lists t.sent) (sent_by lists new.sent) (map (coming lists) t.work.items) come here h.earlier op ready.starts fits.states framed (halts_place p chunk t old lists here deepest grows h) h.fresh passes inside comes (halts_walking p chunk t old lists here deepest grows h) in
+      let coming_next = map (coming lists) (new.work.items ++ option_to_list next) in
       record {
         fits = record { states = ap (λ (s : List (Option State)). length s) marked ∙ length-set h.before here.ordinal (Some here.state) ∙ fits.states; sent = long ∙ fits.sent };
         placed = placed;
+        known = knows;
         walking =
-            subst (λ (s : List (Option State)). Walking (bytecode_of p) chunk p.starts.starts s (sent_by new.sent) (map coming (new.work.items ++ option_to_list next)) deepest) (sym marked)
-            (subst (λ n. Walking (bytecode_of p) chunk p.starts.starts (set h.before here.ordinal (Some here.state)) (sent_by new.sent) (map coming (new.work.items ++ option_to_list next)) n) (sym h.deeper)
-            (subst (λ (xs : List Coming). Walking (bytecode_of p) chunk p.starts.starts (set h.before here.ordinal (Some here.state)) (sent_by new.sent) xs (max h.earlier here.state.operands)) (sym added) w));
+            subst (λ (s : List (Option State)). walk s coming_next deepest) (sym marked)
+            (subst (walk before coming_next) (sym h.deeper)
+            (subst (λ (xs : List Coming). walk before xs (max h.earlier here.state.operands)) (sym added) w));
       }
 
-  pub turned : Sends p.starts.starts chunk (bytecode_of p).switches (flow_of op) (after_jump (bytecode_of p).setting op (view here.state)) (sent_by t.sent) (sent_by new.sent) (map coming t.work.items) (map coming new.work.items) → IsWalking p chunk new (new.work.items ++ option_to_list next) deepest
-  turned (inl all) =
-      followed (arrivals (bytecode_of p) op here.at (view here.state))
-      (comes_all (bytecode_of p) op here.at (view here.state) (sent_by t.sent) (sent_by new.sent) all.noted)
-      (λ x k. start_in (bytecode_of p) p.starts.starts chunk x ready.starts (All-contains (IsStartIn p.starts.starts chunk) (targets (bytecode_of p).switches op) x all.starts_in k))
-      (map-append coming new.work.items (option_to_list next)
-      ∙ ap (λ (xs : List Coming). xs ++ map coming (option_to_list next)) all.added
-      ∙ ap (λ (xs : List Coming). (map coming t.work.items ++ all_to (after_jump (bytecode_of p).setting op (view here.state)) (targets (bytecode_of p).switches op)) ++ xs) falls
-      ∙ append_assoc (map coming t.work.items) (all_to (after_jump (bytecode_of p).setting op (view here.state)) (targets (bytecode_of p).switches op)) (falling (bytecode_of p) op here.at (view here.state)))
-  turned (inr none) =
-      followed (falling (bytecode_of p) op here.at (view here.state))
-      (comes_none (bytecode_of p) op here.at (view here.state) (sent_by t.sent) (sent_by new.sent) none.switch none.kept none.is none.before)
-      (λ x k. (halts_sent p chunk t here deepest h none.switch (after_jump (bytecode_of p).setting op (view here.state)) none.before x (subst (λ (f : Flow). Contains (targets_for (bytecode_of p).switches f) x) none.is k)).0)
-      (map-append coming new.work.items (option_to_list next)
-      ∙ ap (λ (xs : List Coming). xs ++ map coming (option_to_list next)) none.added
-      ∙ ap (λ (xs : List Coming). map coming t.work.items ++ xs) falls)
+  pub turned : (after : State) → view lists after ≡ after_jump (bytecode_of p).setting op (view lists here.state) → Sends p.starts.starts chunk (bytecode_of p).switches (flow_of op) after t.sent new.sent (map underway t.work.items) (map underway new.work.items) → IsWalking p chunk lists new (new.work.items ++ option_to_list next) deepest
+  turned after is (inl all) =
+      let code = bytecode_of p in
+      let c = view lists here.state in
+      let ts = targets code.switches op in
+      let Noted : Counts → Type 0 = λ d. (sent_by lists new.sent ≡ sent_by lists t.sent) ⊎ ((w : ℕ) × (flow_of op ≡ Switches w) × (sent_by lists new.sent ≡ set (sent_by lists t.sent) w (Some d))) in
+      let added = come_all lists t.work.items new.work.items after ts all.added ∙ ap (λ (d : Counts). map (coming lists) t.work.items ++ all_to d ts) is in
+      followed (arrivals code op here.at c)
+      (comes_all code op here.at c (sent_by lists t.sent) (sent_by lists new.sent) (subst Noted is (noted_as lists (flow_of op) t.sent new.sent after all.noted)))
+      (λ x k. start_in code p.starts.starts chunk x ready.starts (All-contains (IsStartIn p.starts.starts chunk) ts x all.starts_in k))
+      (map-append (coming lists) new.work.items (option_to_list next)
+      ∙ ap (λ (xs : List Coming). xs ++ map (coming lists) (option_to_list next)) added
+      ∙ ap (λ (xs : List Coming). (map (coming lists) t.work.items ++ all_to (after_jump code.setting op c) ts) ++ xs) falls
+      ∙ append_assoc (map (coming lists) t.work.items) (all_to (after_jump code.setting op c) ts) (falling code op here.at c))
+  turned after is (inr none) =
+      let code = bytecode_of p in
+      let c = view lists here.state in
+      let before = was_sent lists t.sent none.switch after none.before ∙ ap (λ (d : Counts). Some d) is in
+      followed (falling code op here.at c)
+      (comes_none code op here.at c (sent_by lists t.sent) (sent_by lists new.sent) none.switch (ap (sent_by lists) none.kept) none.is before)
+      (λ x k. (halts_sent p chunk t old lists here deepest grows h none.switch (after_jump code.setting op c) before x (subst (λ (f : Flow). Contains (targets_for code.switches f) x) none.is k)).0)
+      (map-append (coming lists) new.work.items (option_to_list next)
+      ∙ ap (λ (xs : List Coming). xs ++ map (coming lists) (option_to_list next)) (come_none lists t.work.items new.work.items none.added)
+      ∙ ap (λ (xs : List Coming). map (coming lists) t.work.items ++ xs) falls)
 
 -- what falls through is placed
 pub falls_placed : (p : Prepared) (chunk : Span) (here : Arrival) (op : Op) (s : State) → IsReady p → IsFramed (bytecode_of p) chunk → slice_get p.starts.starts here.ordinal ≡ Some here.at → StandsAt p.code.now here.at op → IsPlaced p.starts.starts chunk (record { at = here.at + width_of op; ordinal = here.ordinal + 1; state = s })
@@ -132,63 +180,96 @@ falls_placed p chunk here op s ready framed place stands l = elim (next_ordinal 
 ]
 
 -- a state that falls through to an address, as an arrival
-abbrev pub fallen : ℕ → ℕ → Option State → Option Arrival
-fallen at ordinal after = option_map (λ (s : State). record { at = at; ordinal = ordinal; state = s }) after
+abbrev pub next_of : ℕ → ℕ → Option State → Option Arrival
+next_of at ordinal after = option_map (λ (s : State). record { at = at; ordinal = ordinal; state = s }) after
 
-coming_fallen : (b : Bool) (after : Option State) (c : Counts) (at next ordinal : ℕ) → at ≡ next → option_map view after ≡ cond b (Some c) None → map coming (option_to_list (fallen at ordinal after)) ≡ cond b (record { at = next; counts = c } ∷ []) []
-coming_fallen true None c at next ordinal e h = absurd (none-some c h)
-coming_fallen true (Some s) c at next ordinal e h =
-    let same : coming (record { at = at; ordinal = ordinal; state = s }) ≡ record { at = next; counts = c } = (λ i. record { at = e i; counts = same_Some (view s) c h i }) in
-    ap (λ (x : Coming). x ∷ []) same
-coming_fallen false None c at next ordinal e h = refl
-coming_fallen false (Some s) c at next ordinal e h = absurd (none-some (view s) (sym h))
+-- as counts
+coming_next : (lists : Lists) (b : Bool) (s : State) (after : Option State) (at next ordinal : ℕ) → at ≡ next → after ≡ cond b (Some s) None → map (coming lists) (option_to_list (next_of at ordinal after)) ≡ cond b (record { at = next; counts = view lists s } ∷ []) []
+coming_next lists true s after at next ordinal e h =
+    ap (λ (o : Option State). map (coming lists) (option_to_list (next_of at ordinal o))) h
+    ∙ (let P : ℕ → List Coming = λ a. record { at = a; counts = view lists s } ∷ [] in ap P e)
+coming_next lists false s after at next ordinal e h = ap (λ (o : Option State). map (coming lists) (option_to_list (next_of at ordinal o))) h
 
--- An instruction that finds what it asks and needs is visited, where its state was sent to its targets and what falls
--- through comes next.
-module _ (p : Prepared) (chunk : Span) (t new : Traversal) (here : Arrival) (deepest : ℕ) (op : Op) (width : ℕ) (after : Option State) (ready : IsReady p) (framed : IsFramed (bytecode_of p) chunk) (h : HaltsAt p chunk t here deepest) (stands : StandsAt p.code.now here.at op) (wide : width ≡ width_of op) where
-  fallen_placed : (o : Option State) → (xs : List Arrival) → All (IsPlaced p.starts.starts chunk) xs → All (IsPlaced p.starts.starts chunk) (xs ++ option_to_list (fallen (here.at + width) (here.ordinal + 1) o))
-  fallen_placed None xs all = subst (All (IsPlaced p.starts.starts chunk)) (sym (append-nil xs)) all
-  fallen_placed (Some s) xs all =
+-- An instruction that finds what it asks and needs, and stays above the base of the last handler, is visited, where its
+-- state was sent to its targets and what falls through comes next.
+module _ (p : Prepared) (chunk : Span) (t new : Traversal) (here : Arrival) (deepest : ℕ) (op : Op) (width : ℕ) (after : Option State) (ready : IsReady p) (framed : IsFramed (bytecode_of p) chunk) (old lists : Lists) (grows : Grows old lists) (h : HaltsAt p chunk old t here deepest) (stands : StandsAt p.code.now here.at op) (wide : width ≡ width_of op) where
+  next_placed : (o : Option State) → (xs : List Arrival) → All (IsPlaced p.starts.starts chunk) xs → All (IsPlaced p.starts.starts chunk) (xs ++ option_to_list (next_of (here.at + width) (here.ordinal + 1) o))
+  next_placed None xs all = subst (All (IsPlaced p.starts.starts chunk)) (sym (append-nil xs)) all
+  next_placed (Some s) xs all =
       All-push (IsPlaced p.starts.starts chunk) xs (record { at = here.at + width; ordinal = here.ordinal + 1; state = s }) all
-      (subst (λ n. IsPlaced p.starts.starts chunk (record { at = here.at + n; ordinal = here.ordinal + 1; state = s })) (sym wide) (falls_placed p chunk here op s ready framed (halts_place p chunk t here deepest h) stands))
+      (subst (λ n. IsPlaced p.starts.starts chunk (record { at = here.at + n; ordinal = here.ordinal + 1; state = s })) (sym wide) (falls_placed p chunk here op s ready framed (halts_place p chunk t old lists here deepest grows h) stands))
 
-  pub visited : (caps needs takes gives : ℕ) (f : Flow) → caps ≡ caps_of (bytecode_of p).setting op → (needs, takes, gives) ≡ stack_effect (bytecode_of p).setting.chains op → f ≡ flow_of op → Allows (bytecode_of p).setting.caps caps → needs ≤ here.state.operands → IsMetBy f (view here.state) → Sends p.starts.starts chunk (bytecode_of p).switches f (jump_for f (here.state.operands - takes + gives) (view here.state)) (sent_by t.sent) (sent_by new.sent) (map coming t.work.items) (map coming new.work.items) → option_map view after ≡ cond (falls_for f) (Some (fall_for f (here.state.operands - takes + gives) (view here.state))) None → new.states ≡ t.states → length new.sent ≡ length t.sent → (All (IsPlaced p.starts.starts chunk) t.work.items → All (IsPlaced p.starts.starts chunk) new.work.items) → IsWalking p chunk new (new.work.items ++ option_to_list (fallen (here.at + width) (here.ordinal + 1) after)) deepest
-  visited caps needs takes gives f asked known same allowed there met sends falls states long placed =
+  next_named : (b : Bool) (s : State) (o : Option State) → o ≡ cond b (Some s) None → NamesList lists s → (xs : List Arrival) → All (λ (a : Arrival). NamesList lists a.state) xs → All (λ (a : Arrival). NamesList lists a.state) (xs ++ option_to_list (next_of (here.at + width) (here.ordinal + 1) o))
+  next_named true s o e named xs all =
+      let P : Arrival → Type 0 = λ a. NamesList lists a.state in
+      subst (λ (q : Option State). All P (xs ++ option_to_list (next_of (here.at + width) (here.ordinal + 1) q))) (sym e) (All-push P xs (record { at = here.at + width; ordinal = here.ordinal + 1; state = s }) all named)
+  next_named false s o e named xs all =
+      let P : Arrival → Type 0 = λ a. NamesList lists a.state in
+      subst (λ (q : Option State). All P (xs ++ option_to_list (next_of (here.at + width) (here.ordinal + 1) q))) (sym e) (subst (All P) (sym (append-nil xs)) all)
+
+  -- the arrivals that were there before
+  earlier : (P : Arrival → Type 0) → All P (t.work.items ++ here ∷ []) → All P t.work.items
+  earlier P all = let work = t.work.items in All-weaker (Contains work) P (λ a k. All-contains P (work ++ here ∷ []) a all (Contains-append_left work (here ∷ []) a k)) work (All-contains_itself work)
+
+  visited_here : (caps needs takes gives list : ℕ) (f : Flow) → caps ≡ caps_of (bytecode_of p).setting op → (needs, takes, gives) ≡ stack_effect (bytecode_of p).setting.chains op → f ≡ flow_of op → Allows (bytecode_of p).setting.caps caps → needs ≤ here.state.operands → IsMetBy f (view lists here.state) → Stays (bytecode_of p).setting op (view lists here.state) → list ≤ size lists → list_of lists list ≡ bases_for f (view lists here.state) → Sends p.starts.starts chunk (bytecode_of p).switches f (jumped f (here.state.operands - takes + gives) list here.state) t.sent new.sent (map underway t.work.items) (map underway new.work.items) → after ≡ cond (falls_for f) (Some (fallen f (here.state.operands - takes + gives) list here.state)) None → new.states ≡ t.states → length new.sent ≡ length t.sent → (All (IsPlaced p.starts.starts chunk) t.work.items → All (IsPlaced p.starts.starts chunk) new.work.items) → IsWalking p chunk lists new (new.work.items ++ option_to_list (next_of (here.at + width) (here.ordinal + 1) after)) deepest
+  visited_here caps needs takes gives list f asked known same allowed there met stays in_lists bases sends falls states long placed =
       let code = bytecode_of p in
-      let c = view here.state in
+      let c = view lists here.state in
       let left = here.state.operands - takes + gives in
       let is : left ≡ operands_after code.setting op here.state.operands = left_is code.setting op needs takes gives here.state.operands known in
-      let passes = passes_known code chunk here.at op c caps needs takes gives f (record { within = halts_inside p chunk t here deepest h; is = stands }) asked known same allowed there met in
+      let passes = passes_known code chunk here.at op c caps needs takes gives f (record { within = halts_inside p chunk t old lists here deepest grows h; is = stands }) asked known same allowed there met stays in
+      let sent_state = jumped f left list here.state in
+      let next_state = fallen f left list here.state in
+      let named = named_more old lists grows here.state (halts_named p chunk t old lists here deepest grows h) in
+      let jump_named = jumped_named lists f left list here.state in_lists named in
+      let next_is : view lists next_state ≡ after_fall code.setting op c =
+      view_fallen lists left list here.state f bases ∙ (ap (λ (g : Flow). fall_for g left c) same ∙ ap (λ n. fall_for (flow_of op) n c) is) in
+      let sent_is : view lists sent_state ≡ after_jump code.setting op c =
+      view_jumped lists left list here.state f bases ∙ (ap (λ (g : Flow). jump_for g left c) same ∙ ap (λ n. jump_for (flow_of op) n c) is) in
       let goes =
-      coming_fallen (falls_for f) after (fall_for f left c) (here.at + width) (here.at + width_of op) (here.ordinal + 1) (ap (λ n. here.at + n) wide) falls
-      ∙ (ap (λ (g : Flow). cond (falls_for g) (record { at = here.at + width_of op; counts = fall_for g left c } ∷ []) []) same
-      ∙ ap (λ n. cond (falls_for (flow_of op)) (record { at = here.at + width_of op; counts = fall_for (flow_of op) n c } ∷ []) []) is) in
-      let sent = subst (λ n. Sends p.starts.starts chunk code.switches (flow_of op) (jump_for (flow_of op) n c) (sent_by t.sent) (sent_by new.sent) (map coming t.work.items) (map coming new.work.items)) is
-      (subst (λ (g : Flow). Sends p.starts.starts chunk code.switches g (jump_for g left c) (sent_by t.sent) (sent_by new.sent) (map coming t.work.items) (map coming new.work.items)) same sends) in
-      let P = IsPlaced p.starts.starts chunk in
-      let work = t.work.items in
-      let before : All P work = All-weaker (Contains work) P (λ a k. All-contains P (work ++ here ∷ []) a h.is.placed (Contains-append_left work (here ∷ []) a k)) work (All-contains_itself work) in
-      turned p chunk t new here deepest op (fallen (here.at + width) (here.ordinal + 1) after) ready framed h passes goes states long (fallen_placed after new.work.items (placed before)) sent
+      coming_next lists (falls_for f) next_state after (here.at + width) (here.at + width_of op) (here.ordinal + 1) (ap (λ n. here.at + n) wide) falls
+      ∙ (ap (λ (g : Flow). cond (falls_for g) (record { at = here.at + width_of op; counts = view lists next_state } ∷ []) []) same
+      ∙ (let P : Counts → List Coming = λ d. cond (falls_for (flow_of op)) (record { at = here.at + width_of op; counts = d } ∷ []) [] in ap P next_is)) in
+      let work_named = sends_named lists p.starts.starts chunk code.switches f sent_state t.sent new.sent t.work.items new.work.items jump_named
+      (earlier (λ (a : Arrival). NamesList lists a.state) (arrivals_named_more old lists grows (t.work.items ++ here ∷ []) h.is.known.waiting)) sends in
+      turned p chunk t new here deepest op (next_of (here.at + width) (here.ordinal + 1) after) ready framed old lists grows h passes goes states long
+      (next_placed after new.work.items (placed (earlier (IsPlaced p.starts.starts chunk) h.is.placed)))
+      (switches_named lists p.starts.starts chunk code.switches f sent_state t.sent new.sent t.work.items new.work.items jump_named (all_named_more old lists grows t.sent h.is.known.sent) sends)
+      (next_named (falls_for f) next_state after falls (fallen_named lists f left list here.state in_lists named) new.work.items work_named)
+      sent_state sent_is
+      (subst (λ (g : Flow). Sends p.starts.starts chunk code.switches g sent_state t.sent new.sent (map underway t.work.items) (map underway new.work.items)) same sends)
 
--- other counts than an instruction sends were sent to the targets of its switch before
-pub refused_counts : (p : Prepared) (chunk : Span) (t : Traversal) (here : Arrival) (deepest : ℕ) (op : Op) (needs takes gives : ℕ) (f : Flow) (e : VerifyError) → IsFramed (bytecode_of p) chunk → HaltsAt p chunk t here deepest → (needs, takes, gives) ≡ stack_effect (bytecode_of p).setting.chains op → f ≡ flow_of op → Passes (coded (bytecode_of p)) chunk here.at (view here.state) op → RefusesCounts (bytecode_of p).switches f (jump_for f (here.state.operands - takes + gives) (view here.state)) (sent_by t.sent) e → ChunkFlaw (bytecode_of p) chunk e
-refused_counts p chunk t here deepest op needs takes gives f (errors.DepthConflict a expected found) framed h known same passes (w, before, is, sent, unlike, named, first, second) =
+  -- the same, where what it finds is told of the lists that there were before
+  pub visited : (caps needs takes gives list : ℕ) (f : Flow) → caps ≡ caps_of (bytecode_of p).setting op → (needs, takes, gives) ≡ stack_effect (bytecode_of p).setting.chains op → f ≡ flow_of op → Allows (bytecode_of p).setting.caps caps → needs ≤ here.state.operands → IsMetBy f (view old here.state) → Stays (bytecode_of p).setting op (view old here.state) → list ≤ size lists → list_of lists list ≡ bases_for f (view old here.state) → Sends p.starts.starts chunk (bytecode_of p).switches f (jumped f (here.state.operands - takes + gives) list here.state) t.sent new.sent (map underway t.work.items) (map underway new.work.items) → after ≡ cond (falls_for f) (Some (fallen f (here.state.operands - takes + gives) list here.state)) None → new.states ≡ t.states → length new.sent ≡ length t.sent → (All (IsPlaced p.starts.starts chunk) t.work.items → All (IsPlaced p.starts.starts chunk) new.work.items) → IsWalking p chunk lists new (new.work.items ++ option_to_list (next_of (here.at + width) (here.ordinal + 1) after)) deepest
+  visited caps needs takes gives list f asked known same allowed there met stays in_lists bases =
+      let kept : view old here.state ≡ view lists here.state = sym (halts_view p chunk t old lists here deepest grows h) in
+      visited_here caps needs takes gives list f asked known same allowed there (subst (IsMetBy f) kept met) (subst (Stays (bytecode_of p).setting op) kept stays) in_lists (bases ∙ ap (bases_for f) kept)
+
+-- another state than an instruction sends was sent to the targets of its switch before
+pub refused_switch : (p : Prepared) (chunk : Span) (t : Traversal) (lists : Lists) (here : Arrival) (deepest : ℕ) (op : Op) (needs takes gives : ℕ) (f : Flow) (e : VerifyError) → IsFramed (bytecode_of p) chunk → HaltsAt p chunk lists t here deepest → (needs, takes, gives) ≡ stack_effect (bytecode_of p).setting.chains op → f ≡ flow_of op → Passes (coded (bytecode_of p)) chunk here.at (view lists here.state) op → RefusesSwitch (bytecode_of p).switches f (record here.state { operands = here.state.operands - takes + gives }) t.sent e → ChunkFlaw (bytecode_of p) chunk e
+refused_switch p chunk t lists here deepest op needs takes gives f (errors.DepthConflict a expected found) framed h known same passes (w, before, is, sent, unlike, named, first, second) =
     let code = bytecode_of p in
-    let there = halts_sent p chunk t here deepest h w before sent a named in
-    let left = left_is code.setting op needs takes gives here.state.operands known in
-    let after : jump_for f (here.state.operands - takes + gives) (view here.state) ≡ after_jump code.setting op (view here.state) =
-    ap (λ (g : Flow). jump_for g (here.state.operands - takes + gives) (view here.state)) same ∙ ap (λ n. jump_for (flow_of op) n (view here.state)) left in
+    let c = view lists here.state in
+    let left = here.state.operands - takes + gives in
+    let after : State = record here.state { operands = left } in
+    let grows = grows_not lists h.is.known.shared in
+    let before_named = named_there lists t.sent w before h.is.known.sent sent in
+    let here_named = halts_named p chunk t lists lists here deepest grows h in
+    let there = halts_sent p chunk t lists lists here deepest grows h w (view lists before) (was_sent lists t.sent w before sent) a named in
+    let left_same = left_is code.setting op needs takes gives here.state.operands known in
+    let after_is : view lists after ≡ after_jump code.setting op c =
+    ap (λ (g : Flow). jump_for g left c) (sym is ∙ same) ∙ ap (λ n. jump_for (flow_of op) n c) left_same in
     let jumps : Contains (targets code.switches op) a = subst (λ (g : Flow). Contains (targets_for code.switches g) a) (sym is ∙ same) named in (
       framed,
       there.0,
       record {
-        one = before;
-        other = jump_for f (here.state.operands - takes + gives) (view here.state);
+        one = view lists before;
+        other = view lists after;
         one_reached = there.1;
-        other_reached = onward (halts_reached p chunk t here deepest h) passes (inl (jumps, after));
-        unlike = unlike;
+        other_reached = onward (halts_reached p chunk t lists lists here deepest grows h) passes (inl (jumps, after_is));
+        unlike = unlike_views lists before after h.is.known.shared before_named here_named unlike;
         expected_is = first;
         found_is = second;
       },
     )
-refused_counts p chunk t here deepest op needs takes gives f e framed h known same passes refused = absurd refused
+refused_switch p chunk t lists here deepest op needs takes gives f e framed h known same passes refused = absurd refused

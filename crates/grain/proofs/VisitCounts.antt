@@ -15,6 +15,7 @@ use Rattle.grain.specs.Counts.{Counts}
 use Rattle.grain.specs.Meter.{starts_within}
 use Rattle.grain.specs.Progress.{Walking, visits_in}
 use Rattle.grain.specs.Typing.{IsInChunk}
+use Rattle.grain.specs.declared.lists.Lists.{Lists}
 use Rattle.grain.specs.declared.state.Arrival.{Arrival}
 use Rattle.grain.specs.declared.state.State.{State}
 use Rattle.grain.proofs.Progress.{fresh_more}
@@ -58,38 +59,38 @@ few_starts code chunk starts xs split distinct inside =
     let f = length-filter test starts in
     omega arith
 
-visited_inside : (code : Bytecode) (chunk : Span) (starts : List ℕ) (states : List (Option State)) (sent : List (Option Counts)) (work : List Coming) (deepest : ℕ) (w : Walking code chunk starts states sent work deepest) → (at : ℕ) → Contains w.progress.visited at → IsInChunk (coded code) chunk at
-visited_inside code chunk starts states sent work deepest w at c = let h = (w.progress.listed at).0 c in (w.progress.passed at h.0 h.1).1.stands.within
+visited_inside : (code : Bytecode) (chunk : Span) (starts : List ℕ) (lists : Lists) (states : List (Option State)) (sent : List (Option Counts)) (work : List Coming) (deepest : ℕ) (w : Walking code chunk starts lists states sent work deepest) → (at : ℕ) → Contains w.progress.visited at → IsInChunk (coded code) chunk at
+visited_inside code chunk starts lists states sent work deepest w at c = let h = (w.progress.listed at).0 c in (w.progress.passed at h.0 h.1).1.stands.within
 
 -- no more addresses were visited than the chunk has starts
-pub visits_within : (code : Bytecode) (chunk : Span) (starts : List ℕ) (states : List (Option State)) (sent : List (Option Counts)) (work : List Coming) (deepest : ℕ) → Walking code chunk starts states sent work deepest → Split code.bytes starts → visits_in states ≤ starts_within starts chunk
-visits_within code chunk starts states sent work deepest w split =
-    let most = few_starts code chunk starts w.progress.visited split w.progress.distinct (visited_inside code chunk starts states sent work deepest w) in
+pub visits_within : (code : Bytecode) (chunk : Span) (starts : List ℕ) (lists : Lists) (states : List (Option State)) (sent : List (Option Counts)) (work : List Coming) (deepest : ℕ) → Walking code chunk starts lists states sent work deepest → Split code.bytes starts → visits_in states ≤ starts_within starts chunk
+visits_within code chunk starts lists states sent work deepest w split =
+    let most = few_starts code chunk starts w.progress.visited split w.progress.distinct (visited_inside code chunk starts lists states sent work deepest w) in
     let e = w.progress.count in
     omega arith
 
 -- nor with one more that wasn't visited
-pub visits_more_within : (code : Bytecode) (chunk : Span) (starts : List ℕ) (states : List (Option State)) (sent : List (Option Counts)) (work : List Coming) (a : Arrival) (deepest : ℕ) → Walking code chunk starts states sent (work ++ coming a ∷ []) deepest → Split code.bytes starts → slice_get starts a.ordinal ≡ Some a.at → get_or states a.ordinal None ≡ None → IsInChunk (coded code) chunk a.at → visits_in states + 1 ≤ starts_within starts chunk
-visits_more_within code chunk starts states sent work a deepest w split place fresh inside =
+pub visits_more_within : (code : Bytecode) (chunk : Span) (starts : List ℕ) (lists : Lists) (states : List (Option State)) (sent : List (Option Counts)) (work : List Coming) (a : Arrival) (deepest : ℕ) → Walking code chunk starts lists states sent (work ++ coming lists a ∷ []) deepest → Split code.bytes starts → slice_get starts a.ordinal ≡ Some a.at → get_or states a.ordinal None ≡ None → IsInChunk (coded code) chunk a.at → visits_in states + 1 ≤ starts_within starts chunk
+visits_more_within code chunk starts lists states sent work a deepest w split place fresh inside =
     let p = w.progress in
-    let none = sym (w.agrees a.ordinal a.at place) ∙ ap (option_map view) fresh in
-    let distinct = fresh_more code chunk w.seen sent (visits_in states) (work ++ coming a ∷ []) deepest p a.at none in
+    let none = sym (w.agrees a.ordinal a.at place) ∙ ap (option_map (view lists)) fresh in
+    let distinct = fresh_more code chunk w.seen sent (visits_in states) (work ++ coming lists a ∷ []) deepest p a.at none in
     let most = few_starts code chunk starts (a.at ∷ p.visited) split distinct (λ at c. elim (in_cons a.at p.visited at c) [
       | inl e ↦ subst (IsInChunk (coded code) chunk) e inside
-      | inr k ↦ visited_inside code chunk starts states sent (work ++ coming a ∷ []) deepest w at k
+      | inr k ↦ visited_inside code chunk starts lists states sent (work ++ coming lists a ∷ []) deepest w at k
     ]) in
     let e = p.count in
     omega arith
 
 -- an address of the chunk that wasn't visited leaves room for one visit more
-pub visits_room : (code : Bytecode) (chunk : Span) (starts : List ℕ) (states : List (Option State)) (sent : List (Option Counts)) (work : List Coming) (a : Arrival) (deepest : ℕ) → Walking code chunk starts states sent (work ++ coming a ∷ []) deepest → slice_get starts a.ordinal ≡ Some a.at → get_or states a.ordinal None ≡ None → a.at < chunk.end → visits_in states < chunk.end
-visits_room code chunk starts states sent work a deepest w place fresh l =
+pub visits_room : (code : Bytecode) (chunk : Span) (starts : List ℕ) (lists : Lists) (states : List (Option State)) (sent : List (Option Counts)) (work : List Coming) (a : Arrival) (deepest : ℕ) → Walking code chunk starts lists states sent (work ++ coming lists a ∷ []) deepest → slice_get starts a.ordinal ≡ Some a.at → get_or states a.ordinal None ≡ None → a.at < chunk.end → visits_in states < chunk.end
+visits_room code chunk starts lists states sent work a deepest w place fresh l =
     let p = w.progress in
-    let none = sym (w.agrees a.ordinal a.at place) ∙ ap (option_map view) fresh in
-    let distinct = fresh_more code chunk w.seen sent (visits_in states) (work ++ coming a ∷ []) deepest p a.at none in
+    let none = sym (w.agrees a.ordinal a.at place) ∙ ap (option_map (view lists)) fresh in
+    let distinct = fresh_more code chunk w.seen sent (visits_in states) (work ++ coming lists a ∷ []) deepest p a.at none in
     let below : (q : ℕ) → is_member nat_eq (a.at ∷ p.visited) q ≡ true → q < chunk.end = λ q t. elim (in_cons a.at p.visited q (member (a.at ∷ p.visited) q t)) [
       | inl e ↦ (let k : q < chunk.end = omega (arith, e, l) in k)
-      | inr c ↦ (visited_inside code chunk starts states sent (work ++ coming a ∷ []) deepest w q c).end
+      | inr c ↦ (visited_inside code chunk starts lists states sent (work ++ coming lists a ∷ []) deepest w q c).end
     ] in
     let most = length-le_from_distinct_below (a.at ∷ p.visited) chunk.end distinct below in
     let e = p.count in

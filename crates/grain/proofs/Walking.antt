@@ -20,6 +20,7 @@ use Rattle.grain.specs.Effects.{targets}
 use Rattle.grain.specs.Flaw.{FallsOff}
 use Rattle.grain.specs.Progress.{Progress, Seen, Waits, Walking, one_if_some, visits_in}
 use Rattle.grain.specs.Typing.{IsInChunk, HasTyping, IsReachedCount, Passes, IsDeepest, Reached}
+use Rattle.grain.specs.declared.lists.Lists.{Lists}
 use Rattle.grain.specs.declared.state.Arrival.{Arrival}
 use Rattle.grain.specs.declared.state.State.{State}
 use Rattle.grain.specs.States.{no_state as none}
@@ -62,30 +63,30 @@ nothing_at n k = elim (cases_lt k n) [
 pub visits_nothing : (n : ℕ) → visits_in (replicate n none) ≡ 0
 visits_nothing n = omega (arith, sum_by-replicate one_if_some n none)
 
-pub walking_start : (code : Bytecode) (chunk : Span) (starts : List ℕ) (n : ℕ) (sent : List (Option Counts)) → IsFramed code chunk → chunk.entry < chunk.end → ((w : ℕ) → get_or sent w None ≡ None) → Walking code chunk starts (replicate n none) sent (record { at = chunk.entry; counts = nothing } ∷ []) 0
-walking_start code chunk starts n sent f holds unsent = record {
+pub walking_start : (code : Bytecode) (chunk : Span) (starts : List ℕ) (lists : Lists) (n : ℕ) (sent : List (Option Counts)) → IsFramed code chunk → chunk.entry < chunk.end → ((w : ℕ) → get_or sent w None ≡ None) → Walking code chunk starts lists (replicate n none) sent (record { at = chunk.entry; counts = nothing } ∷ []) 0
+walking_start code chunk starts lists n sent f holds unsent = record {
   seen = λ at. None;
-  agrees = λ k at e. ap (option_map view) (nothing_at n k);
+  agrees = λ k at e. ap (option_map (view lists)) (nothing_at n k);
   progress = subst (λ v. Progress code chunk (λ at. None) sent v (record { at = chunk.entry; counts = nothing } ∷ []) 0) (sym (visits_nothing n)) (progress_start code chunk (λ at. None) sent f holds (λ at. refl) unsent);
 }
 
-module _ (code : Bytecode) (chunk : Span) (starts : List ℕ) (states : List (Option State)) (sent : List (Option Counts)) (work : List Coming) (a : Arrival) (deepest : ℕ) (w : Walking code chunk starts states sent (work ++ coming a ∷ []) deepest) where
+module _ (code : Bytecode) (chunk : Span) (starts : List ℕ) (lists : Lists) (states : List (Option State)) (sent : List (Option Counts)) (work : List Coming) (a : Arrival) (deepest : ℕ) (w : Walking code chunk starts lists states sent (work ++ coming lists a ∷ []) deepest) where
   -- an arrival with the state that was visited is skipped
-  pub walking_skip : slice_get starts a.ordinal ≡ Some a.at → get_or states a.ordinal None ≡ Some a.state → Walking code chunk starts states sent work deepest
+  pub walking_skip : slice_get starts a.ordinal ≡ Some a.at → get_or states a.ordinal None ≡ Some a.state → Walking code chunk starts lists states sent work deepest
   walking_skip place same = record {
     seen = w.seen;
     agrees = w.agrees;
-    progress = progress_skip code chunk w.seen sent (visits_in states) work (coming a) deepest (sym (w.agrees a.ordinal a.at place) ∙ ap (option_map view) same) w.progress;
+    progress = progress_skip code chunk w.seen sent (visits_in states) work (coming lists a) deepest (sym (w.agrees a.ordinal a.at place) ∙ ap (option_map (view lists)) same) w.progress;
   }
 
   -- what was visited before was reached
-  pub before_reached : (s : State) → slice_get starts a.ordinal ≡ Some a.at → get_or states a.ordinal None ≡ Some s → Reached (coded code) chunk a.at (view s)
-  before_reached s place same = w.progress.reached a.at (view s) (sym (w.agrees a.ordinal a.at place) ∙ ap (option_map view) same)
+  pub before_reached : (s : State) → slice_get starts a.ordinal ≡ Some a.at → get_or states a.ordinal None ≡ Some s → Reached (coded code) chunk a.at (view lists s)
+  before_reached s place same = w.progress.reached a.at (view lists s) (sym (w.agrees a.ordinal a.at place) ∙ ap (option_map (view lists)) same)
 
-  taken : Waits code chunk (visits_in states) (coming a)
-  taken = w.progress.waiting (coming a) (Contains-push work (coming a))
+  taken : Waits code chunk (visits_in states) (coming lists a)
+  taken = w.progress.waiting (coming lists a) (Contains-push work (coming lists a))
 
-  pub taken_reached : Reached (coded code) chunk a.at (view a.state)
+  pub taken_reached : Reached (coded code) chunk a.at (view lists a.state)
   taken_reached = taken.reached
 
   pub taken_inside : a.at < chunk.end → IsInChunk (coded code) chunk a.at
@@ -94,38 +95,38 @@ module _ (code : Bytecode) (chunk : Span) (starts : List ℕ) (states : List (Op
   pub taken_falls : chunk.end ≤ a.at → FallsOff code chunk
   taken_falls g = elim taken.lands [ inl h ↦ absurd (let q = h.end in omega arith) | inr e ↦ e.1 ]
 
-  pub taken_small : visits_in states < chunk.end → (a.state.operands < chunk.end) × (a.state.iterators < chunk.end) × (a.state.handlers < chunk.end)
-  taken_small room = let k = taken.small in (omega (arith, k.operands), omega (arith, k.iterators), omega (arith, k.handlers))
+  pub taken_small : visits_in states < chunk.end → (a.state.operands < chunk.end) × (a.state.iterators < chunk.end)
+  taken_small room = let k = taken.small in (omega (arith, k.operands), omega (arith, k.iterators))
 
 -- the first visit of an instruction, of which come what its edges lead to, but for what was sent there before
-module _ (code : Bytecode) (chunk : Span) (starts : List ℕ) (states : List (Option State)) (sent sent' : List (Option Counts)) (work come : List Coming) (a : Arrival) (deepest : ℕ) (op : Op) (split : Split code.bytes starts) (long : length states ≡ length starts) (framed : IsFramed code chunk) (place : slice_get starts a.ordinal ≡ Some a.at) (fresh : get_or states a.ordinal None ≡ None) (passes : Passes (coded code) chunk a.at (view a.state) op) (inside : (x : ℕ) → Contains (targets code.switches op) x → IsInChunk (coded code) chunk x) (comes : Comes code sent sent' op a.at (view a.state) come) (w : Walking code chunk starts states sent (work ++ coming a ∷ []) deepest) where
+module _ (code : Bytecode) (chunk : Span) (starts : List ℕ) (lists : Lists) (states : List (Option State)) (sent sent' : List (Option Counts)) (work come : List Coming) (a : Arrival) (deepest : ℕ) (op : Op) (split : Split code.bytes starts) (long : length states ≡ length starts) (framed : IsFramed code chunk) (place : slice_get starts a.ordinal ≡ Some a.at) (fresh : get_or states a.ordinal None ≡ None) (passes : Passes (coded code) chunk a.at (view lists a.state) op) (inside : (x : ℕ) → Contains (targets code.switches op) x → IsInChunk (coded code) chunk x) (comes : Comes code sent sent' op a.at (view lists a.state) come) (w : Walking code chunk starts lists states sent (work ++ coming lists a ∷ []) deepest) where
   within : a.ordinal < length states
   within = let l = slice_get_within starts a.ordinal a.at place in omega arith
 
-  agrees : (k at : ℕ) → slice_get starts k ≡ Some at → option_map view (get_or (set states a.ordinal (Some a.state)) k None) ≡ noted w.seen a.at (view a.state) at
+  agrees : (k at : ℕ) → slice_get starts k ≡ Some at → option_map (view lists) (get_or (set states a.ordinal (Some a.state)) k None) ≡ noted w.seen a.at (view lists a.state) at
   agrees k at e = elim (cases_eq k a.ordinal) [
     | inl same ↦
         let here : at ≡ a.at = same_Some at a.at (sym e ∙ ap (slice_get starts) same ∙ place) in
-        ap (λ n. option_map view (get_or (set states a.ordinal (Some a.state)) n None)) same
-        ∙ ap (option_map view) (get_or-set_same states a.ordinal (Some a.state) None within)
-        ∙ sym (noted_here w.seen a.at (view a.state))
-        ∙ ap (noted w.seen a.at (view a.state)) (sym here)
+        ap (λ n. option_map (view lists) (get_or (set states a.ordinal (Some a.state)) n None)) same
+        ∙ ap (option_map (view lists)) (get_or-set_same states a.ordinal (Some a.state) None within)
+        ∙ sym (noted_here w.seen a.at (view lists a.state))
+        ∙ ap (noted w.seen a.at (view lists a.state)) (sym here)
     | inr other ↦
         let apart : at ≢ a.at = λ same. other (one_ordinal code.bytes starts split k a.ordinal at e (place ∙ ap (λ (x : ℕ). Some x) (sym same))) in
-        ap (option_map view) (get_or-set_other states a.ordinal k (Some a.state) None other)
+        ap (option_map (view lists)) (get_or-set_other states a.ordinal k (Some a.state) None other)
         ∙ w.agrees k at e
-        ∙ sym (noted_other w.seen a.at (view a.state) at apart)
+        ∙ sym (noted_other w.seen a.at (view lists a.state) at apart)
   ]
 
-  pub walking_visit : Walking code chunk starts (set states a.ordinal (Some a.state)) sent' (work ++ come) (max deepest a.state.operands)
+  pub walking_visit : Walking code chunk starts lists (set states a.ordinal (Some a.state)) sent' (work ++ come) (max deepest a.state.operands)
   walking_visit = record {
-    seen = noted w.seen a.at (view a.state);
+    seen = noted w.seen a.at (view lists a.state);
     agrees = agrees;
     progress =
-        subst (λ v. Progress code chunk (noted w.seen a.at (view a.state)) sent' v (work ++ come) (max deepest a.state.operands)) (sym (visited_more states a.ordinal a.state within fresh))
-        (progress_visit code chunk w.seen (noted w.seen a.at (view a.state)) sent sent' (visits_in states) work come (coming a) deepest op framed (sym (w.agrees a.ordinal a.at place) ∙ ap (option_map view) fresh) passes inside comes (noted_here w.seen a.at (view a.state)) (noted_other w.seen a.at (view a.state)) w.progress);
+        subst (λ v. Progress code chunk (noted w.seen a.at (view lists a.state)) sent' v (work ++ come) (max deepest a.state.operands)) (sym (visited_more states a.ordinal a.state within fresh))
+        (progress_visit code chunk w.seen (noted w.seen a.at (view lists a.state)) sent sent' (visits_in states) work come (coming lists a) deepest op framed (sym (w.agrees a.ordinal a.at place) ∙ ap (option_map (view lists)) fresh) passes inside comes (noted_here w.seen a.at (view lists a.state)) (noted_other w.seen a.at (view lists a.state)) w.progress);
   }
 
--- where nothing is coming any more
-pub walking_end : (code : Bytecode) (chunk : Span) (starts : List ℕ) (states : List (Option State)) (sent : List (Option Counts)) (deepest : ℕ) → Walking code chunk starts states sent [] deepest → HasTyping (coded code) chunk deepest × IsDeepest (coded code) chunk deepest × IsReachedCount (coded code) chunk (visits_in states)
-walking_end code chunk starts states sent deepest w = progress_end code chunk w.seen sent (visits_in states) deepest w.progress
+-- where nothing is coming lists any more
+pub walking_end : (code : Bytecode) (chunk : Span) (starts : List ℕ) (lists : Lists) (states : List (Option State)) (sent : List (Option Counts)) (deepest : ℕ) → Walking code chunk starts lists states sent [] deepest → HasTyping (coded code) chunk deepest × IsDeepest (coded code) chunk deepest × IsReachedCount (coded code) chunk (visits_in states)
+walking_end code chunk starts lists states sent deepest w = progress_end code chunk w.seen sent (visits_in states) deepest w.progress

@@ -14,7 +14,7 @@ use Rattle.grain.specs.ConstCaps.{const_caps}
 use Rattle.grain.specs.Indices.{Indexed}
 use Rattle.grain.specs.Layout.{IsStart, IsBoundary}
 use Rattle.grain.specs.Setting.{Setting}
-use Rattle.grain.specs.Machine.{Machine, Finds, IsOnKeptRun}
+use Rattle.grain.specs.Machine.{Machine, Finds, IsKeptRun, IsOnKeptRun, IsRunKeptAtQuiet}
 use Rattle.grain.specs.Typing.{HasTyping, IsDeepest}
 use Rattle.grain.specs.declared.pools.Pools.{Pools}
 
@@ -79,11 +79,12 @@ abbrev pub AreTyped : Input → List ℕ → Type 0
 AreTyped i numbers = AllZip (HasTyping (coded i.code)) i.chunks numbers
 
 -- No state of a kept run lacks anything, meets an instruction whose capabilities aren't there, or has more operands than
--- this, and some state has as many.
+-- this, and some state has as many. A run is kept where its faults at quiet operations are.
 pub record IsSafe (code : Bytecode) (chunk : Span) (n : ℕ) : Type 0 where
   pub finds : (m : Machine) → IsOnKeptRun (coded code) chunk m → (op : Op) × Finds (coded code) chunk m op × Allows code.setting.caps (caps_of code.setting op)
   pub most : (m : Machine) → IsOnKeptRun (coded code) chunk m → m.operands ≤ n
   pub attained : (m : Machine) × IsOnKeptRun (coded code) chunk m × (m.operands ≡ n)
+  pub kept : (m : Machine) (earlier : List Machine) → IsRunKeptAtQuiet (coded code) chunk m earlier → IsKeptRun (coded code) chunk m earlier
 
 abbrev pub AreSafe : Input → List ℕ → Type 0
 AreSafe i numbers = AllZip (IsSafe i.code) i.chunks numbers

@@ -144,6 +144,7 @@ of_verify faults.FallsOffTheEnd = errors.Verify faults.FallsOffTheEnd
 of_verify (faults.StackExceedsDeclared needed declared) = errors.Verify (faults.StackExceedsDeclared needed declared)
 of_verify (faults.IteratorUnderflow at) = errors.Verify (faults.IteratorUnderflow at)
 of_verify (faults.HandlerUnderflow at) = errors.Verify (faults.HandlerUnderflow at)
+of_verify (faults.SinksBelowHandler at need have) = errors.Verify (faults.SinksBelowHandler at need have)
 of_verify (faults.BadIndex at what index) = errors.Verify (faults.BadIndex at what index)
 
 -- what is printed of an error

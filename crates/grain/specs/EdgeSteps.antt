@@ -1,16 +1,16 @@
 -- How the steps of a run and the written edges belong together.
-use Rattle.std.specs.Prelude.{◌≡◌, ℕ, List, length}
+use Rattle.std.specs.Prelude.{◌≡◌, ℕ, List, map}
 use Rattle.grain_bytecode.specs.Span.{Span}
 use Rattle.grain_bytecode.specs.declared.op.Op.{Op}
 use Rattle.grain.specs.Code.{Code}
 use Rattle.grain.specs.Counts.{Counts}
 use Rattle.grain.specs.Flow.{PushesHandler, flow_of}
-use Rattle.grain.specs.Machine.{Handler, Machine, counts, Steps, Catches, IsKept}
+use Rattle.grain.specs.Machine.{Handler, Machine, base_of, counts, Steps, Catches, IsKept}
 use Rattle.grain.specs.Typing.{Passes, Reached}
 
 -- the counts that stood when a handler was armed outside of which these stand
 abbrev pub armed_counts : Handler → List Handler → Counts
-armed_counts h outer = record { operands = h.operands; iterators = h.iterators; handlers = length outer }
+armed_counts h outer = record { operands = h.operands; iterators = h.iterators; bases = map base_of outer }
 
 -- the handler was armed by a reached instruction, with the stacks that stood there
 pub record IsArmed (code : Code) (chunk : Span) (h : Handler) (outer : List Handler) : Type 0 where

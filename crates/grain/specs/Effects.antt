@@ -1,5 +1,5 @@
 -- What each operation needs of the stacks, and what it leaves on them.
-use Rattle.std.specs.Prelude.{◌≡◌, ℕ, ◌+◌, ◌-◌, ◌*◌, ◌≤◌, ◌⊎◌, Bool, true, List, map, get_or}
+use Rattle.std.specs.Prelude.{◌≡◌, ℕ, ◌+◌, ◌-◌, ◌*◌, ◌≤◌, ◌⊎◌, Bool, true, List, length, map, get_or}
 use Rattle.std.specs.List.{Contains}
 use Rattle.grain_bytecode.specs.Chain.{consumed}
 use Rattle.grain_bytecode.specs.declared.chain.Chain.{Chain}
@@ -92,7 +92,7 @@ handlers_needed op = handlers_for (flow_of op)
 pub record Meets (s : Setting) (op : Op) (c : Counts) : Type 0 where
   pub operands : needs s op ≤ c.operands
   pub iterators : iterators_needed op ≤ c.iterators
-  pub handlers : handlers_needed op ≤ c.handlers
+  pub handlers : handlers_needed op ≤ length c.bases
 
 -- where it may jump, a catch among them, with these targets of each switch
 abbrev pub targets : List (List ℕ) → Op → List ℕ

@@ -12,10 +12,11 @@ use Rattle.grain.specs.Capabilities.{Allows, caps_of}
 use Rattle.grain.specs.Code.{Bytecode, coded}
 use Rattle.grain.specs.ConstCaps.{const_caps}
 use Rattle.grain.specs.Counts.{Counts}
-use Rattle.grain.specs.Effects.{needs, iterators_needed, handlers_needed, targets, falls_through}
+use Rattle.grain.specs.Effects.{Meets, needs, iterators_needed, handlers_needed, targets, falls_through}
 use Rattle.grain.specs.Indices.{IsOut}
 use Rattle.grain.specs.Layout.{IsStart, IsBoundary}
 use Rattle.grain.specs.Setting.{Setting}
+use Rattle.grain.specs.Sinking.{Sinks}
 use Rattle.grain.specs.Typing.{IsInChunk, StandsIn, Passes, HasTyping, Reached, IsDeepest}
 use Rattle.grain.specs.declared.error.VerifyError.{VerifyError}
 use Rattle.grain.specs.declared.error.VerifyError.TheVariants as errors
@@ -82,7 +83,9 @@ ChunkFlaw code chunk (errors.Underflow at need have) =
 ChunkFlaw code chunk (errors.IteratorUnderflow at) =
     IsFramed code chunk × ((op : Op) × (c : Counts) × ComesAllowed code chunk at op c × (c.iterators < iterators_needed op))
 ChunkFlaw code chunk (errors.HandlerUnderflow at) =
-    IsFramed code chunk × ((op : Op) × (c : Counts) × ComesAllowed code chunk at op c × (c.handlers < handlers_needed op))
+    IsFramed code chunk × ((op : Op) × (c : Counts) × ComesAllowed code chunk at op c × (length c.bases < handlers_needed op))
+ChunkFlaw code chunk (errors.SinksBelowHandler at need have) =
+    IsFramed code chunk × ((op : Op) × (c : Counts) × ComesAllowed code chunk at op c × Meets code.setting op c × Sinks code.setting op c need have)
 ChunkFlaw code chunk errors.FallsOffTheEnd =
     ((chunk.entry ≡ chunk.end) × (chunk.end ≤ length code.bytes)) ⊎ (IsFramed code chunk × FallsOff code chunk)
 ChunkFlaw code chunk (errors.StackExceedsDeclared needed declared) =
@@ -143,6 +146,7 @@ CodeFlaw setting bytes (errors.Underflow at need have) = ⊥
 CodeFlaw setting bytes (errors.StackExceedsDeclared needed declared) = ⊥
 CodeFlaw setting bytes (errors.IteratorUnderflow at) = ⊥
 CodeFlaw setting bytes (errors.HandlerUnderflow at) = ⊥
+CodeFlaw setting bytes (errors.SinksBelowHandler at need have) = ⊥
 CodeFlaw setting bytes errors.FallsOffTheEnd = ⊥
 CodeFlaw setting bytes errors.OutOfMemory = ⊥
 
@@ -163,4 +167,5 @@ Flaw i (errors.Underflow at need have) = IsFlawOfChunks i (errors.Underflow at n
 Flaw i (errors.StackExceedsDeclared needed declared) = IsFlawOfChunks i (errors.StackExceedsDeclared needed declared)
 Flaw i (errors.IteratorUnderflow at) = IsFlawOfChunks i (errors.IteratorUnderflow at)
 Flaw i (errors.HandlerUnderflow at) = IsFlawOfChunks i (errors.HandlerUnderflow at)
+Flaw i (errors.SinksBelowHandler at need have) = IsFlawOfChunks i (errors.SinksBelowHandler at need have)
 Flaw i errors.FallsOffTheEnd = IsFlawOfChunks i errors.FallsOffTheEnd

@@ -1,8 +1,8 @@
--- How an operation is left, and what that does to iterators and handlers.
+-- How an operation is left, and what that does to iterators and armed handlers.
 use Rattle.std.specs.Prelude.{ℕ, ◌+◌, ◌-◌, Bool, true, false, List, [], ◌∷◌, get_or}
 use Rattle.grain_bytecode.specs.declared.op.Op.{Op}
 use Rattle.grain_bytecode.specs.declared.op.Op.TheVariants as ops
-use Rattle.grain.specs.Counts.{Counts}
+use Rattle.grain.specs.Counts.{Base, Counts, armed, without_last}
 
 pub data Flow : Type 0 where
   -- it falls through to the next operation
@@ -135,6 +135,19 @@ falls_for EndsIterator = true
 falls_for (PushesHandler target) = true
 falls_for PopsHandler = true
 
+-- the bases of the handlers that are armed then
+abbrev pub bases_for : Flow → Counts → List Base
+bases_for Falls c = c.bases
+bases_for Ends c = c.bases
+bases_for (Jumps target) c = c.bases
+bases_for (Branches target) c = c.bases
+bases_for (Switches w) c = c.bases
+bases_for BeginsIterator c = c.bases
+bases_for (AdvancesIterator exit) c = c.bases
+bases_for EndsIterator c = c.bases
+bases_for (PushesHandler target) c = armed c
+bases_for PopsHandler c = without_last c.bases
+
 -- the counts on the edges to its targets, where so many operands are left
 abbrev pub jump_for : Flow → ℕ → Counts → Counts
 jump_for Falls left c = record c { operands = left }
@@ -145,7 +158,7 @@ jump_for (Switches w) left c = record c { operands = left }
 jump_for BeginsIterator left c = record c { operands = left }
 jump_for (AdvancesIterator exit) left c = record c { iterators = c.iterators - 1 }
 jump_for EndsIterator left c = record c { operands = left }
-jump_for (PushesHandler target) left c = record c { handlers = c.handlers + 1 }
+jump_for (PushesHandler target) left c = record c { bases = armed c }
 jump_for PopsHandler left c = record c { operands = left }
 
 -- the counts on the edge to the next operation, where so many operands are left
@@ -158,5 +171,5 @@ fall_for (Switches w) left c = record c { operands = left }
 fall_for BeginsIterator left c = record c { operands = left; iterators = c.iterators + 1 }
 fall_for (AdvancesIterator exit) left c = record c { operands = c.operands + 1 }
 fall_for EndsIterator left c = record c { iterators = c.iterators - 1 }
-fall_for (PushesHandler target) left c = record c { handlers = c.handlers + 1 }
-fall_for PopsHandler left c = record c { handlers = c.handlers - 1 }
+fall_for (PushesHandler target) left c = record c { bases = armed c }
+fall_for PopsHandler left c = record c { bases = without_last c.bases }

@@ -1,14 +1,17 @@
 -- The flow of operations, as the walk has it.
-use Rattle.std.specs.Prelude.{◌≡◌, ◌⊎◌, ℕ, ◌<◌, ◌≤◌, List, Option}
+use Rattle.std.specs.Prelude.{◌≡◌, ◌⊎◌, ℕ, ◌+◌, ◌-◌, ◌<◌, ◌≤◌, List, Option, Some, None, cond, length}
 use Rattle.grain_bytecode.specs.Span.{Span}
-use Rattle.grain.specs.Arrivals.{RefusesCounts, RefusesTargetOf}
+use Rattle.grain.specs.Arrivals.{RefusesSwitch, RefusesTargetOf, Sends, Underway, view}
 use Rattle.grain.specs.Counts.{Counts}
 use Rattle.grain.specs.Flow as flows
-use Rattle.grain.specs.Flow.{iterators_for, handlers_for, jump_for, targets_for}
+use Rattle.grain.specs.Flow.{bases_for, falls_for, handlers_for, iterators_for, targets_for}
+use Rattle.grain.specs.Lists.{list_of, size}
 use Rattle.grain.specs.declared.effects.Flow.{Flow}
 use Rattle.grain.specs.declared.effects.Flow.TheVariants as ways
 use Rattle.grain.specs.declared.error.VerifyError.{VerifyError}
 use Rattle.grain.specs.declared.error.VerifyError.TheVariants as errors
+use Rattle.grain.specs.declared.lists.Lists.{Lists}
+use Rattle.grain.specs.declared.state.State.{State}
 
 abbrev pub flow : Flow → flows.Flow
 flow ways.Falls = flows.Falls
@@ -25,17 +28,53 @@ flow ways.PopsHandler = flows.PopsHandler
 -- there are the iterators and handlers that it needs
 pub record IsMetBy (f : flows.Flow) (c : Counts) : Type 0 where
   pub iterators : iterators_for f ≤ c.iterators
-  pub handlers : handlers_for f ≤ c.handlers
+  pub handlers : handlers_for f ≤ length c.bases
 
 -- how an instruction is refused that lacks an iterator or a handler
 abbrev pub IsShort : flows.Flow → ℕ → Counts → VerifyError → Type 0
 IsShort f at c (errors.IteratorUnderflow a) = (a ≡ at) × (c.iterators < iterators_for f)
-IsShort f at c (errors.HandlerUnderflow a) = (a ≡ at) × (c.handlers < handlers_for f)
+IsShort f at c (errors.HandlerUnderflow a) = (a ≡ at) × (length c.bases < handlers_for f)
 IsShort f at c e = ⊥
 
--- how a flow is refused with these counts: it lacks an iterator or a handler, or a target refuses it
-abbrev pub RefusesFlow : List ℕ → Span → List (List ℕ) → ℕ → Counts → ℕ → List (Option Counts) → flows.Flow → VerifyError → Type 0
-RefusesFlow starts chunk switches at c left sent f e =
+-- The state on the edges to the targets of such a flow, where so many operands are left and the handlers that are armed
+-- then have this list.
+abbrev pub jumped : flows.Flow → ℕ → ℕ → State → State
+jumped flows.Falls left list s = record s { operands = left }
+jumped flows.Ends left list s = record s { operands = left }
+jumped (flows.Jumps target) left list s = record s { operands = left }
+jumped (flows.Branches target) left list s = record s { operands = left }
+jumped (flows.Switches w) left list s = record s { operands = left }
+jumped flows.BeginsIterator left list s = record s { operands = left }
+jumped (flows.AdvancesIterator exit) left list s = record s { iterators = s.iterators - 1 }
+jumped flows.EndsIterator left list s = record s { operands = left }
+jumped (flows.PushesHandler target) left list s = record s { list = list }
+jumped flows.PopsHandler left list s = record s { operands = left }
+
+-- the state on the edge to the next operation
+abbrev pub fallen : flows.Flow → ℕ → ℕ → State → State
+fallen flows.Falls left list s = record s { operands = left }
+fallen flows.Ends left list s = record s { operands = left }
+fallen (flows.Jumps target) left list s = record s { operands = left }
+fallen (flows.Branches target) left list s = record s { operands = left }
+fallen (flows.Switches w) left list s = record s { operands = left }
+fallen flows.BeginsIterator left list s = record s { operands = left; iterators = s.iterators + 1 }
+fallen (flows.AdvancesIterator exit) left list s = record s { operands = s.operands + 1 }
+fallen flows.EndsIterator left list s = record s { iterators = s.iterators - 1 }
+fallen (flows.PushesHandler target) left list s = record s { list = list }
+fallen flows.PopsHandler left list s = record s { list = list }
+
+-- How an operation of such a flow is followed, where so many operands are left: the armed handlers have some list then, its
+-- state is sent to its targets, and another falls through, if it does.
+pub record IsFollowed (starts : List ℕ) (chunk : Span) (switches : List (List ℕ)) (f : flows.Flow) (left : ℕ) (s : State) (old new : Lists) (sent new_sent : List (Option State)) (work new_work : List Underway) (after : Option State) : Type 0 where
+  pub list : ℕ
+  pub there : list ≤ size new
+  pub bases : list_of new list ≡ bases_for f (view old s)
+  pub sends : Sends starts chunk switches f (jumped f left list s) sent new_sent work new_work
+  pub falls : after ≡ cond (falls_for f) (Some (fallen f left list s)) None
+
+-- how a flow is refused: it lacks an iterator or a handler, or a target refuses it, or its switch does
+abbrev pub RefusesFlow : List ℕ → Span → List (List ℕ) → ℕ → Counts → State → List (Option State) → flows.Flow → VerifyError → Type 0
+RefusesFlow starts chunk switches at c after sent f e =
     IsShort f at c e
     ⊎ (IsMetBy f c
-    × (RefusesTargetOf starts chunk at (targets_for switches f) e ⊎ RefusesCounts switches f (jump_for f left c) sent e))
+    × (RefusesTargetOf starts chunk at (targets_for switches f) e ⊎ RefusesSwitch switches f after sent e))

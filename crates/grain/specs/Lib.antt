@@ -7,8 +7,10 @@ pub mod Flow
 pub mod Capabilities
 pub mod ConstCaps
 pub mod Effects
+pub mod Sinking
 pub mod Indices
 pub mod Typing
+pub mod Depths
 pub mod Machine
 pub mod EdgeSteps
 pub mod Accepted
@@ -25,8 +27,10 @@ pub mod Build
 pub mod Arrivals
 pub mod FirstOut
 pub mod FlowView
+pub mod Lists
 pub mod Meter
 pub mod Plain
+pub mod SinkingView
 pub mod Slots
 pub mod States
 pub mod TagEffects

@@ -1,12 +1,13 @@
 -- The machine that runs a chunk, with faults and handlers.
-use Rattle.std.specs.Prelude.{◌≡◌, ℕ, ◌-◌, ◌≤◌, ◌⊎◌, min, Bool, true, false, cond, List, [], ◌∷◌, length, Option, Some, None}
+use Rattle.std.specs.Prelude.{◌≡◌, ℕ, ◌-◌, ◌≤◌, ◌⊎◌, min, Bool, true, false, cond, List, [], ◌∷◌, map, Option, Some, None}
 use Rattle.grain_bytecode.specs.Span.{Span}
 use Rattle.grain_bytecode.specs.declared.op.Op.{Op}
 use Rattle.grain.specs.Code.{Code}
-use Rattle.grain.specs.Counts.{Counts}
+use Rattle.grain.specs.Counts.{Base, Counts, without_last}
 use Rattle.grain.specs.Effects.{Jumps, FallsThrough, Meets, takes, iterators_needed}
 use Rattle.grain.specs.Flow as flows
 use Rattle.grain.specs.Flow.{Flow, flow_of}
+use Rattle.grain.specs.Sinking.{is_quiet}
 use Rattle.grain.specs.Typing.{StandsIn}
 
 -- an armed handler: where it catches, the stacks that stood when it was armed, and whether it has caught
@@ -26,18 +27,18 @@ pub record Machine : Type 0 where
 abbrev pub first : Span → Machine
 first chunk = record { address = chunk.entry; operands = 0; iterators = 0; handlers = [] }
 
--- the three counts
+-- what stood when a handler was armed
+abbrev pub base_of : Handler → Base
+base_of h = record { operands = h.operands; iterators = h.iterators }
+
+-- the counts, with the bases of the handlers
 abbrev pub counts : Machine → Counts
-counts m = record { operands = m.operands; iterators = m.iterators; handlers = length m.handlers }
+counts m = record { operands = m.operands; iterators = m.iterators; bases = map base_of m.handlers }
 
 -- the state doesn't lack: it is at a place of the chunk, with what its operation needs of the stacks
 pub record Finds (code : Code) (chunk : Span) (m : Machine) (op : Op) : Type 0 where
   pub stands : StandsIn code chunk m.address op
   pub meets : Meets code.setting op (counts m)
-
-abbrev pub without_last : List Handler → List Handler
-without_last [] = []
-without_last (h ∷ hs) = hs
 
 -- the handlers that are armed after an operation of such a flow
 abbrev pub handlers_for : Flow → Machine → List Handler
@@ -112,6 +113,10 @@ pub record IsKept {code : Code} {chunk : Span} {m n : Machine} (fault : Catches 
 abbrev pub Moves : Code → Span → Machine → Machine → Type 0
 Moves code chunk m n = Steps code chunk m n ⊎ ((fault : Catches code chunk m n) × IsKept fault)
 
+-- The same, where a fault has to be kept at quiet operations alone.
+abbrev pub MovesKeptAtQuiet : Code → Span → Machine → Machine → Type 0
+MovesKeptAtQuiet code chunk m n = Steps code chunk m n ⊎ ((fault : Catches code chunk m n) × (is_quiet fault.op ≡ true → IsKept fault))
+
 -- a run by such moves, told from its last state back to its first
 abbrev pub IsRun : (Machine → Machine → Type 0) → Span → Machine → List Machine → Type 0
 IsRun moves chunk m [] = m ≡ first chunk
@@ -119,6 +124,10 @@ IsRun moves chunk m (before ∷ earlier) = moves before m × IsRun moves chunk b
 
 abbrev pub IsKeptRun : Code → Span → Machine → List Machine → Type 0
 IsKeptRun code chunk = IsRun (Moves code chunk) chunk
+
+-- a run whose faults at quiet operations are kept
+abbrev pub IsRunKeptAtQuiet : Code → Span → Machine → List Machine → Type 0
+IsRunKeptAtQuiet code chunk = IsRun (MovesKeptAtQuiet code chunk) chunk
 
 -- some kept run has this state
 abbrev pub IsOnKeptRun : Code → Span → Machine → Type 0

@@ -5,9 +5,13 @@ use Rattle.grain_bytecode.specs.Split.{StandsAt}
 use Rattle.grain_bytecode.specs.declared.chain.Chain.{Chain}
 use Rattle.grain_bytecode.specs.declared.op.Op.{Op}
 use Rattle.grain.specs.Capabilities.{caps_of}
+use Rattle.grain.specs.Counts.{last_base}
 use Rattle.grain.specs.Effects.{stack_effect}
 use Rattle.grain.specs.Flow.{Falls, flow_of}
+use Rattle.grain.specs.Lists.{list_of}
 use Rattle.grain.specs.Setting.{Setting}
+use Rattle.grain.specs.Sinking.{ReachesUpTo}
+use Rattle.grain.specs.declared.lists.Lists.{Lists}
 use Rattle.grain.specs.declared.state.Arrival.{Arrival}
 
 -- it asks nothing of the host, and falls through
@@ -16,8 +20,9 @@ pub record IsPlain (op : Op) (needs takes gives : ℕ) : Type 0 where
   pub caps : (s : Setting) → caps_of s op ≡ 0
   pub flow : flow_of op ≡ Falls
 
--- the plain instruction here finds the operands that it needs, and falls through to the next arrival
-pub record IsPlainStep (code : List ℕ) (here next : Arrival) : Type 0 where
+-- The plain instruction here finds the operands that it needs, stays above the base of the last handler, and falls through
+-- to the next arrival.
+pub record IsPlainStep (code : List ℕ) (lists : Lists) (here next : Arrival) : Type 0 where
   pub op : Op
   pub needs : ℕ
   pub takes : ℕ
@@ -25,4 +30,5 @@ pub record IsPlainStep (code : List ℕ) (here next : Arrival) : Type 0 where
   pub stands : StandsAt code here.at op
   pub plain : IsPlain op needs takes gives
   pub there : needs ≤ here.state.operands
+  pub above : ReachesUpTo (last_base (list_of lists here.state.list)) (record { operands = here.state.operands - takes; iterators = here.state.iterators })
   pub is : next ≡ record { at = here.at + width_of op; ordinal = here.ordinal + 1; state = record here.state { operands = here.state.operands - takes + gives } }

@@ -1,5 +1,5 @@
 -- How far the walk over a chunk has come.
-use Rattle.std.specs.Prelude.{◌≡◌, ◌↔◌, ℕ, ◌+◌, ◌<◌, ◌^◌, ◌≤◌, ◌⊎◌, List, ◌∷◌, [], ◌++◌, Option, None, Some, get_or, length, map, max, nat_eq, option_map, slice_get, slice_set, sum_by, OnOk, Result}
+use Rattle.std.specs.Prelude.{◌≡◌, ◌↔◌, ℕ, ◌+◌, ◌<◌, ◌^◌, ◌≤◌, ◌⊎◌, List, ◌∷◌, [], ◌++◌, Option, None, Some, get_or, length, map, max, nat_eq, option_map, slice_get, slice_set, sum_by, IfSome, OnOk, Result}
 use Rattle.std.specs.List.{All, Contains, IsDistinct}
 use Rattle.grain_bytecode.specs.Span.{Span}
 use Rattle.grain_bytecode.specs.Split.{StandsAt}
@@ -9,10 +9,12 @@ use Rattle.grain.specs.Code.{Bytecode, coded}
 use Rattle.grain.specs.Counts.{Counts, nothing}
 use Rattle.grain.specs.Effects.{Edge}
 use Rattle.grain.specs.Flaw.{FallsOff}
+use Rattle.grain.specs.Lists.{IsShared, size}
 use Rattle.grain.specs.Meter.{AreReached, HasCounted, starts_within}
 use Rattle.grain.specs.Typing.{IsInChunk, IsReachedCount, Passes, Reached}
 use Rattle.grain.specs.Walk.{bytecode_of}
 use Rattle.grain.specs.declared.error.VerifyError.{VerifyError}
+use Rattle.grain.specs.declared.lists.Lists.{Lists}
 use Rattle.grain.specs.declared.state.Arrival.{Arrival}
 use Rattle.grain.specs.declared.state.State.{State}
 use Rattle.grain.specs.declared.walk.Prepared.{Prepared}
@@ -34,7 +36,6 @@ Lands code chunk at = IsInChunk (coded code) chunk at ⊎ ((at ≡ chunk.end) ×
 pub record IsSmall (most : ℕ) (c : Counts) : Type 0 where
   pub operands : c.operands ≤ most
   pub iterators : c.iterators ≤ most
-  pub handlers : c.handlers ≤ most
 
 -- what holds of counts on their way, where so many addresses were visited
 pub record Waits (code : Bytecode) (chunk : Span) (visits : ℕ) (a : Coming) : Type 0 where
@@ -76,25 +77,42 @@ one_if_some (Some s) = 1
 abbrev pub visits_in : List (Option State) → ℕ
 visits_in states = sum_by one_if_some states
 
--- the same, where each start has a state once it was visited
-pub record Walking (code : Bytecode) (chunk : Span) (starts : List ℕ) (states : List (Option State)) (sent : List (Option Counts)) (work : List Coming) (deepest : ℕ) : Type 0 where
+-- the same, where each start has a state once it was visited, and these are the lists of bases
+pub record Walking (code : Bytecode) (chunk : Span) (starts : List ℕ) (lists : Lists) (states : List (Option State)) (sent : List (Option Counts)) (work : List Coming) (deepest : ℕ) : Type 0 where
   pub seen : Seen
-  pub agrees : (k at : ℕ) → slice_get starts k ≡ Some at → option_map view (get_or states k None) ≡ seen at
+  pub agrees : (k at : ℕ) → slice_get starts k ≡ Some at → option_map (view lists) (get_or states k None) ≡ seen at
   pub progress : Progress code chunk seen sent (visits_in states) work deepest
+
+-- a state names a list that there is
+abbrev pub NamesList : Lists → State → Type 0
+NamesList lists s = s.list ≤ size lists
+
+-- so does each of these
+abbrev pub NameLists : Lists → List (Option State) → Type 0
+NameLists lists states = All (λ (o : Option State). IfSome o (NamesList lists)) states
 
 -- there is room for each instruction and each switch
 pub record Fits (p : Prepared) (t : Traversal) : Type 0 where
   pub states : length t.states ≡ length p.starts.starts
   pub sent : length t.sent ≡ length p.pools.now.switches.now
 
+-- equal lists of bases have equal numbers, every state names one that there is, and there are no more of them than visits
+pub record KnowsLists (lists : Lists) (t : Traversal) (arrivals : List Arrival) : Type 0 where
+  pub shared : IsShared lists
+  pub states : NameLists lists t.states
+  pub sent : NameLists lists t.sent
+  pub waiting : All (λ (a : Arrival). NamesList lists a.state) arrivals
+  pub few : size lists ≤ visits_in t.states
+
 -- the same, in the variables of the walk
-pub record IsWalking (p : Prepared) (chunk : Span) (t : Traversal) (arrivals : List Arrival) (deepest : ℕ) : Type 0 where
+pub record IsWalking (p : Prepared) (chunk : Span) (lists : Lists) (t : Traversal) (arrivals : List Arrival) (deepest : ℕ) : Type 0 where
   pub fits : Fits p t
   pub placed : All (IsPlaced p.starts.starts chunk) arrivals
-  pub walking : Walking (bytecode_of p) chunk p.starts.starts t.states (sent_by t.sent) (map coming arrivals) deepest
+  pub known : KnowsLists lists t arrivals
+  pub walking : Walking (bytecode_of p) chunk p.starts.starts lists t.states (sent_by lists t.sent) (map (coming lists) arrivals) deepest
 
 -- The walk has marked an instruction as visited, and its edges are still to be followed.
-pub record HaltsAt (p : Prepared) (chunk : Span) (t : Traversal) (here : Arrival) (deepest : ℕ) : Type 0 where
+pub record HaltsAt (p : Prepared) (chunk : Span) (lists : Lists) (t : Traversal) (here : Arrival) (deepest : ℕ) : Type 0 where
   pub before : List (Option State)
   pub earlier : ℕ
   pub fresh : get_or before here.ordinal None ≡ None
@@ -102,7 +120,7 @@ pub record HaltsAt (p : Prepared) (chunk : Span) (t : Traversal) (here : Arrival
   pub deeper : deepest ≡ max earlier here.state.operands
   pub within : here.at < chunk.end
   pub addresses : chunk.end < 2 ^ 32
-  pub is : IsWalking p chunk (record t { states = before }) (t.work.items ++ here ∷ []) earlier
+  pub is : IsWalking p chunk lists (record t { states = before }) (t.work.items ++ here ∷ []) earlier
 
 -- the meter has counted the addresses that were visited meanwhile
 pub record HasVisited (old new : List (Option State)) (count new_count : ℕ) : Type 0 where

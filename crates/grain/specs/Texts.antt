@@ -28,5 +28,7 @@ verify_error_text (errors.StackExceedsDeclared needed declared) =
     named (codes "stack-exceeds-declared needed=") needed ++ named (codes " declared=") declared
 verify_error_text (errors.IteratorUnderflow at) = named (codes "iterator-underflow at=") at
 verify_error_text (errors.HandlerUnderflow at) = named (codes "handler-underflow at=") at
+verify_error_text (errors.SinksBelowHandler at need have) =
+    named (codes "sinks-below-handler at=") at ++ (named (codes " need=") need ++ named (codes " have=") have)
 verify_error_text (errors.BadIndex at what index) = named (codes "bad-index at=") at ++ (named (codes " index=") index ++ (codes " what=" ++ what.now))
 verify_error_text errors.OutOfMemory = codes "out of memory"

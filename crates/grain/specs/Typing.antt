@@ -8,6 +8,7 @@ use Rattle.grain.specs.Code.{Code}
 use Rattle.grain.specs.Counts.{Counts, nothing}
 use Rattle.grain.specs.Effects.{Edge, Meets}
 use Rattle.grain.specs.Layout.{IsPlace, Reads}
+use Rattle.grain.specs.Sinking.{Stays}
 
 -- a place of the chunk
 pub record IsInChunk (code : Code) (chunk : Span) (at : ℕ) : Type 0 where
@@ -20,11 +21,13 @@ pub record StandsIn (code : Code) (chunk : Span) (at : ℕ) (op : Op) : Type 0 w
   pub within : IsInChunk code chunk at
   pub is : Reads code.layout at op
 
--- counts at a place of the chunk, with which its operation finds what it needs, of the stacks and of the host
+-- counts at a place of the chunk, with which its operation finds what it needs, of the stacks and of the host, and doesn't
+-- sink below the base of the last handler
 pub record Passes (code : Code) (chunk : Span) (at : ℕ) (c : Counts) (op : Op) : Type 0 where
   pub stands : StandsIn code chunk at op
   pub meets : Meets code.setting op c
   pub allowed : Allows code.setting.caps (caps_of code.setting op)
+  pub stays : Stays code.setting op c
 
 -- Counts for the places that it covers: the chunk starts with nothing, each covered operation passes, no place is deeper
 -- than m, and each written edge leads to the very counts that its place has.

@@ -20,7 +20,8 @@ pub record IsVerdict (i : Input) (result : Result (Vec ℕ Global) VerifyError) 
   pub typed : IfOk result (λ numbers. AreTyped i numbers.items)
   -- its numbers are the greatest operand counts that are reached, chunk by chunk
   pub deepest : IfOk result (λ numbers. AreDeepest i numbers.items)
-  -- no state of a kept run lacks anything or has more operands than its chunk's number, and some state has as many
+  -- no state of a kept run lacks anything or has more operands than its chunk's number, some state has as many, and a run
+  -- is kept where its faults at quiet operations are
   pub safe : IfOk result (λ numbers. AreSafe i numbers.items)
   -- accepted input is accepted, want of memory aside
   pub accepts : IsAccepted i → IfErr result (λ e. e ≡ OutOfMemory)

@@ -2,8 +2,8 @@
 ghost use Rattle.std.specs.Prelude.{◌≡◌, ◌<◌, ◌++◌, ◌∷◌, ◌⊎◌, [], Some, get_or, length, map, slice_get, IfErr, IfNone, IfOk, IfSome, OnOk};
 ghost use Rattle.std.specs.List.{All};
 ghost use Rattle.grain_bytecode.specs.Dispatch.{listed, arms};
-ghost use Rattle.grain.specs.Arrivals.{IsPlaced, IsStartIn, RefusesCounts, RefusesTarget, RefusesTargetOf, Sends};
-ghost use Rattle.grain.specs.Arrivals.{all_to, case_targets, coming, range_targets, sent_by, view};
+ghost use Rattle.grain.specs.Arrivals.{IsPlaced, IsStartIn, RefusesSwitch, RefusesTarget, RefusesTargetOf, Sends};
+ghost use Rattle.grain.specs.Arrivals.{all_underway, case_targets, range_targets, underway};
 ghost use Rattle.grain.specs.Code.{switch_targets};
 ghost use Rattle.grain.specs.Flow as flows;
 
@@ -41,8 +41,8 @@ pub(crate) fn push_target(
     after: State,
     work: &mut Vec<Arrival>,
 ) -> Result<(), VerifyError>
-    ensures pushed { OnOk result (map coming work.new.items
-        ≡ map coming work.old.items ++ all_to (view after) (target ∷ [])) }
+    ensures pushed { OnOk result (map underway work.new.items
+        ≡ map underway work.old.items ++ all_underway after (target ∷ [])) }
     ensures inside { OnOk result (IsStartIn starts.now.starts chunk.now target) }
     ensures placed { All (IsPlaced starts.now.starts chunk.now) work.old.items
         → OnOk result (All (IsPlaced starts.now.starts chunk.now) work.new.items) }
@@ -67,8 +67,8 @@ fn push_cases(
     after: State,
     work: &mut Vec<Arrival>,
 ) -> Result<(), VerifyError>
-    ensures pushed { OnOk result (map coming work.new.items
-        ≡ map coming work.old.items ++ all_to (view after) (case_targets cases.now.entries)) }
+    ensures pushed { OnOk result (map underway work.new.items
+        ≡ map underway work.old.items ++ all_underway after (case_targets cases.now.entries)) }
     ensures inside { OnOk result
         (All (IsStartIn starts.now.starts chunk.now) (case_targets cases.now.entries)) }
     ensures placed { All (IsPlaced starts.now.starts chunk.now) work.old.items
@@ -91,8 +91,8 @@ fn push_ranges(
     after: State,
     work: &mut Vec<Arrival>,
 ) -> Result<(), VerifyError>
-    ensures pushed { OnOk result (map coming work.new.items
-        ≡ map coming work.old.items ++ all_to (view after) (range_targets ranges.now)) }
+    ensures pushed { OnOk result (map underway work.new.items
+        ≡ map underway work.old.items ++ all_underway after (range_targets ranges.now)) }
     ensures inside { OnOk result
         (All (IsStartIn starts.now.starts chunk.now) (range_targets ranges.now)) }
     ensures placed { All (IsPlaced starts.now.starts chunk.now) work.old.items
@@ -115,9 +115,9 @@ fn push_all_cases(
     after: State,
     work: &mut Vec<Arrival>,
 ) -> Result<(), VerifyError>
-    ensures pushed { OnOk result (map coming work.new.items
-        ≡ map coming work.old.items
-        ++ all_to (view after) (case_targets (listed (arms switch.now).cases))) }
+    ensures pushed { OnOk result (map underway work.new.items
+        ≡ map underway work.old.items
+        ++ all_underway after (case_targets (listed (arms switch.now).cases))) }
     ensures inside { OnOk result (All (IsStartIn starts.now.starts chunk.now)
         (case_targets (listed (arms switch.now).cases))) }
     ensures placed { All (IsPlaced starts.now.starts chunk.now) work.old.items
@@ -140,8 +140,8 @@ fn push_switch(
     after: State,
     work: &mut Vec<Arrival>,
 ) -> Result<(), VerifyError>
-    ensures pushed { OnOk result (map coming work.new.items
-        ≡ map coming work.old.items ++ all_to (view after) (switch_targets switch.now)) }
+    ensures pushed { OnOk result (map underway work.new.items
+        ≡ map underway work.old.items ++ all_underway after (switch_targets switch.now)) }
     ensures inside { OnOk result
         (All (IsStartIn starts.now.starts chunk.now) (switch_targets switch.now)) }
     ensures placed { All (IsPlaced starts.now.starts chunk.now) work.old.items
@@ -181,17 +181,15 @@ pub(crate) fn push_table(
 ) -> Result<(), VerifyError>
     requires { length sent.old ≡ length switches.now }
     ensures sends { OnOk result (Sends starts.now.starts chunk.now
-        (map switch_targets switches.now) (flows.Switches index) (view after)
-        (sent_by sent.old) (sent_by sent.new)
-        (map coming work.old.items) (map coming work.new.items)) }
+        (map switch_targets switches.now) (flows.Switches index) after
+        sent.old sent.new (map underway work.old.items) (map underway work.new.items)) }
     ensures long { OnOk result (length sent.new ≡ length sent.old) }
     ensures placed { All (IsPlaced starts.now.starts chunk.now) work.old.items
         → OnOk result (All (IsPlaced starts.now.starts chunk.now) work.new.items) }
     ensures err { IfErr result (λ e.
         RefusesTargetOf starts.now.starts chunk.now at
         (get_or (map switch_targets switches.now) index []) e
-        ⊎ RefusesCounts (map switch_targets switches.now) (flows.Switches index) (view after)
-        (sent_by sent.old) e) }
+        ⊎ RefusesSwitch (map switch_targets switches.now) (flows.Switches index) after sent.old e) }
 {
     let Some(switch) = switch_at(switches, index) else {
         return Ok(());

@@ -3,7 +3,7 @@ ghost use Rattle.std.specs.Prelude.{◌≡◌, ◌+◌, ◌<◌, ◌≤◌, ◌^
 ghost use Rattle.grain_bytecode.specs.Chain.{consumed};
 ghost use Rattle.grain.specs.Capabilities.{caps_of};
 ghost use Rattle.grain.specs.Effects.{stack_effect};
-ghost use Rattle.grain.specs.Flow.{flow_of};
+ghost use Rattle.grain.specs.Flow.{flow_of, iterators_for};
 ghost use Rattle.grain.specs.FlowView.{flow};
 ghost use Rattle.grain.specs.PoolCaps.{AreAsked};
 ghost use Rattle.grain.specs.Setting.{Setting};
@@ -36,6 +36,19 @@ pub(crate) enum Flow {
     PushesHandler(u32),
     /// It disarms a handler and falls through.
     PopsHandler,
+}
+
+impl Flow {
+    /// How many iterators there have to be.
+    #[inline(always)]
+    pub(crate) fn iterators_needed(self) -> u32
+        ensures { result ≡ iterators_for (flow self) }
+    {
+        match self {
+            Flow::AdvancesIterator(_) | Flow::EndsIterator => 1,
+            _ => 0,
+        }
+    }
 }
 
 /// What an operation does: what it asks of the host, how many operands it needs, how many of them it takes, how many it

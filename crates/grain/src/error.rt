@@ -55,7 +55,7 @@ pub enum VerifyError {
         /// The address that is named; of a chunk, its entry or its end.
         target: u32,
     },
-    /// Two paths meet with unlike counts, be it of operands, iterators or handlers.
+    /// Two paths meet with unlike counts of operands or iterators, or with unlike bases of armed handlers.
     DepthConflict {
         /// The address where they meet.
         at: usize,
@@ -91,6 +91,16 @@ pub enum VerifyError {
     HandlerUnderflow {
         /// The instruction that needs one.
         at: usize,
+    },
+    /// An instruction that isn't quiet doesn't leave what stood when the last handler was armed: so many operands, or
+    /// where there are enough, so many iterators (docs/FORMAT.md, "Verification").
+    SinksBelowHandler {
+        /// The instruction.
+        at: usize,
+        /// How many stood when the handler was armed.
+        need: usize,
+        /// How many there are, without the operands that the instruction takes, or without its iterator.
+        have: usize,
     },
     /// An index is at or above the size of its pool, or a step takes an operand that its chain doesn't take.
     BadIndex {
@@ -148,6 +158,9 @@ impl fmt::Display for VerifyError {
             }
             VerifyError::IteratorUnderflow { at } => write!(f, "iterator-underflow at={at}"),
             VerifyError::HandlerUnderflow { at } => write!(f, "handler-underflow at={at}"),
+            VerifyError::SinksBelowHandler { at, need, have } => {
+                write!(f, "sinks-below-handler at={at} need={need} have={have}")
+            }
             VerifyError::BadIndex { at, what, index } => {
                 write!(f, "bad-index at={at} index={index} what={what}")
             }

@@ -1,7 +1,8 @@
 //! Laws of the definitions that contracts cite.
 //!
 //! Each function does nothing: its contract is the law.
-ghost use Rattle.std.specs.Prelude.{◌≡◌, ◌<◌, ◌≤◌, ◌↔◌, ◌⊎◌, ℕ, List, [], Option, Some, get_or, length, slice_get, slice_index};
+ghost use Rattle.std.specs.Prelude.{◌≡◌, ◌<◌, ◌≤◌, ◌↔◌, ◌⊎◌, ℕ, List, [], Option, Some, get_or, length, option_map};
+ghost use Rattle.std.specs.Prelude.{slice_get, slice_index};
 ghost use Rattle.std.specs.List.{Contains};
 ghost use Rattle.grain_base.specs.Content.{Content};
 ghost use Rattle.grain_bytecode.specs.Assembly.{CanAssemble, IsAssembly};
@@ -18,8 +19,10 @@ ghost use Rattle.grain.specs.Accepted.{ChunkPasses, Input, IsAccepted};
 ghost use Rattle.grain.specs.ByIndex.{IsCut, LeadWithin, listed, moved, placed};
 ghost use Rattle.grain.specs.Counts.{Counts};
 ghost use Rattle.grain.specs.Effects.{Edge, after_jump};
+ghost use Rattle.grain.specs.Depths.{IsDepthTyping, depths_of};
 ghost use Rattle.grain.specs.Indices.{Indexed, IsWithinPools};
-ghost use Rattle.grain.specs.Machine.{Catches, Finds, IsKept, IsOnKeptRun, Machine, counts};
+ghost use Rattle.grain.specs.Machine.{Catches, Finds, IsKept, IsKeptRun, IsOnKeptRun};
+ghost use Rattle.grain.specs.Machine.{IsRunKeptAtQuiet, Machine, counts};
 ghost use Rattle.grain.specs.EdgeSteps.{IsArmed, IsEdgeCatch, IsEdgeStep, armed_counts};
 ghost use Rattle.grain.specs.Setting.{Setting};
 ghost use Rattle.grain.specs.Typing.{HasTyping, IsDeepest, IsInChunk, IsTyping, Passes, Reached};
@@ -30,8 +33,8 @@ mod positions;
 pub use building::building_is_verifying;
 pub use positions::stripped_positions_come_back;
 
-/// In a chunk that has a typing, counts are reached exactly where a kept run has them, and each state of a kept run
-/// passes.
+/// In a chunk that has a typing, counts are reached exactly where a kept run has them, with handlers of these bases, and
+/// each state of a kept run passes.
 pub fn walks_and_runs()
     ensures same { (code : Code) (chunk : Span) (d : ℕ) → HasTyping code chunk d
         → (at : ℕ) (c : Counts) → Reached code chunk at c
@@ -40,6 +43,13 @@ pub fn walks_and_runs()
     ensures passes { (code : Code) (chunk : Span) (d : ℕ) → HasTyping code chunk d
         → (m : Machine) → IsOnKeptRun code chunk m
         → (op : Op) × Passes code chunk m.address (counts m) op }
+{}
+
+/// In a chunk that has a typing, a run is kept where its faults at quiet operations are.
+pub fn faults_elsewhere_are_kept()
+    ensures { (code : Code) (chunk : Span) (d : ℕ) → HasTyping code chunk d
+        → (earlier : List Machine) (m : Machine) → IsRunKeptAtQuiet code chunk m earlier
+        → IsKeptRun code chunk m earlier }
 {}
 
 /// In a chunk that has a typing, every written edge from a state of a kept run is one step of it, or two: the catch edge
@@ -60,6 +70,14 @@ pub fn faults_land_on_catch_edges()
         × (n.address ≡ fault.handler.target)
         × (counts n ≡ after_jump code.setting armed.op
         (armed_counts fault.handler fault.outer)) }
+{}
+
+/// A typing whose lists of bases are replaced by their lengths is a typing by depth, so that whoever asks for less than
+/// these bases finds it in each chunk that is accepted.
+pub fn typings_are_typings_by_depth()
+    ensures { (code : Code) (chunk : Span) (m : ℕ) (typing : ℕ → Option Counts)
+        → IsTyping code chunk m typing
+        → IsDepthTyping code chunk m (λ at. option_map depths_of (typing at)) }
 {}
 
 /// The body of a chunk that passes is whole instructions, so that disassembling it comes to its end.

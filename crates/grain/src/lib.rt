@@ -16,6 +16,7 @@ mod error;
 mod functions;
 mod indices;
 pub mod laws;
+mod lists;
 mod lookup;
 mod meter;
 mod passed;
@@ -24,6 +25,7 @@ mod program;
 #[cfg(test)]
 mod samples;
 mod sidecar;
+mod sinking;
 mod slots;
 mod state;
 mod states;

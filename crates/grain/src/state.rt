@@ -1,16 +1,21 @@
 //! What every path to an instruction has to agree on, and states on their way.
-ghost use Rattle.std.specs.Prelude.{◌≡◌, ◌≢◌, ◌+◌, ◌-◌, ◌<◌, ◌≤◌, ◌^◌, IfErr, IfOk, OnOk};
+ghost use Rattle.std.specs.Prelude.{◌≡◌, ◌≢◌, ◌+◌, ◌-◌, ◌<◌, ◌≤◌, ◌^◌, IfErr, IfOk, IsTrue, OnOk};
 ghost use Rattle.grain.specs.Arrivals.{view};
+ghost use Rattle.grain.specs.Counts.{armed, last_base, without_last};
+ghost use Rattle.grain.specs.Lists.{Grows, IsShared, list_of, size};
+ghost use Rattle.grain.specs.Sinking.{ReachesUpTo};
 
 use crate::effects::Effect;
 use crate::error::VerifyError;
+use crate::lists::{Base, Lists};
+use std::alloc::AllocError;
 
-/// How many operands and iterators there are, and how many handlers are armed.
+/// How many operands and iterators there are, and the number of the list of the bases of armed handlers.
 #[derive(Clone, Copy, PartialEq, Eq, Debug)]
 pub(crate) struct State {
     pub(crate) operands: u32,
     pub(crate) iterators: u32,
-    pub(crate) handlers: u32,
+    pub(crate) list: u32,
 }
 
 /// A state on its way to an address.
@@ -31,7 +36,7 @@ pub(crate) fn check_same(at: u32, before: State, state: State) -> Result<(), Ver
     ensures ok { OnOk result (before ≡ state) }
     ensures err { IfErr result (λ e.
         (e ≡ VerifyError.DepthConflict at before.operands state.operands)
-        × (view before ≢ view state)) }
+        × (before ≢ state)) }
 {
     if before != state {
         return Err(VerifyError::DepthConflict {
@@ -60,11 +65,11 @@ impl Arrival {
 }
 
 impl State {
-    /// No operands, no iterators and no handlers.
+    /// No operands, no iterators and no armed handlers.
     pub(crate) const NOTHING: State = State {
         operands: 0,
         iterators: 0,
-        handlers: 0,
+        list: 0,
     };
 
     /// The state with what an operation leaves of the operands.
@@ -100,23 +105,64 @@ impl State {
         })
     }
 
-    /// The state with one handler fewer.
+    /// The state with another handler armed.
+    ///
+    /// # Errors
+    /// [`AllocError`] where the memory was refused.
+    #[inline(always)]
+    pub(crate) fn with_handler(self, lists: &mut Lists) -> Result<State, AllocError>
+        requires shared { IsShared lists.old }
+        requires list { self.list ≤ size lists.old }
+        requires room { size lists.old + 1 < 2 ^ 32 }
+        ensures grows { OnOk result (Grows lists.old lists.new) }
+        ensures same { IfOk result (λ s. s ≡ record self { list = s.list }) }
+        ensures list { IfOk result (λ s. (s.list ≤ size lists.new)
+            × (list_of lists.new s.list ≡ armed (view lists.old self))) }
+    {
+        let base = Base {
+            operands: self.operands,
+            iterators: self.iterators,
+        };
+        let list = lists.with_base(self.list, base)?;
+        Ok(State { list, ..self })
+    }
+
+    /// The state without the handler that was armed last.
     ///
     /// # Errors
     /// `HandlerUnderflow` at the address where none is armed.
     #[inline(always)]
-    pub(crate) fn without_handler(self, at: u32) -> Result<State, VerifyError>
-        ensures ok { IfOk result (λ s. (0 < self.handlers)
-            × (s ≡ record self { handlers = self.handlers - 1 })) }
+    pub(crate) fn without_handler(self, at: u32, lists: &Lists) -> Result<State, VerifyError>
+        requires shared { IsShared lists.now }
+        requires list { self.list ≤ size lists.now }
+        ensures same { IfOk result (λ s. (0 < self.list) × (s ≡ record self { list = s.list })) }
+        ensures list { IfOk result (λ s. (s.list ≤ size lists.now)
+            × (list_of lists.now s.list ≡ without_last (list_of lists.now self.list))) }
         ensures err { IfErr result (λ e. (e ≡ VerifyError.HandlerUnderflow at)
-            × (self.handlers ≡ 0)) }
+            × (self.list ≡ 0)) }
     {
-        if self.handlers == 0 {
+        if self.list == 0 {
             return Err(VerifyError::HandlerUnderflow { at: at as usize });
         }
         Ok(State {
-            handlers: self.handlers - 1,
+            list: lists.without_last(self.list),
             ..self
         })
+    }
+
+    /// Whether the stacks without so many operands still reach up to the base of the last handler.
+    #[inline(always)]
+    pub(crate) fn reaches_up(self, takes: u32, lists: &Lists) -> bool
+        requires shared { IsShared lists.now }
+        requires list { self.list ≤ size lists.now }
+        requires there { takes ≤ self.operands }
+        ensures { IsTrue result → ReachesUpTo (last_base (list_of lists.now self.list))
+            (record { operands = self.operands - takes; iterators = self.iterators }) }
+    {
+        if self.list == 0 {
+            return true;
+        }
+        let last = lists.last_base(self.list);
+        self.operands - takes >= last.operands && self.iterators >= last.iterators
     }
 }

@@ -19,6 +19,7 @@ use crate::constants::check_constants;
 use crate::error::VerifyError;
 use crate::functions::check_functions;
 use crate::indices::check_code;
+use crate::lists::Lists;
 use crate::meter::Meter;
 use crate::pools::Pools;
 use crate::walk::{Prepared, Traversal};
@@ -73,9 +74,10 @@ fn walk_chunks(
 {
     let switches = prepared.pools.switches.len();
     let mut traversal = Traversal::new(alloc, prepared.starts.count(), switches)?;
+    let mut lists = Lists::new(alloc);
     let mut deepest = Vec::with_capacity(alloc, chunks.len())?;
     for chunk in chunks {
-        let needed = prepared.verify_chunk(chunk, &mut traversal, meter)?;
+        let needed = prepared.verify_chunk(chunk, &mut lists, &mut traversal, meter)?;
         deepest.push_reserved(needed);
     }
     Ok(deepest)

@@ -1,33 +1,41 @@
 //! The walk over one chunk.
 ghost use Rattle.std.specs.Prelude.{◌≡◌, ◌≢◌, ℕ, ◌+◌, ◌-◌, ◌≤◌, ◌<◌, ◌^◌, ◌++◌, ◌∷◌, ◌⊎◌, [], None, Some};
-ghost use Rattle.std.specs.Prelude.{cond, length, map, replicate, slice_get, IfErr, IfNone, IfOk, IfSome, OnOk};
-ghost use Rattle.std.specs.Option.{option_map, option_to_list};
+ghost use Rattle.std.specs.Prelude.{length, map, replicate, slice_get, IfErr, IfNone, IfOk, IfSome, OnOk};
+ghost use Rattle.std.specs.Option.{option_to_list};
 ghost use Rattle.std.specs.List.{All};
 ghost use Rattle.grain_bytecode.specs.InstructionTable.{Instr, width_of};
 ghost use Rattle.grain_bytecode.specs.Split.{StandsAt};
 ghost use Rattle.grain_bytecode.specs.declared.op.Op.{Op};
 ghost use Rattle.grain.specs.Accepted.{ChunkPasses, IsFramed};
-ghost use Rattle.grain.specs.Arrivals.{IsPlaced, RefusesState, Sends, coming, sent_by, view};
+ghost use Rattle.grain.specs.Arrivals.{IsPlaced, RefusesState, underway, view};
 ghost use Rattle.grain.specs.Capabilities.{Allows, caps_of};
 ghost use Rattle.grain.specs.Code.{coded};
-ghost use Rattle.grain.specs.Effects.{needs};
+ghost use Rattle.grain.specs.Counts.{last_base};
+ghost use Rattle.grain.specs.Effects.{needs, stack_effect};
 ghost use Rattle.grain.specs.Flaw.{ChunkFlaw};
-ghost use Rattle.grain.specs.Flow.{fall_for, falls_for, jump_for};
-ghost use Rattle.grain.specs.FlowView.{IsMetBy, RefusesFlow, flow};
+ghost use Rattle.grain.specs.Flow.{flow_of};
+ghost use Rattle.grain.specs.FlowView.{IsFollowed, IsMetBy, IsShort, RefusesFlow, flow};
 ghost use Rattle.grain.specs.Layout.{IsStart};
+ghost use Rattle.grain.specs.Lists.{Grows, IsShared, size};
 ghost use Rattle.grain.specs.Meter.{starts_within};
 ghost use Rattle.grain.specs.Plain.{IsPlainStep};
 ghost use Rattle.grain.specs.Progress.{Fits, HaltsAt, HasVisited, IsMeteredChunk, IsWalking, all_targets, visits_in};
+ghost use Rattle.grain.specs.Setting.{Setting};
+ghost use Rattle.grain.specs.Sinking.{Stays, untouched};
+ghost use Rattle.grain.specs.SinkingView.{RefusesSinking};
 ghost use Rattle.grain.specs.TagEffects.{IsEffectIn};
 ghost use Rattle.grain.specs.Typing.{HasTyping, IsDeepest};
 ghost use Rattle.grain.specs.Walk.{IsReady, bytecode_of};
+ghost use Rattle.grain.specs.declared.lists.Lists.{Lists};
 
 use crate::capabilities::{PoolCaps, missing};
 use crate::edges::{push_table, push_target};
 use crate::effects::{Effect, Flow};
 use crate::error::VerifyError;
+use crate::lists::Lists;
 use crate::meter::Meter;
 use crate::pools::Pools;
+use crate::sinking::check_armed;
 use crate::state::{Arrival, State, check_same};
 use crate::states::States;
 use crate::tag_effects::{Way, effect_by_tag, tag_effect};
@@ -106,28 +114,64 @@ fn take_next(next: Option<Arrival>, work: &mut Vec<Arrival>) -> Option<Arrival>
     }
 }
 
+/// Whether the instruction is quiet, or else leaves what stood when the last handler was armed.
+///
+/// # Errors
+/// `SinksBelowHandler` at its address; `IteratorUnderflow` where it lacks an iterator, as far as handlers are armed.
+#[inline(always)]
+fn check_stays(
+    instruction: &Instruction<'_>,
+    effect: Effect,
+    here: Arrival,
+    lists: &Lists,
+) -> Result<(), VerifyError>
+    requires known { (op : Op) × Instr (instruction.now.tag ∷ instruction.now.fields.now) op }
+    requires shared { IsShared lists.now }
+    requires list { here.state.list ≤ size lists.now }
+    requires operands { effect.needs ≤ here.state.operands }
+    ensures stays { (s : Setting) (op : Op)
+        → Instr (instruction.now.tag ∷ instruction.now.fields.now) op
+        → (effect.needs, effect.takes, effect.gives) ≡ stack_effect s.chains op
+        → flow effect.flow ≡ flow_of op
+        → OnOk result (Stays s op (view lists.now here.state)) }
+    ensures err { (s : Setting) (op : Op)
+        → Instr (instruction.now.tag ∷ instruction.now.fields.now) op
+        → (effect.needs, effect.takes, effect.gives) ≡ stack_effect s.chains op
+        → flow effect.flow ≡ flow_of op
+        → IfErr result (λ e. IsShort (flow effect.flow) here.at (view lists.now here.state) e
+        ⊎ (IsMetBy (flow effect.flow) (view lists.now here.state)
+        × RefusesSinking op here.at (last_base (view lists.now here.state).bases)
+        (untouched s op (view lists.now here.state)) e)) }
+{
+    if here.state.list == 0 {
+        return Ok(());
+    }
+    let needed = effect.flow.iterators_needed();
+    check_armed(*instruction, effect.takes, needed, here, lists)
+}
+
 impl Prepared<'_> {
     /// Whether the host has what the instruction asks, and the operand stack what it needs.
     #[inline(always)]
     fn check_needs(&self, effect: Effect, at: u32, state: State) -> Result<(), VerifyError>
         ensures allowed { OnOk result (Allows self.now.caps.0 effect.asks.0) }
         ensures there { OnOk result (effect.needs ≤ state.operands) }
-        ensures err { (op : Op) → effect.asks.0 ≡ caps_of (bytecode_of self.now).setting op
+        ensures err { (op : Op) (lists : Lists)
+            → effect.asks.0 ≡ caps_of (bytecode_of self.now).setting op
             → effect.needs ≡ needs (bytecode_of self.now).setting op
-            → IfErr result (λ e. RefusesState (bytecode_of self.now) op at (view state) e) }
+            → IfErr result (λ e. RefusesState (bytecode_of self.now) op at (view lists state) e) }
     {
-        let at = at as usize;
         let missing = missing(self.caps, effect.asks);
         if !missing.is_empty() {
             return Err(VerifyError::MissingCaps {
                 artifact: self.caps,
                 missing,
-                at,
+                at: at as usize,
             });
         }
         if state.operands < effect.needs {
             return Err(VerifyError::Underflow {
-                at,
+                at: at as usize,
                 need: effect.needs as usize,
                 have: state.operands as usize,
             });
@@ -143,34 +187,32 @@ impl Prepared<'_> {
         chunk: &Chunk,
         effect: Effect,
         here: Arrival,
+        lists: &mut Lists,
         traversal: &mut Traversal,
     ) -> Result<Option<State>, VerifyError>
         requires long { length traversal.old.sent ≡ length self.now.pools.now.switches.now }
         requires operands { effect.needs ≤ here.state.operands }
         requires operands_room { here.state.operands + 1 < 2 ^ 32 }
         requires iterators_room { here.state.iterators + 1 < 2 ^ 32 }
-        requires handlers_room { here.state.handlers + 1 < 2 ^ 32 }
-        ensures met { OnOk result (IsMetBy (flow effect.flow) (view here.state)) }
-        ensures sends { OnOk result (Sends self.now.starts.starts chunk.now
+        requires shared { IsShared lists.old }
+        requires list { here.state.list ≤ size lists.old }
+        requires lists_room { size lists.old + 1 < 2 ^ 32 }
+        ensures met { OnOk result (IsMetBy (flow effect.flow) (view lists.old here.state)) }
+        ensures grows { OnOk result (Grows lists.old lists.new) }
+        ensures followed { IfOk result (IsFollowed self.now.starts.starts chunk.now
             (bytecode_of self.now).switches (flow effect.flow)
-            (jump_for (flow effect.flow)
-            (here.state.operands - effect.takes + effect.gives) (view here.state))
-            (sent_by traversal.old.sent) (sent_by traversal.new.sent)
-            (map coming traversal.old.work.items) (map coming traversal.new.work.items)) }
-        ensures falls { IfOk result (λ after. option_map view after
-            ≡ cond (falls_for (flow effect.flow))
-            (Some (fall_for (flow effect.flow)
-            (here.state.operands - effect.takes + effect.gives) (view here.state)))
-            None) }
+            (here.state.operands - effect.takes + effect.gives) here.state lists.old lists.new
+            traversal.old.sent traversal.new.sent
+            (map underway traversal.old.work.items) (map underway traversal.new.work.items)) }
         ensures states { OnOk result (traversal.new.states ≡ traversal.old.states) }
         ensures long { OnOk result (length traversal.new.sent ≡ length traversal.old.sent) }
         ensures placed { All (IsPlaced self.now.starts.starts chunk.now) traversal.old.work.items
             → OnOk result
             (All (IsPlaced self.now.starts.starts chunk.now) traversal.new.work.items) }
         ensures err { IfErr result (RefusesFlow self.now.starts.starts chunk.now
-            (bytecode_of self.now).switches here.at (view here.state)
-            (here.state.operands - effect.takes + effect.gives)
-            (sent_by traversal.old.sent) (flow effect.flow)) }
+            (bytecode_of self.now).switches here.at (view lists.old here.state) (record here.state {
+              operands = here.state.operands - effect.takes + effect.gives;
+            }) traversal.old.sent (flow effect.flow)) }
     {
         let starts = &self.starts;
         let work = &mut traversal.work;
@@ -207,14 +249,11 @@ impl Prepared<'_> {
             }
             Flow::EndsIterator => Ok(Some(state.without_iterator(at)?)),
             Flow::PushesHandler(target) => {
-                let armed = State {
-                    handlers: state.handlers + 1,
-                    ..state
-                };
+                let armed = state.with_handler(lists)?;
                 push_target(starts, chunk, at, target, armed, work)?;
                 Ok(Some(armed))
             }
-            Flow::PopsHandler => Ok(Some(state.without_handler(at)?)),
+            Flow::PopsHandler => Ok(Some(state.without_handler(at, lists)?)),
         }
     }
 
@@ -234,20 +273,23 @@ impl Prepared<'_> {
         Effect::of(&op, self.pools.chains, &self.asked)
     }
 
-    /// Visits an instruction: tests what it asks and needs, sends its state to its targets, and answers what falls
-    /// through, if it does.
+    /// Visits an instruction: tests what it asks and needs and what it leaves as it was, sends its state to its targets, and
+    /// answers what falls through, if it does.
     #[inline(always)]
     fn visit(
         &self,
         chunk: &Chunk,
         here: Arrival,
+        lists: &mut Lists,
         traversal: &mut Traversal,
     ) -> Result<Option<Arrival>, VerifyError>
         requires ready { IsReady self.now }
         requires framed { IsFramed (bytecode_of self.now) chunk.now }
-        requires halts { (deepest : ℕ) × HaltsAt self.now chunk.now traversal.old here deepest }
-        ensures ok { (deepest : ℕ) → HaltsAt self.now chunk.now traversal.old here deepest
-            → IfOk result (λ next. IsWalking self.now chunk.now traversal.new
+        requires halts { (deepest : ℕ)
+            × HaltsAt self.now chunk.now lists.old traversal.old here deepest }
+        ensures ok { (deepest : ℕ)
+            → HaltsAt self.now chunk.now lists.old traversal.old here deepest
+            → IfOk result (λ next. IsWalking self.now chunk.now lists.new traversal.new
             (traversal.new.work.items ++ option_to_list next) deepest) }
         ensures states { OnOk result (traversal.new.states ≡ traversal.old.states) }
         ensures few { IfOk result (λ next. length (traversal.new.work.items ++ option_to_list next)
@@ -261,29 +303,34 @@ impl Prepared<'_> {
         };
         let effect = self.effect_of(&instruction);
         self.check_needs(effect, here.at, here.state)?;
-        match self.follow(chunk, effect, here, traversal)? {
+        check_stays(&instruction, effect, here, lists)?;
+        match self.follow(chunk, effect, here, lists, traversal)? {
             Some(after) => Ok(Some(here.next(instruction.width(), after))),
             None => Ok(None),
         }
     }
 
     /// What falls through an instruction, where that is plain: it does no more than its tag tells, and finds the operands
-    /// that it takes.
+    /// that it takes, above the base of the last handler.
     #[inline(always)]
-    fn plain_next(&self, here: Arrival) -> Option<Arrival>
+    fn plain_next(&self, here: Arrival, lists: &Lists) -> Option<Arrival>
+        requires shared { IsShared lists.now }
+        requires list { here.state.list ≤ size lists.now }
         requires start { IsStart self.now.code.now here.at }
         requires room { (op : Op) → StandsAt self.now.code.now here.at op
             → here.at + width_of op < 2 ^ 32 }
         requires operands_room { here.state.operands + 1 < 2 ^ 32 }
         requires ordinal_room { here.ordinal + 1 < 2 ^ 64 }
-        ensures { IfSome result (λ next. IsPlainStep self.now.code.now here next) }
+        ensures { IfSome result (λ next. IsPlainStep self.now.code.now lists.now here next) }
     {
         let Some(instruction) = Instruction::at(self.code, here.at as usize) else {
             unreachable!();
         };
         let told = tag_effect(instruction.tag);
         match told.way {
-            Way::Falls if u32::from(told.needs) <= here.state.operands => {
+            Way::Falls
+                if u32::from(told.needs) <= here.state.operands
+                    && here.state.reaches_up(u32::from(told.takes), lists) => {
                 let left = here.state.operands - u32::from(told.takes) + u32::from(told.gives);
                 let after = State {
                     operands: left,
@@ -302,18 +349,19 @@ impl Prepared<'_> {
         &self,
         chunk: &Chunk,
         from: Arrival,
+        lists: &Lists,
         traversal: &mut Traversal,
         meter: &mut Meter,
         deepest: &mut u32,
     ) -> Result<Option<Arrival>, VerifyError>
         requires ready { IsReady self.now }
         requires framed { IsFramed (bytecode_of self.now) chunk.now }
-        requires walking { IsWalking self.now chunk.now traversal.old
+        requires walking { IsWalking self.now chunk.now lists.now traversal.old
             (traversal.old.work.items ++ from ∷ []) deepest.old }
         ensures halts { IfOk result (λ next. IfSome next (λ here.
-            HaltsAt self.now chunk.now traversal.new here deepest.new)) }
-        ensures skips { IfOk result (λ next. IfNone next
-            (IsWalking self.now chunk.now traversal.new traversal.new.work.items deepest.new)) }
+            HaltsAt self.now chunk.now lists.now traversal.new here deepest.new)) }
+        ensures skips { IfOk result (λ next. IfNone next (IsWalking self.now chunk.now lists.now
+            traversal.new traversal.new.work.items deepest.new)) }
         ensures further { IfOk result (λ next. IfSome next (λ _.
             visits_in traversal.old.states < visits_in traversal.new.states)) }
         ensures ticked { HasVisited traversal.old.states traversal.new.states meter.old meter.new }
@@ -331,7 +379,7 @@ impl Prepared<'_> {
             traversal.states.set(here.ordinal, here.state);
             meter.tick();
             *deepest = (*deepest).max(here.state.operands);
-            match self.plain_next(here) {
+            match self.plain_next(here, lists) {
                 Some(next) => here = next,
                 None => return Ok(Some(here)),
             }
@@ -344,6 +392,7 @@ impl Prepared<'_> {
         &self,
         chunk: &Chunk,
         ordinal: usize,
+        lists: &mut Lists,
         traversal: &mut Traversal,
         meter: &mut Meter,
     ) -> Result<u32, VerifyError>
@@ -352,6 +401,7 @@ impl Prepared<'_> {
         requires holds { chunk.now.entry < chunk.now.end }
         requires place { slice_get self.now.starts.starts ordinal ≡ Some chunk.now.entry }
         requires fits { Fits self.now traversal.old }
+        requires shared { IsShared lists.old }
         ensures typed { IfOk result (λ n. HasTyping (coded (bytecode_of self.now)) chunk.now n) }
         ensures deepest { IfOk result (λ n. IsDeepest (coded (bytecode_of self.now)) chunk.now n) }
         ensures metered { IsMeteredChunk (bytecode_of self.now)
@@ -359,8 +409,10 @@ impl Prepared<'_> {
         ensures err { IfErr result (λ e. (e ≡ VerifyError.OutOfMemory)
             ⊎ ChunkFlaw (bytecode_of self.now) chunk.now e) }
         ensures fits { OnOk result (Fits self.now traversal.new) }
+        ensures shared { OnOk result (IsShared lists.new) }
     {
         traversal.begin_chunk();
+        lists.clear();
         let mut deepest = 0;
         let mut next = Some(Arrival {
             at: chunk.entry(),
@@ -368,8 +420,8 @@ impl Prepared<'_> {
             state: State::NOTHING,
         });
         while let Some(from) = take_next(next, &mut traversal.work) {
-            next = match self.visit_plain(chunk, from, traversal, meter, &mut deepest)? {
-                Some(here) => self.visit(chunk, here, traversal)?,
+            next = match self.visit_plain(chunk, from, lists, traversal, meter, &mut deepest)? {
+                Some(here) => self.visit(chunk, here, lists, traversal)?,
                 None => None,
             };
         }
@@ -418,11 +470,13 @@ impl Prepared<'_> {
     pub(crate) fn verify_chunk(
         &self,
         chunk: &Chunk,
+        lists: &mut Lists,
         traversal: &mut Traversal,
         meter: &mut Meter,
     ) -> Result<u16, VerifyError>
         requires ready { IsReady self.now }
         requires fits { Fits self.now traversal.old }
+        requires shared { IsShared lists.old }
         ensures passes { OnOk result (ChunkPasses (bytecode_of self.now) chunk.now) }
         ensures typed { IfOk result (λ n. HasTyping (coded (bytecode_of self.now)) chunk.now n) }
         ensures deepest { IfOk result (λ n. IsDeepest (coded (bytecode_of self.now)) chunk.now n) }
@@ -433,9 +487,10 @@ impl Prepared<'_> {
         ensures metered { IsMeteredChunk (bytecode_of self.now)
             self.now.starts.starts chunk.now meter.old meter.new result }
         ensures fits { OnOk result (Fits self.now traversal.new) }
+        ensures shared { OnOk result (IsShared lists.new) }
     {
         let ordinal = self.check_frame(chunk)?;
-        let needed = self.walk(chunk, ordinal, traversal, meter)?;
+        let needed = self.walk(chunk, ordinal, lists, traversal, meter)?;
         let declared = chunk.max_stack();
         if needed > u32::from(declared) {
             return Err(VerifyError::StackExceedsDeclared {

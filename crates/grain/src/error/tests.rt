@@ -19,10 +19,16 @@ fn refusals_print_as_verdict_lines_have_them(rt: HostRuntime) -> Result<(), Fail
         what: "name",
         index: 3,
     };
+    let sinks = VerifyError::SinksBelowHandler {
+        at: 7,
+        need: 1,
+        have: 0,
+    };
     for (error, text) in [
         (missing, "missing-caps at=1 missing=0020"),
         (conflict, "depth-conflict at=7 expected=1 found=0"),
         (index, "bad-index at=0 index=3 what=name"),
+        (sinks, "sinks-below-handler at=7 need=1 have=0"),
         (VerifyError::FallsOffTheEnd, "falls-off-the-end"),
         (VerifyError::OutOfMemory, "out of memory"),
     ] {

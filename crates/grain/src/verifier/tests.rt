@@ -218,3 +218,56 @@ fn constants_ask_capabilities(rt: HostRuntime) -> Result<(), Fail> {
     }
     Ok(())
 }
+
+#[test]
+fn code_may_not_sink_below_an_armed_handler(rt: HostRuntime) -> Result<(), Fail> {
+    let alloc = rt.alloc();
+    // A tick without the operand that stood, an iterator's end without the iterator, a store of the operand.
+    let operand = [
+        0x02, 0x23, 0x0a, 0, 0, 0, 0x0b, 0x12, 0x22, 0x13, 0x22, 0x0b, 0x13,
+    ];
+    let iterator = [
+        0x02, 0x1d, 0x23, 0x0b, 0, 0, 0, 0x1f, 0x12, 0x22, 0x13, 0x22, 0x1f, 0x13,
+    ];
+    let taken = [
+        0x02, 0x23, 0x0b, 0, 0, 0, 0x06, 0, 0, 0x22, 0x13, 0x22, 0x0b, 0x13,
+    ];
+    for (code, at) in [
+        (operand.as_slice(), 7),
+        (iterator.as_slice(), 8),
+        (taken.as_slice(), 6),
+    ] {
+        let refused = said(alloc, code, &[], &[], &[])?.err();
+        let wanted = VerifyError::SinksBelowHandler {
+            at,
+            need: 1,
+            have: 0,
+        };
+        assert_eq!(rt; refused, Some(wanted));
+    }
+    let quiet = [
+        0x02, 0x23, 0x09, 0, 0, 0, 0x0b, 0x22, 0x13, 0x22, 0x0b, 0x13,
+    ];
+    match said(alloc, &quiet, &[], &[], &[])? {
+        Ok(numbers) => assert_eq!(rt; numbers.as_slice(), [1].as_slice()),
+        Err(e) => assert!(rt; false, "{e:?}"),
+    }
+    Ok(())
+}
+
+#[test]
+fn handlers_of_unlike_bases_conflict(rt: HostRuntime) -> Result<(), Fail> {
+    let alloc = rt.alloc();
+    let code = [
+        0x04, 0x0e, 0x11, 0, 0, 0, 0x02, 0x23, 0x19, 0, 0, 0, 0x0c, 0x17, 0, 0, 0, 0x23, 0x1b, 0,
+        0, 0, 0x02, 0x22, 0x13, 0x22, 0x13, 0x22, 0x13,
+    ];
+    let refused = said(alloc, &code, &[], &[], &[])?.err();
+    let wanted = VerifyError::DepthConflict {
+        at: 23,
+        expected: 1,
+        found: 1,
+    };
+    assert_eq!(rt; refused, Some(wanted));
+    Ok(())
+}

@@ -4,7 +4,7 @@ use Rattle.std.proofs.lemmas.List.Elements.{All-nil}
 use Rattle.std.proofs.lemmas.Result.{err_from_is_err_and}
 use Rattle.grain.specs.Arrivals.{IsStartIn}
 use Rattle.grain.specs.Arrivals.{case_targets}
-use Rattle.grain.specs.Arrivals.{coming, view}
+use Rattle.grain.specs.Arrivals.{underway}
 use Rattle.grain.proofs.Pushing.{pushed_next, inside_next, left_next, one_left, refused_of}
 use Rattle.grain.proofs.edges.push_cases.Goals as goal
 
@@ -14,7 +14,7 @@ loop-target-preserved c =
     let v = c.loop-target.invariant in
     let g = c.in_ok-push_target.ensures in
     record {
-      pushed = pushed_next (view c.args.after) _ (map coming c.loop-target.work.items) (map coming c.push_target.new.work.items) (case_targets c.loop-target.target-iterator) (case_targets c.next.new.self) c.in-Some.field-0-1.now.0 e g.pushed v.pushed;
+      pushed = pushed_next c.args.after _ (map underway c.loop-target.work.items) (map underway c.push_target.new.work.items) (case_targets c.loop-target.target-iterator) (case_targets c.next.new.self) c.in-Some.field-0-1.now.0 e g.pushed v.pushed;
       inside = λ h. v.inside (inside_next (IsStartIn c.args.starts.now.starts c.args.chunk.now) (case_targets c.loop-target.target-iterator) (case_targets c.next.new.self) c.in-Some.field-0-1.now.0 e g.inside h);
       placed = λ all. g.placed (v.placed all);
       left = λ t h. v.left t (left_next (case_targets c.loop-target.target-iterator) (case_targets c.next.new.self) c.in-Some.field-0-1.now.0 t e h);

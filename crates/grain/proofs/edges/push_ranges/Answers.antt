@@ -4,7 +4,7 @@ use Rattle.std.proofs.lemmas.Result.{err_from_is_err_and}
 use Rattle.grain_bytecode.specs.declared.switch.SwitchRange.{SwitchRange}
 use Rattle.grain.specs.Arrivals.{IsStartIn}
 use Rattle.grain.specs.Arrivals.{range_targets}
-use Rattle.grain.specs.Arrivals.{coming, view}
+use Rattle.grain.specs.Arrivals.{underway}
 use Rattle.grain.proofs.Pushing.{pushed_next, inside_next, left_next, one_left, ranges_left, refused_of}
 use Rattle.grain.proofs.edges.push_ranges.Goals as goal
 
@@ -16,7 +16,7 @@ loop-range-preserved c =
     let v = c.loop-range.invariant in
     let g = c.in_ok-push_target.ensures in
     record {
-      pushed = pushed_next (view c.args.after) _ (map coming c.loop-range.work.items) (map coming c.push_target.new.work.items) (range_targets (drop i rs)) (range_targets (drop (i + 1) rs)) _ e g.pushed v.pushed;
+      pushed = pushed_next c.args.after _ (map underway c.loop-range.work.items) (map underway c.push_target.new.work.items) (range_targets (drop i rs)) (range_targets (drop (i + 1) rs)) _ e g.pushed v.pushed;
       inside = λ h. v.inside (inside_next (IsStartIn c.args.starts.now.starts c.args.chunk.now) (range_targets (drop i rs)) (range_targets (drop (i + 1) rs)) _ e g.inside h);
       placed = λ all. g.placed (v.placed all);
       left = λ t h. v.left t (left_next (range_targets (drop i rs)) (range_targets (drop (i + 1) rs)) _ t e h);

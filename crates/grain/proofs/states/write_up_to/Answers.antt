@@ -11,7 +11,7 @@ pub loop-entries-preserved : goal.loop-entries-preserved
 loop-entries-preserved c =
     let v = c.loop-entries.invariant in
     let es = c.loop-entries.entries.items in
-    let e : Entry = record { chunk = 0; state = record { operands = 0; iterators = 0; handlers = 0 } } in
+    let e : Entry = record { chunk = 0; state = record { operands = 0; iterators = 0; list = 0 } } in
     let items : c.push_reserved.new.self.items ≡ es ++ e ∷ [] = c.push_reserved.ensures.items in
     let long : length c.push_reserved.new.self.items ≡ length es + 1 = ap (λ (xs : List Entry). length xs) items ∙ length_push es e in
     let here : length es < c.args.number = omega (arith, c.loop-entries-test.true, c.len.ensures) in

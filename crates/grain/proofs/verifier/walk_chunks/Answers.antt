@@ -31,6 +31,7 @@ loop-chunk-preserved c =
     let code = bytecode_of c.args.prepared.now in
     record {
       fits = v.fits;
+      shared = v.shared;
       one_each = omega (arith, c.push_reserved.ensures.len, c.loop-chunk.invariant.one_each);
       reserved = omega (arith, c.push_reserved.ensures.capacity, c.loop-chunk.invariant.reserved);
       counted = counted_more code c.args.prepared.now.starts.starts c.args.chunks.now c.loop-chunk.chunk-index c.chunk-item.result c.args.meter.now c.loop-chunk.meter c.verify_chunk.new.meter c.loop-chunk-test.true c.chunk-item.is c.loop-chunk.invariant.counted c.in_ok-needed.needed v.metered;

@@ -3,6 +3,7 @@ use Rattle.std.specs.Vec.{vec_capacity, vec_len}
 use Rattle.std.specs.List.{AllWithin, AllZip}
 use Rattle.grain.specs.Accepted.{ChunkPasses}
 use Rattle.grain.specs.Code.{coded}
+use Rattle.grain.specs.Lists.{IsShared}
 use Rattle.grain.specs.Progress.{AreCounted, Fits}
 use Rattle.grain.specs.Walk.{bytecode_of}
 use Rattle.grain.specs.Typing.{HasTyping, IsDeepest}
@@ -11,6 +12,7 @@ use Rattle.grain.proofs.verifier.walk_chunks.Given as goal
 abbrev pub invariant-loop-chunk : goal.invariant-loop-chunk
 invariant-loop-chunk l = record {
   fits : Fits l.prepared l.traversal;
+  shared : IsShared l.lists;
   counted : AreCounted (bytecode_of l.prepared) l.prepared.starts.starts (take l.chunk-index l.chunks) l.initial.meter l.meter;
   one_each : vec_len l.deepest ≡ l.chunk-index;
   reserved : length l.chunks ≤ vec_capacity l.deepest;

@@ -11,8 +11,14 @@ verify 7fff 0213 0:2:8 1:2:8 => accepted 1 0
 verify 7fff 020e070000000213 0:8:8 => refused depth-conflict at=7 expected=1 found=0
 verify 7fff 020e08000000021d0213 0:10:8 => refused depth-conflict at=8 expected=0 found=0
 verify 7fff 2308000000022213220213 0:11:8 => accepted 1
-verify 7fff 02230a0000000b122213220b13 0:13:8 => accepted 1
+verify 7fff 02230a0000000b122213220b13 0:13:8 => refused sinks-below-handler at=7 need=1 have=0
 verify 7fff 0223090000000b2213220b13 0:12:8 => accepted 1
+verify 7fff 021d230b0000001f122213221f13 0:14:8 => refused sinks-below-handler at=8 need=1 have=0
+verify 7fff 021d230c0000001e0c00000013 0:13:8 => refused sinks-below-handler at=7 need=1 have=0
+verify 7fff 02230b0000000600002213220b13 0:14:8 => refused sinks-below-handler at=6 need=1 have=0
+verify 7fff 0223080000000b1d13 0:9:8 => refused underflow at=7 need=1 have=0
+verify 7fff 230a0000001e0a00000013 0:11:8 => refused iterator-underflow at=5
+verify 7fff 040e110000000223190000000c17000000231b00000002221322132213 0:29:8 => refused depth-conflict at=23 expected=1 found=1
 verify 7fff 021d1e0d0000000b0c020000000213 0:15:8 => accepted 1
 verify 7fff 1e0500000013 0:6:8 => refused iterator-underflow at=0
 verify 7fff 130c63000000 0:6:8 => accepted 0

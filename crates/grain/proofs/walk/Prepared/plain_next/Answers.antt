@@ -1,6 +1,9 @@
 use Rattle.std.proofs.Common.{◌≡◌, ◌+◌, ◌-◌, ◌∷◌, ap, subst, ◌∙◌, arith}
 use Rattle.grain_bytecode.specs.InstructionTable.{width_of}
 use Rattle.grain_bytecode.proofs.Instructions.{instr_width}
+use Rattle.grain.specs.Counts.{last_base}
+use Rattle.grain.specs.Lists.{list_of}
+use Rattle.grain.specs.Sinking.{ReachesUpTo}
 use Rattle.grain.specs.TagEffects.{TellsWay}
 use Rattle.grain.specs.declared.tag_effects.Way.{Way}
 use Rattle.grain.proofs.Splits.{start_op}
@@ -29,6 +32,9 @@ returns-in-Falls c =
       stands = found.1;
       plain = record { operands = tells.0.operands; caps = tells.0.caps; flow = tells.1 };
       there = let e = c.from.ensures in let l = c.if-from-here.true in omega arith;
+      above =
+          subst (λ n. ReachesUpTo (last_base (list_of c.args.lists.now c.args.here.state.list)) (record { operands = c.args.here.state.operands - n; iterators = c.args.here.state.iterators })) c.from-then-from-here.ensures
+          (c.reaches_up.ensures c.if-reaches_up.true);
       is =
           c.next.ensures
           ∙ ap (λ n. record { at = c.args.here.at + n; ordinal = c.args.here.ordinal + 1; state = record c.args.here.state { operands = c.args.here.state.operands - c.from-in-Falls.result + c.from-in-Falls-2.result } }) wide

@@ -7,7 +7,7 @@ use Rattle.grain.proofs.walk.Prepared.walk.Given as goal
 
 abbrev pub invariant-loop-from : goal.invariant-loop-from
 invariant-loop-from l = record {
-  walking : IsWalking l.self l.chunk l.traversal (l.traversal.work.items ++ option_to_list l.next) l.deepest;
+  walking : IsWalking l.self l.chunk l.lists l.traversal (l.traversal.work.items ++ option_to_list l.next) l.deepest;
   ticked : HasCounted l.initial.meter l.meter (visits_in l.traversal.states);
 }
 
