@@ -1,5 +1,5 @@
 -- Code whose indices are in bounds: one instruction more and its tag, and that capabilities don't matter to it.
-use Rattle.std.proofs.Common.{◌≡◌, ℕ, ◌+◌, ◌≤◌, List, [], ◌∷◌, ◌++◌, length, take, get_or, refl, sym, ap, subst, inl, inr, add-one, rules}
+use Rattle.std.proofs.Common.{◌≡◌, ℕ, ◌+◌, ◌≤◌, List, [], ◌∷◌, ◌++◌, length, take, get_or, refl, sym, ap, subst, inl, inr, add-one}
 use Rattle.std.proofs.lemmas.List.{take_all}
 use Rattle.std.proofs.lemmas.List.Elements.{All-nil, All-push, All-weaker}
 use Rattle.grain_base.specs.declared.caps.Caps.{Caps}
@@ -56,7 +56,3 @@ front_is x n rest = rw add-one refl
 -- the first byte of an instruction is its tag
 pub tag_of : (tag : ℕ) (fields : List ℕ) (op : Op) → Instr (tag ∷ fields) op → (form op).0 ≡ tag
 tag_of tag fields op h = ap (λ (bs : List ℕ). get_or bs 0 0) (sym h.spelled)
-
--- an instruction of one byte has no index
-pub byte_indexed : (s : Setting) (op : Op) → 1 ≡ width_of op → Indexed s op
-byte_indexed s op one = search rules

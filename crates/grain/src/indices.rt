@@ -1,8 +1,9 @@
 //! Indices into pools and among the operands of chains.
-ghost use Rattle.std.specs.Prelude.{◌≡◌, [], ◌∷◌, ◌++◌, ◌+◌, ◌<◌, ◌≤◌, IfErr, IfOk, IsTrue, OnOk, ℕ, get_or, length, map, take};
+ghost use Rattle.std.specs.Prelude.{◌≡◌, [], ◌∷◌, ◌++◌, ◌+◌, ◌<◌, ◌≤◌, IfErr, IfOk, IfSome, IsTrue, OnOk, ℕ, get_or, length, map, take};
 ghost use Rattle.std.specs.Option.{option_to_list};
 ghost use Rattle.std.specs.List.{flat_map};
-ghost use Rattle.grain_bytecode.specs.InstructionTable.{form};
+ghost use Rattle.grain_bytecode.specs.InstructionTable.{form, width_of};
+ghost use Rattle.grain_bytecode.specs.Split.{StandsAt};
 ghost use Rattle.grain_bytecode.specs.declared.field.Field.TheVariants.{Index};
 ghost use Rattle.grain_bytecode.specs.declared.op.Op.{Op};
 ghost use Rattle.grain_base.specs.declared.caps.Caps.{Caps};
@@ -19,9 +20,7 @@ use crate::error::VerifyError;
 use crate::passed::{Passed, WORDS, add_passed, has_passed};
 use crate::pools::Pools;
 use grain_base::Dynamic;
-use grain_bytecode::{
-    Chain, Instruction, Op, Pool, Receiver, Root, Step, Switch, Tail, tag, width,
-};
+use grain_bytecode::{Chain, Instruction, Op, Pool, Receiver, Root, Step, Switch, Tail, tag};
 use std::collections::HashMap;
 
 /// What an index has to be below.
@@ -435,6 +434,37 @@ fn is_unindexed(tag: u8) -> bool
     )
 }
 
+/// How many bytes the instruction at an address takes, where one stands there that has no index.
+#[inline(always)]
+fn unindexed_width(code: &[u8], at: usize) -> Option<usize>
+    ensures found { IfSome result (λ n. (op : Op) × StandsAt code.now at op × (n ≡ width_of op)
+        × ((s : Setting) → Indexed s op)) }
+    ensures fits { IfSome result (λ n. (0 < n) × (at + n ≤ length code.now)) }
+{
+    let instruction = Instruction::at(code, at)?;
+    if is_unindexed(instruction.tag) {
+        Some(instruction.width())
+    } else {
+        None
+    }
+}
+
+/// Where the instructions without an index end that stand one after another from an address on.
+#[inline(always)]
+fn skip_unindexed(code: &[u8], from: usize) -> usize
+    requires { from ≤ length code.now }
+    ensures further { from ≤ result }
+    ensures inside { result ≤ length code.now }
+    ensures indexed { (s : Setting) → AreIndexed s (take from code.now)
+        → AreIndexed s (take result code.now) }
+{
+    let mut at = from;
+    while let Some(width) = unindexed_width(code, at) {
+        at += width;
+    }
+    at
+}
+
 /// Where the next instruction begins, once the one at an address has been tested.
 fn check_at<const N: usize>(
     pools: &Pools<'_>,
@@ -453,37 +483,17 @@ fn check_at<const N: usize>(
     let Some(instruction) = Instruction::at(code, at) else {
         return Err(VerifyError::Undecodable { at });
     };
-    let next = at + instruction.width();
-    if is_unindexed(instruction.tag) {
-        return Ok(next);
-    }
     let Some(op) = instruction.op() else {
         unreachable!();
     };
     match check_op(pools, passed, &op) {
-        Ok(()) => Ok(next),
+        Ok(()) => Ok(at + instruction.width()),
         Err(bad) => Err(VerifyError::BadIndex {
             at,
             what: word_of(bad.bound),
             index: bad.index,
         }),
     }
-}
-
-/// Where the one-byte instructions end that stand one after another from an address on. They have no index.
-#[inline(always)]
-fn skip_one_byte_instructions(code: &[u8], from: usize) -> usize
-    requires { from ≤ length code.now }
-    ensures further { from ≤ result }
-    ensures inside { result ≤ length code.now }
-    ensures indexed { (s : Setting) → AreIndexed s (take from code.now)
-        → AreIndexed s (take result code.now) }
-{
-    let mut at = from;
-    while let Some(1) = width(code, at) {
-        at += 1;
-    }
-    at
 }
 
 /// The same as `check_code`, where nothing has passed yet.
@@ -496,10 +506,10 @@ fn check_instructions<const N: usize>(
     ensures ok { OnOk result (AreIndexed (alone pools.now) code.now) }
     ensures err { IfErr result (λ e. CodeFlaw (alone pools.now) code.now e) }
 {
-    let mut at = skip_one_byte_instructions(code, 0);
+    let mut at = skip_unindexed(code, 0);
     while at < code.len() {
         let next = check_at(pools, passed, code, at)?;
-        at = skip_one_byte_instructions(code, next);
+        at = skip_unindexed(code, next);
     }
     Ok(())
 }

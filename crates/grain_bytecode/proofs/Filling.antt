@@ -5,21 +5,9 @@ use Rattle.std.proofs.lemmas.Nat.{mod_below}
 use Rattle.std.proofs.lemmas.Option.{slice_get_within}
 use Rattle.std.proofs.Math.Nat.{div-add-mod}
 use Rattle.grain_bytecode.specs.declared.starts.Word.{Word}
-use Rattle.grain_bytecode.specs.Starts.{is_set, set_below, bits_of, starts_in, IsCounted}
+use Rattle.grain_bytecode.specs.Starts.{Filling, all_bits, is_set, set_below, bits_of, starts_in, IsCounted}
 use Rattle.grain_bytecode.proofs.SetBelow.{below_set, gap, alike, listed_cases}
 use Rattle.grain_bytecode.proofs.Words.{past, no_bits, set_here, set_elsewhere}
-
--- the bits of the words that are closed and of the one that is open
-abbrev pub all_bits : List Word → ℕ → List ℕ
-all_bits words bits = bits_of words ++ bits ∷ []
-
--- Just these starts have their bits set, all of them below an address, and the words count those before them.
-pub record Filling (words : List Word) (before bits count at : ℕ) (starts : List ℕ) : Type 0 where
-  pub below : set_below (all_bits words bits) at ≡ starts
-  pub clear : (b : ℕ) → at ≤ b → is_set (all_bits words bits) b ≡ false
-  pub closed : (i : ℕ) (word : Word) → slice_get words i ≡ Some word → word.before ≡ length (set_below (all_bits words bits) (64 * i))
-  pub opened : before ≡ length (set_below (all_bits words bits) (64 * length words))
-  pub counted : count ≡ length starts
 
 pub filling_none : Filling [] 0 0 0 0 []
 filling_none = record {

@@ -1,8 +1,9 @@
 -- The starts of code as contracts see them, and how bits stand for them.
-use Rattle.std.specs.Prelude.{◌≡◌, ℕ, ◌*◌, ◌/◌, ◌%◌, ◌≤◌, ◌==◌, Bool, List, map, length, take, filter, slice_get, slice_index, Some}
+use Rattle.std.specs.Prelude.{◌≡◌, ℕ, ◌*◌, ◌/◌, ◌%◌, ◌≤◌, ◌==◌, ◌++◌, ◌∷◌, [], Bool, false, List, map, length, take, filter, slice_get, slice_index, Some}
 use Rattle.std.specs.Int.{bit_at}
 use Rattle.std.specs.List.{range_with_len}
-use Rattle.grain_bytecode.specs.Split.{Split, NoneStandsAt}
+use Rattle.grain_bytecode.specs.Split.{AreInstructions, Split, NoneStandsAt, starts_from}
+use Rattle.grain_bytecode.specs.declared.op.Op.{Op}
 use Rattle.grain_bytecode.specs.declared.starts.Word.{Word}
 
 -- a front of code: where it ends, and where its instructions begin
@@ -36,3 +37,19 @@ starts_in words = set_below (bits_of words) (64 * length words)
 pub record IsCounted (words : List Word) (count : ℕ) : Type 0 where
   pub before : (i : ℕ) (word : Word) → slice_get words i ≡ Some word → word.before ≡ length (set_below (bits_of words) (64 * i))
   pub all : count ≡ length (starts_in words)
+
+-- the bits of the words that are closed and of the one that is open
+abbrev pub all_bits : List Word → ℕ → List ℕ
+all_bits words bits = bits_of words ++ bits ∷ []
+
+-- Just these starts have their bits set, all of them below an address, and the words count those before them.
+pub record Filling (words : List Word) (before bits count at : ℕ) (starts : List ℕ) : Type 0 where
+  pub below : set_below (all_bits words bits) at ≡ starts
+  pub clear : (b : ℕ) → at ≤ b → is_set (all_bits words bits) b ≡ false
+  pub closed : (i : ℕ) (word : Word) → slice_get words i ≡ Some word → word.before ≡ length (set_below (all_bits words bits) (64 * i))
+  pub opened : before ≡ length (set_below (all_bits words bits) (64 * length words))
+  pub counted : count ≡ length starts
+
+-- code is read up to an address, and the starts up to there are in these words and the open one
+abbrev pub ReadTo : List ℕ → List Word → ℕ → ℕ → ℕ → ℕ → Type 0
+ReadTo code words before bits count at = (ops : List Op) × AreInstructions (take at code) ops × Filling words before bits count at (starts_from 0 ops)

@@ -1,7 +1,8 @@
 //! Where the instructions of code begin: a bit for each address.
-ghost use Rattle.std.specs.Prelude.{◌≡◌, ◌↔◌, ℕ, List, IsTrue, IfOk, IfSome, Some, length, count_by, nat_lt, slice_get};
+ghost use Rattle.std.specs.Prelude.{◌≡◌, ◌↔◌, ◌≤◌, ◌<◌, ◌+◌, ◌*◌, ℕ, List, IsTrue, IfOk, IfSome, Some, length, count_by, nat_lt, slice_get};
 ghost use Rattle.std.specs.List.{Contains};
-ghost use Rattle.grain_bytecode.specs.Split.{Split};
+ghost use Rattle.grain_bytecode.specs.Split.{NoneStandsAt, Split};
+ghost use Rattle.grain_bytecode.specs.Starts.{ReadTo};
 
 use crate::tag_widths::width;
 use std::alloc::{AllocError, Global};
@@ -37,6 +38,45 @@ impl Model for Starts {
     ghost invariant = { λ s. IsCounted s.words.items s.count };
 }
 
+/// A front as far as it was read: its last word, where it ends, and how many starts it has.
+#[derive(Clone, Copy, Debug)]
+struct Reading {
+    word: Word,
+    end: usize,
+    count: usize,
+}
+
+/// Reads on from an address, with so many starts before it, up to a limit or to what is no instruction.
+#[inline(always)]
+fn read_word(code: &[u8], from: usize, before: usize, limit: usize) -> Reading
+    requires inside { from ≤ length code.now }
+    requires few { before ≤ from }
+    ensures further { from ≤ result.end }
+    ensures inside { result.end ≤ length code.now }
+    ensures few { result.count ≤ result.end }
+    ensures read { (words : List Word) → 64 * length words ≤ from
+        → limit ≡ 64 * (length words + 1) → ReadTo code.now words before 0 before from
+        → ReadTo code.now words result.word.before result.word.bits result.count result.end }
+    ensures ended { result.end < limit → NoneStandsAt code.now result.end }
+{
+    let mut at = from;
+    let mut count = before;
+    let mut bits = 0;
+    while at < limit {
+        let Some(width) = width(code, at) else {
+            break;
+        };
+        bits |= 1u64 << (at % 64);
+        count += 1;
+        at += width;
+    }
+    Reading {
+        word: Word { before, bits },
+        end: at,
+        count,
+    }
+}
+
 impl Starts {
     ghost use Rattle.grain_bytecode.specs.Starts.{IsLongestFront};
 
@@ -53,25 +93,17 @@ impl Starts {
             → IfOk result (λ s. s ≡ record { end = length code.now; starts = starts }) }
     {
         let mut words = Vec::with_capacity(alloc, code.len() / 64 + 1)?;
-        let mut before = 0;
-        let mut bits = 0;
-        let mut at = 0;
-        let mut count = 0;
-        'reading: while let Some(width) = width(code, at) {
-            bits |= 1u64 << (at % 64);
-            count += 1;
-            at += width;
-            'closing: while words.len() < at / 64 {
-                words.push_reserved(Word { before, bits });
-                before = count;
-                bits = 0;
-            }
+        let mut front = read_word(code, 0, 0, 64);
+        while words.len() < front.end / 64 {
+            words.push_reserved(front.word);
+            let limit = 64 * (words.len() + 1);
+            front = read_word(code, front.end, front.count, limit);
         }
-        words.push_reserved(Word { before, bits });
+        words.push_reserved(front.word);
         Ok(Starts {
             words,
-            end: at,
-            count,
+            end: front.end,
+            count: front.count,
         })
     }
 

@@ -1,4 +1,4 @@
-use Rattle.std.proofs.Common.{◌∷◌, ◌≡◌, ℕ, List, refl, sym, subst, arith}
+use Rattle.std.proofs.Common.{◌∷◌, ◌≡◌, ℕ, List, sym, subst, arith}
 use Rattle.grain_bytecode.specs.InstructionTable.{width_of}
 use Rattle.grain_bytecode.specs.Split.{StandsAt}
 use Rattle.grain_bytecode.specs.declared.op.Op.{Op}
@@ -6,17 +6,8 @@ use Rattle.grain_bytecode.proofs.Instructions.{instr_width}
 use Rattle.grain_bytecode.proofs.Reading.{same_instruction}
 use Rattle.grain.specs.FirstOut.{alone}
 use Rattle.grain.specs.Indices.{IsOut}
-use Rattle.grain.proofs.Indexing.{indexed_more, tag_of}
+use Rattle.grain.proofs.Indexing.{indexed_more}
 use Rattle.grain.proofs.indices.check_at.Goals as goal
-
-pub returns-then-is_unindexed-clause-ok : goal.returns-then-is_unindexed-clause-ok
-returns-then-is_unindexed-clause-ok g c =
-    let s = alone c.args.pools.now in
-    let i = c.in-Some.instruction in
-    let found = c.in-Some.ensures.found in
-    let here = c.if-is_unindexed.ensures refl s found.0 (tag_of i.tag i.fields.now found.0 found.2) in
-    let wide : c.width.result ≡ width_of found.0 = let e = c.width.ensures in let w = instr_width (i.tag ∷ i.fields.now) found.0 found.2 in omega arith in
-    indexed_more s c.args.code.now c.args.at c.width.result found.0 c.requires.front found.1 here wide
 
 pub unreachable-requires : goal.unreachable-requires
 unreachable-requires g c = let found = c.in-Some.ensures.found in c.in_default-op.ensures.none found.0 found.2

@@ -1,52 +1,56 @@
-use Rattle.std.proofs.Common.{[], ◌∷◌, ◌++◌, ◌+◌, take, sym, subst, arith}
-use Rattle.grain_bytecode.specs.Split.{AreInstructions, starts_from}
-use Rattle.grain_bytecode.proofs.Arriving.{next_start}
-use Rattle.grain_bytecode.proofs.Filling.{filling_start, filling_word, filled}
+use Rattle.std.proofs.Common.{[], ◌≡◌, ◌≤◌, ◌*◌, ◌+◌, length, refl, sym, arith}
+use Rattle.std.proofs.Math.Nat.{div-add-mod}
+use Rattle.grain_bytecode.specs.Split.{starts_from}
+use Rattle.grain_bytecode.proofs.Filling.{filled, filling_none, filling_word}
 use Rattle.grain_bytecode.proofs.Fronts.{whole_front}
-use Rattle.grain_bytecode.proofs.Splits.{one_more}
 use Rattle.grain_bytecode.proofs.starts.Starts.of.Goals as goal
 
-pub closing-init : goal.closing-init
-closing-init c =
-    let s = c.reading in
-    let code = c.args.code.now in
-    let front = s.invariant.front in
-    let found = c.in-Some.ensures.found in
-    let fits = c.in-Some.ensures.fits in
-    let ops = front.0 ++ found.0 ∷ [] in
-    let are = subst (λ n. AreInstructions (take (s.at + n) code) ops) (sym found.2) (one_more code s.at front.0 found.0 front.1 found.1) in
-    let filling = filling_start s.words.items s.before s.bits s.count s.at c.in-Some.width (starts_from 0 front.0) s.invariant.opened fits.0 front.2 in
+pub loop-front-init : goal.loop-front-init
+loop-front-init c =
+    let none = c.in_ok-words.ensures in
+    let read = c.read_word-front.ensures in
     record {
-      room = s.invariant.room;
-      opened = omega (arith, s.invariant.opened);
-      front = (ops, are, rw (next_start code s.at front.0 found.0 s.invariant.in_code front.1) filling);
+      in_code = read.inside;
+      few = read.few;
+      room = omega (arith, none.capacity);
+      opened = let e = none.len in omega arith;
+      read = rw none.items (read.read [] (omega arith) refl ([], record { each = tt; whole = refl }, filling_none));
+      ended = λ early. read.ended (let e = none.len in omega (arith, early));
     }
 
-pub closing-preserved : goal.closing-preserved
-closing-preserved c =
-    let s = c.closing in
-    let front = s.invariant.front in
+pub loop-front-preserved : goal.loop-front-preserved
+loop-front-preserved c =
+    let s = c.loop-front in
+    let front = s.invariant.read in
+    let pushed = c.push_reserved.ensures in
+    let long = pushed.len in
+    let read = c.read_word-front-in-loop-front.ensures in
+    let filling = filling_word s.words.items s.front.word.before s.front.word.bits _ _ (starts_from 0 front.0) (omega (arith, c.loop-front-test.true)) front.2 in
     record {
-      room = omega (arith, s.invariant.room, c.push_reserved.ensures.capacity);
-      opened = omega (arith, c.push_reserved.ensures.len, c.closing-test.true);
-      front = (front.0, front.1, rw c.push_reserved.ensures.items (filling_word s.words.items s.before s.bits _ _ (starts_from 0 front.0) (omega (arith, c.closing-test.true)) front.2));
+      in_code = read.inside;
+      few = read.few;
+      room = omega (arith, s.invariant.room, pushed.capacity);
+      opened = let f = read.further in omega (arith, long, c.loop-front-test.true);
+      read = read.read _ (omega (arith, long, c.loop-front-test.true, div-add-mod s.front.end 64)) (omega arith) (front.0, front.1, rw pushed.items filling);
+      ended = λ early. read.ended (omega (arith, early));
     }
 
 pub invariant_of-result : goal.invariant_of-result
 invariant_of-result c =
-    let s = c.reading in
-    let front = s.invariant.front in
-    rw c.push_reserved-2.ensures.items (filled s.words.items s.before s.bits s.count s.at (starts_from 0 front.0) (omega (arith, s.invariant.opened)) front.2).1
+    let s = c.loop-front in
+    let front = s.invariant.read in
+    rw c.push_reserved-2.ensures.items (filled s.words.items s.front.word.before s.front.word.bits s.front.count s.front.end (starts_from 0 front.0) (omega (arith, c.loop-front-test.false)) front.2).1
 
 pub returns-clause-front : goal.returns-clause-front
 returns-clause-front c =
-    let s = c.reading in
-    let front = s.invariant.front in
-    let these = (filled s.words.items s.before s.bits s.count s.at (starts_from 0 front.0) (omega (arith, s.invariant.opened)) front.2).0 in
+    let s = c.loop-front in
+    let front = s.invariant.read in
+    let late = c.loop-front-test.false in
+    let these = (filled s.words.items s.front.word.before s.front.word.bits s.front.count s.front.end (starts_from 0 front.0) (omega (arith, late)) front.2).0 in
     record {
       inside = s.invariant.in_code;
       splits = (front.0, front.1, rw c.push_reserved-2.ensures.items these);
-      longest = c.in_default.ensures.none;
+      longest = s.invariant.ended (omega (arith, late, div-add-mod s.front.end 64));
     }
 
 pub returns-clause-whole : goal.returns-clause-whole
