@@ -59,3 +59,15 @@ pub(crate) fn placed(alloc: Global) -> Result<Program, Fail> {
     parts.positions = Positions::dense(places.to_vec(alloc)?);
     Ok(program(alloc, &[0x02, 0x02, 0x13], 8, parts)?)
 }
+
+/// How a test of growths ends: it says which growth failed, one of the call's or the one that is asked for here, behind
+/// them. Where none fails, it is `Ok`.
+pub(crate) fn told(alloc: Global, refused: bool) -> Result<(), Fail> {
+    if refused {
+        return Err(Fail::new("a growth of the call was refused"));
+    }
+    let mut behind = Vec::new(alloc);
+    behind
+        .push(refused)
+        .map_err(|_| Fail::new("no growth of the call is left"))
+}

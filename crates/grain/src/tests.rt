@@ -1,4 +1,6 @@
-//! What strangers may hand over: code that was changed on its way, and pools that all instructions name.
+//! What strangers may hand over: code that was changed on its way, and pools that all instructions name. And what a call
+//! leaves where there is no memory.
 
 mod changes;
+mod growths;
 mod large;

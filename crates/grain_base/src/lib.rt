@@ -17,3 +17,6 @@ pub use caps::Caps;
 pub use position::Position;
 pub use token::Token;
 pub use value::{Dynamic, FnPtr, HostValue};
+
+#[cfg(test)]
+mod tests;

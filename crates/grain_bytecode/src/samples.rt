@@ -5,6 +5,7 @@ use bitflags::Flags;
 use grain_base::Position;
 use std::alloc::{AllocError, Global};
 use std::fmt::{Debug, Display};
+use std::test::Fail;
 
 /// `a[i].b`, whose four positions in the first line are 1:1, 1:3, its bracket 1:2, and 1:6.
 pub(crate) fn chain(alloc: Global) -> Result<Chain, AllocError> {
@@ -55,4 +56,16 @@ pub(crate) fn both_texts<E: Debug + Display>(
     error: &E,
 ) -> Result<String, AllocError> {
     format!(in alloc; "{error:?}: {error}")
+}
+
+/// How a test of growths ends: it says which growth failed, one of the call's or the one that is asked for here, behind
+/// them. Where none fails, it is `Ok`.
+pub(crate) fn told(alloc: Global, refused: bool) -> Result<(), Fail> {
+    if refused {
+        return Err(Fail::new("a growth of the call was refused"));
+    }
+    let mut behind = Vec::new(alloc);
+    behind
+        .push(refused)
+        .map_err(|_| Fail::new("no growth of the call is left"))
 }

@@ -2,6 +2,7 @@ use super::*;
 use std::test::Fail;
 
 mod damage;
+mod growths;
 
 #[test]
 fn numbers(rt: HostRuntime) {

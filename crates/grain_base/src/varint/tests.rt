@@ -87,21 +87,3 @@ fn writes_signed(rt: HostRuntime) -> Result<(), Fail> {
     assert_eq!(rt; out.as_slice(), [0x7fu8, 0x81, 0x01].as_slice());
     Ok(())
 }
-
-/// To be run with each growth failing in turn: `rt try --test --fail-alloc N` for N from 1 on. Where one fails, nothing
-/// was appended, and what was asked for is appended when asked for again.
-#[test]
-fn a_growth_fails(rt: HostRuntime) {
-    let mut out = Vec::new(rt.alloc());
-    if put_u64(&mut out, 300).is_err() {
-        assert!(rt; out.is_empty());
-        assert_eq!(rt; put_u64(&mut out, 300), Ok(()));
-    }
-    assert_eq!(rt; out.as_slice(), [0xacu8, 0x02].as_slice());
-    let mut signed = Vec::new(rt.alloc());
-    if put_i64(&mut signed, -65).is_err() {
-        assert!(rt; signed.is_empty());
-        assert_eq!(rt; put_i64(&mut signed, -65), Ok(()));
-    }
-    assert_eq!(rt; signed.as_slice(), [0x81u8, 0x01].as_slice());
-}

@@ -10,6 +10,8 @@ use grain_base::{Dynamic, FnAccess, Position};
 use std::alloc::{AllocError, Global};
 use std::test::Fail;
 
+mod growths;
+
 // The text of the operation, or its error.
 fn text(alloc: Global, op: &Op) -> Result<String, Fail> {
     let pools = sample(alloc)?;

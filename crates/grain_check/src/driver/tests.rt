@@ -8,6 +8,7 @@ use crate::status;
 use crate::stream::Failed;
 use std::process::Abort;
 
+mod growths;
 mod long_lines;
 mod verify_lines;
 
@@ -96,11 +97,11 @@ impl Sink for Taken {
     ghost mark = { λ sink. sink.failures };
 
     fn write(&mut self, bytes: &[u8]) -> Result<usize, Failed> {
-        if bytes.is_empty() {
-            return Ok(0);
-        }
         if self.failures != 0 {
             self.calls_after = self.calls_after.saturating_add(1);
+        }
+        if bytes.is_empty() {
+            return Ok(0);
         }
         let most = self.each.min(self.before_failure).min(ROOM - self.len);
         if most == 0 {
@@ -268,28 +269,4 @@ fn a_read_fails(rt: HostRuntime) {
         assert_eq!(rt; writer.bytes(), &TEXT[..wanted], "after {k}");
         assert_eq!(rt; reader.calls_after, 0, "after {k}");
     }
-}
-
-/// To be run with each growth failing in turn: `rt try --test --fail-alloc N` for N from 1 on. A growth that fails is
-/// asked for in the first run or not at all, so that the second has memory.
-#[test]
-fn memory_fails(rt: HostRuntime) {
-    let mut reader = Given::new(INPUT, 12, usize::MAX);
-    let mut writer = Taken::new(100, usize::MAX);
-    let outcome = run(rt.alloc(), &mut reader, &mut writer);
-    if outcome.is_ok() {
-        assert_eq!(rt; outcome, Ok(Summary { cases: 2, bad: 0 }));
-        assert_eq!(rt; writer.bytes(), TEXT);
-        return;
-    }
-    assert_eq!(rt; outcome, Err(RunError::OutOfMemory));
-    assert_eq!(rt; status(&outcome), 5);
-    let taken = writer.len;
-    assert!(rt; taken == 0 || taken == 8);
-    assert!(rt; TEXT.starts_with(writer.bytes()));
-    let mut writer = Taken::new(100, usize::MAX);
-    let mut reader = Given::new(INPUT, 12, usize::MAX);
-    let again = run(rt.alloc(), &mut reader, &mut writer);
-    assert_eq!(rt; again, Ok(Summary { cases: 2, bad: 0 }));
-    assert_eq!(rt; writer.bytes(), TEXT);
 }

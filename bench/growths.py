@@ -1,0 +1,181 @@
+#!/usr/bin/env python3
+"""Has each growth of each call refused in turn, and counts the answers that there should be none of.
+
+    python3 bench/growths.py [--crate NAME] [--jobs N] [--last N]
+
+It runs `rt try --test --fail-alloc N` in the folder of each crate, for N from 1 on, and reads the tests whose names end in
+_growth_fails. In such a run the Nth growth of each test is refused, and the test says which one that was:
+
+- one of what it prepares, by an error of which it makes nothing;
+- one of its call. Then the call answered want of memory by its own name, what it was lent was as before, and the same call
+  made again answered as if nothing had been refused; or the call answered so at once;
+- the growth behind its call, which ends the count.
+
+All else is a third answer: another refusal, a change of what was lent, an unlike second answer. It prints how many growths
+each call has and what came of them, and ends with status 1 where there is a third answer, or a call without its test. Each
+run builds the tests anew, which takes half a minute to a minute; N runs are made at a time with --jobs N.
+"""
+import argparse
+import os
+import subprocess
+import sys
+from concurrent.futures import ThreadPoolExecutor
+
+TOP = os.path.dirname(os.path.dirname(os.path.abspath(__file__)))
+
+SUFFIX = "_growth_fails"
+
+# How a test ends that says which growth was refused, and with which errors it ends while it prepares.
+REFUSED = "a growth of the call was refused"
+BEHIND = "no growth of the call is left"
+PREPARING = {"error: AllocError", "error: AllocFailed { .. }", "error: OutOfMemory"}
+
+# The call of each test.
+CALLS = {
+    "grain_base": {
+        "put_u64": "`varint::put_u64`",
+        "put_i64": "`varint::put_i64`",
+        "put_behind_others": "`varint::put_u64` behind 30 bytes",
+        "encode": "`pos::encode`",
+        "error_texts": "`Display` of `pos::Error`",
+    },
+    "grain_bytecode": {
+        "assemble": "`assemble`",
+        "starts_of": "`Starts::of`",
+        "strings_new": "`Strings::new`",
+        "strings_borrowed": "`Strings::borrowed`",
+        "qualify": "`names::qualify`",
+        "to_table": "`Positions::to_table`",
+        "from_table": "`Positions::from_table`",
+        "refused_table": "`Positions::from_table`, `PastTheEnd`",
+        "sites_encode": "`sites::encode`",
+        "sites_decode": "`sites::decode`",
+        "op_text": "`Op::disassemble`",
+        "missing_text": "`Op::disassemble`, `Missing`",
+        "chain_text": "`Chain::disassemble`",
+        "step_text": "`Step::disassemble`",
+        "tail_text": "`Tail::disassemble`",
+        "assign_op_text": "`AssignOp::disassemble`",
+        "switch_text": "`Switch::disassemble`",
+        "switch_range_text": "`SwitchRange::disassemble`",
+        "function_text": "`Function::disassemble`",
+        "error_texts": "`Debug` and `Display` of `TableError`",
+    },
+    "grain": {
+        "verify": "`verify`",
+        "verify_flaw": "`verify`, `Undecodable`",
+        "verify_metered": "`verify_metered`",
+        "program_verify": "`Program::verify`",
+        "tighten_stack": "`Program::tighten_stack`",
+        "sidecar": "`Program::sidecar`",
+        "strip_positions": "`Program::strip_positions`",
+        "attach_positions": "`Program::attach_positions`",
+        "build": "`build`",
+        "error_texts": "`Display` of `VerifyError`",
+    },
+    "grain_check": {
+        "run": "`run` on `code` lines",
+        "run_on_other_lines": "`run` on `site` and `verify` lines",
+    },
+}
+
+
+def ends_of(output):
+    """How each test of growths ended, by its name without the suffix: the lines that it wrote, None where it passed."""
+    ends, lines = {}, None
+    for line in output.splitlines():
+        if line.startswith("test ") and " ... " in line:
+            path, end = line[len("test ") :].split(" ... ")
+            name = path.split("::")[-1]
+            lines = None if end == "ok" else []
+            if name.endswith(SUFFIX):
+                ends[name[: -len(SUFFIX)]] = lines
+        elif lines is not None:
+            lines.append(line.strip())
+    return ends
+
+
+def kind_of(lines):
+    """What a test said of the growth that was refused."""
+    if lines is None:
+        return "undisturbed"
+    for kind, texts in (("refused", {REFUSED}), ("behind", {BEHIND}), ("preparing", PREPARING)):
+        if texts & set(lines):
+            return kind
+    return "third"
+
+
+def run(crate, number):
+    """How each test ended in the run in which that growth is refused."""
+    words = ["rt", "try", "--test", "--fail-alloc", str(number)]
+    ran = subprocess.run(words, cwd=os.path.join(TOP, "crates", crate), capture_output=True, text=True)
+    ends = ends_of(ran.stdout + ran.stderr)
+    if not ends:
+        sys.exit(f"{crate}: no test of growths ran\n{ran.stdout}{ran.stderr}")
+    return ends
+
+
+class Row:
+    """What came of the growths of one call, in their order."""
+
+    def __init__(self):
+        self.kinds = []
+        self.ended = False
+        self.thirds = []
+
+    def add(self, number, lines):
+        kind = kind_of(lines)
+        if self.ended or (kind == "preparing" and not self.kinds):
+            return
+        if kind == "behind":
+            self.ended = True
+        elif kind in ("refused", "undisturbed"):
+            self.kinds.append(kind)
+        else:
+            self.kinds.append("third")
+            self.thirds.append((number, lines))
+
+
+def rows_of(crate, jobs, last):
+    """The row of each test of the crate."""
+    rows = {}
+    with ThreadPoolExecutor(jobs) as pool:
+        for first in range(1, last + 1, jobs):
+            numbers = range(first, first + jobs)
+            for number, ends in zip(numbers, pool.map(lambda n: run(crate, n), numbers)):
+                for name, lines in ends.items():
+                    rows.setdefault(name, Row()).add(number, lines)
+            if all(row.ended for row in rows.values()):
+                break
+    return rows
+
+
+def main():
+    arguments = argparse.ArgumentParser()
+    arguments.add_argument("--crate", choices=CALLS)
+    arguments.add_argument("--jobs", type=int, default=1)
+    arguments.add_argument("--last", type=int, default=60)
+    given = arguments.parse_args()
+    good = True
+    print("| Crate | Call | Growths | Want of memory | Undisturbed | Third answers |")
+    print("|---|---|---|---|---|---|", flush=True)
+    for crate in [given.crate] if given.crate else CALLS:
+        rows = rows_of(crate, given.jobs, given.last)
+        for name in sorted(CALLS[crate].keys() ^ rows.keys()):
+            print(f"{crate}: a test or a call is missing: {name}", file=sys.stderr)
+            good = False
+        for name, call in CALLS[crate].items():
+            row = rows.get(name, Row())
+            counts = [row.kinds.count(kind) for kind in ("refused", "undisturbed", "third")]
+            told = [f"`{crate}`", call, len(row.kinds), *counts]
+            print("| " + " | ".join(map(str, told)) + " |", flush=True)
+            for number, lines in row.thirds:
+                print(f"{crate}: {name}, growth {number}: {lines}", file=sys.stderr)
+            if not row.ended:
+                print(f"{crate}: {name} has growths above {given.last}", file=sys.stderr)
+            good = good and row.ended and not row.thirds
+    return 0 if good else 1
+
+
+if __name__ == "__main__":
+    sys.exit(main())
