@@ -46,7 +46,14 @@ impl Flow {
     {
         match self {
             Flow::AdvancesIterator(_) | Flow::EndsIterator => 1,
-            _ => 0,
+            Flow::Falls
+            | Flow::Ends
+            | Flow::Jumps(_)
+            | Flow::Branches(_)
+            | Flow::Switches(_)
+            | Flow::BeginsIterator
+            | Flow::PushesHandler(_)
+            | Flow::PopsHandler => 0,
         }
     }
 }

@@ -1,0 +1,7 @@
+pub mod Answers
+pub mod Asking
+pub mod Flat
+pub mod Flaws
+pub mod Instruction
+-- what the parts of an export promise each other
+pub mod Judging

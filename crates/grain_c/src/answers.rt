@@ -1,0 +1,22 @@
+//! What `grain_verify` and `grain_fault_text` answer, by number.
+
+/// All is accepted, and the numbers of the chunks are written.
+pub const ACCEPTED: u32 = 0;
+
+/// It is refused, and why is written.
+pub const REFUSED: u32 = 1;
+
+/// There are fewer numbers than chunks, or less room than the text has bytes.
+pub const SHORT: u32 = 2;
+
+/// Memory was wanted.
+pub const OUT_OF_MEMORY: u32 = 3;
+
+/// No pools have this flat form.
+pub const NOT_FLAT: u32 = 4;
+
+/// The text is written.
+pub const WRITTEN: u32 = 0;
+
+/// The record tells no refusal.
+pub const NO_REFUSAL: u32 = 1;

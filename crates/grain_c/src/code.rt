@@ -1,0 +1,66 @@
+//! Code, instruction by instruction.
+ghost use Rattle.std.specs.Prelude.{◌≡◌, ◌+◌, List, Ok, Err, cond, sum_by};
+ghost use Rattle.std.specs.Bool.{OnFalse, OnTrue};
+ghost use Rattle.grain.specs.Split.{IsCount, NoneStandsAt, StandsAt};
+ghost use Rattle.grain_bytecode.specs.declared.op.Op.{Op};
+ghost use Rattle.grain_c.specs.Instruction.{field_size, instruction_row};
+
+use crate::fields::fields_of;
+use crate::kinds::{COUNT, NOTHING, TARGET};
+use crate::records::{CField, CInstruction};
+use grain::{count_instructions, decode};
+
+/// Counts the instructions of the whole code, or gives the address of the first thing that is none.
+#[unsafe(no_mangle)]
+pub extern "C" fn grain_count_instructions(code: &[u8], count: &mut usize) -> bool
+    ensures { IsCount code.now (cond result (Ok count.new) (Err count.new)) }
+{
+    match count_instructions(code) {
+        Ok(instructions) => {
+            *count = instructions;
+            true
+        }
+        Err(at) => {
+            *count = at;
+            false
+        }
+    }
+}
+
+/// How many bytes a field takes; an empty one takes none.
+fn field_size(field: CField) -> u8
+    ensures { result ≡ field_size field }
+{
+    match field.kind {
+        NOTHING => 0,
+        COUNT => 1,
+        TARGET => 4,
+        _ => 2,
+    }
+}
+
+/// The width of an instruction with these fields: a byte for its tag, and those of its fields.
+fn width_of(fields: &[CField; 3]) -> u8
+    ensures { result ≡ sum_by field_size fields.now + 1 }
+{
+    1 + field_size(fields[0]) + field_size(fields[1]) + field_size(fields[2])
+}
+
+/// The instruction at an address. False where none stands there, and then nothing is written.
+#[unsafe(no_mangle)]
+pub extern "C" fn grain_instruction(code: &[u8], at: usize, instruction: &mut CInstruction) -> bool
+    ensures found { OnTrue result ((op : Op) × StandsAt code.now at op
+        × (instruction.new ≡ instruction_row op)) }
+    ensures none { OnFalse result (NoneStandsAt code.now at × (instruction.new ≡ instruction.old)) }
+{
+    let Some(op) = decode(code, at) else {
+        return false;
+    };
+    let fields = fields_of(&op);
+    *instruction = CInstruction {
+        tag: code[at],
+        width: width_of(&fields),
+        fields,
+    };
+    true
+}

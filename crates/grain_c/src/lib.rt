@@ -1,0 +1,30 @@
+//! The verifier in a host's process: functions of a static library, for programs in Rust and C.
+//!
+//! An export takes numbers, slices and records of C, and asks nothing of them: whatever their values, it answers. In C a
+//! slice is a pointer and a length; what a caller owes for these stands in `hosts/c/grain.h`, and the safe types of
+//! `hosts/rust` owe it in its place. What an export isn't said to write stays as it was.
+#![tactic(auto)]
+
+mod answers;
+mod asking;
+mod build;
+mod code;
+mod faults;
+mod fields;
+mod flat;
+mod flaws;
+mod judge;
+mod kinds;
+mod records;
+mod refusal;
+mod rows;
+mod shapes;
+mod tables;
+#[cfg(test)]
+mod tests;
+mod text;
+mod verify;
+
+pub use records::{
+    CCase, CChain, CChunk, CConstant, CFault, CField, CInstruction, CPools, CStep, CSwitch,
+};

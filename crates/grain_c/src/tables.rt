@@ -1,0 +1,116 @@
+//! Address tables, and streams of the positions of chains.
+ghost use Rattle.std.specs.Prelude.{◌≡◌, ◌≢◌, ◌↔◌, List, Option, Some, None, cond};
+ghost use Rattle.std.specs.Bool.{OnFalse, OnTrue};
+ghost use Rattle.grain.specs.AddressTable.{Entry, FirstFlaw, Front, Table, site_at};
+ghost use Rattle.grain.specs.ChainStream.{Records, Stream, StreamFlaw};
+ghost use Rattle.grain_base.specs.declared.pos.Error.{Error as TableError};
+ghost use Rattle.grain_base.specs.declared.pos.Site.{Site};
+ghost use Rattle.grain_bytecode.specs.declared.sites.StreamError.{StreamError};
+ghost use Rattle.grain_c.specs.Flaws.{stream_flaw, table_flaw};
+
+use crate::flaws::{OUT_OF_ORDER, OVERFLOW, SOUND, TRAILING_BYTES, TRUNCATED};
+use grain::pos::Error as TableError;
+use grain::sites::StreamError;
+use grain::{pos, sites};
+
+/// A flaw of an address table, and the address or the count that it names, or 0.
+fn table_flaw(error: TableError) -> (u32, u64)
+    ensures { result ≡ table_flaw error }
+{
+    match error {
+        TableError::Truncated => (TRUNCATED, 0),
+        TableError::Overflow => (OVERFLOW, 0),
+        TableError::OutOfOrder { at } => (OUT_OF_ORDER, u64::from(at)),
+        TableError::TrailingBytes { count } => (TRAILING_BYTES, count as u64),
+    }
+}
+
+/// A flaw of a stream, and the count that it names, or 0.
+fn stream_flaw(error: StreamError) -> (u32, u64)
+    ensures { result ≡ stream_flaw error }
+{
+    match error {
+        StreamError::Truncated => (TRUNCATED, 0),
+        StreamError::Overflow => (OVERFLOW, 0),
+        StreamError::TrailingBytes { count } => (TRAILING_BYTES, count as u64),
+        StreamError::OutOfMemory => (SOUND, 0),
+    }
+}
+
+/// The site of an address in an address table: of the first entry there, in front of the first damage. False where there
+/// is none, and then nothing is written.
+#[unsafe(no_mangle)]
+pub extern "C" fn grain_site(table: &[u8], address: u32, line: &mut u32, column: &mut u32) -> bool
+    ensures site { (front : List Entry) × Front table.now front × (site_at front address
+        ≡ cond result (Some (record { line = line.new; column = column.new })) None) }
+    ensures kept { OnFalse result ((line.new ≡ line.old) × (column.new ≡ column.old)) }
+{
+    match pos::resolve(table, address) {
+        Some(site) => {
+            *line = site.line;
+            *column = site.column;
+            true
+        }
+        None => false,
+    }
+}
+
+/// Whether bytes are an address table: 0, or the number of what is wrong first, and with it the address or the count that
+/// this names.
+#[unsafe(no_mangle)]
+pub extern "C" fn grain_check_table(table: &[u8], named: &mut u64) -> u32
+    ensures sound { (result ≡ SOUND) ↔ ((list : List Entry) × Table table.now list) }
+    ensures flaw { result ≢ SOUND → (e : TableError) × FirstFlaw table.now e
+        × ((result, named.new) ≡ table_flaw e) }
+    ensures kept { result ≡ SOUND → named.new ≡ named.old }
+{
+    match pos::check(table) {
+        Ok(()) => SOUND,
+        Err(error) => {
+            let (flaw, count) = table_flaw(error);
+            *named = count;
+            flaw
+        }
+    }
+}
+
+/// The site that a stream records for a slot. False where it records none, and then nothing is written.
+#[unsafe(no_mangle)]
+pub extern "C" fn grain_stream_site(
+    stream: &[u8],
+    slot: u32,
+    line: &mut u32,
+    column: &mut u32,
+) -> bool
+    ensures found { OnTrue result
+        (Records stream.now slot (record { line = line.new; column = column.new })) }
+    ensures none { OnFalse result ((site : Site) → Records stream.now slot site → ⊥) }
+    ensures kept { OnFalse result ((line.new ≡ line.old) × (column.new ≡ column.old)) }
+{
+    match sites::resolve(stream, slot) {
+        Some(site) => {
+            *line = site.line;
+            *column = site.column;
+            true
+        }
+        None => false,
+    }
+}
+
+/// Whether bytes are a stream: 0, or the number of what is wrong first, and with it the count that this names.
+#[unsafe(no_mangle)]
+pub extern "C" fn grain_check_stream(stream: &[u8], named: &mut u64) -> u32
+    ensures sound { (result ≡ SOUND) ↔ ((slots : List (Option Site)) × Stream stream.now slots) }
+    ensures flaw { result ≢ SOUND → (e : StreamError) × StreamFlaw stream.now e
+        × ((result, named.new) ≡ stream_flaw e) }
+    ensures kept { result ≡ SOUND → named.new ≡ named.old }
+{
+    match sites::check(stream) {
+        Ok(()) => SOUND,
+        Err(error) => {
+            let (flaw, count) = stream_flaw(error);
+            *named = count;
+            flaw
+        }
+    }
+}

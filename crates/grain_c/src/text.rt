@@ -1,0 +1,155 @@
+//! Refusals as texts.
+ghost use Rattle.std.specs.Prelude.{◌≡◌, ◌≢◌, ◌<◌, ◌≤◌, ◌↔◌, ◌++◌, IfNone, IfOk, IfSome, ℕ, List, drop, length, string_bytes};
+ghost use Rattle.grain.specs.Texts.{verify_error_text};
+ghost use Rattle.grain.specs.declared.error.VerifyError.{VerifyError};
+ghost use Rattle.grain_c.specs.Answers.{Tells, word_kind};
+ghost use Rattle.grain_c.specs.declared.kinds.TheConstants.{NOTHING};
+
+use crate::answers::{NO_REFUSAL, OUT_OF_MEMORY, SHORT, WRITTEN};
+use crate::faults::{
+    BAD_INDEX, CHUNK_OUT_OF_RANGE, DEPTH_CONFLICT, FALLS_OFF_THE_END, HANDLER_UNDERFLOW,
+    ITERATOR_UNDERFLOW, JUMP_INTO_AN_INSTRUCTION, JUMP_OUT_OF_RANGE, MISSING_CAPS,
+    SINKS_BELOW_HANDLER, STACK_EXCEEDS_DECLARED, TRAILING_BYTES, UNDECODABLE, UNDERFLOW,
+};
+use crate::kinds::{
+    CHAIN, CONSTANT, FRAGMENT, NAME, OP_ASSIGNMENT, OPERAND, OPERATOR, SWITCH, SYNTAX_SITE,
+};
+use crate::records::CFault;
+use grain::{Caps, Flags, VerifyError};
+use std::alloc::{AllocError, Global};
+
+/// What a refusal calls an index of this kind, if it is one that a refusal names.
+fn word_of(kind: u32) -> Option<&'static str>
+    ensures some { IfSome result (λ what. (word_kind what.now ≡ kind) × (kind ≢ NOTHING)) }
+    ensures none { IfNone result ((what : List ℕ) → word_kind what ≢ NOTHING
+        → word_kind what ≢ kind) }
+{
+    match kind {
+        CONSTANT => Some("constant"),
+        NAME => Some("name"),
+        OPERATOR => Some("operator"),
+        OP_ASSIGNMENT => Some("op-assignment"),
+        FRAGMENT => Some("fragment"),
+        CHAIN => Some("chain"),
+        SWITCH => Some("switch"),
+        SYNTAX_SITE => Some("custom syntax site"),
+        OPERAND => Some("operand"),
+        _ => None,
+    }
+}
+
+/// The refusal that a record tells, if it tells one.
+fn error_of(fault: &CFault) -> Option<VerifyError>
+    ensures some { IfSome result (Tells fault.now) }
+    ensures none { IfNone result ((e : VerifyError) → Tells fault.now e → ⊥) }
+{
+    let at = fault.at as usize;
+    match (fault.kind, fault.at, fault.first, fault.second) {
+        (MISSING_CAPS, _, missing, artifact) => Some(VerifyError::MissingCaps {
+            artifact: Caps::from_bits_retain(u16::try_from(artifact).ok()?),
+            missing: Caps::from_bits_retain(u16::try_from(missing).ok()?),
+            at,
+        }),
+        (UNDECODABLE, _, 0, 0) => Some(VerifyError::Undecodable { at }),
+        (TRAILING_BYTES, _, len, 0) => Some(VerifyError::TrailingBytes {
+            at,
+            len: len as usize,
+        }),
+        (CHUNK_OUT_OF_RANGE, entry, end, len) => Some(VerifyError::ChunkOutOfRange {
+            entry: u32::try_from(entry).ok()?,
+            end: u32::try_from(end).ok()?,
+            len: len as usize,
+        }),
+        (JUMP_OUT_OF_RANGE, _, target, 0) => Some(VerifyError::JumpOutOfRange {
+            at,
+            target: u32::try_from(target).ok()?,
+        }),
+        (JUMP_INTO_AN_INSTRUCTION, _, target, 0) => Some(VerifyError::JumpIntoAnInstruction {
+            at,
+            target: u32::try_from(target).ok()?,
+        }),
+        (DEPTH_CONFLICT, _, expected, found) => Some(VerifyError::DepthConflict {
+            at,
+            expected: expected as usize,
+            found: found as usize,
+        }),
+        (UNDERFLOW, _, need, have) => Some(VerifyError::Underflow {
+            at,
+            need: need as usize,
+            have: have as usize,
+        }),
+        (FALLS_OFF_THE_END, 0, 0, 0) => Some(VerifyError::FallsOffTheEnd),
+        (STACK_EXCEEDS_DECLARED, 0, needed, declared) => Some(VerifyError::StackExceedsDeclared {
+            needed: needed as usize,
+            declared: u16::try_from(declared).ok()?,
+        }),
+        (ITERATOR_UNDERFLOW, _, 0, 0) => Some(VerifyError::IteratorUnderflow { at }),
+        (HANDLER_UNDERFLOW, _, 0, 0) => Some(VerifyError::HandlerUnderflow { at }),
+        (SINKS_BELOW_HANDLER, _, need, have) => Some(VerifyError::SinksBelowHandler {
+            at,
+            need: need as usize,
+            have: have as usize,
+        }),
+        (BAD_INDEX, _, index, kind) => Some(VerifyError::BadIndex {
+            at,
+            what: word_of(u32::try_from(kind).ok()?)?,
+            index: u32::try_from(index).ok()?,
+        }),
+        _ => None,
+    }
+}
+
+/// The text of a refusal.
+fn text_of(alloc: Global, error: &VerifyError) -> Result<String, AllocError>
+    ensures { IfOk result (λ s. string_bytes s ≡ verify_error_text error.now) }
+{
+    format!(in alloc; "{error}")
+}
+
+/// Writes bytes in front of the room, and leaves the rest of it.
+fn put(room: &mut [u8], bytes: &[u8])
+    requires { length bytes.now ≤ length room.old }
+    ensures { room.new ≡ bytes.now ++ drop (length bytes.now) room.old }
+{
+    room[..bytes.len()].copy_from_slice(bytes);
+}
+
+/// The text of a refusal, in ASCII, as the line program has it behind `refused`.
+///
+/// 0 where it is written, and how many bytes it has; 1 where the record tells no refusal; 2 where the text is longer than
+/// the room, and then only how many bytes it has is written; 3 where memory was wanted.
+#[unsafe(no_mangle)]
+pub extern "C" fn grain_fault_text(
+    alloc: Global,
+    fault: &CFault,
+    text: &mut [u8],
+    size: &mut usize,
+) -> u32
+    ensures written { result ≡ WRITTEN → (e : VerifyError) × Tells fault.now e
+        × (size.new ≡ length (verify_error_text e))
+        × (text.new ≡ verify_error_text e ++ drop (length (verify_error_text e)) text.old) }
+    ensures short { result ≡ SHORT → (e : VerifyError) × Tells fault.now e
+        × (size.new ≡ length (verify_error_text e))
+        × (length text.old < length (verify_error_text e)) }
+    ensures no_refusal { (result ≡ NO_REFUSAL) ↔ ((e : VerifyError) → Tells fault.now e → ⊥) }
+    ensures answers { result ≤ 3 }
+
+    // What isn't written stays as it was.
+    ensures text_kept { result ≢ WRITTEN → text.new ≡ text.old }
+    ensures size_kept { (result ≡ NO_REFUSAL → size.new ≡ size.old)
+        × (result ≡ OUT_OF_MEMORY → size.new ≡ size.old) }
+{
+    let Some(error) = error_of(fault) else {
+        return NO_REFUSAL;
+    };
+    let Ok(written) = text_of(alloc, &error) else {
+        return OUT_OF_MEMORY;
+    };
+    let bytes = written.as_bytes();
+    *size = bytes.len();
+    if text.len() < bytes.len() {
+        return SHORT;
+    }
+    put(text, bytes);
+    WRITTEN
+}

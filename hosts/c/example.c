@@ -1,0 +1,88 @@
+/* Verifies code with names, a chain and a switch, prints the numbers of its chunks, and prints a refusal as text. */
+#include "grain.h"
+
+#include <stdio.h>
+
+#define LENGTH(list) (sizeof(list) / sizeof *(list))
+
+/* Unit, Switch(0), Unit, Return, Unit, Return; and Unit, Chain(0), Return. */
+static const uint8_t code[] = {0x02, 0x18, 0, 0, 0x02, 0x13, 0x02, 0x13, 0x02, 0x16, 0, 0, 0x13};
+static const grain_chunk chunks[] = {{0, 8, 2}, {8, 13, 1}};
+
+static const grain_constant constants[] = {{1, 0}, {1, 0}};
+static const uint8_t names[] = {'l', 'e', 'n', 'a', 'g', 'e'};
+static const uint32_t starts[] = {0, 3, 6};
+static const grain_chain chains[] = {{.root = GRAIN_ROOT_TEMPORARY, .steps = 1, .tail = GRAIN_TAIL_READ}};
+static const grain_step steps[] = {{.kind = GRAIN_STEP_PROPERTY, .name = 1}};
+static const grain_switch switches[] = {{.cases = 2, .ranges = 1, .otherwise = 6}};
+static const grain_case cases[] = {{4, 1}, {6, 0}};
+static const uint32_t ranges[] = {6};
+
+static grain_pools pools(void) {
+    return (grain_pools){
+        .constants = constants, .constants_len = LENGTH(constants),
+        .names = names, .names_len = LENGTH(names),
+        .starts = starts, .starts_len = LENGTH(starts),
+        .chains = chains, .chains_len = LENGTH(chains),
+        .steps = steps, .steps_len = LENGTH(steps),
+        .switches = switches, .switches_len = LENGTH(switches),
+        .cases = cases, .cases_len = LENGTH(cases),
+        .ranges = ranges, .ranges_len = LENGTH(ranges),
+    };
+}
+
+static void print_fault(const grain_fault *fault) {
+    uint8_t text[128];
+    size_t size = 0;
+    if (grain_fault_text(fault, text, sizeof text, &size) != GRAIN_WRITTEN)
+        size = 0;
+    printf("refused %.*s", (int)size, (const char *)text);
+    if (fault->chunk != GRAIN_NO_CHUNK)
+        printf(" (chunk %llu)", (unsigned long long)fault->chunk);
+    printf("\n");
+}
+
+static uint32_t verify(uint16_t caps, const grain_pools *given) {
+    uint16_t numbers[LENGTH(chunks)] = {0};
+    grain_fault fault = {0};
+    uint32_t answer =
+        grain_verify(caps, code, sizeof code, chunks, LENGTH(chunks), given, numbers, LENGTH(numbers), &fault);
+    switch (answer) {
+    case GRAIN_ACCEPTED:
+        printf("accepted");
+        for (size_t i = 0; i < LENGTH(numbers); i++)
+            printf(" %u", numbers[i]);
+        printf("\n");
+        break;
+    case GRAIN_REFUSED:
+        print_fault(&fault);
+        break;
+    case GRAIN_OUT_OF_MEMORY:
+        printf("out of memory\n");
+        break;
+    default:
+        printf("not flat\n");
+        break;
+    }
+    return answer;
+}
+
+int main(void) {
+    grain_pools good = pools();
+    bool as_wanted = verify(0x7fff, &good) == GRAIN_ACCEPTED;
+
+    /* The host lacks the capability of properties, which the second chunk asks. */
+    as_wanted = verify(0x7dff, &good) == GRAIN_REFUSED && as_wanted;
+
+    /* The chain names a name that isn't there. */
+    grain_pools fewer = pools();
+    fewer.names_len = 3;
+    fewer.starts_len = 2;
+    as_wanted = verify(0x7fff, &fewer) == GRAIN_REFUSED && as_wanted;
+
+    /* A step is missing. */
+    grain_pools uneven = pools();
+    uneven.steps_len = 0;
+    as_wanted = verify(0x7fff, &uneven) == GRAIN_NOT_FLAT && as_wanted;
+    return as_wanted ? 0 : 1;
+}

@@ -1,0 +1,153 @@
+//! The library's C functions and records, as `hosts/c/grain.h` has them.
+use crate::Chunk;
+
+pub(crate) const ACCEPTED: u32 = 0;
+pub(crate) const REFUSED: u32 = 1;
+pub(crate) const OUT_OF_MEMORY: u32 = 3;
+pub(crate) const NOT_FLAT: u32 = 4;
+pub(crate) const WRITTEN: u32 = 0;
+
+pub(crate) const NO_CHUNK: u64 = u64::MAX;
+
+#[repr(C)]
+#[derive(Clone, Copy, Debug, PartialEq, Eq, Hash)]
+pub(crate) struct Constant {
+    pub(crate) is_known: u16,
+    pub(crate) caps: u16,
+}
+
+#[repr(C)]
+#[derive(Clone, Copy, Debug, PartialEq, Eq, Hash)]
+pub(crate) struct Chain {
+    pub(crate) root: u32,
+    pub(crate) root_name: u32,
+    pub(crate) steps: u32,
+    pub(crate) tail: u32,
+    pub(crate) op: u32,
+    pub(crate) operands: u16,
+}
+
+#[repr(C)]
+#[derive(Clone, Copy, Debug, PartialEq, Eq, Hash)]
+pub(crate) struct Step {
+    pub(crate) kind: u32,
+    pub(crate) name: u32,
+    pub(crate) getter: u32,
+    pub(crate) setter: u32,
+    pub(crate) operand: u16,
+    pub(crate) argc: u8,
+}
+
+#[repr(C)]
+#[derive(Clone, Copy, Debug, PartialEq, Eq, Hash)]
+pub(crate) struct Switch {
+    pub(crate) cases: u32,
+    pub(crate) ranges: u32,
+    pub(crate) otherwise: u32,
+}
+
+#[repr(C)]
+pub(crate) struct Pools {
+    pub(crate) constants: *const Constant,
+    pub(crate) constants_len: usize,
+    pub(crate) names: *const u8,
+    pub(crate) names_len: usize,
+    pub(crate) starts: *const u32,
+    pub(crate) starts_len: usize,
+    pub(crate) operators: usize,
+    pub(crate) op_assignments: usize,
+    pub(crate) fragments: usize,
+    pub(crate) functions: usize,
+    pub(crate) chains: *const Chain,
+    pub(crate) chains_len: usize,
+    pub(crate) steps: *const Step,
+    pub(crate) steps_len: usize,
+    pub(crate) switches: *const Switch,
+    pub(crate) switches_len: usize,
+    pub(crate) cases: *const crate::Case,
+    pub(crate) cases_len: usize,
+    pub(crate) ranges: *const u32,
+    pub(crate) ranges_len: usize,
+}
+
+#[repr(C)]
+#[derive(Clone, Copy, Debug, Default, PartialEq, Eq, Hash)]
+pub(crate) struct Fault {
+    pub(crate) kind: u32,
+    pub(crate) chunk: u64,
+    pub(crate) at: u64,
+    pub(crate) first: u64,
+    pub(crate) second: u64,
+}
+
+#[repr(C)]
+#[derive(Clone, Copy, Default)]
+pub(crate) struct Field {
+    pub(crate) kind: u32,
+    pub(crate) value: u32,
+}
+
+#[repr(C)]
+#[derive(Clone, Copy, Default)]
+pub(crate) struct Instruction {
+    pub(crate) tag: u8,
+    pub(crate) width: u8,
+    pub(crate) fields: [Field; 3],
+}
+
+const _: () = assert!(std::mem::size_of::<Chunk>() == 12);
+const _: () = assert!(std::mem::size_of::<Constant>() == 4);
+const _: () = assert!(std::mem::size_of::<Chain>() == 24);
+const _: () = assert!(std::mem::size_of::<Step>() == 20);
+const _: () = assert!(std::mem::size_of::<Switch>() == 12);
+const _: () = assert!(std::mem::size_of::<crate::Case>() == 8);
+const _: () = assert!(std::mem::size_of::<Pools>() == 160);
+const _: () = assert!(std::mem::size_of::<Fault>() == 40);
+const _: () = assert!(std::mem::size_of::<Instruction>() == 28);
+
+extern "C" {
+    pub(crate) fn grain_verify(
+        caps: u16,
+        code: *const u8,
+        code_len: usize,
+        chunks: *const Chunk,
+        chunks_len: usize,
+        pools: *const Pools,
+        numbers: *mut u16,
+        numbers_len: usize,
+        fault: *mut Fault,
+    ) -> u32;
+    pub(crate) fn grain_fault_text(
+        fault: *const Fault,
+        text: *mut u8,
+        text_len: usize,
+        size: *mut usize,
+    ) -> u32;
+    pub(crate) fn grain_count_instructions(
+        code: *const u8,
+        code_len: usize,
+        count: *mut usize,
+    ) -> bool;
+    pub(crate) fn grain_instruction(
+        code: *const u8,
+        code_len: usize,
+        at: usize,
+        instruction: *mut Instruction,
+    ) -> bool;
+    pub(crate) fn grain_site(
+        table: *const u8,
+        table_len: usize,
+        address: u32,
+        line: *mut u32,
+        column: *mut u32,
+    ) -> bool;
+    pub(crate) fn grain_check_table(table: *const u8, table_len: usize, named: *mut u64) -> u32;
+    pub(crate) fn grain_stream_site(
+        stream: *const u8,
+        stream_len: usize,
+        slot: u32,
+        line: *mut u32,
+        column: *mut u32,
+    ) -> bool;
+    pub(crate) fn grain_check_stream(stream: *const u8, stream_len: usize, named: *mut u64) -> u32;
+}
