@@ -45,14 +45,15 @@ static void print_fault(const grain_fault *fault) {
 static uint32_t verify(uint16_t caps, const grain_pools *given) {
     uint16_t numbers[LENGTH(chunks)] = {0};
     grain_fault fault = {0};
-    uint32_t answer =
-        grain_verify(caps, code, sizeof code, chunks, LENGTH(chunks), given, numbers, LENGTH(numbers), &fault);
+    uint64_t looked = 0;
+    uint32_t answer = grain_verify(caps, code, sizeof code, chunks, LENGTH(chunks), given, numbers, LENGTH(numbers),
+                                   &fault, &looked);
     switch (answer) {
     case GRAIN_ACCEPTED:
         printf("accepted");
         for (size_t i = 0; i < LENGTH(numbers); i++)
             printf(" %u", numbers[i]);
-        printf("\n");
+        printf(" (looked at %llu instructions)\n", (unsigned long long)looked);
         break;
     case GRAIN_REFUSED:
         print_fault(&fault);

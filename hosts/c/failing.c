@@ -67,11 +67,13 @@ static long verify(const grain_chunk *chunks, size_t many) {
     };
     uint16_t numbers[4] = {777, 777, 777, 777};
     grain_fault fault = {777, 777, 777, 777, 777};
-    uint32_t answer = grain_verify(0x7fff, code, sizeof code, chunks, many, &pools, numbers, LENGTH(numbers), &fault);
+    uint64_t looked = 777;
+    uint32_t answer =
+        grain_verify(0x7fff, code, sizeof code, chunks, many, &pools, numbers, LENGTH(numbers), &fault, &looked);
     for (size_t i = answer == GRAIN_ACCEPTED ? many : 0; i < LENGTH(numbers); i++)
         if (numbers[i] != 777)
             return -1;
-    if ((answer == GRAIN_REFUSED) == is_same(&fault, 777) || live != 0)
+    if ((answer == GRAIN_REFUSED) == is_same(&fault, 777) || (answer == GRAIN_ACCEPTED) == (looked == 777) || live != 0)
         return -1;
     return answer;
 }

@@ -213,10 +213,12 @@ GRAIN_ASSERT(sizeof(grain_instruction_row) == 28 && offsetof(grain_instruction_r
              "grain_instruction_row");
 
 /* Verifies a program: its code, its chunks, and what it has beside them. GRAIN_ACCEPTED: the number of each chunk is
- * written, the greatest operand count that any run of it reaches, and the other numbers stay. GRAIN_REFUSED: why is
- * written. Else nothing is. That pools are flat is tested first, and then the length of the list for the numbers. */
+ * written, the greatest operand count that any run of it reaches, and the other numbers stay; and *looked, how many
+ * places the chunks reach, each for itself, which is what their walks have looked at. GRAIN_REFUSED: why is written. Else
+ * nothing is. That pools are flat is tested first, and then the length of the list for the numbers. */
 uint32_t grain_verify(uint16_t caps, const uint8_t *code, size_t code_len, const grain_chunk *chunks, size_t chunks_len,
-                      const grain_pools *pools, uint16_t *numbers, size_t numbers_len, grain_fault *fault);
+                      const grain_pools *pools, uint16_t *numbers, size_t numbers_len, grain_fault *fault,
+                      uint64_t *looked);
 
 /* The text of a refusal, in ASCII and without a 0 at its end. GRAIN_WRITTEN: it stands in front of the room, and how
  * many bytes it has in *size. GRAIN_SHORT: the latter alone is written. GRAIN_NO_REFUSAL, GRAIN_OUT_OF_MEMORY: nothing

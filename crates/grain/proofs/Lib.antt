@@ -47,3 +47,4 @@ pub mod VisitCounts
 pub mod Visiting
 pub mod Walking
 pub mod Whole
+pub mod WithoutIndex

@@ -19,6 +19,7 @@ ghost use Rattle.grain.specs.Setting.{Setting, case_consts, setting};
 use crate::error::VerifyError;
 use crate::passed::{Passed, WORDS, add_passed, has_passed};
 use crate::pools::Pools;
+use crate::unindexed::is_unindexed;
 use grain_base::Dynamic;
 use grain_bytecode::{Chain, Instruction, Op, Pool, Receiver, Root, Step, Switch, Tail, tag};
 use std::collections::HashMap;
@@ -376,62 +377,6 @@ fn check_op<const N: usize>(
         }),
         None => Ok(()),
     }
-}
-
-/// Whether an instruction with this tag has no index (docs/FORMAT.md, "Instructions"), so that it needn't be decoded.
-#[inline(always)]
-fn is_unindexed(tag: u8) -> bool
-    ensures { IsTrue result → (s : Setting) (op : Op) → (form op).0 ≡ tag → Indexed s op }
-{
-    matches!(
-        tag,
-        tag::UNIT
-            | tag::FALSE
-            | tag::TRUE
-            | tag::LOAD_LOCAL
-            | tag::STORE_LOCAL
-            | tag::POP
-            | tag::JUMP
-            | tag::JUMP_IF_TRUE
-            | tag::JUMP_IF_FALSE
-            | tag::UNWIND_TO
-            | tag::TICK
-            | tag::RETURN
-            | tag::MAKE_ARRAY
-            | tag::THROW
-            | tag::ITER_INIT
-            | tag::ITER_NEXT
-            | tag::ITER_DROP
-            | tag::STORE_SHARED
-            | tag::ITER_NEXT_INDEXED
-            | tag::POP_HANDLER
-            | tag::PUSH_HANDLER
-            | tag::INTERPOLATE_START
-            | tag::INTERPOLATE_APPEND
-            | tag::INTERPOLATE_END
-            | tag::MAKE_FN_PTR
-            | tag::CURRY
-            | tag::CALL_FN_PTR
-            | tag::CALL_FN_PTR_METHOD
-            | tag::SHARE
-            | tag::LOAD_SHARED
-            | tag::IS_SHARED
-            | tag::CHECKPOINT
-            | tag::CHECK_ARRAY_SIZE
-            | tag::CHECK_MAP_SIZE
-            | tag::MAKE_MAP
-            | tag::ROTATE
-            | tag::LOAD_THIS
-            | tag::LOAD_THIS_SHARED
-            | tag::REQUIRE_THIS
-            | tag::ASSIGN_THIS
-            | tag::CALL_FN_PTR_ON_LOCAL
-            | tag::CALL_FN_PTR_ON_THIS
-            | tag::SKIP_IF_NOT_UNIT
-            | tag::STATEMENT
-            | tag::STORE_CONST
-            | tag::CALL_FN_PTR_CAPTURE
-    )
 }
 
 /// How many bytes the instruction at an address takes, where one stands there that has no index.

@@ -33,6 +33,7 @@ mod tag_effects;
 #[cfg(test)]
 mod tests;
 mod tighten;
+mod unindexed;
 mod verifier;
 mod walk;
 

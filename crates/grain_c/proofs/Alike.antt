@@ -11,7 +11,7 @@ use Rattle.grain.specs.Machine.{Catches, Finds, Flows, IsKeptRun, IsRunKeptAtQui
 use Rattle.grain.specs.Setting.{Setting}
 use Rattle.grain.specs.Sinking.{FallsShortOf, ReachesUpTo, Sinks, Stays}
 use Rattle.grain.specs.Span.{Span}
-use Rattle.grain.specs.Typing.{HasTyping, IsDeepest, IsTyping, Passes, Reached, StandsIn, begin, onward}
+use Rattle.grain.specs.Typing.{HasTyping, IsDeepest, IsReachedCount, IsTyping, Passes, Reached, StandsIn, begin, onward}
 use Rattle.grain_bytecode.specs.declared.op.Op.{Op}
 
 -- the same capabilities, and the same of each operation: what it does to the stacks, what it asks, and where it leads
@@ -149,6 +149,17 @@ module _ (bytes : List ℕ) {s t : Setting} {u w : List (List ℕ)} (like : Alik
   deepest n h = record {
     most = λ at c r. h.most at c (reached bytes (flip like) chunk r);
     attained = (h.attained.0, (h.attained.1.0, reached bytes like chunk h.attained.1.1, h.attained.1.2));
+  }
+
+  pub reached_count : (n : ℕ) → IsReachedCount (coded (code bytes s u)) chunk n → IsReachedCount (coded (code bytes t w)) chunk n
+  reached_count n h = record {
+    places = h.places;
+    distinct = h.distinct;
+    reached = λ at. (
+      λ inside. let found = (h.reached at).0 inside in (found.0, reached bytes like chunk found.1),
+      λ found. (h.reached at).1 (found.0, reached bytes (flip like) chunk found.1),
+    );
+    count = h.count;
   }
 
   pub safe : (n : ℕ) → IsSafe (code bytes s u) chunk n → IsSafe (code bytes t w) chunk n

@@ -14,13 +14,13 @@ use Rattle.grain_bytecode.specs.declared.function.Function.{Function}
 use Rattle.grain_bytecode.specs.declared.switch.Switch.{Switch}
 use Rattle.grain_c.specs.Flat.{case_constants}
 use Rattle.grain_c.specs.Asking.{RowPasses}
-use Rattle.grain_c.specs.Judging.{AreSome, IsFlatVerdict, IsVerdictOf, judged}
+use Rattle.grain_c.specs.Judging.{AreSome, IsFlatMetered, IsFlatVerdict, IsMeteredOf, IsVerdictOf, judged}
 use Rattle.grain_c.specs.declared.judge.Stop.{Stop}
 use Rattle.grain_c.specs.declared.judge.Stop.TheVariants as stops
 use Rattle.grain_c.specs.declared.records.CPools.{CPools}
 use Rattle.grain_c.proofs.ChainRows.{map_told}
 use Rattle.grain_c.proofs.FlatAlike.{AreOf}
-use Rattle.grain_c.proofs.Wholes.{accepted, accepted_back, deepest_there, flaw_there, no_constants, safe_there, typed_there, whole_constants}
+use Rattle.grain_c.proofs.Wholes.{accepted, accepted_back, deepest_there, flaw_there, no_constants, reached_there, safe_there, typed_there, whole_constants}
 
 -- what is judged, by its parts
 abbrev pub over : ℕ → List ℕ → List Span → CPools → List Function → List (List ℕ) → List Chain → List Switch → Input
@@ -102,3 +102,10 @@ flat_verdict caps bytes chunks p cs ts functions made some rows (Err (stops.Refu
         });
       };
     }
+
+pub flat_metered : (caps : ℕ) (bytes : List ℕ) (chunks : List Span) (p : CPools) (cs : List Chain) (ts : List Arms) (functions : List Function) → AreOf p cs ts → AreSome p.functions functions
+    → (old new : ℕ) (result : Result (Vec ℕ Global) Stop) → IsMeteredOf (judged caps bytes chunks p functions cs ts) old new result → IsFlatMetered caps bytes chunks p old new result
+flat_metered caps bytes chunks p cs ts functions made some old new (Ok v) h = record {
+  accepted = (h.accepted.0, λ rest. reached_there caps bytes chunks p cs ts functions made some rest [] (no_constants caps) h.accepted.0 h.accepted.1, h.accepted.2);
+}
+flat_metered caps bytes chunks p cs ts functions made some old new (Err stop) h = record { accepted = tt }

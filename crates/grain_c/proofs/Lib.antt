@@ -3,6 +3,7 @@ mod AlikeFlaws
 mod Before
 mod CaseRows
 mod ChainRows
+mod Counting
 mod FlatAlike
 mod FlatIndices
 mod FlatVerdicts

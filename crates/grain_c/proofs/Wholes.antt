@@ -9,7 +9,8 @@ use Rattle.grain.specs.Dispatch.{Arms, targets}
 use Rattle.grain.specs.Flaw.{CodeFlaw, ConstantAsks, Flaw, IsFirstFlaw, IsFlawOfChunks, PassesTo}
 use Rattle.grain.specs.Setting.{Setting}
 use Rattle.grain.specs.Span.{Span}
-use Rattle.grain.specs.Typing.{HasTyping, IsDeepest}
+use Rattle.grain.specs.Meter.{AreReached}
+use Rattle.grain.specs.Typing.{HasTyping, IsDeepest, IsReachedCount}
 use Rattle.grain.specs.declared.error.VerifyError.{VerifyError}
 use Rattle.grain.specs.declared.error.VerifyError.TheVariants as errors
 use Rattle.grain_base.specs.declared.caps.Caps.{Caps}
@@ -23,7 +24,7 @@ use Rattle.grain_c.specs.Asking.{IsFirstRefusedRow, RowPasses}
 use Rattle.grain_c.specs.Judging.{AreSome, judged}
 use Rattle.grain_c.specs.declared.records.CConstant.{CConstant}
 use Rattle.grain_c.specs.declared.records.CPools.{CPools}
-use Rattle.grain_c.proofs.Alike.{Alike, chunk_passes, deepest, safe, typed}
+use Rattle.grain_c.proofs.Alike.{Alike, chunk_passes, deepest, reached_count, safe, typed}
 use Rattle.grain_c.proofs.AlikeFlaws.{chunk_flaw}
 use Rattle.grain_c.proofs.FlatAlike.{AreOf, alike, setting_of}
 use Rattle.grain_c.proofs.FlatIndices.{TestedAlike, indexed, out, tested_alike}
@@ -89,6 +90,10 @@ module _ (caps : ℕ) (bytes : List ℕ) (p : CPools) (cs ds : List Chain) (ts u
 
   all_deepest : (chunks : List Span) (numbers : List ℕ) → AreDeepest (mine chunks) numbers → AreDeepest (theirs chunks) numbers
   all_deepest chunks numbers = zip_map (IsDeepest (coded (mine chunks).code)) (IsDeepest (coded (theirs chunks).code)) (deepest bytes like) chunks numbers
+
+  all_reached : (chunks : List Span) (n : ℕ) → AreReached (mine chunks).code chunks n → AreReached (theirs chunks).code chunks n
+  all_reached chunks n h =
+      (h.0, zip_map (IsReachedCount (coded (mine chunks).code)) (IsReachedCount (coded (theirs chunks).code)) (reached_count bytes like) chunks h.0 h.1, h.2)
 
   all_safe : (chunks : List Span) (numbers : List ℕ) → AreSafe (mine chunks) numbers → AreSafe (theirs chunks) numbers
   all_safe chunks numbers = zip_map (IsSafe (mine chunks).code) (IsSafe (theirs chunks).code) (safe bytes like) chunks numbers
@@ -158,6 +163,9 @@ module _ (caps : ℕ) (bytes : List ℕ) (chunks : List Span) (p : CPools) (cs :
 
   pub deepest_there : (numbers : List ℕ) → AreDeepest verified numbers → AreDeepest given numbers
   deepest_there = all_deepest caps bytes p cs rest.pooled.chains ts rest.pooled.switches made given_are chunks
+
+  pub reached_there : (n : ℕ) → AreReached verified.code chunks n → AreReached given.code chunks n
+  reached_there = all_reached caps bytes p cs rest.pooled.chains ts rest.pooled.switches made given_are chunks
 
   pub safe_there : (numbers : List ℕ) → AreSafe verified numbers → AreSafe given numbers
   safe_there = all_safe caps bytes p cs rest.pooled.chains ts rest.pooled.switches made given_are chunks

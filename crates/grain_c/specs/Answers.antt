@@ -4,6 +4,7 @@ use Rattle.std.specs.List.{All}
 use Rattle.std.specs.Str.{bytes_eq}
 use Rattle.grain.specs.Accepted.{AreDeepest, AreSafe, AreTyped, Input, IsAccepted}
 use Rattle.grain.specs.Flaw.{Flaw, IsFlawOfChunks}
+use Rattle.grain.specs.Meter.{AreReached}
 use Rattle.grain.specs.Span.{Span}
 use Rattle.grain.specs.declared.error.VerifyError.{VerifyError}
 use Rattle.grain.specs.declared.error.VerifyError.TheVariants as errors
@@ -24,6 +25,10 @@ pub record Accepts (caps : ℕ) (bytes : List ℕ) (chunks : List Span) (p : CPo
   pub typed : (rest : Rest p) → AreTyped (rest_input caps bytes chunks p rest) numbers
   pub deepest : (rest : Rest p) → AreDeepest (rest_input caps bytes chunks p rest) numbers
   pub safe : (rest : Rest p) → AreSafe (rest_input caps bytes chunks p rest) numbers
+
+-- so many places are reached by all chunks, each for itself
+abbrev pub Looks : ℕ → List ℕ → List Span → CPools → ℕ → Type 0
+Looks caps bytes chunks p n = (rest : Rest p) → AreReached (rest_input caps bytes chunks p rest).code chunks n
 
 -- the flaw is one of the chunk at this place, or of what is tested before the chunks
 abbrev pub FlawAt : Input → Option ℕ → VerifyError → Type 0

@@ -5,11 +5,12 @@ use Rattle.std.specs.declared.alloc.Global.{Global}
 use Rattle.grain.specs.Accepted.{AreDeepest, AreSafe, AreTyped, ChunkPasses, Input, IsAccepted, input}
 use Rattle.grain.specs.Code.{Bytecode, bytecode}
 use Rattle.grain.specs.Dispatch.{Arms, arms}
+use Rattle.grain.specs.Meter.{AreReached, HasCounted}
 use Rattle.grain.specs.Names.{names_in}
 use Rattle.grain.specs.Span.{Span}
 use Rattle.grain_bytecode.specs.declared.chain.Chain.{Chain}
 use Rattle.grain_bytecode.specs.declared.function.Function.{Function}
-use Rattle.grain_c.specs.Answers.{Accepts, FlawAt, Refuses}
+use Rattle.grain_c.specs.Answers.{Accepts, FlawAt, Looks, Refuses}
 use Rattle.grain_c.specs.Flat.{AreChains, AreSwitches, code_with}
 use Rattle.grain_c.specs.declared.build.Made.{Made}
 use Rattle.grain_c.specs.declared.judge.Judge.{Judge}
@@ -55,6 +56,10 @@ pub record IsVerdictOf (i : Input) (result : Result (Vec ℕ Global) Stop) : Typ
   pub accepted : IfOk result (λ v. IsAccepted i × AreTyped i v.items × AreDeepest i v.items × AreSafe i v.items)
   pub refused : IfErr result (IsStopOf i)
 
+-- the meter counts what accepted chunks reach
+pub record IsMeteredOf (i : Input) (old new : ℕ) (result : Result (Vec ℕ Global) Stop) : Type 0 where
+  pub accepted : IfOk result (λ _. (n : ℕ) × AreReached i.code i.chunks n × HasCounted old new n)
+
 -- these names, chains and switches are those of the flat form
 pub record IsMadeOf (p : CPools) (made : Made) : Type 0 where
   pub names_are : made.names ≡ names_in p.names.now p.starts.now
@@ -66,6 +71,10 @@ pub record IsFlatVerdict (caps : ℕ) (bytes : List ℕ) (chunks : List Span) (p
   pub accepted : IfOk result (λ v. Accepts caps bytes chunks p v.items)
   pub each : IfOk result (λ v. length v.items ≡ length chunks)
   pub refused : IfErr result (IsStop caps bytes chunks p)
+
+-- the meter counts what the accepted chunks of all with the flat form reach
+pub record IsFlatMetered (caps : ℕ) (bytes : List ℕ) (chunks : List Span) (p : CPools) (old new : ℕ) (result : Result (Vec ℕ Global) Stop) : Type 0 where
+  pub accepted : IfOk result (λ _. (n : ℕ) × Looks caps bytes chunks p n × HasCounted old new n)
 
 -- functions are there exactly where some are counted
 pub record AreSome (count : ℕ) (functions : List Function) : Type 0 where

@@ -4,14 +4,15 @@ ghost use Rattle.std.specs.List.{HoldsAt};
 ghost use Rattle.std.specs.Bool.{OnFalse, OnTrue};
 ghost use Rattle.grain.specs.Accepted.{ChunkPasses, IsAccepted};
 ghost use Rattle.grain.specs.Flaw.{Flaw, IsFlawOfChunks};
+ghost use Rattle.grain.specs.Meter.{IsMetered};
 ghost use Rattle.grain.specs.Span.{Span};
 ghost use Rattle.grain.specs.Verdict.{IsVerdict, ReachesChunks};
 ghost use Rattle.grain.specs.declared.error.VerifyError.{VerifyError};
 ghost use Rattle.grain_c.specs.Answers.{FlawAt};
-ghost use Rattle.grain_c.specs.Judging.{IsFirstRefused, IsVerdictOf, code_of, input_of};
+ghost use Rattle.grain_c.specs.Judging.{IsFirstRefused, IsMeteredOf, IsVerdictOf, code_of, input_of};
 
 use crate::asking::allows;
-use grain::{Caps, Chunk, Function, Pools, VerifyError, verify};
+use grain::{Caps, Chunk, Function, Meter, Pools, VerifyError, verify_metered};
 use std::alloc::{AllocError, Global};
 
 /// What is verified, but its chunks.
@@ -54,11 +55,12 @@ impl From<AllocError> for Stop {
 }
 
 impl Judge<'_> {
-    /// Verifies it with these chunks.
-    pub(crate) fn verify(&self, chunks: &[Chunk]) -> Result<Vec<u16>, VerifyError>
-        ensures { IsVerdict (input_of self.now chunks.now) result }
+    /// Verifies it with these chunks, and counts what the walks look at.
+    fn verify_metered(&self, chunks: &[Chunk], meter: &mut Meter) -> Result<Vec<u16>, VerifyError>
+        ensures verdict { IsVerdict (input_of self.now chunks.now) result }
+        ensures metered { IsMetered (input_of self.now chunks.now) meter.old meter.new result }
     {
-        verify(
+        verify_metered(
             self.alloc,
             self.caps,
             &[],
@@ -66,7 +68,16 @@ impl Judge<'_> {
             self.functions,
             chunks,
             self.pools,
+            meter,
         )
+    }
+
+    /// Verifies it with these chunks.
+    fn verify(&self, chunks: &[Chunk]) -> Result<Vec<u16>, VerifyError>
+        ensures { IsVerdict (input_of self.now chunks.now) result }
+    {
+        let mut meter = Meter::new();
+        self.verify_metered(chunks, &mut meter)
     }
 
     /// Whether what is wrong is a chunk, and not what is tested before the chunks.
@@ -108,10 +119,10 @@ impl Judge<'_> {
         let Err(error) = self.verify(chunks) else {
             return Ok(true);
         };
-        match error {
-            VerifyError::OutOfMemory => Err(AllocError),
-            _ => Ok(false),
+        if let VerifyError::OutOfMemory = error {
+            return Err(AllocError);
         }
+        Ok(false)
     }
 
     /// The place of the first chunk that doesn't pass.
@@ -179,11 +190,13 @@ impl Judge<'_> {
         self.refusal_at(chunks, place)
     }
 
-    /// The numbers of the chunks, or why it isn't accepted with them.
-    pub(crate) fn verdict(&self, chunks: &[Chunk]) -> Result<Vec<u16>, Stop>
-        ensures { IsVerdictOf (input_of self.now chunks.now) result }
+    /// The numbers of the chunks, or why it isn't accepted with them. The meter counts what is looked at until then; where a
+    /// chunk is refused, not what finding it looks at again.
+    pub(crate) fn verdict(&self, chunks: &[Chunk], meter: &mut Meter) -> Result<Vec<u16>, Stop>
+        ensures verdict { IsVerdictOf (input_of self.now chunks.now) result }
+        ensures metered { IsMeteredOf (input_of self.now chunks.now) meter.old meter.new result }
     {
-        match self.verify(chunks) {
+        match self.verify_metered(chunks, meter) {
             Ok(numbers) => Ok(numbers),
             Err(VerifyError::OutOfMemory) => Err(Stop::OutOfMemory),
             Err(error) => Err(Stop::Refused(self.refusal(chunks, error)?)),

@@ -169,8 +169,8 @@ fn sites_are_found(rt: HostRuntime) {
 fn pools_are_verified(rt: HostRuntime) {
     let on_switch = [0x02, 0x18, 0x00, 0x00, 0x02, 0x13, 0x02, 0x13];
     let on_chain = [0x02, 0x16, 0x00, 0x00, 0x13];
-    for (code, number) in [(on_switch.as_slice(), 2), (on_chain.as_slice(), 1)] {
-        let (mut numbers, mut fault) = ([77, 78], UNWRITTEN);
+    for (code, number, places) in [(on_switch.as_slice(), 2, 6), (on_chain.as_slice(), 1, 3)] {
+        let (mut numbers, mut fault, mut looked) = ([77, 78], UNWRITTEN, 77);
         let chunks = [whole(code)];
         let answer = grain_verify(
             rt.alloc(),
@@ -180,11 +180,22 @@ fn pools_are_verified(rt: HostRuntime) {
             &pools(),
             &mut numbers,
             &mut fault,
+            &mut looked,
         );
         assert_eq!(rt; (answer, fault.kind), (ACCEPTED, 77));
         assert_eq!(rt; numbers.as_slice(), [number, 78].as_slice());
+        assert_eq!(rt; looked, places);
         let none = &mut [0; 0];
-        let answer = grain_verify(rt.alloc(), ALL, code, &chunks, &pools(), none, &mut fault);
+        let answer = grain_verify(
+            rt.alloc(),
+            ALL,
+            code,
+            &chunks,
+            &pools(),
+            none,
+            &mut fault,
+            &mut looked,
+        );
         assert_eq!(rt; (answer, fault.kind), (SHORT, 77));
         let odd = CPools {
             ranges: &[6, 6],
@@ -198,6 +209,7 @@ fn pools_are_verified(rt: HostRuntime) {
             &odd,
             &mut numbers,
             &mut fault,
+            &mut looked,
         );
         assert_eq!(rt; (answer, fault.kind), (NOT_FLAT, 77));
     }
@@ -211,7 +223,7 @@ fn refused(
     chunks: &[CChunk],
     pools: &CPools<'_>,
 ) -> CFault {
-    let (mut numbers, mut fault) = ([77, 78, 79], UNWRITTEN);
+    let (mut numbers, mut fault, mut looked) = ([77, 78, 79], UNWRITTEN, 77);
     let answer = grain_verify(
         rt.alloc(),
         caps,
@@ -220,8 +232,9 @@ fn refused(
         pools,
         &mut numbers,
         &mut fault,
+        &mut looked,
     );
-    assert_eq!(rt; answer, REFUSED);
+    assert_eq!(rt; (answer, looked), (REFUSED, 77));
     assert_eq!(rt; numbers.as_slice(), [77, 78, 79].as_slice());
     fault
 }

@@ -1,10 +1,10 @@
 //! Verification, over pools in their flat form.
-ghost use Rattle.std.specs.Prelude.{◌≡◌, ◌≢◌, ◌<◌, ◌≤◌, ◌↔◌, ◌++◌, ℕ, All, IfErr, IfOk, List, Option, drop, length};
+ghost use Rattle.std.specs.Prelude.{◌≡◌, ◌≢◌, ◌-◌, ◌^◌, ◌<◌, ◌≤◌, ◌↔◌, ◌++◌, ℕ, All, IfErr, IfOk, List, Option, drop, length, min};
 ghost use Rattle.grain.specs.declared.error.VerifyError.{VerifyError};
-ghost use Rattle.grain_c.specs.Answers.{Accepts, Refuses, told};
+ghost use Rattle.grain_c.specs.Answers.{Accepts, Looks, Refuses, told};
 ghost use Rattle.grain_c.specs.Flat.{IsFlat, Pooled};
 ghost use Rattle.grain_c.specs.Asking.{RowPasses};
-ghost use Rattle.grain_c.specs.Judging.{AreSome, IsFlatVerdict, IsMadeOf, IsStop};
+ghost use Rattle.grain_c.specs.Judging.{AreSome, IsFlatMetered, IsFlatVerdict, IsMadeOf, IsStop};
 
 use crate::answers::{ACCEPTED, NOT_FLAT, OUT_OF_MEMORY, REFUSED, SHORT};
 use crate::asking::first_refused;
@@ -13,7 +13,7 @@ use crate::flat::is_flat;
 use crate::judge::{Judge, Refusal, Stop};
 use crate::records::{CChunk, CFault, CPools};
 use crate::refusal::told;
-use grain::{Caps, Chunk, Flags, FnAccess, Function, Pools, VerifyError};
+use grain::{Caps, Chunk, Flags, FnAccess, Function, Meter, Pools, VerifyError};
 use std::alloc::{AllocError, Global};
 
 /// The chunks as they are verified.
@@ -54,10 +54,13 @@ fn verdict_with(
     chunks: &[Chunk],
     pools: &CPools<'_>,
     made: &Made,
+    meter: &mut Meter,
 ) -> Result<Vec<u16>, Stop>
     requires made { IsMadeOf pools.now made.now }
     requires constants { All (RowPasses caps.0) pools.now.constants.now }
-    ensures { IsFlatVerdict caps.0 code.now chunks.now pools.now result }
+    ensures verdict { IsFlatVerdict caps.0 code.now chunks.now pools.now result }
+    ensures metered { IsFlatMetered
+        caps.0 code.now chunks.now pools.now meter.old meter.new result }
 {
     let functions = [some_function(alloc)];
     let given = Pools {
@@ -76,7 +79,7 @@ fn verdict_with(
         functions: as_many(pools.functions, &functions),
         pools: &given,
     };
-    judge.verdict(chunks)
+    judge.verdict(chunks, meter)
 }
 
 /// The verdict on all with the flat form.
@@ -86,9 +89,12 @@ fn verdict(
     code: &[u8],
     chunks: &[CChunk],
     pools: &CPools<'_>,
+    meter: &mut Meter,
 ) -> Result<Vec<u16>, Stop>
     requires { IsFlat pools.now }
-    ensures { IsFlatVerdict caps.0 code.now chunks.now pools.now result }
+    ensures verdict { IsFlatVerdict caps.0 code.now chunks.now pools.now result }
+    ensures metered { IsFlatMetered
+        caps.0 code.now chunks.now pools.now meter.old meter.new result }
 {
     if let Some(missing) = first_refused(caps, pools.constants) {
         return Err(Stop::Refused(Refusal {
@@ -102,7 +108,14 @@ fn verdict(
     }
     let made = make(alloc, pools)?;
     let chunks = chunks_of(alloc, chunks)?;
-    verdict_with(alloc, caps, code, &chunks, pools, &made)
+    verdict_with(alloc, caps, code, &chunks, pools, &made, meter)
+}
+
+/// What a meter shows in 64 bits.
+fn shown(meter: &Meter) -> u64
+    ensures { result ≡ min meter.now (2 ^ 64 - 1) }
+{
+    u64::try_from(meter.count()).unwrap_or(u64::MAX)
 }
 
 /// Writes the numbers in front of the room, and leaves the rest of it.
@@ -116,8 +129,8 @@ fn put(room: &mut [u16], numbers: &[u16])
 /// Verifies a program: its code, its chunks, and what it has beside them.
 ///
 /// 0 where it is accepted: then the number of each chunk is written, the greatest operand count that any run of it
-/// reaches. 1 where it is refused: then why is written. 2 where there are fewer numbers than chunks, 3 where memory was
-/// wanted, 4 where no pools have this flat form, which is tested first.
+/// reaches, and how many instructions were looked at. 1 where it is refused: then why is written. 2 where there are fewer
+/// numbers than chunks, 3 where memory was wanted, 4 where no pools have this flat form, which is tested first.
 #[unsafe(no_mangle)]
 pub extern "C" fn grain_verify(
     alloc: Global,
@@ -127,6 +140,7 @@ pub extern "C" fn grain_verify(
     pools: &CPools<'_>,
     numbers: &mut [u16],
     fault: &mut CFault,
+    looked: &mut u64,
 ) -> u32
     // The headline, of all that has this flat form.
     ensures accepted { result ≡ ACCEPTED → (found : List ℕ)
@@ -135,6 +149,10 @@ pub extern "C" fn grain_verify(
         × Accepts caps code.now chunks.now pools.now found }
     ensures refused { result ≡ REFUSED → (place : Option ℕ) × (e : VerifyError)
         × (fault.new ≡ told place e) × Refuses caps code.now chunks.now pools.now place e }
+
+    // The meter shows how many places the chunks reach, each for itself.
+    ensures looked { result ≡ ACCEPTED → (n : ℕ) × Looks caps code.now chunks.now pools.now n
+        × (looked.new ≡ min n (2 ^ 64 - 1)) }
 
     // Which of the other answers comes when.
     ensures not_flat { (result ≡ NOT_FLAT) ↔ (Pooled pools.now → ⊥) }
@@ -145,6 +163,7 @@ pub extern "C" fn grain_verify(
     // What isn't written stays as it was.
     ensures numbers_kept { result ≢ ACCEPTED → numbers.new ≡ numbers.old }
     ensures fault_kept { result ≢ REFUSED → fault.new ≡ fault.old }
+    ensures looked_kept { result ≢ ACCEPTED → looked.new ≡ looked.old }
 {
     if !is_flat(pools) {
         return NOT_FLAT;
@@ -152,9 +171,12 @@ pub extern "C" fn grain_verify(
     if numbers.len() < chunks.len() {
         return SHORT;
     }
-    match verdict(alloc, Caps::from_bits_retain(caps), code, chunks, pools) {
+    let caps = Caps::from_bits_retain(caps);
+    let mut meter = Meter::new();
+    match verdict(alloc, caps, code, chunks, pools, &mut meter) {
         Ok(found) => {
             put(numbers, &found);
+            *looked = shown(&meter);
             ACCEPTED
         }
         Err(Stop::OutOfMemory) => OUT_OF_MEMORY,

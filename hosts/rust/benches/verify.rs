@@ -3,6 +3,9 @@ use grain::{caps, verify_into, Chunk, Pools};
 use std::hint::black_box;
 use std::time::{Duration, Instant};
 
+/// Code of about so many instructions.
+type Maker = fn(usize) -> Vec<u8>;
+
 /// Pairs of Unit and Pop, and a Return.
 fn straight(instructions: usize) -> Vec<u8> {
     let mut code = Vec::new();
@@ -43,7 +46,11 @@ fn handlers(instructions: usize) -> Vec<u8> {
 
 /// The least time of a call, in nanoseconds.
 fn least(code: &[u8]) -> f64 {
-    let chunks = [Chunk { entry: 0, end: code.len() as u32, max_stack: 8 }];
+    let chunks = [Chunk {
+        entry: 0,
+        end: code.len() as u32,
+        max_stack: 8,
+    }];
     let (pools, mut numbers) = (Pools::new(), [0]);
     let calls = (200_000 / code.len()).clamp(1, 10_000) as u32;
     let mut least = Duration::MAX;
@@ -51,7 +58,8 @@ fn least(code: &[u8]) -> f64 {
     while Instant::now() < until {
         let start = Instant::now();
         for _ in 0..calls {
-            verify_into(caps::ALL, black_box(code), &chunks, &pools, &mut numbers).expect("accepted");
+            verify_into(caps::ALL, black_box(code), &chunks, &pools, &mut numbers)
+                .expect("accepted");
         }
         least = least.min(start.elapsed() / calls);
     }
@@ -59,15 +67,24 @@ fn least(code: &[u8]) -> f64 {
 }
 
 fn main() {
-    println!("{:<10} {:>12} {:>14} {:>16}", "code", "instructions", "ns a call", "ns an instruction");
-    let makers: [(&str, fn(usize) -> Vec<u8>); 3] =
-        [("straight", straight), ("branching", branching), ("handlers", handlers)];
+    println!(
+        "{:<10} {:>12} {:>14} {:>16}",
+        "code", "instructions", "ns a call", "ns an instruction"
+    );
+    let makers: [(&str, Maker); 3] = [
+        ("straight", straight),
+        ("branching", branching),
+        ("handlers", handlers),
+    ];
     for (what, make) in makers {
         for instructions in [1, 100, 10_000, 1_000_000] {
             let code = make(instructions);
             let many = grain::count_instructions(&code).expect("whole instructions");
             let time = least(&code);
-            println!("{what:<10} {many:>12} {time:>14.0} {:>16.1}", time / many as f64);
+            println!(
+                "{what:<10} {many:>12} {time:>14.0} {:>16.1}",
+                time / many as f64
+            );
         }
     }
 }

@@ -5,12 +5,38 @@ fn main() -> Result<(), Fault> {
     let pools = Pools::new()
         .constant(Some(0))
         .name("age")
-        .chain(Root::Temporary, &[Step::Property { name: 0, getter: 0, setter: 0 }], Tail::Read, 0)
-        .switch(&[Case { target: 4, constant: 0 }], &[6], 6);
-    let code = [0x02, 0x18, 0, 0, 0x02, 0x13, 0x02, 0x13, 0x02, 0x16, 0, 0, 0x13];
+        .chain(
+            Root::Temporary,
+            &[Step::Property {
+                name: 0,
+                getter: 0,
+                setter: 0,
+            }],
+            Tail::Read,
+            0,
+        )
+        .switch(
+            &[Case {
+                target: 4,
+                constant: 0,
+            }],
+            &[6],
+            6,
+        );
+    let code = [
+        0x02, 0x18, 0, 0, 0x02, 0x13, 0x02, 0x13, 0x02, 0x16, 0, 0, 0x13,
+    ];
     let chunks = [
-        Chunk { entry: 0, end: 8, max_stack: 2 },
-        Chunk { entry: 8, end: 13, max_stack: 1 },
+        Chunk {
+            entry: 0,
+            end: 8,
+            max_stack: 2,
+        },
+        Chunk {
+            entry: 8,
+            end: 13,
+            max_stack: 1,
+        },
     ];
     println!("accepted {:?}", verify(caps::ALL, &code, &chunks, &pools)?);
     match verify(caps::ALL & !caps::PROPERTY, &code, &chunks, &pools) {

@@ -106,7 +106,14 @@ pub fn instruction(code: &[u8], at: usize) -> Option<Instruction> {
         return None;
     }
     let fields = found.fields.map(|field| {
-        (field.kind != 0).then(|| Field { kind: Kind::of(field.kind), value: field.value })
+        (field.kind != 0).then(|| Field {
+            kind: Kind::of(field.kind),
+            value: field.value,
+        })
     });
-    Some(Instruction { tag: found.tag, width: found.width, fields })
+    Some(Instruction {
+        tag: found.tag,
+        width: found.width,
+        fields,
+    })
 }

@@ -145,7 +145,9 @@ impl Fault {
     #[must_use]
     pub fn chunk(&self) -> Option<usize> {
         match self.0 {
-            Why::Refusal(fault) if fault.chunk != raw::NO_CHUNK => usize::try_from(fault.chunk).ok(),
+            Why::Refusal(fault) if fault.chunk != raw::NO_CHUNK => {
+                usize::try_from(fault.chunk).ok()
+            }
             Why::Refusal(_) | Why::OutOfMemory | Why::TooLarge => None,
         }
     }
@@ -162,22 +164,55 @@ impl Fault {
 }
 
 fn cause_of(fault: raw::Fault) -> Cause {
-    let raw::Fault { kind, at, first, second, .. } = fault;
+    let raw::Fault {
+        kind,
+        at,
+        first,
+        second,
+        ..
+    } = fault;
     match kind {
-        1 => Cause::MissingCaps { at, missing: first as u16, artifact: second as u16 },
+        1 => Cause::MissingCaps {
+            at,
+            missing: first as u16,
+            artifact: second as u16,
+        },
         2 => Cause::Undecodable { at },
         3 => Cause::TrailingBytes { at, len: first },
-        4 => Cause::ChunkOutOfRange { entry: at, end: first, len: second },
+        4 => Cause::ChunkOutOfRange {
+            entry: at,
+            end: first,
+            len: second,
+        },
         5 => Cause::JumpOutOfRange { at, target: first },
         6 => Cause::JumpIntoAnInstruction { at, target: first },
-        7 => Cause::DepthConflict { at, expected: first, found: second },
-        8 => Cause::Underflow { at, need: first, have: second },
+        7 => Cause::DepthConflict {
+            at,
+            expected: first,
+            found: second,
+        },
+        8 => Cause::Underflow {
+            at,
+            need: first,
+            have: second,
+        },
         9 => Cause::FallsOffTheEnd,
-        10 => Cause::StackExceedsDeclared { needed: first, declared: second },
+        10 => Cause::StackExceedsDeclared {
+            needed: first,
+            declared: second,
+        },
         11 => Cause::IteratorUnderflow { at },
         12 => Cause::HandlerUnderflow { at },
-        13 => Cause::SinksBelowHandler { at, need: first, have: second },
-        14 => Cause::BadIndex { at, what: Kind::of(second as u32), index: first },
+        13 => Cause::SinksBelowHandler {
+            at,
+            need: first,
+            have: second,
+        },
+        14 => Cause::BadIndex {
+            at,
+            what: Kind::of(second as u32),
+            index: first,
+        },
         kind => Cause::Other { kind },
     }
 }
@@ -191,7 +226,8 @@ impl fmt::Display for Fault {
         };
         let (mut text, mut size) = ([0; 128], 0);
         // SAFETY: the pointers are those of values that live for the call, and the length is that of `text`.
-        let answer = unsafe { raw::grain_fault_text(fault, text.as_mut_ptr(), text.len(), &mut size) };
+        let answer =
+            unsafe { raw::grain_fault_text(fault, text.as_mut_ptr(), text.len(), &mut size) };
         match (answer, std::str::from_utf8(&text[..size.min(text.len())])) {
             (raw::WRITTEN, Ok(text)) => f.write_str(text),
             _ => write!(f, "refused by kind={}", fault.kind),
@@ -201,7 +237,10 @@ impl fmt::Display for Fault {
 
 impl fmt::Debug for Fault {
     fn fmt(&self, f: &mut fmt::Formatter<'_>) -> fmt::Result {
-        f.debug_struct("Fault").field("chunk", &self.chunk()).field("cause", &self.cause()).finish()
+        f.debug_struct("Fault")
+            .field("chunk", &self.chunk())
+            .field("cause", &self.cause())
+            .finish()
     }
 }
 

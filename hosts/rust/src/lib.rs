@@ -98,7 +98,8 @@ pub fn verify(caps: u16, code: &[u8], chunks: &[Chunk], pools: &Pools) -> Result
     Ok(numbers)
 }
 
-/// The same as [`verify`], with the numbers written into the front of a list of the caller's.
+/// The same as [`verify`], with the numbers written into the front of a list of the caller's, and how many places the
+/// chunks reach, each for itself: so many instructions were looked at, which bounds what scripts cost their host.
 ///
 /// # Errors
 /// Those of [`verify`], and then nothing is written.
@@ -111,10 +112,10 @@ pub fn verify_into(
     chunks: &[Chunk],
     pools: &Pools,
     numbers: &mut [u16],
-) -> Result<(), Fault> {
+) -> Result<u64, Fault> {
     assert!(chunks.len() <= numbers.len(), "fewer numbers than chunks");
     let flat = pools.flat();
-    let mut fault = raw::Fault::default();
+    let (mut fault, mut looked) = (raw::Fault::default(), 0);
     // SAFETY: each pointer and length are those of one slice that is borrowed for the call, those that are written to
     // without another reader; `flat` points into `pools`, which is borrowed too.
     let answer = unsafe {
@@ -128,10 +129,11 @@ pub fn verify_into(
             numbers.as_mut_ptr(),
             numbers.len(),
             &mut fault,
+            &mut looked,
         )
     };
     match answer {
-        raw::ACCEPTED => Ok(()),
+        raw::ACCEPTED => Ok(looked),
         raw::REFUSED => Err(Fault::refusal(fault)),
         raw::OUT_OF_MEMORY => Err(Fault::out_of_memory()),
         raw::NOT_FLAT => Err(Fault::too_large()),

@@ -127,7 +127,10 @@ impl Pools {
     /// none. `None` for a shared value or one of the host, and for what holds one.
     #[must_use]
     pub fn constant(mut self, asked: Option<u16>) -> Pools {
-        self.constants.push(raw::Constant { is_known: u16::from(asked.is_some()), caps: asked.unwrap_or(0) });
+        self.constants.push(raw::Constant {
+            is_known: u16::from(asked.is_some()),
+            caps: asked.unwrap_or(0),
+        });
         self
     }
 
@@ -181,7 +184,14 @@ impl Pools {
             Tail::Assign => (1, 0),
             Tail::AssignThrough { op } => (2, op),
         };
-        self.chains.push(raw::Chain { root, root_name, steps: count(steps.len()), tail, op, operands });
+        self.chains.push(raw::Chain {
+            root,
+            root_name,
+            steps: count(steps.len()),
+            tail,
+            op,
+            operands,
+        });
         self.steps.extend(steps.iter().map(|step| row(*step)));
         self
     }
@@ -189,7 +199,11 @@ impl Pools {
     /// One more switch: its cases, where each of its ranges leads, and where all other subjects lead.
     #[must_use]
     pub fn switch(mut self, cases: &[Case], ranges: &[u32], otherwise: u32) -> Pools {
-        self.switches.push(raw::Switch { cases: count(cases.len()), ranges: count(ranges.len()), otherwise });
+        self.switches.push(raw::Switch {
+            cases: count(cases.len()),
+            ranges: count(ranges.len()),
+            otherwise,
+        });
         self.cases.extend_from_slice(cases);
         self.ranges.extend_from_slice(ranges);
         self
@@ -222,10 +236,41 @@ impl Pools {
 }
 
 fn row(step: Step) -> raw::Step {
-    let none = raw::Step { kind: 0, name: 0, getter: 0, setter: 0, operand: 0, argc: 0 };
+    let none = raw::Step {
+        kind: 0,
+        name: 0,
+        getter: 0,
+        setter: 0,
+        operand: 0,
+        argc: 0,
+    };
     match step {
-        Step::Index { operand } => raw::Step { kind: 0, operand, ..none },
-        Step::Property { name, getter, setter } => raw::Step { kind: 1, name, getter, setter, ..none },
-        Step::Method { name, argc, operand } => raw::Step { kind: 2, name, argc, operand, ..none },
+        Step::Index { operand } => raw::Step {
+            kind: 0,
+            operand,
+            ..none
+        },
+        Step::Property {
+            name,
+            getter,
+            setter,
+        } => raw::Step {
+            kind: 1,
+            name,
+            getter,
+            setter,
+            ..none
+        },
+        Step::Method {
+            name,
+            argc,
+            operand,
+        } => raw::Step {
+            kind: 2,
+            name,
+            argc,
+            operand,
+            ..none
+        },
     }
 }

@@ -116,6 +116,7 @@ extern "C" {
         numbers: *mut u16,
         numbers_len: usize,
         fault: *mut Fault,
+        looked: *mut u64,
     ) -> u32;
     pub(crate) fn grain_fault_text(
         fault: *const Fault,

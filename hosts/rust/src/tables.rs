@@ -66,7 +66,8 @@ fn flaw_of(flaw: u32, named: u64) -> Result<(), TableFlaw> {
 pub fn site(table: &[u8], address: u32) -> Option<Site> {
     let (mut line, mut column) = (0, 0);
     // SAFETY: the pointer and the length are those of one slice, and the numbers live for the call.
-    let found = unsafe { raw::grain_site(table.as_ptr(), table.len(), address, &mut line, &mut column) };
+    let found =
+        unsafe { raw::grain_site(table.as_ptr(), table.len(), address, &mut line, &mut column) };
     found.then_some(Site { line, column })
 }
 
@@ -77,7 +78,10 @@ pub fn site(table: &[u8], address: u32) -> Option<Site> {
 pub fn check_table(table: &[u8]) -> Result<(), TableFlaw> {
     let mut named = 0;
     // SAFETY: the pointer and the length are those of one slice, and `named` lives for the call.
-    flaw_of(unsafe { raw::grain_check_table(table.as_ptr(), table.len(), &mut named) }, named)
+    flaw_of(
+        unsafe { raw::grain_check_table(table.as_ptr(), table.len(), &mut named) },
+        named,
+    )
 }
 
 /// The site that a stream records for a slot.
@@ -85,7 +89,9 @@ pub fn check_table(table: &[u8]) -> Result<(), TableFlaw> {
 pub fn stream_site(stream: &[u8], slot: u32) -> Option<Site> {
     let (mut line, mut column) = (0, 0);
     // SAFETY: the pointer and the length are those of one slice, and the numbers live for the call.
-    let found = unsafe { raw::grain_stream_site(stream.as_ptr(), stream.len(), slot, &mut line, &mut column) };
+    let found = unsafe {
+        raw::grain_stream_site(stream.as_ptr(), stream.len(), slot, &mut line, &mut column)
+    };
     found.then_some(Site { line, column })
 }
 
@@ -96,5 +102,8 @@ pub fn stream_site(stream: &[u8], slot: u32) -> Option<Site> {
 pub fn check_stream(stream: &[u8]) -> Result<(), TableFlaw> {
     let mut named = 0;
     // SAFETY: the pointer and the length are those of one slice, and `named` lives for the call.
-    flaw_of(unsafe { raw::grain_check_stream(stream.as_ptr(), stream.len(), &mut named) }, named)
+    flaw_of(
+        unsafe { raw::grain_check_stream(stream.as_ptr(), stream.len(), &mut named) },
+        named,
+    )
 }

@@ -250,14 +250,18 @@ fn attach_positions_growth_fails(rt: HostRuntime) -> Result<(), Fail> {
     told(rt.alloc(), refused)
 }
 
-/// What is answered for a top level and a function, each a unit and a return.
-fn built(alloc: Global) -> Result<Result<(Program, Vec<u16>), BuildError>, Fail> {
-    let ops = [Op::Unit, Op::Return, Op::Unit, Op::Return];
-    let cuts = [(0, 2), (2, 4)].map(|(first, end)| Cut {
+fn cut(first: usize, end: usize) -> Cut {
+    Cut {
         first,
         end,
         max_stack: 8,
-    });
+    }
+}
+
+/// What is answered for a top level and a function, each a unit and a return.
+fn built(alloc: Global) -> Result<Result<(Program, Vec<u16>), BuildError>, Fail> {
+    let ops = [Op::Unit, Op::Return, Op::Unit, Op::Return];
+    let cuts = [cut(0, 2), cut(2, 4)];
     let head = Head {
         name: 0,
         params: Vec::new(alloc),

@@ -1,4 +1,4 @@
-use Rattle.std.proofs.Common.{length, ◌*◌, ◌+◌, ◌-◌, ◌≡◌, ◌≤◌, ℕ, List}
+use Rattle.std.proofs.Common.{length, ◌*◌, ◌+◌, ◌-◌, ◌≡◌, ◌≤◌, List}
 use Rattle.grain_bytecode.specs.Starts.{ReadTo}
 use Rattle.grain_bytecode.specs.declared.starts.Word.{Word}
 use Rattle.grain_bytecode.proofs.starts.read_word.Given as goal

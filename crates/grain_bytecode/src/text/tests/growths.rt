@@ -27,7 +27,7 @@ fn op_text_growth_fails(rt: HostRuntime) -> Result<(), Fail> {
     told(rt.alloc(), refused)
 }
 
-/// A text that is refused for a name that isn't there, where memory is wanted before that name.
+/// A name that isn't there is missed before a text is begun, so that no memory is wanted.
 #[test]
 fn missing_text_growth_fails(rt: HostRuntime) -> Result<(), Fail> {
     let pools = with_names(rt.alloc(), &[])?;

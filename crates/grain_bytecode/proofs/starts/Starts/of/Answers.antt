@@ -1,4 +1,4 @@
-use Rattle.std.proofs.Common.{[], ◌≡◌, ◌≤◌, ◌*◌, ◌+◌, length, refl, sym, arith}
+use Rattle.std.proofs.Common.{[], refl, arith}
 use Rattle.std.proofs.Math.Nat.{div-add-mod}
 use Rattle.grain_bytecode.specs.Split.{starts_from}
 use Rattle.grain_bytecode.proofs.Filling.{filled, filling_none, filling_word}

@@ -1,0 +1,6 @@
+/* For the kit's clang, which comes without headers: what the example asks of them. */
+#ifndef GRAIN_STDDEF_H
+#define GRAIN_STDDEF_H
+#define offsetof(type, field) __builtin_offsetof(type, field)
+typedef __SIZE_TYPE__ size_t;
+#endif
