@@ -8,6 +8,7 @@
 #![tactic(auto)]
 
 mod builder;
+mod by_tag;
 mod capabilities;
 mod constants;
 mod edges;

@@ -1,12 +1,8 @@
 //! What instructions do, as far as their tags tell.
-ghost use Rattle.std.specs.Prelude.{◌≡◌, ◌+◌, ◌≤◌, ◌∷◌, IfSome};
-ghost use Rattle.grain_bytecode.specs.InstructionTable.{Instr, form};
+ghost use Rattle.std.specs.Prelude.{◌≡◌, ◌+◌, ◌≤◌};
+ghost use Rattle.grain_bytecode.specs.InstructionTable.{form};
 ghost use Rattle.grain_bytecode.specs.declared.op.Op.{Op};
-ghost use Rattle.grain.specs.TagEffects.{IsEffectOf, Tells};
-
-use crate::effects::{Effect, Flow};
-use grain_base::{Caps, Flags};
-use grain_bytecode::Instruction;
+ghost use Rattle.grain.specs.TagEffects.{Tells};
 
 /// How an instruction is left, without the targets.
 #[derive(Clone, Copy, PartialEq, Eq, Debug)]
@@ -187,26 +183,4 @@ pub(crate) fn tag_effect(tag: u8) -> TagEffect
     ensures by_one { result.gives ≤ result.takes + 1 }
 {
     TAG_EFFECTS[tag as usize]
-}
-
-/// What an instruction does, where its tag and its target tell.
-#[inline(always)]
-pub(crate) fn effect_by_tag(instruction: &Instruction<'_>) -> Option<Effect>
-    ensures { IfSome result (λ e. (op : Op)
-        → Instr (instruction.now.tag ∷ instruction.now.fields.now) op → IsEffectOf e op) }
-{
-    let told = tag_effect(instruction.tag);
-    let flow = match told.way {
-        Way::Unknown => return None,
-        Way::Falls => Flow::Falls,
-        Way::Ends => Flow::Ends,
-        Way::Jumps => Flow::Jumps(instruction.target()?),
-        Way::Branches => Flow::Branches(instruction.target()?),
-        Way::BeginsIterator => Flow::BeginsIterator,
-        Way::AdvancesIterator => Flow::AdvancesIterator(instruction.target()?),
-        Way::EndsIterator => Flow::EndsIterator,
-        Way::PushesHandler => Flow::PushesHandler(instruction.target()?),
-        Way::PopsHandler => Flow::PopsHandler,
-    };
-    Some(Effect::of_tag(told, flow))
 }

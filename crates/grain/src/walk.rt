@@ -28,6 +28,7 @@ ghost use Rattle.grain.specs.Typing.{HasTyping, IsDeepest};
 ghost use Rattle.grain.specs.Walk.{IsReady, bytecode_of};
 ghost use Rattle.grain.specs.declared.lists.Lists.{Lists};
 
+use crate::by_tag::effect_by_tag;
 use crate::capabilities::{PoolCaps, missing};
 use crate::edges::{push_table, push_target};
 use crate::effects::{Effect, Flow};
@@ -38,7 +39,7 @@ use crate::pools::Pools;
 use crate::sinking::check_armed;
 use crate::state::{Arrival, State, check_same};
 use crate::states::States;
-use crate::tag_effects::{Way, effect_by_tag, tag_effect};
+use crate::tag_effects::{Way, tag_effect};
 use grain_base::{Caps, Flags};
 use grain_bytecode::{Chunk, Instruction, Starts};
 use std::alloc::{AllocError, Global};
