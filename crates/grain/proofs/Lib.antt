@@ -31,6 +31,7 @@ pub mod Places
 pub mod Progress
 pub mod Pushing
 pub mod Quiet
+mod Quietness
 pub mod Refusing
 pub mod Restoring
 pub mod Sending

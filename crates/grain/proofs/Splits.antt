@@ -1,13 +1,14 @@
 -- Where instructions begin.
-use Rattle.std.proofs.Common.{◌≡◌, ℕ, ◌+◌, ◌<◌, ◌≤◌, ◌⊎◌, inl, inr, suc, zero, List, [], ◌∷◌, ◌++◌, length, drop, refl, sym, ap, subst, ◌∙◌, arith}
+use Rattle.std.proofs.Common.{◌≡◌, ℕ, ◌+◌, ◌<◌, ◌≤◌, ◌⊎◌, inl, inr, suc, zero, List, [], ◌∷◌, ◌++◌, length, take, drop, slice_get, Some, refl, sym, ap, subst, ◌∙◌, arith}
 use Rattle.std.specs.List.{Contains, flat_map}
 use Rattle.std.proofs.lemmas.Bool.{cases_lt}
-use Rattle.std.proofs.lemmas.List.{length-drop, drop_at, drop-drop}
+use Rattle.std.proofs.lemmas.List.{length-drop, length-take, drop_at, drop-drop, get_or-take}
+use Rattle.std.proofs.lemmas.Option.{get_or_from_slice_get, slice_get_within}
 use Rattle.std.proofs.lemmas.List.Concat.{flat_map-cons}
-use Rattle.grain_bytecode.specs.InstructionTable.{spelling, width_of}
+use Rattle.grain_bytecode.specs.InstructionTable.{form, spelling, width_of}
 use Rattle.grain_bytecode.specs.Split.{AreInstructions, Begins, StandsAt, Split, starts_from}
 use Rattle.grain_bytecode.specs.declared.op.Op.{Op}
-use Rattle.grain_bytecode.proofs.Instructions.{begins_fits, begins_spelling, spelling_width}
+use Rattle.grain_bytecode.proofs.Instructions.{begins_fits, begins_spelling, spelling_width, standing_tag}
 use Rattle.grain_bytecode.proofs.Splits.{one_split}
 use Rattle.grain.specs.Layout.{IsStart, IsBoundary}
 use Rattle.grain.proofs.Once.{stands_once}
@@ -120,3 +121,25 @@ next_start code a end op s b i l m =
       | inl k ↦ elim (cases_eq_le (a + width_of op) end f) [ inl e ↦ inr e | inr t ↦ inl (t, record { starts = s.starts; split = s.split; here = k }) ]
       | inr k ↦ inr (omega arith)
     ]
+
+-- an address in the front of the code that ends here
+pub in_front : (code : List ℕ) (end at tag : ℕ) → slice_get (take end code) at ≡ Some tag → at < end
+in_front code end at tag is =
+    let k = slice_get_within (take end code) at tag is in
+    let l = length-take end code in
+    omega (arith, k, l)
+
+-- an address past it
+pub past_front : (code : List ℕ) (end last at : ℕ) → end ≡ last → last ≤ length code → length (take end code) ≤ at → last ≤ at
+past_front code end last at same inside past =
+    let l = length-take end code in
+    omega (arith, same, inside, past, l)
+
+-- the byte there is the tag of the instruction that stands there in the code
+pub front_tag : (code : List ℕ) (end at tag : ℕ) (op : Op) → slice_get (take end code) at ≡ Some tag → StandsAt code at op → (form op).0 ≡ tag
+front_tag code end at tag op is stands =
+    let k = in_front code end at tag is in
+    let byte = get_or_from_slice_get (take end code) at tag 0 is in
+    let there = slice_get_within (take end code) at tag is in
+    let l = length-take end code in
+    sym (standing_tag code at op (omega (arith, there, l)) stands) ∙ sym (get_or-take end code at 0 k) ∙ byte

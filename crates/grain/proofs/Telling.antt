@@ -1,14 +1,20 @@
 -- The table of tags tells what operations do.
-use Rattle.std.proofs.Common.{◌≡◌, ℕ, ◌+◌, ◌<◌, ◌≤◌, ◌&&◌, Bool, nat_le, arith, true, false, [], ◌∷◌, get_or, Some, None, refl, subst}
+use Rattle.std.proofs.Common.{◌≡◌, ℕ, ◌+◌, ◌<◌, ◌≤◌, ◌&&◌, Bool, nat_le, arith, true, false, [], ◌∷◌, List, get_or, Some, None, refl, sym, ap, ◌∙◌, subst}
 use Rattle.std.specs.List.{list_all}
 use Rattle.std.proofs.lemmas.Bool.Decides.{nat_tests}
 use Rattle.std.proofs.lemmas.List.Sums.{AllPass-from_list_all}
 use Rattle.grain_bytecode.specs.InstructionTable.{form, name}
-use Rattle.grain_bytecode.specs.declared.field.Field.TheVariants.{Slot}
+use Rattle.grain_bytecode.specs.declared.field.Field.{Field}
+use Rattle.grain_bytecode.specs.declared.field.Field.TheVariants.{Slot, Target}
 use Rattle.grain_bytecode.specs.declared.op.Op.{Op}
 use Rattle.grain_bytecode.specs.declared.op.Op.TheVariants as ops
 use Rattle.grain_bytecode.specs.declared.op.Receiver.TheVariants as receiver
-use Rattle.grain.specs.TagEffects.{Tells}
+use Rattle.grain.specs.Flow as flows
+use Rattle.grain.specs.Flow.{flow_of}
+use Rattle.grain.specs.FlowView.{flow}
+use Rattle.grain.specs.TagEffects.{IsFixed, Tells, TellsFlow}
+use Rattle.grain.specs.declared.flow.Flow.{Flow}
+use Rattle.grain.specs.declared.flow.Flow.TheVariants as ways
 use Rattle.grain.specs.declared.tag_effects.TheConstants.{TAG_EFFECTS}
 use Rattle.grain.specs.declared.tag_effects.TagEffect.{TagEffect}
 
@@ -87,6 +93,19 @@ told d (ops.CustomSyntax y) = tt
 told d (ops.ExportLocal s n) = tt
 told d (ops.ExportNamed n m) = tt
 told d (ops.Import n) = tt
+
+-- a flow that a tag tells is that of the operation, with its first field as the target
+pub tells_flow : (f : Flow) (e : ℕ × ℕ × ℕ) (op : Op) (target : ℕ) → ((t : ℕ) (others : List Field) → (form op).1 ≡ Target t ∷ others → target ≡ t) → TellsFlow (Some f) e op → IsFixed op e × (flow f target ≡ flow_of op)
+tells_flow ways.Falls e op target first (fixed, is) = (fixed, sym is)
+tells_flow ways.Ends e op target first (fixed, is) = (fixed, sym is)
+tells_flow ways.Jumps e op target first (fixed, (t, others, first_is, is)) = (fixed, ap flows.Jumps (first t others first_is) ∙ sym is)
+tells_flow ways.Branches e op target first (fixed, (t, others, first_is, is)) = (fixed, ap flows.Branches (first t others first_is) ∙ sym is)
+tells_flow ways.Switches e op target first h = absurd h
+tells_flow ways.BeginsIterator e op target first (fixed, is) = (fixed, sym is)
+tells_flow ways.AdvancesIterator e op target first (fixed, (t, others, first_is, is)) = (fixed, ap flows.AdvancesIterator (first t others first_is) ∙ sym is)
+tells_flow ways.EndsIterator e op target first (fixed, is) = (fixed, sym is)
+tells_flow ways.PushesHandler e op target first (fixed, (t, others, first_is, is)) = (fixed, ap flows.PushesHandler (first t others first_is) ∙ sym is)
+tells_flow ways.PopsHandler e op target first (fixed, is) = (fixed, sym is)
 
 -- whatever operation has the tag
 pub told_by : (tag : ℕ) (d : TagEffect) (op : Op) → (form op).0 ≡ tag → Tells (get_or TAG_EFFECTS tag d) op

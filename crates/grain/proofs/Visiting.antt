@@ -14,9 +14,9 @@ use Rattle.grain.specs.Counts.{nothing}
 use Rattle.grain.specs.Flow.{Falls}
 use Rattle.grain.specs.Flaw.{ChunkFlaw, FallsOff}
 use Rattle.grain.specs.Lists.{IsShared, size}
-use Rattle.grain.specs.Meter.{HasCounted, starts_within}
+use Rattle.grain.specs.Meter.{starts_within}
 use Rattle.grain.specs.Plain.{IsPlainStep}
-use Rattle.grain.specs.Progress.{HaltsAt, HasVisited, IsWalking, NamesList, Walking, visits_in}
+use Rattle.grain.specs.Progress.{HaltsAt, IsWalking, NamesList, Walking, visits_in}
 use Rattle.grain.specs.Typing.{IsInChunk}
 use Rattle.grain.specs.Walk.{IsReady, bytecode_of}
 use Rattle.grain.specs.declared.error.VerifyError.TheVariants.{DepthConflict}
@@ -30,7 +30,6 @@ use Rattle.grain.proofs.Flows.{nothing_missing}
 use Rattle.grain.proofs.NamedLists.{grows_not, named_there, none_named}
 use Rattle.grain.proofs.Sending.{unlike_views}
 use Rattle.grain.proofs.Staying.{plain_stays}
-use Rattle.grain.proofs.Ticks.{counted_both}
 use Rattle.grain.proofs.Turns.{halts_named, visited}
 use Rattle.grain.proofs.VisitCounts.{visits_more_within, visits_room, visits_within}
 use Rattle.grain.proofs.Walking.{before_reached, nothing_at, taken_falls, taken_inside, taken_reached, taken_small, visited_more, visits_few, walking_skip, walking_start}
@@ -93,8 +92,11 @@ module _ (p : Prepared) (chunk : Span) (lists : Lists) (t : Traversal) (stack re
         walking = walking_skip _ _ _ _ _ _ _ a _ off_walking (off_place l) was;
       })
 
+  pub off_few : a.at < chunk.end → get_or t.states a.ordinal None ≡ None → visits_in t.states < chunk.end
+  off_few l fresh = visits_room _ _ _ _ _ _ _ a _ off_walking (off_place l) fresh l
+
   pub off_small : a.at < chunk.end → get_or t.states a.ordinal None ≡ None → a.state.operands < chunk.end
-  off_small l fresh = (taken_small _ _ _ _ _ _ _ a _ off_walking (visits_room _ _ _ _ _ _ _ a _ off_walking (off_place l) fresh l)).0
+  off_small l fresh = (taken_small _ _ _ _ _ _ _ a _ off_walking (off_few l fresh)).0
 
   -- no more were visited than the chunk has starts, nor with this one
   pub off_within : IsReady p → visits_in t.states ≤ starts_within p.starts.starts chunk
@@ -122,14 +124,6 @@ off_marked p chunk lists t new stack a deepest later off w states sent l address
         walking = subst (λ (xs : List Coming). Walking (bytecode_of p) chunk p.starts.starts lists t.states (sent_by lists t.sent) xs deepest) (sym (map_push (coming lists) rest a)) (off_walking p chunk lists t stack rest a deepest off w);
       });
     }
-
--- one visit more was counted
-pub counted_visit : (old states : List (Option State)) (k : ℕ) (s : State) (count mid new : ℕ) → k < length states → get_or states k None ≡ None → HasVisited old states count mid → HasCounted mid new 1 → HasVisited old (set states k (Some s)) count new
-counted_visit old states k s count mid new inside fresh v tick = record {
-  visits = v.visits + 1;
-  more = let e = visited_more states k s inside fresh in let f = v.more in omega arith;
-  counted = counted_both count mid new v.visits 1 v.counted tick;
-}
 
 -- a plain instruction that is marked leads to the next arrival
 pub plain_visited : (p : Prepared) (chunk : Span) (lists : Lists) (t : Traversal) (here next : Arrival) (deepest : ℕ) → IsReady p → IsFramed (bytecode_of p) chunk → HaltsAt p chunk lists t here deepest → IsPlainStep p.code.now lists here next → IsWalking p chunk lists t (t.work.items ++ next ∷ []) deepest
@@ -165,11 +159,6 @@ taken_next p chunk lists t new stack rest a deepest states sent off w =
       known = record { shared = w.known.shared; states = w.known.states; sent = w.known.sent; waiting = off_listed p chunk lists t stack rest a deepest off w; few = w.known.few };
       walking = subst (λ (xs : List Arrival). Walking (bytecode_of p) chunk p.starts.starts lists t.states (sent_by lists t.sent) (map (coming lists) xs) deepest) off w.walking;
     })
-
--- what was counted before and since
-pub counted_visits : (old new : List (Option State)) (count mid later : ℕ) → HasCounted count mid (visits_in old) → HasVisited old new mid later → HasCounted count later (visits_in new)
-counted_visits old new count mid later before v =
-    subst (HasCounted count later) (sym v.more) (counted_both count mid later (visits_in old) v.visits before v.counted)
 
 -- the walk begins at the chunk's entry
 pub walking_begun : (p : Prepared) (chunk : Span) (lists : Lists) (t : Traversal) (entry ordinal n m : ℕ) → IsFramed (bytecode_of p) chunk → chunk.entry < chunk.end → entry ≡ chunk.entry → slice_get p.starts.starts ordinal ≡ Some chunk.entry → t.states ≡ replicate n none → t.sent ≡ replicate m none → IsShared lists → size lists ≡ 0 → t.work.items ≡ [] → n ≡ length p.starts.starts → m ≡ length p.pools.now.switches.now → IsWalking p chunk lists t (t.work.items ++ record { at = entry; ordinal = ordinal; state = record { operands = 0; iterators = 0; list = 0 } } ∷ []) 0

@@ -6,24 +6,25 @@ use Rattle.grain.specs.Counts.{Counts}
 use Rattle.grain.specs.Flow as flows
 use Rattle.grain.specs.Flow.{bases_for, falls_for, handlers_for, iterators_for, targets_for}
 use Rattle.grain.specs.Lists.{list_of, size}
-use Rattle.grain.specs.declared.effects.Flow.{Flow}
-use Rattle.grain.specs.declared.effects.Flow.TheVariants as ways
+use Rattle.grain.specs.declared.flow.Flow.{Flow}
+use Rattle.grain.specs.declared.flow.Flow.TheVariants as ways
 use Rattle.grain.specs.declared.error.VerifyError.{VerifyError}
 use Rattle.grain.specs.declared.error.VerifyError.TheVariants as errors
 use Rattle.grain.specs.declared.lists.Lists.{Lists}
 use Rattle.grain.specs.declared.state.State.{State}
 
-abbrev pub flow : Flow → flows.Flow
-flow ways.Falls = flows.Falls
-flow ways.Ends = flows.Ends
-flow (ways.Jumps target) = flows.Jumps target
-flow (ways.Branches target) = flows.Branches target
-flow (ways.Switches index) = flows.Switches index
-flow ways.BeginsIterator = flows.BeginsIterator
-flow (ways.AdvancesIterator exit) = flows.AdvancesIterator exit
-flow ways.EndsIterator = flows.EndsIterator
-flow (ways.PushesHandler target) = flows.PushesHandler target
-flow ways.PopsHandler = flows.PopsHandler
+-- the flow of an operation, by its target where it has one
+abbrev pub flow : Flow → ℕ → flows.Flow
+flow ways.Falls target = flows.Falls
+flow ways.Ends target = flows.Ends
+flow ways.Jumps target = flows.Jumps target
+flow ways.Branches target = flows.Branches target
+flow ways.Switches target = flows.Switches target
+flow ways.BeginsIterator target = flows.BeginsIterator
+flow ways.AdvancesIterator target = flows.AdvancesIterator target
+flow ways.EndsIterator target = flows.EndsIterator
+flow ways.PushesHandler target = flows.PushesHandler target
+flow ways.PopsHandler target = flows.PopsHandler
 
 -- there are the iterators and handlers that it needs
 pub record IsMetBy (f : flows.Flow) (c : Counts) : Type 0 where

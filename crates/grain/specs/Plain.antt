@@ -1,5 +1,5 @@
 -- Operations that do no more than take some operands and give some.
-use Rattle.std.specs.Prelude.{◌≡◌, ℕ, ◌+◌, ◌-◌, ◌≤◌, List}
+use Rattle.std.specs.Prelude.{◌≡◌, ℕ, ◌+◌, ◌-◌, ◌<◌, ◌≤◌, ◌^◌, List}
 use Rattle.grain_bytecode.specs.InstructionTable.{width_of}
 use Rattle.grain_bytecode.specs.Split.{StandsAt}
 use Rattle.grain_bytecode.specs.declared.chain.Chain.{Chain}
@@ -13,12 +13,17 @@ use Rattle.grain.specs.Setting.{Setting}
 use Rattle.grain.specs.Sinking.{ReachesUpTo}
 use Rattle.grain.specs.declared.lists.Lists.{Lists}
 use Rattle.grain.specs.declared.state.Arrival.{Arrival}
+use Rattle.grain.specs.declared.state.State.{State}
 
 -- it asks nothing of the host, and falls through
 pub record IsPlain (op : Op) (needs takes gives : ℕ) : Type 0 where
   pub operands : (chains : List Chain) → (needs, takes, gives) ≡ stack_effect chains op
   pub caps : (s : Setting) → caps_of s op ≡ 0
   pub flow : flow_of op ≡ Falls
+
+-- while so many operands stay, the stacks reach up to the base of the last handler
+abbrev pub IsFloor : Lists → State → ℕ → Type 0
+IsFloor lists s floor = (n : ℕ) → n < 2 ^ 32 → floor ≤ n → ReachesUpTo (last_base (list_of lists s.list)) (record { operands = n; iterators = s.iterators })
 
 -- The plain instruction here finds the operands that it needs, stays above the base of the last handler, and falls through
 -- to the next arrival.

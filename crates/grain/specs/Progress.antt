@@ -1,5 +1,5 @@
 -- How far the walk over a chunk has come.
-use Rattle.std.specs.Prelude.{◌≡◌, ◌↔◌, ℕ, ◌+◌, ◌<◌, ◌^◌, ◌≤◌, ◌⊎◌, List, ◌∷◌, [], ◌++◌, Option, None, Some, get_or, length, map, max, nat_eq, option_map, slice_get, slice_set, sum_by, IfSome, OnOk, Result}
+use Rattle.std.specs.Prelude.{◌≡◌, ◌↔◌, ℕ, ◌<◌, ◌^◌, ◌≤◌, ◌⊎◌, List, ◌∷◌, [], ◌++◌, Option, None, Some, get_or, length, map, max, nat_eq, option_map, slice_get, slice_set, sum_by, IfSome, OnOk, Result}
 use Rattle.std.specs.List.{All, Contains, IsDistinct}
 use Rattle.grain_bytecode.specs.Span.{Span}
 use Rattle.grain_bytecode.specs.Split.{StandsAt}
@@ -121,12 +121,6 @@ pub record HaltsAt (p : Prepared) (chunk : Span) (lists : Lists) (t : Traversal)
   pub within : here.at < chunk.end
   pub addresses : chunk.end < 2 ^ 32
   pub is : IsWalking p chunk lists (record t { states = before }) (t.work.items ++ here ∷ []) earlier
-
--- the meter has counted the addresses that were visited meanwhile
-pub record HasVisited (old new : List (Option State)) (count new_count : ℕ) : Type 0 where
-  pub visits : ℕ
-  pub more : visits_in new ≡ visits_in old + visits
-  pub counted : HasCounted count new_count visits
 
 -- What the meter has counted of one chunk: no more than its starts, and the places that it reaches where it is walked to
 -- the end.

@@ -1,5 +1,5 @@
 -- What tags tell of instructions.
-use Rattle.std.specs.Prelude.{◌≡◌, ⊤, ℕ, List, ◌∷◌}
+use Rattle.std.specs.Prelude.{◌≡◌, ⊤, ℕ, List, ◌∷◌, Option, None, Some}
 use Rattle.grain_bytecode.specs.InstructionTable.{form}
 use Rattle.grain_bytecode.specs.declared.chain.Chain.{Chain}
 use Rattle.grain_bytecode.specs.declared.field.Field.{Field}
@@ -14,9 +14,9 @@ use Rattle.grain.specs.PoolCaps.{AreAsked}
 use Rattle.grain.specs.Setting.{Setting}
 use Rattle.grain.specs.declared.capabilities.PoolCaps.{PoolCaps}
 use Rattle.grain.specs.declared.effects.Effect.{Effect}
+use Rattle.grain.specs.declared.flow.Flow.{Flow}
+use Rattle.grain.specs.declared.flow.Flow.TheVariants as ways
 use Rattle.grain.specs.declared.tag_effects.TagEffect.{TagEffect}
-use Rattle.grain.specs.declared.tag_effects.Way.{Way}
-use Rattle.grain.specs.declared.tag_effects.Way.TheVariants as ways
 
 -- its needs, what it takes and what it gives are these whatever the pools hold, and it asks nothing of the host
 pub record IsFixed (op : Op) (effect : ℕ × ℕ × ℕ) : Type 0 where
@@ -27,30 +27,31 @@ pub record IsFixed (op : Op) (effect : ℕ × ℕ × ℕ) : Type 0 where
 abbrev pub FlowsTo : Op → (ℕ → flows.Flow) → Type 0
 FlowsTo op f = (target : ℕ) × (others : List Field) × ((form op).1 ≡ Target target ∷ others) × (flow_of op ≡ f target)
 
-abbrev pub TellsWay : Way → ℕ × ℕ × ℕ → Op → Type 0
-TellsWay ways.Unknown e op = ⊤
-TellsWay ways.Falls e op = IsFixed op e × (flow_of op ≡ flows.Falls)
-TellsWay ways.Ends e op = IsFixed op e × (flow_of op ≡ flows.Ends)
-TellsWay ways.Jumps e op = IsFixed op e × FlowsTo op flows.Jumps
-TellsWay ways.Branches e op = IsFixed op e × FlowsTo op flows.Branches
-TellsWay ways.BeginsIterator e op = IsFixed op e × (flow_of op ≡ flows.BeginsIterator)
-TellsWay ways.AdvancesIterator e op = IsFixed op e × FlowsTo op flows.AdvancesIterator
-TellsWay ways.EndsIterator e op = IsFixed op e × (flow_of op ≡ flows.EndsIterator)
-TellsWay ways.PushesHandler e op = IsFixed op e × FlowsTo op flows.PushesHandler
-TellsWay ways.PopsHandler e op = IsFixed op e × (flow_of op ≡ flows.PopsHandler)
+abbrev pub TellsFlow : Option Flow → ℕ × ℕ × ℕ → Op → Type 0
+TellsFlow None e op = ⊤
+TellsFlow (Some ways.Falls) e op = IsFixed op e × (flow_of op ≡ flows.Falls)
+TellsFlow (Some ways.Ends) e op = IsFixed op e × (flow_of op ≡ flows.Ends)
+TellsFlow (Some ways.Jumps) e op = IsFixed op e × FlowsTo op flows.Jumps
+TellsFlow (Some ways.Branches) e op = IsFixed op e × FlowsTo op flows.Branches
+TellsFlow (Some ways.Switches) e op = ⊥
+TellsFlow (Some ways.BeginsIterator) e op = IsFixed op e × (flow_of op ≡ flows.BeginsIterator)
+TellsFlow (Some ways.AdvancesIterator) e op = IsFixed op e × FlowsTo op flows.AdvancesIterator
+TellsFlow (Some ways.EndsIterator) e op = IsFixed op e × (flow_of op ≡ flows.EndsIterator)
+TellsFlow (Some ways.PushesHandler) e op = IsFixed op e × FlowsTo op flows.PushesHandler
+TellsFlow (Some ways.PopsHandler) e op = IsFixed op e × (flow_of op ≡ flows.PopsHandler)
 
 -- what a tag tells is what the operation does
 abbrev pub Tells : TagEffect → Op → Type 0
-Tells told op = TellsWay told.way (told.needs, told.takes, told.gives) op
+Tells told op = TellsFlow told.flow (told.needs, told.takes, told.gives) op
 
 -- the effect is that of the operation, whatever the pools hold, and asks nothing of the host
 pub record IsEffectOf (e : Effect) (op : Op) : Type 0 where
   pub operands : (chains : List Chain) → (e.needs, e.takes, e.gives) ≡ stack_effect chains op
   pub asks : (s : Setting) → e.asks.0 ≡ caps_of s op
-  pub flow_is : flow e.flow ≡ flow_of op
+  pub flow_is : flow e.flow e.target ≡ flow_of op
 
 -- the effect is that of the operation, with these chains in the pool, and names and chains that ask this of the host
 pub record IsEffectIn (chains : List Chain) (asked : PoolCaps) (e : Effect) (op : Op) : Type 0 where
   pub operands : (e.needs, e.takes, e.gives) ≡ stack_effect chains op
   pub asks : (s : Setting) → AreAsked s asked → e.asks.0 ≡ caps_of s op
-  pub flow_is : flow e.flow ≡ flow_of op
+  pub flow_is : flow e.flow e.target ≡ flow_of op

@@ -4,8 +4,8 @@ ghost use Rattle.grain_bytecode.specs.InstructionTable.{Instr};
 ghost use Rattle.grain_bytecode.specs.declared.op.Op.{Op};
 ghost use Rattle.grain.specs.TagEffects.{IsEffectOf};
 
-use crate::effects::{Effect, Flow};
-use crate::tag_effects::{Way, tag_effect};
+use crate::effects::Effect;
+use crate::tag_effects::tag_effect;
 use grain_bytecode::Instruction;
 
 /// What an instruction does, where its tag and its target tell.
@@ -15,17 +15,7 @@ pub(crate) fn effect_by_tag(instruction: &Instruction<'_>) -> Option<Effect>
         → Instr (instruction.now.tag ∷ instruction.now.fields.now) op → IsEffectOf e op) }
 {
     let told = tag_effect(instruction.tag);
-    let flow = match told.way {
-        Way::Unknown => return None,
-        Way::Falls => Flow::Falls,
-        Way::Ends => Flow::Ends,
-        Way::Jumps => Flow::Jumps(instruction.target()?),
-        Way::Branches => Flow::Branches(instruction.target()?),
-        Way::BeginsIterator => Flow::BeginsIterator,
-        Way::AdvancesIterator => Flow::AdvancesIterator(instruction.target()?),
-        Way::EndsIterator => Flow::EndsIterator,
-        Way::PushesHandler => Flow::PushesHandler(instruction.target()?),
-        Way::PopsHandler => Flow::PopsHandler,
-    };
-    Some(Effect::of_tag(told, flow))
+    let flow = told.flow?;
+    let target = instruction.target().unwrap_or(0);
+    Some(Effect::of_tag(told, flow, target))
 }

@@ -3,63 +3,20 @@ ghost use Rattle.std.specs.Prelude.{◌≡◌, ◌+◌, ◌<◌, ◌≤◌, ◌^
 ghost use Rattle.grain_bytecode.specs.Chain.{consumed};
 ghost use Rattle.grain.specs.Capabilities.{caps_of};
 ghost use Rattle.grain.specs.Effects.{stack_effect};
-ghost use Rattle.grain.specs.Flow.{flow_of, iterators_for};
+ghost use Rattle.grain.specs.Flow.{flow_of};
 ghost use Rattle.grain.specs.FlowView.{flow};
 ghost use Rattle.grain.specs.PoolCaps.{AreAsked};
 ghost use Rattle.grain.specs.Setting.{Setting};
 
 use crate::capabilities::PoolCaps;
+use crate::flow::Flow;
 use crate::tag_effects::TagEffect;
 use grain_base::{Caps, Flags};
 use grain_bytecode::{Chain, Op, Receiver};
 
-/// How an operation is left, and what that does to iterators and handlers.
-#[derive(Clone, Copy)]
-pub(crate) enum Flow {
-    /// It falls through to the next one.
-    Falls,
-    /// It ends the run.
-    Ends,
-    /// It jumps to the target.
-    Jumps(u32),
-    /// It jumps to the target or falls through.
-    Branches(u32),
-    /// It jumps to a target of the switch at this index.
-    Switches(u32),
-    /// It begins an iterator and falls through.
-    BeginsIterator,
-    /// It pushes the item that an iterator gives and falls through, or ends the iterator and jumps to the exit.
-    AdvancesIterator(u32),
-    /// It ends an iterator and falls through.
-    EndsIterator,
-    /// It arms a handler, which catches at the target, and falls through.
-    PushesHandler(u32),
-    /// It disarms a handler and falls through.
-    PopsHandler,
-}
-
-impl Flow {
-    /// How many iterators there have to be.
-    #[inline(always)]
-    pub(crate) fn iterators_needed(self) -> u32
-        ensures { result ≡ iterators_for (flow self) }
-    {
-        match self {
-            Flow::AdvancesIterator(_) | Flow::EndsIterator => 1,
-            Flow::Falls
-            | Flow::Ends
-            | Flow::Jumps(_)
-            | Flow::Branches(_)
-            | Flow::Switches(_)
-            | Flow::BeginsIterator
-            | Flow::PushesHandler(_)
-            | Flow::PopsHandler => 0,
-        }
-    }
-}
-
 /// What an operation does: what it asks of the host, how many operands it needs, how many of them it takes, how many it
-/// gives, and its flow.
+/// gives, its flow, and where that leads: the target of a jump or a handler, the exit of an iterator, the index of a switch.
+/// Of any other flow the target says nothing.
 #[derive(Clone, Copy)]
 pub(crate) struct Effect {
     pub(crate) asks: Caps,
@@ -67,6 +24,7 @@ pub(crate) struct Effect {
     pub(crate) takes: u32,
     pub(crate) gives: u32,
     pub(crate) flow: Flow,
+    pub(crate) target: u32,
     ghost there: { takes ≤ needs },
     ghost by_one: { gives ≤ takes + 1 },
 }
@@ -80,7 +38,7 @@ impl Effect {
         ensures operands { (result.needs, result.takes, result.gives)
             ≡ stack_effect chains.now op.now }
         ensures asks { (s : Setting) → AreAsked s asked.now → result.asks.0 ≡ caps_of s op.now }
-        ensures flow { flow result.flow ≡ flow_of op.now }
+        ensures flow { flow result.flow result.target ≡ flow_of op.now }
     {
         match op {
             Op::Const(_)
@@ -104,11 +62,11 @@ impl Effect {
             Op::AssignThis { .. } => Effect::taking(1, 0).asking(Caps::THIS),
             Op::Import { .. } => Effect::taking(1, 0).asking(Caps::IMPORT),
             Op::JumpIfTrue { target } | Op::JumpIfFalse { target } => {
-                Effect::taking(1, 0).flowing(Flow::Branches(*target))
+                Effect::taking(1, 0).leading(Flow::Branches, *target)
             }
             // These look at the top of the operand stack and leave it there.
-            Op::SkipIfNotUnit { target } => Effect::keeping(1, 0).flowing(Flow::Branches(*target)),
-            Op::Switch(index) => Effect::keeping(1, 0).flowing(Flow::Switches(*index)),
+            Op::SkipIfNotUnit { target } => Effect::keeping(1, 0).leading(Flow::Branches, *target),
+            Op::Switch(index) => Effect::keeping(1, 0).leading(Flow::Switches, *index),
             Op::Throw => Effect::taking(1, 0).flowing(Flow::Ends),
             Op::IterInit => Effect::taking(1, 0).flowing(Flow::BeginsIterator),
             Op::InterpolateEnd | Op::CheckSize { .. } => Effect::taking(1, 1),
@@ -162,15 +120,15 @@ impl Effect {
             Op::ExportLocal { .. } | Op::ExportNamed { .. } => {
                 Effect::taking(0, 0).asking(Caps::EXPORT)
             }
-            Op::Jump(target) => Effect::taking(0, 0).flowing(Flow::Jumps(*target)),
+            Op::Jump(target) => Effect::taking(0, 0).leading(Flow::Jumps, *target),
             Op::Return => Effect::taking(0, 0).flowing(Flow::Ends),
             // The item that it pushes lies on one of its two ways alone.
             Op::IterNext { exit, .. } => {
-                Effect::taking(0, 0).flowing(Flow::AdvancesIterator(*exit))
+                Effect::taking(0, 0).leading(Flow::AdvancesIterator, *exit)
             }
             Op::IterDrop => Effect::taking(0, 0).flowing(Flow::EndsIterator),
             Op::PushHandler { target, .. } => {
-                Effect::taking(0, 0).flowing(Flow::PushesHandler(*target))
+                Effect::taking(0, 0).leading(Flow::PushesHandler, *target)
             }
             Op::PopHandler => Effect::taking(0, 0).flowing(Flow::PopsHandler),
             Op::UnwindTo(_) | Op::Tick | Op::Checkpoint | Op::Statement { .. } => {
@@ -179,16 +137,17 @@ impl Effect {
         }
     }
 
-    /// What instructions with a tag do, with this flow.
+    /// What instructions with a tag do, with this flow and target.
     #[inline(always)]
-    pub(crate) fn of_tag(told: TagEffect, flow: Flow) -> Effect
-        requires there { told.takes ≤ told.needs }
-        requires by_one { told.gives ≤ told.takes + 1 }
+    pub(crate) fn of_tag(told: &TagEffect, flow: Flow, target: u32) -> Effect
+        requires there { told.now.takes ≤ told.now.needs }
+        requires by_one { told.now.gives ≤ told.now.takes + 1 }
         ensures asks { result.asks.0 ≡ 0 }
-        ensures needs { result.needs ≡ told.needs }
-        ensures takes { result.takes ≡ told.takes }
-        ensures gives { result.gives ≡ told.gives }
+        ensures needs { result.needs ≡ told.now.needs }
+        ensures takes { result.takes ≡ told.now.takes }
+        ensures gives { result.gives ≡ told.now.gives }
         ensures flow { result.flow ≡ flow }
+        ensures target { result.target ≡ target }
     {
         Effect {
             asks: Caps::empty(),
@@ -196,6 +155,7 @@ impl Effect {
             takes: u32::from(told.takes),
             gives: u32::from(told.gives),
             flow,
+            target,
         }
     }
 
@@ -215,6 +175,7 @@ impl Effect {
             takes,
             gives,
             flow: Flow::Falls,
+            target: 0,
         }
     }
 
@@ -234,6 +195,7 @@ impl Effect {
             takes,
             gives: 0,
             flow: Flow::Falls,
+            target: 0,
         }
     }
 
@@ -245,6 +207,7 @@ impl Effect {
         ensures takes { result.takes ≡ self.takes }
         ensures gives { result.gives ≡ self.gives }
         ensures flow { result.flow ≡ self.flow }
+        ensures target { result.target ≡ self.target }
     {
         Effect {
             asks: caps,
@@ -252,10 +215,11 @@ impl Effect {
             takes: self.takes,
             gives: self.gives,
             flow: self.flow,
+            target: self.target,
         }
     }
 
-    // The same, with this flow.
+    // The same, with this flow, which leads nowhere.
     #[inline(always)]
     fn flowing(self, flow: Flow) -> Effect
         ensures asks { result.asks ≡ self.asks }
@@ -264,12 +228,26 @@ impl Effect {
         ensures gives { result.gives ≡ self.gives }
         ensures flow { result.flow ≡ flow }
     {
+        self.leading(flow, 0)
+    }
+
+    // The same, with this flow to this target.
+    #[inline(always)]
+    fn leading(self, flow: Flow, target: u32) -> Effect
+        ensures asks { result.asks ≡ self.asks }
+        ensures needs { result.needs ≡ self.needs }
+        ensures takes { result.takes ≡ self.takes }
+        ensures gives { result.gives ≡ self.gives }
+        ensures flow { result.flow ≡ flow }
+        ensures target { result.target ≡ target }
+    {
         Effect {
             asks: self.asks,
             needs: self.needs,
             takes: self.takes,
             gives: self.gives,
             flow,
+            target,
         }
     }
 }

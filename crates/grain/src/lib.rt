@@ -14,6 +14,7 @@ mod constants;
 mod edges;
 mod effects;
 mod error;
+mod flow;
 mod functions;
 mod indices;
 pub mod laws;

@@ -37,12 +37,11 @@ impl Meter {
         self.count
     }
 
-    /// Counts one more.
-    #[inline(always)]
-    pub(crate) fn tick(&mut self)
-        ensures { HasCounted self.old self.new 1 }
+    /// Counts so many more.
+    pub(crate) fn add(&mut self, visits: u32)
+        ensures { HasCounted self.old self.new visits }
     {
-        self.count = self.count.saturating_add(1);
+        self.count = self.count.saturating_add(u128::from(visits));
     }
 }
 

@@ -3,6 +3,7 @@ ghost use Rattle.std.specs.Prelude.{◌≡◌, ◌≢◌, ◌+◌, ◌-◌, ◌<
 ghost use Rattle.grain.specs.Arrivals.{view};
 ghost use Rattle.grain.specs.Counts.{armed, last_base, without_last};
 ghost use Rattle.grain.specs.Lists.{Grows, IsShared, list_of, size};
+ghost use Rattle.grain.specs.Plain.{IsFloor};
 ghost use Rattle.grain.specs.Sinking.{ReachesUpTo};
 
 use crate::effects::Effect;
@@ -21,9 +22,9 @@ pub(crate) struct State {
 /// A state on its way to an address.
 #[derive(Clone, Copy, PartialEq, Eq, Debug)]
 pub(crate) struct Arrival {
-    pub(crate) at: u32,
     /// How many instructions stand before the address in the code.
     pub(crate) ordinal: usize,
+    pub(crate) at: u32,
     pub(crate) state: State,
 }
 
@@ -57,8 +58,8 @@ impl Arrival {
         ensures { result ≡ record { at = self.at + width; ordinal = self.ordinal + 1; state = after } }
     {
         Arrival {
-            at: self.at + width as u32,
             ordinal: self.ordinal + 1,
+            at: self.at + width as u32,
             state: after,
         }
     }
@@ -150,19 +151,19 @@ impl State {
         })
     }
 
-    /// Whether the stacks without so many operands still reach up to the base of the last handler.
+    /// How many operands have to stay for the stacks to reach up to the base of the last handler: more than there can be
+    /// where they lack an iterator of it.
     #[inline(always)]
-    pub(crate) fn reaches_up(self, takes: u32, lists: &Lists) -> bool
+    pub(crate) fn floor(self, lists: &Lists) -> u64
         requires shared { IsShared lists.now }
         requires list { self.list ≤ size lists.now }
-        requires there { takes ≤ self.operands }
-        ensures { IsTrue result → ReachesUpTo (last_base (list_of lists.now self.list))
-            (record { operands = self.operands - takes; iterators = self.iterators }) }
+        ensures small { result ≤ 2 ^ 32 }
+        ensures floor { IsFloor lists.now self result }
     {
-        if self.list == 0 {
-            return true;
-        }
         let last = lists.last_base(self.list);
-        self.operands - takes >= last.operands && self.iterators >= last.iterators
+        if self.iterators < last.iterators {
+            return 1 << 32;
+        }
+        u64::from(last.operands)
     }
 }

@@ -1,8 +1,5 @@
 //! The states with which a chunk's walk has visited things that are numbered.
-ghost use Rattle.std.specs.Prelude.{◌≡◌, ℕ, ◌<◌, ◌≤◌, IfOk, None, Some, get_or, length, replicate, slice_set};
-ghost use Rattle.std.specs.List.{All};
-ghost use Rattle.std.specs.Vec.{vec_capacity};
-ghost use Rattle.grain.specs.States.{states_of};
+ghost use Rattle.std.specs.Prelude.{◌≡◌, ◌<◌, IfOk, None, Some, get_or, length, replicate, slice_set};
 
 use crate::state::State;
 use std::alloc::{AllocError, Global};
@@ -18,7 +15,7 @@ pub(crate) struct Entry {
 impl Entry {
     /// An entry of no chunk.
     const NONE: Entry = Entry {
-        chunk: 0,
+        chunk: u32::MAX,
         state: State::NOTHING,
     };
 }
@@ -26,12 +23,11 @@ impl Entry {
 /// For each of so many things the state with which it was visited in the chunk that is walked, if it was.
 ///
 /// An entry is valid where it has the number of the chunk that is walked, so that nothing need be cleared for the next
-/// chunk. The memory for all is taken at first, and entries are written up to the greatest number that was set. Contracts
-/// see a list of states that may be missing.
+/// chunk. Chunks are numbered downwards, below the number of entries of none. Contracts see a list of states that may be
+/// missing.
 #[derive(Drop)]
 pub(crate) struct States {
     chunk: u32,
-    count: usize,
     entries: Vec<Entry>,
 }
 
@@ -42,9 +38,9 @@ impl Model for States {
 
     ghost Value = { List (Option State) };
 
-    ghost view = { λ s. states_of s.chunk s.count s.entries.items };
+    ghost view = { λ s. states_of s.chunk s.entries.items };
 
-    ghost invariant = { λ s. AreKept s.chunk s.count s.entries };
+    ghost invariant = { λ s. AreKept s.chunk s.entries.items };
 }
 
 impl States {
@@ -55,23 +51,23 @@ impl States {
     pub(crate) fn new(alloc: Global, count: usize) -> Result<States, AllocError>
         ensures { IfOk result (λ s. s ≡ replicate count None) }
     {
-        let entries = Vec::with_capacity(alloc, count)?;
+        let entries = vec![in alloc; Entry::NONE; count]?;
         Ok(States {
-            chunk: 1,
-            count,
+            chunk: u32::MAX - 1,
             entries,
         })
     }
 
-    /// Begins the next chunk, in which nothing was visited. Once the numbers of chunks are used up, the entries go.
+    /// Begins the next chunk, in which nothing was visited. Once the numbers of chunks are used up, the entries are
+    /// cleared.
     pub(crate) fn begin_chunk(&mut self)
         ensures { self.new ≡ replicate (length self.old) None }
     {
-        if self.chunk == u32::MAX {
-            self.entries.clear();
-            self.chunk = 0;
+        if self.chunk == 0 {
+            self.entries.fill(Entry::NONE);
+            self.chunk = u32::MAX;
         }
-        self.chunk += 1;
+        self.chunk -= 1;
     }
 
     /// The state with which the thing of this number was visited.
@@ -80,9 +76,11 @@ impl States {
         requires { number < length self.now }
         ensures { result ≡ get_or self.now number None }
     {
-        match self.entries.get(number) {
-            Some(entry) if entry.chunk == self.chunk => Some(entry.state),
-            _ => None,
+        let entry = self.entries[number];
+        if entry.chunk == self.chunk {
+            Some(entry.state)
+        } else {
+            None
         }
     }
 
@@ -92,31 +90,9 @@ impl States {
         requires { number < length self.old }
         ensures { self.new ≡ slice_set self.old number (Some state) }
     {
-        let entry = Entry {
+        self.entries[number] = Entry {
             chunk: self.chunk,
             state,
         };
-        if number < self.entries.len() {
-            self.entries[number] = entry;
-        } else {
-            write_up_to(&mut self.entries, number);
-            self.entries.push_reserved(entry);
-        }
-    }
-}
-
-// Writes entries that say nothing, up to this number.
-fn write_up_to(entries: &mut Vec<Entry>, number: usize)
-    requires few { length entries.old.items ≤ number }
-    requires room { number ≤ vec_capacity entries.old }
-    ensures long { length entries.new.items ≡ number }
-    ensures capacity { vec_capacity entries.new ≡ vec_capacity entries.old }
-    ensures earlier { (chunk : ℕ) → All (λ e. e.chunk ≤ chunk) entries.old.items
-        → All (λ e. e.chunk ≤ chunk) entries.new.items }
-    ensures same { (chunk count : ℕ) → 0 < chunk → number ≤ count
-        → states_of chunk count entries.new.items ≡ states_of chunk count entries.old.items }
-{
-    while entries.len() < number {
-        entries.push_reserved(Entry::NONE);
     }
 }

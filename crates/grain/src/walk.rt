@@ -1,9 +1,9 @@
 //! The walk over one chunk.
 ghost use Rattle.std.specs.Prelude.{◌≡◌, ◌≢◌, ℕ, ◌+◌, ◌-◌, ◌≤◌, ◌<◌, ◌^◌, ◌++◌, ◌∷◌, ◌⊎◌, [], None, Some};
-ghost use Rattle.std.specs.Prelude.{length, map, replicate, slice_get, IfErr, IfNone, IfOk, IfSome, OnOk};
+ghost use Rattle.std.specs.Prelude.{length, map, replicate, slice_get, IfErr, IfNone, IfOk, IfSome, List, OnOk};
 ghost use Rattle.std.specs.Option.{option_to_list};
 ghost use Rattle.std.specs.List.{All};
-ghost use Rattle.grain_bytecode.specs.InstructionTable.{Instr, width_of};
+ghost use Rattle.grain_bytecode.specs.InstructionTable.{Instr, form, width_of};
 ghost use Rattle.grain_bytecode.specs.Split.{StandsAt};
 ghost use Rattle.grain_bytecode.specs.declared.op.Op.{Op};
 ghost use Rattle.grain.specs.Accepted.{ChunkPasses, IsFramed};
@@ -15,33 +15,33 @@ ghost use Rattle.grain.specs.Effects.{needs, stack_effect};
 ghost use Rattle.grain.specs.Flaw.{ChunkFlaw};
 ghost use Rattle.grain.specs.Flow.{flow_of};
 ghost use Rattle.grain.specs.FlowView.{IsFollowed, IsMetBy, IsShort, RefusesFlow, flow};
-ghost use Rattle.grain.specs.Layout.{IsStart};
 ghost use Rattle.grain.specs.Lists.{Grows, IsShared, size};
 ghost use Rattle.grain.specs.Meter.{starts_within};
-ghost use Rattle.grain.specs.Plain.{IsPlainStep};
-ghost use Rattle.grain.specs.Progress.{Fits, HaltsAt, HasVisited, IsMeteredChunk, IsWalking, all_targets, visits_in};
+ghost use Rattle.grain.specs.Plain.{IsFloor, IsPlainStep};
+ghost use Rattle.grain.specs.Progress.{Fits, HaltsAt, IsMeteredChunk, IsWalking, all_targets, visits_in};
 ghost use Rattle.grain.specs.Setting.{Setting};
 ghost use Rattle.grain.specs.Sinking.{Stays, untouched};
 ghost use Rattle.grain.specs.SinkingView.{RefusesSinking};
 ghost use Rattle.grain.specs.TagEffects.{IsEffectIn};
-ghost use Rattle.grain.specs.Typing.{HasTyping, IsDeepest};
+ghost use Rattle.grain.specs.Typing.{HasTyping, IsDeepest, IsReachedCount};
 ghost use Rattle.grain.specs.Walk.{IsReady, bytecode_of};
 ghost use Rattle.grain.specs.declared.lists.Lists.{Lists};
 
 use crate::by_tag::effect_by_tag;
 use crate::capabilities::{PoolCaps, missing};
 use crate::edges::{push_table, push_target};
-use crate::effects::{Effect, Flow};
+use crate::effects::Effect;
 use crate::error::VerifyError;
-use crate::lists::Lists;
+use crate::flow::Flow;
+use crate::lists::{Base, Lists};
 use crate::meter::Meter;
 use crate::pools::Pools;
-use crate::sinking::check_armed;
+use crate::sinking::check_sinking;
 use crate::state::{Arrival, State, check_same};
 use crate::states::States;
-use crate::tag_effects::{Way, tag_effect};
+use crate::tag_effects::tag_effect;
 use grain_base::{Caps, Flags};
-use grain_bytecode::{Chunk, Instruction, Starts};
+use grain_bytecode::{Chunk, Head, Instruction, Starts};
 use std::alloc::{AllocError, Global};
 
 /// What the walks of all chunks share: code that is whole instructions with its indices in bounds, and what walks ask of
@@ -133,22 +133,57 @@ fn check_stays(
     ensures stays { (s : Setting) (op : Op)
         → Instr (instruction.now.tag ∷ instruction.now.fields.now) op
         → (effect.needs, effect.takes, effect.gives) ≡ stack_effect s.chains op
-        → flow effect.flow ≡ flow_of op
+        → flow effect.flow effect.target ≡ flow_of op
         → OnOk result (Stays s op (view lists.now here.state)) }
     ensures err { (s : Setting) (op : Op)
         → Instr (instruction.now.tag ∷ instruction.now.fields.now) op
         → (effect.needs, effect.takes, effect.gives) ≡ stack_effect s.chains op
-        → flow effect.flow ≡ flow_of op
-        → IfErr result (λ e. IsShort (flow effect.flow) here.at (view lists.now here.state) e
-        ⊎ (IsMetBy (flow effect.flow) (view lists.now here.state)
+        → flow effect.flow effect.target ≡ flow_of op
+        → IfErr result (λ e. IsShort (flow effect.flow effect.target) here.at (view lists.now here.state) e
+        ⊎ (IsMetBy (flow effect.flow effect.target) (view lists.now here.state)
         × RefusesSinking op here.at (last_base (view lists.now here.state).bases)
         (untouched s op (view lists.now here.state)) e)) }
 {
-    if here.state.list == 0 {
+    let Arrival { at, state, .. } = here;
+    if state.list == 0 {
         return Ok(());
     }
     let needed = effect.flow.iterators_needed();
-    check_armed(*instruction, effect.takes, needed, here, lists)
+    if state.iterators < needed {
+        return Err(VerifyError::IteratorUnderflow { at: at as usize });
+    }
+    let left = Base {
+        operands: state.operands - effect.takes,
+        iterators: state.iterators - needed,
+    };
+    check_sinking(instruction.tag, at, left, lists.last_base(state.list))
+}
+
+/// What falls through a plain instruction, which does no more than its tag tells, where it finds the operands that it needs
+/// above the floor.
+#[inline(always)]
+fn plain_next(head: Head, here: Arrival, floor: u64) -> Option<Arrival>
+    requires room { here.at + head.width < 2 ^ 32 }
+    requires operands_room { here.state.operands + 1 < 2 ^ 32 }
+    requires ordinal_room { here.ordinal + 1 < 2 ^ 64 }
+    requires small { floor ≤ 2 ^ 32 }
+    ensures { IfSome result (λ next. (code : List ℕ) (lists : Lists) (op : Op) → StandsAt code here.at op
+        → (form op).0 ≡ head.tag → head.width ≡ width_of op → IsFloor lists here.state floor
+        → IsPlainStep code lists here next) }
+{
+    let told = tag_effect(head.tag);
+    let state = here.state;
+    match told.flow? {
+        Flow::Falls if floor + u64::from(told.needs) <= u64::from(state.operands) => {
+            let left = state.operands - u32::from(told.takes) + u32::from(told.gives);
+            let after = State {
+                operands: left,
+                ..state
+            };
+            Some(here.next(usize::from(head.width), after))
+        }
+        _ => None,
+    }
 }
 
 impl Prepared<'_> {
@@ -198,10 +233,10 @@ impl Prepared<'_> {
         requires shared { IsShared lists.old }
         requires list { here.state.list ≤ size lists.old }
         requires lists_room { size lists.old + 1 < 2 ^ 32 }
-        ensures met { OnOk result (IsMetBy (flow effect.flow) (view lists.old here.state)) }
+        ensures met { OnOk result (IsMetBy (flow effect.flow effect.target) (view lists.old here.state)) }
         ensures grows { OnOk result (Grows lists.old lists.new) }
         ensures followed { IfOk result (IsFollowed self.now.starts.starts chunk.now
-            (bytecode_of self.now).switches (flow effect.flow)
+            (bytecode_of self.now).switches (flow effect.flow effect.target)
             (here.state.operands - effect.takes + effect.gives) here.state lists.old lists.new
             traversal.old.sent traversal.new.sent
             (map underway traversal.old.work.items) (map underway traversal.new.work.items)) }
@@ -213,43 +248,44 @@ impl Prepared<'_> {
         ensures err { IfErr result (RefusesFlow self.now.starts.starts chunk.now
             (bytecode_of self.now).switches here.at (view lists.old here.state) (record here.state {
               operands = here.state.operands - effect.takes + effect.gives;
-            }) traversal.old.sent (flow effect.flow)) }
+            }) traversal.old.sent (flow effect.flow effect.target)) }
     {
         let starts = &self.starts;
         let work = &mut traversal.work;
         let Arrival { at, state, .. } = here;
+        let target = effect.target;
         let after = state.with(effect);
         match effect.flow {
             Flow::Falls => Ok(Some(after)),
             Flow::Ends => Ok(None),
-            Flow::Jumps(target) => {
+            Flow::Jumps => {
                 push_target(starts, chunk, at, target, after, work)?;
                 Ok(None)
             }
-            Flow::Branches(target) => {
+            Flow::Branches => {
                 push_target(starts, chunk, at, target, after, work)?;
                 Ok(Some(after))
             }
-            Flow::Switches(index) => {
+            Flow::Switches => {
                 let switches = self.pools.switches;
                 let sent = &mut traversal.sent;
-                push_table(starts, chunk, at, switches, index, after, sent, work)?;
+                push_table(starts, chunk, at, switches, target, after, sent, work)?;
                 Ok(None)
             }
             Flow::BeginsIterator => Ok(Some(State {
                 iterators: state.iterators + 1,
                 ..after
             })),
-            Flow::AdvancesIterator(exit) => {
+            Flow::AdvancesIterator => {
                 let ended = state.without_iterator(at)?;
-                push_target(starts, chunk, at, exit, ended, work)?;
+                push_target(starts, chunk, at, target, ended, work)?;
                 Ok(Some(State {
                     operands: state.operands + 1,
                     ..state
                 }))
             }
             Flow::EndsIterator => Ok(Some(state.without_iterator(at)?)),
-            Flow::PushesHandler(target) => {
+            Flow::PushesHandler => {
                 let armed = state.with_handler(lists)?;
                 push_target(starts, chunk, at, target, armed, work)?;
                 Ok(Some(armed))
@@ -311,38 +347,6 @@ impl Prepared<'_> {
         }
     }
 
-    /// What falls through an instruction, where that is plain: it does no more than its tag tells, and finds the operands
-    /// that it takes, above the base of the last handler.
-    #[inline(always)]
-    fn plain_next(&self, here: Arrival, lists: &Lists) -> Option<Arrival>
-        requires shared { IsShared lists.now }
-        requires list { here.state.list ≤ size lists.now }
-        requires start { IsStart self.now.code.now here.at }
-        requires room { (op : Op) → StandsAt self.now.code.now here.at op
-            → here.at + width_of op < 2 ^ 32 }
-        requires operands_room { here.state.operands + 1 < 2 ^ 32 }
-        requires ordinal_room { here.ordinal + 1 < 2 ^ 64 }
-        ensures { IfSome result (λ next. IsPlainStep self.now.code.now lists.now here next) }
-    {
-        let Some(instruction) = Instruction::at(self.code, here.at as usize) else {
-            unreachable!();
-        };
-        let told = tag_effect(instruction.tag);
-        match told.way {
-            Way::Falls
-                if u32::from(told.needs) <= here.state.operands
-                    && here.state.reaches_up(u32::from(told.takes), lists) => {
-                let left = here.state.operands - u32::from(told.takes) + u32::from(told.gives);
-                let after = State {
-                    operands: left,
-                    ..here.state
-                };
-                Some(here.next(instruction.width(), after))
-            }
-            _ => None,
-        }
-    }
-
     /// Visits plain instructions one after another, from an arrival on, and marks each as visited. It answers the first
     /// other instruction that it comes to, marked too; none where it comes to one that was visited with the same state.
     #[inline(always)]
@@ -352,35 +356,39 @@ impl Prepared<'_> {
         from: Arrival,
         lists: &Lists,
         traversal: &mut Traversal,
-        meter: &mut Meter,
+        visits: &mut u32,
         deepest: &mut u32,
     ) -> Result<Option<Arrival>, VerifyError>
         requires ready { IsReady self.now }
         requires framed { IsFramed (bytecode_of self.now) chunk.now }
         requires walking { IsWalking self.now chunk.now lists.now traversal.old
             (traversal.old.work.items ++ from ∷ []) deepest.old }
+        requires counted { visits.old ≡ visits_in traversal.old.states }
         ensures halts { IfOk result (λ next. IfSome next (λ here.
             HaltsAt self.now chunk.now lists.now traversal.new here deepest.new)) }
         ensures skips { IfOk result (λ next. IfNone next (IsWalking self.now chunk.now lists.now
             traversal.new traversal.new.work.items deepest.new)) }
         ensures further { IfOk result (λ next. IfSome next (λ _.
             visits_in traversal.old.states < visits_in traversal.new.states)) }
-        ensures ticked { HasVisited traversal.old.states traversal.new.states meter.old meter.new }
+        ensures counted { visits.new ≡ visits_in traversal.new.states }
+        ensures more { visits_in traversal.old.states ≤ visits_in traversal.new.states }
         ensures within { visits_in traversal.new.states
             ≤ starts_within self.now.starts.starts chunk.now }
         ensures work { traversal.new.work ≡ traversal.old.work }
         ensures err { IfErr result (ChunkFlaw (bytecode_of self.now) chunk.now) }
     {
+        let floor = from.state.floor(lists);
+        let code = &self.code[..chunk.end() as usize];
         let mut here = from;
-        while here.at < chunk.end() {
+        while let Some(head) = Head::at(code, here.at as usize) {
             if let Some(before) = traversal.states.get(here.ordinal) {
                 check_same(here.at, before, here.state)?;
                 return Ok(None);
             }
             traversal.states.set(here.ordinal, here.state);
-            meter.tick();
+            *visits += 1;
             *deepest = (*deepest).max(here.state.operands);
-            match self.plain_next(here, lists) {
+            match plain_next(head, here, floor) {
                 Some(next) => here = next,
                 None => return Ok(Some(here)),
             }
@@ -389,13 +397,14 @@ impl Prepared<'_> {
     }
 
     /// Walks from the chunk's entry, an instruction of this ordinal, and answers the greatest operand count that it meets.
+    /// It counts the instructions that it visits.
     fn walk(
         &self,
         chunk: &Chunk,
         ordinal: usize,
         lists: &mut Lists,
         traversal: &mut Traversal,
-        meter: &mut Meter,
+        visits: &mut u32,
     ) -> Result<u32, VerifyError>
         requires ready { IsReady self.now }
         requires framed { IsFramed (bytecode_of self.now) chunk.now }
@@ -403,10 +412,11 @@ impl Prepared<'_> {
         requires place { slice_get self.now.starts.starts ordinal ≡ Some chunk.now.entry }
         requires fits { Fits self.now traversal.old }
         requires shared { IsShared lists.old }
+        requires none { visits.old ≡ 0 }
         ensures typed { IfOk result (λ n. HasTyping (coded (bytecode_of self.now)) chunk.now n) }
         ensures deepest { IfOk result (λ n. IsDeepest (coded (bytecode_of self.now)) chunk.now n) }
-        ensures metered { IsMeteredChunk (bytecode_of self.now)
-            self.now.starts.starts chunk.now meter.old meter.new result }
+        ensures within { visits.new ≤ starts_within self.now.starts.starts chunk.now }
+        ensures reached { OnOk result (IsReachedCount (coded (bytecode_of self.now)) chunk.now visits.new) }
         ensures err { IfErr result (λ e. (e ≡ VerifyError.OutOfMemory)
             ⊎ ChunkFlaw (bytecode_of self.now) chunk.now e) }
         ensures fits { OnOk result (Fits self.now traversal.new) }
@@ -421,7 +431,7 @@ impl Prepared<'_> {
             state: State::NOTHING,
         });
         while let Some(from) = take_next(next, &mut traversal.work) {
-            next = match self.visit_plain(chunk, from, lists, traversal, meter, &mut deepest)? {
+            next = match self.visit_plain(chunk, from, lists, traversal, visits, &mut deepest)? {
                 Some(here) => self.visit(chunk, here, lists, traversal)?,
                 None => None,
             };
@@ -491,7 +501,10 @@ impl Prepared<'_> {
         ensures shared { OnOk result (IsShared lists.new) }
     {
         let ordinal = self.check_frame(chunk)?;
-        let needed = self.walk(chunk, ordinal, lists, traversal, meter)?;
+        let mut visits = 0;
+        let walked = self.walk(chunk, ordinal, lists, traversal, &mut visits);
+        meter.add(visits);
+        let needed = walked?;
         let declared = chunk.max_stack();
         if needed > u32::from(declared) {
             return Err(VerifyError::StackExceedsDeclared {

@@ -56,3 +56,13 @@ pub stands_there : (code : List ℕ) (at w : ℕ) (op : Op) → at + w ≤ lengt
 stands_there code at w op fits h =
     let wide : w ≡ width_of op = omega (arith, instr_width (take w (drop at code)) op h, length-take w (drop at code), length-drop at code) in
     (subst (λ n. Instr (take n (drop at code)) op) wide h, wide)
+
+-- the first byte of an instruction is its tag
+pub standing_tag : (code : List ℕ) (at : ℕ) (op : Op) → at < length code → StandsAt code at op → get_or code at 0 ≡ (form op).0
+standing_tag code at op inside h =
+    let rest = drop (at + 1) code in
+    let n = sum_by size_of (form op).1 in
+    ap (λ k. get_or (take k (get_or code at 0 ∷ rest)) 0 0) (sym (add-one n))
+    ∙ ap (λ k. get_or (take (width_of op) (get_or code at 0 ∷ drop k code)) 0 0) (add-one at)
+    ∙ ap (λ (bs : List ℕ). get_or (take (width_of op) bs) 0 0) (sym (drop-cons code at 0 inside))
+    ∙ ap (λ (bs : List ℕ). get_or bs 0 0) h.spelled

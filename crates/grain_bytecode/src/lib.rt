@@ -45,7 +45,7 @@ pub use positions::{Positions, StripError, TableError, site_to_position};
 pub use starts::Starts;
 pub use strings::{BadTable, Names, Strings, StringsError};
 pub use switch::{Switch, SwitchRange, resolve_switch_targets};
-pub use tag_widths::width;
+pub use tag_widths::{Head, width};
 pub use text::DisassembleError;
 
 #[cfg(test)]

@@ -1,7 +1,7 @@
 //! How many bytes instructions take, by their tags.
 
-ghost use Rattle.std.specs.Prelude.{◌≡◌, ◌+◌, ◌<◌, ◌≤◌, IfSome, IfNone, length};
-ghost use Rattle.grain_bytecode.specs.InstructionTable.{width_of};
+ghost use Rattle.std.specs.Prelude.{◌≡◌, ◌+◌, ◌<◌, ◌≤◌, IfSome, IfNone, Some, length, slice_get};
+ghost use Rattle.grain_bytecode.specs.InstructionTable.{form, width_of};
 ghost use Rattle.grain_bytecode.specs.Split.{StandsAt, NoneStandsAt};
 ghost use Rattle.grain_bytecode.specs.declared.op.Op.{Op};
 
@@ -16,6 +16,37 @@ pub(crate) static WIDTHS: [u8; 256] = [
     0, 0, 0, 0, 0, 0, 0, 0, 0, 0, 0, 0, 0, 0, 0, 0, 0, 0, 0, 0, 0, 0, 0, 0, 0, 0, 0, 0, 0, 0, 0, 0,
     0, 0, 0, 0, 0, 0, 0, 0, 0, 0, 0, 0, 0, 0, 0, 0, 0, 0, 0, 0, 0, 0, 0, 0, 0, 0, 0, 0, 0, 0, 0, 0,
 ];
+
+/// What the first byte of an instruction tells: its tag, and how many bytes instructions with that tag take
+/// (docs/FORMAT.md, "Instructions").
+#[derive(Clone, Copy, Debug, PartialEq, Eq)]
+pub struct Head {
+    /// The first byte.
+    pub tag: u8,
+    /// How many bytes, or 0 where no instruction has the tag.
+    pub width: u8,
+}
+
+impl Head {
+    /// The head at an address, or `None` past the end of the code.
+    ///
+    /// Whether an instruction stands there it doesn't say. It takes no memory, and constant time.
+    #[inline(always)]
+    #[must_use]
+    pub fn at(code: &[u8], at: usize) -> Option<Head>
+        ensures tag { IfSome result (λ h. slice_get code.now at ≡ Some h.tag) }
+        ensures width { IfSome result (λ h. (op : Op) → (form op).0 ≡ h.tag
+            → h.width ≡ width_of op) }
+        ensures none { IfNone result (length code.now ≤ at) }
+    {
+        if at >= code.len() {
+            return None;
+        }
+        let tag = code[at];
+        let width = WIDTHS[tag as usize];
+        Some(Head { tag, width })
+    }
+}
 
 /// How many bytes the instruction at an address takes, or `None` where none stands.
 ///

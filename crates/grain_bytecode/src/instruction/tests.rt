@@ -1,4 +1,5 @@
 use super::*;
+use crate::Head;
 use std::test::Fail;
 
 #[test]
@@ -12,6 +13,35 @@ fn a_jump_is_found_and_decoded(rt: HostRuntime) -> Result<(), Fail> {
     assert_eq!(rt; jump.width(), 5);
     assert_eq!(rt; jump.target(), Some(6));
     assert_eq!(rt; jump.op(), Some(Op::Jump(6)));
+    Ok(())
+}
+
+#[test]
+fn a_first_byte_tells_tag_and_width(rt: HostRuntime) -> Result<(), Fail> {
+    let code = [0x02, 0x0c, 0x06, 0xff];
+    assert_eq!(rt;
+        Head::at(&code, 0),
+        Some(Head {
+            tag: 0x02,
+            width: 1
+        })
+    );
+    assert_eq!(rt;
+        Head::at(&code, 1),
+        Some(Head {
+            tag: 0x0c,
+            width: 5
+        })
+    );
+    assert_eq!(rt;
+        Head::at(&code, 3),
+        Some(Head {
+            tag: 0xff,
+            width: 0
+        })
+    );
+    assert_eq!(rt; Head::at(&code, 4), None);
+    assert_eq!(rt; Head::at(&code, usize::MAX), None);
     Ok(())
 }
 

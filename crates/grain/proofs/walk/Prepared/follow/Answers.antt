@@ -9,64 +9,64 @@ use Rattle.grain.proofs.Following.{followed, followed_on, followed_to, refused_t
 use Rattle.grain.proofs.walk.Prepared.follow.Goals as goal
 
 pub returns-in-Falls-clause-followed : goal.returns-in-Falls-clause-followed
-returns-in-Falls-clause-followed c = followed_on _ _ _ _ c.args.here.state c.args.lists.now c.args.lists.now _ _ _ _ c.in-Falls.is c.args.here.state.list c.requires.list refl _ refl (ap (λ (s : State). Some s) c.with-after.ensures)
+returns-in-Falls-clause-followed c = followed_on _ _ _ _ c.args.here.state c.args.lists.now c.args.lists.now _ _ _ _ c.args.effect.target c.in-Falls.is c.args.here.state.list c.requires.list refl _ refl (ap (λ (s : State). Some s) c.with-after.ensures)
 
 pub returns-in-Ends-clause-followed : goal.returns-in-Ends-clause-followed
-returns-in-Ends-clause-followed c = followed_on _ _ _ _ c.args.here.state c.args.lists.now c.args.lists.now _ _ _ _ c.in-Ends.is c.args.here.state.list c.requires.list refl _ refl refl
+returns-in-Ends-clause-followed c = followed_on _ _ _ _ c.args.here.state c.args.lists.now c.args.lists.now _ _ _ _ c.args.effect.target c.in-Ends.is c.args.here.state.list c.requires.list refl _ refl refl
 
 pub returns-in_ok-push_target-in-Jumps-clause-followed : goal.returns-in_ok-push_target-in-Jumps-clause-followed
 returns-in_ok-push_target-in-Jumps-clause-followed c =
     let pushed = c.in_ok-push_target-in-Jumps.ensures in
-    followed_to _ _ _ _ c.args.here.state c.args.lists.now c.args.lists.now _ _ _ _ c.in-Jumps.is c.args.here.state.list c.requires.list refl _ _ c.in-Jumps.target c.with-after.result refl c.with-after.ensures pushed.inside pushed.pushed refl
+    followed_to _ _ _ _ c.args.here.state c.args.lists.now c.args.lists.now _ _ _ _ c.args.effect.target c.in-Jumps.is c.args.here.state.list c.requires.list refl _ _ c.with-after.result refl c.with-after.ensures pushed.inside pushed.pushed refl
 
 pub returns-in_ok-push_target-in-Branches-clause-followed : goal.returns-in_ok-push_target-in-Branches-clause-followed
 returns-in_ok-push_target-in-Branches-clause-followed c =
     let pushed = c.in_ok-push_target-in-Branches.ensures in
-    followed_to _ _ _ _ c.args.here.state c.args.lists.now c.args.lists.now _ _ _ _ c.in-Branches.is c.args.here.state.list c.requires.list refl _ _ c.in-Branches.target c.with-after.result refl c.with-after.ensures pushed.inside pushed.pushed (ap (λ (s : State). Some s) c.with-after.ensures)
+    followed_to _ _ _ _ c.args.here.state c.args.lists.now c.args.lists.now _ _ _ _ c.args.effect.target c.in-Branches.is c.args.here.state.list c.requires.list refl _ _ c.with-after.result refl c.with-after.ensures pushed.inside pushed.pushed (ap (λ (s : State). Some s) c.with-after.ensures)
 
 pub returns-in_ok-push_table-in-Switches-clause-followed : goal.returns-in_ok-push_table-in-Switches-clause-followed
 returns-in_ok-push_table-in-Switches-clause-followed c =
     let self = c.args.self.now in
     let t = c.args.traversal.now in
     let sends =
-    subst (λ (s : State). Sends self.starts.starts c.args.chunk.now (bytecode_of self).switches (flows.Switches c.in-Switches.index) s t.sent c.push_table.new.sent (map underway t.work.items) (map underway c.push_table.new.work.items)) c.with-after.ensures c.in_ok-push_table-in-Switches.ensures.sends in
-    followed _ _ _ _ c.args.here.state c.args.lists.now c.args.lists.now _ _ _ _ c.in-Switches.is c.args.here.state.list c.requires.list refl _ _ _ sends refl
+    subst (λ (s : State). Sends self.starts.starts c.args.chunk.now (bytecode_of self).switches (flows.Switches c.args.effect.target) s t.sent c.push_table.new.sent (map underway t.work.items) (map underway c.push_table.new.work.items)) c.with-after.ensures c.in_ok-push_table-in-Switches.ensures.sends in
+    followed _ _ _ _ c.args.here.state c.args.lists.now c.args.lists.now _ _ _ _ c.args.effect.target c.in-Switches.is c.args.here.state.list c.requires.list refl _ _ _ sends refl
 
 pub returns-in-BeginsIterator-clause-followed : goal.returns-in-BeginsIterator-clause-followed
 returns-in-BeginsIterator-clause-followed c =
-    followed_on _ _ _ _ c.args.here.state c.args.lists.now c.args.lists.now _ _ _ _ c.in-BeginsIterator.is c.args.here.state.list c.requires.list refl _ refl
+    followed_on _ _ _ _ c.args.here.state c.args.lists.now c.args.lists.now _ _ _ _ c.args.effect.target c.in-BeginsIterator.is c.args.here.state.list c.requires.list refl _ refl
     (ap (λ (s : State). Some (record { operands = s.operands; iterators = c.args.here.state.iterators + 1; list = s.list })) c.with-after.ensures)
 
 pub returns-in_ok-push_target-in-AdvancesIterator-clause-followed : goal.returns-in_ok-push_target-in-AdvancesIterator-clause-followed
 returns-in_ok-push_target-in-AdvancesIterator-clause-followed c =
     let pushed = c.in_ok-push_target-in-AdvancesIterator.ensures in
-    followed_to _ _ _ _ c.args.here.state c.args.lists.now c.args.lists.now _ _ _ _ c.in-AdvancesIterator.is c.args.here.state.list c.requires.list refl _ _ c.in-AdvancesIterator.exit c.in_ok-ended-in-AdvancesIterator.ended refl c.in_ok-ended-in-AdvancesIterator.ensures.ok.1 pushed.inside pushed.pushed refl
+    followed_to _ _ _ _ c.args.here.state c.args.lists.now c.args.lists.now _ _ _ _ c.args.effect.target c.in-AdvancesIterator.is c.args.here.state.list c.requires.list refl _ _ c.in_ok-ended-in-AdvancesIterator.ended refl c.in_ok-ended-in-AdvancesIterator.ensures.ok.1 pushed.inside pushed.pushed refl
 
 pub returns-in_ok-without_iterator-in-EndsIterator-clause-followed : goal.returns-in_ok-without_iterator-in-EndsIterator-clause-followed
 returns-in_ok-without_iterator-in-EndsIterator-clause-followed c =
-    followed_on _ _ _ _ c.args.here.state c.args.lists.now c.args.lists.now _ _ _ _ c.in-EndsIterator.is c.args.here.state.list c.requires.list refl _ refl
+    followed_on _ _ _ _ c.args.here.state c.args.lists.now c.args.lists.now _ _ _ _ c.args.effect.target c.in-EndsIterator.is c.args.here.state.list c.requires.list refl _ refl
     (ap (λ (s : State). Some s) c.in_ok-without_iterator-in-EndsIterator.ensures.ok.1)
 
 pub returns-in_ok-push_target-in-PushesHandler-clause-followed : goal.returns-in_ok-push_target-in-PushesHandler-clause-followed
 returns-in_ok-push_target-in-PushesHandler-clause-followed c =
     let armed = c.in_ok-armed-in-PushesHandler in
     let pushed = c.in_ok-push_target-in-PushesHandler.ensures in
-    followed_to _ _ _ _ c.args.here.state c.args.lists.now _ _ _ _ _ c.in-PushesHandler.is armed.armed.list armed.ensures.list.0 armed.ensures.list.1 _ _ c.in-PushesHandler.target armed.armed refl armed.ensures.same pushed.inside pushed.pushed (ap (λ (s : State). Some s) armed.ensures.same)
+    followed_to _ _ _ _ c.args.here.state c.args.lists.now _ _ _ _ _ c.args.effect.target c.in-PushesHandler.is armed.armed.list armed.ensures.list.0 armed.ensures.list.1 _ _ armed.armed refl armed.ensures.same pushed.inside pushed.pushed (ap (λ (s : State). Some s) armed.ensures.same)
 
 pub returns-in_err-push_target-in-Jumps-clause-err : goal.returns-in_err-push_target-in-Jumps-clause-err
 returns-in_err-push_target-in-Jumps-clause-err c =
     let p = err_from_is_err_and c.from_residual.result c.from_residual.ensures.1 in
-    rw (p.1, p.2) (refused_there _ c.args.chunk.now _ _ _ _ _ _ _ c.in_err-push_target-in-Jumps.field-0.0 c.in-Jumps.is (record { iterators = omega arith; handlers = omega arith }) (inl c.in_err-push_target-in-Jumps.ensures.err))
+    rw (p.1, p.2) (refused_there _ c.args.chunk.now _ _ _ _ _ _ _ c.args.effect.target c.in_err-push_target-in-Jumps.field-0.0 c.in-Jumps.is (record { iterators = omega arith; handlers = omega arith }) (inl c.in_err-push_target-in-Jumps.ensures.err))
 
 pub returns-in_err-push_target-in-Branches-clause-err : goal.returns-in_err-push_target-in-Branches-clause-err
 returns-in_err-push_target-in-Branches-clause-err c =
     let p = err_from_is_err_and c.from_residual-in_err-push_target-in-Branches.result c.from_residual-in_err-push_target-in-Branches.ensures.1 in
-    rw (p.1, p.2) (refused_there _ c.args.chunk.now _ _ _ _ _ _ _ c.in_err-push_target-in-Branches.field-0.0 c.in-Branches.is (record { iterators = omega arith; handlers = omega arith }) (inl c.in_err-push_target-in-Branches.ensures.err))
+    rw (p.1, p.2) (refused_there _ c.args.chunk.now _ _ _ _ _ _ _ c.args.effect.target c.in_err-push_target-in-Branches.field-0.0 c.in-Branches.is (record { iterators = omega arith; handlers = omega arith }) (inl c.in_err-push_target-in-Branches.ensures.err))
 
 pub returns-in_err-push_target-in-AdvancesIterator-clause-err : goal.returns-in_err-push_target-in-AdvancesIterator-clause-err
 returns-in_err-push_target-in-AdvancesIterator-clause-err c =
     let p = err_from_is_err_and c.from_residual-in_err-push_target-in-AdvancesIterator.result c.from_residual-in_err-push_target-in-AdvancesIterator.ensures.1 in
-    rw (p.1, p.2) (refused_there _ c.args.chunk.now _ _ _ _ _ _ _ c.in_err-push_target-in-AdvancesIterator.field-0.0 c.in-AdvancesIterator.is (record { iterators = (let h = c.in_ok-ended-in-AdvancesIterator.ensures.ok.0 in omega arith); handlers = omega arith }) (inl c.in_err-push_target-in-AdvancesIterator.ensures.err))
+    rw (p.1, p.2) (refused_there _ c.args.chunk.now _ _ _ _ _ _ _ c.args.effect.target c.in_err-push_target-in-AdvancesIterator.field-0.0 c.in-AdvancesIterator.is (record { iterators = (let h = c.in_ok-ended-in-AdvancesIterator.ensures.ok.0 in omega arith); handlers = omega arith }) (inl c.in_err-push_target-in-AdvancesIterator.ensures.err))
 
 pub returns-in_err-push_table-in-Switches-clause-err : goal.returns-in_err-push_table-in-Switches-clause-err
 returns-in_err-push_table-in-Switches-clause-err c =
@@ -74,8 +74,8 @@ returns-in_err-push_table-in-Switches-clause-err c =
     let e = c.in_err-push_table-in-Switches.field-0.0 in
     let self = c.args.self.now in
     let switches = (bytecode_of self).switches in
-    let f = flows.Switches c.in-Switches.index in
+    let f = flows.Switches c.args.effect.target in
     let refused =
     subst (λ (s : State). RefusesTargetOf self.starts.starts c.args.chunk.now c.args.here.at (targets_for switches f) e ⊎ RefusesSwitch switches f s c.args.traversal.now.sent e)
     c.with-after.ensures c.in_err-push_table-in-Switches.ensures.err in
-    rw (p.1, p.2) (refused_there _ c.args.chunk.now _ _ _ _ _ _ _ e c.in-Switches.is (record { iterators = omega arith; handlers = omega arith }) refused)
+    rw (p.1, p.2) (refused_there _ c.args.chunk.now _ _ _ _ _ _ _ c.args.effect.target e c.in-Switches.is (record { iterators = omega arith; handlers = omega arith }) refused)

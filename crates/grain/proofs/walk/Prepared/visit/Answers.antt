@@ -76,8 +76,8 @@ returns-in_err-check_stays-clause-err c =
     let comes : Comes code chunk here.at op counts = record { reached = halts_reached self chunk t before before here halts.0 grows halts.1; stands = record { within = halts_inside self chunk t before before here halts.0 grows halts.1; is = c.in-Some.ensures.found.1 } } in
     let there = subst (λ n. n ≤ here.state.operands) (ap (λ (e : ℕ × ℕ × ℕ). e.0) known.operands) found.there in
     rw (p.1, p.2) (elim (c.in_err-check_stays.ensures.err code.setting op c.in-Some.ensures.found.2 known.operands known.flow_is) as (λ _. (e ≡ OutOfMemory) ⊎ ChunkFlaw code chunk e) [
-      | inl short ↦ inr (refused_state code chunk here.at op counts e c.requires.framed comes (short_state code op here.at counts (flow does.flow) e known.flow_is allowed short))
-      | inr (met, sinks) ↦ inr (refused_sinking code chunk here.at op counts e c.requires.framed comes allowed (meets_known code.setting op counts (flow does.flow) known.flow_is there met) sinks)
+      | inl short ↦ inr (refused_state code chunk here.at op counts e c.requires.framed comes (short_state code op here.at counts (flow does.flow does.target) e known.flow_is allowed short))
+      | inr (met, sinks) ↦ inr (refused_sinking code chunk here.at op counts e c.requires.framed comes allowed (meets_known code.setting op counts (flow does.flow does.target) known.flow_is there met) sinks)
     ])
 
 pub follow-requires-clause-list : goal.follow-requires-clause-list
@@ -136,12 +136,12 @@ returns-in_err-after-clause-err c =
     let reached = halts_reached self chunk t before before here halts.0 grows halts.1 in
     let stands : StandsIn (coded code) chunk here.at op = record { within = halts_inside self chunk t before before here halts.0 grows halts.1; is = c.in-Some.ensures.found.1 } in
     let stays = c.in_ok-check_stays.ensures.stays code.setting op c.in-Some.ensures.found.2 known.operands known.flow_is in
-    let passes = λ (met : IsMetBy (flow does.flow) counts). passes_known code chunk here.at op counts does.asks.0 does.needs does.takes does.gives (flow does.flow) stands asked known.operands known.flow_is found.allowed found.there met stays in
+    let passes = λ (met : IsMetBy (flow does.flow does.target) counts). passes_known code chunk here.at op counts does.asks.0 does.needs does.takes does.gives (flow does.flow does.target) stands asked known.operands known.flow_is found.allowed found.there met stays in
     rw (p.1, p.2) (elim c.in_err-after.ensures.err as (λ _. (e ≡ OutOfMemory) ⊎ ChunkFlaw code chunk e) [
-      | inl short ↦ inr (refused_state code chunk here.at op counts e c.requires.framed (record { reached = reached; stands = stands }) (short_state code op here.at counts (flow does.flow) e known.flow_is (subst (Allows code.setting.caps) asked found.allowed) short))
+      | inl short ↦ inr (refused_state code chunk here.at op counts e c.requires.framed (record { reached = reached; stands = stands }) (short_state code op here.at counts (flow does.flow does.target) e known.flow_is (subst (Allows code.setting.caps) asked found.allowed) short))
       | inr (met, inl (inl m)) ↦ inl m
       | inr (met, inl (inr (x, named, bad))) ↦ inr (refused_target code self.starts.starts chunk here.at x e c.requires.ready.starts c.requires.framed (record { counts = counts; op = op; reached = reached; passes = passes met; names = subst (λ (f : Flow). Contains (targets_for code.switches f) x) known.flow_is named }) bad)
-      | inr (met, inr unlike) ↦ inr (refused_switch self chunk t before here halts.0 op does.needs does.takes does.gives (flow does.flow) e c.requires.framed halts.1 known.operands known.flow_is (passes met) unlike)
+      | inr (met, inr unlike) ↦ inr (refused_switch self chunk t before here halts.0 op does.needs does.takes does.gives (flow does.flow does.target) e c.requires.framed halts.1 known.operands known.flow_is (passes met) unlike)
     ])
 
 pub next-requires-clause-room : goal.next-requires-clause-room
@@ -184,7 +184,7 @@ returns-in-Some-2-clause-ok c deepest halts =
     let done = c.in_ok-after.ensures in
     let after = done.followed in
     let wide : c.width.result ≡ width_of op = let e = c.width.ensures in let w = instr_width (i.tag ∷ i.fields.now) op c.in-Some.ensures.found.2 in omega arith in
-    rw c.next.ensures (visited self c.args.chunk.now t new c.args.here deepest op c.width.result (Some c.in-Some-2.after) c.requires.ready c.requires.framed before c.follow.new.lists done.grows halts c.in-Some.ensures.found.1 wide does.asks.0 does.needs does.takes does.gives after.list (flow does.flow) (known.asks code.setting c.requires.ready.asked) known.operands known.flow_is found.allowed found.there done.met stays after.there after.bases after.sends (sym c.in-Some-2.is ∙ after.falls) done.states done.long done.placed)
+    rw c.next.ensures (visited self c.args.chunk.now t new c.args.here deepest op c.width.result (Some c.in-Some-2.after) c.requires.ready c.requires.framed before c.follow.new.lists done.grows halts c.in-Some.ensures.found.1 wide does.asks.0 does.needs does.takes does.gives after.list (flow does.flow does.target) (known.asks code.setting c.requires.ready.asked) known.operands known.flow_is found.allowed found.there done.met stays after.there after.bases after.sends (sym c.in-Some-2.is ∙ after.falls) done.states done.long done.placed)
 
 pub returns-in-None-clause-ok : goal.returns-in-None-clause-ok
 returns-in-None-clause-ok c deepest halts =
@@ -200,7 +200,7 @@ returns-in-None-clause-ok c deepest halts =
     let stays = c.in_ok-check_stays.ensures.stays code.setting op c.in-Some.ensures.found.2 known.operands known.flow_is in
     let done = c.in_ok-after.ensures in
     let after = done.followed in
-    visited self c.args.chunk.now t new c.args.here deepest op (width_of op) None c.requires.ready c.requires.framed before c.follow.new.lists done.grows halts c.in-Some.ensures.found.1 refl does.asks.0 does.needs does.takes does.gives after.list (flow does.flow) (known.asks code.setting c.requires.ready.asked) known.operands known.flow_is found.allowed found.there done.met stays after.there after.bases after.sends (sym c.in-None.is ∙ after.falls) done.states done.long done.placed
+    visited self c.args.chunk.now t new c.args.here deepest op (width_of op) None c.requires.ready c.requires.framed before c.follow.new.lists done.grows halts c.in-Some.ensures.found.1 refl does.asks.0 does.needs does.takes does.gives after.list (flow does.flow does.target) (known.asks code.setting c.requires.ready.asked) known.operands known.flow_is found.allowed found.there done.met stays after.there after.bases after.sends (sym c.in-None.is ∙ after.falls) done.states done.long done.placed
 
 pub returns-in-Some-2-clause-few : goal.returns-in-Some-2-clause-few
 returns-in-Some-2-clause-few c =

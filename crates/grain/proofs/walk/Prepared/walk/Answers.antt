@@ -1,19 +1,17 @@
 use Rattle.std.proofs.Common.{◌≡◌, ◌+◌, ◌-◌, ◌<◌, ◌++◌, [], ℕ, List, IfNone, IfSome, None, Option, length, Vec, sym, ◌∙◌, ap, refl, subst, arith}
 use Rattle.std.specs.declared.alloc.Global.{Global}
 use Rattle.std.proofs.lemmas.List.{append-nil, length_push}
-use Rattle.std.proofs.lemmas.Result.{err_from_is_err_and}
 use Rattle.grain_bytecode.specs.Span.{Span}
-use Rattle.grain.specs.Meter.{HasCounted}
+use Rattle.grain.specs.Code.{coded}
 use Rattle.grain.specs.Progress.{HaltsAt, IsWalking, all_targets, visits_in}
+use Rattle.grain.specs.Typing.{IsReachedCount}
 use Rattle.grain.specs.Walk.{bytecode_of}
 use Rattle.grain.specs.declared.lists.Lists.{Lists}
 use Rattle.grain.specs.declared.state.Arrival.{Arrival}
-use Rattle.grain.specs.declared.state.State.{State}
 use Rattle.grain.specs.declared.walk.Prepared.{Prepared}
 use Rattle.grain.specs.declared.walk.Traversal.{Traversal}
 use Rattle.grain.proofs.Most.{outweighs, skips}
-use Rattle.grain.proofs.Ticks.{counted_nothing}
-use Rattle.grain.proofs.Visiting.{counted_visits, nothing_comes, taken_next, walking_begun}
+use Rattle.grain.proofs.Visiting.{nothing_comes, taken_next, walking_begun}
 use Rattle.grain.proofs.VisitCounts.{visits_within}
 use Rattle.grain.proofs.Walking.{visits_few, visits_nothing, walking_end}
 use Rattle.grain.proofs.walk.Prepared.walk.Goals as goal
@@ -23,32 +21,18 @@ loop-from-init c =
     let begun = c.begin_chunk.ensures in
     record {
       walking = walking_begun c.args.self.now c.args.chunk.now c.clear.new.self c.begin_chunk.new.self c.entry.result c.args.ordinal (length c.args.traversal.now.states) (length c.args.traversal.now.sent) c.requires.framed c.requires.holds c.entry.ensures c.requires.place begun.states begun.sent c.clear.ensures.shared c.clear.ensures.size begun.work c.requires.fits.states c.requires.fits.sent;
-      ticked = subst (HasCounted c.args.meter.now c.args.meter.now) (sym (ap visits_in begun.states ∙ visits_nothing (length c.args.traversal.now.states))) (counted_nothing c.args.meter.now);
+      counted = c.requires.none ∙ sym (ap visits_in begun.states ∙ visits_nothing (length c.args.traversal.now.states));
     }
 
 -- the arrival that is next
 pub visit_plain-requires-clause-walking : goal.visit_plain-requires-clause-walking
 visit_plain-requires-clause-walking c = taken_next c.args.self.now c.args.chunk.now c.loop-from.lists c.loop-from.traversal _ _ c.take_next.new.work.items c.in-Some.from _ refl refl c.in-Some.ensures.taken c.loop-from.invariant.walking
 
-pub returns-in_err-here-clause-metered : goal.returns-in_err-here-clause-metered
-returns-in_err-here-clause-metered c =
-    let p = err_from_is_err_and c.from_residual.result c.from_residual.ensures.1 in
-    rw (p.1, p.2) (record {
-      visits = visits_in c.visit_plain.new.traversal.states;
-      within = c.visit_plain.ensures.within;
-      counted = counted_visits _ _ _ _ _ c.loop-from.invariant.ticked c.visit_plain.ensures.ticked;
-      reached = tt;
-    })
+pub returns-in_err-here-clause-within : goal.returns-in_err-here-clause-within
+returns-in_err-here-clause-within c = omega (arith, c.visit_plain.ensures.counted, c.visit_plain.ensures.within)
 
-pub returns-in_err-next-in-Some-2-clause-metered : goal.returns-in_err-next-in-Some-2-clause-metered
-returns-in_err-next-in-Some-2-clause-metered c =
-    let p = err_from_is_err_and c.from_residual-in_err-next-in-Some-2.result c.from_residual-in_err-next-in-Some-2.ensures.1 in
-    rw (p.1, p.2) (record {
-      visits = visits_in c.visit_plain.new.traversal.states;
-      within = c.visit_plain.ensures.within;
-      counted = counted_visits _ _ _ _ _ c.loop-from.invariant.ticked c.visit_plain.ensures.ticked;
-      reached = tt;
-    })
+pub returns-in_err-next-in-Some-2-clause-within : goal.returns-in_err-next-in-Some-2-clause-within
+returns-in_err-next-in-Some-2-clause-within c = omega (arith, c.visit_plain.ensures.counted, c.visit_plain.ensures.within)
 
 pub loop-from-preserved-in_ok-next-in-Some-2 : goal.loop-from-preserved-in_ok-next-in-Some-2
 loop-from-preserved-in_ok-next-in-Some-2 c =
@@ -56,7 +40,7 @@ loop-from-preserved-in_ok-next-in-Some-2 c =
     let halts = subst (λ (o : Option Arrival). IfSome o (λ here. HaltsAt self c.args.chunk.now c.loop-from.lists c.visit_plain.new.traversal here c.visit_plain.new.deepest)) c.in-Some-2.is c.in_ok-here.ensures.halts in
     record {
       walking = c.in_ok-next-in-Some-2.ensures.ok c.visit_plain.new.deepest halts;
-      ticked = subst (λ (s : List (Option State)). HasCounted c.args.meter.now c.visit_plain.new.meter (visits_in s)) (sym c.in_ok-next-in-Some-2.ensures.states) (counted_visits _ _ _ _ _ c.loop-from.invariant.ticked c.visit_plain.ensures.ticked);
+      counted = c.visit_plain.ensures.counted ∙ sym (ap visits_in c.in_ok-next-in-Some-2.ensures.states);
     }
 
 -- what was visited before is skipped
@@ -67,7 +51,7 @@ skipped p chunk lists new o deepest is skips =
 pub loop-from-preserved : goal.loop-from-preserved
 loop-from-preserved c = record {
   walking = skipped c.args.self.now c.args.chunk.now c.loop-from.lists c.visit_plain.new.traversal c.in_ok-here.field-0 c.visit_plain.new.deepest c.in-None.is c.in_ok-here.ensures.skips;
-  ticked = counted_visits _ _ _ _ _ c.loop-from.invariant.ticked c.visit_plain.ensures.ticked;
+  counted = c.visit_plain.ensures.counted;
 }
 
 pub loop-from-smaller : goal.loop-from-smaller
@@ -77,7 +61,7 @@ loop-from-smaller c =
     let rest = c.take_next.new.work.items in
     let w = skipped c.args.self.now c.args.chunk.now c.loop-from.lists new c.in_ok-here.field-0 c.visit_plain.new.deepest c.in-None.is c.in_ok-here.ensures.skips in
     let same : length new.states ≡ length t.states = w.fits.states ∙ sym c.loop-from.invariant.walking.fits.states in
-    let more = c.visit_plain.ensures.ticked.more in
+    let more = c.visit_plain.ensures.more in
     let kept : length (new.work.items ++ []) ≡ length rest = ap (λ (xs : List Arrival). length xs) (append-nil new.work.items ∙ ap (λ (v : Vec Arrival Global). v.items) c.visit_plain.ensures.work) in
     let olds = ap (λ (xs : List Arrival). length xs) c.in-Some.ensures.taken ∙ length_push rest c.in-Some.from in
     skips (all_targets (bytecode_of c.args.self.now).switches + 2 + 1) (length t.states - visits_in t.states) (length new.states - visits_in new.states) _ _ (omega (arith, same, more)) (omega (arith, kept, olds))
@@ -108,12 +92,13 @@ returns-clause-typed c = (walking_end _ _ _ _ _ _ _ (nothing_comes _ _ _ _ _ _ _
 pub returns-clause-deepest : goal.returns-clause-deepest
 returns-clause-deepest c = (walking_end _ _ _ _ _ _ _ (nothing_comes _ _ _ _ _ _ _ c.in_default.ensures.taken c.in_default.ensures.empty c.loop-from.invariant.walking)).1
 
-pub returns-clause-metered : goal.returns-clause-metered
-returns-clause-metered c =
+pub returns-clause-within : goal.returns-clause-within
+returns-clause-within c =
     let w = nothing_comes _ _ _ _ _ _ _ c.in_default.ensures.taken c.in_default.ensures.empty c.loop-from.invariant.walking in
-    record {
-      visits = visits_in c.loop-from.traversal.states;
-      within = visits_within _ _ _ _ _ _ _ _ w c.requires.ready.starts;
-      counted = c.loop-from.invariant.ticked;
-      reached = (walking_end _ _ _ _ _ _ _ w).2;
-    }
+    let few = visits_within _ _ _ _ _ _ _ _ w c.requires.ready.starts in
+    omega (arith, few, c.loop-from.invariant.counted)
+
+pub returns-clause-reached : goal.returns-clause-reached
+returns-clause-reached c =
+    let w = nothing_comes _ _ _ _ _ _ _ c.in_default.ensures.taken c.in_default.ensures.empty c.loop-from.invariant.walking in
+    subst (IsReachedCount (coded (bytecode_of c.args.self.now)) c.args.chunk.now) (sym c.loop-from.invariant.counted) (walking_end _ _ _ _ _ _ _ w).2

@@ -1,6 +1,5 @@
-use Rattle.std.proofs.Common.{◌+◌, ◌*◌, ◌-◌, ◌++◌, length}
+use Rattle.std.proofs.Common.{◌≡◌, ◌+◌, ◌*◌, ◌-◌, ◌++◌, length}
 use Rattle.std.specs.Option.{option_to_list}
-use Rattle.grain.specs.Meter.{HasCounted}
 use Rattle.grain.specs.Progress.{IsWalking, all_targets, visits_in}
 use Rattle.grain.specs.Walk.{bytecode_of}
 use Rattle.grain.proofs.walk.Prepared.walk.Given as goal
@@ -8,7 +7,7 @@ use Rattle.grain.proofs.walk.Prepared.walk.Given as goal
 abbrev pub invariant-loop-from : goal.invariant-loop-from
 invariant-loop-from l = record {
   walking : IsWalking l.self l.chunk l.lists l.traversal (l.traversal.work.items ++ option_to_list l.next) l.deepest;
-  ticked : HasCounted l.initial.meter l.meter (visits_in l.traversal.states);
+  counted : l.visits ≡ visits_in l.traversal.states;
 }
 
 abbrev pub decreases-loop-from : goal.decreases-loop-from
