@@ -156,7 +156,7 @@ def one_try():
         p.text(556, y + 5, "1/1" if armed else "none", 13, RED if armed else FAINT, mono=armed)
     for (before, *_), (after, *_) in zip(LISTING, LISTING[1:]):
         if before != 20:
-            p.arrow([(170, middle[before] + 8), (170, middle[after] - 8)], FAINT, width=1)
+            p.arrow([(170, middle[before] + 7), (170, middle[after] - 11)], FAINT, width=1)
     p.arrow([(134, middle[20]), (100, middle[20]), (100, middle[2] + 6), (134, middle[2] + 6)], BLUE)
     p.arrow([(134, middle[2] - 5), (76, middle[2] - 5), (76, middle[25]), (134, middle[25])], BLUE)
     p.text(68, middle[12] + 4, "no item", 12, BLUE, "end")
