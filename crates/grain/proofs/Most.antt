@@ -1,5 +1,5 @@
 -- No instruction sends its state to more places than all switches have targets, and one.
-use Rattle.std.proofs.Common.{◌≡◌, ℕ, ◌+◌, ◌*◌, ◌<◌, ◌≤◌, inl, inr, Option, Some, None, List, [], ◌∷◌, ◌++◌, length, get_or, map, ap, ◌∙◌, arith}
+use Rattle.std.proofs.Common.{◌≡◌, ℕ, ◌+◌, ◌*◌, ◌-◌, ◌<◌, ◌≤◌, inl, inr, Option, Some, None, List, [], ◌∷◌, ◌++◌, length, get_or, map, ap, ◌∙◌, arith}
 use Rattle.std.specs.Option.{option_to_list}
 use Rattle.std.proofs.Math.Nat.{mul-le-mul_left}
 use Rattle.std.proofs.lemmas.List.{length-append, length-map, get_or_past}
@@ -8,9 +8,12 @@ use Rattle.std.proofs.lemmas.Bool.{cases_lt}
 use Rattle.grain_bytecode.specs.Span.{Span}
 use Rattle.grain.specs.Arrivals.{Sends, Underway, all_underway, underway}
 use Rattle.grain.specs.Flow.{Flow, Switches, targets_for}
-use Rattle.grain.specs.Progress.{all_targets}
+use Rattle.grain.specs.Progress.{all_targets, visits_in, weight}
+use Rattle.grain.specs.Walk.{bytecode_of}
 use Rattle.grain.specs.declared.state.Arrival.{Arrival}
 use Rattle.grain.specs.declared.state.State.{State}
+use Rattle.grain.specs.declared.walk.Prepared.{Prepared}
+use Rattle.grain.specs.declared.walk.Traversal.{Traversal}
 
 few_by : (switches : List (List ℕ)) (f : Flow) → length (targets_for switches f) ≤ all_targets switches + 1
 few_by switches (Switches w) = elim (cases_lt w (length switches)) [
@@ -48,3 +51,13 @@ outweighs most before later news olds l few =
 -- as many that weren't visited, with fewer coming
 pub skips : (most before later news olds : ℕ) → later ≤ before → news < olds → most * later + news < most * before + olds
 skips most before later news olds l less = let k = mul-le-mul_left most l in omega (arith, k, less)
+
+-- where more was visited, and no more was sent than one instruction sends, less may still come
+pub lighter_on : (p : Prepared) (t new : Traversal) (news olds : ℕ) → length new.states ≡ length t.states → visits_in t.states < visits_in new.states → visits_in new.states ≤ length new.states → news ≤ olds + (all_targets (bytecode_of p).switches + 2) → weight p new news < weight p t olds
+lighter_on p t new news olds long further most few =
+    outweighs (all_targets (bytecode_of p).switches + 2) (length t.states - visits_in t.states) (length new.states - visits_in new.states) news olds (omega (arith, long, further, most)) few
+
+-- and where one fewer is coming
+pub lighter_by_one : (p : Prepared) (t new : Traversal) (news olds : ℕ) → length new.states ≡ length t.states → visits_in t.states ≤ visits_in new.states → news < olds → weight p new news < weight p t olds
+lighter_by_one p t new news olds long more less =
+    skips (all_targets (bytecode_of p).switches + 2 + 1) (length t.states - visits_in t.states) (length new.states - visits_in new.states) news olds (omega (arith, long, more)) less

@@ -1,5 +1,5 @@
 -- How far the walk over a chunk has come.
-use Rattle.std.specs.Prelude.{◌≡◌, ◌↔◌, ℕ, ◌<◌, ◌^◌, ◌≤◌, ◌⊎◌, List, ◌∷◌, [], ◌++◌, Option, None, Some, get_or, length, map, max, nat_eq, option_map, slice_get, slice_set, sum_by, IfSome, OnOk, Result}
+use Rattle.std.specs.Prelude.{◌≡◌, ◌↔◌, ℕ, ◌+◌, ◌*◌, ◌-◌, ◌<◌, ◌^◌, ◌≤◌, ◌⊎◌, List, ◌∷◌, [], ◌++◌, Option, None, Some, get_or, length, map, max, nat_eq, option_map, slice_get, slice_set, sum_by, IfSome, OnOk, Result}
 use Rattle.std.specs.List.{All, Contains, IsDistinct}
 use Rattle.grain_bytecode.specs.Span.{Span}
 use Rattle.grain_bytecode.specs.Split.{StandsAt}
@@ -110,6 +110,10 @@ pub record IsWalking (p : Prepared) (chunk : Span) (lists : Lists) (t : Traversa
   pub placed : All (IsPlaced p.starts.starts chunk) arrivals
   pub known : KnowsLists lists t arrivals
   pub walking : Walking (bytecode_of p) chunk p.starts.starts lists t.states (sent_by lists t.sent) (map (coming lists) arrivals) deepest
+
+-- how much may still come where so many arrivals wait: no instruction that is visited sends its state to more places
+abbrev pub weight : Prepared → Traversal → ℕ → ℕ
+weight p t waiting = (all_targets (bytecode_of p).switches + 2 + 1) * (length t.states - visits_in t.states) + waiting
 
 -- The walk has marked an instruction as visited, and its edges are still to be followed.
 pub record HaltsAt (p : Prepared) (chunk : Span) (lists : Lists) (t : Traversal) (here : Arrival) (deepest : ℕ) : Type 0 where

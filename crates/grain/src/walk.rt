@@ -18,7 +18,7 @@ ghost use Rattle.grain.specs.FlowView.{IsFollowed, IsMetBy, IsShort, RefusesFlow
 ghost use Rattle.grain.specs.Lists.{Grows, IsShared, size};
 ghost use Rattle.grain.specs.Meter.{starts_within};
 ghost use Rattle.grain.specs.Plain.{IsFloor, IsPlainStep};
-ghost use Rattle.grain.specs.Progress.{Fits, HaltsAt, IsMeteredChunk, IsWalking, all_targets, visits_in};
+ghost use Rattle.grain.specs.Progress.{Fits, HaltsAt, IsMeteredChunk, IsWalking, all_targets, visits_in, weight};
 ghost use Rattle.grain.specs.Setting.{Setting};
 ghost use Rattle.grain.specs.Sinking.{Stays, untouched};
 ghost use Rattle.grain.specs.SinkingView.{RefusesSinking};
@@ -102,19 +102,6 @@ impl Traversal {
     }
 }
 
-/// The arrival that is next, or else the last of the list.
-#[inline(always)]
-fn take_next(next: Option<Arrival>, work: &mut Vec<Arrival>) -> Option<Arrival>
-    ensures taken { work.old.items ++ option_to_list next
-        ≡ work.new.items ++ option_to_list result }
-    ensures empty { IfNone result (work.new.items ≡ []) }
-{
-    match next {
-        Some(arrival) => Some(arrival),
-        None => work.pop(),
-    }
-}
-
 /// Whether the instruction is quiet, or else leaves what stood when the last handler was armed.
 ///
 /// # Errors
@@ -139,7 +126,8 @@ fn check_stays(
         → Instr (instruction.now.tag ∷ instruction.now.fields.now) op
         → (effect.needs, effect.takes, effect.gives) ≡ stack_effect s.chains op
         → flow effect.flow effect.target ≡ flow_of op
-        → IfErr result (λ e. IsShort (flow effect.flow effect.target) here.at (view lists.now here.state) e
+        → IfErr result (λ e.
+        IsShort (flow effect.flow effect.target) here.at (view lists.now here.state) e
         ⊎ (IsMetBy (flow effect.flow effect.target) (view lists.now here.state)
         × RefusesSinking op here.at (last_base (view lists.now here.state).bases)
         (untouched s op (view lists.now here.state)) e)) }
@@ -167,7 +155,8 @@ fn plain_next(head: Head, here: Arrival, floor: u64) -> Option<Arrival>
     requires operands_room { here.state.operands + 1 < 2 ^ 32 }
     requires ordinal_room { here.ordinal + 1 < 2 ^ 64 }
     requires small { floor ≤ 2 ^ 32 }
-    ensures { IfSome result (λ next. (code : List ℕ) (lists : Lists) (op : Op) → StandsAt code here.at op
+    ensures { IfSome result (λ next. (code : List ℕ) (lists : Lists) (op : Op)
+        → StandsAt code here.at op
         → (form op).0 ≡ head.tag → head.width ≡ width_of op → IsFloor lists here.state floor
         → IsPlainStep code lists here next) }
 {
@@ -233,7 +222,8 @@ impl Prepared<'_> {
         requires shared { IsShared lists.old }
         requires list { here.state.list ≤ size lists.old }
         requires lists_room { size lists.old + 1 < 2 ^ 32 }
-        ensures met { OnOk result (IsMetBy (flow effect.flow effect.target) (view lists.old here.state)) }
+        ensures met { OnOk result
+            (IsMetBy (flow effect.flow effect.target) (view lists.old here.state)) }
         ensures grows { OnOk result (Grows lists.old lists.new) }
         ensures followed { IfOk result (IsFollowed self.now.starts.starts chunk.now
             (bytecode_of self.now).switches (flow effect.flow effect.target)
@@ -396,6 +386,42 @@ impl Prepared<'_> {
         Err(VerifyError::FallsOffTheEnd)
     }
 
+    /// Walks from an arrival on, until nothing falls through that wasn't visited.
+    #[inline(always)]
+    fn walk_from(
+        &self,
+        chunk: &Chunk,
+        from: Arrival,
+        lists: &mut Lists,
+        traversal: &mut Traversal,
+        visits: &mut u32,
+        deepest: &mut u32,
+    ) -> Result<(), VerifyError>
+        requires ready { IsReady self.now }
+        requires framed { IsFramed (bytecode_of self.now) chunk.now }
+        requires walking { IsWalking self.now chunk.now lists.old traversal.old
+            (traversal.old.work.items ++ from ∷ []) deepest.old }
+        requires counted { visits.old ≡ visits_in traversal.old.states }
+        ensures walking { OnOk result (IsWalking self.now chunk.now lists.new traversal.new
+            traversal.new.work.items deepest.new) }
+        ensures counted { OnOk result (visits.new ≡ visits_in traversal.new.states) }
+        ensures within { visits.new ≤ starts_within self.now.starts.starts chunk.now }
+        ensures lighter { OnOk result (weight self.now traversal.new
+            (length traversal.new.work.items)
+            < weight self.now traversal.old (length traversal.old.work.items + 1)) }
+        ensures err { IfErr result (λ e. (e ≡ VerifyError.OutOfMemory)
+            ⊎ ChunkFlaw (bytecode_of self.now) chunk.now e) }
+    {
+        let mut here = from;
+        while let Some(other) = self.visit_plain(chunk, here, lists, traversal, visits, deepest)? {
+            match self.visit(chunk, other, lists, traversal)? {
+                Some(next) => here = next,
+                None => return Ok(()),
+            }
+        }
+        Ok(())
+    }
+
     /// Walks from the chunk's entry, an instruction of this ordinal, and answers the greatest operand count that it meets.
     /// It counts the instructions that it visits.
     fn walk(
@@ -416,7 +442,8 @@ impl Prepared<'_> {
         ensures typed { IfOk result (λ n. HasTyping (coded (bytecode_of self.now)) chunk.now n) }
         ensures deepest { IfOk result (λ n. IsDeepest (coded (bytecode_of self.now)) chunk.now n) }
         ensures within { visits.new ≤ starts_within self.now.starts.starts chunk.now }
-        ensures reached { OnOk result (IsReachedCount (coded (bytecode_of self.now)) chunk.now visits.new) }
+        ensures reached { OnOk result
+            (IsReachedCount (coded (bytecode_of self.now)) chunk.now visits.new) }
         ensures err { IfErr result (λ e. (e ≡ VerifyError.OutOfMemory)
             ⊎ ChunkFlaw (bytecode_of self.now) chunk.now e) }
         ensures fits { OnOk result (Fits self.now traversal.new) }
@@ -425,18 +452,18 @@ impl Prepared<'_> {
         traversal.begin_chunk();
         lists.clear();
         let mut deepest = 0;
-        let mut next = Some(Arrival {
-            at: chunk.entry(),
+        let mut from = Arrival {
             ordinal,
+            at: chunk.entry(),
             state: State::NOTHING,
-        });
-        while let Some(from) = take_next(next, &mut traversal.work) {
-            next = match self.visit_plain(chunk, from, lists, traversal, visits, &mut deepest)? {
-                Some(here) => self.visit(chunk, here, lists, traversal)?,
-                None => None,
-            };
+        };
+        'arrivals: loop {
+            self.walk_from(chunk, from, lists, traversal, visits, &mut deepest)?;
+            match traversal.work.pop() {
+                Some(arrival) => from = arrival,
+                None => return Ok(deepest),
+            }
         }
-        Ok(deepest)
     }
 
     /// How many instructions stand before the chunk's entry, where the chunk lies in the code and begins and ends where

@@ -1,0 +1,13 @@
+use Rattle.std.proofs.Common.{◌≡◌, ◌+◌, ◌-◌, ◌≤◌, ◌++◌, ◌∷◌, [], length}
+use Rattle.grain.specs.Progress.{IsWalking, visits_in, weight}
+use Rattle.grain.proofs.walk.Prepared.walk_from.Given as goal
+
+abbrev pub invariant-loop-other : goal.invariant-loop-other
+invariant-loop-other l = record {
+  walking : IsWalking l.self l.chunk l.lists l.traversal (l.traversal.work.items ++ l.here ∷ []) l.deepest;
+  counted : l.visits ≡ visits_in l.traversal.states;
+  lighter : weight l.self l.traversal (length l.traversal.work.items + 1) ≤ weight l.self l.initial.traversal (length l.initial.traversal.work.items + 1);
+}
+
+abbrev pub decreases-loop-other : goal.decreases-loop-other
+decreases-loop-other l = length l.traversal.states - visits_in l.traversal.states
