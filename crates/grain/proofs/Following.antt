@@ -1,17 +1,18 @@
 -- How the flow of an instruction is followed, or refused.
-use Rattle.std.proofs.Common.{◌≡◌, ◌⊎◌, inl, inr, ℕ, ◌≤◌, cond, List, [], ◌∷◌, ◌++◌, Option, Some, None, refl, sym, subst}
+use Rattle.std.proofs.Common.{◌≡◌, ◌⊎◌, inl, inr, ℕ, ◌≤◌, List, [], ◌∷◌, ◌++◌, map, Option, refl, sym, ap, subst, ◌∙◌}
 use Rattle.std.specs.List.{All}
 use Rattle.std.proofs.lemmas.List.{append-nil}
 use Rattle.std.proofs.lemmas.List.Elements.{All-cons, All-nil}
 use Rattle.grain_bytecode.specs.Span.{Span}
-use Rattle.grain.specs.Arrivals.{IsStartIn, RefusesSwitch, RefusesTargetOf, Sends, Underway, all_underway, view}
+use Rattle.grain.specs.Arrivals.{IsPlaced, IsStartIn, RefusesSwitch, RefusesTargetOf, Sends, all_underway, underway, view}
 use Rattle.grain.specs.Counts.{Counts}
-use Rattle.grain.specs.Flow.{bases_for, falls_for, targets_for}
-use Rattle.grain.specs.FlowView.{IsFollowed, IsMetBy, RefusesFlow, fallen, flow, jumped}
+use Rattle.grain.specs.Flow.{bases_for, targets_for}
+use Rattle.grain.specs.FlowView.{IsFollowed, IsMetBy, RefusesFlow, falls_to, flow, jumped, next_to}
 use Rattle.grain.specs.Lists.{list_of, size}
 use Rattle.grain.specs.declared.flow.Flow.{Flow}
 use Rattle.grain.specs.declared.error.VerifyError.{VerifyError}
 use Rattle.grain.specs.declared.lists.Lists.{Lists}
+use Rattle.grain.specs.declared.state.Arrival.{Arrival}
 use Rattle.grain.specs.declared.state.State.{State}
 
 -- a flow that finds what it needs is refused at its targets
@@ -19,29 +20,36 @@ pub refused_there : (starts : List ℕ) (chunk : Span) (switches : List (List �
 refused_there starts chunk switches at c after sent way is target e same met refused =
     subst (λ (w : Flow). RefusesFlow starts chunk switches at c after sent (flow w target) e) (sym same) (inr (met, refused))
 
+-- an arrival that falls through, with the state that falls
+pub goes_on : (work : List Arrival) (here next : Arrival) (width : ℕ) (s fallen : State) → next ≡ next_to here width s → s ≡ fallen → work ++ next ∷ [] ≡ work ++ next_to here width fallen ∷ []
+goes_on work here next width s fallen is same = ap (λ (a : Arrival). work ++ a ∷ []) (is ∙ ap (next_to here width) same)
+
 -- a flow is followed, where the armed handlers have this list then
-module _ (starts : List ℕ) (chunk : Span) (switches : List (List ℕ)) (left : ℕ) (s : State) (old new : Lists) (sent : List (Option State)) (work : List Underway) (way is : Flow) (target : ℕ) (same : way ≡ is) (list : ℕ) (there : list ≤ size new) (bases : list_of new list ≡ bases_for (flow is target) (view old s)) where
-  pub followed : (new_sent : List (Option State)) (new_work : List Underway) (next : Option State) → Sends starts chunk switches (flow is target) (jumped (flow is target) left list s) sent new_sent work new_work → next ≡ cond (falls_for (flow is target)) (Some (fallen (flow is target) left list s)) None → IsFollowed starts chunk switches (flow way target) left s old new sent new_sent work new_work next
-  followed new_sent new_work next sends falls =
-      subst (λ (w : Flow). IsFollowed starts chunk switches (flow w target) left s old new sent new_sent work new_work next) (sym same)
-      (record { list = list; there = there; bases = bases; sends = sends; falls = falls })
+module _ (starts : List ℕ) (chunk : Span) (switches : List (List ℕ)) (left : ℕ) (here : Arrival) (width : ℕ) (old new : Lists) (sent : List (Option State)) (work : List Arrival) (way is : Flow) (target : ℕ) (same : way ≡ is) (list : ℕ) (there : list ≤ size new) (bases : list_of new list ≡ bases_for (flow is target) (view old here.state)) where
+  abbrev OnWay : List Arrival → List Arrival → Type 0
+  OnWay pushed on_way = on_way ≡ pushed ++ falls_to (flow is target) left list here width
+
+  pub followed : (new_sent : List (Option State)) (pushed on_way : List Arrival) → Sends starts chunk switches (flow is target) (jumped (flow is target) left list here.state) sent new_sent (map underway work) (map underway pushed) → (All (IsPlaced starts chunk) work → All (IsPlaced starts chunk) pushed) → OnWay pushed on_way → IsFollowed starts chunk switches (flow way target) left here width old new sent new_sent work on_way
+  followed new_sent pushed on_way sends placed all =
+      subst (λ (w : Flow). IsFollowed starts chunk switches (flow w target) left here width old new sent new_sent work on_way) (sym same)
+      (record { list = list; there = there; bases = bases; pushed = pushed; sends = sends; placed = placed; all = all })
 
   -- it has no target
-  pub followed_on : (next : Option State) → targets_for switches (flow is target) ≡ [] → next ≡ cond (falls_for (flow is target)) (Some (fallen (flow is target) left list s)) None → IsFollowed starts chunk switches (flow way target) left s old new sent sent work work next
-  followed_on next none falls =
-      followed sent work next (inl (record {
+  pub followed_on : (on_way : List Arrival) → targets_for switches (flow is target) ≡ [] → OnWay work on_way → IsFollowed starts chunk switches (flow way target) left here width old new sent sent work on_way
+  followed_on on_way none all =
+      followed sent work on_way (inl (record {
         starts_in = subst (All (IsStartIn starts chunk)) (sym none) (All-nil (IsStartIn starts chunk));
-        added = subst (λ (ts : List ℕ). work ≡ work ++ all_underway (jumped (flow is target) left list s) ts) (sym none) (sym (append-nil work));
+        added = subst (λ (ts : List ℕ). map underway work ≡ map underway work ++ all_underway (jumped (flow is target) left list here.state) ts) (sym none) (sym (append-nil (map underway work)));
         noted = inl refl;
-      })) falls
+      })) (λ h. h) all
 
   -- it has one, and this state was pushed to it
-  pub followed_to : (new_work : List Underway) (next : Option State) (pushed : State) → targets_for switches (flow is target) ≡ target ∷ [] → pushed ≡ jumped (flow is target) left list s → IsStartIn starts chunk target → new_work ≡ work ++ all_underway pushed (target ∷ []) → next ≡ cond (falls_for (flow is target)) (Some (fallen (flow is target) left list s)) None → IsFollowed starts chunk switches (flow way target) left s old new sent sent work new_work next
-  followed_to new_work next pushed one after inside added falls =
-      followed sent new_work next (inl (record {
+  pub followed_to : (pushed on_way : List Arrival) (s : State) → targets_for switches (flow is target) ≡ target ∷ [] → s ≡ jumped (flow is target) left list here.state → IsStartIn starts chunk target → map underway pushed ≡ map underway work ++ all_underway s (target ∷ []) → (All (IsPlaced starts chunk) work → All (IsPlaced starts chunk) pushed) → OnWay pushed on_way → IsFollowed starts chunk switches (flow way target) left here width old new sent sent work on_way
+  followed_to pushed on_way s one after inside added placed all =
+      followed sent pushed on_way (inl (record {
         starts_in = subst (All (IsStartIn starts chunk)) (sym one) (All-cons (IsStartIn starts chunk) target [] inside (All-nil (IsStartIn starts chunk)));
         added =
-            subst (λ (ts : List ℕ). new_work ≡ work ++ all_underway (jumped (flow is target) left list s) ts) (sym one)
-            (subst (λ (a : State). new_work ≡ work ++ all_underway a (target ∷ [])) after added);
+            subst (λ (ts : List ℕ). map underway pushed ≡ map underway work ++ all_underway (jumped (flow is target) left list here.state) ts) (sym one)
+            (subst (λ (a : State). map underway pushed ≡ map underway work ++ all_underway a (target ∷ [])) after added);
         noted = inl refl;
-      })) falls
+      })) placed all

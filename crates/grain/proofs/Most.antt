@@ -1,15 +1,16 @@
 -- No instruction sends its state to more places than all switches have targets, and one.
-use Rattle.std.proofs.Common.{◌≡◌, ℕ, ◌+◌, ◌*◌, ◌-◌, ◌<◌, ◌≤◌, inl, inr, Option, Some, None, List, [], ◌∷◌, ◌++◌, length, get_or, map, ap, ◌∙◌, arith}
-use Rattle.std.specs.Option.{option_to_list}
+use Rattle.std.proofs.Common.{◌≡◌, ℕ, ◌+◌, ◌*◌, ◌-◌, ◌<◌, ◌≤◌, inl, inr, Bool, true, false, cond, Option, List, [], ◌∷◌, ◌++◌, length, get_or, map, ap, ◌∙◌, arith}
 use Rattle.std.proofs.Math.Nat.{mul-le-mul_left}
 use Rattle.std.proofs.lemmas.List.{length-append, length-map, get_or_past}
 use Rattle.std.proofs.lemmas.List.Sums.{get_or-le-sum_by}
 use Rattle.std.proofs.lemmas.Bool.{cases_lt}
 use Rattle.grain_bytecode.specs.Span.{Span}
 use Rattle.grain.specs.Arrivals.{Sends, Underway, all_underway, underway}
-use Rattle.grain.specs.Flow.{Flow, Switches, targets_for}
+use Rattle.grain.specs.Flow.{Flow, Switches, falls_for, targets_for}
+use Rattle.grain.specs.FlowView.{IsFollowed, fallen, jumped, next_to}
 use Rattle.grain.specs.Progress.{all_targets, visits_in, weight}
 use Rattle.grain.specs.Walk.{bytecode_of}
+use Rattle.grain.specs.declared.lists.Lists.{Lists}
 use Rattle.grain.specs.declared.state.Arrival.{Arrival}
 use Rattle.grain.specs.declared.state.State.{State}
 use Rattle.grain.specs.declared.walk.Prepared.{Prepared}
@@ -23,7 +24,7 @@ few_by switches (Switches w) = elim (cases_lt w (length switches)) [
 few_by switches f = omega arith
 
 -- what is sent makes the worklist longer by no more
-pub sends_few : (starts : List ℕ) (chunk : Span) (switches : List (List ℕ)) (f : Flow) (after : State) (sent new_sent : List (Option State)) (old new : List Arrival) → Sends starts chunk switches f after sent new_sent (map underway old) (map underway new) → length new ≤ length old + (all_targets switches + 1)
+sends_few : (starts : List ℕ) (chunk : Span) (switches : List (List ℕ)) (f : Flow) (after : State) (sent new_sent : List (Option State)) (old new : List Arrival) → Sends starts chunk switches f after sent new_sent (map underway old) (map underway new) → length new ≤ length old + (all_targets switches + 1)
 sends_few starts chunk switches f after sent new_sent old new (inl all) =
     let e : length (map underway new) ≡ length (map underway old) + length (all_underway after (targets_for switches f)) = ap (λ (xs : List Underway). length xs) all.added ∙ length-append (map underway old) (all_underway after (targets_for switches f)) in
     let a = length-map new underway in
@@ -38,9 +39,16 @@ sends_few starts chunk switches f after sent new_sent old new (inr none) =
     omega (arith, e, a, b)
 
 -- and what falls through by one
-pub next_few : (work : List Arrival) (next : Option Arrival) → length (work ++ option_to_list next) ≤ length work + 1
-next_few work None = let e = length-append work [] in omega (arith, e)
-next_few work (Some a) = let e = length-append work (a ∷ []) in omega (arith, e)
+falls_few : (work : List Arrival) (b : Bool) (a : Arrival) → length (work ++ cond b (a ∷ []) []) ≤ length work + 1
+falls_few work true a = let e = length-append work (a ∷ []) in omega (arith, e)
+falls_few work false a = let e = length-append work [] in omega (arith, e)
+
+pub followed_few : (starts : List ℕ) (chunk : Span) (switches : List (List ℕ)) (f : Flow) (left : ℕ) (here : Arrival) (width : ℕ) (old new : Lists) (sent new_sent : List (Option State)) (work on_way : List Arrival) → IsFollowed starts chunk switches f left here width old new sent new_sent work on_way → length on_way ≤ length work + (all_targets switches + 2)
+followed_few starts chunk switches f left here width old new sent new_sent work on_way followed =
+    let sent_few = sends_few starts chunk switches f (jumped f left followed.list here.state) sent new_sent work followed.pushed followed.sends in
+    let fall_few = falls_few followed.pushed (falls_for f) (next_to here width (fallen f left followed.list here.state)) in
+    let e = ap (λ (xs : List Arrival). length xs) followed.all in
+    omega (arith, sent_few, fall_few, e)
 
 -- fewer that weren't visited outweigh what is sent
 pub outweighs : (most before later news olds : ℕ) → later < before → news ≤ olds + most → (most + 1) * later + news < (most + 1) * before + olds

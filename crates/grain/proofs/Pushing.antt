@@ -1,15 +1,21 @@
 -- Pushing one state to many targets.
-use Rattle.std.proofs.Common.{◌≡◌, ℕ, ◌+◌, ◌<◌, inl, inr, List, [], ◌∷◌, ◌++◌, length, get_or, drop, drop-cons, add-one, sym, ap, subst, ◌∙◌, append_assoc}
+use Rattle.std.proofs.Common.{◌≡◌, ℕ, ◌+◌, ◌<◌, inl, inr, List, [], ◌∷◌, ◌++◌, length, get_or, map, drop, drop-cons, add-one, sym, ap, subst, ◌∙◌, append_assoc}
 use Rattle.std.specs.List.{All, Contains}
+use Rattle.std.proofs.lemmas.List.{map_push}
 use Rattle.std.proofs.lemmas.List.Elements.{All-cons, All-push, All-append, Contains-append_left, Contains-append_right}
 use Rattle.grain_bytecode.specs.Span.{Span}
 use Rattle.grain_bytecode.specs.declared.switch.SwitchRange.{SwitchRange}
 use Rattle.grain.specs.Arrivals.{RefusesTargetOf, all_underway}
 use Rattle.grain.specs.Arrivals.{range_targets}
-use Rattle.grain.specs.Arrivals.{Underway}
+use Rattle.grain.specs.Arrivals.{Underway, underway}
 use Rattle.grain.specs.declared.error.VerifyError.{VerifyError}
+use Rattle.grain.specs.declared.state.Arrival.{Arrival}
 use Rattle.grain.specs.declared.state.State.{State}
 use Rattle.grain.proofs.Splits.{in_tail}
+
+-- an arrival pushed
+pub pushed_one : (work : List Arrival) (a : Arrival) (t : ℕ) (s : State) → underway a ≡ record { at = t; state = s } → map underway (work ++ a ∷ []) ≡ map underway work ++ all_underway s (t ∷ [])
+pushed_one work a t s e = map_push underway work a ∙ ap (λ (u : Underway). map underway work ++ u ∷ []) e
 
 -- one target pushed, of those that are left
 pub pushed_next : (s : State) (first work new : List Underway) (left ts : List ℕ) (x : ℕ) → left ≡ x ∷ ts → new ≡ work ++ all_underway s (x ∷ []) → work ++ all_underway s left ≡ first → new ++ all_underway s ts ≡ first

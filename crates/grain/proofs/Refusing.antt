@@ -1,5 +1,5 @@
 -- What the walk's parts refuse is a flaw.
-use Rattle.std.proofs.Common.{◌≡◌, ℕ, inr, List, IfErr, OnOk, Ok, Err, Result, sym, subst}
+use Rattle.std.proofs.Common.{◌≡◌, ℕ, inr, List, IfErr, IfOk, OnOk, Ok, Err, Result, sym, subst}
 use Rattle.std.specs.List.{Contains}
 use Rattle.grain_bytecode.specs.Span.{Span}
 use Rattle.grain_bytecode.specs.Split.{Split}
@@ -23,6 +23,11 @@ use Rattle.grain.specs.declared.error.VerifyError.TheVariants as errors
 pub err_so : {A : Type 0} {P Q : VerifyError → Type 0} (r : Result A VerifyError) → ((e : VerifyError) → P e → Q e) → IfErr r P → IfErr r Q
 err_so (Ok x) f h = tt
 err_so (Err e) f h = f e h
+
+-- and what follows from an answer, and from success
+pub all_ok : {A : Type 0} {P Q R S : Type 0} {T U : A → Type 0} (r : Result A VerifyError) → OnOk r P → OnOk r Q → OnOk r R → OnOk r S → ((x : A) → P → Q → R → S → T x → U x) → IfOk r T → IfOk r U
+all_ok (Ok x) p q r s f t = f x p q r s t
+all_ok (Err e) p q r s f t = tt
 
 -- and what follows from success
 pub ok_so : {A : Type 0} {P Q : Type 0} (r : Result A VerifyError) → (P → Q) → OnOk r P → OnOk r Q

@@ -1,7 +1,6 @@
 -- A turn of the walk: an instruction is visited.
-use Rattle.std.proofs.Common.{◌≡◌, ◌⊎◌, inl, inr, ℕ, ◌+◌, ◌-◌, ◌<◌, ◌≤◌, max, cond, Bool, true, false, List, [], ◌∷◌, ◌++◌, length, get_or, set, slice_get, map, Option, Some, None, option_map, refl, sym, ap, subst, ◌∙◌, append_assoc, add-one, arith}
+use Rattle.std.proofs.Common.{◌≡◌, ◌⊎◌, inl, inr, ℕ, ◌+◌, ◌-◌, ◌<◌, ◌≤◌, max, cond, Bool, true, false, List, [], ◌∷◌, ◌++◌, length, get_or, set, slice_get, map, Option, Some, None, refl, sym, ap, subst, ◌∙◌, append_assoc, add-one, arith}
 use Rattle.std.specs.List.{All, Contains}
-use Rattle.std.specs.Option.{option_to_list}
 use Rattle.std.proofs.lemmas.Bool.{cases_eq, cases_lt}
 use Rattle.std.proofs.lemmas.List.{append-nil, get_or-set_same, get_or-set_other, get_or_past, length-set, map-append, map_push}
 use Rattle.std.proofs.lemmas.List.Elements.{All-contains, All-contains_itself, All-push, All-weaker, Contains-append_cases, Contains-append_left, Contains-append_right, Contains-push}
@@ -16,7 +15,7 @@ use Rattle.grain.specs.Code.{Bytecode, coded}
 use Rattle.grain.specs.Counts.{Counts}
 use Rattle.grain.specs.Capabilities.{Allows, caps_of}
 use Rattle.grain.specs.Effects.{after_fall, after_jump, operands_after, stack_effect, targets}
-use Rattle.grain.specs.FlowView.{IsMetBy, fallen, jumped}
+use Rattle.grain.specs.FlowView.{IsFollowed, IsMetBy, fallen, falls_to, jumped, next_to}
 use Rattle.grain.specs.Flow.{Flow, Switches, bases_for, fall_for, falls_for, flow_of, jump_for, targets_for}
 use Rattle.grain.specs.Flaw.{ChunkFlaw}
 use Rattle.grain.specs.Lists.{Grows, list_of, size}
@@ -109,14 +108,14 @@ module _ (p : Prepared) (chunk : Span) (t : Traversal) (old lists : Lists) (here
   halts_sent w c e x k = let s = halts_walking.progress.sent_there w c e x k in (s.inside, s.reached)
 
 -- its edges are followed
-module _ (p : Prepared) (chunk : Span) (t new : Traversal) (here : Arrival) (deepest : ℕ) (op : Op) (next : Option Arrival) (ready : IsReady p) (framed : IsFramed (bytecode_of p) chunk) (old lists : Lists) (grows : Grows old lists) (h : HaltsAt p chunk old t here deepest) (passes : Passes (coded (bytecode_of p)) chunk here.at (view lists here.state) op) (falls : map (coming lists) (option_to_list next) ≡ falling (bytecode_of p) op here.at (view lists here.state)) (states : new.states ≡ t.states) (long : length new.sent ≡ length t.sent) (placed : All (IsPlaced p.starts.starts chunk) (new.work.items ++ option_to_list next)) (sent_named : NameLists lists new.sent) (named : All (λ (a : Arrival). NamesList lists a.state) (new.work.items ++ option_to_list next)) where
+module _ (p : Prepared) (chunk : Span) (t new : Traversal) (here : Arrival) (deepest : ℕ) (op : Op) (pushed falls_on : List Arrival) (ready : IsReady p) (framed : IsFramed (bytecode_of p) chunk) (old lists : Lists) (grows : Grows old lists) (h : HaltsAt p chunk old t here deepest) (passes : Passes (coded (bytecode_of p)) chunk here.at (view lists here.state) op) (falls : map (coming lists) falls_on ≡ falling (bytecode_of p) op here.at (view lists here.state)) (states : new.states ≡ t.states) (long : length new.sent ≡ length t.sent) (placed : All (IsPlaced p.starts.starts chunk) (pushed ++ falls_on)) (sent_named : NameLists lists new.sent) (named : All (λ (a : Arrival). NamesList lists a.state) (pushed ++ falls_on)) where
   marked : new.states ≡ set h.before here.ordinal (Some here.state)
   marked = states ∙ h.marked
 
   inside_states : here.ordinal < length h.before
   inside_states = let place = halts_place p chunk t old lists here deepest grows h in let l = slice_get_within p.starts.starts here.ordinal here.at place in let f = h.is.fits.states in omega arith
 
-  knows : KnowsLists lists new (new.work.items ++ option_to_list next)
+  knows : KnowsLists lists new (pushed ++ falls_on)
   knows = record {
     shared = grows.shared;
     states = subst (NameLists lists) (sym marked) (named_set lists h.before here.ordinal here.state (named_more old lists grows here.state (halts_named p chunk t old lists here deepest grows h)) (all_named_more old lists grows h.before h.is.known.states));
@@ -130,35 +129,35 @@ module _ (p : Prepared) (chunk : Span) (t new : Traversal) (here : Arrival) (dee
         );
   }
 
-  followed : (come : List Coming) → Comes (bytecode_of p) (sent_by lists t.sent) (sent_by lists new.sent) op here.at (view lists here.state) come → ((x : ℕ) → Contains (targets (bytecode_of p).switches op) x → IsInChunk (coded (bytecode_of p)) chunk x) → map (coming lists) (new.work.items ++ option_to_list next) ≡ map (coming lists) t.work.items ++ come → IsWalking p chunk lists new (new.work.items ++ option_to_list next) deepest
+  followed : (come : List Coming) → Comes (bytecode_of p) (sent_by lists t.sent) (sent_by lists new.sent) op here.at (view lists here.state) come → ((x : ℕ) → Contains (targets (bytecode_of p).switches op) x → IsInChunk (coded (bytecode_of p)) chunk x) → map (coming lists) (pushed ++ falls_on) ≡ map (coming lists) t.work.items ++ come → IsWalking p chunk lists new (pushed ++ falls_on) deepest
   followed come comes inside added =
       let fits = h.is.fits in
       let walk : List (Option State) → List Coming → ℕ → Type 0 = λ s xs n. Walking (bytecode_of p) chunk p.starts.starts lists s (sent_by lists new.sent) xs n in
       let before = set h.before here.ordinal (Some here.state) in
       let w = walking_visit (bytecode_of p) chunk p.starts.starts lists h.before (sent_by lists t.sent) (sent_by lists new.sent) (map (coming lists) t.work.items) come here h.earlier op ready.starts fits.states framed (halts_place p chunk t old lists here deepest grows h) h.fresh passes inside comes (halts_walking p chunk t old lists here deepest grows h) in
-      let coming_next = map (coming lists) (new.work.items ++ option_to_list next) in
+      let all = map (coming lists) (pushed ++ falls_on) in
       record {
         fits = record { states = ap (λ (s : List (Option State)). length s) marked ∙ length-set h.before here.ordinal (Some here.state) ∙ fits.states; sent = long ∙ fits.sent };
         placed = placed;
         known = knows;
         walking =
-            subst (λ (s : List (Option State)). walk s coming_next deepest) (sym marked)
-            (subst (walk before coming_next) (sym h.deeper)
+            subst (λ (s : List (Option State)). walk s all deepest) (sym marked)
+            (subst (walk before all) (sym h.deeper)
             (subst (λ (xs : List Coming). walk before xs (max h.earlier here.state.operands)) (sym added) w));
       }
 
-  pub turned : (after : State) → view lists after ≡ after_jump (bytecode_of p).setting op (view lists here.state) → Sends p.starts.starts chunk (bytecode_of p).switches (flow_of op) after t.sent new.sent (map underway t.work.items) (map underway new.work.items) → IsWalking p chunk lists new (new.work.items ++ option_to_list next) deepest
+  pub turned : (after : State) → view lists after ≡ after_jump (bytecode_of p).setting op (view lists here.state) → Sends p.starts.starts chunk (bytecode_of p).switches (flow_of op) after t.sent new.sent (map underway t.work.items) (map underway pushed) → IsWalking p chunk lists new (pushed ++ falls_on) deepest
   turned after is (inl all) =
       let code = bytecode_of p in
       let c = view lists here.state in
       let ts = targets code.switches op in
       let Noted : Counts → Type 0 = λ d. (sent_by lists new.sent ≡ sent_by lists t.sent) ⊎ ((w : ℕ) × (flow_of op ≡ Switches w) × (sent_by lists new.sent ≡ set (sent_by lists t.sent) w (Some d))) in
-      let added = come_all lists t.work.items new.work.items after ts all.added ∙ ap (λ (d : Counts). map (coming lists) t.work.items ++ all_to d ts) is in
+      let added = come_all lists t.work.items pushed after ts all.added ∙ ap (λ (d : Counts). map (coming lists) t.work.items ++ all_to d ts) is in
       followed (arrivals code op here.at c)
       (comes_all code op here.at c (sent_by lists t.sent) (sent_by lists new.sent) (subst Noted is (noted_as lists (flow_of op) t.sent new.sent after all.noted)))
       (λ x k. start_in code p.starts.starts chunk x ready.starts (All-contains (IsStartIn p.starts.starts chunk) ts x all.starts_in k))
-      (map-append (coming lists) new.work.items (option_to_list next)
-      ∙ ap (λ (xs : List Coming). xs ++ map (coming lists) (option_to_list next)) added
+      (map-append (coming lists) pushed falls_on
+      ∙ ap (λ (xs : List Coming). xs ++ map (coming lists) falls_on) added
       ∙ ap (λ (xs : List Coming). (map (coming lists) t.work.items ++ all_to (after_jump code.setting op c) ts) ++ xs) falls
       ∙ append_assoc (map (coming lists) t.work.items) (all_to (after_jump code.setting op c) ts) (falling code op here.at c))
   turned after is (inr none) =
@@ -168,51 +167,41 @@ module _ (p : Prepared) (chunk : Span) (t new : Traversal) (here : Arrival) (dee
       followed (falling code op here.at c)
       (comes_none code op here.at c (sent_by lists t.sent) (sent_by lists new.sent) none.switch (ap (sent_by lists) none.kept) none.is before)
       (λ x k. (halts_sent p chunk t old lists here deepest grows h none.switch (after_jump code.setting op c) before x (subst (λ (f : Flow). Contains (targets_for code.switches f) x) none.is k)).0)
-      (map-append (coming lists) new.work.items (option_to_list next)
-      ∙ ap (λ (xs : List Coming). xs ++ map (coming lists) (option_to_list next)) (come_none lists t.work.items new.work.items none.added)
+      (map-append (coming lists) pushed falls_on
+      ∙ ap (λ (xs : List Coming). xs ++ map (coming lists) falls_on) (come_none lists t.work.items pushed none.added)
       ∙ ap (λ (xs : List Coming). map (coming lists) t.work.items ++ xs) falls)
 
 -- what falls through is placed
-pub falls_placed : (p : Prepared) (chunk : Span) (here : Arrival) (op : Op) (s : State) → IsReady p → IsFramed (bytecode_of p) chunk → slice_get p.starts.starts here.ordinal ≡ Some here.at → StandsAt p.code.now here.at op → IsPlaced p.starts.starts chunk (record { at = here.at + width_of op; ordinal = here.ordinal + 1; state = s })
+pub falls_placed : (p : Prepared) (chunk : Span) (here : Arrival) (op : Op) (s : State) → IsReady p → IsFramed (bytecode_of p) chunk → slice_get p.starts.starts here.ordinal ≡ Some here.at → StandsAt p.code.now here.at op → IsPlaced p.starts.starts chunk (next_to here (width_of op) s)
 falls_placed p chunk here op s ready framed place stands l = elim (next_ordinal p.code.now p.starts.starts ready.starts here.ordinal here.at op place stands) [
   | inl e ↦ subst (λ k. slice_get p.starts.starts k ≡ Some (here.at + width_of op)) (sym (add-one here.ordinal)) e
   | inr end ↦ absurd (let f = framed.inside in omega arith)
 ]
 
--- a state that falls through to an address, as an arrival
-abbrev pub next_of : ℕ → ℕ → Option State → Option Arrival
-next_of at ordinal after = option_map (λ (s : State). record { at = at; ordinal = ordinal; state = s }) after
+-- what falls through, if it does, as counts
+coming_next : (lists : Lists) (b : Bool) (here : Arrival) (s : State) (width next : ℕ) → here.at + width ≡ next → map (coming lists) (cond b (next_to here width s ∷ []) []) ≡ cond b (record { at = next; counts = view lists s } ∷ []) []
+coming_next lists true here s width next e = let P : ℕ → List Coming = λ a. record { at = a; counts = view lists s } ∷ [] in ap P e
+coming_next lists false here s width next e = refl
 
--- as counts
-coming_next : (lists : Lists) (b : Bool) (s : State) (after : Option State) (at next ordinal : ℕ) → at ≡ next → after ≡ cond b (Some s) None → map (coming lists) (option_to_list (next_of at ordinal after)) ≡ cond b (record { at = next; counts = view lists s } ∷ []) []
-coming_next lists true s after at next ordinal e h =
-    ap (λ (o : Option State). map (coming lists) (option_to_list (next_of at ordinal o))) h
-    ∙ (let P : ℕ → List Coming = λ a. record { at = a; counts = view lists s } ∷ [] in ap P e)
-coming_next lists false s after at next ordinal e h = ap (λ (o : Option State). map (coming lists) (option_to_list (next_of at ordinal o))) h
+-- one arrival more, if it comes, is as all others are
+one_more : (P : Arrival → Type 0) (b : Bool) (xs : List Arrival) (a : Arrival) → P a → All P xs → All P (xs ++ cond b (a ∷ []) [])
+one_more P true xs a p all = All-push P xs a all p
+one_more P false xs a p all = subst (All P) (sym (append-nil xs)) all
 
--- An instruction that finds what it asks and needs, and stays above the base of the last handler, is visited, where its
--- state was sent to its targets and what falls through comes next.
-module _ (p : Prepared) (chunk : Span) (t new : Traversal) (here : Arrival) (deepest : ℕ) (op : Op) (width : ℕ) (after : Option State) (ready : IsReady p) (framed : IsFramed (bytecode_of p) chunk) (old lists : Lists) (grows : Grows old lists) (h : HaltsAt p chunk old t here deepest) (stands : StandsAt p.code.now here.at op) (wide : width ≡ width_of op) where
-  next_placed : (o : Option State) → (xs : List Arrival) → All (IsPlaced p.starts.starts chunk) xs → All (IsPlaced p.starts.starts chunk) (xs ++ option_to_list (next_of (here.at + width) (here.ordinal + 1) o))
-  next_placed None xs all = subst (All (IsPlaced p.starts.starts chunk)) (sym (append-nil xs)) all
-  next_placed (Some s) xs all =
-      All-push (IsPlaced p.starts.starts chunk) xs (record { at = here.at + width; ordinal = here.ordinal + 1; state = s }) all
-      (subst (λ n. IsPlaced p.starts.starts chunk (record { at = here.at + n; ordinal = here.ordinal + 1; state = s })) (sym wide) (falls_placed p chunk here op s ready framed (halts_place p chunk t old lists here deepest grows h) stands))
-
-  next_named : (b : Bool) (s : State) (o : Option State) → o ≡ cond b (Some s) None → NamesList lists s → (xs : List Arrival) → All (λ (a : Arrival). NamesList lists a.state) xs → All (λ (a : Arrival). NamesList lists a.state) (xs ++ option_to_list (next_of (here.at + width) (here.ordinal + 1) o))
-  next_named true s o e named xs all =
-      let P : Arrival → Type 0 = λ a. NamesList lists a.state in
-      subst (λ (q : Option State). All P (xs ++ option_to_list (next_of (here.at + width) (here.ordinal + 1) q))) (sym e) (All-push P xs (record { at = here.at + width; ordinal = here.ordinal + 1; state = s }) all named)
-  next_named false s o e named xs all =
-      let P : Arrival → Type 0 = λ a. NamesList lists a.state in
-      subst (λ (q : Option State). All P (xs ++ option_to_list (next_of (here.at + width) (here.ordinal + 1) q))) (sym e) (subst (All P) (sym (append-nil xs)) all)
+-- An instruction that finds what it asks and needs, and stays above the base of the last handler, is visited, where its flow
+-- is followed.
+module _ (p : Prepared) (chunk : Span) (t new : Traversal) (here : Arrival) (deepest : ℕ) (op : Op) (width : ℕ) (ready : IsReady p) (framed : IsFramed (bytecode_of p) chunk) (old lists : Lists) (grows : Grows old lists) (h : HaltsAt p chunk old t here deepest) (stands : StandsAt p.code.now here.at op) (wide : width ≡ width_of op) where
+  next_placed : (s : State) → IsPlaced p.starts.starts chunk (next_to here width s)
+  next_placed s =
+      subst (λ n. IsPlaced p.starts.starts chunk (next_to here n s)) (sym wide)
+      (falls_placed p chunk here op s ready framed (halts_place p chunk t old lists here deepest grows h) stands)
 
   -- the arrivals that were there before
   earlier : (P : Arrival → Type 0) → All P (t.work.items ++ here ∷ []) → All P t.work.items
   earlier P all = let work = t.work.items in All-weaker (Contains work) P (λ a k. All-contains P (work ++ here ∷ []) a all (Contains-append_left work (here ∷ []) a k)) work (All-contains_itself work)
 
-  visited_here : (caps needs takes gives list : ℕ) (f : Flow) → caps ≡ caps_of (bytecode_of p).setting op → (needs, takes, gives) ≡ stack_effect (bytecode_of p).setting.chains op → f ≡ flow_of op → Allows (bytecode_of p).setting.caps caps → needs ≤ here.state.operands → IsMetBy f (view lists here.state) → Stays (bytecode_of p).setting op (view lists here.state) → list ≤ size lists → list_of lists list ≡ bases_for f (view lists here.state) → Sends p.starts.starts chunk (bytecode_of p).switches f (jumped f (here.state.operands - takes + gives) list here.state) t.sent new.sent (map underway t.work.items) (map underway new.work.items) → after ≡ cond (falls_for f) (Some (fallen f (here.state.operands - takes + gives) list here.state)) None → new.states ≡ t.states → length new.sent ≡ length t.sent → (All (IsPlaced p.starts.starts chunk) t.work.items → All (IsPlaced p.starts.starts chunk) new.work.items) → IsWalking p chunk lists new (new.work.items ++ option_to_list (next_of (here.at + width) (here.ordinal + 1) after)) deepest
-  visited_here caps needs takes gives list f asked known same allowed there met stays in_lists bases sends falls states long placed =
+  visited_here : (caps needs takes gives list : ℕ) (f : Flow) (pushed : List Arrival) → caps ≡ caps_of (bytecode_of p).setting op → (needs, takes, gives) ≡ stack_effect (bytecode_of p).setting.chains op → f ≡ flow_of op → Allows (bytecode_of p).setting.caps caps → needs ≤ here.state.operands → IsMetBy f (view lists here.state) → Stays (bytecode_of p).setting op (view lists here.state) → list ≤ size lists → list_of lists list ≡ bases_for f (view lists here.state) → Sends p.starts.starts chunk (bytecode_of p).switches f (jumped f (here.state.operands - takes + gives) list here.state) t.sent new.sent (map underway t.work.items) (map underway pushed) → new.states ≡ t.states → length new.sent ≡ length t.sent → (All (IsPlaced p.starts.starts chunk) t.work.items → All (IsPlaced p.starts.starts chunk) pushed) → IsWalking p chunk lists new (pushed ++ falls_to f (here.state.operands - takes + gives) list here width) deepest
+  visited_here caps needs takes gives list f pushed asked known same allowed there met stays in_lists bases sends states long placed =
       let code = bytecode_of p in
       let c = view lists here.state in
       let left = here.state.operands - takes + gives in
@@ -227,23 +216,24 @@ module _ (p : Prepared) (chunk : Span) (t new : Traversal) (here : Arrival) (dee
       let sent_is : view lists sent_state ≡ after_jump code.setting op c =
       view_jumped lists left list here.state f bases ∙ (ap (λ (g : Flow). jump_for g left c) same ∙ ap (λ n. jump_for (flow_of op) n c) is) in
       let goes =
-      coming_next lists (falls_for f) next_state after (here.at + width) (here.at + width_of op) (here.ordinal + 1) (ap (λ n. here.at + n) wide) falls
+      coming_next lists (falls_for f) here next_state width (here.at + width_of op) (ap (λ n. here.at + n) wide)
       ∙ (ap (λ (g : Flow). cond (falls_for g) (record { at = here.at + width_of op; counts = view lists next_state } ∷ []) []) same
       ∙ (let P : Counts → List Coming = λ d. cond (falls_for (flow_of op)) (record { at = here.at + width_of op; counts = d } ∷ []) [] in ap P next_is)) in
-      let work_named = sends_named lists p.starts.starts chunk code.switches f sent_state t.sent new.sent t.work.items new.work.items jump_named
+      let work_named = sends_named lists p.starts.starts chunk code.switches f sent_state t.sent new.sent t.work.items pushed jump_named
       (earlier (λ (a : Arrival). NamesList lists a.state) (arrivals_named_more old lists grows (t.work.items ++ here ∷ []) h.is.known.waiting)) sends in
-      turned p chunk t new here deepest op (next_of (here.at + width) (here.ordinal + 1) after) ready framed old lists grows h passes goes states long
-      (next_placed after new.work.items (placed (earlier (IsPlaced p.starts.starts chunk) h.is.placed)))
-      (switches_named lists p.starts.starts chunk code.switches f sent_state t.sent new.sent t.work.items new.work.items jump_named (all_named_more old lists grows t.sent h.is.known.sent) sends)
-      (next_named (falls_for f) next_state after falls (fallen_named lists f left list here.state in_lists named) new.work.items work_named)
+      turned p chunk t new here deepest op pushed (falls_to f left list here width) ready framed old lists grows h passes goes states long
+      (one_more (IsPlaced p.starts.starts chunk) (falls_for f) pushed (next_to here width next_state) (next_placed next_state) (placed (earlier (IsPlaced p.starts.starts chunk) h.is.placed)))
+      (switches_named lists p.starts.starts chunk code.switches f sent_state t.sent new.sent t.work.items pushed jump_named (all_named_more old lists grows t.sent h.is.known.sent) sends)
+      (one_more (λ (a : Arrival). NamesList lists a.state) (falls_for f) pushed (next_to here width next_state) (fallen_named lists f left list here.state in_lists named) work_named)
       sent_state sent_is
-      (subst (λ (g : Flow). Sends p.starts.starts chunk code.switches g sent_state t.sent new.sent (map underway t.work.items) (map underway new.work.items)) same sends)
+      (subst (λ (g : Flow). Sends p.starts.starts chunk code.switches g sent_state t.sent new.sent (map underway t.work.items) (map underway pushed)) same sends)
 
   -- the same, where what it finds is told of the lists that there were before
-  pub visited : (caps needs takes gives list : ℕ) (f : Flow) → caps ≡ caps_of (bytecode_of p).setting op → (needs, takes, gives) ≡ stack_effect (bytecode_of p).setting.chains op → f ≡ flow_of op → Allows (bytecode_of p).setting.caps caps → needs ≤ here.state.operands → IsMetBy f (view old here.state) → Stays (bytecode_of p).setting op (view old here.state) → list ≤ size lists → list_of lists list ≡ bases_for f (view old here.state) → Sends p.starts.starts chunk (bytecode_of p).switches f (jumped f (here.state.operands - takes + gives) list here.state) t.sent new.sent (map underway t.work.items) (map underway new.work.items) → after ≡ cond (falls_for f) (Some (fallen f (here.state.operands - takes + gives) list here.state)) None → new.states ≡ t.states → length new.sent ≡ length t.sent → (All (IsPlaced p.starts.starts chunk) t.work.items → All (IsPlaced p.starts.starts chunk) new.work.items) → IsWalking p chunk lists new (new.work.items ++ option_to_list (next_of (here.at + width) (here.ordinal + 1) after)) deepest
-  visited caps needs takes gives list f asked known same allowed there met stays in_lists bases =
+  pub visited : (caps needs takes gives : ℕ) (f : Flow) (on_way : List Arrival) → caps ≡ caps_of (bytecode_of p).setting op → (needs, takes, gives) ≡ stack_effect (bytecode_of p).setting.chains op → f ≡ flow_of op → Allows (bytecode_of p).setting.caps caps → needs ≤ here.state.operands → IsMetBy f (view old here.state) → Stays (bytecode_of p).setting op (view old here.state) → IsFollowed p.starts.starts chunk (bytecode_of p).switches f (here.state.operands - takes + gives) here width old lists t.sent new.sent t.work.items on_way → new.states ≡ t.states → length new.sent ≡ length t.sent → IsWalking p chunk lists new on_way deepest
+  visited caps needs takes gives f on_way asked known same allowed there met stays is states long =
       let kept : view old here.state ≡ view lists here.state = sym (halts_view p chunk t old lists here deepest grows h) in
-      visited_here caps needs takes gives list f asked known same allowed there (subst (IsMetBy f) kept met) (subst (Stays (bytecode_of p).setting op) kept stays) in_lists (bases ∙ ap (bases_for f) kept)
+      let w = visited_here caps needs takes gives is.list f is.pushed asked known same allowed there (subst (IsMetBy f) kept met) (subst (Stays (bytecode_of p).setting op) kept stays) is.there (is.bases ∙ ap (bases_for f) kept) is.sends states long is.placed in
+      subst (λ (xs : List Arrival). IsWalking p chunk lists new xs deepest) (sym is.all) w
 
 -- another state than an instruction sends was sent to the targets of its switch before
 pub refused_switch : (p : Prepared) (chunk : Span) (t : Traversal) (lists : Lists) (here : Arrival) (deepest : ℕ) (op : Op) (needs takes gives : ℕ) (f : Flow) (e : VerifyError) → IsFramed (bytecode_of p) chunk → HaltsAt p chunk lists t here deepest → (needs, takes, gives) ≡ stack_effect (bytecode_of p).setting.chains op → f ≡ flow_of op → Passes (coded (bytecode_of p)) chunk here.at (view lists here.state) op → RefusesSwitch (bytecode_of p).switches f (record here.state { operands = here.state.operands - takes + gives }) t.sent e → ChunkFlaw (bytecode_of p) chunk e

@@ -12,6 +12,7 @@ use Rattle.grain.specs.Arrivals.{Coming, IsPlaced, IsStartIn, coming, sent_by, u
 use Rattle.grain.specs.Code.{coded}
 use Rattle.grain.specs.Counts.{nothing}
 use Rattle.grain.specs.Flow.{Falls}
+use Rattle.grain.specs.FlowView.{IsFollowed, next_to}
 use Rattle.grain.specs.Flaw.{ChunkFlaw, FallsOff}
 use Rattle.grain.specs.Lists.{IsShared, size}
 use Rattle.grain.specs.Meter.{starts_within}
@@ -134,8 +135,17 @@ plain_visited p chunk lists t here next deepest ready framed h step =
     let grows = grows_not lists h.is.known.shared in
     let named = halts_named p chunk t lists lists here deepest grows h in
     let stays = plain_stays code.setting step.op counts step.needs step.takes step.gives step.plain step.above in
-    rw (step.is) (visited p chunk t t here deepest step.op (width_of step.op) (Some after) ready framed lists lists grows h step.stands refl 0 step.needs step.takes step.gives here.state.list Falls (sym (step.plain.caps code.setting)) (step.plain.operands code.setting.chains) (sym step.plain.flow) (nothing_missing code.setting.caps) step.there (record { iterators = omega arith; handlers = omega arith }) stays named refl
-    (inl (record { starts_in = All-nil (IsStartIn p.starts.starts chunk); added = sym (append-nil (map underway t.work.items)); noted = inl refl })) refl refl refl (λ all. all))
+    let followed : IsFollowed p.starts.starts chunk code.switches Falls (here.state.operands - step.takes + step.gives) here (width_of step.op) lists lists t.sent t.sent t.work.items (t.work.items ++ next_to here (width_of step.op) after ∷ []) =
+    record {
+      list = here.state.list;
+      there = named;
+      bases = refl;
+      pushed = t.work.items;
+      sends = inl (record { starts_in = All-nil (IsStartIn p.starts.starts chunk); added = sym (append-nil (map underway t.work.items)); noted = inl refl });
+      placed = λ all. all;
+      all = refl;
+    } in
+    rw (step.is) (visited p chunk t t here deepest step.op (width_of step.op) ready framed lists lists grows h step.stands refl 0 step.needs step.takes step.gives Falls (t.work.items ++ next_to here (width_of step.op) after ∷ []) (sym (step.plain.caps code.setting)) (step.plain.operands code.setting.chains) (sym step.plain.flow) (nothing_missing code.setting.caps) step.there (record { iterators = omega arith; handlers = omega arith }) stays followed refl refl)
 
 -- a turn leaves fewer that weren't visited
 pub fewer_left : (states : List (Option State)) (k : ℕ) (s : State) → k < length states → get_or states k None ≡ None → length (set states k (Some s)) - visits_in (set states k (Some s)) < length states - visits_in states

@@ -1,7 +1,8 @@
 -- The flow of operations, as the walk has it.
-use Rattle.std.specs.Prelude.{◌≡◌, ◌⊎◌, ℕ, ◌+◌, ◌-◌, ◌<◌, ◌≤◌, List, Option, Some, None, cond, length}
+use Rattle.std.specs.Prelude.{◌≡◌, ◌⊎◌, ℕ, ◌+◌, ◌-◌, ◌<◌, ◌≤◌, List, [], ◌∷◌, ◌++◌, Option, cond, length, map}
+use Rattle.std.specs.List.{All}
 use Rattle.grain_bytecode.specs.Span.{Span}
-use Rattle.grain.specs.Arrivals.{RefusesSwitch, RefusesTargetOf, Sends, Underway, view}
+use Rattle.grain.specs.Arrivals.{IsPlaced, RefusesSwitch, RefusesTargetOf, Sends, underway, view}
 use Rattle.grain.specs.Counts.{Counts}
 use Rattle.grain.specs.Flow as flows
 use Rattle.grain.specs.Flow.{bases_for, falls_for, handlers_for, iterators_for, targets_for}
@@ -11,6 +12,7 @@ use Rattle.grain.specs.declared.flow.Flow.TheVariants as ways
 use Rattle.grain.specs.declared.error.VerifyError.{VerifyError}
 use Rattle.grain.specs.declared.error.VerifyError.TheVariants as errors
 use Rattle.grain.specs.declared.lists.Lists.{Lists}
+use Rattle.grain.specs.declared.state.Arrival.{Arrival}
 use Rattle.grain.specs.declared.state.State.{State}
 
 -- the flow of an operation, by its target where it has one
@@ -64,14 +66,24 @@ fallen flows.EndsIterator left list s = record s { iterators = s.iterators - 1 }
 fallen (flows.PushesHandler target) left list s = record s { list = list }
 fallen flows.PopsHandler left list s = record s { list = list }
 
--- How an operation of such a flow is followed, where so many operands are left: the armed handlers have some list then, its
--- state is sent to its targets, and another falls through, if it does.
-pub record IsFollowed (starts : List ℕ) (chunk : Span) (switches : List (List ℕ)) (f : flows.Flow) (left : ℕ) (s : State) (old new : Lists) (sent new_sent : List (Option State)) (work new_work : List Underway) (after : Option State) : Type 0 where
+-- the arrival at the next instruction, this many bytes on
+abbrev pub next_to : Arrival → ℕ → State → Arrival
+next_to here width s = record { at = here.at + width; ordinal = here.ordinal + 1; state = s }
+
+-- what falls through, if it does
+abbrev pub falls_to : flows.Flow → ℕ → ℕ → Arrival → ℕ → List Arrival
+falls_to f left list here width = cond (falls_for f) (next_to here width (fallen f left list here.state) ∷ []) []
+
+-- How an operation of such a flow and width is followed, where so many operands are left: the armed handlers have some list
+-- then, its state is sent to its targets, and another falls through, if it does. All these are then on their way.
+pub record IsFollowed (starts : List ℕ) (chunk : Span) (switches : List (List ℕ)) (f : flows.Flow) (left : ℕ) (here : Arrival) (width : ℕ) (old new : Lists) (sent new_sent : List (Option State)) (work on_way : List Arrival) : Type 0 where
   pub list : ℕ
   pub there : list ≤ size new
-  pub bases : list_of new list ≡ bases_for f (view old s)
-  pub sends : Sends starts chunk switches f (jumped f left list s) sent new_sent work new_work
-  pub falls : after ≡ cond (falls_for f) (Some (fallen f left list s)) None
+  pub bases : list_of new list ≡ bases_for f (view old here.state)
+  pub pushed : List Arrival
+  pub sends : Sends starts chunk switches f (jumped f left list here.state) sent new_sent (map underway work) (map underway pushed)
+  pub placed : All (IsPlaced starts chunk) work → All (IsPlaced starts chunk) pushed
+  pub all : on_way ≡ pushed ++ falls_to f left list here width
 
 -- how a flow is refused: it lacks an iterator or a handler, or a target refuses it, or its switch does
 abbrev pub RefusesFlow : List ℕ → Span → List (List ℕ) → ℕ → Counts → State → List (Option State) → flows.Flow → VerifyError → Type 0

@@ -31,6 +31,29 @@ fn place_of(starts: &Starts, chunk: &Chunk, at: u32, target: u32) -> Result<usiz
     }
 }
 
+/// The state on its way to a target, which has to be a start of the chunk.
+#[inline(always)]
+pub(crate) fn arrival_at(
+    starts: &Starts,
+    chunk: &Chunk,
+    at: u32,
+    target: u32,
+    after: State,
+) -> Result<Arrival, VerifyError>
+    ensures arrives { IfOk result (λ a. underway a ≡ record { at = target; state = after }) }
+    ensures inside { OnOk result (IsStartIn starts.now.starts chunk.now target) }
+    ensures placed { IfOk result (IsPlaced starts.now.starts chunk.now) }
+    ensures err { IfErr result (λ e.
+        RefusesTargetOf starts.now.starts chunk.now at (target ∷ []) e) }
+{
+    let ordinal = place_of(starts, chunk, at, target)?;
+    Ok(Arrival {
+        ordinal,
+        at: target,
+        state: after,
+    })
+}
+
 /// Pushes the state to one target.
 #[inline(always)]
 pub(crate) fn push_target(
@@ -49,12 +72,8 @@ pub(crate) fn push_target(
     ensures err { IfErr result (λ e.
         RefusesTargetOf starts.now.starts chunk.now at (target ∷ []) e) }
 {
-    let ordinal = place_of(starts, chunk, at, target)?;
-    work.push(Arrival {
-        at: target,
-        ordinal,
-        state: after,
-    })?;
+    let arrival = arrival_at(starts, chunk, at, target, after)?;
+    work.push(arrival)?;
     Ok(())
 }
 

@@ -1,13 +1,13 @@
 //! The walk over one chunk.
 ghost use Rattle.std.specs.Prelude.{◌≡◌, ◌≢◌, ℕ, ◌+◌, ◌-◌, ◌≤◌, ◌<◌, ◌^◌, ◌++◌, ◌∷◌, ◌⊎◌, [], None, Some};
-ghost use Rattle.std.specs.Prelude.{length, map, replicate, slice_get, IfErr, IfNone, IfOk, IfSome, List, OnOk};
+ghost use Rattle.std.specs.Prelude.{length, replicate, slice_get, IfErr, IfNone, IfOk, IfSome, List, OnOk};
 ghost use Rattle.std.specs.Option.{option_to_list};
 ghost use Rattle.std.specs.List.{All};
 ghost use Rattle.grain_bytecode.specs.InstructionTable.{Instr, form, width_of};
 ghost use Rattle.grain_bytecode.specs.Split.{StandsAt};
 ghost use Rattle.grain_bytecode.specs.declared.op.Op.{Op};
 ghost use Rattle.grain.specs.Accepted.{ChunkPasses, IsFramed};
-ghost use Rattle.grain.specs.Arrivals.{IsPlaced, RefusesState, underway, view};
+ghost use Rattle.grain.specs.Arrivals.{RefusesState, view};
 ghost use Rattle.grain.specs.Capabilities.{Allows, caps_of};
 ghost use Rattle.grain.specs.Code.{coded};
 ghost use Rattle.grain.specs.Counts.{last_base};
@@ -24,12 +24,12 @@ ghost use Rattle.grain.specs.Sinking.{Stays, untouched};
 ghost use Rattle.grain.specs.SinkingView.{RefusesSinking};
 ghost use Rattle.grain.specs.TagEffects.{IsEffectIn};
 ghost use Rattle.grain.specs.Typing.{HasTyping, IsDeepest, IsReachedCount};
-ghost use Rattle.grain.specs.Walk.{IsReady, bytecode_of};
+ghost use Rattle.grain.specs.Walk.{HasHead, IsReady, bytecode_of};
 ghost use Rattle.grain.specs.declared.lists.Lists.{Lists};
 
 use crate::by_tag::effect_by_tag;
 use crate::capabilities::{PoolCaps, missing};
-use crate::edges::{push_table, push_target};
+use crate::edges::{arrival_at, push_table, push_target};
 use crate::effects::Effect;
 use crate::error::VerifyError;
 use crate::flow::Flow;
@@ -147,6 +147,20 @@ fn check_stays(
     check_sinking(instruction.tag, at, left, lists.last_base(state.list))
 }
 
+/// The instruction that stands at an address, where its head is known.
+#[inline(always)]
+fn instruction_at<'a>(code: &'a [u8], at: usize, head: Head) -> Instruction<'a>
+    requires { HasHead code.now at head }
+    ensures found { (op : Op) × StandsAt code.now at op
+        × Instr (result.tag ∷ result.fields.now) op }
+{
+    let end = at + usize::from(head.width);
+    Instruction {
+        tag: head.tag,
+        fields: &code[at + 1..end],
+    }
+}
+
 /// What falls through a plain instruction, which does no more than its tag tells, where it finds the operands that it needs
 /// above the floor.
 #[inline(always)]
@@ -204,37 +218,38 @@ impl Prepared<'_> {
         Ok(())
     }
 
-    /// Sends the state that an instruction leaves to its targets, where it has what it asks and the operands that it
-    /// needs, and answers the state with which it falls through, if it does.
+    /// Sends the state that an instruction of this width leaves to its targets and to what it falls through to, where it has
+    /// what it asks and the operands that it needs. One of these arrivals is answered, if there is any, in place of being
+    /// pushed.
     #[inline(always)]
     fn follow(
         &self,
         chunk: &Chunk,
         effect: Effect,
         here: Arrival,
+        width: usize,
         lists: &mut Lists,
         traversal: &mut Traversal,
-    ) -> Result<Option<State>, VerifyError>
+    ) -> Result<Option<Arrival>, VerifyError>
         requires long { length traversal.old.sent ≡ length self.now.pools.now.switches.now }
         requires operands { effect.needs ≤ here.state.operands }
         requires operands_room { here.state.operands + 1 < 2 ^ 32 }
         requires iterators_room { here.state.iterators + 1 < 2 ^ 32 }
+        requires room { here.at + width < 2 ^ 32 }
+        requires ordinal_room { here.ordinal + 1 < 2 ^ 64 }
         requires shared { IsShared lists.old }
         requires list { here.state.list ≤ size lists.old }
         requires lists_room { size lists.old + 1 < 2 ^ 32 }
         ensures met { OnOk result
             (IsMetBy (flow effect.flow effect.target) (view lists.old here.state)) }
         ensures grows { OnOk result (Grows lists.old lists.new) }
-        ensures followed { IfOk result (IsFollowed self.now.starts.starts chunk.now
+        ensures followed { IfOk result (λ next. IsFollowed self.now.starts.starts chunk.now
             (bytecode_of self.now).switches (flow effect.flow effect.target)
-            (here.state.operands - effect.takes + effect.gives) here.state lists.old lists.new
-            traversal.old.sent traversal.new.sent
-            (map underway traversal.old.work.items) (map underway traversal.new.work.items)) }
+            (here.state.operands - effect.takes + effect.gives) here width lists.old lists.new
+            traversal.old.sent traversal.new.sent traversal.old.work.items
+            (traversal.new.work.items ++ option_to_list next)) }
         ensures states { OnOk result (traversal.new.states ≡ traversal.old.states) }
         ensures long { OnOk result (length traversal.new.sent ≡ length traversal.old.sent) }
-        ensures placed { All (IsPlaced self.now.starts.starts chunk.now) traversal.old.work.items
-            → OnOk result
-            (All (IsPlaced self.now.starts.starts chunk.now) traversal.new.work.items) }
         ensures err { IfErr result (RefusesFlow self.now.starts.starts chunk.now
             (bytecode_of self.now).switches here.at (view lists.old here.state) (record here.state {
               operands = here.state.operands - effect.takes + effect.gives;
@@ -246,15 +261,12 @@ impl Prepared<'_> {
         let target = effect.target;
         let after = state.with(effect);
         match effect.flow {
-            Flow::Falls => Ok(Some(after)),
+            Flow::Falls => Ok(Some(here.next(width, after))),
             Flow::Ends => Ok(None),
-            Flow::Jumps => {
-                push_target(starts, chunk, at, target, after, work)?;
-                Ok(None)
-            }
+            Flow::Jumps => Ok(Some(arrival_at(starts, chunk, at, target, after)?)),
             Flow::Branches => {
                 push_target(starts, chunk, at, target, after, work)?;
-                Ok(Some(after))
+                Ok(Some(here.next(width, after)))
             }
             Flow::Switches => {
                 let switches = self.pools.switches;
@@ -262,25 +274,29 @@ impl Prepared<'_> {
                 push_table(starts, chunk, at, switches, target, after, sent, work)?;
                 Ok(None)
             }
-            Flow::BeginsIterator => Ok(Some(State {
-                iterators: state.iterators + 1,
-                ..after
-            })),
+            Flow::BeginsIterator => {
+                let begun = State {
+                    iterators: state.iterators + 1,
+                    ..after
+                };
+                Ok(Some(here.next(width, begun)))
+            }
             Flow::AdvancesIterator => {
                 let ended = state.without_iterator(at)?;
                 push_target(starts, chunk, at, target, ended, work)?;
-                Ok(Some(State {
+                let advanced = State {
                     operands: state.operands + 1,
                     ..state
-                }))
+                };
+                Ok(Some(here.next(width, advanced)))
             }
-            Flow::EndsIterator => Ok(Some(state.without_iterator(at)?)),
+            Flow::EndsIterator => Ok(Some(here.next(width, state.without_iterator(at)?))),
             Flow::PushesHandler => {
                 let armed = state.with_handler(lists)?;
                 push_target(starts, chunk, at, target, armed, work)?;
-                Ok(Some(armed))
+                Ok(Some(here.next(width, armed)))
             }
-            Flow::PopsHandler => Ok(Some(state.without_handler(at, lists)?)),
+            Flow::PopsHandler => Ok(Some(here.next(width, state.without_handler(at, lists)?))),
         }
     }
 
@@ -300,18 +316,20 @@ impl Prepared<'_> {
         Effect::of(&op, self.pools.chains, &self.asked)
     }
 
-    /// Visits an instruction: tests what it asks and needs and what it leaves as it was, sends its state to its targets, and
-    /// answers what falls through, if it does.
+    /// Visits an instruction: tests what it asks and needs and what it leaves as it was, and follows its flow. It answers the
+    /// next arrival, if there is one that isn't on the worklist.
     #[inline(always)]
     fn visit(
         &self,
         chunk: &Chunk,
         here: Arrival,
+        head: Head,
         lists: &mut Lists,
         traversal: &mut Traversal,
     ) -> Result<Option<Arrival>, VerifyError>
         requires ready { IsReady self.now }
         requires framed { IsFramed (bytecode_of self.now) chunk.now }
+        requires headed { HasHead self.now.code.now here.at head }
         requires halts { (deepest : ℕ)
             × HaltsAt self.now chunk.now lists.old traversal.old here deepest }
         ensures ok { (deepest : ℕ)
@@ -325,20 +343,16 @@ impl Prepared<'_> {
         ensures err { IfErr result (λ e. (e ≡ VerifyError.OutOfMemory)
             ⊎ ChunkFlaw (bytecode_of self.now) chunk.now e) }
     {
-        let Some(instruction) = Instruction::at(self.code, here.at as usize) else {
-            unreachable!();
-        };
+        let instruction = instruction_at(self.code, here.at as usize, head);
         let effect = self.effect_of(&instruction);
         self.check_needs(effect, here.at, here.state)?;
         check_stays(&instruction, effect, here, lists)?;
-        match self.follow(chunk, effect, here, lists, traversal)? {
-            Some(after) => Ok(Some(here.next(instruction.width(), after))),
-            None => Ok(None),
-        }
+        self.follow(chunk, effect, here, instruction.width(), lists, traversal)
     }
 
     /// Visits plain instructions one after another, from an arrival on, and marks each as visited. It answers the first
-    /// other instruction that it comes to, marked too; none where it comes to one that was visited with the same state.
+    /// other instruction that it comes to, marked too, with its head; none where it comes to one that was visited with the
+    /// same state.
     #[inline(always)]
     fn visit_plain(
         &self,
@@ -348,14 +362,16 @@ impl Prepared<'_> {
         traversal: &mut Traversal,
         visits: &mut u32,
         deepest: &mut u32,
-    ) -> Result<Option<Arrival>, VerifyError>
+    ) -> Result<Option<(Arrival, Head)>, VerifyError>
         requires ready { IsReady self.now }
         requires framed { IsFramed (bytecode_of self.now) chunk.now }
         requires walking { IsWalking self.now chunk.now lists.now traversal.old
             (traversal.old.work.items ++ from ∷ []) deepest.old }
         requires counted { visits.old ≡ visits_in traversal.old.states }
-        ensures halts { IfOk result (λ next. IfSome next (λ here.
-            HaltsAt self.now chunk.now lists.now traversal.new here deepest.new)) }
+        ensures halts { IfOk result (λ next. IfSome next (λ other.
+            HaltsAt self.now chunk.now lists.now traversal.new other.0 deepest.new)) }
+        ensures headed { IfOk result (λ next. IfSome next (λ other.
+            HasHead self.now.code.now other.0.at other.1)) }
         ensures skips { IfOk result (λ next. IfNone next (IsWalking self.now chunk.now lists.now
             traversal.new traversal.new.work.items deepest.new)) }
         ensures further { IfOk result (λ next. IfSome next (λ _.
@@ -380,13 +396,13 @@ impl Prepared<'_> {
             *deepest = (*deepest).max(here.state.operands);
             match plain_next(head, here, floor) {
                 Some(next) => here = next,
-                None => return Ok(Some(here)),
+                None => return Ok(Some((here, head))),
             }
         }
         Err(VerifyError::FallsOffTheEnd)
     }
 
-    /// Walks from an arrival on, until nothing falls through that wasn't visited.
+    /// Walks from an arrival on, until nothing comes next that wasn't visited.
     #[inline(always)]
     fn walk_from(
         &self,
@@ -413,8 +429,10 @@ impl Prepared<'_> {
             ⊎ ChunkFlaw (bytecode_of self.now) chunk.now e) }
     {
         let mut here = from;
-        while let Some(other) = self.visit_plain(chunk, here, lists, traversal, visits, deepest)? {
-            match self.visit(chunk, other, lists, traversal)? {
+        'others: while let Some((other, head)) = self.visit_plain(
+            chunk, here, lists, traversal, visits, deepest,
+        )? {
+            match self.visit(chunk, other, head, lists, traversal)? {
                 Some(next) => here = next,
                 None => return Ok(()),
             }

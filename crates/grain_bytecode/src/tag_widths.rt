@@ -62,7 +62,7 @@ pub fn width(code: &[u8], at: usize) -> Option<usize>
         return None;
     }
     let width = WIDTHS[code[at] as usize] as usize;
-    if width == 0 || width > code.len() - at {
+    if width == 0 || at + width > code.len() {
         return None;
     }
     Some(width)

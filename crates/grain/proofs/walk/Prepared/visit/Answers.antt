@@ -1,6 +1,7 @@
-use Rattle.std.proofs.Common.{◌≡◌, ◌⊎◌, ◌≤◌, ◌∷◌, inl, inr, ℕ, Some, None, ap, sym, subst, ◌∙◌, refl, arith}
+use Rattle.std.proofs.Common.{◌≡◌, ◌⊎◌, ◌≤◌, ◌∷◌, ◌++◌, inl, inr, ℕ, ap, subst, arith}
+use Rattle.std.specs.Option.{option_to_list}
 use Rattle.std.specs.List.{Contains}
-use Rattle.std.proofs.lemmas.Result.{err_from_is_err_and}
+use Rattle.std.proofs.lemmas.Result.{IfOk-weaker, err_from_is_err_and}
 use Rattle.grain_bytecode.specs.InstructionTable.{width_of}
 use Rattle.grain_bytecode.proofs.Instructions.{instr_width}
 use Rattle.grain.specs.Arrivals.{view}
@@ -13,22 +14,13 @@ use Rattle.grain.specs.Typing.{StandsIn}
 use Rattle.grain.specs.Walk.{bytecode_of}
 use Rattle.grain.specs.declared.error.VerifyError.TheVariants.{OutOfMemory}
 use Rattle.grain.proofs.Flows.{meets_known, passes_known, short_state}
-use Rattle.grain.proofs.Most.{next_few, sends_few}
+use Rattle.grain.proofs.Most.{followed_few}
 use Rattle.grain.proofs.NamedLists.{grows_not}
 use Rattle.grain.proofs.Ordinals.{ordinal_low}
-use Rattle.grain.proofs.Refusing.{refused_sinking, refused_state, refused_target}
-use Rattle.grain.proofs.Splits.{boundary_apart, start_op}
+use Rattle.grain.proofs.Refusing.{all_ok, err_so, refused_sinking, refused_state, refused_target}
+use Rattle.grain.proofs.Splits.{boundary_apart}
 use Rattle.grain.proofs.Turns.{halts_inside, halts_named, halts_place, halts_reached, halts_room, halts_small, refused_switch, visited}
 use Rattle.grain.proofs.walk.Prepared.visit.Goals as goal
-
-pub unreachable-requires : goal.unreachable-requires
-unreachable-requires c =
-    let t = c.args.traversal.now in
-    let before = c.args.lists.now in
-    let halts = c.requires.halts in
-    let within = halts_inside c.args.self.now c.args.chunk.now t before before c.args.here halts.0 (grows_not before halts.1.is.known.shared) halts.1 in
-    let s = start_op c.args.self.now.code.now c.args.here.at within.place in
-    c.in_default.ensures.none s.1.0 s.1.1
 
 pub returns-in_err-check_needs-clause-err : goal.returns-in_err-check_needs-clause-err
 returns-in_err-check_needs-clause-err c =
@@ -41,9 +33,9 @@ returns-in_err-check_needs-clause-err c =
     let before = c.args.lists.now in
     let halts = c.requires.halts in
     let grows = grows_not before halts.1.is.known.shared in
-    let op = c.in-Some.ensures.found.0 in
-    let known = c.effect_of-effect.ensures op c.in-Some.ensures.found.2 in
-    let stands = c.in-Some.ensures.found.1 in
+    let op = c.instruction_at-instruction.ensures.found.0 in
+    let known = c.effect_of-effect.ensures op c.instruction_at-instruction.ensures.found.2 in
+    let stands = c.instruction_at-instruction.ensures.found.1 in
     let refused = c.in_err-check_needs.ensures.err op before (known.asks code.setting c.requires.ready.asked) (ap (λ (e : ℕ × ℕ × ℕ). e.0) known.operands) in
     let comes : Comes code chunk here.at op (view before here.state) = record { reached = halts_reached self chunk t before before here halts.0 grows halts.1; stands = record { within = halts_inside self chunk t before before here halts.0 grows halts.1; is = stands } } in
     rw (p.1, p.2) (inr (refused_state code chunk here.at op (view before here.state) c.in_err-check_needs.field-0.0 c.requires.framed comes refused))
@@ -68,14 +60,14 @@ returns-in_err-check_stays-clause-err c =
     let counts = view before here.state in
     let halts = c.requires.halts in
     let grows = grows_not before halts.1.is.known.shared in
-    let op = c.in-Some.ensures.found.0 in
+    let op = c.instruction_at-instruction.ensures.found.0 in
     let does = c.effect_of-effect.result in
-    let known = c.effect_of-effect.ensures op c.in-Some.ensures.found.2 in
+    let known = c.effect_of-effect.ensures op c.instruction_at-instruction.ensures.found.2 in
     let found = c.in_ok-check_needs.ensures in
     let allowed = subst (Allows code.setting.caps) (known.asks code.setting c.requires.ready.asked) found.allowed in
-    let comes : Comes code chunk here.at op counts = record { reached = halts_reached self chunk t before before here halts.0 grows halts.1; stands = record { within = halts_inside self chunk t before before here halts.0 grows halts.1; is = c.in-Some.ensures.found.1 } } in
+    let comes : Comes code chunk here.at op counts = record { reached = halts_reached self chunk t before before here halts.0 grows halts.1; stands = record { within = halts_inside self chunk t before before here halts.0 grows halts.1; is = c.instruction_at-instruction.ensures.found.1 } } in
     let there = subst (λ n. n ≤ here.state.operands) (ap (λ (e : ℕ × ℕ × ℕ). e.0) known.operands) found.there in
-    rw (p.1, p.2) (elim (c.in_err-check_stays.ensures.err code.setting op c.in-Some.ensures.found.2 known.operands known.flow_is) as (λ _. (e ≡ OutOfMemory) ⊎ ChunkFlaw code chunk e) [
+    rw (p.1, p.2) (elim (c.in_err-check_stays.ensures.err code.setting op c.instruction_at-instruction.ensures.found.2 known.operands known.flow_is) as (λ _. (e ≡ OutOfMemory) ⊎ ChunkFlaw code chunk e) [
       | inl short ↦ inr (refused_state code chunk here.at op counts e c.requires.framed comes (short_state code op here.at counts (flow does.flow does.target) e known.flow_is allowed short))
       | inr (met, sinks) ↦ inr (refused_sinking code chunk here.at op counts e c.requires.framed comes allowed (meets_known code.setting op counts (flow does.flow does.target) known.flow_is there met) sinks)
     ])
@@ -115,10 +107,32 @@ follow-requires-clause-iterators_room c =
     let fits = halts.1.addresses in
     omega (arith, s.1)
 
-pub returns-in_err-after-clause-err : goal.returns-in_err-after-clause-err
-returns-in_err-after-clause-err c =
-    let p = err_from_is_err_and c.from_residual-in_err-after.result c.from_residual-in_err-after.ensures.1 in
-    let e = c.in_err-after.field-0.0 in
+pub follow-requires-clause-room : goal.follow-requires-clause-room
+follow-requires-clause-room c =
+    let self = c.args.self.now in
+    let t = c.args.traversal.now in
+    let before = c.args.lists.now in
+    let i = c.instruction_at-instruction.result in
+    let op = c.instruction_at-instruction.ensures.found.0 in
+    let halts = c.requires.halts in
+    let within = halts_inside self c.args.chunk.now t before before c.args.here halts.0 (grows_not before halts.1.is.known.shared) halts.1 in
+    let apart = boundary_apart self.code.now c.args.here.at c.args.chunk.now.end op within.place c.requires.framed.end c.instruction_at-instruction.ensures.found.1 within.end in
+    let wide = instr_width (i.tag ∷ i.fields.now) op c.instruction_at-instruction.ensures.found.2 in
+    let fits = halts.1.addresses in
+    omega (arith, apart, wide, c.width.ensures)
+
+pub follow-requires-clause-ordinal_room : goal.follow-requires-clause-ordinal_room
+follow-requires-clause-ordinal_room c =
+    let self = c.args.self.now in
+    let t = c.args.traversal.now in
+    let before = c.args.lists.now in
+    let halts = c.requires.halts in
+    let place = halts_place self c.args.chunk.now t before before c.args.here halts.0 (grows_not before halts.1.is.known.shared) halts.1 in
+    let low = ordinal_low self.code.now self.starts.starts c.requires.ready.starts c.args.here.ordinal c.args.here.at place in
+    omega (arith, low)
+
+pub returns-clause-err : goal.returns-clause-err
+returns-clause-err c =
     let self = c.args.self.now in
     let code = bytecode_of self in
     let chunk = c.args.chunk.now in
@@ -128,88 +142,40 @@ returns-in_err-after-clause-err c =
     let counts = view before here.state in
     let halts = c.requires.halts in
     let grows = grows_not before halts.1.is.known.shared in
-    let op = c.in-Some.ensures.found.0 in
+    let op = c.instruction_at-instruction.ensures.found.0 in
     let does = c.effect_of-effect.result in
-    let known = c.effect_of-effect.ensures op c.in-Some.ensures.found.2 in
+    let known = c.effect_of-effect.ensures op c.instruction_at-instruction.ensures.found.2 in
     let asked = known.asks code.setting c.requires.ready.asked in
     let found = c.in_ok-check_needs.ensures in
     let reached = halts_reached self chunk t before before here halts.0 grows halts.1 in
-    let stands : StandsIn (coded code) chunk here.at op = record { within = halts_inside self chunk t before before here halts.0 grows halts.1; is = c.in-Some.ensures.found.1 } in
-    let stays = c.in_ok-check_stays.ensures.stays code.setting op c.in-Some.ensures.found.2 known.operands known.flow_is in
+    let stands : StandsIn (coded code) chunk here.at op = record { within = halts_inside self chunk t before before here halts.0 grows halts.1; is = c.instruction_at-instruction.ensures.found.1 } in
+    let stays = c.in_ok-check_stays.ensures.stays code.setting op c.instruction_at-instruction.ensures.found.2 known.operands known.flow_is in
     let passes = λ (met : IsMetBy (flow does.flow does.target) counts). passes_known code chunk here.at op counts does.asks.0 does.needs does.takes does.gives (flow does.flow does.target) stands asked known.operands known.flow_is found.allowed found.there met stays in
-    rw (p.1, p.2) (elim c.in_err-after.ensures.err as (λ _. (e ≡ OutOfMemory) ⊎ ChunkFlaw code chunk e) [
+    err_so c.follow.result (λ e refused. elim refused as (λ _. (e ≡ OutOfMemory) ⊎ ChunkFlaw code chunk e) [
       | inl short ↦ inr (refused_state code chunk here.at op counts e c.requires.framed (record { reached = reached; stands = stands }) (short_state code op here.at counts (flow does.flow does.target) e known.flow_is (subst (Allows code.setting.caps) asked found.allowed) short))
       | inr (met, inl (inl m)) ↦ inl m
       | inr (met, inl (inr (x, named, bad))) ↦ inr (refused_target code self.starts.starts chunk here.at x e c.requires.ready.starts c.requires.framed (record { counts = counts; op = op; reached = reached; passes = passes met; names = subst (λ (f : Flow). Contains (targets_for code.switches f) x) known.flow_is named }) bad)
       | inr (met, inr unlike) ↦ inr (refused_switch self chunk t before here halts.0 op does.needs does.takes does.gives (flow does.flow does.target) e c.requires.framed halts.1 known.operands known.flow_is (passes met) unlike)
-    ])
+    ]) c.follow.ensures.err
 
-pub next-requires-clause-room : goal.next-requires-clause-room
-next-requires-clause-room c =
-    let self = c.args.self.now in
-    let t = c.args.traversal.now in
-    let before = c.args.lists.now in
-    let i = c.in-Some.instruction in
-    let op = c.in-Some.ensures.found.0 in
-    let halts = c.requires.halts in
-    let within = halts_inside self c.args.chunk.now t before before c.args.here halts.0 (grows_not before halts.1.is.known.shared) halts.1 in
-    let apart = boundary_apart self.code.now c.args.here.at c.args.chunk.now.end op within.place c.requires.framed.end c.in-Some.ensures.found.1 within.end in
-    let wide = instr_width (i.tag ∷ i.fields.now) op c.in-Some.ensures.found.2 in
-    let fits = halts.1.addresses in
-    omega (arith, apart, wide, c.width.ensures)
-
-pub next-requires-clause-few : goal.next-requires-clause-few
-next-requires-clause-few c =
-    let self = c.args.self.now in
-    let t = c.args.traversal.now in
-    let before = c.args.lists.now in
-    let halts = c.requires.halts in
-    let place = halts_place self c.args.chunk.now t before before c.args.here halts.0 (grows_not before halts.1.is.known.shared) halts.1 in
-    let low = ordinal_low self.code.now self.starts.starts c.requires.ready.starts c.args.here.ordinal c.args.here.at place in
-    omega (arith, low)
-
-pub returns-in-Some-2-clause-ok : goal.returns-in-Some-2-clause-ok
-returns-in-Some-2-clause-ok c deepest halts =
+pub returns-clause-ok : goal.returns-clause-ok
+returns-clause-ok c deepest halts =
     let self = c.args.self.now in
     let code = bytecode_of self in
-    let t = c.args.traversal.now in
     let before = c.args.lists.now in
     let new = c.follow.new.traversal in
-    let i = c.in-Some.instruction in
-    let op = c.in-Some.ensures.found.0 in
+    let i = c.instruction_at-instruction.result in
+    let op = c.instruction_at-instruction.ensures.found.0 in
     let does = c.effect_of-effect.result in
-    let known = c.effect_of-effect.ensures op c.in-Some.ensures.found.2 in
+    let known = c.effect_of-effect.ensures op c.instruction_at-instruction.ensures.found.2 in
     let found = c.in_ok-check_needs.ensures in
-    let stays = c.in_ok-check_stays.ensures.stays code.setting op c.in-Some.ensures.found.2 known.operands known.flow_is in
-    let done = c.in_ok-after.ensures in
-    let after = done.followed in
-    let wide : c.width.result ≡ width_of op = let e = c.width.ensures in let w = instr_width (i.tag ∷ i.fields.now) op c.in-Some.ensures.found.2 in omega arith in
-    rw c.next.ensures (visited self c.args.chunk.now t new c.args.here deepest op c.width.result (Some c.in-Some-2.after) c.requires.ready c.requires.framed before c.follow.new.lists done.grows halts c.in-Some.ensures.found.1 wide does.asks.0 does.needs does.takes does.gives after.list (flow does.flow does.target) (known.asks code.setting c.requires.ready.asked) known.operands known.flow_is found.allowed found.there done.met stays after.there after.bases after.sends (sym c.in-Some-2.is ∙ after.falls) done.states done.long done.placed)
+    let stays = c.in_ok-check_stays.ensures.stays code.setting op c.instruction_at-instruction.ensures.found.2 known.operands known.flow_is in
+    let wide : c.width.result ≡ width_of op = let e = c.width.ensures in let w = instr_width (i.tag ∷ i.fields.now) op c.instruction_at-instruction.ensures.found.2 in omega arith in
+    let done = c.follow.ensures in
+    all_ok c.follow.result done.grows done.met done.states done.long (λ next grows met states long followed.
+    visited self c.args.chunk.now c.args.traversal.now new c.args.here deepest op c.width.result c.requires.ready c.requires.framed before c.follow.new.lists grows halts c.instruction_at-instruction.ensures.found.1 wide does.asks.0 does.needs does.takes does.gives (flow does.flow does.target) (new.work.items ++ option_to_list next) (known.asks code.setting c.requires.ready.asked) known.operands known.flow_is found.allowed found.there met stays followed states long) done.followed
 
-pub returns-in-None-clause-ok : goal.returns-in-None-clause-ok
-returns-in-None-clause-ok c deepest halts =
-    let self = c.args.self.now in
-    let code = bytecode_of self in
-    let t = c.args.traversal.now in
-    let before = c.args.lists.now in
+pub returns-clause-few : goal.returns-clause-few
+returns-clause-few c =
     let new = c.follow.new.traversal in
-    let op = c.in-Some.ensures.found.0 in
-    let does = c.effect_of-effect.result in
-    let known = c.effect_of-effect.ensures op c.in-Some.ensures.found.2 in
-    let found = c.in_ok-check_needs.ensures in
-    let stays = c.in_ok-check_stays.ensures.stays code.setting op c.in-Some.ensures.found.2 known.operands known.flow_is in
-    let done = c.in_ok-after.ensures in
-    let after = done.followed in
-    visited self c.args.chunk.now t new c.args.here deepest op (width_of op) None c.requires.ready c.requires.framed before c.follow.new.lists done.grows halts c.in-Some.ensures.found.1 refl does.asks.0 does.needs does.takes does.gives after.list (flow does.flow does.target) (known.asks code.setting c.requires.ready.asked) known.operands known.flow_is found.allowed found.there done.met stays after.there after.bases after.sends (sym c.in-None.is ∙ after.falls) done.states done.long done.placed
-
-pub returns-in-Some-2-clause-few : goal.returns-in-Some-2-clause-few
-returns-in-Some-2-clause-few c =
-    let sent = sends_few _ c.args.chunk.now _ _ _ _ _ c.args.traversal.now.work.items c.follow.new.traversal.work.items c.in_ok-after.ensures.followed.sends in
-    let next = next_few c.follow.new.traversal.work.items (Some c.next.result) in
-    omega (arith, sent, next)
-
-pub returns-in-None-clause-few : goal.returns-in-None-clause-few
-returns-in-None-clause-few c =
-    let sent = sends_few _ c.args.chunk.now _ _ _ _ _ c.args.traversal.now.work.items c.follow.new.traversal.work.items c.in_ok-after.ensures.followed.sends in
-    let next = next_few c.follow.new.traversal.work.items None in
-    omega (arith, sent, next)
+    IfOk-weaker c.follow.result _ _ (λ next followed. followed_few _ c.args.chunk.now _ _ _ _ _ _ _ _ _ c.args.traversal.now.work.items (new.work.items ++ option_to_list next) followed) c.follow.ensures.followed

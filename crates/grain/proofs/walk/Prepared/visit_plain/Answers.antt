@@ -145,3 +145,12 @@ pub overflow_add-visits : goal.overflow_add-visits
 overflow_add-visits c =
     let few = off_few c.args.self.now c.args.chunk.now c.args.lists.now _ _ _ c.loop-head.here _ refl c.loop-head.invariant.walking (omega (arith, c.end.ensures, in_front c.args.self.now.code.now _ _ _ c.in-Some.ensures.tag)) (sym c.get.ensures ∙ c.in_default-get.is) in
     omega (arith, few, c.loop-head.invariant.counted, c.end.ensures, c.end.type_inv)
+
+pub returns-in-None-clause-headed : goal.returns-in-None-clause-headed
+returns-in-None-clause-headed c =
+    let here = c.loop-head.here in
+    let code = c.args.self.now.code.now in
+    let l : here.at < c.args.chunk.now.end = omega (arith, c.end.ensures, in_front code _ _ _ c.in-Some.ensures.tag) in
+    let s = start_op code here.at (off_inside c.args.self.now c.args.chunk.now c.args.lists.now _ _ _ here _ refl c.loop-head.invariant.walking l).place in
+    let tag = front_tag code _ here.at _ s.1.0 c.in-Some.ensures.tag s.1.1 in
+    record { inside = s.0; op = s.1.0; stands = s.1.1; tag = tag; width = c.in-Some.ensures.width s.1.0 tag }

@@ -2,12 +2,12 @@ use Rattle.std.proofs.Common.{◌≡◌, ◌+◌, ◌-◌, ◌≤◌, ◌++◌, 
 use Rattle.grain.specs.Progress.{IsWalking, visits_in, weight}
 use Rattle.grain.proofs.walk.Prepared.walk_from.Given as goal
 
-abbrev pub invariant-loop-other : goal.invariant-loop-other
-invariant-loop-other l = record {
+abbrev pub invariant-others : goal.invariant-others
+invariant-others l = record {
   walking : IsWalking l.self l.chunk l.lists l.traversal (l.traversal.work.items ++ l.here ∷ []) l.deepest;
   counted : l.visits ≡ visits_in l.traversal.states;
   lighter : weight l.self l.traversal (length l.traversal.work.items + 1) ≤ weight l.self l.initial.traversal (length l.initial.traversal.work.items + 1);
 }
 
-abbrev pub decreases-loop-other : goal.decreases-loop-other
-decreases-loop-other l = length l.traversal.states - visits_in l.traversal.states
+abbrev pub decreases-others : goal.decreases-others
+decreases-others l = length l.traversal.states - visits_in l.traversal.states
