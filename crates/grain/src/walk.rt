@@ -218,9 +218,8 @@ impl Prepared<'_> {
         Ok(())
     }
 
-    /// Sends the state that an instruction of this width leaves to its targets and to what it falls through to, where it has
-    /// what it asks and the operands that it needs. One of these arrivals is answered, if there is any, in place of being
-    /// pushed.
+    /// Sends the state that an instruction of this width leaves to its targets, where it has what it asks and the operands
+    /// that it needs. It answers what falls through, or the target of a jump in place of pushing it.
     #[inline(always)]
     fn follow(
         &self,
