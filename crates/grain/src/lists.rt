@@ -53,6 +53,7 @@ impl Lists {
     }
 
     /// Forgets all lists but the empty one.
+    #[inline(never)]
     pub(crate) fn clear(&mut self)
         requires { IsShared self.old }
         ensures shared { IsShared self.new }

@@ -91,6 +91,7 @@ impl Traversal {
     }
 
     /// Begins the next chunk, in which nothing was visited.
+    #[inline(never)]
     fn begin_chunk(&mut self)
         ensures states { self.new.states ≡ replicate (length self.old.states) None }
         ensures sent { self.new.sent ≡ replicate (length self.old.sent) None }
@@ -485,6 +486,7 @@ impl Prepared<'_> {
 
     /// How many instructions stand before the chunk's entry, where the chunk lies in the code and begins and ends where
     /// instructions do.
+    #[inline(never)]
     fn check_frame(&self, chunk: &Chunk) -> Result<usize, VerifyError>
         requires { IsReady self.now }
         ensures framed { OnOk result (IsFramed (bytecode_of self.now) chunk.now) }
