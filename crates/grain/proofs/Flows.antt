@@ -1,5 +1,5 @@
 -- What an operation does, where its flow is known.
-use Rattle.std.proofs.Common.{◌≡◌, ℕ, ◌+◌, ◌-◌, ◌^◌, ◌<◌, ◌≤◌, length, ap, subst}
+use Rattle.std.proofs.Common.{◌≡◌, ℕ, ◌+◌, ◌-◌, ◌^◌, ◌<◌, ◌≤◌, length, ap, refl, subst}
 use Rattle.std.specs.Int.Bits.{and_zero_l}
 use Rattle.grain_bytecode.specs.Span.{Span}
 use Rattle.grain_bytecode.specs.declared.op.Op.{Op}
@@ -9,10 +9,13 @@ use Rattle.grain.specs.Code.{Bytecode, coded}
 use Rattle.grain.specs.Counts.{Counts}
 use Rattle.grain.specs.Effects.{stack_effect, needs, Meets, operands_after}
 use Rattle.grain.specs.Flow.{Flow, flow_of, iterators_for, handlers_for}
-use Rattle.grain.specs.FlowView.{IsMetBy, IsShort}
+use Rattle.grain.specs.FlowView.{IsMetBy, IsShort, flow}
+use Rattle.grain.specs.Plain.{GoesOn}
 use Rattle.grain.specs.Setting.{Setting}
 use Rattle.grain.specs.Sinking.{Stays}
 use Rattle.grain.specs.Typing.{Passes, StandsIn}
+use Rattle.grain.specs.declared.flow.Flow.{Flow as Way}
+use Rattle.grain.specs.declared.flow.Flow.TheVariants as ways
 use Rattle.grain.specs.declared.error.VerifyError.{VerifyError}
 use Rattle.grain.specs.declared.error.VerifyError.TheVariants as errors
 
@@ -44,3 +47,16 @@ passes_known code chunk at op c caps needs takes gives f stands asked known same
   allowed = subst (Allows code.setting.caps) asked allowed;
   stays = stays;
 }
+
+-- a flow that goes on whatever iterators there are needs none
+pub goes_freely : (way : Way) (target : ℕ) → GoesOn way → iterators_for (flow way target) ≡ 0
+goes_freely ways.Falls target on = refl
+goes_freely ways.Ends target on = refl
+goes_freely ways.Jumps target on = refl
+goes_freely ways.Branches target on = refl
+goes_freely ways.Switches target on = refl
+goes_freely ways.BeginsIterator target on = refl
+goes_freely ways.AdvancesIterator target on = absurd on
+goes_freely ways.EndsIterator target on = absurd on
+goes_freely ways.PushesHandler target on = refl
+goes_freely ways.PopsHandler target on = refl

@@ -1,9 +1,10 @@
 -- No instruction sends its state to more places than all switches have targets, and one.
-use Rattle.std.proofs.Common.{◌≡◌, ℕ, ◌+◌, ◌*◌, ◌-◌, ◌<◌, ◌≤◌, inl, inr, Bool, true, false, cond, Option, List, [], ◌∷◌, ◌++◌, length, get_or, map, ap, ◌∙◌, arith}
+use Rattle.std.proofs.Common.{◌≡◌, ℕ, ◌+◌, ◌*◌, ◌-◌, ◌<◌, ◌≤◌, inl, inr, Bool, true, false, cond, Option, List, [], ◌∷◌, ◌++◌, length, get_or, map, Vec, ap, ◌∙◌, arith}
 use Rattle.std.proofs.Math.Nat.{mul-le-mul_left}
 use Rattle.std.proofs.lemmas.List.{length-append, length-map, get_or_past}
 use Rattle.std.proofs.lemmas.List.Sums.{get_or-le-sum_by}
 use Rattle.std.proofs.lemmas.Bool.{cases_lt}
+use Rattle.std.specs.declared.alloc.Global.{Global}
 use Rattle.grain_bytecode.specs.Span.{Span}
 use Rattle.grain.specs.Arrivals.{Sends, Underway, all_underway, underway}
 use Rattle.grain.specs.Flow.{Flow, Switches, falls_for, targets_for}
@@ -15,6 +16,7 @@ use Rattle.grain.specs.declared.state.Arrival.{Arrival}
 use Rattle.grain.specs.declared.state.State.{State}
 use Rattle.grain.specs.declared.walk.Prepared.{Prepared}
 use Rattle.grain.specs.declared.walk.Traversal.{Traversal}
+use Rattle.grain.proofs.Walking.{visits_few}
 
 few_by : (switches : List (List ℕ)) (f : Flow) → length (targets_for switches f) ≤ all_targets switches + 1
 few_by switches (Switches w) = elim (cases_lt w (length switches)) [
@@ -69,3 +71,12 @@ lighter_on p t new news olds long further most few =
 pub lighter_by_one : (p : Prepared) (t new : Traversal) (news olds : ℕ) → length new.states ≡ length t.states → visits_in t.states ≤ visits_in new.states → news < olds → weight p new news < weight p t olds
 lighter_by_one p t new news olds long more less =
     skips (all_targets (bytecode_of p).switches + 2 + 1) (length t.states - visits_in t.states) (length new.states - visits_in new.states) news olds (omega (arith, long, more)) less
+
+-- once an instruction is marked and what it leads to is on its way, less may still come than before
+pub lighter_still : (p : Prepared) (t marked new : Traversal) (n first : ℕ) → visits_in marked.states ≡ visits_in t.states + 1 → length marked.states ≡ length t.states → marked.work ≡ t.work → new.states ≡ marked.states → n ≤ length marked.work.items + (all_targets (bytecode_of p).switches + 2) → weight p t (length t.work.items + 1) ≤ first → weight p new n < first
+lighter_still p t marked new n first more long work states few lighter =
+    let seen : visits_in new.states ≡ visits_in marked.states = ap visits_in states in
+    let same : length new.states ≡ length t.states = ap (λ (s : List (Option State)). length s) states ∙ long in
+    let kept : length marked.work.items ≡ length t.work.items = ap (λ (v : Vec Arrival Global). length v.items) work in
+    let less = lighter_on p t new n (length t.work.items + 1) same (omega (arith, seen, more)) (visits_few new.states) (omega (arith, kept, few)) in
+    omega (arith, less, lighter)

@@ -1,5 +1,5 @@
 -- Where instructions begin.
-use Rattle.std.proofs.Common.{◌≡◌, ℕ, ◌+◌, ◌<◌, ◌≤◌, ◌⊎◌, inl, inr, suc, zero, List, [], ◌∷◌, ◌++◌, length, take, drop, slice_get, Some, refl, sym, ap, subst, ◌∙◌, arith}
+use Rattle.std.proofs.Common.{◌≡◌, ℕ, ◌+◌, ◌<◌, ◌≤◌, ◌⊎◌, inl, inr, suc, zero, List, [], ◌∷◌, ◌++◌, length, take, drop, slice_get, Option, None, Some, IfSome, refl, sym, ap, subst, ◌∙◌, arith}
 use Rattle.std.specs.List.{Contains, flat_map}
 use Rattle.std.proofs.lemmas.Bool.{cases_lt}
 use Rattle.std.proofs.lemmas.List.{length-drop, length-take, drop_at, drop-drop, get_or-take}
@@ -8,9 +8,11 @@ use Rattle.std.proofs.lemmas.List.Concat.{flat_map-cons}
 use Rattle.grain_bytecode.specs.InstructionTable.{form, spelling, width_of}
 use Rattle.grain_bytecode.specs.Split.{AreInstructions, Begins, StandsAt, Split, starts_from}
 use Rattle.grain_bytecode.specs.declared.op.Op.{Op}
+use Rattle.grain_bytecode.specs.declared.tag_widths.Head.{Head}
 use Rattle.grain_bytecode.proofs.Instructions.{begins_fits, begins_spelling, spelling_width, standing_tag}
 use Rattle.grain_bytecode.proofs.Splits.{one_split}
 use Rattle.grain.specs.Layout.{IsStart, IsBoundary}
+use Rattle.grain.specs.Walk.{HasHead}
 use Rattle.grain.proofs.Once.{stands_once}
 
 pub width_pos : (op : Op) → 0 < width_of op
@@ -143,3 +145,11 @@ front_tag code end at tag op is stands =
     let there = slice_get_within (take end code) at tag is in
     let l = length-take end code in
     sym (standing_tag code at op (omega (arith, there, l)) stands) ∙ sym (get_or-take end code at 0 k) ∙ byte
+
+-- the head of the instruction that stands there in the code
+pub head_there : (code : List ℕ) (end at : ℕ) (head : Option Head) → (at < end → IsStart code at) → IfSome head (λ h. slice_get (take end code) at ≡ Some h.tag) → IfSome head (λ h. (op : Op) → (form op).0 ≡ h.tag → h.width ≡ width_of op) → IfSome head (HasHead code at)
+head_there code end at None place tag width = tt
+head_there code end at (Some h) place tag width =
+    let s = start_op code at (place (in_front code end at h.tag tag)) in
+    let is = front_tag code end at h.tag s.1.0 tag s.1.1 in
+    record { inside = s.0; op = s.1.0; stands = s.1.1; tag = is; width = width s.1.0 is }

@@ -1,5 +1,5 @@
 -- Operations that do no more than take some operands and give some.
-use Rattle.std.specs.Prelude.{◌≡◌, ℕ, ◌+◌, ◌-◌, ◌<◌, ◌≤◌, ◌^◌, List}
+use Rattle.std.specs.Prelude.{◌≡◌, ⊤, ℕ, ◌+◌, ◌-◌, ◌<◌, ◌≤◌, ◌^◌, List}
 use Rattle.grain_bytecode.specs.InstructionTable.{width_of}
 use Rattle.grain_bytecode.specs.Split.{StandsAt}
 use Rattle.grain_bytecode.specs.declared.chain.Chain.{Chain}
@@ -11,6 +11,8 @@ use Rattle.grain.specs.Flow.{Falls, flow_of}
 use Rattle.grain.specs.Lists.{list_of}
 use Rattle.grain.specs.Setting.{Setting}
 use Rattle.grain.specs.Sinking.{ReachesUpTo}
+use Rattle.grain.specs.declared.flow.Flow.{Flow}
+use Rattle.grain.specs.declared.flow.Flow.TheVariants as ways
 use Rattle.grain.specs.declared.lists.Lists.{Lists}
 use Rattle.grain.specs.declared.state.Arrival.{Arrival}
 use Rattle.grain.specs.declared.state.State.{State}
@@ -24,6 +26,32 @@ pub record IsPlain (op : Op) (needs takes gives : ℕ) : Type 0 where
 -- while so many operands stay, the stacks reach up to the base of the last handler
 abbrev pub IsFloor : Lists → State → ℕ → Type 0
 IsFloor lists s floor = (n : ℕ) → n < 2 ^ 32 → floor ≤ n → ReachesUpTo (last_base (list_of lists s.list)) (record { operands = n; iterators = s.iterators })
+
+-- What is known of the floor of what comes next by such a flow, where this was the floor.
+abbrev pub LeavesFloor : Flow → ℕ → Lists → State → Type 0
+LeavesFloor ways.Falls floor lists s = ⊤
+LeavesFloor ways.Ends floor lists s = ⊤
+LeavesFloor ways.Jumps floor lists s = IsFloor lists s floor
+LeavesFloor ways.Branches floor lists s = IsFloor lists s floor
+LeavesFloor ways.Switches floor lists s = ⊤
+LeavesFloor ways.BeginsIterator floor lists s = ⊤
+LeavesFloor ways.AdvancesIterator floor lists s = ⊤
+LeavesFloor ways.EndsIterator floor lists s = ⊤
+LeavesFloor ways.PushesHandler floor lists s = IsFloor lists s s.operands
+LeavesFloor ways.PopsHandler floor lists s = ⊤
+
+-- Such a flow goes on, to the next operation or to its target, whatever iterators there are.
+abbrev pub GoesOn : Flow → Type 0
+GoesOn ways.Falls = ⊤
+GoesOn ways.Ends = ⊥
+GoesOn ways.Jumps = ⊤
+GoesOn ways.Branches = ⊤
+GoesOn ways.Switches = ⊥
+GoesOn ways.BeginsIterator = ⊤
+GoesOn ways.AdvancesIterator = ⊥
+GoesOn ways.EndsIterator = ⊥
+GoesOn ways.PushesHandler = ⊤
+GoesOn ways.PopsHandler = ⊤
 
 -- The plain instruction here finds the operands that it needs, stays above the base of the last handler, and falls through
 -- to the next arrival.

@@ -1,11 +1,19 @@
 -- What the walks of all chunks know of the code.
-use Rattle.std.specs.Prelude.{◌≡◌, ◌<◌, ℕ, List, length}
-use Rattle.grain_bytecode.specs.InstructionTable.{form, width_of}
+use Rattle.std.specs.Prelude.{◌≡◌, ◌<◌, ◌≤◌, ◌∷◌, ℕ, List, length}
+use Rattle.grain_bytecode.specs.InstructionTable.{Instr, form, width_of}
 use Rattle.grain_bytecode.specs.Split.{Split, StandsAt}
+use Rattle.grain_bytecode.specs.declared.instruction.Instruction.{Instruction}
 use Rattle.grain_bytecode.specs.declared.op.Op.{Op}
 use Rattle.grain_bytecode.specs.declared.tag_widths.Head.{Head}
+use Rattle.grain.specs.Arrivals.{view}
+use Rattle.grain.specs.Capabilities.{Allows}
 use Rattle.grain.specs.Code.{Bytecode, bytecode}
 use Rattle.grain.specs.PoolCaps.{AreAsked}
+use Rattle.grain.specs.Sinking.{Stays}
+use Rattle.grain.specs.TagEffects.{IsEffectIn}
+use Rattle.grain.specs.declared.effects.Effect.{Effect}
+use Rattle.grain.specs.declared.lists.Lists.{Lists}
+use Rattle.grain.specs.declared.state.Arrival.{Arrival}
 use Rattle.grain.specs.declared.walk.Prepared.{Prepared}
 
 -- the code that is walked, in its setting
@@ -24,3 +32,14 @@ pub record HasHead (code : List ℕ) (at : ℕ) (head : Head) : Type 0 where
   pub stands : StandsAt code at op
   pub tag : (form op).0 ≡ head.tag
   pub width : head.width ≡ width_of op
+
+-- The instruction here does this, finds what it asks and the operands that it needs, and leaves what stood when the last
+-- handler was armed.
+pub record IsPassing (p : Prepared) (lists : Lists) (here : Arrival) (i : Instruction) (effect : Effect) : Type 0 where
+  pub op : Op
+  pub stands : StandsAt p.code.now here.at op
+  pub is : Instr (i.tag ∷ i.fields.now) op
+  pub does : IsEffectIn p.pools.now.chains.now p.asked effect op
+  pub allowed : Allows (bytecode_of p).setting.caps effect.asks.0
+  pub there : effect.needs ≤ here.state.operands
+  pub stays : Stays (bytecode_of p).setting op (view lists here.state)

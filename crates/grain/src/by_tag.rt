@@ -1,12 +1,30 @@
 //! What an instruction does, where its tag and its target tell.
-ghost use Rattle.std.specs.Prelude.{◌∷◌, IfSome};
+ghost use Rattle.std.specs.Prelude.{◌≡◌, ◌+◌, ◌≤◌, ◌∷◌, IfSome, Some};
 ghost use Rattle.grain_bytecode.specs.InstructionTable.{Instr};
 ghost use Rattle.grain_bytecode.specs.declared.op.Op.{Op};
-ghost use Rattle.grain.specs.TagEffects.{IsEffectOf};
+ghost use Rattle.grain.specs.TagEffects.{IsEffectOf, TellsFlow};
 
 use crate::effects::Effect;
-use crate::tag_effects::tag_effect;
+use crate::flow::Flow;
+use crate::tag_effects::{TagEffect, tag_effect};
 use grain_bytecode::Instruction;
+
+/// What an instruction does of which its tag tells this, and that it is left by this flow.
+#[inline(always)]
+pub(crate) fn effect_told(instruction: &Instruction<'_>, told: &TagEffect, way: Flow) -> Effect
+    requires there { told.now.takes ≤ told.now.needs }
+    requires by_one { told.now.gives ≤ told.now.takes + 1 }
+    ensures does { (op : Op) → Instr (instruction.now.tag ∷ instruction.now.fields.now) op
+        → TellsFlow (Some way) (told.now.needs, told.now.takes, told.now.gives) op
+        → IsEffectOf result op }
+    ensures needs { result.needs ≡ told.now.needs }
+    ensures takes { result.takes ≡ told.now.takes }
+    ensures asks { result.asks.0 ≡ 0 }
+    ensures flow { result.flow ≡ way }
+{
+    let target = instruction.target().unwrap_or(0);
+    Effect::of_tag(told, way, target)
+}
 
 /// What an instruction does, where its tag and its target tell.
 #[inline(always)]
@@ -16,6 +34,5 @@ pub(crate) fn effect_by_tag(instruction: &Instruction<'_>) -> Option<Effect>
 {
     let told = tag_effect(instruction.tag);
     let flow = told.flow?;
-    let target = instruction.target().unwrap_or(0);
-    Some(Effect::of_tag(told, flow, target))
+    Some(effect_told(instruction, told, flow))
 }

@@ -1,6 +1,6 @@
 //! The walk over one chunk.
 ghost use Rattle.std.specs.Prelude.{◌≡◌, ◌≢◌, ℕ, ◌+◌, ◌-◌, ◌≤◌, ◌<◌, ◌^◌, ◌++◌, ◌∷◌, ◌⊎◌, [], None, Some};
-ghost use Rattle.std.specs.Prelude.{length, replicate, slice_get, IfErr, IfNone, IfOk, IfSome, List, OnOk};
+ghost use Rattle.std.specs.Prelude.{get_or, length, replicate, slice_get, IfErr, IfNone, IfOk, IfSome, List, OnOk};
 ghost use Rattle.std.specs.Option.{option_to_list};
 ghost use Rattle.std.specs.List.{All};
 ghost use Rattle.grain_bytecode.specs.InstructionTable.{Instr, form, width_of};
@@ -13,21 +13,21 @@ ghost use Rattle.grain.specs.Code.{coded};
 ghost use Rattle.grain.specs.Counts.{last_base};
 ghost use Rattle.grain.specs.Effects.{needs, stack_effect};
 ghost use Rattle.grain.specs.Flaw.{ChunkFlaw};
-ghost use Rattle.grain.specs.Flow.{flow_of};
+ghost use Rattle.grain.specs.Flow.{flow_of, iterators_for};
 ghost use Rattle.grain.specs.FlowView.{IsFollowed, IsMetBy, IsShort, RefusesFlow, flow};
 ghost use Rattle.grain.specs.Lists.{Grows, IsShared, size};
 ghost use Rattle.grain.specs.Meter.{starts_within};
-ghost use Rattle.grain.specs.Plain.{IsFloor, IsPlainStep};
+ghost use Rattle.grain.specs.Plain.{GoesOn, IsFloor, IsPlainStep, LeavesFloor};
 ghost use Rattle.grain.specs.Progress.{Fits, HaltsAt, IsMeteredChunk, IsWalking, all_targets, visits_in, weight};
 ghost use Rattle.grain.specs.Setting.{Setting};
 ghost use Rattle.grain.specs.Sinking.{Stays, untouched};
 ghost use Rattle.grain.specs.SinkingView.{RefusesSinking};
-ghost use Rattle.grain.specs.TagEffects.{IsEffectIn};
-ghost use Rattle.grain.specs.Typing.{HasTyping, IsDeepest, IsReachedCount};
-ghost use Rattle.grain.specs.Walk.{HasHead, IsReady, bytecode_of};
+ghost use Rattle.grain.specs.TagEffects.{IsEffectIn, TellsFlow};
+ghost use Rattle.grain.specs.Typing.{HasTyping, IsDeepest, IsInChunk, IsReachedCount};
+ghost use Rattle.grain.specs.Walk.{HasHead, IsPassing, IsReady, bytecode_of};
 ghost use Rattle.grain.specs.declared.lists.Lists.{Lists};
 
-use crate::by_tag::effect_by_tag;
+use crate::by_tag::{effect_by_tag, effect_told};
 use crate::capabilities::{PoolCaps, missing};
 use crate::edges::{arrival_at, push_table, push_target};
 use crate::effects::Effect;
@@ -39,7 +39,7 @@ use crate::pools::Pools;
 use crate::sinking::check_sinking;
 use crate::state::{Arrival, State, check_same};
 use crate::states::States;
-use crate::tag_effects::tag_effect;
+use crate::tag_effects::{TagEffect, tag_effect};
 use grain_base::{Caps, Flags};
 use grain_bytecode::{Chunk, Head, Instruction, Starts};
 use std::alloc::{AllocError, Global};
@@ -154,6 +154,7 @@ fn instruction_at<'a>(code: &'a [u8], at: usize, head: Head) -> Instruction<'a>
     requires { HasHead code.now at head }
     ensures found { (op : Op) × StandsAt code.now at op
         × Instr (result.tag ∷ result.fields.now) op }
+    ensures tag { result.tag ≡ head.tag }
 {
     let end = at + usize::from(head.width);
     Instruction {
@@ -250,6 +251,10 @@ impl Prepared<'_> {
             (traversal.new.work.items ++ option_to_list next)) }
         ensures states { OnOk result (traversal.new.states ≡ traversal.old.states) }
         ensures long { OnOk result (length traversal.new.sent ≡ length traversal.old.sent) }
+        ensures goes_on { GoesOn effect.flow → IfOk result (λ next. IfNone next ⊥) }
+        ensures floor { (floor : ℕ) → IsFloor lists.old here.state floor
+            → IfOk result (λ next. IfSome next (λ a.
+            LeavesFloor effect.flow floor lists.new a.state)) }
         ensures err { IfErr result (RefusesFlow self.now.starts.starts chunk.now
             (bytecode_of self.now).switches here.at (view lists.old here.state) (record here.state {
               operands = here.state.operands - effect.takes + effect.gives;
@@ -316,6 +321,41 @@ impl Prepared<'_> {
         Effect::of(&op, self.pools.chains, &self.asked)
     }
 
+    /// Follows the flow of an instruction that has all that it asks and needs but maybe an iterator or a handler. It answers
+    /// the next arrival, if there is one that isn't on the worklist.
+    #[inline(always)]
+    fn follow_passing(
+        &self,
+        chunk: &Chunk,
+        here: Arrival,
+        instruction: &Instruction<'_>,
+        effect: Effect,
+        lists: &mut Lists,
+        traversal: &mut Traversal,
+    ) -> Result<Option<Arrival>, VerifyError>
+        requires ready { IsReady self.now }
+        requires framed { IsFramed (bytecode_of self.now) chunk.now }
+        requires passing { IsPassing self.now lists.old here instruction.now effect }
+        requires halts { (deepest : ℕ)
+            × HaltsAt self.now chunk.now lists.old traversal.old here deepest }
+        ensures ok { (deepest : ℕ)
+            → HaltsAt self.now chunk.now lists.old traversal.old here deepest
+            → IfOk result (λ next. IsWalking self.now chunk.now lists.new traversal.new
+            (traversal.new.work.items ++ option_to_list next) deepest) }
+        ensures states { OnOk result (traversal.new.states ≡ traversal.old.states) }
+        ensures few { IfOk result (λ next. length (traversal.new.work.items ++ option_to_list next)
+            ≤ length traversal.old.work.items
+            + (all_targets (bytecode_of self.now).switches + 2)) }
+        ensures goes_on { GoesOn effect.flow → IfOk result (λ next. IfNone next ⊥) }
+        ensures floor { (floor : ℕ) → IsFloor lists.old here.state floor
+            → IfOk result (λ next. IfSome next (λ a.
+            LeavesFloor effect.flow floor lists.new a.state)) }
+        ensures err { IfErr result (λ e. (e ≡ VerifyError.OutOfMemory)
+            ⊎ ChunkFlaw (bytecode_of self.now) chunk.now e) }
+    {
+        self.follow(chunk, effect, here, instruction.width(), lists, traversal)
+    }
+
     /// Visits an instruction: tests what it asks and needs and what it leaves as it was, and follows its flow. It answers the
     /// next arrival, if there is one that isn't on the worklist.
     #[inline(always)]
@@ -347,62 +387,103 @@ impl Prepared<'_> {
         let effect = self.effect_of(&instruction);
         self.check_needs(effect, here.at, here.state)?;
         check_stays(&instruction, effect, here, lists)?;
-        self.follow(chunk, effect, here, instruction.width(), lists, traversal)
+        self.follow_passing(chunk, here, &instruction, effect, lists, traversal)
     }
 
-    /// Visits plain instructions one after another, from an arrival on, and marks each as visited. It answers the first
-    /// other instruction that it comes to, marked too, with its head; none where it comes to one that was visited with the
-    /// same state.
+    /// The same for an instruction that goes on and needs no iterator, of which its tag tells all, and that finds the operands
+    /// that it needs above the floor. It answers the next arrival.
     #[inline(always)]
-    fn visit_plain(
+    fn visit_told(
         &self,
         chunk: &Chunk,
-        from: Arrival,
+        here: Arrival,
+        head: Head,
+        told: &TagEffect,
+        way: Flow,
+        lists: &mut Lists,
+        traversal: &mut Traversal,
+    ) -> Result<Arrival, VerifyError>
+        requires ready { IsReady self.now }
+        requires framed { IsFramed (bytecode_of self.now) chunk.now }
+        requires headed { HasHead self.now.code.now here.at head }
+        requires told { (op : Op) → (form op).0 ≡ head.tag
+            → TellsFlow (Some way) (told.now.needs, told.now.takes, told.now.gives) op }
+        requires there { told.now.takes ≤ told.now.needs }
+        requires by_one { told.now.gives ≤ told.now.takes + 1 }
+        requires goes_on { GoesOn way }
+        requires above { (floor : ℕ) × IsFloor lists.old here.state floor
+            × (floor + told.now.needs ≤ here.state.operands) }
+        requires halts { (deepest : ℕ)
+            × HaltsAt self.now chunk.now lists.old traversal.old here deepest }
+        ensures ok { (deepest : ℕ)
+            → HaltsAt self.now chunk.now lists.old traversal.old here deepest
+            → IfOk result (λ next. IsWalking self.now chunk.now lists.new traversal.new
+            (traversal.new.work.items ++ next ∷ []) deepest) }
+        ensures states { OnOk result (traversal.new.states ≡ traversal.old.states) }
+        ensures few { OnOk result (length traversal.new.work.items + 1
+            ≤ length traversal.old.work.items
+            + (all_targets (bytecode_of self.now).switches + 2)) }
+        ensures floor { (floor : ℕ) → IsFloor lists.old here.state floor
+            → IfOk result (λ next. LeavesFloor way floor lists.new next.state) }
+        ensures err { IfErr result (λ e. (e ≡ VerifyError.OutOfMemory)
+            ⊎ ChunkFlaw (bytecode_of self.now) chunk.now e) }
+    {
+        let instruction = instruction_at(self.code, here.at as usize, head);
+        let effect = effect_told(&instruction, told, way);
+        match self.follow_passing(chunk, here, &instruction, effect, lists, traversal)? {
+            Some(next) => Ok(next),
+            None => unreachable!(),
+        }
+    }
+
+    /// The head of the instruction at an address that was come to, or `None` at the end of the chunk.
+    #[inline(always)]
+    fn head_at(&self, chunk: &Chunk, at: u32) -> Option<Head>
+        requires framed { IsFramed (bytecode_of self.now) chunk.now }
+        requires place { at < chunk.now.end → IsInChunk (coded (bytecode_of self.now)) chunk.now at }
+        ensures inside { IfSome result (λ _. at < chunk.now.end) }
+        ensures addresses { chunk.now.end < 2 ^ 32 }
+        ensures headed { IfSome result (HasHead self.now.code.now at) }
+        ensures none { IfNone result (chunk.now.end ≤ at) }
+    {
+        let code = &self.code[..chunk.end() as usize];
+        Head::at(code, at as usize)
+    }
+
+    /// Marks an instruction as visited, and counts it.
+    #[inline(always)]
+    fn mark(
+        &self,
+        chunk: &Chunk,
+        here: Arrival,
         lists: &Lists,
         traversal: &mut Traversal,
         visits: &mut u32,
         deepest: &mut u32,
-    ) -> Result<Option<(Arrival, Head)>, VerifyError>
+    )
         requires ready { IsReady self.now }
-        requires framed { IsFramed (bytecode_of self.now) chunk.now }
         requires walking { IsWalking self.now chunk.now lists.now traversal.old
-            (traversal.old.work.items ++ from ∷ []) deepest.old }
+            (traversal.old.work.items ++ here ∷ []) deepest.old }
+        requires inside { here.at < chunk.now.end }
+        requires addresses { chunk.now.end < 2 ^ 32 }
+        requires fresh { get_or traversal.old.states here.ordinal None ≡ None }
         requires counted { visits.old ≡ visits_in traversal.old.states }
-        ensures halts { IfOk result (λ next. IfSome next (λ other.
-            HaltsAt self.now chunk.now lists.now traversal.new other.0 deepest.new)) }
-        ensures headed { IfOk result (λ next. IfSome next (λ other.
-            HasHead self.now.code.now other.0.at other.1)) }
-        ensures skips { IfOk result (λ next. IfNone next (IsWalking self.now chunk.now lists.now
-            traversal.new traversal.new.work.items deepest.new)) }
-        ensures further { IfOk result (λ next. IfSome next (λ _.
-            visits_in traversal.old.states < visits_in traversal.new.states)) }
+        ensures halts { HaltsAt self.now chunk.now lists.now traversal.new here deepest.new }
         ensures counted { visits.new ≡ visits_in traversal.new.states }
-        ensures more { visits_in traversal.old.states ≤ visits_in traversal.new.states }
-        ensures within { visits_in traversal.new.states
-            ≤ starts_within self.now.starts.starts chunk.now }
+        ensures within { visits.new ≤ starts_within self.now.starts.starts chunk.now }
+        ensures more { visits_in traversal.new.states ≡ visits_in traversal.old.states + 1 }
+        ensures long { length traversal.new.states ≡ length traversal.old.states }
         ensures work { traversal.new.work ≡ traversal.old.work }
-        ensures err { IfErr result (ChunkFlaw (bytecode_of self.now) chunk.now) }
     {
-        let floor = from.state.floor(lists);
-        let code = &self.code[..chunk.end() as usize];
-        let mut here = from;
-        while let Some(head) = Head::at(code, here.at as usize) {
-            if let Some(before) = traversal.states.get(here.ordinal) {
-                check_same(here.at, before, here.state)?;
-                return Ok(None);
-            }
-            traversal.states.set(here.ordinal, here.state);
-            *visits += 1;
-            *deepest = (*deepest).max(here.state.operands);
-            match plain_next(head, here, floor) {
-                Some(next) => here = next,
-                None => return Ok(Some((here, head))),
-            }
-        }
-        Err(VerifyError::FallsOffTheEnd)
+        traversal.states.set(here.ordinal, here.state);
+        *visits += 1;
+        *deepest = (*deepest).max(here.state.operands);
     }
 
     /// Walks from an arrival on, until nothing comes next that wasn't visited.
+    ///
+    /// What tags tell most often is visited without the tests of [`Prepared::visit`] where the operands are above the floor,
+    /// each flow in an arm of its own, which is compiled apart.
     #[inline(always)]
     fn walk_from(
         &self,
@@ -429,15 +510,47 @@ impl Prepared<'_> {
             ⊎ ChunkFlaw (bytecode_of self.now) chunk.now e) }
     {
         let mut here = from;
-        'others: while let Some((other, head)) = self.visit_plain(
-            chunk, here, lists, traversal, visits, deepest,
-        )? {
-            match self.visit(chunk, other, head, lists, traversal)? {
-                Some(next) => here = next,
-                None => return Ok(()),
+        let mut floor = from.state.floor(lists);
+        'others: while let Some(head) = self.head_at(chunk, here.at) {
+            if let Some(before) = traversal.states.get(here.ordinal) {
+                return check_same(here.at, before, here.state);
+            }
+            self.mark(chunk, here, lists, traversal, visits, deepest);
+            if let Some(next) = plain_next(head, here, floor) {
+                here = next;
+                continue;
+            }
+            let told = tag_effect(head.tag);
+            let above = floor + u64::from(told.needs) <= u64::from(here.state.operands);
+            match told.flow {
+                Some(Flow::Jumps) if above => {
+                    let way = Flow::Jumps;
+                    here = self.visit_told(chunk, here, head, told, way, lists, traversal)?;
+                }
+                Some(Flow::Branches) if above => {
+                    let way = Flow::Branches;
+                    here = self.visit_told(chunk, here, head, told, way, lists, traversal)?;
+                }
+                Some(Flow::PushesHandler) if above => {
+                    let way = Flow::PushesHandler;
+                    here = self.visit_told(chunk, here, head, told, way, lists, traversal)?;
+                    floor = here.state.floor_armed();
+                }
+                Some(Flow::PopsHandler) if above => {
+                    let way = Flow::PopsHandler;
+                    here = self.visit_told(chunk, here, head, told, way, lists, traversal)?;
+                    floor = here.state.floor(lists);
+                }
+                _ => {
+                    let Some(next) = self.visit(chunk, here, head, lists, traversal)? else {
+                        return Ok(());
+                    };
+                    here = next;
+                    floor = here.state.floor(lists);
+                }
             }
         }
-        Ok(())
+        Err(VerifyError::FallsOffTheEnd)
     }
 
     /// Walks from the chunk's entry, an instruction of this ordinal, and answers the greatest operand count that it meets.

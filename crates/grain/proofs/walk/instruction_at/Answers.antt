@@ -4,8 +4,8 @@ use Rattle.grain_bytecode.proofs.Instructions.{instr_along, standing_tag, tag_an
 use Rattle.grain.proofs.Splits.{op_fits, width_pos}
 use Rattle.grain.proofs.walk.instruction_at.Goals as goal
 
-pub returns : goal.returns
-returns c =
+pub returns-clause-found : goal.returns-clause-found
+returns-clause-found c =
     let code = c.args.code.now in
     let at = c.args.at in
     let head = c.requires in
@@ -17,4 +17,4 @@ returns c =
     let same =
     ap (λ n. take n (drop at code)) (sym wide)
     ∙ (sym bytes ∙ ap (λ t. t ∷ take (at + width - (at + 1)) (drop (at + 1) code)) tag) in
-    record { found = (head.op, head.stands, instr_along _ _ head.op same head.stands) }
+    (head.op, head.stands, instr_along _ _ head.op same head.stands)
