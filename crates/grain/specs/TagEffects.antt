@@ -17,6 +17,8 @@ use Rattle.grain.specs.declared.effects.Effect.{Effect}
 use Rattle.grain.specs.declared.flow.Flow.{Flow}
 use Rattle.grain.specs.declared.flow.Flow.TheVariants as ways
 use Rattle.grain.specs.declared.tag_effects.TagEffect.{TagEffect}
+use Rattle.grain.specs.declared.tag_effects.ToldFlow.{ToldFlow}
+use Rattle.grain.specs.declared.tag_effects.ToldFlow.TheVariants as told
 
 -- its needs, what it takes and what it gives are these whatever the pools hold, and it asks nothing of the host
 pub record IsFixed (op : Op) (effect : ℕ × ℕ × ℕ) : Type 0 where
@@ -40,9 +42,22 @@ TellsFlow (Some ways.EndsIterator) e op = IsFixed op e × (flow_of op ≡ flows.
 TellsFlow (Some ways.PushesHandler) e op = IsFixed op e × FlowsTo op flows.PushesHandler
 TellsFlow (Some ways.PopsHandler) e op = IsFixed op e × (flow_of op ≡ flows.PopsHandler)
 
+-- the flow that a row of the table of tags tells, if it does
+abbrev pub told_flow : ToldFlow → Option Flow
+told_flow told.Untold = None
+told_flow told.Falls = Some ways.Falls
+told_flow told.Ends = Some ways.Ends
+told_flow told.Jumps = Some ways.Jumps
+told_flow told.Branches = Some ways.Branches
+told_flow told.BeginsIterator = Some ways.BeginsIterator
+told_flow told.AdvancesIterator = Some ways.AdvancesIterator
+told_flow told.EndsIterator = Some ways.EndsIterator
+told_flow told.PushesHandler = Some ways.PushesHandler
+told_flow told.PopsHandler = Some ways.PopsHandler
+
 -- what a tag tells is what the operation does
 abbrev pub Tells : TagEffect → Op → Type 0
-Tells told op = TellsFlow told.flow (told.needs, told.takes, told.gives) op
+Tells row op = TellsFlow (told_flow row.flow) (row.needs, row.takes, row.gives) op
 
 -- the effect is that of the operation, whatever the pools hold, and asks nothing of the host
 pub record IsEffectOf (e : Effect) (op : Op) : Type 0 where

@@ -33,6 +33,6 @@ pub(crate) fn effect_by_tag(instruction: &Instruction<'_>) -> Option<Effect>
         → Instr (instruction.now.tag ∷ instruction.now.fields.now) op → IsEffectOf e op) }
 {
     let told = tag_effect(instruction.tag);
-    let flow = told.flow?;
+    let flow = told.flow.flow()?;
     Some(effect_told(instruction, told, flow))
 }

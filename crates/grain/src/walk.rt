@@ -39,7 +39,7 @@ use crate::pools::Pools;
 use crate::sinking::check_sinking;
 use crate::state::{Arrival, State, check_same};
 use crate::states::States;
-use crate::tag_effects::{TagEffect, tag_effect};
+use crate::tag_effects::{TagEffect, ToldFlow, tag_effect};
 use grain_base::{Caps, Flags};
 use grain_bytecode::{Chunk, Head, Instruction, Starts};
 use std::alloc::{AllocError, Global};
@@ -178,8 +178,8 @@ fn plain_next(head: Head, here: Arrival, floor: u64) -> Option<Arrival>
 {
     let told = tag_effect(head.tag);
     let state = here.state;
-    match told.flow? {
-        Flow::Falls if floor + u64::from(told.needs) <= u64::from(state.operands) => {
+    match told.flow {
+        ToldFlow::Falls if floor + u64::from(told.needs) <= u64::from(state.operands) => {
             let left = state.operands - u32::from(told.takes) + u32::from(told.gives);
             let after = State {
                 operands: left,
@@ -523,20 +523,20 @@ impl Prepared<'_> {
             let told = tag_effect(head.tag);
             let above = floor + u64::from(told.needs) <= u64::from(here.state.operands);
             match told.flow {
-                Some(Flow::Jumps) if above => {
+                ToldFlow::Jumps if above => {
                     let way = Flow::Jumps;
                     here = self.visit_told(chunk, here, head, told, way, lists, traversal)?;
                 }
-                Some(Flow::Branches) if above => {
+                ToldFlow::Branches if above => {
                     let way = Flow::Branches;
                     here = self.visit_told(chunk, here, head, told, way, lists, traversal)?;
                 }
-                Some(Flow::PushesHandler) if above => {
+                ToldFlow::PushesHandler if above => {
                     let way = Flow::PushesHandler;
                     here = self.visit_told(chunk, here, head, told, way, lists, traversal)?;
                     floor = here.state.floor_armed();
                 }
-                Some(Flow::PopsHandler) if above => {
+                ToldFlow::PopsHandler if above => {
                     let way = Flow::PopsHandler;
                     here = self.visit_told(chunk, here, head, told, way, lists, traversal)?;
                     floor = here.state.floor(lists);

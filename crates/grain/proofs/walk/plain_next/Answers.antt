@@ -1,7 +1,7 @@
-use Rattle.std.proofs.Common.{◌≡◌, ◌+◌, ◌-◌, ◌≤◌, Option, Some, ap, subst, ◌∙◌, arith}
+use Rattle.std.proofs.Common.{◌≡◌, ◌+◌, ◌-◌, ◌≤◌, ap, subst, ◌∙◌, arith}
 use Rattle.grain_bytecode.specs.InstructionTable.{width_of}
-use Rattle.grain.specs.TagEffects.{TellsFlow}
-use Rattle.grain.specs.declared.flow.Flow.{Flow}
+use Rattle.grain.specs.TagEffects.{TellsFlow, told_flow}
+use Rattle.grain.specs.declared.tag_effects.ToldFlow.{ToldFlow}
 use Rattle.grain.proofs.walk.plain_next.Goals as goal
 
 pub returns-in-Falls : goal.returns-in-Falls
@@ -9,7 +9,7 @@ returns-in-Falls c code lists op stands tag width is_floor =
     let here = c.args.here in
     let told = c.tag_effect-told.result.now in
     let wide : c.from-in-Falls-3.result ≡ width_of op = let e = c.from-in-Falls-3.ensures in omega arith in
-    let tells = subst (λ (f : Option Flow). TellsFlow f (told.needs, told.takes, told.gives) op) (c.in_ok-told.was ∙ ap (λ (f : Flow). Some f) c.in-Falls.is) (c.tag_effect-told.ensures.told op tag) in
+    let tells = subst (λ (f : ToldFlow). TellsFlow (told_flow f) (told.needs, told.takes, told.gives) op) c.in-Falls.is (c.tag_effect-told.ensures.told op tag) in
     let takes = c.from-in-Falls.ensures in
     let gives = c.from-in-Falls-2.ensures in
     let enough : c.args.floor + told.needs ≤ here.state.operands = omega (arith, c.from.ensures, c.if-floor-from.true) in

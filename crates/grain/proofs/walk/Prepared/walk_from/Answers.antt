@@ -83,7 +83,7 @@ visit_told-requires-clause-above c = (c.others.floor, c.others.invariant.floor, 
 pub others-preserved-then-above : goal.others-preserved-then-above
 others-preserved-then-above c =
     let done = c.mark.ensures in
-    let told = c.in_ok-here-in-Some-Jumps.ensures in
+    let told = c.in_ok-here-in-Jumps.ensures in
     record {
       walking = told.ok c.mark.new.deepest done.halts;
       floor = told.floor c.others.floor c.others.invariant.floor;
@@ -92,57 +92,57 @@ others-preserved-then-above c =
       lighter = (let less = lighter_still c.args.self.now c.others.traversal c.mark.new.traversal c.visit_told.new.traversal _ _ done.more done.long done.work told.states told.few c.others.invariant.lighter in omega (arith, less));
     }
 
-pub visit_told-requires-in-Some-Branches-clause-above : goal.visit_told-requires-in-Some-Branches-clause-above
-visit_told-requires-in-Some-Branches-clause-above c = (c.others.floor, c.others.invariant.floor, omega (arith, c.from.ensures, c.from-in-Some.ensures, c.if-above-2.true))
+pub visit_told-requires-in-Branches-clause-above : goal.visit_told-requires-in-Branches-clause-above
+visit_told-requires-in-Branches-clause-above c = (c.others.floor, c.others.invariant.floor, omega (arith, c.from.ensures, c.from-in-Some.ensures, c.if-above-2.true))
 
 pub others-preserved-then-above-2 : goal.others-preserved-then-above-2
 others-preserved-then-above-2 c =
     let done = c.mark.ensures in
-    let told = c.in_ok-here-in-Some-Branches.ensures in
+    let told = c.in_ok-here-in-Branches.ensures in
     record {
       walking = told.ok c.mark.new.deepest done.halts;
       floor = told.floor c.others.floor c.others.invariant.floor;
       small = c.others.invariant.small;
       counted = done.counted ∙ sym (ap visits_in told.states);
-      lighter = (let less = lighter_still c.args.self.now c.others.traversal c.mark.new.traversal c.visit_told-in-Some-Branches.new.traversal _ _ done.more done.long done.work told.states told.few c.others.invariant.lighter in omega (arith, less));
+      lighter = (let less = lighter_still c.args.self.now c.others.traversal c.mark.new.traversal c.visit_told-in-Branches.new.traversal _ _ done.more done.long done.work told.states told.few c.others.invariant.lighter in omega (arith, less));
     }
 
-pub visit_told-requires-in-Some-PushesHandler-clause-above : goal.visit_told-requires-in-Some-PushesHandler-clause-above
-visit_told-requires-in-Some-PushesHandler-clause-above c = (c.others.floor, c.others.invariant.floor, omega (arith, c.from.ensures, c.from-in-Some.ensures, c.if-above-3.true))
+pub visit_told-requires-in-PushesHandler-clause-above : goal.visit_told-requires-in-PushesHandler-clause-above
+visit_told-requires-in-PushesHandler-clause-above c = (c.others.floor, c.others.invariant.floor, omega (arith, c.from.ensures, c.from-in-Some.ensures, c.if-above-3.true))
 
 pub others-preserved-then-above-3 : goal.others-preserved-then-above-3
 others-preserved-then-above-3 c =
     let done = c.mark.ensures in
-    let told = c.in_ok-here-in-Some-PushesHandler.ensures in
+    let told = c.in_ok-here-in-PushesHandler.ensures in
     let is_floor = told.floor c.others.floor c.others.invariant.floor in
     record {
       walking = told.ok c.mark.new.deepest done.halts;
       floor = λ n l up. is_floor n l (omega (arith, up, c.floor_armed-floor.ensures.floor));
       small = c.floor_armed-floor.ensures.small;
       counted = done.counted ∙ sym (ap visits_in told.states);
-      lighter = (let less = lighter_still c.args.self.now c.others.traversal c.mark.new.traversal c.visit_told-in-Some-PushesHandler.new.traversal _ _ done.more done.long done.work told.states told.few c.others.invariant.lighter in omega (arith, less));
+      lighter = (let less = lighter_still c.args.self.now c.others.traversal c.mark.new.traversal c.visit_told-in-PushesHandler.new.traversal _ _ done.more done.long done.work told.states told.few c.others.invariant.lighter in omega (arith, less));
     }
 
-pub visit_told-requires-in-Some-PopsHandler-clause-above : goal.visit_told-requires-in-Some-PopsHandler-clause-above
-visit_told-requires-in-Some-PopsHandler-clause-above c = (c.others.floor, c.others.invariant.floor, omega (arith, c.from.ensures, c.from-in-Some.ensures, c.if-above-4.true))
+pub visit_told-requires-in-PopsHandler-clause-above : goal.visit_told-requires-in-PopsHandler-clause-above
+visit_told-requires-in-PopsHandler-clause-above c = (c.others.floor, c.others.invariant.floor, omega (arith, c.from.ensures, c.from-in-Some.ensures, c.if-above-4.true))
 
-pub floor-floor-requires-in-Some-PopsHandler-clause-shared : goal.floor-floor-requires-in-Some-PopsHandler-clause-shared
-floor-floor-requires-in-Some-PopsHandler-clause-shared c = (c.in_ok-here-in-Some-PopsHandler.ensures.ok c.mark.new.deepest c.mark.ensures.halts).known.shared
+pub floor-floor-requires-in-PopsHandler-clause-shared : goal.floor-floor-requires-in-PopsHandler-clause-shared
+floor-floor-requires-in-PopsHandler-clause-shared c = (c.in_ok-here-in-PopsHandler.ensures.ok c.mark.new.deepest c.mark.ensures.halts).known.shared
 
-pub floor-floor-requires-in-Some-PopsHandler-clause-list : goal.floor-floor-requires-in-Some-PopsHandler-clause-list
-floor-floor-requires-in-Some-PopsHandler-clause-list c =
-    off_named c.args.self.now c.args.chunk.now _ _ _ _ c.in_ok-here-in-Some-PopsHandler.here _ refl (c.in_ok-here-in-Some-PopsHandler.ensures.ok c.mark.new.deepest c.mark.ensures.halts)
+pub floor-floor-requires-in-PopsHandler-clause-list : goal.floor-floor-requires-in-PopsHandler-clause-list
+floor-floor-requires-in-PopsHandler-clause-list c =
+    off_named c.args.self.now c.args.chunk.now _ _ _ _ c.in_ok-here-in-PopsHandler.here _ refl (c.in_ok-here-in-PopsHandler.ensures.ok c.mark.new.deepest c.mark.ensures.halts)
 
 pub others-preserved-then-above-4 : goal.others-preserved-then-above-4
 others-preserved-then-above-4 c =
     let done = c.mark.ensures in
-    let told = c.in_ok-here-in-Some-PopsHandler.ensures in
+    let told = c.in_ok-here-in-PopsHandler.ensures in
     record {
       walking = told.ok c.mark.new.deepest done.halts;
-      floor = c.floor-floor-in-Some-PopsHandler.ensures.floor;
-      small = c.floor-floor-in-Some-PopsHandler.ensures.small;
+      floor = c.floor-floor-in-PopsHandler.ensures.floor;
+      small = c.floor-floor-in-PopsHandler.ensures.small;
       counted = done.counted ∙ sym (ap visits_in told.states);
-      lighter = (let less = lighter_still c.args.self.now c.others.traversal c.mark.new.traversal c.visit_told-in-Some-PopsHandler.new.traversal _ _ done.more done.long done.work told.states told.few c.others.invariant.lighter in omega (arith, less));
+      lighter = (let less = lighter_still c.args.self.now c.others.traversal c.mark.new.traversal c.visit_told-in-PopsHandler.new.traversal _ _ done.more done.long done.work told.states told.few c.others.invariant.lighter in omega (arith, less));
     }
 
 pub returns-in_default-2-clause-walking : goal.returns-in_default-2-clause-walking
