@@ -19,7 +19,7 @@ ghost use Rattle.grain.specs.Setting.{Setting, case_consts, setting};
 use crate::error::VerifyError;
 use crate::passed::{Passed, WORDS, add_passed, has_passed};
 use crate::pools::Pools;
-use crate::unindexed::is_unindexed;
+use crate::unindexed::unindexed_width;
 use grain_base::Dynamic;
 use grain_bytecode::{Chain, Instruction, Op, Pool, Receiver, Root, Step, Switch, Tail, tag};
 use std::collections::HashMap;
@@ -376,21 +376,6 @@ fn check_op<const N: usize>(
             index,
         }),
         None => Ok(()),
-    }
-}
-
-/// How many bytes the instruction at an address takes, where one stands there that has no index.
-#[inline(always)]
-fn unindexed_width(code: &[u8], at: usize) -> Option<usize>
-    ensures found { IfSome result (λ n. (op : Op) × StandsAt code.now at op × (n ≡ width_of op)
-        × ((s : Setting) → Indexed s op)) }
-    ensures fits { IfSome result (λ n. (0 < n) × (at + n ≤ length code.now)) }
-{
-    let instruction = Instruction::at(code, at)?;
-    if is_unindexed(instruction.tag) {
-        Some(instruction.width())
-    } else {
-        None
     }
 }
 

@@ -1,38 +1,38 @@
 //! Which instructions have no index, by their tags.
-ghost use Rattle.std.specs.Prelude.{◌≡◌, IsTrue};
-ghost use Rattle.grain_bytecode.specs.InstructionTable.{form};
+ghost use Rattle.std.specs.Prelude.{◌≡◌, ◌<◌, ◌≤◌, ◌+◌, IfSome, length};
+ghost use Rattle.grain_bytecode.specs.InstructionTable.{width_of};
+ghost use Rattle.grain_bytecode.specs.Split.{StandsAt};
 ghost use Rattle.grain_bytecode.specs.declared.op.Op.{Op};
 ghost use Rattle.grain.specs.Indices.{Indexed};
 ghost use Rattle.grain.specs.Setting.{Setting};
 
-/// Whether the instructions with each tag are known to have no index (docs/FORMAT.md, "Instructions").
-static UNINDEXED: [bool; 256] = [
-    false, false, true, true, true, true, true, false, false, false, false, true, true, true, true,
-    false, false, true, true, true, false, false, false, true, false, false, false, false, true,
-    true, true, true, true, true, true, true, false, true, true, true, true, true, true, true,
-    true, false, true, false, true, true, true, true, true, false, true, false, false, true, true,
-    true, true, false, false, true, false, true, true, false, false, false, false, true, true,
-    true, false, false, false, false, false, false, false, false, false, false, false, false,
-    false, false, false, false, false, false, false, false, false, false, false, false, false,
-    false, false, false, false, false, false, false, false, false, false, false, false, false,
-    false, false, false, false, false, false, false, false, false, false, false, false, false,
-    false, false, false, false, false, false, false, false, false, false, false, false, false,
-    false, false, false, false, false, false, false, false, false, false, false, false, false,
-    false, false, false, false, false, false, false, false, false, false, false, false, false,
-    false, false, false, false, false, false, false, false, false, false, false, false, false,
-    false, false, false, false, false, false, false, false, false, false, false, false, false,
-    false, false, false, false, false, false, false, false, false, false, false, false, false,
-    false, false, false, false, false, false, false, false, false, false, false, false, false,
-    false, false, false, false, false, false, false, false, false, false, false, false, false,
-    false, false, false, false, false, false, false, false, false, false, false, false, false,
-    false, false, false, false, false, false, false, false, false, false, false, false, false,
-    false,
+/// How many bytes the instructions with each tag take, where they are known to have no index, or else 0 (docs/FORMAT.md,
+/// "Instructions").
+static UNINDEXED_WIDTHS: [u8; 256] = [
+    0, 0, 1, 1, 1, 3, 3, 0, 0, 0, 0, 1, 5, 5, 5, 0, 0, 3, 1, 1, 0, 0, 0, 3, 0, 0, 0, 0, 1, 1, 5, 1,
+    3, 7, 1, 5, 0, 1, 1, 1, 1, 2, 2, 2, 3, 0, 3, 0, 1, 1, 3, 3, 3, 0, 2, 0, 0, 1, 1, 1, 1, 0, 0, 4,
+    0, 2, 5, 0, 0, 0, 0, 3, 3, 2, 0, 0, 0, 0, 0, 0, 0, 0, 0, 0, 0, 0, 0, 0, 0, 0, 0, 0, 0, 0, 0, 0,
+    0, 0, 0, 0, 0, 0, 0, 0, 0, 0, 0, 0, 0, 0, 0, 0, 0, 0, 0, 0, 0, 0, 0, 0, 0, 0, 0, 0, 0, 0, 0, 0,
+    0, 0, 0, 0, 0, 0, 0, 0, 0, 0, 0, 0, 0, 0, 0, 0, 0, 0, 0, 0, 0, 0, 0, 0, 0, 0, 0, 0, 0, 0, 0, 0,
+    0, 0, 0, 0, 0, 0, 0, 0, 0, 0, 0, 0, 0, 0, 0, 0, 0, 0, 0, 0, 0, 0, 0, 0, 0, 0, 0, 0, 0, 0, 0, 0,
+    0, 0, 0, 0, 0, 0, 0, 0, 0, 0, 0, 0, 0, 0, 0, 0, 0, 0, 0, 0, 0, 0, 0, 0, 0, 0, 0, 0, 0, 0, 0, 0,
+    0, 0, 0, 0, 0, 0, 0, 0, 0, 0, 0, 0, 0, 0, 0, 0, 0, 0, 0, 0, 0, 0, 0, 0, 0, 0, 0, 0, 0, 0, 0, 0,
 ];
 
-/// Whether an instruction with this tag has no index, so that it needn't be decoded.
+/// How many bytes the instruction at an address takes, where one stands there that is known to have no index, so that it
+/// needn't be decoded.
 #[inline(always)]
-pub(crate) fn is_unindexed(tag: u8) -> bool
-    ensures { IsTrue result → (s : Setting) (op : Op) → (form op).0 ≡ tag → Indexed s op }
+pub(crate) fn unindexed_width(code: &[u8], at: usize) -> Option<usize>
+    ensures found { IfSome result (λ n. (op : Op) × StandsAt code.now at op × (n ≡ width_of op)
+        × ((s : Setting) → Indexed s op)) }
+    ensures fits { IfSome result (λ n. (0 < n) × (at + n ≤ length code.now)) }
 {
-    UNINDEXED[tag as usize]
+    if at >= code.len() {
+        return None;
+    }
+    let width = UNINDEXED_WIDTHS[code[at] as usize] as usize;
+    if width == 0 || at + width > code.len() {
+        return None;
+    }
+    Some(width)
 }
