@@ -1,23 +1,23 @@
-use Rattle.std.proofs.Common.{◌≡◌, ◌⊎◌, ◌≤◌, ◌∷◌, ◌++◌, inl, inr, ℕ, ap, subst, arith}
+use Rattle.std.proofs.Common.{◌≡◌, ◌⊎◌, ◌∷◌, ◌++◌, inl, inr, subst, arith}
 use Rattle.std.specs.Option.{option_to_list}
 use Rattle.std.specs.List.{Contains}
-use Rattle.std.proofs.lemmas.Result.{IfOk-weaker, err_from_is_err_and}
+use Rattle.std.proofs.lemmas.Result.{IfOk-weaker}
 use Rattle.grain_bytecode.specs.InstructionTable.{width_of}
 use Rattle.grain_bytecode.proofs.Instructions.{instr_width}
 use Rattle.grain.specs.Arrivals.{view}
 use Rattle.grain.specs.Capabilities.{Allows}
 use Rattle.grain.specs.Code.{coded}
-use Rattle.grain.specs.Flaw.{ChunkFlaw, Comes}
+use Rattle.grain.specs.Flaw.{ChunkFlaw}
 use Rattle.grain.specs.Flow.{Flow, targets_for}
 use Rattle.grain.specs.FlowView.{IsMetBy, flow}
 use Rattle.grain.specs.Typing.{StandsIn}
 use Rattle.grain.specs.Walk.{bytecode_of}
 use Rattle.grain.specs.declared.error.VerifyError.TheVariants.{OutOfMemory}
-use Rattle.grain.proofs.Flows.{meets_known, passes_known, short_state}
+use Rattle.grain.proofs.Flows.{passes_known, short_state}
 use Rattle.grain.proofs.Most.{followed_few}
 use Rattle.grain.proofs.NamedLists.{grows_not}
 use Rattle.grain.proofs.Ordinals.{ordinal_low}
-use Rattle.grain.proofs.Refusing.{all_ok, err_so, refused_sinking, refused_state, refused_target}
+use Rattle.grain.proofs.Refusing.{all_ok, err_so, refused_state, refused_target}
 use Rattle.grain.proofs.Splits.{boundary_apart}
 use Rattle.grain.proofs.Turns.{halts_inside, halts_named, halts_place, halts_reached, halts_room, halts_small, refused_switch, visited}
 use Rattle.grain.proofs.walk.Prepared.follow_passing.Goals as goal

@@ -1,4 +1,4 @@
-use Rattle.std.proofs.Common.{subst, arith, ◌<◌}
+use Rattle.std.proofs.Common.{arith}
 use Rattle.grain.proofs.Splits.{head_there}
 use Rattle.grain.proofs.walk.Prepared.head_at.Goals as goal
 

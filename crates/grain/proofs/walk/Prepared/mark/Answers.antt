@@ -1,5 +1,4 @@
-use Rattle.std.proofs.Common.{◌≡◌, ap, refl, ◌∙◌, arith}
-use Rattle.std.proofs.lemmas.List.{length-set}
+use Rattle.std.proofs.Common.{ap, refl, ◌∙◌, arith}
 use Rattle.grain.specs.Progress.{visits_in}
 use Rattle.grain.specs.declared.walk.Traversal.{Traversal}
 use Rattle.grain.proofs.Visiting.{off_few, off_known, off_marked, off_more_within}

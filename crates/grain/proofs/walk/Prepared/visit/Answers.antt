@@ -1,25 +1,15 @@
-use Rattle.std.proofs.Common.{◌≡◌, ◌⊎◌, ◌≤◌, ◌∷◌, ◌++◌, inl, inr, ℕ, ap, subst, arith}
-use Rattle.std.specs.Option.{option_to_list}
-use Rattle.std.specs.List.{Contains}
-use Rattle.std.proofs.lemmas.Result.{IfOk-weaker, err_from_is_err_and}
-use Rattle.grain_bytecode.specs.InstructionTable.{width_of}
-use Rattle.grain_bytecode.proofs.Instructions.{instr_width}
+use Rattle.std.proofs.Common.{◌≡◌, ◌⊎◌, ◌≤◌, inl, inr, ℕ, ap, subst}
+use Rattle.std.proofs.lemmas.Result.{err_from_is_err_and}
 use Rattle.grain.specs.Arrivals.{view}
 use Rattle.grain.specs.Capabilities.{Allows}
-use Rattle.grain.specs.Code.{coded}
 use Rattle.grain.specs.Flaw.{ChunkFlaw, Comes}
-use Rattle.grain.specs.Flow.{Flow, targets_for}
-use Rattle.grain.specs.FlowView.{IsMetBy, flow}
-use Rattle.grain.specs.Typing.{StandsIn}
+use Rattle.grain.specs.FlowView.{flow}
 use Rattle.grain.specs.Walk.{bytecode_of}
 use Rattle.grain.specs.declared.error.VerifyError.TheVariants.{OutOfMemory}
-use Rattle.grain.proofs.Flows.{meets_known, passes_known, short_state}
-use Rattle.grain.proofs.Most.{followed_few}
+use Rattle.grain.proofs.Flows.{meets_known, short_state}
 use Rattle.grain.proofs.NamedLists.{grows_not}
-use Rattle.grain.proofs.Ordinals.{ordinal_low}
-use Rattle.grain.proofs.Refusing.{all_ok, err_so, refused_sinking, refused_state, refused_target}
-use Rattle.grain.proofs.Splits.{boundary_apart}
-use Rattle.grain.proofs.Turns.{halts_inside, halts_named, halts_place, halts_reached, halts_room, halts_small, refused_switch, visited}
+use Rattle.grain.proofs.Refusing.{refused_sinking, refused_state}
+use Rattle.grain.proofs.Turns.{halts_inside, halts_named, halts_reached}
 use Rattle.grain.proofs.walk.Prepared.visit.Goals as goal
 
 pub returns-in_err-check_needs-clause-err : goal.returns-in_err-check_needs-clause-err

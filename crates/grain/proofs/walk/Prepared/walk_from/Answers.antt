@@ -1,4 +1,4 @@
-use Rattle.std.proofs.Common.{◌≡◌, inl, inr, ◌+◌, ◌≤◌, ◌++◌, ◌∷◌, [], List, Option, Some, length, refl, sym, ap, subst, ◌∙◌, arith}
+use Rattle.std.proofs.Common.{inr, ◌+◌, ◌≤◌, ◌++◌, List, Option, Some, length, refl, sym, ap, subst, ◌∙◌, arith}
 use Rattle.std.specs.Option.{option_to_list}
 use Rattle.std.proofs.lemmas.List.{append-nil, length_push}
 use Rattle.grain.specs.Flaw.{ChunkFlaw}
