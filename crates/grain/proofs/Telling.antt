@@ -1,17 +1,19 @@
 -- The table of tags tells what operations do.
-use Rattle.std.proofs.Common.{◌≡◌, ℕ, ◌+◌, ◌<◌, ◌≤◌, ◌&&◌, Bool, nat_le, arith, true, false, [], ◌∷◌, List, get_or, Some, None, refl, sym, ap, ◌∙◌, subst}
+use Rattle.std.proofs.Common.{◌≡◌, ℕ, ◌+◌, ◌<◌, ◌≤◌, ◌&&◌, Bool, nat_le, arith, true, false, [], ◌∷◌, List, get_or, length, Some, None, refl, sym, ap, ◌∙◌, subst}
+use Rattle.std.specs.Prelude.{sum_by}
 use Rattle.std.specs.List.{list_all}
 use Rattle.std.proofs.lemmas.Bool.Decides.{nat_tests}
-use Rattle.std.proofs.lemmas.List.Sums.{AllPass-from_list_all}
-use Rattle.grain_bytecode.specs.InstructionTable.{form, name}
+use Rattle.std.proofs.lemmas.List.Sums.{AllPass-from_list_all, sum_by-cons}
+use Rattle.grain_bytecode.specs.InstructionTable.{Instr, form, name, size_of}
 use Rattle.grain_bytecode.specs.declared.field.Field.{Field}
 use Rattle.grain_bytecode.specs.declared.field.Field.TheVariants.{Slot, Target}
 use Rattle.grain_bytecode.specs.declared.op.Op.{Op}
 use Rattle.grain_bytecode.specs.declared.op.Op.TheVariants as ops
 use Rattle.grain_bytecode.specs.declared.op.Receiver.TheVariants as receiver
+use Rattle.grain_bytecode.proofs.Instructions.{instr_width}
 use Rattle.grain.specs.Flow as flows
 use Rattle.grain.specs.Flow.{flow_of}
-use Rattle.grain.specs.FlowView.{flow}
+use Rattle.grain.specs.FlowView.{HasTarget, flow}
 use Rattle.grain.specs.TagEffects.{IsFixed, Tells, TellsFlow}
 use Rattle.grain.specs.declared.flow.Flow.{Flow}
 use Rattle.grain.specs.declared.flow.Flow.TheVariants as ways
@@ -95,17 +97,36 @@ told d (ops.ExportNamed n m) = tt
 told d (ops.Import n) = tt
 
 -- a flow that a tag tells is that of the operation, with its first field as the target
-pub tells_flow : (f : Flow) (e : ℕ × ℕ × ℕ) (op : Op) (target : ℕ) → ((t : ℕ) (others : List Field) → (form op).1 ≡ Target t ∷ others → target ≡ t) → TellsFlow (Some f) e op → IsFixed op e × (flow f target ≡ flow_of op)
+pub tells_flow : (f : Flow) (e : ℕ × ℕ × ℕ) (op : Op) (target : ℕ) → (HasTarget f → (t : ℕ) (others : List Field) → (form op).1 ≡ Target t ∷ others → target ≡ t) → TellsFlow (Some f) e op → IsFixed op e × (flow f target ≡ flow_of op)
 tells_flow ways.Falls e op target first (fixed, is) = (fixed, sym is)
 tells_flow ways.Ends e op target first (fixed, is) = (fixed, sym is)
-tells_flow ways.Jumps e op target first (fixed, (t, others, first_is, is)) = (fixed, ap flows.Jumps (first t others first_is) ∙ sym is)
-tells_flow ways.Branches e op target first (fixed, (t, others, first_is, is)) = (fixed, ap flows.Branches (first t others first_is) ∙ sym is)
+tells_flow ways.Jumps e op target first (fixed, (t, others, first_is, is)) = (fixed, ap flows.Jumps (first tt t others first_is) ∙ sym is)
+tells_flow ways.Branches e op target first (fixed, (t, others, first_is, is)) = (fixed, ap flows.Branches (first tt t others first_is) ∙ sym is)
 tells_flow ways.Switches e op target first h = absurd h
 tells_flow ways.BeginsIterator e op target first (fixed, is) = (fixed, sym is)
-tells_flow ways.AdvancesIterator e op target first (fixed, (t, others, first_is, is)) = (fixed, ap flows.AdvancesIterator (first t others first_is) ∙ sym is)
+tells_flow ways.AdvancesIterator e op target first (fixed, (t, others, first_is, is)) = (fixed, ap flows.AdvancesIterator (first tt t others first_is) ∙ sym is)
 tells_flow ways.EndsIterator e op target first (fixed, is) = (fixed, sym is)
-tells_flow ways.PushesHandler e op target first (fixed, (t, others, first_is, is)) = (fixed, ap flows.PushesHandler (first t others first_is) ∙ sym is)
+tells_flow ways.PushesHandler e op target first (fixed, (t, others, first_is, is)) = (fixed, ap flows.PushesHandler (first tt t others first_is) ∙ sym is)
 tells_flow ways.PopsHandler e op target first (fixed, is) = (fixed, sym is)
+
+-- an operation whose flow has a target begins with it
+tells_target : (f : Flow) (e : ℕ × ℕ × ℕ) (op : Op) → HasTarget f → TellsFlow (Some f) e op → (t : ℕ) × (others : List Field) × ((form op).1 ≡ Target t ∷ others)
+tells_target ways.Falls e op has h = absurd has
+tells_target ways.Ends e op has h = absurd has
+tells_target ways.Jumps e op has (fixed, (t, others, first, is)) = (t, others, first)
+tells_target ways.Branches e op has (fixed, (t, others, first, is)) = (t, others, first)
+tells_target ways.Switches e op has h = absurd has
+tells_target ways.BeginsIterator e op has h = absurd has
+tells_target ways.AdvancesIterator e op has (fixed, (t, others, first, is)) = (t, others, first)
+tells_target ways.EndsIterator e op has h = absurd has
+tells_target ways.PushesHandler e op has (fixed, (t, others, first, is)) = (t, others, first)
+tells_target ways.PopsHandler e op has h = absurd has
+
+-- its fields have room for the target
+pub target_fits : (f : Flow) (e : ℕ × ℕ × ℕ) (op : Op) (tag : ℕ) (fields : List ℕ) → HasTarget f → TellsFlow (Some f) e op → Instr (tag ∷ fields) op → 4 ≤ length fields
+target_fits f e op tag fields has tells is =
+    let (t, others, first) = tells_target f e op has tells in
+    omega (arith, instr_width (tag ∷ fields) op is, ap (sum_by size_of) first, sum_by-cons size_of (Target t) others)
 
 -- whatever operation has the tag
 pub told_by : (tag : ℕ) (d : TagEffect) (op : Op) → (form op).0 ≡ tag → Tells (get_or TAG_EFFECTS tag d) op

@@ -1,5 +1,5 @@
 -- The flow of operations, as the walk has it.
-use Rattle.std.specs.Prelude.{◌≡◌, ◌⊎◌, ℕ, ◌+◌, ◌-◌, ◌<◌, ◌≤◌, List, [], ◌∷◌, ◌++◌, Option, cond, length, map}
+use Rattle.std.specs.Prelude.{◌≡◌, ⊤, ◌⊎◌, ℕ, ◌+◌, ◌-◌, ◌<◌, ◌≤◌, List, [], ◌∷◌, ◌++◌, Option, cond, length, map}
 use Rattle.std.specs.List.{All}
 use Rattle.grain_bytecode.specs.Span.{Span}
 use Rattle.grain.specs.Arrivals.{IsPlaced, RefusesSwitch, RefusesTargetOf, Sends, underway, view}
@@ -27,6 +27,19 @@ flow ways.AdvancesIterator target = flows.AdvancesIterator target
 flow ways.EndsIterator target = flows.EndsIterator
 flow ways.PushesHandler target = flows.PushesHandler target
 flow ways.PopsHandler target = flows.PopsHandler
+
+-- it leads to an address, which is the first field of the operation
+abbrev pub HasTarget : Flow → Type 0
+HasTarget ways.Falls = ⊥
+HasTarget ways.Ends = ⊥
+HasTarget ways.Jumps = ⊤
+HasTarget ways.Branches = ⊤
+HasTarget ways.Switches = ⊥
+HasTarget ways.BeginsIterator = ⊥
+HasTarget ways.AdvancesIterator = ⊤
+HasTarget ways.EndsIterator = ⊥
+HasTarget ways.PushesHandler = ⊤
+HasTarget ways.PopsHandler = ⊥
 
 -- there are the iterators and handlers that it needs
 pub record IsMetBy (f : flows.Flow) (c : Counts) : Type 0 where

@@ -1,7 +1,7 @@
 //! How operations are left.
-ghost use Rattle.std.specs.Prelude.{◌≡◌, ℕ};
+ghost use Rattle.std.specs.Prelude.{◌≡◌, ◌↔◌, ℕ, IsTrue};
 ghost use Rattle.grain.specs.Flow.{iterators_for};
-ghost use Rattle.grain.specs.FlowView.{flow};
+ghost use Rattle.grain.specs.FlowView.{HasTarget, flow};
 
 /// How an operation is left, and what that does to iterators and handlers. Where it leads is its target.
 #[derive(Clone, Copy, PartialEq, Eq, Debug)]
@@ -44,6 +44,22 @@ impl Flow {
             | Flow::BeginsIterator
             | Flow::PushesHandler
             | Flow::PopsHandler => 0,
+        }
+    }
+
+    /// Whether it leads to an address, which is the first field of the operation.
+    #[inline(always)]
+    pub(crate) fn has_target(self) -> bool
+        ensures { IsTrue result ↔ HasTarget self }
+    {
+        match self {
+            Flow::Jumps | Flow::Branches | Flow::AdvancesIterator | Flow::PushesHandler => true,
+            Flow::Falls
+            | Flow::Ends
+            | Flow::Switches
+            | Flow::BeginsIterator
+            | Flow::EndsIterator
+            | Flow::PopsHandler => false,
         }
     }
 }

@@ -22,6 +22,7 @@ mod lists;
 mod lookup;
 mod meter;
 mod passed;
+mod plain;
 mod pools;
 mod program;
 #[cfg(test)]

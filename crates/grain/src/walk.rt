@@ -33,10 +33,11 @@ use crate::edges::{arrival_at, push_table, push_target};
 use crate::effects::Effect;
 use crate::error::VerifyError;
 use crate::flow::Flow;
-use crate::lists::{Base, Lists};
+use crate::lists::Lists;
 use crate::meter::Meter;
+use crate::plain::plain_next;
 use crate::pools::Pools;
-use crate::sinking::check_sinking;
+use crate::sinking::check_stays;
 use crate::state::{Arrival, State, check_same};
 use crate::states::States;
 use crate::tag_effects::{TagEffect, ToldFlow, tag_effect};
@@ -103,51 +104,6 @@ impl Traversal {
     }
 }
 
-/// Whether the instruction is quiet, or else leaves what stood when the last handler was armed.
-///
-/// # Errors
-/// `SinksBelowHandler` at its address; `IteratorUnderflow` where it lacks an iterator, as far as handlers are armed.
-#[inline(always)]
-fn check_stays(
-    instruction: &Instruction<'_>,
-    effect: Effect,
-    here: Arrival,
-    lists: &Lists,
-) -> Result<(), VerifyError>
-    requires known { (op : Op) × Instr (instruction.now.tag ∷ instruction.now.fields.now) op }
-    requires shared { IsShared lists.now }
-    requires list { here.state.list ≤ size lists.now }
-    requires operands { effect.needs ≤ here.state.operands }
-    ensures stays { (s : Setting) (op : Op)
-        → Instr (instruction.now.tag ∷ instruction.now.fields.now) op
-        → (effect.needs, effect.takes, effect.gives) ≡ stack_effect s.chains op
-        → flow effect.flow effect.target ≡ flow_of op
-        → OnOk result (Stays s op (view lists.now here.state)) }
-    ensures err { (s : Setting) (op : Op)
-        → Instr (instruction.now.tag ∷ instruction.now.fields.now) op
-        → (effect.needs, effect.takes, effect.gives) ≡ stack_effect s.chains op
-        → flow effect.flow effect.target ≡ flow_of op
-        → IfErr result (λ e.
-        IsShort (flow effect.flow effect.target) here.at (view lists.now here.state) e
-        ⊎ (IsMetBy (flow effect.flow effect.target) (view lists.now here.state)
-        × RefusesSinking op here.at (last_base (view lists.now here.state).bases)
-        (untouched s op (view lists.now here.state)) e)) }
-{
-    let Arrival { at, state, .. } = here;
-    if state.list == 0 {
-        return Ok(());
-    }
-    let needed = effect.flow.iterators_needed();
-    if state.iterators < needed {
-        return Err(VerifyError::IteratorUnderflow { at: at as usize });
-    }
-    let left = Base {
-        operands: state.operands - effect.takes,
-        iterators: state.iterators - needed,
-    };
-    check_sinking(instruction.tag, at, left, lists.last_base(state.list))
-}
-
 /// The instruction that stands at an address, where its head is known.
 #[inline(always)]
 fn instruction_at<'a>(code: &'a [u8], at: usize, head: Head) -> Instruction<'a>
@@ -160,34 +116,6 @@ fn instruction_at<'a>(code: &'a [u8], at: usize, head: Head) -> Instruction<'a>
     Instruction {
         tag: head.tag,
         fields: &code[at + 1..end],
-    }
-}
-
-/// What falls through a plain instruction, which does no more than its tag tells, where it finds the operands that it needs
-/// above the floor.
-#[inline(always)]
-fn plain_next(head: Head, here: Arrival, floor: u64) -> Option<Arrival>
-    requires room { here.at + head.width < 2 ^ 32 }
-    requires operands_room { here.state.operands + 1 < 2 ^ 32 }
-    requires ordinal_room { here.ordinal + 1 < 2 ^ 64 }
-    requires small { floor ≤ 2 ^ 32 }
-    ensures { IfSome result (λ next. (code : List ℕ) (lists : Lists) (op : Op)
-        → StandsAt code here.at op
-        → (form op).0 ≡ head.tag → head.width ≡ width_of op → IsFloor lists here.state floor
-        → IsPlainStep code lists here next) }
-{
-    let told = tag_effect(head.tag);
-    let state = here.state;
-    match told.flow {
-        ToldFlow::Falls if floor + u64::from(told.needs) <= u64::from(state.operands) => {
-            let left = state.operands - u32::from(told.takes) + u32::from(told.gives);
-            let after = State {
-                operands: left,
-                ..state
-            };
-            Some(here.next(usize::from(head.width), after))
-        }
-        _ => None,
     }
 }
 

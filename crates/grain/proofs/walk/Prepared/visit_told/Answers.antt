@@ -42,6 +42,12 @@ follow_passing-requires-clause-passing c =
       stays = λ loud. subst (ReachesUpTo (last_base counts.bases)) (untouched_known setting op counts does.needs does.takes does.gives (flow does.flow does.target) (known.operands setting.chains) known.flow_is) (record { operands = (let r = reaches.operands in omega (arith, r, e.takes)); iterators = (let r = reaches.iterators in omega (arith, r, needed)) });
     }
 
+pub effect_told-effect-requires-clause-tells : goal.effect_told-effect-requires-clause-tells
+effect_told-effect-requires-clause-tells c =
+    let i = c.instruction_at-instruction.result in
+    let (op, stands, is) = c.instruction_at-instruction.ensures.found in
+    (op, is, c.requires.told op (tag_of i.tag i.fields.now op is ∙ c.instruction_at-instruction.ensures.tag))
+
 pub unreachable-requires : goal.unreachable-requires
 unreachable-requires c =
     let goes = c.in_ok-next.ensures.goes_on (subst GoesOn (sym c.effect_told-effect.ensures.flow) c.requires.goes_on) in

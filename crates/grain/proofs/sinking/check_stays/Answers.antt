@@ -6,7 +6,7 @@ use Rattle.grain.specs.Sinking.{ReachesUpTo, untouched}
 use Rattle.grain.proofs.Indexing.{tag_of}
 use Rattle.grain.proofs.Refusing.{ok_so}
 use Rattle.grain.proofs.Staying.{untouched_known}
-use Rattle.grain.proofs.walk.check_stays.Goals as goal
+use Rattle.grain.proofs.sinking.check_stays.Goals as goal
 
 pub returns-clause-stays : goal.returns-clause-stays
 returns-clause-stays c s op is known same =

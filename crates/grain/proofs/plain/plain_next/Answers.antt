@@ -2,7 +2,7 @@ use Rattle.std.proofs.Common.{◌≡◌, ◌+◌, ◌-◌, ◌≤◌, ap, subst,
 use Rattle.grain_bytecode.specs.InstructionTable.{width_of}
 use Rattle.grain.specs.TagEffects.{TellsFlow, told_flow}
 use Rattle.grain.specs.declared.tag_effects.ToldFlow.{ToldFlow}
-use Rattle.grain.proofs.walk.plain_next.Goals as goal
+use Rattle.grain.proofs.plain.plain_next.Goals as goal
 
 pub returns-in-Falls : goal.returns-in-Falls
 returns-in-Falls c code lists op stands tag width is_floor =
