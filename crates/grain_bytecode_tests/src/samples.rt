@@ -1,0 +1,70 @@
+//! What several tests share.
+
+use grain_base::{Flags, Position};
+use grain_bytecode::{Chain, Root, Step, StepFlags, Tail};
+use std::alloc::{AllocError, Global};
+use std::fmt::{Debug, Display};
+use std::test::Fail;
+
+/// `a[i].b`, whose four positions in the first line are 1:1, 1:3, its bracket 1:2, and 1:6.
+pub(crate) fn chain(alloc: Global) -> Result<Chain, AllocError> {
+    let index = Step::Index {
+        operand: 0,
+        flags: StepFlags::empty(),
+        pos: Position::new(1, 3),
+        bracket: Position::new(1, 2),
+    };
+    let property = Step::Property {
+        name: 1,
+        getter: 2,
+        setter: 3,
+        flags: StepFlags::SKIP_IF_UNIT,
+        pos: Position::new(1, 6),
+    };
+    Ok(Chain {
+        root: Root::Named {
+            name: 0,
+            pos: Position::new(1, 1),
+        },
+        steps: vec![in alloc; index, property]?,
+        tail: Tail::Read,
+        operands: 1,
+    })
+}
+
+/// A call of a method of a temporary value, at that position.
+pub(crate) fn call(alloc: Global, pos: Position) -> Result<Chain, AllocError> {
+    let method = Step::Method {
+        name: 0,
+        argc: 0,
+        operand: 0,
+        flags: StepFlags::empty(),
+        pos,
+    };
+    Ok(Chain {
+        root: Root::Temporary,
+        steps: vec![in alloc; method]?,
+        tail: Tail::Read,
+        operands: 0,
+    })
+}
+
+/// The debug text of an error, and then its text.
+pub(crate) fn both_texts<E: Debug + Display>(
+    alloc: Global,
+    error: &E,
+) -> Result<String, AllocError> {
+    format!(in alloc; "{error:?}: {error}")
+}
+
+/// How a test of growths ends: it says which growth failed, one of the call's or the one that is asked for here, behind
+/// them. Where none fails, it is `Ok`.
+pub(crate) fn told(alloc: Global, refused: bool) -> Result<(), Fail> {
+    if refused {
+        return Err(Fail::new("a growth of the call was refused"));
+    }
+    let mut behind = Vec::new(alloc);
+    behind
+        .push(refused)
+        .map_err(|_| Fail::new("no growth of the call is left"))
+}
