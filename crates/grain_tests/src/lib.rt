@@ -1,0 +1,36 @@
+//! The tests of `grain`, which call it as a host does: a test that changes has no crate proved again but this one.
+//!
+//! `host` shows how a host calls the verifier. `changes` and `large` have what strangers may hand over: code that was
+//! changed on its way, and pools that all instructions name. `growths` has what a call leaves where there is no memory.
+#![tactic(auto)]
+
+#[cfg(test)]
+mod builder;
+#[cfg(test)]
+mod changes;
+#[cfg(test)]
+mod constants;
+#[cfg(test)]
+mod error;
+#[cfg(test)]
+mod growths;
+#[cfg(test)]
+mod host;
+#[cfg(test)]
+mod indices;
+#[cfg(test)]
+mod large;
+#[cfg(test)]
+mod lookup;
+#[cfg(test)]
+mod meter;
+#[cfg(test)]
+mod program;
+#[cfg(test)]
+mod samples;
+#[cfg(test)]
+mod sidecar;
+#[cfg(test)]
+mod tighten;
+#[cfg(test)]
+mod verifier;
