@@ -10,7 +10,6 @@ use std::process::Abort;
 
 mod growths;
 mod long_lines;
-mod verify_lines;
 
 /// Gives its bytes, at most so many a call, and fails once so many were given.
 #[derive(Drop)]
@@ -128,15 +127,8 @@ const TEXT: &[u8] = b"whole 2\nundecodable at=2\n";
 /// An input, its verdict text, its cases, the bad ones among them, and the status.
 type Row = (&'static [u8], &'static [u8], u64, u64, u8);
 
-const ROWS: [Row; 12] = [
+const ROWS: [Row; 6] = [
     (INPUT, TEXT, 2, 0, 0),
-    (
-        b"code -\ncode 0100\ncode 021\nlook 02",
-        b"whole 0\nundecodable at=0\nbad case\nbad case\n",
-        4,
-        2,
-        2,
-    ),
     (b"code 1213\ncode 020B", b"whole 2\nwhole 2\n", 2, 0, 0),
     (b" code  0213 \r\n\r\n\n# c\n#\xff\n", b"whole 2\n", 1, 0, 0),
     (
@@ -147,49 +139,13 @@ const ROWS: [Row; 12] = [
         2,
     ),
     (
-        b"code 02 13\ncode 0x02\ncode\ncode --\nCODE 02",
-        b"bad case\nbad case\nbad case\nbad case\nbad case\n",
-        5,
-        5,
-        2,
-    ),
-    (
         b"code 0213\r\ncode 0213\r\r\ncode\r 0213\ncode 0213\r",
         b"whole 2\nbad case\nbad case\nbad case\n",
         4,
         3,
         2,
     ),
-    (
-        b"SITE - 0\nVERIFY 7fff 0213 0:2:8\n",
-        b"bad case\nbad case\n",
-        2,
-        2,
-        2,
-    ),
     (b"", b"", 0, 0, 0),
-    (
-        b"site 0400010503010b250702010900 41\nsite 0400010503010b250702010900 1\n\
-site 0400010503010b250702010900 3",
-        b"site 9:0\nnone\nsite 1:11\n",
-        3,
-        0,
-        0,
-    ),
-    (
-        b"site - 0\nsite 0100f0a20401 0\nsite 00 4294967295\nsite 00 4294967296",
-        b"none\nsite 70000:1\nnone\nbad case\n",
-        4,
-        1,
-        2,
-    ),
-    (
-        b"site 010009 0007\nsite 00 +1\nsite 00\nsite 00 1 1\nsite 0 1",
-        b"none\nbad case\nbad case\nbad case\nbad case\n",
-        5,
-        4,
-        2,
-    ),
 ];
 
 /// A run over the input with at most so many bytes a call, and what it wrote.
