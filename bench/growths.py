@@ -3,8 +3,8 @@
 
     python3 bench/growths.py [--crate NAME] [--jobs N] [--last N]
 
-It runs `rt try --test --fail-alloc N` in the folder of each crate, for N from 1 on, and reads the tests whose names end in
-_growth_fails. In such a run the Nth growth of each test is refused, and the test says which one that was:
+It runs `rt try --test --fail-alloc N` in the folder of each crate, or of the crate that has its tests, for N from 1 on, and
+reads the tests whose names end in _growth_fails. In such a run the Nth growth of each test is refused, and the test says which one that was:
 
 - one of what it prepares, by an error of which it makes nothing;
 - one of its call. Then the call answered want of memory by its own name, what it was lent was as before, and the same call
@@ -29,6 +29,9 @@ SUFFIX = "_growth_fails"
 REFUSED = "a growth of the call was refused"
 BEHIND = "no growth of the call is left"
 PREPARING = {"error: AllocError", "error: AllocFailed { .. }", "error: OutOfMemory"}
+
+# The crates whose tests stand in a crate of their own.
+TESTS = {"grain_bytecode": "grain_bytecode_tests", "grain": "grain_tests"}
 
 # The call of each test.
 CALLS = {
@@ -108,7 +111,8 @@ def kind_of(lines):
 def run(crate, number):
     """How each test ended in the run in which that growth is refused."""
     words = ["rt", "try", "--test", "--fail-alloc", str(number)]
-    ran = subprocess.run(words, cwd=os.path.join(TOP, "crates", crate), capture_output=True, text=True)
+    folder = os.path.join(TOP, "crates", TESTS.get(crate, crate))
+    ran = subprocess.run(words, cwd=folder, capture_output=True, text=True)
     ends = ends_of(ran.stdout + ran.stderr)
     if not ends:
         sys.exit(f"{crate}: no test of growths ran\n{ran.stdout}{ran.stderr}")
