@@ -7,34 +7,34 @@ use Rattle.std.proofs.lemmas.List.Elements.{All-map, All-weaker}
 use Rattle.std.proofs.lemmas.Simd.{map-map}
 use Rattle.grain_base.specs.CapBits.{FUNCTION}
 use Rattle.grain_base.specs.declared.caps.Caps.{Caps}
-use Rattle.grain_bytecode.specs.Assembly.{assembled, retarget}
-use Rattle.grain_bytecode.specs.Dispatch as dispatch
-use Rattle.grain_bytecode.specs.Dispatch.{Arms, Case, arms, offset_at, resolved, resolved_case, resolved_range, targets}
-use Rattle.grain_bytecode.specs.Fields as fields
-use Rattle.grain_bytecode.specs.InstructionTable.{form}
-use Rattle.grain_bytecode.specs.Span.{Span}
-use Rattle.grain_bytecode.specs.declared.field.Field.{Field}
-use Rattle.grain_bytecode.specs.declared.field.Field.TheVariants.{Index, Slot, Count, Target}
-use Rattle.grain_bytecode.specs.declared.function.Function.{Function}
-use Rattle.grain_bytecode.specs.declared.op.Op.{Op}
-use Rattle.grain_bytecode.specs.declared.switch.Switch.{Switch}
-use Rattle.grain_bytecode.specs.declared.switch.SwitchRange.{SwitchRange}
-use Rattle.grain_bytecode.proofs.Canonical.{form_canon, form_retarget}
-use Rattle.grain_bytecode.proofs.Instructions.{begins_none_nil}
-use Rattle.grain_bytecode.proofs.Splits.{one_front}
-use Rattle.grain.specs.Accepted.{AreDeepest, ChunkPasses, ConstantPasses, IsAccepted}
+use Rattle.grain_code.specs.Assembly.{assembled, retarget}
+use Rattle.grain_pools.specs.Dispatch as dispatch
+use Rattle.grain_pools.specs.Dispatch.{Arms, Case, arms, offset_at, resolved, resolved_case, resolved_range, targets}
+use Rattle.grain_code.specs.Fields as fields
+use Rattle.grain_code.specs.InstructionTable.{form}
+use Rattle.grain_code.specs.Span.{Span}
+use Rattle.grain_code.specs.declared.field.Field.{Field}
+use Rattle.grain_code.specs.declared.field.Field.TheVariants.{Index, Slot, Count, Target}
+use Rattle.grain_code.specs.declared.function.Function.{Function}
+use Rattle.grain_code.specs.declared.op.Op.{Op}
+use Rattle.grain_pools.specs.declared.switch.Switch.{Switch}
+use Rattle.grain_pools.specs.declared.switch.SwitchRange.{SwitchRange}
+use Rattle.grain_code.proofs.Canonical.{form_canon, form_retarget}
+use Rattle.grain_code.proofs.Instructions.{begins_none_nil}
+use Rattle.grain_code.proofs.Splits.{one_front}
+use Rattle.grain_rules.specs.Accepted.{AreDeepest, ChunkPasses, ConstantPasses, IsAccepted}
 use Rattle.grain.specs.Build.{AreDeepestByIndex, CanBuild, CanLay, Draft, IsLaid, by_index, head_of, leads, setting_with}
-use Rattle.grain.specs.ByIndex.{IsCut, LeadWithin, moved}
-use Rattle.grain.specs.Capabilities.{Allows}
-use Rattle.grain.specs.Code.{Bytecode, coded, switch_targets}
-use Rattle.grain.specs.Indices.{Indexed, IsPassed, Test, all_case_constants, all_inner, case_constants, cases_of, chain_tests, field_test, field_tests, inner, tests_of}
+use Rattle.grain_rules.specs.ByIndex.{IsCut, LeadWithin, moved}
+use Rattle.grain_rules.specs.Capabilities.{Allows}
+use Rattle.grain_rules.specs.Code.{Bytecode, coded, switch_targets}
+use Rattle.grain_rules.specs.Indices.{Indexed, IsPassed, Test, all_case_constants, all_inner, case_constants, cases_of, chain_tests, field_test, field_tests, inner, tests_of}
 use Rattle.grain.specs.Program.{Program, chunks_of, input_of, setting_of}
-use Rattle.grain.specs.Setting.{Setting, case_consts}
-use Rattle.grain.specs.Typing.{HasTyping, IsDeepest}
+use Rattle.grain_rules.specs.Setting.{Setting, case_consts}
+use Rattle.grain_rules.specs.Typing.{HasTyping, IsDeepest}
 use Rattle.grain.specs.declared.builder.Head.{Head}
 use Rattle.grain.proofs.Laying.{All-before_map}
-use Rattle.grain.proofs.Offsets.{offset_count}
-use Rattle.grain.proofs.Transport.{deepest_here, deepest_there, framed_there, typed_here, typed_there}
+use Rattle.grain_rules.proofs.Offsets.{offset_count}
+use Rattle.grain_rules.proofs.Transport.{deepest_here, deepest_there, framed_there, typed_here, typed_there}
 
 -- mapped targets leave the tests of fields as they are, and what is inside what they name
 module _ (s : Setting) (g : ℕ → ℕ) where

@@ -6,8 +6,8 @@ use Rattle.std.proofs.lemmas.Bool.{cases_lt}
 use Rattle.std.proofs.lemmas.List.{map-append, take_more, take_more_set}
 use Rattle.std.proofs.lemmas.List.Elements.{All-append, Contains-append_left, Contains-push}
 use Rattle.std.proofs.lemmas.Simd.{map-map}
-use Rattle.grain_bytecode.specs.Span.{Span}
-use Rattle.grain_bytecode.specs.declared.function.Function.{Function}
+use Rattle.grain_code.specs.Span.{Span}
+use Rattle.grain_code.specs.declared.function.Function.{Function}
 use Rattle.grain.specs.Program.{IsGreatest}
 
 one_below : (m n : ℕ) → m ≤ n → All (λ k. k ≤ n) (m ∷ [])

@@ -6,20 +6,20 @@ use Rattle.std.proofs.lemmas.List.{length-map}
 use Rattle.std.proofs.lemmas.Option.{slice_get-get_or}
 use Rattle.grain_base.specs.declared.caps.Caps.{Caps}
 use Rattle.grain_base.specs.declared.value.Dynamic.{Dynamic}
-use Rattle.grain_bytecode.specs.Span.{Span}
-use Rattle.grain_bytecode.specs.declared.field.Field.{Field}
-use Rattle.grain_bytecode.specs.declared.field.Field.TheVariants.{Index, Slot, Count, Target}
-use Rattle.grain_bytecode.specs.declared.field.Pool.TheVariants.{Constants, Names, Operators, OpAssignments, Fragments, Chains, Switches, SyntaxSites}
-use Rattle.grain_bytecode.specs.declared.function.Function.{Function}
-use Rattle.grain_bytecode.specs.declared.op.Op.{Op}
-use Rattle.grain.specs.Accepted.{IsAccepted, input}
-use Rattle.grain.specs.Code.{switch_targets}
-use Rattle.grain.specs.Indices.{Indexed, IsBounded, cases_of, fields_of}
+use Rattle.grain_code.specs.Span.{Span}
+use Rattle.grain_code.specs.declared.field.Field.{Field}
+use Rattle.grain_code.specs.declared.field.Field.TheVariants.{Index, Slot, Count, Target}
+use Rattle.grain_code.specs.declared.field.Pool.TheVariants.{Constants, Names, Operators, OpAssignments, Fragments, Chains, Switches, SyntaxSites}
+use Rattle.grain_code.specs.declared.function.Function.{Function}
+use Rattle.grain_code.specs.declared.op.Op.{Op}
+use Rattle.grain_rules.specs.Accepted.{IsAccepted, input}
+use Rattle.grain_rules.specs.Code.{switch_targets}
+use Rattle.grain_rules.specs.Indices.{Indexed, IsBounded, cases_of, fields_of}
 use Rattle.grain.specs.Lookups.{AreFound, FindsIndices, IsFound}
 use Rattle.grain.specs.Program.{Program, chunks_of, input_of, setting_of}
-use Rattle.grain.specs.Setting.{case_consts}
-use Rattle.grain.specs.declared.pools.Pools.{Pools}
-use Rattle.grain.proofs.ChainTests.{within_pools}
+use Rattle.grain_rules.specs.Setting.{case_consts}
+use Rattle.grain_rules.specs.declared.pools.Pools.{Pools}
+use Rattle.grain_rules.proofs.ChainTests.{within_pools}
 
 -- the pools of a program
 pub record ArePools (p : Program) (pools : Pools) : Type 0 where

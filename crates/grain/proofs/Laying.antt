@@ -6,12 +6,12 @@ use Rattle.std.proofs.lemmas.List.{length-map}
 use Rattle.std.proofs.lemmas.List.Elements.{All-contains, All-drop, All-map, All-take}
 use Rattle.std.proofs.lemmas.Simd.{map-map}
 use Rattle.std.proofs.lemmas.Slice.Zip.{firsts-zip, get_or-zip, seconds-zip}
-use Rattle.grain_bytecode.specs.Dispatch.{Fits, IsFirstPast, arms}
-use Rattle.grain_bytecode.specs.Span.{Span}
-use Rattle.grain_bytecode.specs.declared.switch.Switch.{Switch}
+use Rattle.grain_pools.specs.Dispatch.{Fits, IsFirstPast, arms}
+use Rattle.grain_code.specs.Span.{Span}
+use Rattle.grain_pools.specs.declared.switch.Switch.{Switch}
 use Rattle.grain.specs.Build.{span_of}
-use Rattle.grain.specs.ByIndex.{IsCut, LeadWithin}
-use Rattle.grain.specs.Code.{switch_targets}
+use Rattle.grain_rules.specs.ByIndex.{IsCut, LeadWithin}
+use Rattle.grain_rules.specs.Code.{switch_targets}
 use Rattle.grain.specs.declared.builder.Cut.{Cut}
 use Rattle.grain.specs.declared.builder.Head.{Head}
 

@@ -11,25 +11,25 @@ use Rattle.grain_base.specs.AddressTable.{Entry, Table, known, site_at}
 use Rattle.grain_base.specs.Place.{place_of}
 use Rattle.grain_base.specs.declared.pos.Site.{Site}
 use Rattle.grain_base.specs.declared.position.Position.{Position}
-use Rattle.grain_bytecode.specs.Chain.{positions, root_positions, root_shape, shape, step_positions, step_shape, steps_positions}
+use Rattle.grain_pools.specs.Chain.{positions, root_positions, root_shape, shape, step_positions, step_shape, steps_positions}
 use Rattle.grain_bytecode.specs.ChainStream.{all_positions, recorded}
-use Rattle.grain_bytecode.specs.declared.chain.Chain.{Chain}
-use Rattle.grain_bytecode.specs.declared.chain.Root.{Root}
-use Rattle.grain_bytecode.specs.declared.chain.Root.TheVariants as roots
-use Rattle.grain_bytecode.specs.declared.chain.Step.{Step}
-use Rattle.grain_bytecode.specs.declared.chain.Step.TheVariants as steps
-use Rattle.grain_bytecode.specs.declared.chain.Tail.{Tail}
+use Rattle.grain_pools.specs.declared.chain.Chain.{Chain}
+use Rattle.grain_pools.specs.declared.chain.Root.{Root}
+use Rattle.grain_pools.specs.declared.chain.Root.TheVariants as roots
+use Rattle.grain_pools.specs.declared.chain.Step.{Step}
+use Rattle.grain_pools.specs.declared.chain.Step.TheVariants as steps
+use Rattle.grain_pools.specs.declared.chain.Tail.{Tail}
 use Rattle.grain_bytecode.proofs.Arriving.{one_arrival}
 use Rattle.grain_bytecode.proofs.Streams.{one_stream}
 use Rattle.grain_bytecode.specs.Positions.{Arrived, IsRead, Place, byte_place, code_site, dense, entries_of, entry_of, matched, place_at, site_place, table_places}
-use Rattle.grain_bytecode.specs.InstructionTable.{width_of}
-use Rattle.grain_bytecode.specs.Split.{BeginsNone, Split}
-use Rattle.grain_bytecode.proofs.Instructions.{begins_none_nil}
+use Rattle.grain_code.specs.InstructionTable.{width_of}
+use Rattle.grain_code.specs.Split.{BeginsNone, Split}
+use Rattle.grain_code.proofs.Instructions.{begins_none_nil}
 use Rattle.grain.specs.Program.{Program, places_of}
 use Rattle.grain.specs.Sidecars.{Belongs, CanComeBack, DiffersInPositions, IsAttached, IsSidecar, IsStripped, slot_place}
 use Rattle.grain.specs.declared.sidecar.Sidecar.{Sidecar}
 use Rattle.grain.proofs.Attaching.{none_matched, one_table}
-use Rattle.grain.proofs.Splits.{SplitsFrom, in_cons, in_head, in_nil, in_tail, split_splits, width_pos}
+use Rattle.grain_rules.proofs.Splits.{SplitsFrom, in_cons, in_head, in_nil, in_tail, split_splits, width_pos}
 
 -- a place as those of positions are: its line isn't 0, and it fits 16 bits
 abbrev IsSmall : Place → Type 0

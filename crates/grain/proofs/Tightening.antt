@@ -3,17 +3,17 @@ use Rattle.std.proofs.Common.{◌≡◌, ℕ, ◌≤◌, zero, suc, List, [], �
 use Rattle.std.specs.List.{All, AllZip}
 use Rattle.std.proofs.lemmas.List.{length-map}
 use Rattle.grain_base.specs.CapBits.{FUNCTION}
-use Rattle.grain_bytecode.specs.Span.{Span}
-use Rattle.grain_bytecode.specs.declared.function.Function.{Function}
-use Rattle.grain_bytecode.specs.declared.op.Op.{Op}
-use Rattle.grain.specs.Accepted.{AreDeepest, AreTyped, ChunkPasses, CodePasses, ConstantsPass, IsAccepted, IsFramed}
-use Rattle.grain.specs.Capabilities.{Allows}
-use Rattle.grain.specs.Code.{Bytecode, Code, coded}
-use Rattle.grain.specs.Counts.{Counts}
+use Rattle.grain_code.specs.Span.{Span}
+use Rattle.grain_code.specs.declared.function.Function.{Function}
+use Rattle.grain_code.specs.declared.op.Op.{Op}
+use Rattle.grain_rules.specs.Accepted.{AreDeepest, AreTyped, ChunkPasses, CodePasses, ConstantsPass, IsAccepted, IsFramed}
+use Rattle.grain_rules.specs.Capabilities.{Allows}
+use Rattle.grain_rules.specs.Code.{Bytecode, Code, coded}
+use Rattle.grain_rules.specs.Counts.{Counts}
 use Rattle.grain.specs.Program.{Program, chunks_of, declared_by, input_of}
 use Rattle.grain.specs.Tightened.{IsTightened, undeclared, undeclared_chunk, undeclared_function}
-use Rattle.grain.specs.Typing.{HasTyping, IsDeepest, Passes, Reached, begin, onward}
-use Rattle.grain.proofs.Law.{typing_covers}
+use Rattle.grain_rules.specs.Typing.{HasTyping, IsDeepest, Passes, Reached, begin, onward}
+use Rattle.grain_rules.proofs.Law.{typing_covers}
 
 -- the chunk, declaring a number
 abbrev pub declaring : ℕ → Span → Span

@@ -3,30 +3,30 @@ use Rattle.std.specs.Prelude.{◌≡◌, ◌≢◌, ◌⊎◌, ℕ, ◌+◌, ◌
 use Rattle.std.specs.List.{All, AllWithin, AllZip, HoldsAt}
 use Rattle.grain_base.specs.CapBits.{FUNCTION}
 use Rattle.grain_base.specs.declared.caps.Caps.{Caps}
-use Rattle.grain_bytecode.specs.Assembly as assembly
-use Rattle.grain_bytecode.specs.Assembly.{CanAssemble, IsAssembly, IsAssemblyFlaw}
-use Rattle.grain_bytecode.specs.Dispatch.{IsFirstPast, arms, resolved}
-use Rattle.grain_bytecode.specs.Span.{Span}
-use Rattle.grain_bytecode.specs.declared.error.AssembleError.{AssembleError}
-use Rattle.grain_bytecode.specs.declared.error.AssembleError.TheVariants as refusals
-use Rattle.grain_bytecode.specs.declared.function.Function.{Function}
-use Rattle.grain_bytecode.specs.declared.op.Op.{Op}
-use Rattle.grain.specs.Accepted.{ConstantPasses}
-use Rattle.grain.specs.ByIndex.{IsCut, LeadWithin, listed, moved}
-use Rattle.grain.specs.Capabilities.{Allows}
-use Rattle.grain.specs.Code.{Code, switch_targets}
-use Rattle.grain.specs.Flaw.{Flaw}
-use Rattle.grain.specs.Indices.{Indexed}
+use Rattle.grain_pools.specs.AssembleErrors as assemble_errors
+use Rattle.grain_code.specs.Assembly.{CanAssemble, IsAssembly, IsAssemblyFlaw}
+use Rattle.grain_pools.specs.Dispatch.{IsFirstPast, arms, resolved}
+use Rattle.grain_code.specs.Span.{Span}
+use Rattle.grain_pools.specs.declared.error.AssembleError.{AssembleError}
+use Rattle.grain_pools.specs.declared.error.AssembleError.TheVariants as refusals
+use Rattle.grain_code.specs.declared.function.Function.{Function}
+use Rattle.grain_code.specs.declared.op.Op.{Op}
+use Rattle.grain_rules.specs.Accepted.{ConstantPasses}
+use Rattle.grain_rules.specs.ByIndex.{IsCut, LeadWithin, listed, moved}
+use Rattle.grain_rules.specs.Capabilities.{Allows}
+use Rattle.grain_rules.specs.Code.{Code, switch_targets}
+use Rattle.grain_rules.specs.Flaw.{Flaw}
+use Rattle.grain_rules.specs.Indices.{Indexed}
 use Rattle.grain.specs.Program.{Program, chunks_of, input_of, made}
-use Rattle.grain.specs.Setting.{Setting, case_consts}
-use Rattle.grain.specs.Texts.{verify_error_text}
-use Rattle.grain.specs.Typing.{HasTyping, IsDeepest}
+use Rattle.grain_rules.specs.Setting.{Setting, case_consts}
+use Rattle.grain_rules.specs.Texts.{verify_error_text}
+use Rattle.grain_rules.specs.Typing.{HasTyping, IsDeepest}
 use Rattle.grain.specs.declared.builder.BuildError.{BuildError}
 use Rattle.grain.specs.declared.builder.BuildError.TheVariants as errors
 use Rattle.grain.specs.declared.builder.Cut.{Cut}
 use Rattle.grain.specs.declared.builder.Head.{Head}
-use Rattle.grain.specs.declared.error.VerifyError.{VerifyError}
-use Rattle.grain.specs.declared.error.VerifyError.TheVariants as faults
+use Rattle.grain_rules.specs.declared.error.VerifyError.{VerifyError}
+use Rattle.grain_rules.specs.declared.error.VerifyError.TheVariants as faults
 use Rattle.grain.specs.declared.program.Parts.{Parts}
 
 -- what is handed over: operations by index, of which each cut is a chunk, the first of them the top level and each other the
@@ -149,7 +149,7 @@ of_verify (faults.BadIndex at what index) = errors.Verify (faults.BadIndex at wh
 
 -- what is printed of an error
 abbrev pub build_error_text : BuildError → List ℕ
-build_error_text (errors.Assemble error) = assembly.text_of error
+build_error_text (errors.Assemble error) = assemble_errors.text_of error
 build_error_text (errors.BadCut place) = codes "cut " ++ (decimal place ++ codes " runs backwards or past the operations")
 build_error_text (errors.Verify error) = verify_error_text error
 build_error_text errors.OutOfMemory = codes "out of memory"

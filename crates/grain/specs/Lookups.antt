@@ -3,14 +3,14 @@ use Rattle.std.specs.Prelude.{◌<◌, ⊤, ℕ, Bool, false, ◌&&◌, ◌==◌
 use Rattle.std.specs.Cmp.Lexicographic.{pointwise}
 use Rattle.std.specs.List.{All}
 use Rattle.std.specs.Option.{option_map_or}
-use Rattle.grain_bytecode.specs.Pools.{Pools}
-use Rattle.grain_bytecode.specs.Split.{AreInstructions}
-use Rattle.grain_bytecode.specs.declared.function.Function.{Function}
-use Rattle.grain_bytecode.specs.declared.field.Field.{Field}
-use Rattle.grain_bytecode.specs.declared.field.Field.TheVariants.{Index, Slot, Count, Target}
-use Rattle.grain_bytecode.specs.declared.field.Pool.TheVariants.{Constants, Names, Operators, OpAssignments, Fragments, Chains, Switches, SyntaxSites}
-use Rattle.grain_bytecode.specs.declared.op.Op.{Op}
-use Rattle.grain.specs.Indices.{cases_of, fields_of}
+use Rattle.grain_pools.specs.Pools.{Pools}
+use Rattle.grain_code.specs.Split.{AreInstructions}
+use Rattle.grain_code.specs.declared.function.Function.{Function}
+use Rattle.grain_code.specs.declared.field.Field.{Field}
+use Rattle.grain_code.specs.declared.field.Field.TheVariants.{Index, Slot, Count, Target}
+use Rattle.grain_code.specs.declared.field.Pool.TheVariants.{Constants, Names, Operators, OpAssignments, Fragments, Chains, Switches, SyntaxSites}
+use Rattle.grain_code.specs.declared.op.Op.{Op}
+use Rattle.grain_rules.specs.Indices.{cases_of, fields_of}
 use Rattle.grain.specs.Program.{Program, setting_of}
 
 -- the pools of a program, as its look-ups see them

@@ -7,16 +7,16 @@ use Rattle.grain_base.specs.declared.position.Position.{Position}
 use Rattle.grain_base.specs.declared.token.Token.{Token}
 use Rattle.grain_base.specs.declared.value.Dynamic.{Dynamic}
 use Rattle.grain_bytecode.specs.Positions.{Place}
-use Rattle.grain_bytecode.specs.Span.{Span}
-use Rattle.grain_bytecode.specs.declared.assign_op.AssignOp.{AssignOp}
-use Rattle.grain_bytecode.specs.declared.chain.Chain.{Chain}
-use Rattle.grain_bytecode.specs.declared.function.Function.{Function}
+use Rattle.grain_code.specs.Span.{Span}
+use Rattle.grain_pools.specs.declared.assign_op.AssignOp.{AssignOp}
+use Rattle.grain_pools.specs.declared.chain.Chain.{Chain}
+use Rattle.grain_code.specs.declared.function.Function.{Function}
 use Rattle.grain_bytecode.specs.declared.positions.Positions.{Positions}
 use Rattle.grain_bytecode.specs.declared.positions.Positions.TheVariants.{Stripped, Dense}
-use Rattle.grain_bytecode.specs.declared.switch.Switch.{Switch}
-use Rattle.grain.specs.Accepted.{Input}
-use Rattle.grain.specs.Code.{switch_targets}
-use Rattle.grain.specs.Setting.{Setting, case_consts}
+use Rattle.grain_pools.specs.declared.switch.Switch.{Switch}
+use Rattle.grain_rules.specs.Accepted.{Input}
+use Rattle.grain_rules.specs.Code.{switch_targets}
+use Rattle.grain_rules.specs.Setting.{Setting, case_consts}
 use Rattle.grain.specs.declared.program.Parts.{Parts}
 
 pub record Program : Type 0 where

@@ -6,10 +6,10 @@ use Rattle.grain_base.specs.Place.{place_of}
 use Rattle.grain_base.specs.Varint.{AreShortest}
 use Rattle.grain_base.specs.declared.pos.Site.{Site}
 use Rattle.grain_base.specs.declared.position.Position.{Position}
-use Rattle.grain_bytecode.specs.Chain.{shape}
+use Rattle.grain_pools.specs.Chain.{shape}
 use Rattle.grain_bytecode.specs.ChainStream.{Stream, StreamFlaw, all_positions, numbers_of, recorded}
 use Rattle.grain_bytecode.specs.Positions.{IsRead, IsRefusal, Place, entries_of, site_place}
-use Rattle.grain_bytecode.specs.Split.{Split}
+use Rattle.grain_code.specs.Split.{Split}
 use Rattle.grain_bytecode.specs.declared.positions.TableError.{TableError}
 use Rattle.grain_bytecode.specs.declared.positions.TableError.TheVariants as table_error
 use Rattle.grain.specs.Program.{Program, places_of}

@@ -1,9 +1,9 @@
 -- Chunks that declare as many operands as they stack, and no more.
 use Rattle.std.specs.Prelude.{◌≡◌, ◌≤◌, map}
 use Rattle.std.specs.List.{AllZip}
-use Rattle.grain_bytecode.specs.Span.{Span}
-use Rattle.grain_bytecode.specs.declared.function.Function.{Function}
-use Rattle.grain.specs.Accepted.{AreDeepest, IsAccepted}
+use Rattle.grain_code.specs.Span.{Span}
+use Rattle.grain_code.specs.declared.function.Function.{Function}
+use Rattle.grain_rules.specs.Accepted.{AreDeepest, IsAccepted}
 use Rattle.grain.specs.Program.{Program, declared_by, input_of}
 
 -- the chunk with nothing declared

@@ -1,14 +1,14 @@
 //! Building a program from operations whose targets are indices.
 ghost use Rattle.std.specs.Prelude.{◌≡◌, ◌↔◌, ◌⊎◌, ℕ, ◌+◌, ◌-◌, ◌<◌, IfErr, IfOk, IsTrue, OnOk, length, map, slice_index};
 ghost use Rattle.std.specs.List.{All};
-ghost use Rattle.grain_bytecode.specs.Assembly.{CanAssemble};
+ghost use Rattle.grain_code.specs.Assembly.{CanAssemble};
 ghost use Rattle.grain.specs.Build.{AreCuts, AreDeepestByIndex, BuildFlaw, CanBuild, CanLay, IsFirstBadCut, IsLaid, draft, head_of, span_of};
-ghost use Rattle.grain.specs.ByIndex.{IsCut, moved};
+ghost use Rattle.grain_rules.specs.ByIndex.{IsCut, moved};
 
-use crate::error::VerifyError;
 use crate::program::{Parts, Program};
 use grain_base::{Caps, FnAccess};
 use grain_bytecode::{AssembleError, Chunk, Function, Op, assemble, resolve_switch_targets};
+use grain_rules::VerifyError;
 use std::alloc::{AllocError, AllocFailed, Global};
 use std::fmt;
 
@@ -241,6 +241,3 @@ pub fn build(
     let numbers = program.verify()?;
     Ok((program, numbers))
 }
-
-#[cfg(test)]
-mod tests;

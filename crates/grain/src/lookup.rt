@@ -167,6 +167,3 @@ fn is_named(name: &mut Sought<'_>, function: &Function, argc: usize) -> bool
 {
     is_untyped(function, function.name, argc) && name.is_at(function.name)
 }
-
-#[cfg(test)]
-mod tests;

@@ -3,13 +3,12 @@ ghost use Rattle.std.specs.Prelude.{◌≡◌, ◌↔◌, IsTrue, Some, is_none,
 ghost use Rattle.grain_base.specs.CapBits.{FN_PTR};
 ghost use Rattle.grain_base.specs.Place.{place_of};
 ghost use Rattle.grain_bytecode.specs.Positions.{place_at};
-ghost use Rattle.grain.specs.Capabilities.{Allows};
+ghost use Rattle.grain_rules.specs.Capabilities.{Allows};
 ghost use Rattle.grain.specs.Program.{IsGreatest, Program, declared_by, listed_positions, made, places_of};
 
-use crate::capabilities::allows;
-use crate::pools::Pools;
 use grain_base::{Caps, Dynamic, Position, Token};
 use grain_bytecode::{AssignOp, Chain, Chunk, Function, Positions, Strings, Switch};
+use grain_rules::{Pools, allows};
 use std::alloc::Global;
 use std::fmt;
 use std::marker::Model;
@@ -57,7 +56,7 @@ impl Model for Program {
     ghost use Rattle.grain.specs.Program.{Program, made};
     ghost use Rattle.std.specs.Coded.{codes};
     ghost use Rattle.grain_base.specs.contracts.value.Dynamic as value;
-    ghost use Rattle.grain_bytecode.specs.contracts.switch.Switch as switch;
+    ghost use Rattle.grain_pools.specs.contracts.switch.Switch as switch;
 
     ghost Value = { Program };
 
@@ -267,6 +266,3 @@ impl fmt::Debug for Program {
             .finish()
     }
 }
-
-#[cfg(test)]
-mod tests;

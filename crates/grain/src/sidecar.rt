@@ -118,6 +118,3 @@ fn read_sites(alloc: Global, stream: &[u8]) -> Result<Vec<Option<Site>>, TableEr
         Err(error) => Err(TableError::ChainStream(error)),
     }
 }
-
-#[cfg(test)]
-mod tests;

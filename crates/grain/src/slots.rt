@@ -2,7 +2,7 @@
 ghost use Rattle.std.specs.Prelude.{◌≡◌, ◌+◌, [], ◌∷◌, length, map, min};
 ghost use Rattle.grain_base.specs.Place.{place_of};
 ghost use Rattle.grain_base.specs.declared.position.Position.{Position};
-ghost use Rattle.grain_bytecode.specs.Chain.{positions, root_positions, root_shape, shape, step_positions, step_shape, steps_positions};
+ghost use Rattle.grain_pools.specs.Chain.{positions, root_positions, root_shape, shape, step_positions, step_shape, steps_positions};
 ghost use Rattle.grain_bytecode.specs.ChainStream.{all_positions};
 ghost use Rattle.grain.specs.Slots.{IsDrawn};
 

@@ -1,16 +1,16 @@
 //! Verifying a program, and declaring no more operands than it stacks.
 ghost use Rattle.std.specs.Prelude.{◌≡◌, ◌⊎◌, IfErr, IfOk, OnErr, OnOk, length, map};
-ghost use Rattle.grain.specs.Accepted.{IsAccepted};
-ghost use Rattle.grain.specs.Flaw.{Flaw};
+ghost use Rattle.grain_rules.specs.Accepted.{IsAccepted};
+ghost use Rattle.grain_rules.specs.Flaw.{Flaw};
 ghost use Rattle.grain.specs.Lookups.{FindsIndices};
 ghost use Rattle.grain.specs.Program.{chunks_of, declared_by, input_of};
 ghost use Rattle.grain.specs.Tightened.{IsTightened, undeclared, undeclared_function};
-ghost use Rattle.grain.specs.Verdict.{IsVerdict};
+ghost use Rattle.grain_rules.specs.Verdict.{IsVerdict};
 
-use crate::error::VerifyError;
 use crate::program::Program;
-use crate::verifier::verify;
 use grain_bytecode::{Chunk, Function};
+use grain_rules::VerifyError;
+use grain_verify::verify;
 use std::alloc::AllocError;
 
 impl Program {
@@ -89,6 +89,3 @@ fn declare_all(functions: &mut [Function], numbers: &[u16])
         function.chunk.set_max_stack(numbers[index]);
     }
 }
-
-#[cfg(test)]
-mod tests;

@@ -5,18 +5,18 @@ use Rattle.std.specs.List.{flat_map, position_or_len}
 use Rattle.std.proofs.lemmas.Bool.{cases_lt, false≢true, eqb-true, eq-eqb}
 use Rattle.std.proofs.lemmas.List.{append-nil, length-map}
 use Rattle.std.proofs.lemmas.List.Sums.{sum_by-cons, fails_before_first, passes_at_first}
-use Rattle.grain_bytecode.specs.declared.op.Op.{Op}
-use Rattle.grain_bytecode.specs.declared.op.Op.TheVariants as ops
-use Rattle.grain_bytecode.specs.declared.field.Field.{Field}
-use Rattle.grain_bytecode.specs.declared.field.Field.TheVariants.{Index, Slot, Count, Target}
-use Rattle.grain_bytecode.specs.InstructionTable.{form, canon, spelling, width_of}
-use Rattle.grain_bytecode.specs.Disassembly.{placed_from, IsDisassembly}
-use Rattle.grain_bytecode.specs.Fields.{moved}
-use Rattle.grain_bytecode.specs.Assembly.{retarget, assembled, offsets_from, IsAssembly, IsWritable, AreWritable, EachWritable, CanAssemble, index_of, with_indices}
-use Rattle.grain_bytecode.proofs.Instructions.{begins_none_nil}
-use Rattle.grain_bytecode.proofs.Splits.{one_front}
-use Rattle.grain_bytecode.proofs.Canonical.{canon_twice, form_canon, form_retarget, width_retarget, width_assembled}
-use Rattle.grain_bytecode.proofs.Placed.{length-offsets_from}
+use Rattle.grain_code.specs.declared.op.Op.{Op}
+use Rattle.grain_code.specs.declared.op.Op.TheVariants as ops
+use Rattle.grain_code.specs.declared.field.Field.{Field}
+use Rattle.grain_code.specs.declared.field.Field.TheVariants.{Index, Slot, Count, Target}
+use Rattle.grain_code.specs.InstructionTable.{form, canon, spelling, width_of}
+use Rattle.grain_code.specs.Disassembly.{placed_from, IsDisassembly}
+use Rattle.grain_code.specs.Fields.{moved}
+use Rattle.grain_code.specs.Assembly.{retarget, assembled, offsets_from, IsAssembly, IsWritable, AreWritable, EachWritable, CanAssemble, index_of, with_indices}
+use Rattle.grain_code.proofs.Instructions.{begins_none_nil}
+use Rattle.grain_code.proofs.Splits.{one_front}
+use Rattle.grain_code.proofs.Canonical.{canon_twice, form_canon, form_retarget, width_retarget, width_assembled}
+use Rattle.grain_code.proofs.Placed.{length-offsets_from}
 
 -- the first index at which a value of the list stands
 first_index : (xs : List ℕ) (t : ℕ) → t < length xs → (index_of xs (get_or xs t 0) < length xs) × (get_or xs (index_of xs (get_or xs t 0)) 0 ≡ get_or xs t 0)

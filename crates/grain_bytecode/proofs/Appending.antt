@@ -8,8 +8,8 @@ use Rattle.std.proofs.Math.Seq.{take-suc}
 use Rattle.grain_base.specs.Place.{line_of, column_of}
 use Rattle.grain_base.specs.Varint.{AppendsShortest, AreShortest, Begins}
 use Rattle.grain_base.specs.declared.position.Position.{Position}
-use Rattle.grain_bytecode.specs.declared.chain.Chain.{Chain}
-use Rattle.grain_bytecode.specs.Chain.{positions}
+use Rattle.grain_pools.specs.declared.chain.Chain.{Chain}
+use Rattle.grain_pools.specs.Chain.{positions}
 use Rattle.grain_bytecode.specs.ChainStream.{Stream, AppendsAll, all_positions, numbers_of, recorded, site_of, sites_of}
 
 shortest-append : (a b ns ms : List ℕ) → AreShortest a ns → AreShortest b ms → AreShortest (a ++ b) (ns ++ ms)

@@ -1,25 +1,25 @@
 -- Reading code from its beginning, and what a table has for the addresses on the way.
 use Rattle.std.proofs.Common.{◌≡◌, ◌≢◌, ℕ, ◌+◌, ◌<◌, ◌≤◌, List, [], ◌∷◌, ◌++◌, length, map, take, get_or, slice_set, true, false, Bool, cond, ◌||◌, eqb, nat_lt, inl, inr, Option, Some, None, is_some, refl, sym, ap, subst, ◌∙◌, arith}
-use Rattle.std.specs.Prelude.{sum_by, All, option_and_then}
+use Rattle.std.specs.Prelude.{All, option_and_then}
 use Rattle.std.specs.List.{list_any}
 use Rattle.std.proofs.lemmas.Bool.{cases_eq, eq-eqb, ne_eqb}
 use Rattle.std.proofs.lemmas.Bool.Decides.{nat_tests}
-use Rattle.std.proofs.lemmas.List.{append-nil, length-map, length-take-le, length-set, get_or-set_same, get_or-set_other, drop_all}
+use Rattle.std.proofs.lemmas.List.{append-nil, length-map, length-set, get_or-set_same, get_or-set_other, drop_all}
 use Rattle.std.proofs.lemmas.List as lists
 use Rattle.std.proofs.lemmas.List.Folds.{list_any-append}
 use Rattle.std.proofs.lemmas.List.FromFn.{fill_by_all}
-use Rattle.std.proofs.lemmas.List.Sums.{sum_by_push, sum_by-cons}
+use Rattle.std.proofs.lemmas.List.Sums.{sum_by_push}
 use Rattle.grain_base.specs.AddressTable.{Entry, Table}
 use Rattle.grain_base.specs.Place.{place_of}
 use Rattle.grain_base.specs.declared.pos.Site.{Site}
 use Rattle.grain_base.specs.declared.position.Position.{Position}
 use Rattle.grain_bytecode.specs.Positions.{Arrived, IsPlaced, site_place, code_site, matched, byte_place, table_places}
-use Rattle.grain_bytecode.specs.Split.{BeginsNone, StandsAt, NoneStandsAt, AreInstructions, starts_from, Split}
-use Rattle.grain_bytecode.specs.InstructionTable.{width_of}
-use Rattle.grain_bytecode.specs.declared.op.Op.{Op}
-use Rattle.grain_bytecode.proofs.Boundaries.{spellings_width, one_end}
-use Rattle.grain_bytecode.proofs.Instructions.{begins_none_nil}
-use Rattle.grain_bytecode.proofs.Splits.{one_more, one_split}
+use Rattle.grain_code.specs.Split.{BeginsNone, StandsAt, NoneStandsAt, AreInstructions, starts_from, Split}
+use Rattle.grain_code.specs.InstructionTable.{width_of}
+use Rattle.grain_code.specs.declared.op.Op.{Op}
+use Rattle.grain_code.proofs.Boundaries.{next_start, one_end}
+use Rattle.grain_code.proofs.Instructions.{begins_none_nil}
+use Rattle.grain_code.proofs.Splits.{one_more, one_split}
 
 -- each byte has its place, where reading has arrived at these addresses
 abbrev pub Placed : List Entry → List ℕ → ℕ → List Position → Type 0
@@ -103,18 +103,6 @@ found_more list arrived n at count old new met found inside sized is = by_site (
         | inr other ↦ ap place_of (get_or-set_other old at k position d (λ same. other (sym same))) ∙ found.placed k d below ∙ sym (elsewhere list arrived at k other)
       ]);
     }
-
--- where operations end
-starts-push : (n : ℕ) (ops : List Op) (op : Op) → starts_from n (ops ++ op ∷ []) ≡ starts_from n ops ++ (n + sum_by width_of ops) ∷ []
-starts-push n [] op = let end : n ≡ n + 0 = omega arith in ap (λ k. k ∷ []) end
-starts-push n (o ∷ ops) op =
-    let end : n + width_of o + sum_by width_of ops ≡ n + sum_by width_of (o ∷ ops) = omega (arith, sum_by-cons width_of o ops) in
-    ap (λ starts. n ∷ starts) (starts-push (n + width_of o) ops op ∙ ap (λ k. starts_from (n + width_of o) ops ++ k ∷ []) end)
-
-pub next_start : (code : List ℕ) (at : ℕ) (ops : List Op) (op : Op) → at ≤ length code → AreInstructions (take at code) ops → starts_from 0 (ops ++ op ∷ []) ≡ starts_from 0 ops ++ at ∷ []
-next_start code at ops op inside are =
-    let long : 0 + sum_by width_of ops ≡ at = omega (arith, length-take-le at code inside, ap length are.whole, spellings_width ops) in
-    starts-push 0 ops op ∙ ap (λ n. starts_from 0 ops ++ n ∷ []) long
 
 -- past the instruction at an address that was looked up
 pub walked_more : (table code : List ℕ) (at count width : ℕ) (old new : List Position) (met : Bool) → Walked table code at count old → at < length code → length new ≡ length old

@@ -10,8 +10,8 @@ use Rattle.std.specs.Map.{lookup}
 use Rattle.grain_base.specs.Content.{Content, integer, hashable, same}
 use Rattle.grain_base.specs.View.{content}
 use Rattle.grain_base.specs.declared.value.Dynamic.{Dynamic}
-use Rattle.grain_bytecode.specs.declared.switch.SwitchRange.{SwitchRange}
-use Rattle.grain_bytecode.specs.Dispatch.{Case, Fits, Arms, by_cases, by_ranges, contains, dispatched, listed, offset_at, resolved, resolved_case, resolved_range, targets}
+use Rattle.grain_pools.specs.declared.switch.SwitchRange.{SwitchRange}
+use Rattle.grain_pools.specs.Dispatch.{Case, Fits, Arms, by_cases, by_ranges, contains, dispatched, listed, offset_at, resolved, resolved_case, resolved_range, targets}
 
 -- the image of each element is among the images
 contains_mapped : {X Y : Type 0} (f : X → Y) (xs : List X) → All (λ x. Contains (map f xs) (f x)) xs

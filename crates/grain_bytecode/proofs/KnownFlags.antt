@@ -3,7 +3,7 @@ use Rattle.std.proofs.Common.{◌≡◌, ◌<◌, ◌%◌, ◌↔◌, ◌∙◌,
 use Rattle.std.specs.Int.RustNames.{bit_and}
 use Rattle.std.proofs.lemmas.Nat.{and_mask}
 use Rattle.bitflags.specs.Sets.{known_bits, known_from}
-use Rattle.grain_bytecode.specs.StepBits.{flags_table}
+use Rattle.grain_pools.specs.StepBits.{flags_table}
 
 pub all_flags : known_bits flags_table ≡ 1
 unfolding known_from

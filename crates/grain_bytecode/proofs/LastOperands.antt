@@ -1,9 +1,9 @@
 -- The last operand of a step among those that it takes.
 use Rattle.std.proofs.Common.{◌≡◌, ℕ, ◌+◌, ◌-◌, ◌<◌, ◌≤◌, Bool, true, false, cond, nat_lt, Some, None, refl, arith}
 use Rattle.std.proofs.lemmas.Bool.Decides.{nat_tests}
-use Rattle.grain_bytecode.specs.Chain.{TakesOperand, last_operand}
-use Rattle.grain_bytecode.specs.declared.chain.Step.{Step}
-use Rattle.grain_bytecode.specs.declared.chain.Step.TheVariants.{Index, Property, Method}
+use Rattle.grain_pools.specs.Chain.{TakesOperand, last_operand}
+use Rattle.grain_pools.specs.declared.chain.Step.{Step}
+use Rattle.grain_pools.specs.declared.chain.Step.TheVariants.{Index, Property, Method}
 
 -- a method with arguments takes the last one, and none behind it
 last_argument : (argc operand last : ℕ) → cond (nat_lt 0 argc) (Some (operand + argc - 1)) None ≡ Some last → (operand ≤ last) × (last < operand + argc) × ((place : ℕ) → (operand ≤ place) × (place < operand + argc) → place ≤ last)

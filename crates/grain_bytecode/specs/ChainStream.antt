@@ -7,8 +7,8 @@ use Rattle.grain_base.specs.Varint.{Begins, U32Flaw, AreShortest}
 use Rattle.grain_base.specs.Place.{place_of, line_of, column_of}
 use Rattle.grain_base.specs.declared.position.Position.{Position}
 use Rattle.std.specs.List.{flat_map}
-use Rattle.grain_bytecode.specs.Chain.{positions}
-use Rattle.grain_bytecode.specs.declared.chain.Chain.{Chain}
+use Rattle.grain_pools.specs.Chain.{positions}
+use Rattle.grain_pools.specs.declared.chain.Chain.{Chain}
 use Rattle.grain_bytecode.specs.declared.sites.StreamError.{StreamError}
 use Rattle.grain_bytecode.specs.declared.sites.StreamError.TheVariants as stream_error
 

@@ -9,7 +9,7 @@ use Rattle.grain_base.specs.Place.{place_of}
 use Rattle.grain_base.specs.declared.pos.Site.{Site}
 use Rattle.grain_base.specs.declared.position.Position.{Position}
 use Rattle.grain_bytecode.specs.ChainStream.{text_of as stream_text}
-use Rattle.grain_bytecode.specs.Split.{NoneStandsAt, Split}
+use Rattle.grain_code.specs.Split.{NoneStandsAt, Split}
 use Rattle.grain_bytecode.specs.declared.positions.Positions.{Positions}
 use Rattle.grain_bytecode.specs.declared.positions.Positions.TheVariants.{Stripped, Dense}
 use Rattle.grain_bytecode.specs.declared.positions.StripError.{StripError}

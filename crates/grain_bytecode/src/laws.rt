@@ -9,19 +9,19 @@ ghost use Rattle.std.specs.Str.{is_utf8};
 ghost use Rattle.bitflags.specs.Sets.{known_bits};
 ghost use Rattle.grain_base.specs.Content.{Content};
 ghost use Rattle.grain_base.specs.declared.pos.Site.{Site};
-ghost use Rattle.grain_bytecode.specs.Chain.{TakesOperand, last_operand};
+ghost use Rattle.grain_pools.specs.Chain.{TakesOperand, last_operand};
 ghost use Rattle.grain_bytecode.specs.ChainStream.{Stream};
-ghost use Rattle.grain_bytecode.specs.Dispatch.{Fits, Arms, dispatched, resolved, targets};
+ghost use Rattle.grain_pools.specs.Dispatch.{Fits, Arms, dispatched, resolved, targets};
 ghost use Rattle.grain_bytecode.specs.Names.{first_flaw, names_in, starts_of};
 ghost use Rattle.grain_bytecode.specs.Positions.{Arrived};
 ghost use Rattle.grain_bytecode.specs.Qualified.{IsLastCut, last_cut, separator};
-ghost use Rattle.grain_bytecode.specs.StepBits.{flags_table};
-ghost use Rattle.grain_bytecode.specs.InstructionTable.{Instr, canon};
-ghost use Rattle.grain_bytecode.specs.Split.{Split, IsBoundary, FrontEnds};
-ghost use Rattle.grain_bytecode.specs.Disassembly.{IsDisassembly};
-ghost use Rattle.grain_bytecode.specs.Assembly.{IsAssembly, CanAssemble, with_indices};
-ghost use Rattle.grain_bytecode.specs.declared.chain.Step.{Step};
-ghost use Rattle.grain_bytecode.specs.declared.op.Op.{Op};
+ghost use Rattle.grain_pools.specs.StepBits.{flags_table};
+ghost use Rattle.grain_code.specs.InstructionTable.{Instr, canon};
+ghost use Rattle.grain_code.specs.Split.{Split, IsBoundary, FrontEnds};
+ghost use Rattle.grain_code.specs.Disassembly.{IsDisassembly};
+ghost use Rattle.grain_code.specs.Assembly.{IsAssembly, CanAssemble, with_indices};
+ghost use Rattle.grain_pools.specs.declared.chain.Step.{Step};
+ghost use Rattle.grain_code.specs.declared.op.Op.{Op};
 
 /// The canonical form of a canonical form is that form, and each instruction is its own canonical form.
 pub fn canonical_forms_stay()

@@ -35,6 +35,3 @@ fn last_cut(name: &str) -> Option<(&str, &str)>
 {
     name.rsplit_once(SEPARATOR)
 }
-
-#[cfg(test)]
-mod tests;

@@ -13,9 +13,9 @@ ghost use Rattle.grain_bytecode.specs.declared.positions.StripError.TheVariants 
 ghost use Rattle.grain_bytecode.specs.declared.positions.TableError.TheVariants as table_error;
 
 use crate::sites::StreamError;
-use crate::tag_widths::width;
 use grain_base::pos::{Entries, Site};
 use grain_base::{Position, pos};
+use grain_code::width;
 use std::alloc::{AllocError, AllocFailed, Global};
 use std::fmt;
 
@@ -381,6 +381,3 @@ fn place_all(table: &[u8], code: &[u8], positions: &mut [Position]) -> usize
     }
     matched
 }
-
-#[cfg(test)]
-mod tests;

@@ -14,12 +14,12 @@ ghost use Rattle.grain_base.specs.declared.varint.Error.{Error as NumberError};
 ghost use Rattle.grain_base.specs.Varint.{Begins, U32Flaw, AreShortest};
 ghost use Rattle.grain_bytecode.specs.declared.sites.StreamError.{StreamError};
 ghost use Rattle.grain_bytecode.specs.declared.sites.StreamError.TheVariants.{OutOfMemory};
-ghost use Rattle.grain_bytecode.specs.Chain.{positions};
+ghost use Rattle.grain_pools.specs.Chain.{positions};
 ghost use Rattle.grain_bytecode.specs.ChainStream.{Stream, Records, StreamFlaw, AppendsAll, site_of, all_positions, numbers_of, recorded, as_stream_error};
 
-use crate::chain::Chain;
 use grain_base::pos::Site;
 use grain_base::{Position, varint};
+use grain_pools::Chain;
 use std::alloc::{AllocError, AllocFailed, Global};
 use std::fmt;
 
@@ -254,6 +254,3 @@ pub fn encode(alloc: Global, chains: &[Chain]) -> Result<Vec<u8>, AllocError>
     }
     Ok(stream)
 }
-
-#[cfg(test)]
-mod tests;

@@ -342,6 +342,3 @@ fn is_text(bytes: &[u8]) -> bool
 {
     str::from_utf8(bytes).is_ok()
 }
-
-#[cfg(test)]
-mod tests;

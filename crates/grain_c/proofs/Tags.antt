@@ -3,7 +3,7 @@ use Rattle.std.proofs.Common.{◌≡◌, ℕ, List, take, drop, get_or, ap, arit
 use Rattle.std.proofs.lemmas.Grind.{common_steps}
 use Rattle.grain.specs.InstructionTable.{form, width_of}
 use Rattle.grain.specs.Split.{StandsAt}
-use Rattle.grain_bytecode.specs.declared.op.Op.{Op}
+use Rattle.grain_bytecode.specs.declared.Op.{Op}
 
 pub tag_is : (code : List ℕ) (at : ℕ) (op : Op) → StandsAt code at op → get_or code at 0 ≡ (form op).0
 tag_is code at op h =

@@ -2,13 +2,12 @@
 ghost use Rattle.std.specs.Prelude.{◌≡◌, ◌+◌, List, Ok, Err, cond, sum_by};
 ghost use Rattle.std.specs.Bool.{OnFalse, OnTrue};
 ghost use Rattle.grain.specs.Split.{IsCount, NoneStandsAt, StandsAt};
-ghost use Rattle.grain_bytecode.specs.declared.op.Op.{Op};
-ghost use Rattle.grain_c.specs.Instruction.{field_size, instruction_row};
+ghost use Rattle.grain_bytecode.specs.declared.Op.{Op};
+ghost use Rattle.grain_flat.specs.Instruction.{field_size, instruction_row};
 
-use crate::fields::fields_of;
-use crate::kinds::{COUNT, NOTHING, TARGET};
-use crate::records::{CField, CInstruction};
 use grain::{count_instructions, decode};
+use grain_flat::kinds::{COUNT, NOTHING, TARGET};
+use grain_flat::{CField, CInstruction, fields_of};
 
 /// Counts the instructions of the whole code, or gives the address of the first thing that is none.
 #[unsafe(no_mangle)]

@@ -6,25 +6,14 @@
 #![tactic(auto)]
 
 mod answers;
-mod asking;
-mod build;
 mod code;
-mod faults;
-mod fields;
-mod flat;
 mod flaws;
-mod judge;
-mod kinds;
-mod records;
-mod refusal;
-mod rows;
-mod shapes;
 mod tables;
 #[cfg(test)]
 mod tests;
 mod text;
 mod verify;
 
-pub use records::{
+pub use grain_flat::{
     CCase, CChain, CChunk, CConstant, CFault, CField, CInstruction, CPools, CStep, CSwitch,
 };

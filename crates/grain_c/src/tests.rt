@@ -1,16 +1,16 @@
 //! Each export on its happy path, and rows of refusals.
 use crate::answers::{ACCEPTED, NO_REFUSAL, NOT_FLAT, REFUSED, SHORT, WRITTEN};
 use crate::code::{grain_count_instructions, grain_instruction};
-use crate::faults::{BAD_INDEX, MISSING_CAPS, NO_CHUNK, UNDERFLOW};
 use crate::flaws::{OUT_OF_ORDER, SOUND, TRAILING_BYTES, TRUNCATED};
-use crate::kinds::{COUNT, NAME, NOTHING};
-use crate::records::{
-    CCase, CChain, CChunk, CConstant, CFault, CField, CInstruction, CPools, CStep, CSwitch,
-};
-use crate::shapes::{INDEX, PROPERTY, READ, TEMPORARY};
 use crate::tables::{grain_check_stream, grain_check_table, grain_site, grain_stream_site};
 use crate::text::grain_fault_text;
 use crate::verify::grain_verify;
+use grain_flat::faults::{BAD_INDEX, MISSING_CAPS, NO_CHUNK, UNDERFLOW};
+use grain_flat::kinds::{COUNT, NAME, NOTHING};
+use grain_flat::shapes::{INDEX, PROPERTY, READ, TEMPORARY};
+use grain_flat::{
+    CCase, CChain, CChunk, CConstant, CFault, CField, CInstruction, CPools, CStep, CSwitch,
+};
 use std::process::Abort;
 use std::test::Fail;
 

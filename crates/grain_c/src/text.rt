@@ -1,21 +1,21 @@
 //! Refusals as texts.
 ghost use Rattle.std.specs.Prelude.{◌≡◌, ◌≢◌, ◌<◌, ◌≤◌, ◌↔◌, ◌++◌, IfNone, IfOk, IfSome, ℕ, List, drop, length, string_bytes};
 ghost use Rattle.grain.specs.Texts.{verify_error_text};
-ghost use Rattle.grain.specs.declared.error.VerifyError.{VerifyError};
-ghost use Rattle.grain_c.specs.Answers.{Tells, word_kind};
-ghost use Rattle.grain_c.specs.declared.kinds.TheConstants.{NOTHING};
+ghost use Rattle.grain.specs.declared.VerifyError.{VerifyError};
+ghost use Rattle.grain_flat.specs.Answers.{Tells, word_kind};
+ghost use Rattle.grain_flat.specs.declared.kinds.TheConstants.{NOTHING};
 
 use crate::answers::{NO_REFUSAL, OUT_OF_MEMORY, SHORT, WRITTEN};
-use crate::faults::{
+use grain::{Caps, Flags, VerifyError};
+use grain_flat::CFault;
+use grain_flat::faults::{
     BAD_INDEX, CHUNK_OUT_OF_RANGE, DEPTH_CONFLICT, FALLS_OFF_THE_END, HANDLER_UNDERFLOW,
     ITERATOR_UNDERFLOW, JUMP_INTO_AN_INSTRUCTION, JUMP_OUT_OF_RANGE, MISSING_CAPS,
     SINKS_BELOW_HANDLER, STACK_EXCEEDS_DECLARED, TRAILING_BYTES, UNDECODABLE, UNDERFLOW,
 };
-use crate::kinds::{
+use grain_flat::kinds::{
     CHAIN, CONSTANT, FRAGMENT, NAME, OP_ASSIGNMENT, OPERAND, OPERATOR, SWITCH, SYNTAX_SITE,
 };
-use crate::records::CFault;
-use grain::{Caps, Flags, VerifyError};
 use std::alloc::{AllocError, Global};
 
 /// What a refusal calls an index of this kind, if it is one that a refusal names.

@@ -1,115 +1,13 @@
 //! Verification, over pools in their flat form.
-ghost use Rattle.std.specs.Prelude.{◌≡◌, ◌≢◌, ◌-◌, ◌^◌, ◌<◌, ◌≤◌, ◌↔◌, ◌++◌, ℕ, All, IfErr, IfOk, List, Option, drop, length, min};
-ghost use Rattle.grain.specs.declared.error.VerifyError.{VerifyError};
-ghost use Rattle.grain_c.specs.Answers.{Accepts, Looks, Refuses, told};
-ghost use Rattle.grain_c.specs.Flat.{IsFlat, Pooled};
-ghost use Rattle.grain_c.specs.Asking.{RowPasses};
-ghost use Rattle.grain_c.specs.Judging.{AreSome, IsFlatMetered, IsFlatVerdict, IsMadeOf, IsStop};
+ghost use Rattle.std.specs.Prelude.{◌≡◌, ◌≢◌, ◌-◌, ◌^◌, ◌<◌, ◌≤◌, ◌↔◌, ◌++◌, ℕ, List, Option, drop, length, min};
+ghost use Rattle.grain.specs.declared.VerifyError.{VerifyError};
+ghost use Rattle.grain_flat.specs.Answers.{Accepts, Looks, Refuses, told};
+ghost use Rattle.grain_flat.specs.Flat.{Pooled};
 
 use crate::answers::{ACCEPTED, NOT_FLAT, OUT_OF_MEMORY, REFUSED, SHORT};
-use crate::asking::first_refused;
-use crate::build::{Made, make};
-use crate::flat::is_flat;
-use crate::judge::{Judge, Refusal, Stop};
-use crate::records::{CChunk, CFault, CPools};
-use crate::refusal::told;
-use grain::{Caps, Chunk, Flags, FnAccess, Function, Meter, Pools, VerifyError};
-use std::alloc::{AllocError, Global};
-
-/// The chunks as they are verified.
-fn chunks_of(alloc: Global, chunks: &[CChunk]) -> Result<Vec<Chunk>, AllocError>
-    ensures { IfOk result (λ v. v.items ≡ chunks.now) }
-{
-    let mut made = Vec::with_capacity(alloc, chunks.len())?;
-    for chunk in chunks {
-        made.push(Chunk::new(chunk.entry, chunk.end, chunk.max_stack))?;
-    }
-    Ok(made)
-}
-
-/// A function, which stands for any number of them: all that is asked is whether there are some.
-fn some_function(alloc: Global) -> Function {
-    Function {
-        name: 0,
-        params: Vec::new(alloc),
-        access: FnAccess::Public,
-        this_type: None,
-        chunk: Chunk::new(0, 0, 0),
-    }
-}
-
-/// None where so many are none, else some.
-fn as_many(count: usize, some: &[Function]) -> &[Function]
-    requires { length some.now ≡ 1 }
-    ensures { AreSome count result.now }
-{
-    if count == 0 { &some[..0] } else { some }
-}
-
-/// The verdict on all with the flat form, once its constants have passed and its pools are made.
-fn verdict_with(
-    alloc: Global,
-    caps: Caps,
-    code: &[u8],
-    chunks: &[Chunk],
-    pools: &CPools<'_>,
-    made: &Made,
-    meter: &mut Meter,
-) -> Result<Vec<u16>, Stop>
-    requires made { IsMadeOf pools.now made.now }
-    requires constants { All (RowPasses caps.0) pools.now.constants.now }
-    ensures verdict { IsFlatVerdict caps.0 code.now chunks.now pools.now result }
-    ensures metered { IsFlatMetered
-        caps.0 code.now chunks.now pools.now meter.old meter.new result }
-{
-    let functions = [some_function(alloc)];
-    let given = Pools {
-        consts: pools.constants.len(),
-        names: &made.names,
-        tokens: pools.operators,
-        assign_ops: pools.op_assignments,
-        residuals: pools.fragments,
-        chains: &made.chains,
-        switches: &made.switches,
-    };
-    let judge = Judge {
-        alloc,
-        caps,
-        code,
-        functions: as_many(pools.functions, &functions),
-        pools: &given,
-    };
-    judge.verdict(chunks, meter)
-}
-
-/// The verdict on all with the flat form.
-fn verdict(
-    alloc: Global,
-    caps: Caps,
-    code: &[u8],
-    chunks: &[CChunk],
-    pools: &CPools<'_>,
-    meter: &mut Meter,
-) -> Result<Vec<u16>, Stop>
-    requires { IsFlat pools.now }
-    ensures verdict { IsFlatVerdict caps.0 code.now chunks.now pools.now result }
-    ensures metered { IsFlatMetered
-        caps.0 code.now chunks.now pools.now meter.old meter.new result }
-{
-    if let Some(missing) = first_refused(caps, pools.constants) {
-        return Err(Stop::Refused(Refusal {
-            place: None,
-            error: VerifyError::MissingCaps {
-                artifact: caps,
-                missing,
-                at: 0,
-            },
-        }));
-    }
-    let made = make(alloc, pools)?;
-    let chunks = chunks_of(alloc, chunks)?;
-    verdict_with(alloc, caps, code, &chunks, pools, &made, meter)
-}
+use grain::{Caps, Flags, Meter};
+use grain_flat::{CChunk, CFault, CPools, Stop, is_flat, told, verdict};
+use std::alloc::Global;
 
 /// What a meter shows in 64 bits.
 fn shown(meter: &Meter) -> u64

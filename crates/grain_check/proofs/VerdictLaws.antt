@@ -11,7 +11,7 @@ use Rattle.grain.specs.AddressTable.{Entry, Front, site_at}
 use Rattle.grain.specs.Split.{IsCount}
 use Rattle.grain.specs.Site.{Site}
 use Rattle.grain.specs.Accepted.{Input}
-use Rattle.grain.specs.declared.error.VerifyError.{VerifyError}
+use Rattle.grain.specs.declared.VerifyError.{VerifyError}
 use Rattle.grain_check.specs.Lines.{ended, ended_lines, is_case}
 use Rattle.grain_check.specs.Case.{asked, is_bad, view}
 use Rattle.grain_check.specs.declared.case.Case.{Case}

@@ -9,7 +9,7 @@ use Rattle.grain.specs.Split.{IsCount}
 use Rattle.grain.specs.Span.{Span}
 use Rattle.grain.specs.Site.{Site}
 use Rattle.grain.specs.Texts.{verify_error_text}
-use Rattle.grain.specs.declared.error.VerifyError.{VerifyError}
+use Rattle.grain.specs.declared.VerifyError.{VerifyError}
 use Rattle.grain_check.specs.Case.{Asked, asked, code, site, verify}
 use Rattle.grain_check.specs.Lines.{ended_lines}
 

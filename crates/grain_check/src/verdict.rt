@@ -3,7 +3,7 @@
 ghost use Rattle.std.specs.Prelude.{◌≡◌, ◌≢◌, ◌++◌, Ok, Err, IfErr, IfOk, OnOk, string_bytes};
 ghost use Rattle.std.specs.Option.{option_map};
 ghost use Rattle.grain.specs.CapBits.{set_of};
-ghost use Rattle.grain.specs.declared.error.VerifyError.{VerifyError};
+ghost use Rattle.grain.specs.declared.VerifyError.{VerifyError};
 ghost use Rattle.grain_check.specs.Case.{view};
 ghost use Rattle.grain_check.specs.Verdict.{Adds, CodeVerdict, IsJudged, IsVerdictOn, SiteVerdict};
 ghost use Rattle.grain_check.specs.Verdict.{VerifyVerdict, accepted_text, program};

@@ -1,6 +1,6 @@
 //! The law of building by index.
 ghost use Rattle.std.specs.Prelude.{◌↔◌, ℕ, List};
-ghost use Rattle.grain.specs.Accepted.{AreDeepest, IsAccepted};
+ghost use Rattle.grain_rules.specs.Accepted.{AreDeepest, IsAccepted};
 ghost use Rattle.grain.specs.Build.{AreDeepestByIndex, CanBuild, CanLay, Draft, IsLaid};
 ghost use Rattle.grain.specs.Program.{Program, input_of};
 

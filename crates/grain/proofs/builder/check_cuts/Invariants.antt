@@ -1,7 +1,7 @@
 use Rattle.std.specs.Prelude.{map}
 use Rattle.std.specs.List.{AllWithin}
 use Rattle.grain.specs.Build.{span_of}
-use Rattle.grain.specs.ByIndex.{IsCut}
+use Rattle.grain_rules.specs.ByIndex.{IsCut}
 use Rattle.grain.proofs.builder.check_cuts.Given as goal
 
 -- the cuts so far are parts of the operations

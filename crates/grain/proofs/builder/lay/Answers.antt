@@ -3,15 +3,15 @@ use Rattle.std.specs.List.{All}
 use Rattle.std.proofs.Math.ListN.{get_or-map}
 use Rattle.std.proofs.lemmas.List.{length-map}
 use Rattle.std.proofs.lemmas.Result.{err_from_is_err_and}
-use Rattle.grain_bytecode.specs.Dispatch.{Fits, IsFirstPast, arms}
-use Rattle.grain_bytecode.specs.declared.error.AssembleError.{AssembleError}
-use Rattle.grain_bytecode.specs.declared.switch.Switch.{Switch}
+use Rattle.grain_pools.specs.Dispatch.{Fits, IsFirstPast, arms}
+use Rattle.grain_pools.specs.declared.error.AssembleError.{AssembleError}
+use Rattle.grain_pools.specs.declared.switch.Switch.{Switch}
 use Rattle.grain.specs.Build.{BuildFlaw, draft, of_assemble, span_of}
-use Rattle.grain.specs.ByIndex.{IsCut}
+use Rattle.grain_rules.specs.ByIndex.{IsCut}
 use Rattle.grain.specs.declared.builder.BuildError.TheVariants as errors
 use Rattle.grain.specs.declared.builder.Cut.{Cut}
 use Rattle.grain.proofs.Laying.{lead_within, none_past, others_lie}
-use Rattle.grain.proofs.Offsets.{offset_count}
+use Rattle.grain_rules.proofs.Offsets.{offset_count}
 use Rattle.grain.proofs.builder.lay.Goals as goal
 
 pub returns-in_err-resolve_switch_targets-clause-accepts : goal.returns-in_err-resolve_switch_targets-clause-accepts

@@ -4,7 +4,7 @@ use Rattle.std.proofs.lemmas.Iterator.{YieldsList-from_slice, YieldsList-from_zi
 use Rattle.std.proofs.lemmas.Iterator.Adapters.{YieldsList-from_vec}
 use Rattle.std.proofs.lemmas.Iterator.Consumers.{YieldsList-end, YieldsList-turn}
 use Rattle.grain.specs.Build.{span_of}
-use Rattle.grain.specs.ByIndex.{moved}
+use Rattle.grain_rules.specs.ByIndex.{moved}
 use Rattle.grain.proofs.Laying.{cut_there, cuts_listed, heads_listed}
 use Rattle.grain.proofs.builder.place_functions.Goals as goal
 

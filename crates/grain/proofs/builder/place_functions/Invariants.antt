@@ -1,6 +1,6 @@
 use Rattle.std.specs.Prelude.{◌≡◌, map, slice_index}
 use Rattle.grain.specs.Build.{head_of, span_of}
-use Rattle.grain.specs.ByIndex.{moved}
+use Rattle.grain_rules.specs.ByIndex.{moved}
 use Rattle.grain.proofs.builder.place_functions.Given as goal
 
 -- so far there is a function for each head and each cut

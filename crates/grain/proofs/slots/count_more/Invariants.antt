@@ -1,5 +1,5 @@
 use Rattle.std.proofs.Common.{◌≡◌, ◌+◌, length, min, take}
-use Rattle.grain_bytecode.specs.Chain.{root_positions, steps_positions}
+use Rattle.grain_pools.specs.Chain.{root_positions, steps_positions}
 use Rattle.grain.proofs.slots.count_more.Given as goal
 
 abbrev pub invariant-loop-step : goal.invariant-loop-step

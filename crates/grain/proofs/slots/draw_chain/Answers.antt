@@ -1,6 +1,6 @@
 use Rattle.std.proofs.Common.{◌∙◌, map, ap, arith}
 use Rattle.std.proofs.lemmas.List.{with_items_is}
-use Rattle.grain_bytecode.specs.Chain.{step_shape}
+use Rattle.grain_pools.specs.Chain.{step_shape}
 use Rattle.grain.proofs.slots.draw_chain.Goals as goal
 
 pub returns-clause-rest : goal.returns-clause-rest

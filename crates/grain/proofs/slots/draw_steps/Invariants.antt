@@ -1,6 +1,6 @@
 use Rattle.std.proofs.Common.{◌≡◌, map, take, drop}
 use Rattle.grain_base.specs.declared.position.Position.{Position}
-use Rattle.grain_bytecode.specs.Chain.{step_shape, steps_positions}
+use Rattle.grain_pools.specs.Chain.{step_shape, steps_positions}
 use Rattle.grain.specs.Slots.{IsDrawn}
 use Rattle.grain.proofs.slots.draw_steps.Given as goal
 

@@ -1,5 +1,5 @@
 use Rattle.std.proofs.Common.{◌+◌, ◌≤◌, ◌^◌, length, arith, ap}
-use Rattle.grain_bytecode.specs.Chain.{positions}
+use Rattle.grain_pools.specs.Chain.{positions}
 use Rattle.grain_bytecode.proofs.Appending.{none_so}
 use Rattle.grain_bytecode.proofs.sites.count_more.Goals as goal
 

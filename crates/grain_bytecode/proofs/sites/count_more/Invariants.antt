@@ -1,6 +1,6 @@
 use Rattle.std.proofs.Common.{◌≡◌, ◌+◌, length}
-use Rattle.grain_bytecode.specs.Chain.{positions}
-use Rattle.grain_bytecode.specs.ChainPositions.{positions_left}
+use Rattle.grain_pools.specs.Chain.{positions}
+use Rattle.grain_pools.specs.ChainPositions.{positions_left}
 use Rattle.grain_bytecode.proofs.sites.count_more.Given as goal
 
 -- those that are left are to be counted

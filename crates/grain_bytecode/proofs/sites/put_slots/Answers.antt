@@ -1,5 +1,5 @@
 use Rattle.std.proofs.Common.{◌∷◌, [], ◌++◌, ◌∙◌, ap, sym, append_assoc}
-use Rattle.grain_bytecode.specs.ChainPositions.{positions_left}
+use Rattle.grain_pools.specs.ChainPositions.{positions_left}
 use Rattle.grain_bytecode.specs.ChainStream.{numbers_of}
 use Rattle.grain_bytecode.proofs.Appending.{appends_more, flat_map-push}
 use Rattle.grain_bytecode.proofs.sites.put_slots.Goals as goal

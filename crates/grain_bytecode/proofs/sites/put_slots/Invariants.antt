@@ -1,7 +1,7 @@
 use Rattle.std.proofs.Common.{◌≡◌, ◌++◌}
 use Rattle.std.specs.List.{flat_map}
-use Rattle.grain_bytecode.specs.Chain.{positions}
-use Rattle.grain_bytecode.specs.ChainPositions.{positions_left}
+use Rattle.grain_pools.specs.Chain.{positions}
+use Rattle.grain_pools.specs.ChainPositions.{positions_left}
 use Rattle.grain_bytecode.specs.ChainStream.{AppendsAll, numbers_of}
 use Rattle.grain_bytecode.proofs.sites.put_slots.Given as goal
 

@@ -1,5 +1,5 @@
 use Rattle.std.proofs.Common.{subst}
-use Rattle.grain_c.specs.Answers.{Looks}
+use Rattle.grain_flat.specs.Answers.{Looks}
 use Rattle.grain_c.proofs.Counting.{shows}
 use Rattle.grain_c.proofs.verify.grain_verify.Goals as goal
 

@@ -3,10 +3,10 @@ use Rattle.std.proofs.lemmas.Result.{err_from_is_err_and}
 use Rattle.std.proofs.lemmas.List.{with_items_is}
 use Rattle.grain_base.specs.Place.{place_of}
 use Rattle.grain_base.specs.declared.pos.Site.{Site}
-use Rattle.grain_bytecode.specs.Chain.{shape}
+use Rattle.grain_pools.specs.Chain.{shape}
 use Rattle.grain_bytecode.specs.ChainStream.{Stream, StreamFlaw, all_positions}
 use Rattle.grain_bytecode.specs.Positions.{places}
-use Rattle.grain_bytecode.specs.declared.chain.Chain.{Chain}
+use Rattle.grain_pools.specs.declared.chain.Chain.{Chain}
 use Rattle.grain_bytecode.specs.declared.positions.TableError.TheVariants as table_error
 use Rattle.grain_bytecode.proofs.Streams.{one_stream}
 use Rattle.grain.specs.Program.{Program}

@@ -1,6 +1,6 @@
 use Rattle.std.proofs.Common.{◌<◌, length, ap, arith}
 use Rattle.std.proofs.lemmas.List.{with_items_is}
-use Rattle.grain_bytecode.specs.Span.{Span}
+use Rattle.grain_code.specs.Span.{Span}
 use Rattle.grain.proofs.Declared.{all_declared}
 use Rattle.grain.proofs.program.Program.declare.Goals as goal
 

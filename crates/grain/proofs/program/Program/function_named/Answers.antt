@@ -1,6 +1,6 @@
 use Rattle.std.proofs.Common.{◌≡◌, ℕ, List, true, false, Some, refl, sym, ap, ◌∙◌}
 use Rattle.std.specs.List.{find}
-use Rattle.grain_bytecode.specs.declared.function.Function.{Function}
+use Rattle.grain_code.specs.declared.function.Function.{Function}
 use Rattle.grain.specs.Lookups.{is_named}
 use Rattle.grain.specs.Program.{Program}
 use Rattle.grain.proofs.Firsts.{first_is, none_more}

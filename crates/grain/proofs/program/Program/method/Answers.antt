@@ -1,7 +1,7 @@
 use Rattle.std.proofs.Common.{◌≡◌, ℕ, List, true, false, Some, refl, sym, ap, ◌∙◌}
 use Rattle.std.specs.List.{find}
 use Rattle.std.specs.Option.{option_copied}
-use Rattle.grain_bytecode.specs.declared.function.Function.{Function}
+use Rattle.grain_code.specs.declared.function.Function.{Function}
 use Rattle.grain.specs.Lookups.{is_typed, is_untyped}
 use Rattle.grain.specs.Program.{Program}
 use Rattle.grain.proofs.Firsts.{first_is, kept_fails, kept_first, kept_stays, none_more}

@@ -2,9 +2,9 @@ use Rattle.std.proofs.Common.{◌≡◌, ◌∙◌, List, [], None, map, refl, s
 use Rattle.std.specs.List.{All}
 use Rattle.std.proofs.lemmas.List.{with_items_is}
 use Rattle.grain_base.specs.Place.{place_of}
-use Rattle.grain_bytecode.specs.Chain.{shape}
+use Rattle.grain_pools.specs.Chain.{shape}
 use Rattle.grain_bytecode.specs.ChainStream.{all_positions}
-use Rattle.grain_bytecode.specs.declared.chain.Chain.{Chain}
+use Rattle.grain_pools.specs.declared.chain.Chain.{Chain}
 use Rattle.grain.specs.Program.{Program}
 use Rattle.grain.proofs.Attaching.{none_placed}
 use Rattle.grain.proofs.program.Program.strip_positions.Goals as goal

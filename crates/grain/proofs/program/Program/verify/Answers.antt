@@ -1,11 +1,11 @@
 use Rattle.std.proofs.Common.{◌≡◌, ap, subst, ◌∙◌}
 use Rattle.std.specs.Result.{OnOk}
 use Rattle.std.proofs.lemmas.Result.{err_from_is_err_and, on_ok_weaker}
-use Rattle.grain.specs.Accepted.{Input, IsAccepted, input}
+use Rattle.grain_rules.specs.Accepted.{Input, IsAccepted, input}
 use Rattle.grain.specs.Program.{Program, input_of}
-use Rattle.grain.specs.Verdict.{IsVerdict}
+use Rattle.grain_rules.specs.Verdict.{IsVerdict}
 use Rattle.grain.proofs.Inputs.{accepted_finds, same_input}
-use Rattle.grain.proofs.Verdicts.{out_of_memory}
+use Rattle.grain_rules.proofs.Verdicts.{out_of_memory}
 use Rattle.grain.proofs.program.Program.verify.Goals as goal
 
 -- what `verify` is given is what the program has

@@ -1,5 +1,0 @@
-use Rattle.grain.proofs.Law.{catch_lands}
-use Rattle.grain.proofs.laws.faults_land_on_catch_edges.Goals as goal
-
-pub returns : goal.returns
-returns c = catch_lands

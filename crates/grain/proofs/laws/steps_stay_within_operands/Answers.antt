@@ -1,5 +1,0 @@
-use Rattle.grain.proofs.ChainTests.{accepted_within}
-use Rattle.grain.proofs.laws.steps_stay_within_operands.Goals as goal
-
-pub returns : goal.returns
-returns c = accepted_within

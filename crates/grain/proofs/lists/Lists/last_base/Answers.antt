@@ -1,9 +1,0 @@
-use Rattle.std.proofs.Common.{◌<◌, ap, sym, arith}
-use Rattle.grain.specs.Counts.{last_base}
-use Rattle.grain.proofs.Sharing.{named_read}
-use Rattle.grain.proofs.lists.Lists.last_base.Goals as goal
-
-pub returns : goal.returns
-returns c =
-    let some : 0 < c.args.list = let f = c.if-list-eq0.false in omega arith in
-    sym (ap last_base (named_read c.args.self.now.nodes.items c.args.list c.index.result.now c.requires.shared.sharing.parents some c.requires.list c.index.ensures))

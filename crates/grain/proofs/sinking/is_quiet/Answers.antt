@@ -1,5 +1,0 @@
-use Rattle.grain.proofs.Quietness.{quiet_by}
-use Rattle.grain.proofs.sinking.is_quiet.Goals as goal
-
-pub returns : goal.returns
-returns c op is = quiet_by c.args.tag _ op is

@@ -1,5 +1,0 @@
-use Rattle.grain_bytecode.proofs.Drained.{drained}
-use Rattle.grain_bytecode.proofs.disassembly.disassemble_from.Goals as goal
-
-pub returns-clause-gives : goal.returns-clause-gives
-returns-clause-gives c items d = drained _ items d

@@ -1,6 +1,0 @@
-use Rattle.std.specs.List.{AllWithin}
-use Rattle.grain_c.specs.Asking.{RowPasses}
-use Rattle.grain_c.proofs.asking.first_refused.Given as goal
-
-abbrev pub invariant-loop-row : goal.invariant-loop-row
-invariant-loop-row l = AllWithin (RowPasses l.caps.0) l.rows 0 l.row-index

@@ -1,0 +1,15 @@
+pub mod Boundaries
+pub mod Canonical
+pub mod Drained
+pub mod Filling
+pub mod Flaws
+pub mod Fronts
+pub mod Instructions
+pub mod Placed
+pub mod Reading
+pub mod Rows
+pub mod SetBelow
+pub mod Spans
+pub mod Splits
+pub mod Widths
+pub mod Words

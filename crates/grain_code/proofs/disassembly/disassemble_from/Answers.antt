@@ -1,0 +1,5 @@
+use Rattle.grain_code.proofs.Drained.{drained}
+use Rattle.grain_code.proofs.disassembly.disassemble_from.Goals as goal
+
+pub returns-clause-gives : goal.returns-clause-gives
+returns-clause-gives c items d = drained _ items d

@@ -1,0 +1,10 @@
+pub mod Assembly
+pub mod Disassembly
+pub mod Fields
+pub mod InstructionTable
+pub mod Numbers
+pub mod OperationTexts
+pub mod Span
+pub mod Split
+pub mod Starts
+pub mod Unread

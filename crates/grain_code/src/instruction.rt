@@ -1,0 +1,88 @@
+//! An instruction where it stands in code, as its bytes.
+ghost use Rattle.std.specs.Prelude.{◌≡◌, ℕ, ◌+◌, ◌≤◌, ◌∷◌, IfSome, IfNone, List, Some, length};
+ghost use Rattle.grain_code.specs.InstructionTable.{Instr, form, width_of};
+ghost use Rattle.grain_code.specs.Split.{StandsAt, NoneStandsAt};
+ghost use Rattle.grain_code.specs.declared.field.Field.{Field};
+ghost use Rattle.grain_code.specs.declared.field.Field.TheVariants.{Target};
+ghost use Rattle.grain_code.specs.declared.op.Op.{Op};
+
+use crate::decoder::op_of;
+use crate::op::Op;
+use crate::tag_widths::width;
+
+/// The bytes of an instruction: its tag and those of its fields (docs/FORMAT.md, "Instructions").
+///
+/// It is found by one look at the code, and decoded only where [`Instruction::op`] is called. Each call takes constant time.
+#[derive(Clone, Copy, Debug, PartialEq, Eq)]
+pub struct Instruction<'a> {
+    /// The first byte.
+    pub tag: u8,
+    /// The bytes behind it.
+    pub fields: &'a [u8],
+}
+
+impl<'a> Instruction<'a> {
+    /// The instruction at an address, or `None` where none stands. It takes no memory.
+    #[inline(always)]
+    #[must_use]
+    pub fn at(code: &'a [u8], at: usize) -> Option<Instruction<'a>>
+        ensures found { IfSome result (λ i. (op : Op) × StandsAt code.now at op
+            × Instr (i.tag ∷ i.fields.now) op) }
+        ensures fits { IfSome result (λ i. at + (length i.fields.now + 1) ≤ length code.now) }
+        ensures none { IfNone result (NoneStandsAt code.now at) }
+    {
+        let width = width(code, at)?;
+        Some(Instruction {
+            tag: code[at],
+            fields: &code[at + 1..at + width],
+        })
+    }
+
+    /// How many bytes it has.
+    #[inline(always)]
+    #[must_use]
+    pub fn width(&self) -> usize
+        ensures { result ≡ length self.now.fields.now + 1 }
+    {
+        self.fields.len() + 1
+    }
+
+    /// The target of a jump, an iterator's exit or a catch, which is the first field of each instruction that has one; the
+    /// first four bytes behind the tag. `None` where there are fewer.
+    #[inline(always)]
+    #[must_use]
+    pub fn target(&self) -> Option<u32>
+        ensures { (op : Op) (target : ℕ) (others : List Field)
+            → Instr (self.now.tag ∷ self.now.fields.now) op
+            → (form op).1 ≡ Target target ∷ others → result ≡ Some target }
+    {
+        match self.fields {
+            [a, b, c, d, ..] => Some(u32::from_le_bytes([*a, *b, *c, *d])),
+            _ => None,
+        }
+    }
+
+    /// What it is, or `None` where these bytes are no instruction. It takes no memory.
+    #[inline(always)]
+    #[must_use]
+    pub fn op(&self) -> Option<Op>
+        ensures found { IfSome result (λ op. Instr (self.now.tag ∷ self.now.fields.now) op) }
+        ensures none { IfNone result
+            ((op : Op) → Instr (self.now.tag ∷ self.now.fields.now) op → ⊥) }
+    {
+        op_of(self.tag, self.fields)
+    }
+}
+
+/// The instruction at an address and its width, or `None` where none stands.
+#[inline(always)]
+pub(crate) fn read(code: &[u8], at: usize) -> Option<(Op, usize)>
+    ensures found { IfSome result (λ found. StandsAt code.now at found.0
+        × (found.1 ≡ width_of found.0)) }
+    ensures fits { IfSome result (λ found. at + found.1 ≤ length code.now) }
+    ensures none { IfNone result (NoneStandsAt code.now at) }
+{
+    let instruction = Instruction::at(code, at)?;
+    let op = instruction.op()?;
+    Some((op, instruction.width()))
+}

@@ -1,0 +1,32 @@
+//! The instruction set of Rhai Grain bytecode, as bytes and as values: reading code, counting and disassembling it, where
+//! its instructions begin, and assembling it.
+//!
+//! Code is a sequence of instructions of one to seven bytes: a tag and its fields (docs/FORMAT.md).
+//! `specs/InstructionTable.antt` is the instruction table that every contract on code speaks of. A host uses
+//! `grain_bytecode` or `grain`, which give out all that is public here.
+#![tactic(auto)]
+
+mod assembler;
+mod chunk;
+mod code;
+mod decoder;
+mod disassembly;
+mod field;
+mod function;
+mod instruction;
+mod op;
+mod starts;
+pub mod tag;
+mod tag_widths;
+mod text;
+
+pub use assembler::assemble;
+pub use chunk::Chunk;
+pub use code::{count_instructions, decode, u16_at, u32_at};
+pub use disassembly::{Disassembly, disassemble};
+pub use field::{Field, Pool};
+pub use function::Function;
+pub use instruction::Instruction;
+pub use op::{Op, Receiver};
+pub use starts::Starts;
+pub use tag_widths::{Head, width};

@@ -1,0 +1,158 @@
+//! Where the instructions of code begin: a bit for each address.
+ghost use Rattle.std.specs.Prelude.{◌≡◌, ◌↔◌, ◌≤◌, ◌<◌, ◌+◌, ◌*◌, ℕ, List, IsTrue, IfOk, IfSome, Some, length, count_by, nat_lt, slice_get};
+ghost use Rattle.std.specs.List.{Contains};
+ghost use Rattle.grain_code.specs.Split.{NoneStandsAt, Split};
+ghost use Rattle.grain_code.specs.Starts.{ReadTo};
+
+use crate::tag_widths::width;
+use std::alloc::{AllocError, Global};
+use std::marker::Model;
+
+/// The starts among 64 addresses.
+#[derive(Clone, Copy, Debug)]
+struct Word {
+    /// How many starts have lower addresses than these.
+    before: usize,
+    /// A bit for each address, the lowest for the lowest: whether it is a start.
+    bits: u64,
+}
+
+/// The starts of the longest front of code that splits into instructions, and where that front ends.
+///
+/// A start is the address of an instruction's first byte. There are 16 bytes for each 64 bytes of code, and no call but
+/// [`Starts::of`] takes memory. Contracts see the end and the list of the starts.
+#[derive(Debug, Drop)]
+pub struct Starts {
+    words: Vec<Word>,
+    end: usize,
+    count: usize,
+}
+
+impl Model for Starts {
+    ghost use Rattle.grain_code.specs.Starts.{Front, starts_in, IsCounted};
+
+    ghost Value = { Front };
+
+    ghost view = { λ s. record { end = s.end; starts = starts_in s.words.items } };
+
+    ghost invariant = { λ s. IsCounted s.words.items s.count };
+}
+
+/// A front as far as it was read: its last word, where it ends, and how many starts it has.
+#[derive(Clone, Copy, Debug)]
+struct Reading {
+    word: Word,
+    end: usize,
+    count: usize,
+}
+
+/// Reads on from an address, with so many starts before it, up to a limit or to what is no instruction.
+#[inline(always)]
+fn read_word(code: &[u8], from: usize, before: usize, limit: usize) -> Reading
+    requires inside { from ≤ length code.now }
+    requires few { before ≤ from }
+    ensures further { from ≤ result.end }
+    ensures inside { result.end ≤ length code.now }
+    ensures few { result.count ≤ result.end }
+    ensures read { (words : List Word) → 64 * length words ≤ from
+        → limit ≡ 64 * (length words + 1) → ReadTo code.now words before 0 before from
+        → ReadTo code.now words result.word.before result.word.bits result.count result.end }
+    ensures ended { result.end < limit → NoneStandsAt code.now result.end }
+{
+    let mut at = from;
+    let mut count = before;
+    let mut bits = 0;
+    while at < limit {
+        let Some(width) = width(code, at) else {
+            break;
+        };
+        bits |= 1u64 << (at % 64);
+        count += 1;
+        at += width;
+    }
+    Reading {
+        word: Word { before, bits },
+        end: at,
+        count,
+    }
+}
+
+impl Starts {
+    ghost use Rattle.grain_code.specs.Starts.{IsLongestFront};
+
+    /// The starts of the longest front of the code that splits.
+    ///
+    /// It reads the code once, up to where the front ends, in time linear in the code, and takes memory once.
+    ///
+    /// # Errors
+    ///
+    /// [`AllocError`] where the memory was refused: 16 bytes for each 64 bytes of code, those that are begun too.
+    pub fn of(alloc: Global, code: &[u8]) -> Result<Starts, AllocError>
+        ensures front { IfOk result (IsLongestFront code.now) }
+        ensures whole { (starts : List ℕ) → Split code.now starts
+            → IfOk result (λ s. s ≡ record { end = length code.now; starts = starts }) }
+    {
+        let mut words = Vec::with_capacity(alloc, code.len() / 64 + 1)?;
+        let mut front = read_word(code, 0, 0, 64);
+        while words.len() < front.end / 64 {
+            words.push_reserved(front.word);
+            let limit = 64 * (words.len() + 1);
+            front = read_word(code, front.end, front.count, limit);
+        }
+        words.push_reserved(front.word);
+        Ok(Starts {
+            words,
+            end: front.end,
+            count: front.count,
+        })
+    }
+
+    /// Where the front ends: the address of the first thing that is no instruction, or the end of the code.
+    ///
+    /// It takes constant time.
+    #[must_use]
+    pub fn end(&self) -> usize
+        ensures { result ≡ self.now.end }
+    {
+        self.end
+    }
+
+    /// How many starts there are.
+    ///
+    /// It takes constant time.
+    #[must_use]
+    pub fn count(&self) -> usize
+        ensures { result ≡ length self.now.starts }
+    {
+        self.count
+    }
+
+    /// Whether an address is a start. The end of the front is none.
+    ///
+    /// It takes constant time, and answers for every address.
+    #[must_use]
+    pub fn contains(&self, at: usize) -> bool
+        ensures { IsTrue result ↔ Contains self.now.starts at }
+    {
+        match self.words.get(at / 64) {
+            Some(word) => word.bits >> (at % 64) & 1 == 1,
+            None => false,
+        }
+    }
+
+    /// How many starts have lower addresses than a start, or `None` where the address is none.
+    ///
+    /// It takes constant time, and answers for every address.
+    #[must_use]
+    pub fn ordinal(&self, at: usize) -> Option<usize>
+        ensures place { (k : ℕ) → (result ≡ Some k) ↔ (slice_get self.now.starts k ≡ Some at) }
+        ensures below { IfSome result (λ k. k ≡ count_by (λ s. nat_lt s at) self.now.starts) }
+    {
+        let word = self.words.get(at / 64)?;
+        if word.bits >> (at % 64) & 1 == 0 {
+            return None;
+        }
+        let lower = word.bits & ((1u64 << (at % 64)) - 1);
+        Some(word.before + lower.count_ones() as usize)
+    }
+}

@@ -1,0 +1,69 @@
+//! How many bytes instructions take, by their tags.
+
+ghost use Rattle.std.specs.Prelude.{◌≡◌, ◌+◌, ◌<◌, ◌≤◌, IfSome, IfNone, Some, length, slice_get};
+ghost use Rattle.grain_code.specs.InstructionTable.{form, width_of};
+ghost use Rattle.grain_code.specs.Split.{StandsAt, NoneStandsAt};
+ghost use Rattle.grain_code.specs.declared.op.Op.{Op};
+
+/// How many bytes the instruction of each tag takes, or 0 where the tag is none (docs/FORMAT.md, "Instructions").
+pub(crate) static WIDTHS: [u8; 256] = [
+    0, 3, 1, 1, 1, 3, 3, 5, 7, 3, 3, 1, 5, 5, 5, 4, 6, 3, 1, 1, 3, 3, 3, 3, 3, 3, 3, 5, 1, 1, 5, 1,
+    3, 7, 1, 5, 7, 1, 1, 1, 1, 2, 2, 2, 3, 3, 3, 3, 1, 1, 3, 3, 3, 6, 2, 6, 3, 1, 1, 1, 1, 3, 4, 4,
+    4, 2, 5, 0, 0, 0, 0, 3, 3, 2, 3, 3, 0, 5, 5, 3, 0, 0, 0, 0, 0, 0, 0, 0, 0, 0, 0, 0, 0, 0, 0, 0,
+    0, 0, 0, 0, 0, 0, 0, 0, 0, 0, 0, 0, 0, 0, 0, 0, 0, 0, 0, 0, 0, 0, 0, 0, 0, 0, 0, 0, 0, 0, 0, 0,
+    0, 0, 0, 0, 0, 0, 0, 0, 0, 0, 0, 0, 0, 0, 0, 0, 0, 0, 0, 0, 0, 0, 0, 0, 0, 0, 0, 0, 0, 0, 0, 0,
+    0, 0, 0, 0, 0, 0, 0, 0, 0, 0, 0, 0, 0, 0, 0, 0, 0, 0, 0, 0, 0, 0, 0, 0, 0, 0, 0, 0, 0, 0, 0, 0,
+    0, 0, 0, 0, 0, 0, 0, 0, 0, 0, 0, 0, 0, 0, 0, 0, 0, 0, 0, 0, 0, 0, 0, 0, 0, 0, 0, 0, 0, 0, 0, 0,
+    0, 0, 0, 0, 0, 0, 0, 0, 0, 0, 0, 0, 0, 0, 0, 0, 0, 0, 0, 0, 0, 0, 0, 0, 0, 0, 0, 0, 0, 0, 0, 0,
+];
+
+/// What the first byte of an instruction tells: its tag, and how many bytes instructions with that tag take
+/// (docs/FORMAT.md, "Instructions").
+#[derive(Clone, Copy, Debug, PartialEq, Eq)]
+pub struct Head {
+    /// The first byte.
+    pub tag: u8,
+    /// How many bytes, or 0 where no instruction has the tag.
+    pub width: u8,
+}
+
+impl Head {
+    /// The head at an address, or `None` past the end of the code.
+    ///
+    /// Whether an instruction stands there it doesn't say. It takes no memory, and constant time.
+    #[inline(always)]
+    #[must_use]
+    pub fn at(code: &[u8], at: usize) -> Option<Head>
+        ensures tag { IfSome result (λ h. slice_get code.now at ≡ Some h.tag) }
+        ensures width { IfSome result (λ h. (op : Op) → (form op).0 ≡ h.tag
+            → h.width ≡ width_of op) }
+        ensures none { IfNone result (length code.now ≤ at) }
+    {
+        if at >= code.len() {
+            return None;
+        }
+        let tag = code[at];
+        let width = WIDTHS[tag as usize];
+        Some(Head { tag, width })
+    }
+}
+
+/// How many bytes the instruction at an address takes, or `None` where none stands.
+///
+/// The tag and the length of the code decide, whatever the fields hold. It takes constant time.
+#[inline(always)]
+#[must_use]
+pub fn width(code: &[u8], at: usize) -> Option<usize>
+    ensures found { IfSome result (λ n. (op : Op) × StandsAt code.now at op × (n ≡ width_of op)) }
+    ensures fits { IfSome result (λ n. (0 < n) × (at + n ≤ length code.now)) }
+    ensures none { IfNone result (NoneStandsAt code.now at) }
+{
+    if at >= code.len() {
+        return None;
+    }
+    let width = WIDTHS[code[at] as usize] as usize;
+    if width == 0 || at + width > code.len() {
+        return None;
+    }
+    Some(width)
+}

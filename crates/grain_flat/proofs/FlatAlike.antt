@@ -1,0 +1,109 @@
+-- Operations find pools of one flat form alike.
+use Rattle.std.proofs.Common.{◌≡◌, ℕ, List, [], ◌∷◌, ◌++◌, get_or, map, refl, subst, sym, ap, ◌∙◌}
+use Rattle.std.specs.List.{AllZip, Contains, flat_map}
+use Rattle.std.proofs.lemmas.List.Concat.{flat_map-cons}
+use Rattle.grain.specs.Capabilities.{caps_of, chain_caps}
+use Rattle.grain.specs.Chain.{consumed}
+use Rattle.grain.specs.Dispatch.{Arms, Case, listed, targets}
+use Rattle.grain.specs.Effects.{stack_effect}
+use Rattle.grain.specs.Flow as flows
+use Rattle.grain.specs.Flow.{Flow, flow_of, targets_for}
+use Rattle.grain.specs.Setting.{Setting}
+use Rattle.grain_bytecode.specs.declared.Chain.{Chain}
+use Rattle.grain_bytecode.specs.declared.Op.{Op}
+use Rattle.grain_bytecode.specs.declared.Op.TheVariants as ops
+use Rattle.grain_bytecode.specs.declared.Receiver.TheVariants as receiver
+use Rattle.grain_flat.specs.declared.records.CCase.{CCase}
+use Rattle.grain_flat.specs.declared.records.CPools.{CPools}
+use Rattle.grain_flat.specs.Flat.{AreChains, AreSwitches, case_constants, case_row, case_rows, code_with, range_targets}
+use Rattle.grain_flat.proofs.Alike.{Alike}
+use Rattle.grain_flat.proofs.ChainRows.{Told, caps_told, consumed_told, map_told, told_alike, told_caps, told_consumed, told_of}
+use Rattle.grain_flat.proofs.Members.{appended, at_place, mapped}
+use Rattle.grain_flat.proofs.SwitchRows.{SameArms, same_arms}
+
+-- functions that agree give the same lists
+pub map_same : {A X : Type 0} (f g : A → X) → ((a : A) → f a ≡ g a) → (xs : List A) → map f xs ≡ map g xs
+map_same f g same [] = refl
+map_same f g same (x ∷ xs) = let here = same x in let rest = map_same f g same xs in cc
+
+pub flat_same : {A X : Type 0} (f g : A → List X) → ((a : A) → f a ≡ g a) → (xs : List A) → flat_map f xs ≡ flat_map g xs
+flat_same f g same [] = refl
+flat_same f g same (x ∷ xs) = flat_map-cons f x xs ∙ ap (λ ys. ys ++ flat_map f xs) (same x) ∙ ap (λ ys. g x ++ ys) (flat_same f g same xs) ∙ sym (flat_map-cons g x xs)
+
+-- what a function that rows tell gives of chains of one flat form
+pub all_told : {X : Type 0} (f : Chain → X) (g : Told → X) → ((c : Chain) → f c ≡ g (told_of c)) → (cs ds : List Chain) → map told_of cs ≡ map told_of ds → map f cs ≡ map f ds
+all_told f g told cs ds same = map_told f told_of g told cs ∙ ap (map g) same ∙ sym (map_told f told_of g told ds)
+
+effect_same : (cs ds : List Chain) → map consumed cs ≡ map consumed ds → (op : Op) → stack_effect cs op ≡ stack_effect ds op
+effect_same cs ds same (ops.Chain h) = ap (λ ks. let k = get_or ks h 0 in (k, k, 1)) same
+effect_same cs ds same (ops.CallRef n a (receiver.Local slot) capture) = refl
+effect_same cs ds same (ops.CallRef n a (receiver.Named m) capture) = refl
+effect_same cs ds same (ops.CallRef n a receiver.This capture) = refl
+effect_same cs ds same op = refl
+
+-- what the rows of cases tell of a case
+case_same : (f : Case → ℕ) (g : CCase → ℕ) → ((c : Case) → f c ≡ g (case_row c)) → (t u : Arms) → SameArms t u → (x : ℕ) → Contains (map f (listed t.cases)) x → Contains (map f (listed u.cases)) x
+case_same f g told t u same x has =
+    subst (λ ys. Contains ys x) (sym (map_told f case_row g told (listed u.cases)))
+    (mapped g (case_rows t) (case_rows u) (record { target = 0; constant = 0 }) same.cases x (subst (λ ys. Contains ys x) (map_told f case_row g told (listed t.cases)) has))
+
+-- where switches lead, and the constants of their cases
+target_same : (t u : Arms) → SameArms t u → (x : ℕ) → Contains (targets t) x → Contains (targets u) x
+target_same t u same x =
+    appended (map (λ (c : Case). c.1.0) (listed t.cases) ++ range_targets t) (t.otherwise ∷ []) (map (λ (c : Case). c.1.0) (listed u.cases) ++ range_targets u) (u.otherwise ∷ []) x
+    (
+    appended (map (λ (c : Case). c.1.0) (listed t.cases)) (range_targets t) (map (λ (c : Case). c.1.0) (listed u.cases)) (range_targets u) x (case_same (λ c. c.1.0) (λ row. row.target) (λ c. refl) t u same x)
+    (subst (λ ys. Contains ys x) same.ranges)
+    )
+    (subst (λ n. Contains (n ∷ []) x) same.otherwise)
+
+pub constant_same : (t u : Arms) → SameArms t u → (x : ℕ) → Contains (case_constants t) x → Contains (case_constants u) x
+constant_same t u same = case_same (λ c. c.1.1) (λ row. row.constant) (λ c. refl) t u same
+
+flow_same : (ts us : List Arms) → AllZip SameArms ts us → (f : Flow) (x : ℕ) → Contains (targets_for (map targets ts) f) x → Contains (targets_for (map targets us) f) x
+flow_same ts us same (flows.Switches w) x has = at_place SameArms targets targets target_same ts us same w x has
+flow_same ts us same flows.Falls x has = has
+flow_same ts us same flows.Ends x has = has
+flow_same ts us same (flows.Jumps target) x has = has
+flow_same ts us same (flows.Branches target) x has = has
+flow_same ts us same flows.BeginsIterator x has = has
+flow_same ts us same (flows.AdvancesIterator exit) x has = has
+flow_same ts us same flows.EndsIterator x has = has
+flow_same ts us same (flows.PushesHandler target) x has = has
+flow_same ts us same flows.PopsHandler x has = has
+
+-- pools of the flat form p: these chains and these switches
+pub record AreOf (p : CPools) (chains : List Chain) (switches : List Arms) : Type 0 where
+  pub chains_are : AreChains p.chains.now p.steps.now chains
+  pub switches_are : AreSwitches p.switches.now p.cases.now p.ranges.now switches
+
+abbrev pub setting_of : ℕ → CPools → List Chain → List Arms → Setting
+setting_of caps p chains switches = (code_with caps [] p chains switches).setting
+
+asks_same : (caps : ℕ) (p : CPools) (cs ds : List Chain) (ts us : List Arms) → map chain_caps cs ≡ map chain_caps ds → (op : Op) → caps_of (setting_of caps p cs ts) op ≡ caps_of (setting_of caps p ds us) op
+asks_same caps p cs ds ts us same (ops.Chain h) = ap (λ ks. get_or ks h 0) same
+asks_same caps p cs ds ts us same (ops.CallRef n a (receiver.Local slot) capture) = refl
+asks_same caps p cs ds ts us same (ops.CallRef n a (receiver.Named m) capture) = refl
+asks_same caps p cs ds ts us same (ops.CallRef n a receiver.This capture) = refl
+asks_same caps p cs ds ts us same op = refl
+
+pub told_same : (p : CPools) (cs ds : List Chain) (ts us : List Arms) → AreOf p cs ts → AreOf p ds us → map told_of cs ≡ map told_of ds
+told_same p cs ds ts us one other =
+    told_alike cs ds (sym one.chains_are.rows_are ∙ other.chains_are.rows_are) (sym one.chains_are.steps_are ∙ other.chains_are.steps_are)
+
+pub arms_same : (p : CPools) (cs ds : List Chain) (ts us : List Arms) → AreOf p cs ts → AreOf p ds us → AllZip SameArms ts us
+arms_same p cs ds ts us one other =
+    same_arms ts us one.switches_are.pieces other.switches_are.pieces (sym one.switches_are.rows_are ∙ other.switches_are.rows_are)
+    (sym one.switches_are.cases_are ∙ other.switches_are.cases_are) one.switches_are.each other.switches_are.each
+    (sym one.switches_are.ranges_are ∙ other.switches_are.ranges_are)
+
+pub alike : (caps : ℕ) (p : CPools) (cs ds : List Chain) (ts us : List Arms) → AreOf p cs ts → AreOf p ds us → Alike (setting_of caps p cs ts) (setting_of caps p ds us) (map targets ts) (map targets us)
+alike caps p cs ds ts us one other =
+    let told = told_same p cs ds ts us one other in
+    record {
+      caps = refl;
+      effects = effect_same cs ds (all_told consumed told_consumed consumed_told cs ds told);
+      asks = asks_same caps p cs ds ts us (all_told chain_caps told_caps caps_told cs ds told);
+      leads = λ op. flow_same ts us (arms_same p cs ds ts us one other) (flow_of op);
+      leads_back = λ op. flow_same us ts (arms_same p ds cs us ts other one) (flow_of op);
+    }

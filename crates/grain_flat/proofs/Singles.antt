@@ -1,0 +1,65 @@
+-- One chunk verified by itself.
+use Rattle.std.proofs.Common.{◌≡◌, ℕ, zero, suc, ◌<◌, ◌⊎◌, inl, inr, List, [], ◌∷◌, Some, get_or, refl, subst, ◌∙◌, arith}
+use Rattle.std.proofs.lemmas.List.{get_or_default}
+use Rattle.grain.specs.Accepted.{ChunkPasses, IsAccepted}
+use Rattle.grain.specs.Flaw.{ChunkFlaw, Flaw, IsFlawOfChunks}
+use Rattle.grain.specs.Span.{Span}
+use Rattle.grain.specs.Verdict.{ReachesChunks}
+use Rattle.grain.specs.declared.VerifyError.{VerifyError}
+use Rattle.grain.specs.declared.VerifyError.TheVariants as errors
+use Rattle.grain_flat.specs.Answers.{FlawAt}
+use Rattle.grain_flat.specs.Judging.{IsFirstRefused, code_of, input_of}
+use Rattle.grain_flat.specs.declared.judge.Judge.{Judge}
+
+-- what is refused before the chunks is refused so with any
+pub before_any : (j : Judge) (one other : List Span) (e : VerifyError) → Flaw (input_of j one) e → (IsFlawOfChunks (input_of j one) e → ⊥) → Flaw (input_of j other) e
+before_any j one other (errors.MissingCaps artifact absent at) (inl (is, zero_at, inl h)) none = absurd (omega (arith, h.inside))
+before_any j one other (errors.MissingCaps artifact absent at) (inl (is, zero_at, inr h)) none =
+    inl (is, zero_at, inr (record { constants = h.constants; code = h.code; functions = h.functions; what = h.what; refused = h.refused }))
+before_any j one other (errors.MissingCaps artifact absent at) (inr h) none = absurd (none h)
+before_any j one other (errors.Undecodable at) h none = h
+before_any j one other (errors.BadIndex at what index) h none = h
+before_any j one other (errors.TrailingBytes at len) h none = h
+before_any j one other errors.OutOfMemory h none = h
+before_any j one other (errors.ChunkOutOfRange entry end len) h none = absurd (none h)
+before_any j one other (errors.JumpOutOfRange at target) h none = absurd (none h)
+before_any j one other (errors.JumpIntoAnInstruction at target) h none = absurd (none h)
+before_any j one other (errors.DepthConflict at expected found) h none = absurd (none h)
+before_any j one other (errors.Underflow at need have) h none = absurd (none h)
+before_any j one other (errors.StackExceedsDeclared needed declared) h none = absurd (none h)
+before_any j one other (errors.IteratorUnderflow at) h none = absurd (none h)
+before_any j one other (errors.HandlerUnderflow at) h none = absurd (none h)
+before_any j one other (errors.SinksBelowHandler at need have) h none = absurd (none h)
+before_any j one other errors.FallsOffTheEnd h none = absurd (none h)
+
+-- a chunk that is the first that doesn't pass doesn't pass by itself
+pub fails_alone : (j : Judge) (chunks : List Span) (k : ℕ) (chunk : Span) → chunk ≡ get_or chunks k chunk → IsFirstRefused (code_of j) chunks k → IsAccepted (input_of j (chunk ∷ [])) → ⊥
+fails_alone j chunks k chunk is first accepted = first.refused chunk (subst (ChunkPasses (code_of j)) is (accepted.chunks 0 chunk (omega arith)))
+
+at_first : (j : Judge) (chunk : Span) (e : VerifyError) (place : ℕ) → place < 1 → ((d : Span) → ChunkFlaw (code_of j) (get_or (chunk ∷ []) place d) e) → ChunkFlaw (code_of j) chunk e
+at_first j chunk e zero inside here = here chunk
+at_first j chunk e (suc place) inside here = absurd (omega arith)
+
+-- what is wrong with it alone is wrong with it at its place
+pub flaw_there : (j : Judge) (chunks : List Span) (k : ℕ) (chunk : Span) (e : VerifyError) → ReachesChunks (input_of j chunks) → chunk ≡ get_or chunks k chunk → IsFirstRefused (code_of j) chunks k
+    → IsFlawOfChunks (input_of j (chunk ∷ [])) e → FlawAt (input_of j chunks) (Some k) e
+flaw_there j chunks k chunk e reaches is first flaw =
+    let own = at_first j chunk e flaw.chunk.place flaw.chunk.inside flaw.chunk.here in (
+      record {
+        constants = reaches.constants;
+        code = reaches.code;
+        functions = reaches.functions;
+        chunk = record {
+          place = k;
+          inside = first.inside;
+          earlier = first.earlier;
+          here = λ d. subst (λ s. ChunkFlaw (code_of j) s e) (is ∙ get_or_default chunks k chunk d first.inside) own;
+        };
+      },
+      refl,
+    )
+
+-- a refusal but want of memory
+pub real : {P Q : Type 0} → P ⊎ Q → (P → ⊥) → Q
+real (inl p) none = absurd (none p)
+real (inr q) none = q

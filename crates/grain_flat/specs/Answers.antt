@@ -1,0 +1,117 @@
+-- What `grain_verify` answers: that is the headline again, of all that has a flat form.
+use Rattle.std.specs.Prelude.{◌≡◌, ◌≢◌, ◌⊎◌, ⊤, ℕ, ◌<◌, ◌^◌, List, Option, Some, None, codes, if◌then◌else◌}
+use Rattle.std.specs.List.{All}
+use Rattle.std.specs.Str.{bytes_eq}
+use Rattle.grain.specs.Accepted.{AreDeepest, AreSafe, AreTyped, Input, IsAccepted}
+use Rattle.grain.specs.Flaw.{Flaw, IsFlawOfChunks}
+use Rattle.grain.specs.Meter.{AreReached}
+use Rattle.grain.specs.Span.{Span}
+use Rattle.grain.specs.declared.VerifyError.{VerifyError}
+use Rattle.grain.specs.declared.VerifyError.TheVariants as errors
+use Rattle.grain_base.specs.declared.caps.Caps.{Caps}
+use Rattle.grain_flat.specs.Asking.{IsFirstRefusedRow, RowPasses}
+use Rattle.grain_flat.specs.Flat.{Rest, Whole, flat_input, rest_input}
+use Rattle.grain_flat.specs.declared.faults.TheConstants.{NO_CHUNK, MISSING_CAPS, UNDECODABLE, TRAILING_BYTES, CHUNK_OUT_OF_RANGE, JUMP_OUT_OF_RANGE, JUMP_INTO_AN_INSTRUCTION, DEPTH_CONFLICT, UNDERFLOW, FALLS_OFF_THE_END, STACK_EXCEEDS_DECLARED, ITERATOR_UNDERFLOW, HANDLER_UNDERFLOW, SINKS_BELOW_HANDLER, BAD_INDEX}
+use Rattle.grain_flat.specs.declared.kinds.TheConstants.{NOTHING, CONSTANT, NAME, OPERATOR, OP_ASSIGNMENT, FRAGMENT, CHAIN, SWITCH, SYNTAX_SITE, OPERAND}
+use Rattle.grain_flat.specs.declared.records.CFault.{CFault}
+use Rattle.grain_flat.specs.declared.records.CPools.{CPools}
+
+-- All with this flat form is accepted, and the numbers of the chunks are right. The rows of constants are judged by what
+-- they ask, so that this holds too where no value asks what a row says.
+pub record Accepts (caps : ℕ) (bytes : List ℕ) (chunks : List Span) (p : CPools) (numbers : List ℕ) : Type 0 where
+  pub accepted : (whole : Whole p) → IsAccepted (flat_input caps bytes chunks p whole)
+  pub rows : All (RowPasses caps) p.constants.now
+  pub rest : (rest : Rest p) → IsAccepted (rest_input caps bytes chunks p rest)
+  pub typed : (rest : Rest p) → AreTyped (rest_input caps bytes chunks p rest) numbers
+  pub deepest : (rest : Rest p) → AreDeepest (rest_input caps bytes chunks p rest) numbers
+  pub safe : (rest : Rest p) → AreSafe (rest_input caps bytes chunks p rest) numbers
+
+-- so many places are reached by all chunks, each for itself
+abbrev pub Looks : ℕ → List ℕ → List Span → CPools → ℕ → Type 0
+Looks caps bytes chunks p n = (rest : Rest p) → AreReached (rest_input caps bytes chunks p rest).code chunks n
+
+-- the flaw is one of the chunk at this place, or of what is tested before the chunks
+abbrev pub FlawAt : Input → Option ℕ → VerifyError → Type 0
+FlawAt i None e = Flaw i e × (IsFlawOfChunks i e → ⊥)
+FlawAt i (Some place) e = (flaw : IsFlawOfChunks i e) × (flaw.chunk.place ≡ place)
+
+-- what the first row asks that isn't all there
+pub record AsksMissing (caps : ℕ) (p : CPools) (place : Option ℕ) (e : VerifyError) : Type 0 where
+  pub artifact : Caps
+  pub asked : Caps
+  pub artifact_is : artifact.0 ≡ caps
+  pub first : IsFirstRefusedRow caps p.constants.now asked.0
+  pub place_is : place ≡ None
+  pub error_is : e ≡ errors.MissingCaps artifact asked 0
+
+-- what the rows ask is there, and none of what else has this flat form is accepted: all of it has this flaw
+pub record RefusesRest (caps : ℕ) (bytes : List ℕ) (chunks : List Span) (p : CPools) (place : Option ℕ) (e : VerifyError) : Type 0 where
+  pub rows : All (RowPasses caps) p.constants.now
+  pub refused : (rest : Rest p) → IsAccepted (rest_input caps bytes chunks p rest) → ⊥
+  pub flaw : (rest : Rest p) → FlawAt (rest_input caps bytes chunks p rest) place e
+
+-- Nothing with this flat form is accepted, and all of it has this flaw; by its rows, or else by the rest.
+pub record Refuses (caps : ℕ) (bytes : List ℕ) (chunks : List Span) (p : CPools) (place : Option ℕ) (e : VerifyError) : Type 0 where
+  pub refused : (whole : Whole p) → IsAccepted (flat_input caps bytes chunks p whole) → ⊥
+  pub flaw : (whole : Whole p) → FlawAt (flat_input caps bytes chunks p whole) place e
+  pub cause : AsksMissing caps p place e ⊎ RefusesRest caps bytes chunks p place e
+
+-- what a refusal calls an index, as a number
+abbrev pub word_kind : List ℕ → ℕ
+word_kind what =
+    if bytes_eq what (codes "constant") then CONSTANT
+    else if bytes_eq what (codes "name") then NAME
+    else if bytes_eq what (codes "operator") then OPERATOR
+    else if bytes_eq what (codes "op-assignment") then OP_ASSIGNMENT
+    else if bytes_eq what (codes "fragment") then FRAGMENT
+    else if bytes_eq what (codes "chain") then CHAIN
+    else if bytes_eq what (codes "switch") then SWITCH
+    else if bytes_eq what (codes "custom syntax site") then SYNTAX_SITE
+    else if bytes_eq what (codes "operand") then OPERAND
+    else NOTHING
+
+-- the place of a chunk, or that there is none
+abbrev pub chunk_number : Option ℕ → ℕ
+chunk_number None = NO_CHUNK
+chunk_number (Some place) = place
+
+-- a refusal as a record: what it is, the chunk's place, the address, and two more numbers
+abbrev pub told : Option ℕ → VerifyError → CFault
+told place (errors.MissingCaps artifact missing at) = record { kind = MISSING_CAPS; chunk = chunk_number place; at = at; first = missing.0; second = artifact.0 }
+told place (errors.Undecodable at) = record { kind = UNDECODABLE; chunk = chunk_number place; at = at; first = 0; second = 0 }
+told place (errors.TrailingBytes at len) = record { kind = TRAILING_BYTES; chunk = chunk_number place; at = at; first = len; second = 0 }
+told place (errors.ChunkOutOfRange entry end len) = record { kind = CHUNK_OUT_OF_RANGE; chunk = chunk_number place; at = entry; first = end; second = len }
+told place (errors.JumpOutOfRange at target) = record { kind = JUMP_OUT_OF_RANGE; chunk = chunk_number place; at = at; first = target; second = 0 }
+told place (errors.JumpIntoAnInstruction at target) = record { kind = JUMP_INTO_AN_INSTRUCTION; chunk = chunk_number place; at = at; first = target; second = 0 }
+told place (errors.DepthConflict at expected found) = record { kind = DEPTH_CONFLICT; chunk = chunk_number place; at = at; first = expected; second = found }
+told place (errors.Underflow at need have) = record { kind = UNDERFLOW; chunk = chunk_number place; at = at; first = need; second = have }
+told place errors.FallsOffTheEnd = record { kind = FALLS_OFF_THE_END; chunk = chunk_number place; at = 0; first = 0; second = 0 }
+told place (errors.StackExceedsDeclared needed declared) = record { kind = STACK_EXCEEDS_DECLARED; chunk = chunk_number place; at = 0; first = needed; second = declared }
+told place (errors.IteratorUnderflow at) = record { kind = ITERATOR_UNDERFLOW; chunk = chunk_number place; at = at; first = 0; second = 0 }
+told place (errors.HandlerUnderflow at) = record { kind = HANDLER_UNDERFLOW; chunk = chunk_number place; at = at; first = 0; second = 0 }
+told place (errors.SinksBelowHandler at need have) = record { kind = SINKS_BELOW_HANDLER; chunk = chunk_number place; at = at; first = need; second = have }
+told place (errors.BadIndex at what index) = record { kind = BAD_INDEX; chunk = chunk_number place; at = at; first = index; second = word_kind what.now }
+told place errors.OutOfMemory = record { kind = NOTHING; chunk = chunk_number place; at = 0; first = 0; second = 0 }
+
+-- a refusal as it is told: its numbers fit their types, and what it calls an index is known
+abbrev pub IsRefusal : VerifyError → Type 0
+IsRefusal (errors.MissingCaps artifact missing at) = (artifact.0 < 2 ^ 16) × (missing.0 < 2 ^ 16)
+IsRefusal (errors.Undecodable at) = ⊤
+IsRefusal (errors.TrailingBytes at len) = ⊤
+IsRefusal (errors.ChunkOutOfRange entry end len) = (entry < 2 ^ 32) × (end < 2 ^ 32)
+IsRefusal (errors.JumpOutOfRange at target) = target < 2 ^ 32
+IsRefusal (errors.JumpIntoAnInstruction at target) = target < 2 ^ 32
+IsRefusal (errors.DepthConflict at expected found) = ⊤
+IsRefusal (errors.Underflow at need have) = ⊤
+IsRefusal errors.FallsOffTheEnd = ⊤
+IsRefusal (errors.StackExceedsDeclared needed declared) = declared < 2 ^ 16
+IsRefusal (errors.IteratorUnderflow at) = ⊤
+IsRefusal (errors.HandlerUnderflow at) = ⊤
+IsRefusal (errors.SinksBelowHandler at need have) = ⊤
+IsRefusal (errors.BadIndex at what index) = (index < 2 ^ 32) × (word_kind what.now ≢ NOTHING)
+IsRefusal errors.OutOfMemory = ⊥
+
+-- the record tells this refusal, of whichever chunk
+pub record Tells (fault : CFault) (e : VerifyError) : Type 0 where
+  pub is : IsRefusal e
+  pub told_is : record fault { chunk = NO_CHUNK } ≡ told None e

@@ -1,0 +1,82 @@
+-- What the parts of `grain_verify` promise each other.
+use Rattle.std.specs.Prelude.{◌≡◌, ⊤, ℕ, ◌<◌, IfErr, IfOk, List, [], length, map, Result, Vec}
+use Rattle.std.specs.List.{AllWithin, HoldsAt}
+use Rattle.std.specs.declared.alloc.Global.{Global}
+use Rattle.grain.specs.Accepted.{AreDeepest, AreSafe, AreTyped, ChunkPasses, Input, IsAccepted, input}
+use Rattle.grain.specs.Code.{Bytecode, bytecode}
+use Rattle.grain.specs.Dispatch.{Arms, arms}
+use Rattle.grain.specs.Meter.{AreReached, HasCounted}
+use Rattle.grain.specs.Names.{names_in}
+use Rattle.grain.specs.Span.{Span}
+use Rattle.grain_bytecode.specs.declared.Chain.{Chain}
+use Rattle.grain_bytecode.specs.declared.Function.{Function}
+use Rattle.grain_flat.specs.Answers.{Accepts, FlawAt, Looks, Refuses}
+use Rattle.grain_flat.specs.Flat.{AreChains, AreSwitches, code_with}
+use Rattle.grain_flat.specs.declared.build.Made.{Made}
+use Rattle.grain_flat.specs.declared.judge.Judge.{Judge}
+use Rattle.grain_flat.specs.declared.judge.Stop.{Stop}
+use Rattle.grain_flat.specs.declared.judge.Stop.TheVariants as stops
+use Rattle.grain_flat.specs.declared.records.CPools.{CPools}
+
+-- the code that is judged
+abbrev pub code_of : Judge → Bytecode
+code_of j = bytecode j.caps j.pools.now j.code.now
+
+-- what is judged with these chunks, without constants
+abbrev pub input_of : Judge → List Span → Input
+input_of j chunks = input j.caps [] j.code.now j.functions.now chunks j.pools.now
+
+-- the chunk at this place is the first that doesn't pass
+pub record IsFirstRefused (code : Bytecode) (chunks : List Span) (place : ℕ) : Type 0 where
+  pub inside : place < length chunks
+  pub earlier : AllWithin (ChunkPasses code) chunks 0 place
+  pub refused : HoldsAt (λ chunk. ChunkPasses code chunk → ⊥) chunks place
+
+-- what is verified without constants, which are tested by their rows
+abbrev pub judged : ℕ → List ℕ → List Span → CPools → List Function → List Chain → List Arms → Input
+judged caps bytes chunks p functions chains switches = record {
+  code = code_with caps bytes p chains switches;
+  consts = [];
+  functions = functions;
+  chunks = chunks;
+}
+
+-- why nothing is accepted, or want of memory
+abbrev pub IsStop : ℕ → List ℕ → List Span → CPools → Stop → Type 0
+IsStop caps bytes chunks p stops.OutOfMemory = ⊤
+IsStop caps bytes chunks p (stops.Refused r) = Refuses caps bytes chunks p r.place r.error
+
+-- the same of what is judged
+abbrev pub IsStopOf : Input → Stop → Type 0
+IsStopOf i stops.OutOfMemory = ⊤
+IsStopOf i (stops.Refused r) = (IsAccepted i → ⊥) × FlawAt i r.place r.error
+
+-- the answer is right about what is judged
+pub record IsVerdictOf (i : Input) (result : Result (Vec ℕ Global) Stop) : Type 0 where
+  pub accepted : IfOk result (λ v. IsAccepted i × AreTyped i v.items × AreDeepest i v.items × AreSafe i v.items)
+  pub refused : IfErr result (IsStopOf i)
+
+-- the meter counts what accepted chunks reach
+pub record IsMeteredOf (i : Input) (old new : ℕ) (result : Result (Vec ℕ Global) Stop) : Type 0 where
+  pub accepted : IfOk result (λ _. (n : ℕ) × AreReached i.code i.chunks n × HasCounted old new n)
+
+-- these names, chains and switches are those of the flat form
+pub record IsMadeOf (p : CPools) (made : Made) : Type 0 where
+  pub names_are : made.names ≡ names_in p.names.now p.starts.now
+  pub chains_are : AreChains p.chains.now p.steps.now made.chains.items
+  pub switches_are : AreSwitches p.switches.now p.cases.now p.ranges.now (map arms made.switches.items)
+
+-- the answer is right about all with the flat form
+pub record IsFlatVerdict (caps : ℕ) (bytes : List ℕ) (chunks : List Span) (p : CPools) (result : Result (Vec ℕ Global) Stop) : Type 0 where
+  pub accepted : IfOk result (λ v. Accepts caps bytes chunks p v.items)
+  pub each : IfOk result (λ v. length v.items ≡ length chunks)
+  pub refused : IfErr result (IsStop caps bytes chunks p)
+
+-- the meter counts what the accepted chunks of all with the flat form reach
+pub record IsFlatMetered (caps : ℕ) (bytes : List ℕ) (chunks : List Span) (p : CPools) (old new : ℕ) (result : Result (Vec ℕ Global) Stop) : Type 0 where
+  pub accepted : IfOk result (λ _. (n : ℕ) × Looks caps bytes chunks p n × HasCounted old new n)
+
+-- functions are there exactly where some are counted
+pub record AreSome (count : ℕ) (functions : List Function) : Type 0 where
+  pub none : functions ≡ [] → count ≡ 0
+  pub any : count ≡ 0 → functions ≡ []

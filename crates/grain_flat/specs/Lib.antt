@@ -1,0 +1,5 @@
+pub mod Answers
+pub mod Asking
+pub mod Flat
+pub mod Instruction
+pub mod Judging

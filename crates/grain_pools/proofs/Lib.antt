@@ -1,0 +1,4 @@
+pub mod CaseOrder
+pub mod Missing
+pub mod Past
+pub mod Slots

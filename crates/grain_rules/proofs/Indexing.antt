@@ -1,0 +1,58 @@
+-- Code whose indices are in bounds: one instruction more and its tag, and that capabilities don't matter to it.
+use Rattle.std.proofs.Common.{◌≡◌, ℕ, ◌+◌, ◌≤◌, List, [], ◌∷◌, ◌++◌, length, take, get_or, refl, sym, ap, subst, inl, inr, add-one}
+use Rattle.std.proofs.lemmas.List.{take_all}
+use Rattle.std.proofs.lemmas.List.Elements.{All-nil, All-push, All-weaker}
+use Rattle.grain_base.specs.declared.caps.Caps.{Caps}
+use Rattle.grain_code.specs.Split.{AreInstructions, StandsAt}
+use Rattle.grain_code.specs.InstructionTable.{Instr, form, width_of}
+use Rattle.grain_code.specs.declared.op.Op.{Op}
+use Rattle.grain_code.proofs.Splits.{one_more}
+use Rattle.grain_rules.specs.Accepted.{AreIndexed}
+use Rattle.grain_rules.specs.Flaw.{CodeFlaw, PassesTo}
+use Rattle.grain_rules.specs.FirstOut.{alone}
+use Rattle.grain_rules.specs.Indices.{Indexed, IsOut}
+use Rattle.grain_rules.specs.Setting.{Setting, setting}
+use Rattle.grain_rules.specs.declared.error.VerifyError.{VerifyError}
+use Rattle.grain_rules.specs.declared.error.VerifyError.TheVariants as errors
+use Rattle.grain_rules.specs.declared.pools.Pools.{Pools}
+
+pub indexed_none : (s : Setting) → AreIndexed s []
+indexed_none s = ([], record { each = tt; whole = refl }, All-nil (Indexed s))
+
+-- the front up to an address, and the instruction there, of which the width is known
+pub indexed_more : (s : Setting) (code : List ℕ) (at width : ℕ) (op : Op) → AreIndexed s (take at code) → StandsAt code at op → Indexed s op → width ≡ width_of op → AreIndexed s (take (at + width) code)
+indexed_more s code at width op front stands here is = (
+  front.0 ++ op ∷ [],
+  subst (λ n. AreInstructions (take (at + n) code) (front.0 ++ op ∷ [])) (sym is) (one_more code at front.0 op front.1 stands),
+  All-push (Indexed s) front.0 op front.2 here,
+)
+
+indexed_any : (caps : Caps) (pools : Pools) (op : Op) → Indexed (alone pools) op → Indexed (setting caps pools) op
+indexed_any caps pools op h = record { tests = h.tests; cases = h.cases }
+
+-- whatever the capabilities are
+pub code_any : (caps : Caps) (pools : Pools) (code : List ℕ) → AreIndexed (alone pools) code → AreIndexed (setting caps pools) code
+code_any caps pools code h = (h.0, h.1, All-weaker (Indexed (alone pools)) (Indexed (setting caps pools)) (indexed_any caps pools) h.0 h.2)
+
+-- up to the end
+pub code_whole : (caps : Caps) (pools : Pools) (code : List ℕ) (at : ℕ) → length code ≤ at → AreIndexed (alone pools) (take at code) → AreIndexed (setting caps pools) code
+code_whole caps pools code at end front = code_any caps pools code (subst (λ bytes. AreIndexed (alone pools) bytes) (take_all at code end) front)
+
+passes_any : (caps : Caps) (pools : Pools) (code : List ℕ) (at : ℕ) → PassesTo (alone pools) code at → PassesTo (setting caps pools) code at
+passes_any caps pools code at h = record { inside = h.inside; front = code_any caps pools (take at code) h.front }
+
+out_any : (caps : Caps) (pools : Pools) (op : Op) (what : List ℕ) (index : ℕ) → IsOut (alone pools) op what index → IsOut (setting caps pools) op what index
+out_any caps pools op what index (inl h) = inl (record { earlier = h.earlier; bad = h.bad; later = h.later; order = h.order; passed = h.passed; fails = h.fails; what_is = h.what_is; index_is = h.index_is })
+out_any caps pools op what index (inr h) = inr (record { passed = h.passed; case = h.case; fails = h.fails; named = h.named })
+
+pub flaw_any : (caps : Caps) (pools : Pools) (code : List ℕ) (e : VerifyError) → CodeFlaw (alone pools) code e → CodeFlaw (setting caps pools) code e
+flaw_any caps pools code (errors.Undecodable at) h = (passes_any caps pools code at h.0, h.1)
+flaw_any caps pools code (errors.BadIndex at what index) h = (passes_any caps pools code at h.0, (h.1.0, h.1.1, out_any caps pools h.1.0 what.now index h.1.2))
+flaw_any caps pools code e h = absurd h
+
+front_is : (x n : ℕ) (rest : List ℕ) → take (n + 1) (x ∷ rest) ≡ x ∷ take n rest
+front_is x n rest = rw add-one refl
+
+-- the first byte of an instruction is its tag
+pub tag_of : (tag : ℕ) (fields : List ℕ) (op : Op) → Instr (tag ∷ fields) op → (form op).0 ≡ tag
+tag_of tag fields op h = ap (λ (bs : List ℕ). get_or bs 0 0) (sym h.spelled)

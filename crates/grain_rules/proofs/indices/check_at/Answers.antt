@@ -1,0 +1,32 @@
+use Rattle.std.proofs.Common.{◌∷◌, ◌≡◌, ℕ, List, sym, subst, arith}
+use Rattle.grain_code.specs.InstructionTable.{width_of}
+use Rattle.grain_code.specs.Split.{StandsAt}
+use Rattle.grain_code.specs.declared.op.Op.{Op}
+use Rattle.grain_code.proofs.Instructions.{instr_width}
+use Rattle.grain_code.proofs.Reading.{same_instruction}
+use Rattle.grain_rules.specs.FirstOut.{alone}
+use Rattle.grain_rules.specs.Indices.{IsOut}
+use Rattle.grain_rules.proofs.Indexing.{indexed_more}
+use Rattle.grain_rules.proofs.indices.check_at.Goals as goal
+
+pub unreachable-requires : goal.unreachable-requires
+unreachable-requires g c = let found = c.in-Some.ensures.found in c.in_default-op.ensures.none found.0 found.2
+
+pub returns-in-Ok-clause-ok : goal.returns-in-Ok-clause-ok
+returns-in-Ok-clause-ok g c =
+    let s = alone c.args.pools.now in
+    let i = c.in-Some.instruction in
+    let found = c.in-Some.ensures.found in
+    let op = c.in-Some-op.op in
+    let same = same_instruction (i.tag ∷ i.fields.now) found.0 op found.2 c.in-Some-op.ensures.found in
+    let stands = subst (λ (o : Op). StandsAt c.args.code.now c.args.at o) same found.1 in
+    let wide : c.width.result ≡ width_of op = let e = c.width.ensures in let w = instr_width (i.tag ∷ i.fields.now) op c.in-Some-op.ensures.found in omega arith in
+    indexed_more s c.args.code.now c.args.at c.width.result op c.requires.front stands c.in-Ok.ensures.ok wide
+
+pub returns-in-Err-clause-err : goal.returns-in-Err-clause-err
+returns-in-Err-clause-err g c =
+    let i = c.in-Some.instruction in
+    let found = c.in-Some.ensures.found in
+    let op = c.in-Some-op.op in
+    let same = same_instruction (i.tag ∷ i.fields.now) found.0 op found.2 c.in-Some-op.ensures.found in
+    (record { inside = c.requires.inside; front = c.requires.front }, (op, subst (λ (o : Op). StandsAt c.args.code.now c.args.at o) same found.1, subst (λ (what : List ℕ). IsOut (alone c.args.pools.now) op what c.in-Err.bad.index) (sym c.word_of.ensures) c.in-Err.ensures.err))

@@ -1,0 +1,171 @@
+-- What each refusal says of what was verified.
+use Rattle.std.specs.Prelude.{◌≡◌, ◌≢◌, ◌⊎◌, ℕ, ◌+◌, ◌<◌, ◌≤◌, true, List, [], length, take, Some}
+use Rattle.std.specs.List.{AllWithin, Contains, HoldsAt}
+use Rattle.grain_base.specs.CapBits.{FUNCTION, missing}
+use Rattle.grain_base.specs.declared.value.Dynamic.{Dynamic}
+use Rattle.grain_code.specs.Span.{Span}
+use Rattle.grain_code.specs.Split as split
+use Rattle.grain_code.specs.InstructionTable.{width_of}
+use Rattle.grain_code.specs.declared.op.Op.{Op}
+use Rattle.grain_rules.specs.Accepted.{Input, AreIndexed, ConstantPasses, ConstantsPass, CodePasses, FunctionsPass, ChunkPasses, IsFramed}
+use Rattle.grain_rules.specs.Capabilities.{Allows, caps_of}
+use Rattle.grain_rules.specs.Code.{Bytecode, coded}
+use Rattle.grain_rules.specs.ConstCaps.{const_caps}
+use Rattle.grain_rules.specs.Counts.{Counts}
+use Rattle.grain_rules.specs.Effects.{Meets, needs, iterators_needed, handlers_needed, targets, falls_through}
+use Rattle.grain_rules.specs.Indices.{IsOut}
+use Rattle.grain_rules.specs.Layout.{IsStart, IsBoundary}
+use Rattle.grain_rules.specs.Setting.{Setting}
+use Rattle.grain_rules.specs.Sinking.{Sinks}
+use Rattle.grain_rules.specs.Typing.{IsInChunk, StandsIn, Passes, HasTyping, Reached, IsDeepest}
+use Rattle.grain_rules.specs.declared.error.VerifyError.{VerifyError}
+use Rattle.grain_rules.specs.declared.error.VerifyError.TheVariants as errors
+
+-- a reached state that passes falls through to the chunk's end
+pub record FallsOff (code : Bytecode) (chunk : Span) : Type 0 where
+  pub at : ℕ
+  pub counts : Counts
+  pub op : Op
+  pub reached : Reached (coded code) chunk at counts
+  pub passes : Passes (coded code) chunk at counts op
+  pub goes : falls_through op ≡ true
+  pub end : at + width_of op ≡ chunk.end
+
+-- a reached state that passes names this target
+pub record Leads (code : Bytecode) (chunk : Span) (at target : ℕ) : Type 0 where
+  pub counts : Counts
+  pub op : Op
+  pub reached : Reached (coded code) chunk at counts
+  pub passes : Passes (coded code) chunk at counts op
+  pub names : Contains (targets code.switches op) target
+
+-- a reached state, at a start of the chunk with this instruction
+pub record Comes (code : Bytecode) (chunk : Span) (at : ℕ) (op : Op) (counts : Counts) : Type 0 where
+  pub reached : Reached (coded code) chunk at counts
+  pub stands : StandsIn (coded code) chunk at op
+
+-- the same, the capabilities being there
+pub record ComesAllowed (code : Bytecode) (chunk : Span) (at : ℕ) (op : Op) (counts : Counts) : Type 0 where
+  pub comes : Comes code chunk at op counts
+  pub allowed : Allows code.setting.caps (caps_of code.setting op)
+
+-- two states of unlike counts are reached here
+pub record Conflicts (code : Bytecode) (chunk : Span) (at expected found : ℕ) : Type 0 where
+  pub one : Counts
+  pub other : Counts
+  pub one_reached : Reached (coded code) chunk at one
+  pub other_reached : Reached (coded code) chunk at other
+  pub unlike : one ≢ other
+  pub expected_is : expected ≡ one.operands
+  pub found_is : found ≡ other.operands
+
+-- the entry is no start, or it is one and the end is no boundary
+abbrev pub IsBadBound : Bytecode → Span → ℕ → Type 0
+IsBadBound code chunk target =
+    ((target ≡ chunk.entry) × (IsStart code.bytes chunk.entry → ⊥))
+    ⊎ ((target ≡ chunk.end) × IsStart code.bytes chunk.entry × (IsBoundary code.bytes chunk.end → ⊥))
+
+-- what a refusal of a chunk says of it; capabilities are those that the operation needs
+abbrev pub ChunkFlaw : Bytecode → Span → VerifyError → Type 0
+ChunkFlaw code chunk (errors.MissingCaps artifact absent at) =
+    IsFramed code chunk × (artifact.0 ≡ code.setting.caps) × ((op : Op) × (c : Counts) × Comes code chunk at op c × (absent.0 ≡ missing code.setting.caps (caps_of code.setting op)) × (absent.0 ≢ 0))
+ChunkFlaw code chunk (errors.ChunkOutOfRange entry end len) =
+    (entry ≡ chunk.entry) × (end ≡ chunk.end) × (len ≡ length code.bytes) × ((length code.bytes < chunk.end) ⊎ (chunk.end < chunk.entry))
+ChunkFlaw code chunk (errors.JumpIntoAnInstruction at target) =
+    ((chunk.end ≤ length code.bytes) × (chunk.entry < chunk.end) × (at ≡ chunk.entry) × IsBadBound code chunk target)
+    ⊎ (IsFramed code chunk × Leads code chunk at target × (chunk.entry ≤ target) × (target < chunk.end) × (IsStart code.bytes target → ⊥))
+ChunkFlaw code chunk (errors.JumpOutOfRange at target) =
+    IsFramed code chunk × Leads code chunk at target × ((target < chunk.entry) ⊎ (chunk.end ≤ target))
+ChunkFlaw code chunk (errors.DepthConflict at expected found) =
+    IsFramed code chunk × IsInChunk (coded code) chunk at × Conflicts code chunk at expected found
+ChunkFlaw code chunk (errors.Underflow at need have) =
+    IsFramed code chunk × ((op : Op) × (c : Counts) × ComesAllowed code chunk at op c × (need ≡ needs code.setting op) × (have ≡ c.operands) × (have < need))
+ChunkFlaw code chunk (errors.IteratorUnderflow at) =
+    IsFramed code chunk × ((op : Op) × (c : Counts) × ComesAllowed code chunk at op c × (c.iterators < iterators_needed op))
+ChunkFlaw code chunk (errors.HandlerUnderflow at) =
+    IsFramed code chunk × ((op : Op) × (c : Counts) × ComesAllowed code chunk at op c × (length c.bases < handlers_needed op))
+ChunkFlaw code chunk (errors.SinksBelowHandler at need have) =
+    IsFramed code chunk × ((op : Op) × (c : Counts) × ComesAllowed code chunk at op c × Meets code.setting op c × Sinks code.setting op c need have)
+ChunkFlaw code chunk errors.FallsOffTheEnd =
+    ((chunk.entry ≡ chunk.end) × (chunk.end ≤ length code.bytes)) ⊎ (IsFramed code chunk × FallsOff code chunk)
+ChunkFlaw code chunk (errors.StackExceedsDeclared needed declared) =
+    IsFramed code chunk × (declared ≡ chunk.max_stack) × (declared < needed) × IsDeepest (coded code) chunk needed × ((m : ℕ) × HasTyping (coded code) chunk m)
+ChunkFlaw code chunk (errors.Undecodable at) = ⊥
+ChunkFlaw code chunk (errors.TrailingBytes at len) = ⊥
+ChunkFlaw code chunk (errors.BadIndex at what index) = ⊥
+ChunkFlaw code chunk errors.OutOfMemory = ⊥
+
+-- the refusal is a flaw of a chunk, and each earlier one passes
+pub record IsFirstFlaw (code : Bytecode) (chunks : List Span) (e : VerifyError) : Type 0 where
+  pub place : ℕ
+  pub inside : place < length chunks
+  pub earlier : AllWithin (ChunkPasses code) chunks 0 place
+  pub here : HoldsAt (λ chunk. ChunkFlaw code chunk e) chunks place
+
+-- constants, code and functions pass, and the refusal is that of the first chunk that doesn't
+pub record IsFlawOfChunks (i : Input) (e : VerifyError) : Type 0 where
+  pub constants : ConstantsPass i
+  pub code : CodePasses i
+  pub functions : FunctionsPass i
+  pub chunk : IsFirstFlaw i.code i.chunks e
+
+-- the first constant whose capabilities aren't all there has these
+pub record ConstantAsks (caps : ℕ) (consts : List Dynamic) (asked : ℕ) : Type 0 where
+  pub place : ℕ
+  pub inside : place < length consts
+  pub earlier : AllWithin (ConstantPasses caps) consts 0 place
+  pub here : HoldsAt (λ value. const_caps value ≡ Some asked) consts place
+  pub refused : Allows caps asked → ⊥
+
+-- constants and code pass, there are functions, and they aren't allowed
+pub record FunctionsAsk (i : Input) (asked : ℕ) : Type 0 where
+  pub constants : ConstantsPass i
+  pub code : CodePasses i
+  pub functions : i.functions ≢ []
+  pub what : asked ≡ FUNCTION
+  pub refused : Allows i.code.setting.caps FUNCTION → ⊥
+
+-- the bytes up to an address are instructions whose indices are in bounds
+pub record PassesTo (setting : Setting) (bytes : List ℕ) (at : ℕ) : Type 0 where
+  pub inside : at < length bytes
+  pub front : AreIndexed setting (take at bytes)
+
+-- what a refusal of the code says of it: behind a front that passes stands no instruction, or one with an index out of
+-- bounds
+abbrev pub CodeFlaw : Setting → List ℕ → VerifyError → Type 0
+CodeFlaw setting bytes (errors.Undecodable at) = PassesTo setting bytes at × split.NoneStandsAt bytes at
+CodeFlaw setting bytes (errors.BadIndex at what index) =
+    PassesTo setting bytes at × ((op : Op) × split.StandsAt bytes at op × IsOut setting op what.now index)
+CodeFlaw setting bytes (errors.MissingCaps artifact absent at) = ⊥
+CodeFlaw setting bytes (errors.TrailingBytes at len) = ⊥
+CodeFlaw setting bytes (errors.ChunkOutOfRange entry end len) = ⊥
+CodeFlaw setting bytes (errors.JumpOutOfRange at target) = ⊥
+CodeFlaw setting bytes (errors.JumpIntoAnInstruction at target) = ⊥
+CodeFlaw setting bytes (errors.DepthConflict at expected found) = ⊥
+CodeFlaw setting bytes (errors.Underflow at need have) = ⊥
+CodeFlaw setting bytes (errors.StackExceedsDeclared needed declared) = ⊥
+CodeFlaw setting bytes (errors.IteratorUnderflow at) = ⊥
+CodeFlaw setting bytes (errors.HandlerUnderflow at) = ⊥
+CodeFlaw setting bytes (errors.SinksBelowHandler at need have) = ⊥
+CodeFlaw setting bytes errors.FallsOffTheEnd = ⊥
+CodeFlaw setting bytes errors.OutOfMemory = ⊥
+
+-- What each refusal says. Want of memory says nothing of what was verified, and bytes never trail.
+abbrev pub Flaw : Input → VerifyError → Type 0
+Flaw i (errors.MissingCaps artifact absent at) =
+    ((artifact.0 ≡ i.code.setting.caps) × (at ≡ 0) × (ConstantAsks i.code.setting.caps i.consts absent.0 ⊎ FunctionsAsk i absent.0))
+    ⊎ IsFlawOfChunks i (errors.MissingCaps artifact absent at)
+Flaw i (errors.Undecodable at) = ConstantsPass i × CodeFlaw i.code.setting i.code.bytes (errors.Undecodable at)
+Flaw i (errors.BadIndex at what index) = ConstantsPass i × CodeFlaw i.code.setting i.code.bytes (errors.BadIndex at what index)
+Flaw i (errors.TrailingBytes at len) = ⊥
+Flaw i errors.OutOfMemory = ⊥
+Flaw i (errors.ChunkOutOfRange entry end len) = IsFlawOfChunks i (errors.ChunkOutOfRange entry end len)
+Flaw i (errors.JumpOutOfRange at target) = IsFlawOfChunks i (errors.JumpOutOfRange at target)
+Flaw i (errors.JumpIntoAnInstruction at target) = IsFlawOfChunks i (errors.JumpIntoAnInstruction at target)
+Flaw i (errors.DepthConflict at expected found) = IsFlawOfChunks i (errors.DepthConflict at expected found)
+Flaw i (errors.Underflow at need have) = IsFlawOfChunks i (errors.Underflow at need have)
+Flaw i (errors.StackExceedsDeclared needed declared) = IsFlawOfChunks i (errors.StackExceedsDeclared needed declared)
+Flaw i (errors.IteratorUnderflow at) = IsFlawOfChunks i (errors.IteratorUnderflow at)
+Flaw i (errors.HandlerUnderflow at) = IsFlawOfChunks i (errors.HandlerUnderflow at)
+Flaw i (errors.SinksBelowHandler at need have) = IsFlawOfChunks i (errors.SinksBelowHandler at need have)
+Flaw i errors.FallsOffTheEnd = IsFlawOfChunks i errors.FallsOffTheEnd

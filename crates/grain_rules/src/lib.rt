@@ -1,0 +1,23 @@
+//! What acceptance of Rhai Grain bytecode means, and the tests of a program that take no memory.
+//!
+//! The definitions of the folder `specs/` are what the verifier's theorem says, and no more: what an operation does and
+//! asks, edges and typings, the machine and its kept runs, accepted input, flaws, and the verdict. `laws` are theorems
+//! about these definitions alone. A host uses `grain`, which gives out what is for hosts.
+#![tactic(auto)]
+
+mod capabilities;
+mod constants;
+mod error;
+mod functions;
+mod indices;
+pub mod laws;
+mod passed;
+mod pools;
+mod unindexed;
+
+pub use capabilities::{allows, missing};
+pub use constants::{check_constants, constant_caps};
+pub use error::VerifyError;
+pub use functions::check_functions;
+pub use indices::check_code;
+pub use pools::Pools;

@@ -1,0 +1,25 @@
+pub mod Chunks
+pub mod FirstLists
+pub mod Flows
+pub mod Following
+pub mod Growth
+pub mod Heads
+pub mod Metering
+pub mod Most
+pub mod NamedLists
+pub mod Numbering
+pub mod Ordinals
+pub mod Places
+pub mod Progress
+pub mod Pushing
+mod Quietness
+pub mod Refusing
+pub mod Sending
+pub mod Sharing
+pub mod Staying
+pub mod Telling
+pub mod Ticks
+pub mod Turns
+pub mod VisitCounts
+pub mod Visiting
+pub mod Walking

@@ -1,0 +1,5 @@
+use Rattle.grain_verify.proofs.Quietness.{quiet_by}
+use Rattle.grain_verify.proofs.sinking.is_quiet.Goals as goal
+
+pub returns : goal.returns
+returns c op is = quiet_by c.args.tag _ op is

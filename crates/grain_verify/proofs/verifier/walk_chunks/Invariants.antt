@@ -1,0 +1,22 @@
+use Rattle.std.proofs.Common.{◌≡◌, ◌≤◌, length, take}
+use Rattle.std.specs.Vec.{vec_capacity, vec_len}
+use Rattle.std.specs.List.{AllWithin, AllZip}
+use Rattle.grain_rules.specs.Accepted.{ChunkPasses}
+use Rattle.grain_rules.specs.Code.{coded}
+use Rattle.grain_verify.specs.Lists.{IsShared}
+use Rattle.grain_verify.specs.Progress.{AreCounted, Fits}
+use Rattle.grain_verify.specs.Walk.{bytecode_of}
+use Rattle.grain_rules.specs.Typing.{HasTyping, IsDeepest}
+use Rattle.grain_verify.proofs.verifier.walk_chunks.Given as goal
+
+abbrev pub invariant-loop-chunk : goal.invariant-loop-chunk
+invariant-loop-chunk l = record {
+  fits : Fits l.prepared l.traversal;
+  shared : IsShared l.lists;
+  counted : AreCounted (bytecode_of l.prepared) l.prepared.starts.starts (take l.chunk-index l.chunks) l.initial.meter l.meter;
+  one_each : vec_len l.deepest ≡ l.chunk-index;
+  reserved : length l.chunks ≤ vec_capacity l.deepest;
+  passes : AllWithin (ChunkPasses (bytecode_of l.prepared)) l.chunks 0 l.chunk-index;
+  typed : AllZip (HasTyping (coded (bytecode_of l.prepared))) (take l.chunk-index l.chunks) l.deepest.items;
+  deepest : AllZip (IsDeepest (coded (bytecode_of l.prepared))) (take l.chunk-index l.chunks) l.deepest.items;
+}

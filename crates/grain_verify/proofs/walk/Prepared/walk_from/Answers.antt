@@ -1,0 +1,186 @@
+use Rattle.std.proofs.Common.{inr, ◌+◌, ◌≤◌, ◌++◌, List, Option, Some, length, refl, sym, ap, subst, ◌∙◌, arith}
+use Rattle.std.specs.Option.{option_to_list}
+use Rattle.std.proofs.lemmas.List.{append-nil, length_push}
+use Rattle.grain_rules.specs.Flaw.{ChunkFlaw}
+use Rattle.grain_verify.specs.Progress.{IsWalking, all_targets, visits_in}
+use Rattle.grain_verify.specs.Walk.{bytecode_of}
+use Rattle.grain_verify.specs.declared.state.Arrival.{Arrival}
+use Rattle.grain_verify.specs.declared.state.State.{State}
+use Rattle.grain_verify.proofs.Most.{lighter_still}
+use Rattle.grain_verify.proofs.NamedLists.{grows_not}
+use Rattle.grain_verify.proofs.Ordinals.{ordinal_low}
+use Rattle.grain_verify.proofs.Refusing.{err_so, ok_so}
+use Rattle.grain_rules.proofs.Splits.{boundary_apart}
+use Rattle.grain_verify.proofs.Turns.{halts_inside, halts_place, halts_small}
+use Rattle.grain_verify.proofs.Visiting.{off_conflicts, off_falls, off_inside, off_known, off_named, off_skipped, off_within, plain_visited}
+use Rattle.grain_verify.proofs.walk.Prepared.walk_from.Goals as goal
+
+pub others-init : goal.others-init
+others-init c = record { walking = c.requires.walking; floor = c.floor-floor.ensures.floor; small = c.floor-floor.ensures.small; counted = c.requires.counted; lighter = omega arith }
+
+pub head_at-requires-clause-place : goal.head_at-requires-clause-place
+head_at-requires-clause-place c = off_inside c.args.self.now c.args.chunk.now c.others.lists _ _ _ c.others.here _ refl c.others.invariant.walking
+
+pub get-requires : goal.get-requires
+get-requires c = off_known c.args.self.now c.args.chunk.now c.others.lists _ _ _ c.others.here _ refl c.others.invariant.walking c.in-Some.ensures.inside
+
+pub returns-in-Some-get-clause-walking : goal.returns-in-Some-get-clause-walking
+returns-in-Some-get-clause-walking c =
+    let t = c.others.traversal in
+    ok_so c.check_same.result (λ same. off_skipped c.args.self.now c.args.chunk.now c.others.lists t _ t.work.items c.others.here _ refl c.others.invariant.walking t refl refl c.in-Some.ensures.inside (sym c.get.ensures ∙ (c.in-Some-get.is ∙ ap (λ (s : State). Some s) same))) c.check_same.ensures.ok
+
+pub returns-in-Some-get-clause-within : goal.returns-in-Some-get-clause-within
+returns-in-Some-get-clause-within c =
+    let few = off_within c.args.self.now c.args.chunk.now c.others.lists _ _ _ c.others.here _ refl c.others.invariant.walking c.requires.ready in
+    omega (arith, few, c.others.invariant.counted)
+
+pub returns-in-Some-get-clause-err : goal.returns-in-Some-get-clause-err
+returns-in-Some-get-clause-err c =
+    let flaw = ChunkFlaw (bytecode_of c.args.self.now) c.args.chunk.now in
+    err_so c.check_same.result (λ e unlike. inr (subst flaw (sym unlike.0) (off_conflicts c.args.self.now c.args.chunk.now c.others.lists _ _ _ c.others.here _ refl c.others.invariant.walking c.in-Some-get.before c.requires.framed c.in-Some.ensures.inside (sym c.get.ensures ∙ c.in-Some-get.is) unlike.1))) c.check_same.ensures.err
+
+pub plain_next-requires-clause-room : goal.plain_next-requires-clause-room
+plain_next-requires-clause-room c =
+    let self = c.args.self.now in
+    let head = c.in-Some.ensures.headed in
+    let halts = c.mark.ensures.halts in
+    let within = halts_inside self c.args.chunk.now _ _ _ c.others.here _ (grows_not c.others.lists halts.is.known.shared) halts in
+    let apart = boundary_apart self.code.now c.others.here.at c.args.chunk.now.end head.op within.place c.requires.framed.end head.stands within.end in
+    omega (arith, apart, head.width, c.in-Some.ensures.addresses)
+
+pub plain_next-requires-clause-operands_room : goal.plain_next-requires-clause-operands_room
+plain_next-requires-clause-operands_room c =
+    let halts = c.mark.ensures.halts in
+    let small = halts_small c.args.self.now c.args.chunk.now _ _ _ c.others.here _ (grows_not c.others.lists halts.is.known.shared) halts in
+    omega (arith, small.0, c.in-Some.ensures.addresses)
+
+pub plain_next-requires-clause-ordinal_room : goal.plain_next-requires-clause-ordinal_room
+plain_next-requires-clause-ordinal_room c =
+    let self = c.args.self.now in
+    let halts = c.mark.ensures.halts in
+    let place = halts_place self c.args.chunk.now _ _ _ c.others.here _ (grows_not c.others.lists halts.is.known.shared) halts in
+    let low = ordinal_low self.code.now self.starts.starts c.requires.ready.starts c.others.here.ordinal c.others.here.at place in
+    omega (arith, low, c.in-Some.ensures.inside, c.in-Some.ensures.addresses)
+
+pub others-preserved-in-Some-plain_next : goal.others-preserved-in-Some-plain_next
+others-preserved-in-Some-plain_next c =
+    let self = c.args.self.now in
+    let head = c.in-Some.ensures.headed in
+    let marked = c.mark.new.traversal in
+    let next = c.in-Some-plain_next.ensures self.code.now c.others.lists head.op head.stands head.tag head.width c.others.invariant.floor in
+    let done = c.mark.ensures in
+    record {
+      walking = plain_visited self c.args.chunk.now c.others.lists marked c.others.here c.in-Some-plain_next.next c.mark.new.deepest c.requires.ready c.requires.framed done.halts next;
+      floor = rw (next.is) (c.others.invariant.floor);
+      small = c.others.invariant.small;
+      counted = done.counted;
+      lighter = (let less = lighter_still self c.others.traversal marked marked (length marked.work.items + 1) _ done.more done.long done.work refl (omega arith) c.others.invariant.lighter in omega (arith, less));
+    }
+
+pub visit_told-requires-clause-above : goal.visit_told-requires-clause-above
+visit_told-requires-clause-above c = (c.others.floor, c.others.invariant.floor, omega (arith, c.from.ensures, c.from-in-Some.ensures, c.if-above.true))
+
+pub others-preserved-then-above : goal.others-preserved-then-above
+others-preserved-then-above c =
+    let done = c.mark.ensures in
+    let told = c.in_ok-here-in-Jumps.ensures in
+    record {
+      walking = told.ok c.mark.new.deepest done.halts;
+      floor = told.floor c.others.floor c.others.invariant.floor;
+      small = c.others.invariant.small;
+      counted = done.counted ∙ sym (ap visits_in told.states);
+      lighter = (let less = lighter_still c.args.self.now c.others.traversal c.mark.new.traversal c.visit_told.new.traversal _ _ done.more done.long done.work told.states told.few c.others.invariant.lighter in omega (arith, less));
+    }
+
+pub visit_told-requires-in-Branches-clause-above : goal.visit_told-requires-in-Branches-clause-above
+visit_told-requires-in-Branches-clause-above c = (c.others.floor, c.others.invariant.floor, omega (arith, c.from.ensures, c.from-in-Some.ensures, c.if-above-2.true))
+
+pub others-preserved-then-above-2 : goal.others-preserved-then-above-2
+others-preserved-then-above-2 c =
+    let done = c.mark.ensures in
+    let told = c.in_ok-here-in-Branches.ensures in
+    record {
+      walking = told.ok c.mark.new.deepest done.halts;
+      floor = told.floor c.others.floor c.others.invariant.floor;
+      small = c.others.invariant.small;
+      counted = done.counted ∙ sym (ap visits_in told.states);
+      lighter = (let less = lighter_still c.args.self.now c.others.traversal c.mark.new.traversal c.visit_told-in-Branches.new.traversal _ _ done.more done.long done.work told.states told.few c.others.invariant.lighter in omega (arith, less));
+    }
+
+pub visit_told-requires-in-PushesHandler-clause-above : goal.visit_told-requires-in-PushesHandler-clause-above
+visit_told-requires-in-PushesHandler-clause-above c = (c.others.floor, c.others.invariant.floor, omega (arith, c.from.ensures, c.from-in-Some.ensures, c.if-above-3.true))
+
+pub others-preserved-then-above-3 : goal.others-preserved-then-above-3
+others-preserved-then-above-3 c =
+    let done = c.mark.ensures in
+    let told = c.in_ok-here-in-PushesHandler.ensures in
+    let is_floor = told.floor c.others.floor c.others.invariant.floor in
+    record {
+      walking = told.ok c.mark.new.deepest done.halts;
+      floor = λ n l up. is_floor n l (omega (arith, up, c.floor_armed-floor.ensures.floor));
+      small = c.floor_armed-floor.ensures.small;
+      counted = done.counted ∙ sym (ap visits_in told.states);
+      lighter = (let less = lighter_still c.args.self.now c.others.traversal c.mark.new.traversal c.visit_told-in-PushesHandler.new.traversal _ _ done.more done.long done.work told.states told.few c.others.invariant.lighter in omega (arith, less));
+    }
+
+pub visit_told-requires-in-PopsHandler-clause-above : goal.visit_told-requires-in-PopsHandler-clause-above
+visit_told-requires-in-PopsHandler-clause-above c = (c.others.floor, c.others.invariant.floor, omega (arith, c.from.ensures, c.from-in-Some.ensures, c.if-above-4.true))
+
+pub floor-floor-requires-in-PopsHandler-clause-shared : goal.floor-floor-requires-in-PopsHandler-clause-shared
+floor-floor-requires-in-PopsHandler-clause-shared c = (c.in_ok-here-in-PopsHandler.ensures.ok c.mark.new.deepest c.mark.ensures.halts).known.shared
+
+pub floor-floor-requires-in-PopsHandler-clause-list : goal.floor-floor-requires-in-PopsHandler-clause-list
+floor-floor-requires-in-PopsHandler-clause-list c =
+    off_named c.args.self.now c.args.chunk.now _ _ _ _ c.in_ok-here-in-PopsHandler.here _ refl (c.in_ok-here-in-PopsHandler.ensures.ok c.mark.new.deepest c.mark.ensures.halts)
+
+pub others-preserved-then-above-4 : goal.others-preserved-then-above-4
+others-preserved-then-above-4 c =
+    let done = c.mark.ensures in
+    let told = c.in_ok-here-in-PopsHandler.ensures in
+    record {
+      walking = told.ok c.mark.new.deepest done.halts;
+      floor = c.floor-floor-in-PopsHandler.ensures.floor;
+      small = c.floor-floor-in-PopsHandler.ensures.small;
+      counted = done.counted ∙ sym (ap visits_in told.states);
+      lighter = (let less = lighter_still c.args.self.now c.others.traversal c.mark.new.traversal c.visit_told-in-PopsHandler.new.traversal _ _ done.more done.long done.work told.states told.few c.others.invariant.lighter in omega (arith, less));
+    }
+
+pub returns-in_default-2-clause-walking : goal.returns-in_default-2-clause-walking
+returns-in_default-2-clause-walking c =
+    let new = c.visit.new.traversal in
+    let w = subst (λ (o : Option Arrival). IsWalking c.args.self.now c.args.chunk.now c.visit.new.lists new (new.work.items ++ option_to_list o) c.mark.new.deepest) c.in_default-2.is (c.in_ok-next-in_default-flow.ensures.ok c.mark.new.deepest c.mark.ensures.halts) in
+    subst (λ (xs : List Arrival). IsWalking c.args.self.now c.args.chunk.now c.visit.new.lists new xs c.mark.new.deepest) (append-nil new.work.items) w
+
+pub floor-floor-requires-in_default-flow-clause-shared : goal.floor-floor-requires-in_default-flow-clause-shared
+floor-floor-requires-in_default-flow-clause-shared c = (c.in_ok-next-in_default-flow.ensures.ok c.mark.new.deepest c.mark.ensures.halts).known.shared
+
+pub floor-floor-requires-in_default-flow-clause-list : goal.floor-floor-requires-in_default-flow-clause-list
+floor-floor-requires-in_default-flow-clause-list c =
+    let new = c.visit.new.traversal in
+    let w = subst (λ (o : Option Arrival). IsWalking c.args.self.now c.args.chunk.now c.visit.new.lists new (new.work.items ++ option_to_list o) c.mark.new.deepest) c.in-Some-2.is (c.in_ok-next-in_default-flow.ensures.ok c.mark.new.deepest c.mark.ensures.halts) in
+    off_named c.args.self.now c.args.chunk.now _ _ _ _ c.in-Some-2.next _ refl w
+
+pub others-preserved : goal.others-preserved
+others-preserved c =
+    let done = c.mark.ensures in
+    let new = c.visit.new.traversal in
+    let self = c.args.self.now in
+    let visited = c.in_ok-next-in_default-flow.ensures in
+    let few = subst (λ (o : Option Arrival). length (new.work.items ++ option_to_list o) ≤ length c.mark.new.traversal.work.items + (all_targets (bytecode_of self).switches + 2)) c.in-Some-2.is visited.few in
+    let one = length_push new.work.items c.in-Some-2.next in
+    record {
+      walking = subst (λ (o : Option Arrival). IsWalking self c.args.chunk.now c.visit.new.lists new (new.work.items ++ option_to_list o) c.mark.new.deepest) c.in-Some-2.is (visited.ok c.mark.new.deepest done.halts);
+      floor = c.floor-floor-in_default-flow.ensures.floor;
+      small = c.floor-floor-in_default-flow.ensures.small;
+      counted = done.counted ∙ sym (ap visits_in visited.states);
+      lighter = (let less = lighter_still self c.others.traversal c.mark.new.traversal new (length new.work.items + 1) _ done.more done.long done.work visited.states (omega (arith, few, one)) c.others.invariant.lighter in omega (arith, less));
+    }
+
+pub returns-clause-within : goal.returns-clause-within
+returns-clause-within c =
+    let few = off_within c.args.self.now c.args.chunk.now c.others.lists _ _ _ c.others.here _ refl c.others.invariant.walking c.requires.ready in
+    omega (arith, few, c.others.invariant.counted)
+
+pub returns-clause-err : goal.returns-clause-err
+returns-clause-err c =
+    inr (inr (c.requires.framed, off_falls c.args.self.now c.args.chunk.now c.others.lists _ _ _ c.others.here _ refl c.others.invariant.walking c.in_default.ensures.none))

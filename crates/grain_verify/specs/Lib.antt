@@ -1,0 +1,11 @@
+pub mod Arrivals
+pub mod FlowView
+pub mod Lists
+pub mod Meter
+pub mod Plain
+pub mod SinkingView
+pub mod States
+pub mod TagEffects
+pub mod PoolCaps
+pub mod Progress
+pub mod Walk

@@ -1,0 +1,72 @@
+-- What tags tell of instructions.
+use Rattle.std.specs.Prelude.{◌≡◌, ⊤, ℕ, List, ◌∷◌, Option, None, Some}
+use Rattle.grain_code.specs.InstructionTable.{form}
+use Rattle.grain_pools.specs.declared.chain.Chain.{Chain}
+use Rattle.grain_code.specs.declared.field.Field.{Field}
+use Rattle.grain_code.specs.declared.field.Field.TheVariants.{Target}
+use Rattle.grain_code.specs.declared.op.Op.{Op}
+use Rattle.grain_rules.specs.Capabilities.{caps_of}
+use Rattle.grain_rules.specs.Effects.{stack_effect}
+use Rattle.grain_rules.specs.Flow as flows
+use Rattle.grain_rules.specs.Flow.{flow_of}
+use Rattle.grain_verify.specs.FlowView.{flow}
+use Rattle.grain_verify.specs.PoolCaps.{AreAsked}
+use Rattle.grain_rules.specs.Setting.{Setting}
+use Rattle.grain_verify.specs.declared.pool_caps.PoolCaps.{PoolCaps}
+use Rattle.grain_verify.specs.declared.effects.Effect.{Effect}
+use Rattle.grain_verify.specs.declared.flow.Flow.{Flow}
+use Rattle.grain_verify.specs.declared.flow.Flow.TheVariants as ways
+use Rattle.grain_verify.specs.declared.tag_effects.TagEffect.{TagEffect}
+use Rattle.grain_verify.specs.declared.tag_effects.ToldFlow.{ToldFlow}
+use Rattle.grain_verify.specs.declared.tag_effects.ToldFlow.TheVariants as told
+
+-- its needs, what it takes and what it gives are these whatever the pools hold, and it asks nothing of the host
+pub record IsFixed (op : Op) (effect : ℕ × ℕ × ℕ) : Type 0 where
+  pub operands : (chains : List Chain) → effect ≡ stack_effect chains op
+  pub caps : (s : Setting) → caps_of s op ≡ 0
+
+-- it is left by this flow, whose target is its first field
+abbrev pub FlowsTo : Op → (ℕ → flows.Flow) → Type 0
+FlowsTo op f = (target : ℕ) × (others : List Field) × ((form op).1 ≡ Target target ∷ others) × (flow_of op ≡ f target)
+
+abbrev pub TellsFlow : Option Flow → ℕ × ℕ × ℕ → Op → Type 0
+TellsFlow None e op = ⊤
+TellsFlow (Some ways.Falls) e op = IsFixed op e × (flow_of op ≡ flows.Falls)
+TellsFlow (Some ways.Ends) e op = IsFixed op e × (flow_of op ≡ flows.Ends)
+TellsFlow (Some ways.Jumps) e op = IsFixed op e × FlowsTo op flows.Jumps
+TellsFlow (Some ways.Branches) e op = IsFixed op e × FlowsTo op flows.Branches
+TellsFlow (Some ways.Switches) e op = ⊥
+TellsFlow (Some ways.BeginsIterator) e op = IsFixed op e × (flow_of op ≡ flows.BeginsIterator)
+TellsFlow (Some ways.AdvancesIterator) e op = IsFixed op e × FlowsTo op flows.AdvancesIterator
+TellsFlow (Some ways.EndsIterator) e op = IsFixed op e × (flow_of op ≡ flows.EndsIterator)
+TellsFlow (Some ways.PushesHandler) e op = IsFixed op e × FlowsTo op flows.PushesHandler
+TellsFlow (Some ways.PopsHandler) e op = IsFixed op e × (flow_of op ≡ flows.PopsHandler)
+
+-- the flow that a row of the table of tags tells, if it does
+abbrev pub told_flow : ToldFlow → Option Flow
+told_flow told.Untold = None
+told_flow told.Falls = Some ways.Falls
+told_flow told.Ends = Some ways.Ends
+told_flow told.Jumps = Some ways.Jumps
+told_flow told.Branches = Some ways.Branches
+told_flow told.BeginsIterator = Some ways.BeginsIterator
+told_flow told.AdvancesIterator = Some ways.AdvancesIterator
+told_flow told.EndsIterator = Some ways.EndsIterator
+told_flow told.PushesHandler = Some ways.PushesHandler
+told_flow told.PopsHandler = Some ways.PopsHandler
+
+-- what a tag tells is what the operation does
+abbrev pub Tells : TagEffect → Op → Type 0
+Tells row op = TellsFlow (told_flow row.flow) (row.needs, row.takes, row.gives) op
+
+-- the effect is that of the operation, whatever the pools hold, and asks nothing of the host
+pub record IsEffectOf (e : Effect) (op : Op) : Type 0 where
+  pub operands : (chains : List Chain) → (e.needs, e.takes, e.gives) ≡ stack_effect chains op
+  pub asks : (s : Setting) → e.asks.0 ≡ caps_of s op
+  pub flow_is : flow e.flow e.target ≡ flow_of op
+
+-- the effect is that of the operation, with these chains in the pool, and names and chains that ask this of the host
+pub record IsEffectIn (chains : List Chain) (asked : PoolCaps) (e : Effect) (op : Op) : Type 0 where
+  pub operands : (e.needs, e.takes, e.gives) ≡ stack_effect chains op
+  pub asks : (s : Setting) → AreAsked s asked → e.asks.0 ≡ caps_of s op
+  pub flow_is : flow e.flow e.target ≡ flow_of op

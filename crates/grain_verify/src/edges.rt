@@ -1,0 +1,224 @@
+//! Pushing where an instruction may lead.
+ghost use Rattle.std.specs.Prelude.{◌≡◌, ◌<◌, ◌++◌, ◌∷◌, ◌⊎◌, [], Some, get_or, length, map, slice_get, IfErr, IfNone, IfOk, IfSome, OnOk};
+ghost use Rattle.std.specs.List.{All};
+ghost use Rattle.grain_pools.specs.Dispatch.{listed, arms};
+ghost use Rattle.grain_verify.specs.Arrivals.{IsPlaced, IsStartIn, RefusesSwitch, RefusesTarget, RefusesTargetOf, Sends};
+ghost use Rattle.grain_verify.specs.Arrivals.{all_underway, case_targets, range_targets, underway};
+ghost use Rattle.grain_rules.specs.Code.{switch_targets};
+ghost use Rattle.grain_rules.specs.Flow as flows;
+
+use crate::state::{Arrival, State, check_same};
+use crate::states::States;
+use grain_base::Dynamic;
+use grain_bytecode::{Chunk, Starts, Switch, SwitchRange};
+use grain_rules::VerifyError;
+use std::collections::HashMap;
+
+/// How many instructions stand before a target, which has to be a start of the chunk.
+#[inline(always)]
+fn place_of(starts: &Starts, chunk: &Chunk, at: u32, target: u32) -> Result<usize, VerifyError>
+    ensures ok { OnOk result (IsStartIn starts.now.starts chunk.now target) }
+    ensures place { IfOk result (λ k. slice_get starts.now.starts k ≡ Some target) }
+    ensures err { IfErr result (λ e. RefusesTarget starts.now.starts chunk.now at target e) }
+{
+    let at = at as usize;
+    if target < chunk.entry() || target >= chunk.end() {
+        return Err(VerifyError::JumpOutOfRange { at, target });
+    }
+    match starts.ordinal(target as usize) {
+        Some(ordinal) => Ok(ordinal),
+        None => Err(VerifyError::JumpIntoAnInstruction { at, target }),
+    }
+}
+
+/// The state on its way to a target, which has to be a start of the chunk.
+#[inline(always)]
+pub(crate) fn arrival_at(
+    starts: &Starts,
+    chunk: &Chunk,
+    at: u32,
+    target: u32,
+    after: State,
+) -> Result<Arrival, VerifyError>
+    ensures arrives { IfOk result (λ a. underway a ≡ record { at = target; state = after }) }
+    ensures inside { OnOk result (IsStartIn starts.now.starts chunk.now target) }
+    ensures placed { IfOk result (IsPlaced starts.now.starts chunk.now) }
+    ensures err { IfErr result (λ e.
+        RefusesTargetOf starts.now.starts chunk.now at (target ∷ []) e) }
+{
+    let ordinal = place_of(starts, chunk, at, target)?;
+    Ok(Arrival {
+        ordinal,
+        at: target,
+        state: after,
+    })
+}
+
+/// Pushes the state to one target.
+#[inline(always)]
+pub(crate) fn push_target(
+    starts: &Starts,
+    chunk: &Chunk,
+    at: u32,
+    target: u32,
+    after: State,
+    work: &mut Vec<Arrival>,
+) -> Result<(), VerifyError>
+    ensures pushed { OnOk result (map underway work.new.items
+        ≡ map underway work.old.items ++ all_underway after (target ∷ [])) }
+    ensures inside { OnOk result (IsStartIn starts.now.starts chunk.now target) }
+    ensures placed { All (IsPlaced starts.now.starts chunk.now) work.old.items
+        → OnOk result (All (IsPlaced starts.now.starts chunk.now) work.new.items) }
+    ensures err { IfErr result (λ e.
+        RefusesTargetOf starts.now.starts chunk.now at (target ∷ []) e) }
+{
+    let arrival = arrival_at(starts, chunk, at, target, after)?;
+    work.push(arrival)?;
+    Ok(())
+}
+
+/// Pushes the state to the target of each case.
+fn push_cases(
+    starts: &Starts,
+    chunk: &Chunk,
+    at: u32,
+    cases: &HashMap<Dynamic, (u32, u32)>,
+    after: State,
+    work: &mut Vec<Arrival>,
+) -> Result<(), VerifyError>
+    ensures pushed { OnOk result (map underway work.new.items
+        ≡ map underway work.old.items ++ all_underway after (case_targets cases.now.entries)) }
+    ensures inside { OnOk result
+        (All (IsStartIn starts.now.starts chunk.now) (case_targets cases.now.entries)) }
+    ensures placed { All (IsPlaced starts.now.starts chunk.now) work.old.items
+        → OnOk result (All (IsPlaced starts.now.starts chunk.now) work.new.items) }
+    ensures err { IfErr result (λ e. RefusesTargetOf starts.now.starts chunk.now at
+        (case_targets cases.now.entries) e) }
+{
+    for (_, (target, _)) in cases {
+        push_target(starts, chunk, at, *target, after, work)?;
+    }
+    Ok(())
+}
+
+/// Pushes the state to the target of each range.
+fn push_ranges(
+    starts: &Starts,
+    chunk: &Chunk,
+    at: u32,
+    ranges: &[SwitchRange],
+    after: State,
+    work: &mut Vec<Arrival>,
+) -> Result<(), VerifyError>
+    ensures pushed { OnOk result (map underway work.new.items
+        ≡ map underway work.old.items ++ all_underway after (range_targets ranges.now)) }
+    ensures inside { OnOk result
+        (All (IsStartIn starts.now.starts chunk.now) (range_targets ranges.now)) }
+    ensures placed { All (IsPlaced starts.now.starts chunk.now) work.old.items
+        → OnOk result (All (IsPlaced starts.now.starts chunk.now) work.new.items) }
+    ensures err { IfErr result (λ e. RefusesTargetOf starts.now.starts chunk.now at
+        (range_targets ranges.now) e) }
+{
+    for range in ranges {
+        push_target(starts, chunk, at, range.target, after, work)?;
+    }
+    Ok(())
+}
+
+/// Pushes the state to the target of each case, if there are any.
+fn push_all_cases(
+    starts: &Starts,
+    chunk: &Chunk,
+    at: u32,
+    switch: &Switch,
+    after: State,
+    work: &mut Vec<Arrival>,
+) -> Result<(), VerifyError>
+    ensures pushed { OnOk result (map underway work.new.items
+        ≡ map underway work.old.items
+        ++ all_underway after (case_targets (listed (arms switch.now).cases))) }
+    ensures inside { OnOk result (All (IsStartIn starts.now.starts chunk.now)
+        (case_targets (listed (arms switch.now).cases))) }
+    ensures placed { All (IsPlaced starts.now.starts chunk.now) work.old.items
+        → OnOk result (All (IsPlaced starts.now.starts chunk.now) work.new.items) }
+    ensures err { IfErr result (λ e. RefusesTargetOf starts.now.starts chunk.now at
+        (case_targets (listed (arms switch.now).cases)) e) }
+{
+    match &switch.cases {
+        Some(cases) => push_cases(starts, chunk, at, cases, after, work),
+        None => Ok(()),
+    }
+}
+
+/// Pushes the state to each target of the switch.
+fn push_switch(
+    starts: &Starts,
+    chunk: &Chunk,
+    at: u32,
+    switch: &Switch,
+    after: State,
+    work: &mut Vec<Arrival>,
+) -> Result<(), VerifyError>
+    ensures pushed { OnOk result (map underway work.new.items
+        ≡ map underway work.old.items ++ all_underway after (switch_targets switch.now)) }
+    ensures inside { OnOk result
+        (All (IsStartIn starts.now.starts chunk.now) (switch_targets switch.now)) }
+    ensures placed { All (IsPlaced starts.now.starts chunk.now) work.old.items
+        → OnOk result (All (IsPlaced starts.now.starts chunk.now) work.new.items) }
+    ensures err { IfErr result (λ e. RefusesTargetOf starts.now.starts chunk.now at
+        (switch_targets switch.now) e) }
+{
+    push_all_cases(starts, chunk, at, switch, after, work)?;
+    push_ranges(starts, chunk, at, &switch.ranges, after, work)?;
+    push_target(starts, chunk, at, switch.default, after, work)?;
+    Ok(())
+}
+
+/// The switch of an index, if there is one.
+#[inline(always)]
+fn switch_at(switches: &[Switch], index: u32) -> Option<&Switch>
+    ensures found { IfSome result (λ s. (index < length switches.now)
+        × (get_or (map switch_targets switches.now) index [] ≡ switch_targets s.now)) }
+    ensures none { IfNone result (get_or (map switch_targets switches.now) index [] ≡ []) }
+{
+    switches.get(index as usize)
+}
+
+/// Pushes the state to each target of the switch of an index, if there is one, unless it was sent there before.
+///
+/// # Errors
+/// Those of the first target that is none, and `DepthConflict` where another state was sent there before.
+pub(crate) fn push_table(
+    starts: &Starts,
+    chunk: &Chunk,
+    at: u32,
+    switches: &[Switch],
+    index: u32,
+    after: State,
+    sent: &mut States,
+    work: &mut Vec<Arrival>,
+) -> Result<(), VerifyError>
+    requires { length sent.old ≡ length switches.now }
+    ensures sends { OnOk result (Sends starts.now.starts chunk.now
+        (map switch_targets switches.now) (flows.Switches index) after
+        sent.old sent.new (map underway work.old.items) (map underway work.new.items)) }
+    ensures long { OnOk result (length sent.new ≡ length sent.old) }
+    ensures placed { All (IsPlaced starts.now.starts chunk.now) work.old.items
+        → OnOk result (All (IsPlaced starts.now.starts chunk.now) work.new.items) }
+    ensures err { IfErr result (λ e.
+        RefusesTargetOf starts.now.starts chunk.now at
+        (get_or (map switch_targets switches.now) index []) e
+        ⊎ RefusesSwitch (map switch_targets switches.now) (flows.Switches index) after sent.old e) }
+{
+    let Some(switch) = switch_at(switches, index) else {
+        return Ok(());
+    };
+    match sent.get(index as usize) {
+        Some(before) => check_same(switch.default, before, after),
+        None => {
+            push_switch(starts, chunk, at, switch, after, work)?;
+            sent.set(index as usize, after);
+            Ok(())
+        }
+    }
+}

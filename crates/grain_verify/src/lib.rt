@@ -1,0 +1,23 @@
+//! The verifier of Rhai Grain bytecode: the walk over each chunk, and what its parts promise each other.
+//!
+//! What its answer means is defined in `grain_rules`. A host uses `grain`, which gives out `verify`, `verify_metered` and
+//! `Meter`.
+#![tactic(auto)]
+
+mod by_tag;
+mod edges;
+mod effects;
+mod flow;
+mod lists;
+mod meter;
+mod plain;
+mod pool_caps;
+mod sinking;
+mod state;
+mod states;
+mod tag_effects;
+mod verifier;
+mod walk;
+
+pub use meter::Meter;
+pub use verifier::{verify, verify_metered};

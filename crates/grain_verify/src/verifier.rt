@@ -1,0 +1,174 @@
+//! The verifier.
+ghost use Rattle.std.specs.Prelude.{◌≡◌, ◌≢◌, ◌⊎◌, ℕ, IfErr, IfOk, List, OnOk};
+ghost use Rattle.std.specs.List.{All, AllZip};
+ghost use Rattle.grain_code.specs.Span.{Span};
+ghost use Rattle.grain_code.specs.Split.{Split};
+ghost use Rattle.grain_rules.specs.Accepted.{ChunkPasses, IsAccepted, input};
+ghost use Rattle.grain_rules.specs.Accepted.{AreIndexed};
+ghost use Rattle.grain_rules.specs.Code.{bytecode, coded};
+ghost use Rattle.grain_rules.specs.Flaw.{Flaw, IsFirstFlaw};
+ghost use Rattle.grain_verify.specs.Meter.{IsMetered};
+ghost use Rattle.grain_verify.specs.Progress.{AreMeteredChunks};
+ghost use Rattle.grain_rules.specs.Setting.{setting};
+ghost use Rattle.grain_rules.specs.Typing.{HasTyping, IsDeepest};
+ghost use Rattle.grain_rules.specs.Verdict.{IsVerdict, ReachesChunks};
+ghost use Rattle.grain_verify.specs.Walk.{IsReady, bytecode_of};
+
+use crate::lists::Lists;
+use crate::meter::Meter;
+use crate::pool_caps::PoolCaps;
+use crate::walk::{Prepared, Traversal};
+use grain_base::{Caps, Dynamic};
+use grain_bytecode::{Chunk, Function, Starts};
+use grain_rules::{Pools, VerifyError, check_code, check_constants, check_functions};
+use std::alloc::Global;
+
+/// The tests before the chunks: of the constants, of the code and its indices, and of the functions. They take no
+/// memory.
+///
+/// # Errors
+/// The first of them that fails, by its name.
+fn check_before_chunks(
+    caps: Caps,
+    consts: &[Dynamic],
+    code: &[u8],
+    functions: &[Function],
+    pools: &Pools<'_>,
+) -> Result<(), VerifyError>
+    ensures ok { (chunks : List Span) → OnOk result
+        (ReachesChunks (input caps consts.now code.now functions.now chunks pools.now)) }
+    ensures refused { (chunks : List Span)
+        → IsAccepted (input caps consts.now code.now functions.now chunks pools.now)
+        → IfErr result (λ _. ⊥) }
+    ensures flaws { (chunks : List Span) → IfErr result (λ e. Flaw
+        (input caps consts.now code.now functions.now chunks pools.now) e) }
+{
+    check_constants(caps, consts)?;
+    check_code(pools, code)?;
+    check_functions(caps, functions)
+}
+
+/// The deepest operand stack of each chunk, or why the first is refused that is.
+fn walk_chunks(
+    alloc: Global,
+    prepared: &Prepared<'_>,
+    chunks: &[Chunk],
+    meter: &mut Meter,
+) -> Result<Vec<u16>, VerifyError>
+    requires { IsReady prepared.now }
+    ensures passes { OnOk result (All (ChunkPasses (bytecode_of prepared.now)) chunks.now) }
+    ensures typed { IfOk result (λ v. AllZip (HasTyping (coded (bytecode_of prepared.now)))
+        chunks.now v.items) }
+    ensures deepest { IfOk result (λ v. AllZip (IsDeepest (coded (bytecode_of prepared.now)))
+        chunks.now v.items) }
+    ensures accepts { All (ChunkPasses (bytecode_of prepared.now)) chunks.now
+        → IfErr result (λ e. e ≡ VerifyError.OutOfMemory) }
+    ensures flaws { IfErr result (λ e. (e ≡ VerifyError.OutOfMemory)
+        ⊎ IsFirstFlaw (bytecode_of prepared.now) chunks.now e) }
+    ensures metered { AreMeteredChunks (bytecode_of prepared.now) prepared.now.starts.starts
+        chunks.now meter.old meter.new result }
+{
+    let switches = prepared.pools.switches.len();
+    let mut traversal = Traversal::new(alloc, prepared.starts.count(), switches)?;
+    let mut lists = Lists::new(alloc);
+    let mut deepest = Vec::with_capacity(alloc, chunks.len())?;
+    for chunk in chunks {
+        let needed = prepared.verify_chunk(chunk, &mut lists, &mut traversal, meter)?;
+        deepest.push_reserved(needed);
+    }
+    Ok(deepest)
+}
+
+/// The same, of code that is whole instructions.
+fn verify_chunks(
+    alloc: Global,
+    caps: Caps,
+    code: &[u8],
+    pools: &Pools<'_>,
+    chunks: &[Chunk],
+    meter: &mut Meter,
+) -> Result<Vec<u16>, VerifyError>
+    requires { AreIndexed (setting caps pools.now) code.now }
+    ensures passes { OnOk result (All (ChunkPasses (bytecode caps pools.now code.now)) chunks.now) }
+    ensures typed { IfOk result (λ v. AllZip (HasTyping (coded (bytecode caps pools.now code.now)))
+        chunks.now v.items) }
+    ensures deepest { IfOk result (λ v.
+        AllZip (IsDeepest (coded (bytecode caps pools.now code.now))) chunks.now v.items) }
+    ensures accepts { All (ChunkPasses (bytecode caps pools.now code.now)) chunks.now
+        → IfErr result (λ e. e ≡ VerifyError.OutOfMemory) }
+    ensures flaws { IfErr result (λ e. (e ≡ VerifyError.OutOfMemory)
+        ⊎ IsFirstFlaw (bytecode caps pools.now code.now) chunks.now e) }
+    ensures metered { (starts : List ℕ) → Split code.now starts → AreMeteredChunks
+        (bytecode caps pools.now code.now) starts chunks.now meter.old meter.new result }
+{
+    let starts = Starts::of(alloc, code)?;
+    let asked = PoolCaps::new(alloc, pools)?;
+    let prepared = Prepared {
+        caps,
+        code,
+        pools,
+        starts,
+        asked,
+    };
+    let deepest = walk_chunks(alloc, &prepared, chunks, meter)?;
+    Ok(deepest)
+}
+
+/// The greatest operand count that any run of each chunk reaches, chunk by chunk, or why the program is refused.
+///
+/// The constants are tested first, then every instruction of the code and its indices, then whether functions are
+/// allowed, and then the chunks in order (docs/FORMAT.md, "Verification"). The first three take no memory. `consts` are
+/// the constants themselves, while `pools.consts` bounds the indices that name one. What it costs is in docs/COSTS.md.
+///
+/// # Errors
+/// The first test that fails, by its name; within a chunk one of its flaws. `OutOfMemory` where memory was wanted, which
+/// comes only where the tests before the chunks pass.
+pub fn verify(
+    alloc: Global,
+    caps: Caps,
+    consts: &[Dynamic],
+    code: &[u8],
+    functions: &[Function],
+    chunks: &[Chunk],
+    pools: &Pools<'_>,
+) -> Result<Vec<u16>, VerifyError>
+    // The headline.
+    ensures verdict { IsVerdict
+        (input caps consts.now code.now functions.now chunks.now pools.now) result }
+
+    // Memory is wanted only where the tests before the chunks pass.
+    ensures memory { IfErr result (λ e. e ≡ VerifyError.OutOfMemory → ReachesChunks
+        (input caps consts.now code.now functions.now chunks.now pools.now)) }
+{
+    let mut meter = Meter::new();
+    verify_metered(
+        alloc, caps, consts, code, functions, chunks, pools, &mut meter,
+    )
+}
+
+/// The same as [`verify`]. The meter counts each instruction that the walks look at: where the program is accepted those
+/// that each chunk reaches, else no more than those that each chunk has.
+///
+/// # Errors
+/// Those of [`verify`].
+pub fn verify_metered(
+    alloc: Global,
+    caps: Caps,
+    consts: &[Dynamic],
+    code: &[u8],
+    functions: &[Function],
+    chunks: &[Chunk],
+    pools: &Pools<'_>,
+    meter: &mut Meter,
+) -> Result<Vec<u16>, VerifyError>
+    ensures verdict { IsVerdict
+        (input caps consts.now code.now functions.now chunks.now pools.now) result }
+    ensures memory { IfErr result (λ e. e ≡ VerifyError.OutOfMemory → ReachesChunks
+        (input caps consts.now code.now functions.now chunks.now pools.now)) }
+    ensures metered { IsMetered
+        (input caps consts.now code.now functions.now chunks.now pools.now)
+        meter.old meter.new result }
+{
+    check_before_chunks(caps, consts, code, functions, pools)?;
+    verify_chunks(alloc, caps, code, pools, chunks, meter)
+}
