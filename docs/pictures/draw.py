@@ -1,5 +1,5 @@
 #!/usr/bin/env python3
-"""Draws the pictures of the documents, way.svg and try.svg, beside this file: docs/pictures/draw.py
+"""Draws the pictures of the documents, way.svg, try.svg and sinks.svg, beside this file: docs/pictures/draw.py
 
 Plain shapes and texts at places of their own, so that any program that shows SVG shows the same.
 """
@@ -96,22 +96,22 @@ def way():
     middle = left + inset + (width - inset) / 2
     down(end, 462, middle)
     p.box(left + inset, 462, width - inset, 52, BLUE_FILL, BLUE)
-    p.text(left + inset + 14, 485, "Worklist", 14, bold=True)
-    p.text(left + inset + 14, 504, "arrivals: the entry with nothing, and what comes to targets", 13)
+    p.text(left + inset + 14, 485, "What comes next", 14, bold=True)
+    p.text(left + inset + 14, 504, "the entry; then what falls through, or one of the worklist", 13)
     down(514, 534, middle)
     end = part(534, "Visited before?", "then what comes has to equal its state; else it becomes it", ["DepthConflict"], inset)
-    p.arrow([(left + inset, 560), (left + 23, 560)], BLUE)
-    p.text(left + 40, 553, "yes", 12, BLUE)
+    p.arrow([(left + inset, 560), (left + 45, 560)], BLUE)
+    p.text(left + 48, 553, "yes", 12, BLUE)
     down(end, 606, middle)
     p.text(middle + 8, 600, "no", 12, FAINT)
     end = part(606, "It has what it asks and needs", "and, where it isn't quiet, leaves the last base",
                 ["MissingCaps, Underflow", "IteratorUnderflow, HandlerUnderflow", "SinksBelowHandler"], inset)
     down(end, 678, middle)
-    end = part(678, "What it leaves is sent along each edge", refused=["JumpOutOfRange, FallsOffTheEnd", "JumpIntoAnInstruction"],
-                inset=inset)
-    p.arrow([(left + inset, 696), (left + 22, 696), (left + 22, 488), (left + inset, 488)], BLUE)
-    down(end, 736, middle)
-    p.text(middle + 8, 730, "once the worklist is empty", 12, FAINT)
+    part(678, "What it leaves is sent along each edge", refused=["JumpOutOfRange, FallsOffTheEnd", "JumpIntoAnInstruction"],
+         inset=inset)
+    p.arrow([(left + inset, 696), (left + 44, 696), (left + 44, 476), (left + inset, 476)], BLUE)
+    p.arrow([(left + inset, 500), (left + 16, 500), (left + 16, 736)])
+    p.text(left + 24, 730, "where nothing is left", 12, FAINT)
     part(736, "The greatest operand count is within the declared one", refused=["StackExceedsDeclared"])
     down(772, 800)
     p.box(left, 800, width, 52, GREEN_FILL, GREEN)
@@ -173,6 +173,44 @@ def one_try():
     p.write("try.svg")
 
 
+# address, instruction, the operands that stand before it, what is said beside
+RUN = [
+    (0, "Unit", 0, ""),
+    (1, "PushHandler 9", 1, "arms a handler: its base is 1 operand"),
+    (6, "Pop", 1, "is quiet, so that it may take the base's operand"),
+    (7, "PopHandler", 0, "is quiet too, and this machine faults at it"),
+    (9, "PopHandler", 0, "cut to the base, 1 operand should stand, and none does"),
+    (10, "Pop", 0, "lacks its operand"),
+]
+
+
+def sinks():
+    """The run of the README that isn't kept."""
+    p = Picture(860, 312, "A run that isn't kept")
+    step, top = 36, 62
+    middle = {address: top + step * place + 14 for place, (address, *_) in enumerate(RUN)}
+    for x, words in [(150, "address"), (206, "instruction"), (378, "operands")]:
+        p.text(x, 36, words, 12, FAINT)
+    p.box(136, middle[6] - 17, 330, middle[7] - middle[6] + 34, RED_FILL, "#eac3bd", 6)
+    for address, instruction, operands, beside in RUN:
+        y = middle[address]
+        lost = address >= 9
+        p.text(184, y + 5, str(address), 14, anchor="end", mono=True)
+        p.text(206, y + 5, instruction, 14, mono=True)
+        for place in range(operands):
+            p.box(378 + 22 * place, y - 8, 16, 16, "#e2a59d" if address == 6 else "#ffffff", RED if address == 6 else INK, 2)
+        if not operands and address != 0:
+            p.text(378, y + 5, "none", 13, RED if lost else INK)
+        p.text(482, y + 5, beside, 13, RED if address in (7, 9, 10) else FAINT)
+    for before, after in [(0, 1), (1, 6), (6, 7), (9, 10)]:
+        p.arrow([(170, middle[before] + 7), (170, middle[after] - 11)], FAINT, width=1)
+    p.arrow([(134, middle[7]), (96, middle[7]), (96, middle[9]), (134, middle[9])], RED, dashed=True)
+    p.text(90, middle[7] + 22, "caught", 12, RED, "end")
+    p.text(136, 296, "Accepted code sees to it at every instruction that isn't quiet. At the quiet ones the host does.", 12, FAINT)
+    p.write("sinks.svg")
+
+
 if __name__ == "__main__":
     way()
     one_try()
+    sinks()

@@ -8,7 +8,10 @@
  * - What is written overlaps nothing else that the call is given, and no other thread reads or writes it meanwhile.
  *   What is only read may overlap, and many calls may read it at once.
  * - The library allocates by malloc, realloc and free of the C library, and frees all that it took before it returns.
- *   So it isn't called from a signal handler, nor between fork and exec in a process of many threads.
+ *   The three have to be of one allocator, and to align a block to each power of two up to 16 that divides its size.
+ *   So it isn't called from a signal handler, nor from the forked child of a process of many threads.
+ * - A call takes up to 22 KiB of the stack of its thread.
+ * - The archive is for x86-64 Linux, of processors that have popcnt (x86-64-v2).
  *
  * Nothing is kept between calls, and no call waits, prints or ends the process. A bool is 0 or 1. */
 #ifndef GRAIN_H
@@ -25,6 +28,102 @@ extern "C" {
 #define GRAIN_ASSERT _Static_assert
 #endif
 
+/* What a program asks of its host, a bit for each (docs/FORMAT.md, "Capabilities"). */
+#define GRAIN_CAP_FUNCTION 0x0001
+#define GRAIN_CAP_ARRAY 0x0002
+#define GRAIN_CAP_BLOB 0x0004
+#define GRAIN_CAP_MAP 0x0008
+#define GRAIN_CAP_FN_PTR 0x0010
+#define GRAIN_CAP_CURRYING 0x0020
+#define GRAIN_CAP_SHARING 0x0040
+#define GRAIN_CAP_THIS 0x0080
+#define GRAIN_CAP_INDEXING 0x0100
+#define GRAIN_CAP_PROPERTY 0x0200
+#define GRAIN_CAP_METHOD 0x0400
+#define GRAIN_CAP_MODULE 0x0800
+#define GRAIN_CAP_EXPORT 0x1000
+#define GRAIN_CAP_IMPORT 0x2000
+#define GRAIN_CAP_CUSTOM_SYNTAX 0x4000
+
+/* The bytes with which instructions begin (docs/FORMAT.md, "Instructions"). */
+#define GRAIN_TAG_LOAD_CONST 0x01
+#define GRAIN_TAG_UNIT 0x02
+#define GRAIN_TAG_FALSE 0x03
+#define GRAIN_TAG_TRUE 0x04
+#define GRAIN_TAG_LOAD_LOCAL 0x05
+#define GRAIN_TAG_STORE_LOCAL 0x06
+#define GRAIN_TAG_ASSIGN_LOCAL 0x07
+#define GRAIN_TAG_ASSIGN_LOCAL_OP 0x08
+#define GRAIN_TAG_DECLARE_LOCAL 0x09
+#define GRAIN_TAG_DECLARE_CONST 0x0a
+#define GRAIN_TAG_POP 0x0b
+#define GRAIN_TAG_JUMP 0x0c
+#define GRAIN_TAG_JUMP_IF_TRUE 0x0d
+#define GRAIN_TAG_JUMP_IF_FALSE 0x0e
+#define GRAIN_TAG_CALL 0x0f
+#define GRAIN_TAG_CALL_OP 0x10
+#define GRAIN_TAG_UNWIND_TO 0x11
+#define GRAIN_TAG_TICK 0x12
+#define GRAIN_TAG_RETURN 0x13
+#define GRAIN_TAG_EVAL_AST 0x14
+#define GRAIN_TAG_EVAL_AST_KEEP 0x15
+#define GRAIN_TAG_CHAIN 0x16
+#define GRAIN_TAG_MAKE_ARRAY 0x17
+#define GRAIN_TAG_SWITCH 0x18
+#define GRAIN_TAG_LOAD_NAMED 0x19
+#define GRAIN_TAG_ASSIGN_NAMED 0x1a
+#define GRAIN_TAG_ASSIGN_NAMED_OP 0x1b
+#define GRAIN_TAG_THROW 0x1c
+#define GRAIN_TAG_ITER_INIT 0x1d
+#define GRAIN_TAG_ITER_NEXT 0x1e
+#define GRAIN_TAG_ITER_DROP 0x1f
+#define GRAIN_TAG_STORE_SHARED 0x20
+#define GRAIN_TAG_ITER_NEXT_INDEXED 0x21
+#define GRAIN_TAG_POP_HANDLER 0x22
+#define GRAIN_TAG_PUSH_HANDLER 0x23
+#define GRAIN_TAG_PUSH_HANDLER_VAR 0x24
+#define GRAIN_TAG_INTERPOLATE_START 0x25
+#define GRAIN_TAG_INTERPOLATE_APPEND 0x26
+#define GRAIN_TAG_INTERPOLATE_END 0x27
+#define GRAIN_TAG_MAKE_FN_PTR 0x28
+#define GRAIN_TAG_CURRY 0x29
+#define GRAIN_TAG_CALL_FN_PTR 0x2a
+#define GRAIN_TAG_CALL_FN_PTR_METHOD 0x2b
+#define GRAIN_TAG_SHARE 0x2c
+#define GRAIN_TAG_SHARE_NAMED 0x2d
+#define GRAIN_TAG_LOAD_SHARED 0x2e
+#define GRAIN_TAG_MAKE_CLOSURE 0x2f
+#define GRAIN_TAG_IS_SHARED 0x30
+#define GRAIN_TAG_CHECKPOINT 0x31
+#define GRAIN_TAG_CHECK_ARRAY_SIZE 0x32
+#define GRAIN_TAG_CHECK_MAP_SIZE 0x33
+#define GRAIN_TAG_MAKE_MAP 0x34
+#define GRAIN_TAG_CALL_LOCAL_REF 0x35
+#define GRAIN_TAG_ROTATE 0x36
+#define GRAIN_TAG_CALL_NAMED_REF 0x37
+#define GRAIN_TAG_LOAD_SHARED_NAMED 0x38
+#define GRAIN_TAG_LOAD_THIS 0x39
+#define GRAIN_TAG_LOAD_THIS_SHARED 0x3a
+#define GRAIN_TAG_REQUIRE_THIS 0x3b
+#define GRAIN_TAG_ASSIGN_THIS 0x3c
+#define GRAIN_TAG_ASSIGN_THIS_OP 0x3d
+#define GRAIN_TAG_CALL_THIS_REF 0x3e
+#define GRAIN_TAG_CALL_FN_PTR_ON_LOCAL 0x3f
+#define GRAIN_TAG_CALL_FN_PTR_ON_NAMED 0x40
+#define GRAIN_TAG_CALL_FN_PTR_ON_THIS 0x41
+#define GRAIN_TAG_SKIP_IF_NOT_UNIT 0x42
+#define GRAIN_TAG_STATEMENT 0x47
+#define GRAIN_TAG_STORE_CONST 0x48
+#define GRAIN_TAG_CALL_FN_PTR_CAPTURE 0x49
+#define GRAIN_TAG_CUSTOM_SYNTAX 0x4a
+#define GRAIN_TAG_DECLARE_GLOBAL_CONST 0x4b
+#define GRAIN_TAG_EXPORT_LOCAL 0x4d
+#define GRAIN_TAG_EXPORT_NAMED 0x4e
+#define GRAIN_TAG_IMPORT 0x4f
+
+/* The number of this interface. grain_interface() answers that of the library: where they differ, don't call it. */
+#define GRAIN_INTERFACE 1
+
 /* What grain_verify and grain_fault_text answer. */
 #define GRAIN_ACCEPTED 0      /* all is accepted, and the numbers of the chunks are written */
 #define GRAIN_REFUSED 1       /* it is refused, and why is written */
@@ -35,7 +134,8 @@ extern "C" {
 #define GRAIN_NO_REFUSAL 1    /* the record tells no refusal */
 
 /* Why a program is refused: the kind of a grain_fault. What `first` and `second` are is said beside; 0 where nothing is. */
-#define GRAIN_FAULT_MISSING_CAPS 1             /* first: the capabilities that aren't there, second: those of the host */
+#define GRAIN_FAULT_MISSING_CAPS 1             /* first: the capabilities that aren't there, or of a constant all that it
+                                                * asks, those that are there too; second: those of the host */
 #define GRAIN_FAULT_UNDECODABLE 2              /* no instruction stands at the address */
 #define GRAIN_FAULT_TRAILING_BYTES 3           /* never answered */
 #define GRAIN_FAULT_CHUNK_OUT_OF_RANGE 4       /* at: the chunk's entry, first: its end, second: the length of the code */
@@ -214,8 +314,14 @@ GRAIN_ASSERT(sizeof(grain_instruction_row) == 28 && offsetof(grain_instruction_r
 
 /* Verifies a program: its code, its chunks, and what it has beside them. GRAIN_ACCEPTED: the number of each chunk is
  * written, the greatest operand count that any run of it reaches, and the other numbers stay; and *looked, how many
- * places the chunks reach, each for itself, which is what their walks have looked at. GRAIN_REFUSED: why is written. Else
- * nothing is. That pools are flat is tested first, and then the length of the list for the numbers. */
+ * places the chunks reach, each for itself, which is what their walks have visited. GRAIN_REFUSED: why is written. Else
+ * nothing is. That pools are flat is tested first, and then the length of the list for the numbers.
+ *
+ * No run of what is accepted leaves the starts of its chunk's instructions or lacks an operand, an iterator or a handler,
+ * and none has more operands than the number. That is said of kept runs, in which a fault that a handler catches finds at
+ * least what stood on the stacks when the handler was armed. So a machine has to step as docs/FORMAT.md says
+ * ("Verification"), and at the eight quiet instructions (Unit, Bool, Pop, Rotate, PopHandler, IterDrop, UnwindTo, Return;
+ * grain_is_quiet) it has to fault never, or only with at least that much left; at all others accepted code sees to it. */
 uint32_t grain_verify(uint16_t caps, const uint8_t *code, size_t code_len, const grain_chunk *chunks, size_t chunks_len,
                       const grain_pools *pools, uint16_t *numbers, size_t numbers_len, grain_fault *fault,
                       uint64_t *looked);
@@ -224,6 +330,13 @@ uint32_t grain_verify(uint16_t caps, const uint8_t *code, size_t code_len, const
  * many bytes it has in *size. GRAIN_SHORT: the latter alone is written. GRAIN_NO_REFUSAL, GRAIN_OUT_OF_MEMORY: nothing
  * is. No text is longer than 128 bytes. */
 uint32_t grain_fault_text(const grain_fault *fault, uint8_t *text, size_t text_len, size_t *size);
+
+/* Whether instructions that begin with this byte are quiet (above, at grain_verify). Of a byte with which none begins nothing
+ * is said. */
+bool grain_is_quiet(uint8_t tag);
+
+/* The number of the library's interface, GRAIN_INTERFACE where this header is its own. */
+uint32_t grain_interface(void);
 
 /* Counts the instructions of the whole code, or says false and gives the address of the first thing that is none. */
 bool grain_count_instructions(const uint8_t *code, size_t code_len, size_t *count);

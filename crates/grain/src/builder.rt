@@ -88,6 +88,8 @@ impl fmt::Display for BuildError {
     }
 }
 
+impl std::error::Error for BuildError {}
+
 impl From<AssembleError> for BuildError {
     ghost use Rattle.std.specs.Prelude.{◌≡◌};
     ghost use Rattle.grain.specs.Build.{of_assemble};

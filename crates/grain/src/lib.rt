@@ -1,8 +1,10 @@
 //! The verifier for untrusted Rhai Grain bytecode, and the program object. It re-exports all names of the crates below it
 //! that are for hosts, but the laws of `grain_base` and `grain_bytecode`.
 //!
-//! [`verify`] says whether a program is safe to run in place, and how many operands each of its chunks needs. What its
-//! answer means is defined in the folder `specs/` of the crate `grain_rules`, over operations where they stand (`Layout`):
+//! [`verify`] says whether a program may be run in place, and how many operands each of its chunks needs. The promise is
+//! that of *kept* runs: a machine has to step as docs/FORMAT.md says ("Verification"), and at the eight quiet instructions
+//! it faults never, or only with at least what stood when the handler was armed that catches. What the answer means is
+//! defined in the folder `specs/` of the crate `grain_rules`, over operations where they stand (`Layout`):
 //! in bytes, as `verify` is given them, or in a list, so that a program built from a list of operations by index is judged
 //! by the same words. Capabilities are made and joined through the trait [`Flags`].
 #![tactic(auto)]
@@ -21,12 +23,12 @@ pub use grain_base::{
 };
 pub use grain_bytecode::{
     AssembleError, AssignOp, BadTable, Chain, ChainPositions, Chunk, DisassembleError, Disassembly,
-    Field, Function, Instruction, Lookups, Names, Op, Pool, Positions, Receiver, Root, Starts,
-    Step, StepFlags, Strings, StringsError, StripError, Switch, SwitchRange, TableError, Tail,
-    assemble, count_instructions, decode, disassemble, names, resolve_switch_targets,
-    site_to_position, sites, tag, u16_at, u32_at, width,
+    Field, Function, Head as InstructionHead, Instruction, Lookups, Names, Op, Pool, Positions,
+    Receiver, Root, Starts, Step, StepFlags, Strings, StringsError, StripError, Switch,
+    SwitchRange, TableError, Tail, assemble, count_instructions, decode, disassemble, names,
+    resolve_switch_targets, site_to_position, sites, tag, u16_at, u32_at, width,
 };
 pub use grain_rules::{Pools, VerifyError, constant_caps};
-pub use grain_verify::{Meter, verify, verify_metered};
+pub use grain_verify::{Meter, is_quiet, verify, verify_metered};
 pub use program::{Parts, Program};
 pub use sidecar::Sidecar;

@@ -90,7 +90,8 @@ impl Program {
         None
     }
 
-    /// The index of the name of the function that [`Program::function_named`] finds, in as much time.
+    /// The index of the name of the function that [`Program::function_named`] finds, in as much time. Where a name stands
+    /// twice among the names, it is the index that this function has.
     pub fn function_name_index(&self, name: &str, argc: usize) -> Option<u32>
         ensures { result ≡ option_map (λ f. f.name)
             (find (is_named self.now.names name.now argc) self.now.functions) }

@@ -1,5 +1,5 @@
 //! Positions apart from their program.
-ghost use Rattle.std.specs.Prelude.{◌≡◌, ◌≤◌, ◌<◌, ◌^◌, ◌⊎◌, List, Option, Err, IsOk, IfOk, IfErr, OnOk, OnErr, All, Any};
+ghost use Rattle.std.specs.Prelude.{◌≡◌, ◌≤◌, ◌<◌, ◌^◌, ◌⊎◌, ◌↔◌, List, Option, Err, IsOk, IfOk, IfErr, OnOk, OnErr, All, Any};
 ghost use Rattle.grain_base.specs.declared.pos.Site.{Site};
 ghost use Rattle.grain_bytecode.specs.ChainStream.{Stream, StreamFlaw};
 ghost use Rattle.grain_bytecode.specs.Positions.{Place, entries_of};
@@ -37,8 +37,8 @@ impl Program {
         ensures ok { IfOk result (IsSidecar self.now) }
         ensures fits { IsOk result
             → All (λ entry. entry.0 < 2 ^ 32) (entries_of (places_of self.now)) }
-        ensures wide { result ≡ Err strip_error.AddressTooWide
-            → Any (λ entry. 2 ^ 32 ≤ entry.0) (entries_of (places_of self.now)) }
+        ensures wide { (result ≡ Err strip_error.AddressTooWide)
+            ↔ Any (λ entry. 2 ^ 32 ≤ entry.0) (entries_of (places_of self.now)) }
     {
         Ok(Sidecar {
             debug_id: self.parts.debug_id,
@@ -57,8 +57,8 @@ impl Program {
         ensures stripped { OnOk result (IsStripped self.old self.new) }
         ensures fits { IsOk result
             → All (λ entry. entry.0 < 2 ^ 32) (entries_of (places_of self.old)) }
-        ensures wide { result ≡ Err strip_error.AddressTooWide
-            → Any (λ entry. 2 ^ 32 ≤ entry.0) (entries_of (places_of self.old)) }
+        ensures wide { (result ≡ Err strip_error.AddressTooWide)
+            ↔ Any (λ entry. 2 ^ 32 ≤ entry.0) (entries_of (places_of self.old)) }
         ensures unchanged { OnErr result (self.new ≡ self.old) }
     {
         let sidecar = self.sidecar()?;

@@ -15,7 +15,8 @@ use std::alloc::AllocError;
 
 impl Program {
     /// The greatest operand count that any run of each chunk reaches, the main chunk before those of the functions, or why
-    /// the program is refused. It costs as much as [`verify`](crate::verify) of what the program has.
+    /// the program is refused. It costs as much as [`verify`](crate::verify) of what the program has, and promises of kept
+    /// runs, and asks of a machine, what that does.
     ///
     /// # Errors
     /// As [`verify`](crate::verify) of what the program has. `OutOfMemory` may come before any test.
@@ -39,7 +40,8 @@ impl Program {
         )
     }
 
-    /// Has each chunk declare the number that [`Program::verify`] answers for it, and costs as much.
+    /// Has each chunk declare the number that [`Program::verify`] answers for it, and costs as much. The number is that of
+    /// kept runs: what it asks of a machine is said at [`verify`](crate::verify).
     ///
     /// # Errors
     /// As [`Program::verify`], the program being unchanged.

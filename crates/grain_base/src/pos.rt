@@ -85,6 +85,8 @@ impl fmt::Display for Error {
     }
 }
 
+impl std::error::Error for Error {}
+
 /// The error as it is written in code.
 impl fmt::Debug for Error {
     ghost use Rattle.std.specs.Prelude.{Some};

@@ -39,6 +39,8 @@ impl fmt::Display for Error {
     }
 }
 
+impl std::error::Error for Error {}
+
 /// The greatest tenth group: behind nine of them one of 64 bits is left.
 const TENTH_MAX: u8 = 1;
 

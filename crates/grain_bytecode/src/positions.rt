@@ -68,6 +68,8 @@ impl fmt::Display for StripError {
     }
 }
 
+impl std::error::Error for StripError {}
+
 /// Why positions were refused.
 #[derive(Clone, Debug, PartialEq, Eq, Drop)]
 pub enum TableError {
@@ -151,6 +153,8 @@ impl fmt::Display for TableError {
         }
     }
 }
+
+impl std::error::Error for TableError {}
 
 /// The number of a program, printed as `0x` and 32 digits to the base 16.
 #[derive(Clone, Copy)]

@@ -88,6 +88,8 @@ impl fmt::Display for StreamError {
     }
 }
 
+impl std::error::Error for StreamError {}
+
 /// Reads the next slot.
 fn next_slot(stream: &[u8], at: &mut usize) -> Result<Option<Site>, varint::Error>
     ensures ok { IfOk result (λ site. (line column : ℕ)

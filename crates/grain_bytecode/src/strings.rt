@@ -65,6 +65,8 @@ impl fmt::Display for BadTable {
     }
 }
 
+impl std::error::Error for BadTable {}
+
 /// Why texts make no names.
 #[derive(Clone, Debug, PartialEq, Eq, Drop)]
 pub enum StringsError {
@@ -109,6 +111,8 @@ impl fmt::Display for StringsError {
         }
     }
 }
+
+impl std::error::Error for StringsError {}
 
 /// Names: the bytes of one after another, and where each of them starts.
 ///

@@ -1,4 +1,7 @@
-//! What `grain_verify` and `grain_fault_text` answer, by number.
+//! What `grain_verify`, `grain_fault_text` and `grain_interface` answer, by number.
+
+/// The number of the C interface, which rises with each change that a program can break by (CHANGELOG.md).
+pub const INTERFACE: u32 = 1;
 
 /// All is accepted, and the numbers of the chunks are written.
 pub const ACCEPTED: u32 = 0;

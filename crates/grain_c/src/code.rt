@@ -1,11 +1,14 @@
 //! Code, instruction by instruction.
 ghost use Rattle.std.specs.Prelude.{◌≡◌, ◌+◌, List, Ok, Err, cond, sum_by};
 ghost use Rattle.std.specs.Bool.{OnFalse, OnTrue};
+ghost use Rattle.grain.specs.InstructionTable.{form};
+ghost use Rattle.grain.specs.Sinking.{is_quiet};
 ghost use Rattle.grain.specs.Split.{IsCount, NoneStandsAt, StandsAt};
 ghost use Rattle.grain_bytecode.specs.declared.Op.{Op};
 ghost use Rattle.grain_flat.specs.Instruction.{field_size, instruction_row};
 
-use grain::{count_instructions, decode};
+use crate::answers::INTERFACE;
+use grain::{count_instructions, decode, is_quiet};
 use grain_flat::kinds::{COUNT, NOTHING, TARGET};
 use grain_flat::{CField, CInstruction, fields_of};
 
@@ -24,6 +27,23 @@ pub extern "C" fn grain_count_instructions(code: &[u8], count: &mut usize) -> bo
             false
         }
     }
+}
+
+/// Whether instructions that begin with this byte are quiet: a machine has to fault at them never, or only with at least what
+/// stood when the last handler was armed. Of a byte with which none begins nothing is said.
+#[unsafe(no_mangle)]
+pub extern "C" fn grain_is_quiet(tag: u8) -> bool
+    ensures { (op : Op) → (form op).0 ≡ tag → result ≡ is_quiet op }
+{
+    is_quiet(tag)
+}
+
+/// The number of the interface of this library.
+#[unsafe(no_mangle)]
+pub extern "C" fn grain_interface() -> u32
+    ensures { result ≡ INTERFACE }
+{
+    INTERFACE
 }
 
 /// How many bytes a field takes; an empty one takes none.

@@ -1,7 +1,8 @@
 //! Verification, over pools in their flat form.
-ghost use Rattle.std.specs.Prelude.{◌≡◌, ◌≢◌, ◌-◌, ◌^◌, ◌<◌, ◌≤◌, ◌↔◌, ◌++◌, ℕ, List, Option, drop, length, min};
+ghost use Rattle.std.specs.Prelude.{◌≡◌, ◌≢◌, ◌-◌, ◌^◌, ◌<◌, ◌≤◌, ◌↔◌, ◌++◌, ℕ, All, List, Option, drop, length, min};
 ghost use Rattle.grain.specs.declared.VerifyError.{VerifyError};
 ghost use Rattle.grain_flat.specs.Answers.{Accepts, Looks, Refuses, told};
+ghost use Rattle.grain_flat.specs.Asking.{RowPasses};
 ghost use Rattle.grain_flat.specs.Flat.{Pooled};
 
 use crate::answers::{ACCEPTED, NOT_FLAT, OUT_OF_MEMORY, REFUSED, SHORT};
@@ -28,7 +29,8 @@ fn put(room: &mut [u16], numbers: &[u16])
 ///
 /// 0 where it is accepted: then the number of each chunk is written, the greatest operand count that any run of it
 /// reaches, and how many instructions were looked at. 1 where it is refused: then why is written. 2 where there are fewer
-/// numbers than chunks, 3 where memory was wanted, 4 where no pools have this flat form, which is tested first.
+/// numbers than chunks, 3 where memory was wanted, as it is only where the constants pass, 4 where no pools have this flat
+/// form, which is tested first.
 #[unsafe(no_mangle)]
 pub extern "C" fn grain_verify(
     alloc: Global,
@@ -56,6 +58,7 @@ pub extern "C" fn grain_verify(
     ensures not_flat { (result ≡ NOT_FLAT) ↔ (Pooled pools.now → ⊥) }
     ensures short { (result ≡ SHORT) ↔ (Pooled pools.now
         × (length numbers.old < length chunks.now)) }
+    ensures memory { result ≡ OUT_OF_MEMORY → All (RowPasses caps) pools.now.constants.now }
     ensures answers { result ≤ 4 }
 
     // What isn't written stays as it was.

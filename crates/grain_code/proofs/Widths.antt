@@ -1,10 +1,10 @@
 -- The width of a tag is that of each instruction with it, and as many bytes behind a tag are an instruction.
-use Rattle.std.proofs.Common.{◌≡◌, ℕ, zero, suc, ◌+◌, ◌-◌, ◌<◌, ◌≤◌, ◌⊎◌, inl, inr, List, [], ◌∷◌, length, take, drop, get_or, map, Option, Some, None, refl, sym, ap, ◌∙◌, arith, add-one, drop-cons}
-use Rattle.std.specs.Prelude.{sum_by}
+use Rattle.std.proofs.Common.{◌≡◌, ◌≢◌, ℕ, zero, suc, ◌+◌, ◌-◌, ◌<◌, ◌≤◌, ◌⊎◌, inl, inr, List, [], ◌∷◌, length, take, drop, get_or, map, Option, Some, None, refl, sym, ap, ◌∙◌, arith, add-one, drop-cons}
+use Rattle.std.specs.Prelude.{sum_by, replicate}
 use Rattle.std.specs.List.{Contains}
 use Rattle.std.specs.Option.{option_map_or}
 use Rattle.std.proofs.lemmas.Bool.{eqb-true}
-use Rattle.std.proofs.lemmas.List.{get_or-map, length-take, length-drop}
+use Rattle.std.proofs.lemmas.List.{get_or-map, length-take, length-drop, length-replicate}
 use Rattle.std.proofs.lemmas.List.FromFn.{get_or-map-range_with_len}
 use Rattle.std.proofs.lemmas.List.Sums.{sum_by-cons}
 use Rattle.std.proofs.lemmas.Map.Views.{Contains-from_lookup}
@@ -63,6 +63,22 @@ is_instruction tag operands all wide =
         spelled = rw form_is (ap (λ xs. tag ∷ xs) there.0);
       },
     )
+
+zeros_are_bytes : (n : ℕ) → IsBytes (replicate n 0)
+zeros_are_bytes zero i = omega arith
+zeros_are_bytes (suc n) zero = omega arith
+zeros_are_bytes (suc n) (suc i) = zeros_are_bytes n i
+
+-- a tag that no operation has is no bytes wide
+pub untaken_width : (tag : ℕ) → ((op : Op) → (form op).0 ≢ tag) → tag_width tag ≡ 0
+untaken_width tag none = of_width (tag_width tag) refl
+  where
+    of_width : (w : ℕ) → tag_width tag ≡ w → w ≡ 0
+    of_width zero is = refl
+    of_width (suc n) is =
+        let long : suc n ≡ length (replicate n 0) + 1 = omega (arith, length-replicate {A = ℕ} n 0) in
+        let it = is_instruction tag (replicate n 0) (zeros_are_bytes n) (is ∙ long) in
+        absurd (none it.0 (sym (ap (λ (bytes : List ℕ). get_or bytes 0 0) it.1.spelled)))
 
 front_is : (tag n : ℕ) (rest : List ℕ) → take (n + 1) (tag ∷ rest) ≡ tag ∷ take n rest
 front_is tag n rest = rw add-one refl

@@ -10,15 +10,23 @@ use crate::tag;
 use crate::tag_widths::WIDTHS;
 
 /// The pools of a program that an index can go into.
-#[derive(Clone, Copy)]
+#[derive(Clone, Copy, Debug, PartialEq, Eq)]
 pub enum Pool {
+    /// Values.
     Constants,
+    /// Names.
     Names,
+    /// Operators.
     Operators,
+    /// Op-assignments.
     OpAssignments,
+    /// Fragments of syntax that weren't compiled.
     Fragments,
+    /// Chains.
     Chains,
+    /// Switches.
     Switches,
+    /// Sites of custom syntax.
     SyntaxSites,
 }
 
@@ -41,7 +49,7 @@ impl Pool {
 }
 
 /// A field of an instruction and its value, as contracts on code speak of them.
-#[derive(Clone, Copy)]
+#[derive(Clone, Copy, Debug, PartialEq, Eq)]
 pub enum Field {
     /// An index into a pool, of two bytes.
     Index(Pool, u32),

@@ -1,5 +1,5 @@
 //! An instruction where it stands in code, as its bytes.
-ghost use Rattle.std.specs.Prelude.{◌≡◌, ℕ, ◌+◌, ◌≤◌, ◌∷◌, IfSome, IfNone, List, Some, length};
+ghost use Rattle.std.specs.Prelude.{◌≡◌, ℕ, ◌+◌, ◌<◌, ◌≤◌, ◌∷◌, IfSome, IfNone, List, None, Some, length};
 ghost use Rattle.grain_code.specs.InstructionTable.{Instr, form, width_of};
 ghost use Rattle.grain_code.specs.Split.{StandsAt, NoneStandsAt};
 ghost use Rattle.grain_code.specs.declared.field.Field.{Field};
@@ -52,9 +52,10 @@ impl<'a> Instruction<'a> {
     #[inline(always)]
     #[must_use]
     pub fn target(&self) -> Option<u32>
-        ensures { (op : Op) (target : ℕ) (others : List Field)
+        ensures first { (op : Op) (target : ℕ) (others : List Field)
             → Instr (self.now.tag ∷ self.now.fields.now) op
             → (form op).1 ≡ Target target ∷ others → result ≡ Some target }
+        ensures short { length self.now.fields.now < 4 → result ≡ None }
     {
         match self.fields {
             [a, b, c, d, ..] => Some(u32::from_le_bytes([*a, *b, *c, *d])),

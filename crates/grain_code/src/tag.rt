@@ -78,7 +78,7 @@ pub const LOAD_NAMED: u8 = 0x19;
 /// Pops and assigns to the variable of a name. Fields: name.
 pub const ASSIGN_NAMED: u8 = 0x1a;
 
-/// The same through an operator. Fields: name, op-assignment.
+/// Pops and assigns to the variable of a name through an operator. Fields: name, op-assignment.
 pub const ASSIGN_NAMED_OP: u8 = 0x1b;
 
 /// Pops a value and raises it.
@@ -180,7 +180,7 @@ pub const REQUIRE_THIS: u8 = 0x3b;
 /// Pops and assigns to `this`.
 pub const ASSIGN_THIS: u8 = 0x3c;
 
-/// The same through an operator. Fields: op-assignment.
+/// Pops and assigns to `this` through an operator. Fields: op-assignment.
 pub const ASSIGN_THIS_OP: u8 = 0x3d;
 
 /// Calls a function on `this` by reference. Fields: name, argument count.

@@ -1,6 +1,6 @@
 //! How many bytes instructions take, by their tags.
 
-ghost use Rattle.std.specs.Prelude.{◌≡◌, ◌+◌, ◌<◌, ◌≤◌, IfSome, IfNone, Some, length, slice_get};
+ghost use Rattle.std.specs.Prelude.{◌≡◌, ◌≢◌, ◌+◌, ◌<◌, ◌≤◌, IfSome, IfNone, Some, length, slice_get};
 ghost use Rattle.grain_code.specs.InstructionTable.{form, width_of};
 ghost use Rattle.grain_code.specs.Split.{StandsAt, NoneStandsAt};
 ghost use Rattle.grain_code.specs.declared.op.Op.{Op};
@@ -30,13 +30,15 @@ pub struct Head {
 impl Head {
     /// The head at an address, or `None` past the end of the code.
     ///
-    /// Whether an instruction stands there it doesn't say. It takes no memory, and constant time.
+    /// The width is 0 where no instruction has the tag; whether an instruction stands there it doesn't say. It takes no
+    /// memory, and constant time.
     #[inline(always)]
     #[must_use]
     pub fn at(code: &[u8], at: usize) -> Option<Head>
         ensures tag { IfSome result (λ h. slice_get code.now at ≡ Some h.tag) }
         ensures width { IfSome result (λ h. (op : Op) → (form op).0 ≡ h.tag
             → h.width ≡ width_of op) }
+        ensures untaken { IfSome result (λ h. ((op : Op) → (form op).0 ≢ h.tag) → h.width ≡ 0) }
         ensures none { IfNone result (length code.now ≤ at) }
     {
         if at >= code.len() {

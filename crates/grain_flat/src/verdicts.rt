@@ -1,8 +1,10 @@
 //! The verdict on all that has a flat form.
 ghost use Rattle.std.specs.Prelude.{◌≡◌, All, IfOk, length};
+ghost use Rattle.std.specs.Result.{IsErrOf};
 ghost use Rattle.grain_flat.specs.Flat.{IsFlat};
 ghost use Rattle.grain_flat.specs.Asking.{RowPasses};
 ghost use Rattle.grain_flat.specs.Judging.{AreSome, IsFlatMetered, IsFlatVerdict, IsMadeOf};
+ghost use Rattle.grain_flat.specs.declared.judge.Stop.{Stop};
 
 use crate::asking::first_refused;
 use crate::build::{Made, make};
@@ -96,6 +98,8 @@ pub fn verdict(
     ensures verdict { IsFlatVerdict caps.0 code.now chunks.now pools.now result }
     ensures metered { IsFlatMetered
         caps.0 code.now chunks.now pools.now meter.old meter.new result }
+    ensures memory { IsErrOf result Stop.OutOfMemory
+        → All (RowPasses caps.0) pools.now.constants.now }
 {
     if let Some(missing) = first_refused(caps, pools.constants) {
         return Err(Stop::Refused(Refusal {

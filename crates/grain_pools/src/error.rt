@@ -86,3 +86,5 @@ impl fmt::Display for AssembleError {
         }
     }
 }
+
+impl std::error::Error for AssembleError {}

@@ -59,7 +59,8 @@ pub enum VerifyError {
     DepthConflict {
         /// The address where they meet.
         at: usize,
-        /// How many operands the first path has there.
+        /// How many operands the path that came there first has there. That it is the first's, and not the other's, is
+        /// proved of the walk alone and promised by no public contract.
         expected: usize,
         /// How many operands the other path has there.
         found: usize,
@@ -168,6 +169,8 @@ impl fmt::Display for VerifyError {
         }
     }
 }
+
+impl std::error::Error for VerifyError {}
 
 impl From<AllocError> for VerifyError {
     ghost from_gives = { λ _ e. e ≡ OutOfMemory };

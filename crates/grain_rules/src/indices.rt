@@ -319,14 +319,15 @@ fn bad_constant(cases: &HashMap<Dynamic, (u32, u32)>, consts: usize) -> Option<u
     None
 }
 
-/// The same of the cases of a switch.
+/// A constant of a switch's case that is at or above the number of constants, if there is one.
 fn bad_constant_in(switch: &Switch, consts: usize) -> Option<u32>
     ensures { result ≡ first_past consts (case_consts switch.now) }
 {
     bad_constant(switch.cases.as_ref()?, consts)
 }
 
-/// The same of the switch at an index, unless its cases have passed before.
+/// A constant of a case, of the switch at an index, that is at or above the number of constants, if there is one. Where
+/// these cases have passed before, there is none.
 #[tactic(auto, using(crate::proofs::Passing::cases_more))]
 fn bad_constant_at(pools: &Pools<'_>, passed: &mut [u64], index: u32) -> Option<u32>
     requires { CasesPass pools.now passed.old }
@@ -344,7 +345,8 @@ fn bad_constant_at(pools: &Pools<'_>, passed: &mut [u64], index: u32) -> Option<
     bad
 }
 
-/// The same of the switch that an operation names.
+/// A constant of a case, of the switch that an operation names, that is at or above the number of constants, if there is
+/// one.
 fn bad_constant_of(pools: &Pools<'_>, passed: &mut [u64], op: &Op) -> Option<u32>
     requires { CasesPass pools.now passed.old }
     ensures passed { CasesPass pools.now passed.new }
@@ -426,7 +428,7 @@ fn check_at<const N: usize>(
     }
 }
 
-/// The same as `check_code`, where nothing has passed yet.
+/// Tests that the code is whole instructions whose indices are in bounds, where what has passed is known to pass.
 fn check_instructions<const N: usize>(
     pools: &Pools<'_>,
     passed: &mut Passed<N>,

@@ -1,6 +1,6 @@
 //! The tests of `grain`, which call it as a host does: a test that changes has no crate proved again but this one.
 //!
-//! `host` shows how a host calls the verifier. `changes` and `large` have what strangers may hand over: code that was
+//! `host` shows how a host calls the verifier. `changes`, `large` and `many` have what strangers may hand over: code that was
 //! changed on its way, and pools that all instructions name. `growths` has what a call leaves where there is no memory.
 #![tactic(auto)]
 
@@ -22,6 +22,8 @@ mod indices;
 mod large;
 #[cfg(test)]
 mod lookup;
+#[cfg(test)]
+mod many;
 #[cfg(test)]
 mod meter;
 #[cfg(test)]

@@ -170,6 +170,11 @@ fn programs_are_printed_by_their_counts(rt: HostRuntime) -> Result<(), Fail> {
         format!(in alloc; "{program:?}")?,
         format!(in alloc; "Program {{ source: Some(\"sums.rhai\"), {counts}, positions: true }}")?
     );
+
+    // What is printed is what the top level declares, though a function declares more.
+    assert!(rt; program.tighten_stack().is_ok());
+    assert_eq!(rt; program.max_stack(), 2);
+    assert!(rt; format!(in alloc; "{program:?}")?.contains("max_stack: 1,"));
     Ok(())
 }
 

@@ -20,4 +20,5 @@ mod verifier;
 mod walk;
 
 pub use meter::Meter;
+pub use sinking::is_quiet;
 pub use verifier::{verify, verify_metered};

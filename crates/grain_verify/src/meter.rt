@@ -6,7 +6,8 @@ use std::marker::Model;
 
 /// Counts the instructions that the verifier's walks look at, so that a host can bound what scripts cost it.
 ///
-/// A walk looks at each instruction that it reaches once, chunk by chunk. A meter at the greatest `u128` stays there.
+/// A walk visits each instruction that it reaches once, chunk by chunk, and that visit is what counts: reading code before
+/// the walk doesn't, nor does comparing where paths meet. A meter at the greatest `u128` stays there.
 #[derive(Clone, Copy, Debug, Default, PartialEq, Eq)]
 pub struct Meter {
     count: u128,

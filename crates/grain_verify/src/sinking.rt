@@ -117,9 +117,12 @@ fn check_sinking(tag: u8, at: u32, left: Base, last: Base) -> Result<(), VerifyE
     })
 }
 
-/// Whether instructions with this tag are quiet.
+/// Whether instructions with this tag are quiet: those eight (docs/FORMAT.md, "Verification") at which a machine has to fault
+/// never, or only with at least what stood when the last handler was armed. Of a byte with which no instruction begins
+/// nothing is said.
 #[inline(always)]
-fn is_quiet(tag: u8) -> bool
+#[must_use]
+pub fn is_quiet(tag: u8) -> bool
     ensures { (op : Op) → (form op).0 ≡ tag → result ≡ is_quiet op }
 {
     QUIET[tag as usize]

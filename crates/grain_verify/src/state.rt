@@ -167,7 +167,7 @@ impl State {
         u64::from(last.operands)
     }
 
-    /// The same where the last handler has just been armed: all that stand.
+    /// How many operands have to stay where the last handler has just been armed: all that stand.
     #[inline(always)]
     pub(crate) fn floor_armed(self) -> u64
         ensures small { result ≤ 2 ^ 32 }

@@ -79,7 +79,7 @@ fn walk_chunks(
     Ok(deepest)
 }
 
-/// The same, of code that is whole instructions.
+/// The deepest operand stack of each chunk of code that is whole instructions, or why the first is refused that is.
 fn verify_chunks(
     alloc: Global,
     caps: Caps,
@@ -116,6 +116,13 @@ fn verify_chunks(
 
 /// The greatest operand count that any run of each chunk reaches, chunk by chunk, or why the program is refused.
 ///
+/// What is accepted may be run in place on stacks of as many operands: no run lacks an operand, an iterator or a handler,
+/// or leaves the starts of the chunk's instructions. The promise and the numbers are those of *kept* runs, in which a
+/// fault that a handler catches finds at least what stood when the handler was armed. So a machine has to step as
+/// docs/FORMAT.md says ("Verification"), and at the eight quiet instructions (`Unit`, `Bool`, `Pop`, `Rotate`,
+/// `PopHandler`, `IterDrop`, `UnwindTo`, `Return`) it has to fault never, or only with at least that much left; at all
+/// others accepted code sees to it.
+///
 /// The constants are tested first, then every instruction of the code and its indices, then whether functions are
 /// allowed, and then the chunks in order (docs/FORMAT.md, "Verification"). The first three take no memory. `consts` are
 /// the constants themselves, while `pools.consts` bounds the indices that name one. What it costs is in docs/COSTS.md.
@@ -146,8 +153,9 @@ pub fn verify(
     )
 }
 
-/// The same as [`verify`]. The meter counts each instruction that the walks look at: where the program is accepted those
-/// that each chunk reaches, else no more than those that each chunk has.
+/// Verifies as [`verify`] does, with the same promise of kept runs, which asks the same of a machine, and counts the
+/// instructions that the walks visit: where the program is accepted those that each chunk reaches, else no more than
+/// those that each chunk has.
 ///
 /// # Errors
 /// Those of [`verify`].

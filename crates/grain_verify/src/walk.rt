@@ -311,8 +311,8 @@ impl Prepared<'_> {
         self.follow_passing(chunk, here, &instruction, effect, lists, traversal)
     }
 
-    /// The same for an instruction that goes on and needs no iterator, of which its tag tells all, and that finds the operands
-    /// that it needs above the floor. It answers the next arrival.
+    /// Visits an instruction that goes on and needs no iterator, of which its tag tells all, and that finds the operands that
+    /// it needs above the floor. It answers the next arrival.
     #[inline(always)]
     fn visit_told(
         &self,

@@ -80,6 +80,14 @@ impl Instruction {
     pub fn fields(&self) -> impl Iterator<Item = Field> + '_ {
         self.fields.iter().flatten().copied()
     }
+
+    /// Whether it is quiet: a machine has to fault at it never, or only with at least what stood when the last handler was
+    /// armed ([what a host owes](crate#what-a-host-owes)).
+    #[must_use]
+    pub fn is_quiet(&self) -> bool {
+        // SAFETY: a number is all that the function is given.
+        unsafe { raw::grain_is_quiet(self.tag) }
+    }
 }
 
 /// How many instructions the whole code is.

@@ -1,9 +1,16 @@
 //! The proved verifier for untrusted Rhai Grain bytecode, in the host's process.
 //!
-//! [`verify`] says whether a program is safe to run in place, and how many operands each of its chunks needs. It accepts
+//! [`verify`] says whether a program may be run in place, and how many operands each of its chunks needs. It accepts
 //! exactly the programs that the written rules accept, want of memory aside, which is proved. This package is what a Rust
 //! program needs around the library's C functions: it owes what they ask of their callers, and has no `unsafe` beyond
 //! these calls.
+//!
+//! # What a host owes
+//! The promise and the numbers are those of *kept* runs, in which a fault that a handler catches finds at least what stood
+//! on the stacks when the handler was armed. So a machine has to step as docs/FORMAT.md says ("Verification"), and at the
+//! eight quiet instructions (`Unit`, `Bool`, `Pop`, `Rotate`, `PopHandler`, `IterDrop`, `UnwindTo`, `Return`;
+//! [`Instruction::is_quiet`]) it has to fault never, or only with at least that much left; at all others accepted code
+//! sees to it.
 //!
 //! ```
 //! use grain::{caps, verify, Case, Chunk, Pools, Root, Step, Tail};
@@ -84,10 +91,18 @@ pub struct Chunk {
     pub max_stack: u16,
 }
 
+/// Whether the library that is linked has the interface that this package was written for.
+#[must_use]
+pub fn is_own_library() -> bool {
+    // SAFETY: the function is given nothing.
+    unsafe { raw::grain_interface() == raw::INTERFACE }
+}
+
 /// The greatest operand count that any run of each chunk reaches, chunk by chunk.
 ///
-/// `caps` are the capabilities of the host ([`caps`]). What is accepted may be run in place, without tests of its own,
-/// on stacks of as many operands: no run lacks an operand, an iterator or a handler, and none leaves the instructions.
+/// `caps` are the capabilities of the host ([`caps`]). What is accepted may be run in place on stacks of as many operands,
+/// by a machine that does as [a host owes](crate#what-a-host-owes): no kept run lacks an operand, an iterator or a
+/// handler, and none leaves the instructions.
 ///
 /// # Errors
 /// Why the program is refused. Want of memory and pools that are too large for their flat form are faults too, of which
@@ -98,8 +113,8 @@ pub fn verify(caps: u16, code: &[u8], chunks: &[Chunk], pools: &Pools) -> Result
     Ok(numbers)
 }
 
-/// The same as [`verify`], with the numbers written into the front of a list of the caller's, and how many places the
-/// chunks reach, each for itself: so many instructions were looked at, which bounds what scripts cost their host.
+/// Verifies as [`verify`] does, writes the numbers into the front of a list of the caller's, and answers how many places
+/// the chunks reach, each for itself: so many instructions were visited, which bounds what scripts cost their host.
 ///
 /// # Errors
 /// Those of [`verify`], and then nothing is written.

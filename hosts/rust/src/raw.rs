@@ -6,6 +6,7 @@ pub(crate) const REFUSED: u32 = 1;
 pub(crate) const OUT_OF_MEMORY: u32 = 3;
 pub(crate) const NOT_FLAT: u32 = 4;
 pub(crate) const WRITTEN: u32 = 0;
+pub(crate) const INTERFACE: u32 = 1;
 
 pub(crate) const NO_CHUNK: u64 = u64::MAX;
 
@@ -124,6 +125,8 @@ extern "C" {
         text_len: usize,
         size: *mut usize,
     ) -> u32;
+    pub(crate) fn grain_is_quiet(tag: u8) -> bool;
+    pub(crate) fn grain_interface() -> u32;
     pub(crate) fn grain_count_instructions(
         code: *const u8,
         code_len: usize,

@@ -1,6 +1,6 @@
 //! Generated programs, judged by the library and by the line program alike.
 //!
-//! `hosts/build` names the line program by GRAIN_CHECK; without it nothing is compared.
+//! `hosts/build` names the line program by GRAIN_CHECK, and runs the test that compares with it, which is left out elsewhere.
 mod common;
 
 use common::line_of;
@@ -142,11 +142,9 @@ fn case(chance: &mut Chance) -> (String, String) {
 }
 
 #[test]
+#[ignore = "compares with the line program, which GRAIN_CHECK has to name"]
 fn generated_programs_are_judged_alike() {
-    let Some(program) = std::env::var_os("GRAIN_CHECK") else {
-        eprintln!("GRAIN_CHECK names no line program: nothing is compared");
-        return;
-    };
+    let program = std::env::var_os("GRAIN_CHECK").expect("GRAIN_CHECK names the line program");
     let mut chance = Chance(1);
     let (lines, said): (Vec<_>, Vec<_>) = (0..PROGRAMS).map(|_| case(&mut chance)).unzip();
     let mut child = Command::new(program)

@@ -58,7 +58,7 @@ pub(super) fn sample(alloc: Global) -> Result<TestPools, Fail> {
     with_names(alloc, &["x", "y", "+=", "+"])
 }
 
-/// The same with other names.
+/// Pools with these names, the constants 5 and 1, and one of each other thing.
 pub(super) fn with_names(alloc: Global, names: &[&str]) -> Result<TestPools, Fail> {
     let plus = AssignOp {
         op_assign: Token::PlusAssign,

@@ -51,3 +51,5 @@ impl fmt::Display for DisassembleError {
         }
     }
 }
+
+impl std::error::Error for DisassembleError {}
