@@ -119,7 +119,8 @@ module _ (offsets : List ℕ) where
   listed_targets [] = refl
   listed_targets (c ∷ cs) = ap (λ (rest : List ℕ). offset_at offsets c.1.0 ∷ rest) (listed_targets cs)
 
-  case_targets : (cases : Option (List Case)) → map (λ (c : Case). c.1.0) (dispatch.listed (option_map (map (λ (c : Case). (c.0, resolved_case offsets c.1))) cases)) ≡ map (offset_at offsets) (map (λ (c : Case). c.1.0) (dispatch.listed cases))
+  case_targets : (cases : Option (List Case))
+      → map (λ (c : Case). c.1.0) (dispatch.listed (option_map (map (λ (c : Case). (c.0, resolved_case offsets c.1))) cases)) ≡ map (offset_at offsets) (map (λ (c : Case). c.1.0) (dispatch.listed cases))
   case_targets None = refl
   case_targets (Some cs) = listed_targets cs
 
@@ -145,7 +146,8 @@ module _ (offsets : List ℕ) where
   all_targets n (a ∷ all) count h =
       λ i. (targets_resolved a ∙ offsets_within n (targets a) count (h 0 [] (omega arith))) i ∷ all_targets n all count (λ k d l. h (suc k) d (omega arith)) i
 
-same_targets : (offsets : List ℕ) (n : ℕ) (new old : List Switch) → length offsets ≡ n + 1 → LeadWithin n (map switch_targets old) → map arms new ≡ map (resolved offsets) (map arms old) → map switch_targets new ≡ map (map (slice_index offsets)) (map switch_targets old)
+same_targets : (offsets : List ℕ) (n : ℕ) (new old : List Switch) → length offsets ≡ n + 1 → LeadWithin n (map switch_targets old)
+    → map arms new ≡ map (resolved offsets) (map arms old) → map switch_targets new ≡ map (map (slice_index offsets)) (map switch_targets old)
 same_targets offsets n new old count fit e =
     let cut = map-map targets arms old in
     sym (map-map targets arms new)
@@ -208,7 +210,8 @@ module _ (d : Draft) (p : Program) (lays : CanLay d) (laid : IsLaid d p) where
     code = (
       map (assembled laid.offsets) d.ops,
       laid.code.written,
-      subst (λ (t : Setting). All (Indexed t) (map (assembled laid.offsets) d.ops)) (sym same_setting) (All-map (Indexed s) (assembled laid.offsets) d.ops (All-weaker (Indexed s) (λ op. Indexed s (assembled laid.offsets op)) (indexed_there s laid.offsets) d.ops h.indexed)),
+      subst (λ (t : Setting). All (Indexed t) (map (assembled laid.offsets) d.ops)) (sym same_setting)
+          (All-map (Indexed s) (assembled laid.offsets) d.ops (All-weaker (Indexed s) (λ op. Indexed s (assembled laid.offsets op)) (indexed_there s laid.offsets) d.ops h.indexed)),
     );
     functions = λ some. subst (λ (c : Caps). Allows c.0 FUNCTION) (sym same_caps) (h.functions (λ none. some (no_functions p.functions (laid.heads ∙ none))));
     chunks =
@@ -224,7 +227,8 @@ module _ (d : Draft) (p : Program) (lays : CanLay d) (laid : IsLaid d p) where
     constants = λ k v l. subst (λ (A : Type 0). A) constants_same h.constants k v l;
     indexed = λ k op l.
         let code = h.code in
-        let one = (one_front code.0 (map (assembled laid.offsets) d.ops) [] [] code.1.each laid.code.written.each begins_none_nil begins_none_nil (ap (λ (b : List ℕ). b ++ []) (sym code.1.whole ∙ laid.code.written.whole))).0 in
+        let one = (one_front code.0 (map (assembled laid.offsets) d.ops) [] [] code.1.each laid.code.written.each begins_none_nil begins_none_nil
+        (ap (λ (b : List ℕ). b ++ []) (sym code.1.whole ∙ laid.code.written.whole))).0 in
         let indexed : All (Indexed s) (map (assembled laid.offsets) d.ops) = subst (All (Indexed s)) one (subst (λ (t : Setting). All (Indexed t) code.0) same_setting code.2) in
         indexed_here s laid.offsets _ (All-before_map (Indexed s) (assembled laid.offsets) d.ops indexed k op l);
     functions = λ some. subst (λ (c : Caps). Allows c.0 FUNCTION) same_caps (h.functions (λ none. some (sym laid.heads ∙ ap (map head_of) none)));

@@ -42,7 +42,8 @@ declared_next functions numbers i f d l m e h =
     ∙ sym (take_more numbers i d m)
 
 -- each chunk declares its number
-pub all_declared : (numbers : List ℕ) (main : ℕ) (functions items : List Function) → items ≡ functions → main ≡ get_or numbers 0 0 → map (λ g. g.chunk.max_stack) functions ≡ take (length numbers - 1) (drop 1 numbers) → 0 < length numbers
+pub all_declared : (numbers : List ℕ) (main : ℕ) (functions items : List Function) → items ≡ functions → main ≡ get_or numbers 0 0
+    → map (λ g. g.chunk.max_stack) functions ≡ take (length numbers - 1) (drop 1 numbers) → 0 < length numbers
     → main ∷ map (λ chunk. chunk.max_stack) (map (λ g. g.chunk) items) ≡ numbers
 all_declared [] main functions items same e h l = absurd (omega arith)
 all_declared (n ∷ ns) main functions items same e h l =

@@ -37,7 +37,8 @@ or_next v None o none = refl
 or_next v (Some a) o none = absurd (false≢true (sym none))
 
 -- what is kept is the first of those before: it stays the first where there was one
-pub kept_stays : {A X : Type 0} (v : A → X) (p : X → Bool) (xs : List X) (i : ℕ) (x : X) (kept : Option A) → i < length xs → x ≡ get_or xs i x → option_map v kept ≡ find p (take i xs) → is_some kept ≡ true → option_map v kept ≡ find p (take (i + 1) xs)
+pub kept_stays : {A X : Type 0} (v : A → X) (p : X → Bool) (xs : List X) (i : ℕ) (x : X) (kept : Option A) → i < length xs → x ≡ get_or xs i x
+    → option_map v kept ≡ find p (take i xs) → is_some kept ≡ true → option_map v kept ≡ find p (take (i + 1) xs)
 kept_stays v p xs i x kept l e is some =
     sym (first_more p xs i x l e ∙ ap (λ o. option_or o (cond (p x) (Some x) None)) (sym is) ∙ or_kept v kept (cond (p x) (Some x) None) some)
 
@@ -47,7 +48,8 @@ kept_fails p xs i x kept l e is f =
     is ∙ sym (first_more p xs i x l e ∙ ap (λ b. option_or (find p (take i xs)) (cond b (Some x) None)) f ∙ or_none (find p (take i xs)))
 
 -- where none was kept, the next is the first if it passes
-pub kept_first : {A X : Type 0} (v : A → X) (p : X → Bool) (xs : List X) (i : ℕ) (x : X) (kept : Option A) → i < length xs → x ≡ get_or xs i x → option_map v kept ≡ find p (take i xs) → is_some kept ≡ false → p x ≡ true → Some x ≡ find p (take (i + 1) xs)
+pub kept_first : {A X : Type 0} (v : A → X) (p : X → Bool) (xs : List X) (i : ℕ) (x : X) (kept : Option A) → i < length xs → x ≡ get_or xs i x
+    → option_map v kept ≡ find p (take i xs) → is_some kept ≡ false → p x ≡ true → Some x ≡ find p (take (i + 1) xs)
 kept_first v p xs i x kept l e is none t =
     sym (first_more p xs i x l e
     ∙ (λ k. option_or (sym is k) (cond (t k) (Some x) None))

@@ -31,7 +31,8 @@ pub record ArePools (p : Program) (pools : Pools) : Type 0 where
   pub chains : pools.chains.now ≡ p.chains
   pub switches : pools.switches.now ≡ p.switches
 
-pub same_input : (p : Program) (caps : Caps) (consts : List Dynamic) (bytes : List ℕ) (functions : List Function) (chunks : List Span) (pools : Pools) → caps ≡ p.caps → consts ≡ p.consts → bytes ≡ p.code → functions ≡ p.functions → chunks ≡ chunks_of p → ArePools p pools → input caps consts bytes functions chunks pools ≡ input_of p
+pub same_input : (p : Program) (caps : Caps) (consts : List Dynamic) (bytes : List ℕ) (functions : List Function) (chunks : List Span) (pools : Pools) → caps ≡ p.caps
+    → consts ≡ p.consts → bytes ≡ p.code → functions ≡ p.functions → chunks ≡ chunks_of p → ArePools p pools → input caps consts bytes functions chunks pools ≡ input_of p
 same_input p caps consts bytes functions chunks pools e a b f g h = λ i. record {
   code = record {
     setting = record {

@@ -1,5 +1,6 @@
 -- What was stripped off a program comes back.
-use Rattle.std.proofs.Common.{◌≡◌, ◌≢◌, ℕ, ◌+◌, ◌-◌, ◌<◌, ◌≤◌, ◌^◌, inl, inr, zero, suc, Bool, true, false, cond, ◌||◌, List, [], ◌∷◌, length, map, Option, Some, None, is_some, is_none, unwrap_or, option_map, option_and_then, nat_eq, nat_le, nat_lt, slice_get, refl, sym, ap, subst, ◌∙◌, arith}
+use Rattle.std.proofs.Common.{◌≡◌, ◌≢◌, ℕ, ◌+◌, ◌-◌, ◌<◌, ◌≤◌, ◌^◌, inl, inr, zero, suc, Bool, true, false, cond, ◌||◌, List, [], ◌∷◌}
+use Rattle.std.proofs.Common.{length, map, Option, Some, None, is_some, is_none, unwrap_or, option_map, option_and_then, nat_eq, nat_le, nat_lt, slice_get, refl, sym, ap, subst, ◌∙◌, arith}
 use Rattle.std.specs.List.{AllByRecursion, Contains, enumerate_from, filter_map, find, list_all, list_any, range_with_len, sum_by}
 use Rattle.std.proofs.lemmas.Bool.{false≢true, cases_eq, cases_lt, eq-eqb, eqb-false, ne_eqb, le-leb, le-ltb}
 use Rattle.std.proofs.lemmas.List.{append-nil, drop_all, length-append, length-map, take_all}
@@ -261,7 +262,8 @@ small_there [] i place small e = absurd (none-some _ e)
 small_there (p ∷ places) zero place small e = subst IsSmall (same_Some _ _ e) small.0
 small_there (p ∷ places) (suc i) place small e = small_there places i place small.1 e
 
-site_found : (places : List Place) (at : ℕ) (found : Option Place) → slice_get places at ≡ found → at < 2 ^ 32 → code_site (entries 0 places) at ≡ option_and_then known (option_and_then (λ place. entry_of (at, place)) found)
+site_found : (places : List Place) (at : ℕ) (found : Option Place) → slice_get places at ≡ found → at < 2 ^ 32
+    → code_site (entries 0 places) at ≡ option_and_then known (option_and_then (λ place. entry_of (at, place)) found)
 site_found places at found e small =
     let b : nat_le at 4294967295 ≡ true = le-leb at 4294967295 (omega arith) in
     let z : 0 + at ≡ at = omega arith in
@@ -315,7 +317,8 @@ no_entries places at none = go (slice_get places at) refl
     go : (found : Option Place) → slice_get places at ≡ found → unwrap_or found None ≡ None
     go None e = refl
     go (Some None) e = refl
-    go (Some (Some place)) e = absurd (in_nil (0 + at, record { line = place.0; column = place.1 }) (subst (λ (list : List Entry). Contains list (0 + at, record { line = place.0; column = place.1 })) none (entry_there 0 places at place e)))
+    go (Some (Some place)) e =
+        absurd (in_nil (0 + at, record { line = place.0; column = place.1 }) (subst (λ (list : List Entry). Contains list (0 + at, record { line = place.0; column = place.1 })) none (entry_there 0 places at place e)))
 
 -- the places that there are, none where they are stripped
 abbrev known_places : Option (List Place) → List Place

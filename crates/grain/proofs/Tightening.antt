@@ -91,7 +91,8 @@ all_deepest code (c ∷ cs) (n ∷ ns) [] e h = absurd (omega arith)
 all_deepest code (c ∷ cs) (n ∷ ns) (m ∷ ms) e h = (deepest_again code c m n h.0, all_deepest code cs ns ms (omega arith) h.1)
 
 -- chunks that pass declare no less than their numbers
-no_less : (code : Bytecode) (chunks : List Span) (numbers others : List ℕ) → length others ≡ length numbers → AllZip (IsDeepest (coded code)) chunks numbers → All (ChunkPasses code) (redeclared chunks others) → AllZip (λ n m. n ≤ m) numbers others
+no_less : (code : Bytecode) (chunks : List Span) (numbers others : List ℕ) → length others ≡ length numbers → AllZip (IsDeepest (coded code)) chunks numbers
+    → All (ChunkPasses code) (redeclared chunks others) → AllZip (λ n m. n ≤ m) numbers others
 no_less code [] [] [] e h all = tt
 no_less code [] [] (m ∷ ms) e h all = absurd (omega arith)
 no_less code [] (n ∷ ns) others e h all = absurd h
@@ -132,7 +133,8 @@ length_chunks p q e =
     ∙ length-map (chunks_of q) undeclared_chunk
 
 -- an accepted program whose chunks declare their numbers now is tightened
-pub tightened : (old new : Program) (numbers : List ℕ) → IsAccepted (input_of old) → AreDeepest (input_of old) numbers → AreTyped (input_of old) numbers → declared_by new ≡ numbers → undeclared new ≡ undeclared old → IsTightened old new
+pub tightened : (old new : Program) (numbers : List ℕ) → IsAccepted (input_of old) → AreDeepest (input_of old) numbers → AreTyped (input_of old) numbers → declared_by new ≡ numbers
+    → undeclared new ≡ undeclared old → IsTightened old new
 tightened old new numbers accepted deepest typed declared rest =
     let code = same_code new old rest in
     let chunks : chunks_of new ≡ redeclared (chunks_of old) numbers = all_alike (chunks_of old) (chunks_of new) (same_chunks new old rest) ∙ ap (redeclared (chunks_of old)) declared in
@@ -140,15 +142,18 @@ tightened old new numbers accepted deepest typed declared rest =
     let again : IsAccepted (input_of new) = record {
       constants = subst (λ (p : Program). ConstantsPass (input_of p)) (sym rest) accepted.constants;
       code = subst (λ (p : Program). CodePasses (input_of p)) (sym rest) accepted.code;
-      functions = λ some. subst (λ (c : Bytecode). Allows c.setting.caps FUNCTION) (sym code) (accepted.functions (λ none. some (no_functions new.functions (ap (λ (p : Program). p.functions) rest ∙ ap (map undeclared_function) none))));
-      chunks = λ k d l. (subst (λ (c : Bytecode). All (ChunkPasses c) (chunks_of new)) (sym code) (subst (All (ChunkPasses (input_of old).code)) (sym chunks) (all_pass (input_of old).code (chunks_of old) numbers accepted.chunks typed))) k d l;
+      functions = λ some. subst (λ (c : Bytecode). Allows c.setting.caps FUNCTION) (sym code)
+          (accepted.functions (λ none. some (no_functions new.functions (ap (λ (p : Program). p.functions) rest ∙ ap (map undeclared_function) none))));
+      chunks = λ k d l. (subst (λ (c : Bytecode). All (ChunkPasses c) (chunks_of new)) (sym code)
+          (subst (All (ChunkPasses (input_of old).code)) (sym chunks) (all_pass (input_of old).code (chunks_of old) numbers accepted.chunks typed))) k d l;
     } in
     record {
       accepted = accepted;
       numbers = subst (AreDeepest (input_of old)) (sym declared) deepest;
       rest = rest;
       again = again;
-      same = subst (AreDeepest (input_of new)) (sym declared) (subst (λ (c : Bytecode). AllZip (IsDeepest (coded c)) (chunks_of new) numbers) (sym code) (subst (λ (cs : List Span). AllZip (IsDeepest (coded (input_of old).code)) cs numbers) (sym chunks) deepest_now));
+      same = subst (AreDeepest (input_of new)) (sym declared)
+          (subst (λ (c : Bytecode). AllZip (IsDeepest (coded c)) (chunks_of new) numbers) (sym code) (subst (λ (cs : List Span). AllZip (IsDeepest (coded (input_of old).code)) cs numbers) (sym chunks) deepest_now));
       least = λ p e accepts.
           let whole = e ∙ rest in
           let spans = all_alike (chunks_of old) (chunks_of p) (same_chunks p old whole) in

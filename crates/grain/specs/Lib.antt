@@ -46,9 +46,11 @@ pub use Rattle.grain_rules.specs.EdgeSteps
 pub use Rattle.grain_rules.specs.Effects
 pub use Rattle.grain_rules.specs.Flaw
 pub use Rattle.grain_rules.specs.Flow
+pub use Rattle.grain_rules.specs.FlowFields
 pub use Rattle.grain_rules.specs.Indices
 pub use Rattle.grain_rules.specs.Layout
 pub use Rattle.grain_rules.specs.Machine
+pub use Rattle.grain_rules.specs.Rows
 pub use Rattle.grain_rules.specs.Setting
 pub use Rattle.grain_rules.specs.Sinking
 pub use Rattle.grain_rules.specs.Texts

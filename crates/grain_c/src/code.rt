@@ -2,7 +2,7 @@
 ghost use Rattle.std.specs.Prelude.{◌≡◌, ◌+◌, List, Ok, Err, cond, sum_by};
 ghost use Rattle.std.specs.Bool.{OnFalse, OnTrue};
 ghost use Rattle.grain.specs.InstructionTable.{form};
-ghost use Rattle.grain.specs.Sinking.{is_quiet};
+ghost use Rattle.grain.specs.Rows.{is_quiet};
 ghost use Rattle.grain.specs.Split.{IsCount, NoneStandsAt, StandsAt};
 ghost use Rattle.grain_bytecode.specs.declared.Op.{Op};
 ghost use Rattle.grain_flat.specs.Instruction.{field_size, instruction_row};

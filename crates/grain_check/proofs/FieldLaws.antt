@@ -11,7 +11,7 @@ use Rattle.std.proofs.lemmas.Fmt.{IsAscii-from_digits}
 use Rattle.std.proofs.lemmas.Str.{IsUtf8-from_ascii}
 use Rattle.std.proofs.lemmas.Str.Parse.{digit_from_value, tells_all_ascii_digits, tells_digits}
 use Rattle.grain_check.specs.Words.{is_word}
-use Rattle.grain_check.specs.Fields.{SpellChunks, SpellsBytes, chunks_of, hex_of, u32_of, chunk_by, chunk_of, if_known, is_colon}
+use Rattle.grain_check.specs.Fields.{SpellChunks, SpellsBytes, chunks_spelled, hex_of, u32_of, chunk_by, chunk_of, if_known, is_colon}
 use Rattle.std.specs.Prelude.{◌%◌, ◌-◌, ◌||◌, IsSomeAnd, option_and_then, IfSome, IsSome, MatchResult, if◌then◌else◌, is_ok, is_some, nat_lt}
 use Rattle.std.specs.Option.{option_map}
 use Rattle.std.proofs.lemmas.List.Splits.{slice_split_at, slice_split_none, length-slice_split}
@@ -170,9 +170,9 @@ spells_bytes word some other decodes = by_cases (decode_of word) refl decodes wh
   by_cases (Err error) is ok = absurd (false≢true (sym ok))
 
 -- words that spell chunks spell as many as there are words
-pub spell_chunks : (fields : List (List ℕ)) → 0 < length fields → true ≡ is_some (chunks_of fields) → SpellChunks fields
+pub spell_chunks : (fields : List (List ℕ)) → 0 < length fields → true ≡ is_some (chunks_spelled fields) → SpellChunks fields
 spell_chunks [] some spell = absurd (omega arith)
-spell_chunks (word ∷ more) some spell = first (chunk_of word) (chunks_of more) spell where
+spell_chunks (word ∷ more) some spell = first (chunk_of word) (chunks_spelled more) spell where
   both : Option Span → Option (List Span) → Option (List Span)
   both chunk chunks = option_and_then (λ c. option_map (λ cs. c ∷ cs) chunks) chunk
 

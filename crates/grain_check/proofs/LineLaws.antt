@@ -11,16 +11,16 @@ use Rattle.std.proofs.lemmas.List.Splits.{slice_split_at, slice_split_none, leng
 use Rattle.std.proofs.Math.Seq.{take-append_seam}
 use Rattle.grain_check.specs.Words.{Lacks}
 use Rattle.grain_check.proofs.SearchLaws.{Lacks-nil}
-use Rattle.grain_check.specs.Lines.{IsCut, ended, ended_lines, is_line_feed, is_case, cases_of, complete_cases, complete_lines}
+use Rattle.grain_check.specs.Lines.{AreLines, ended, ended_lines, is_line_feed, is_case, case_lines, complete_cases, complete_lines}
 
 -- one more line was cut off
 pub ended_lines-more : (all : List ℕ) (parts : List (List ℕ)) (carry piece more : List ℕ)
     → all ≡ ended_lines parts ++ (carry ++ (piece ++ 10 ∷ more)) → all ≡ ended_lines (parts ++ (carry ++ piece) ∷ []) ++ more
 ended_lines-more all parts carry piece more e = e ∙ sym (ap (λ xs. xs ++ more) (flat_map-append ended parts ((carry ++ piece) ∷ [])) ∙ simp (append_assoc, append-nil))
 
-pub IsCut-append : (input bytes : List ℕ) (parts more : List (List ℕ)) (carry rest : List ℕ)
-    → IsCut input parts carry → IsCut (carry ++ bytes) more rest → IsCut (input ++ bytes) (parts ++ more) rest
-IsCut-append input bytes parts more carry rest first second = record {
+pub AreLines-append : (input bytes : List ℕ) (parts more : List (List ℕ)) (carry rest : List ℕ)
+    → AreLines input parts carry → AreLines (carry ++ bytes) more rest → AreLines (input ++ bytes) (parts ++ more) rest
+AreLines-append input bytes parts more carry rest first second = record {
   whole = ap (λ xs. xs ++ bytes) first.whole ∙ append_assoc (ended_lines parts) carry bytes ∙ ap (λ xs. ended_lines parts ++ xs) second.whole
       ∙ sym (append_assoc (ended_lines parts) (ended_lines more) rest) ∙ sym (ap (λ xs. xs ++ rest) (flat_map-append ended parts more));
   each = All-append (Lacks 10) parts more first.each second.each;
@@ -34,7 +34,7 @@ pieces_by (line ∷ parts) rest each lacks =
     ap (slice_split is_line_feed) split ∙ slice_split_at is_line_feed line 10 (ended_lines parts ++ rest) each.0 refl ∙ ap (λ xs. line ∷ xs) (pieces_by parts rest each.1 lacks)
 
 -- the pieces between line feeds
-pieces-cut : (input : List ℕ) (parts : List (List ℕ)) (rest : List ℕ) → IsCut input parts rest → slice_split is_line_feed input ≡ parts ++ rest ∷ []
+pieces-cut : (input : List ℕ) (parts : List (List ℕ)) (rest : List ℕ) → AreLines input parts rest → slice_split is_line_feed input ≡ parts ++ rest ∷ []
 pieces-cut input parts rest cut = ap (slice_split is_line_feed) cut.whole ∙ pieces_by parts rest (recursion_from_All (Lacks 10) parts cut.each) cut.lacks
 
 -- the last line, if anything stands there
@@ -49,15 +49,15 @@ lines_by [] rest = refl
 lines_by (line ∷ []) rest = refl
 lines_by (line ∷ next ∷ parts) rest = ap (λ xs. strip_carriage_return line ∷ xs) (lines_by (next ∷ parts) rest)
 
-lines-cut : (input : List ℕ) (parts : List (List ℕ)) (rest : List ℕ) → IsCut input parts rest → lines input ≡ map strip_carriage_return parts ++ last_line rest
+lines-cut : (input : List ℕ) (parts : List (List ℕ)) (rest : List ℕ) → AreLines input parts rest → lines input ≡ map strip_carriage_return parts ++ last_line rest
 lines-cut input parts rest cut = ap lines_of_parts (pieces-cut input parts rest cut) ∙ lines_by parts rest
 
 -- there are as many line feeds as complete lines
-feeds-cut : (input : List ℕ) (parts : List (List ℕ)) (rest : List ℕ) → IsCut input parts rest → count_by is_line_feed input ≡ length (map strip_carriage_return parts)
+feeds-cut : (input : List ℕ) (parts : List (List ℕ)) (rest : List ℕ) → AreLines input parts rest → count_by is_line_feed input ≡ length (map strip_carriage_return parts)
 feeds-cut input parts rest cut =
     omega (arith, length-slice_split is_line_feed input, ap length (pieces-cut input parts rest cut), length-append parts (rest ∷ []), length-map parts strip_carriage_return)
 
-complete_lines-cut : (input : List ℕ) (parts : List (List ℕ)) (rest : List ℕ) → IsCut input parts rest → complete_lines input ≡ map strip_carriage_return parts
+complete_lines-cut : (input : List ℕ) (parts : List (List ℕ)) (rest : List ℕ) → AreLines input parts rest → complete_lines input ≡ map strip_carriage_return parts
 complete_lines-cut input parts rest cut =
     let count = feeds-cut input parts rest cut in
     ap (λ n. take n (lines input)) count ∙ ap (take (length (map strip_carriage_return parts))) (lines-cut input parts rest cut)
@@ -70,7 +70,7 @@ cases_in parts = filter is_case (map strip_carriage_return parts)
 pub cases_in-append : (parts more : List (List ℕ)) → cases_in (parts ++ more) ≡ cases_in parts ++ cases_in more
 cases_in-append parts more = ap (filter is_case) (map-append strip_carriage_return parts more) ∙ filter-append is_case (map strip_carriage_return parts) (map strip_carriage_return more)
 
-pub complete_cases-cut : (input : List ℕ) (parts : List (List ℕ)) (rest : List ℕ) → IsCut input parts rest → complete_cases input ≡ cases_in parts
+pub complete_cases-cut : (input : List ℕ) (parts : List (List ℕ)) (rest : List ℕ) → AreLines input parts rest → complete_cases input ≡ cases_in parts
 complete_cases-cut input parts rest cut = ap (filter is_case) (complete_lines-cut input parts rest cut)
 
 -- an empty last line is no case
@@ -78,14 +78,14 @@ last_case : (rest : List ℕ) → filter is_case (last_line rest) ≡ filter is_
 last_case [] = refl
 last_case (byte ∷ bytes) = ap (filter is_case) (last_line-some byte bytes)
 
-pub cases_of-cut : (input : List ℕ) (parts : List (List ℕ)) (rest : List ℕ) → IsCut input parts rest → cases_of input ≡ cases_in parts ++ filter is_case (rest ∷ [])
-cases_of-cut input parts rest cut =
+pub case_lines-cut : (input : List ℕ) (parts : List (List ℕ)) (rest : List ℕ) → AreLines input parts rest → case_lines input ≡ cases_in parts ++ filter is_case (rest ∷ [])
+case_lines-cut input parts rest cut =
     ap (filter is_case) (lines-cut input parts rest cut) ∙ filter-append is_case (map strip_carriage_return parts) (last_line rest)
     ∙ ap (λ xs. cases_in parts ++ xs) (last_case rest)
 
 -- one more byte in front
-cut_more : (byte : ℕ) (bytes : List ℕ) (lines : List (List ℕ)) (rest : List ℕ) (b : Bool) → eqb byte 10 ≡ b → IsCut bytes lines rest
-    → (parts : List (List ℕ)) × (last : List ℕ) × IsCut (byte ∷ bytes) parts last
+cut_more : (byte : ℕ) (bytes : List ℕ) (lines : List (List ℕ)) (rest : List ℕ) (b : Bool) → eqb byte 10 ≡ b → AreLines bytes lines rest
+    → (parts : List (List ℕ)) × (last : List ℕ) × AreLines (byte ∷ bytes) parts last
 cut_more byte bytes lines rest true h cut =
     ([] ∷ lines, rest, record { whole = ap (λ b. b ∷ bytes) (eqb-true byte 10 h) ∙ ap (λ xs. 10 ∷ xs) cut.whole; each = All-cons (Lacks 10) [] lines (Lacks-nil 10) cut.each; lacks = cut.lacks })
 cut_more byte bytes [] rest false h cut =
@@ -101,6 +101,6 @@ cut_more byte bytes (line ∷ lines) rest false h cut = (
 )
 
 -- every input is some lines and a rest
-pub cut_of : (input : List ℕ) → (lines : List (List ℕ)) × (rest : List ℕ) × IsCut input lines rest
+pub cut_of : (input : List ℕ) → (lines : List (List ℕ)) × (rest : List ℕ) × AreLines input lines rest
 cut_of [] = ([], [], record { whole = refl; each = All-nil (Lacks 10); lacks = Lacks-nil 10 })
 cut_of (byte ∷ bytes) = let before = cut_of bytes in cut_more byte bytes before.0 before.1 (eqb byte 10) refl before.2

@@ -5,29 +5,29 @@ use Rattle.std.proofs.lemmas.Grind.{common_steps}
 use Rattle.std.proofs.KnownBytes.{Appends-nil, Appends-trans, Consumes-nil, Consumes-trans, Consumes-kept}
 use Rattle.std.specs.Io.KnownBytes.{Appends, Consumes, IsAtEnd, Keeps}
 use Rattle.std.proofs.lemmas.List.Elements.{All-nil}
-use Rattle.grain_check.specs.Lines.{IsCut, cases_of, is_case}
+use Rattle.grain_check.specs.Lines.{AreLines, case_lines, is_case}
 use Rattle.grain_check.specs.Words.{Lacks}
 use Rattle.grain_check.specs.Stream.{SendsFront}
 use Rattle.grain_check.specs.Verdict.{IsVerdictText}
-use Rattle.grain_check.specs.Report.{Answers, AnswersBytes, CountsOn, Written, nothing, saturated}
-use Rattle.grain_check.specs.Driver.{AnswersAll, AnswersComplete, AnswersFirst, AnswersFront, AreDue}
+use Rattle.grain_check.specs.Report.{Answers, AnswersBytes, CountsOn, Written, none_written, saturated}
+use Rattle.grain_check.specs.Driver.{AnswersAll, AnswersComplete, AnswersFirst, AnswersFront, AreReadCases}
 use Rattle.grain_check.specs.declared.report.Summary.{Summary}
 use Rattle.grain_check.proofs.SearchLaws.{Lacks-nil}
-use Rattle.grain_check.proofs.LineLaws.{IsCut-append, cases_in, cases_in-append, cases_of-cut, complete_cases-cut, cut_of}
+use Rattle.grain_check.proofs.LineLaws.{AreLines-append, cases_in, cases_in-append, case_lines-cut, complete_cases-cut, cut_of}
 use Rattle.grain_check.proofs.VerdictLaws.{Answers-none, Answers-append, IsVerdictText-none}
 
 -- an input was read whose cases are answered by what was sent and by the text that is yet to be sent
 pub record Pending (left left' taken taken' : Option (List ℕ)) (input : List ℕ) (cases : List (List ℕ)) (written : Written) : Type 0 where
   pub sent : List ℕ
   pub read : Consumes left left' input
-  pub answers : Answers cases nothing (record { text = sent ++ written.text; summary = written.summary })
+  pub answers : Answers cases none_written (record { text = sent ++ written.text; summary = written.summary })
   pub sending : Appends taken taken' sent
 
-pending_none : (left taken : Option (List ℕ)) → Pending left left taken taken [] [] nothing
+pending_none : (left taken : Option (List ℕ)) → Pending left left taken taken [] [] none_written
 pending_none left taken = record {
   sent = [];
   read = Consumes-nil left;
-  answers = Answers-none nothing;
+  answers = Answers-none none_written;
   sending = Appends-nil taken;
 }
 
@@ -55,9 +55,9 @@ pending_sent : {left left' taken taken' taken'' : Option (List ℕ)} {input : Li
 pending_sent {taken = taken} {taken' = taken'} {taken'' = taken''} {cases = cases} {old = old} {new = new} before sent none same = record {
   sent = before.sent ++ old.text;
   read = before.read;
-  answers = subst (λ text. Answers cases nothing (record { text = text; summary = new.summary }))
+  answers = subst (λ text. Answers cases none_written (record { text = text; summary = new.summary }))
       (sym (ap (λ xs. (before.sent ++ old.text) ++ xs) none ∙ append-nil (before.sent ++ old.text)))
-      (subst (λ summary. Answers cases nothing (record { text = before.sent ++ old.text; summary = summary })) (sym same) before.answers);
+      (subst (λ summary. Answers cases none_written (record { text = before.sent ++ old.text; summary = summary })) (sym same) before.answers);
   sending = Appends-trans taken taken' taken'' before.sent old.text before.sending sent;
 }
 
@@ -72,7 +72,7 @@ sent_of {cases = cases} before none = subst (IsVerdictText cases) (ap (λ xs. be
 
 -- only a front of the text was sent
 pending_cut : {left left' taken taken' taken'' : Option (List ℕ)} {input : List ℕ} {cases : List (List ℕ)} {written : Written}
-    → Pending left left' taken taken' input cases written → AreDue input left' cases → SendsFront taken' taken'' written.text → AnswersFront left left' taken taken''
+    → Pending left left' taken taken' input cases written → AreReadCases input left' cases → SendsFront taken' taken'' written.text → AnswersFront left left' taken taken''
 pending_cut {taken = taken} {taken' = taken'} {taken'' = taken''} {input = input} {cases = cases} before due sent = record {
   input = input;
   cases = cases;
@@ -89,12 +89,12 @@ pending_cut {taken = taken} {taken' = taken'} {taken'' = taken''} {input = input
 pub record Reading (left left' taken taken' : Option (List ℕ)) (turns : ℕ) (carry : List ℕ) (written : Written) : Type 0 where
   pub input : List ℕ
   pub parts : List (List ℕ)
-  pub cut : IsCut input parts carry
+  pub cut : AreLines input parts carry
   pub state : Pending left left' taken taken' input (cases_in parts) written
   pub sent : written.text ≡ []
   pub long : turns ≤ length input
 
-pub reading_none : (left taken : Option (List ℕ)) (carry : List ℕ) (written : Written) → carry ≡ [] → written ≡ nothing → Reading left left taken taken 0 carry written
+pub reading_none : (left taken : Option (List ℕ)) (carry : List ℕ) (written : Written) → carry ≡ [] → written ≡ none_written → Reading left left taken taken 0 carry written
 reading_none left taken carry written empty none = record {
   input = [];
   parts = [];
@@ -114,8 +114,8 @@ fed {left} {left'' = left''} {taken = taken} {taken' = taken'} {bytes = bytes} {
 
 fed_cut : {left left' taken taken' : Option (List ℕ)} {turns : ℕ} {carry bytes new_carry : List ℕ} {old new : Written}
     → (before : Reading left left' taken taken' turns carry old) → (since : AnswersBytes carry bytes new_carry old new)
-    → IsCut (before.input ++ bytes) (before.parts ++ since.lines) new_carry
-fed_cut {carry = carry} {bytes = bytes} {new_carry = new_carry} before since = IsCut-append before.input bytes before.parts since.lines carry new_carry before.cut since.cut
+    → AreLines (before.input ++ bytes) (before.parts ++ since.lines) new_carry
+fed_cut {carry = carry} {bytes = bytes} {new_carry = new_carry} before since = AreLines-append before.input bytes before.parts since.lines carry new_carry before.cut since.cut
 
 -- its verdicts were sent too
 pub reading_more : {left left' left'' taken taken' taken'' : Option (List ℕ)} {turns : ℕ} {carry bytes new_carry last_carry : List ℕ} {old new last : Written}
@@ -125,7 +125,7 @@ pub reading_more : {left left' left'' taken taken' taken'' : Option (List ℕ)} 
 reading_more {bytes = bytes} before read some since sent none same same_carry = record {
   input = before.input ++ bytes;
   parts = before.parts ++ since.lines;
-  cut = subst (IsCut (before.input ++ bytes) (before.parts ++ since.lines)) (sym same_carry) (fed_cut before since);
+  cut = subst (AreLines (before.input ++ bytes) (before.parts ++ since.lines)) (sym same_carry) (fed_cut before since);
   state = pending_sent (fed before read since) sent none same;
   sent = none;
   long = omega (arith, length-append before.input bytes, before.long);
@@ -162,7 +162,7 @@ pub reading_stopped : {left left' left'' taken taken' : Option (List ℕ)} {turn
     → Reading left left' taken taken' turns carry written → Consumes left' left'' bytes → AnswersFirst left left'' taken taken'
 reading_stopped {left} {left'} {left''} {carry = carry} bytes before read =
     let (lines, rest, cut) = cut_of (carry ++ bytes) in
-    let all = IsCut-append before.input bytes before.parts lines carry rest before.cut cut in
+    let all = AreLines-append before.input bytes before.parts lines carry rest before.cut cut in
     record {
       input = before.input ++ bytes;
       cases = cases_in before.parts;
@@ -190,11 +190,11 @@ nothing_read left taken = record {
 -- the source ended, and the last line was answered
 finished : {left left' left'' taken taken' : Option (List ℕ)} {turns : ℕ} {carry : List ℕ} {old new : Written} (bytes : List ℕ)
     → (before : Reading left left' taken taken' turns carry old) → Consumes left' left'' bytes → bytes ≡ []
-    → Answers (filter is_case (carry ∷ [])) old new → Pending left left'' taken taken' before.input (cases_of before.input) new
+    → Answers (filter is_case (carry ∷ [])) old new → Pending left left'' taken taken' before.input (case_lines before.input) new
 finished {left} {left'' = left''} {taken = taken} {taken' = taken'} {carry = carry} {new = new} bytes before read empty since =
     let all : before.input ++ bytes ≡ before.input = ap (λ xs. before.input ++ xs) empty ∙ append-nil before.input in
-    subst (λ input. Pending left left'' taken taken' input (cases_of before.input) new) all
-    (subst (λ cases. Pending left left'' taken taken' (before.input ++ bytes) cases new) (sym (cases_of-cut before.input before.parts carry before.cut))
+    subst (λ input. Pending left left'' taken taken' input (case_lines before.input) new) all
+    (subst (λ cases. Pending left left'' taken taken' (before.input ++ bytes) cases new) (sym (case_lines-cut before.input before.parts carry before.cut))
     (pending_more bytes before.state read since))
 
 total : (new n : ℕ) → CountsOn 0 new n → new ≡ saturated n
@@ -205,7 +205,7 @@ pub reading_all : {left left' left'' taken taken' taken'' : Option (List ℕ)} {
     → Reading left left' taken taken' turns carry old → Consumes left' left'' bytes → bytes ≡ [] → IsAtEnd left'' → Answers (filter is_case (carry ∷ [])) old new
     → Appends taken' taken'' new.text → last.text ≡ [] → last.summary ≡ new.summary → summary ≡ last.summary → AnswersAll left left'' taken taken'' summary
 reading_all {left} {left'' = left''} {taken = taken} {taken'' = taken''} {last = last} bytes before read empty at_end since sent none same is =
-    let all : Pending left left'' taken taken'' before.input (cases_of before.input) last = pending_sent (finished bytes before read empty since) sent none same in
+    let all : Pending left left'' taken taken'' before.input (case_lines before.input) last = pending_sent (finished bytes before read empty since) sent none same in
     subst (AnswersAll left left'' taken taken'') (sym is) (record {
       input = before.input;
       text = all.sent;

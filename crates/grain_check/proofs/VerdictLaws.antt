@@ -13,7 +13,7 @@ use Rattle.grain.specs.Site.{Site}
 use Rattle.grain.specs.Accepted.{Input}
 use Rattle.grain.specs.declared.VerifyError.{VerifyError}
 use Rattle.grain_check.specs.Lines.{ended, ended_lines, is_case}
-use Rattle.grain_check.specs.Case.{asked, is_bad, view}
+use Rattle.grain_check.specs.Case.{asked, is_bad, as_asked}
 use Rattle.grain_check.specs.declared.case.Case.{Case}
 use Rattle.grain_check.specs.Verdict.{Adds, IsJudged, VerifyVerdict, accepted_text, refused_text, code_text, site_text, CodeVerdict, SiteVerdict, IsVerdictOn, Verdict, IsVerdictText}
 use Rattle.grain_check.specs.Report.{Answers, CountsOn, Written, saturated}
@@ -39,15 +39,15 @@ pub adds_refused : (judged : Input) (error : VerifyError) (old new : List ℕ) �
 adds_refused judged error old new right is = record { added = refused_text error; kind = record { found = Err error; right = right; is = refl }; text = is }
 
 -- a line without a form spells no case
-bad-view : (found : Option Case) (bad : Bool) → is_some found ≡ not bad → bad ≡ is_none (option_map view found)
-bad-view (Some case) true e = e
-bad-view (Some case) false e = refl
-bad-view None true e = refl
-bad-view None false e = e
+bad-as_asked : (found : Option Case) (bad : Bool) → is_some found ≡ not bad → bad ≡ is_none (option_map as_asked found)
+bad-as_asked (Some case) true e = e
+bad-as_asked (Some case) false e = refl
+bad-as_asked None true e = refl
+bad-as_asked None false e = e
 
 -- a case was answered and counted
-pub answers_one : (line mid : List ℕ) (old new : Written) (found : Option Case) (bad : Bool) → is_case line ≡ true → option_map view found ≡ asked line
-    → is_some found ≡ not bad → Adds (IsVerdictOn (option_map view found)) old.text mid → new.text ≡ mid ++ 10 ∷ []
+pub answers_one : (line mid : List ℕ) (old new : Written) (found : Option Case) (bad : Bool) → is_case line ≡ true → option_map as_asked found ≡ asked line
+    → is_some found ≡ not bad → Adds (IsVerdictOn (option_map as_asked found)) old.text mid → new.text ≡ mid ++ 10 ∷ []
     → CountsOn old.summary.cases new.summary.cases 1 → CountsOn old.summary.bad new.summary.bad (cond bad 1 0) → Answers (filter is_case (line ∷ [])) old new
 answers_one line mid old new found bad is found_is bad_is adds e cases bads = rw is (record {
   added = ended adds.added;
@@ -59,7 +59,7 @@ answers_one line mid old new found bad is found_is bad_is adds e cases bads = rw
   text = e ∙ ap ended adds.text ∙ append_assoc old.text adds.added (10 ∷ []);
   counted = cases;
   counted_bad =
-      let same : is_bad line ≡ bad = sym (bad-view found bad bad_is ∙ ap is_none found_is) in
+      let same : is_bad line ≡ bad = sym (bad-as_asked found bad bad_is ∙ ap is_none found_is) in
       rw same (subst (CountsOn old.summary.bad new.summary.bad) (sym (zero-add (cond bad 1 0))) bads);
 })
 

@@ -4,7 +4,7 @@ use Rattle.std.specs.Prelude.{None, is_none, option_and_then}
 use Rattle.std.specs.Option.{option_map}
 use Rattle.std.specs.Str.{bytes_eq}
 use Rattle.grain.specs.Span.{Span}
-use Rattle.grain_check.specs.Fields.{caps_of, chunks_of, hex_of, u32_of}
+use Rattle.grain_check.specs.Fields.{caps_spelled, chunks_spelled, hex_of, u32_of}
 use Rattle.grain_check.specs.Words.{words}
 use Rattle.grain_check.specs.declared.case.Case.{Case}
 use Rattle.grain_check.specs.declared.case.Case.TheVariants.{Code, Site, Verify}
@@ -16,10 +16,10 @@ pub data Asked : Type 0 where
   verify : ℕ → List ℕ → List Span → Asked
 
 -- what a value of `Case` asks
-abbrev pub view : Case → Asked
-view (Code bytes) = code bytes.items
-view (Site table address) = site table.items address
-view (Verify caps bytes chunks) = verify caps.0 bytes.items chunks.items
+abbrev pub as_asked : Case → Asked
+as_asked (Code bytes) = code bytes.items
+as_asked (Site table address) = site table.items address
+as_asked (Verify caps bytes chunks) = verify caps.0 bytes.items chunks.items
 
 -- it takes memory to hold what is asked, as that has bytes or chunks
 abbrev pub TakesMemory : Asked → Type 0
@@ -42,8 +42,8 @@ site_by _ = None
 abbrev pub verify_by : List (List ℕ) → Option Asked
 verify_by (caps ∷ hex ∷ chunks) =
     let of_parts : ℕ → List ℕ → Option Asked =
-    λ bits bytes. option_map (verify bits bytes) (chunks_of chunks) in
-    option_and_then (λ bits. option_and_then (of_parts bits) (hex_of hex)) (caps_of caps)
+    λ bits bytes. option_map (verify bits bytes) (chunks_spelled chunks) in
+    option_and_then (λ bits. option_and_then (of_parts bits) (hex_of hex)) (caps_spelled caps)
 verify_by _ = None
 
 abbrev pub asked_by : List (List ℕ) → Option Asked

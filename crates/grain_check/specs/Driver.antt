@@ -4,7 +4,7 @@
 use Rattle.std.specs.Prelude.{◌≡◌, ◌≢◌, ℕ, ◌-◌, ◌^◌, ◌<◌, ◌≤◌, ◌⊎◌, List, ◌++◌, length, Option}
 use Rattle.std.specs.Prelude.{count_by}
 use Rattle.std.specs.Io.KnownBytes.{Appends, Consumes, IsAtEnd}
-use Rattle.grain_check.specs.Lines.{cases_of, complete_cases}
+use Rattle.grain_check.specs.Lines.{case_lines, complete_cases}
 use Rattle.grain_check.specs.Case.{is_bad}
 use Rattle.grain_check.specs.Verdict.{IsVerdictText}
 use Rattle.grain_check.specs.Report.{saturated}
@@ -17,10 +17,10 @@ pub record AnswersAll (left left' taken taken' : Option (List ℕ)) (summary : S
   pub text : List ℕ
   pub read : Consumes left left' input
   pub ended : IsAtEnd left'
-  pub verdicts : IsVerdictText (cases_of input) text
+  pub verdicts : IsVerdictText (case_lines input) text
   pub written : Appends taken taken' text
-  pub cases : summary.cases ≡ saturated (length (cases_of input))
-  pub bad : summary.bad ≡ saturated (count_by is_bad (cases_of input))
+  pub cases : summary.cases ≡ saturated (length (case_lines input))
+  pub bad : summary.bad ≡ saturated (count_by is_bad (case_lines input))
 
 -- a verdict text of the complete cases among the bytes that were read was written, and nothing else
 pub record AnswersComplete (left left' taken taken' : Option (List ℕ)) : Type 0 where
@@ -43,8 +43,8 @@ pub record AnswersFirst (left left' taken taken' : Option (List ℕ)) : Type 0 w
 
 -- these cases are due once this input has been read: the complete ones, and the last line too once
 -- the source has ended
-abbrev pub AreDue : List ℕ → Option (List ℕ) → List (List ℕ) → Type 0
-AreDue input left cases = (cases ≡ complete_cases input) ⊎ (IsAtEnd left × (cases ≡ cases_of input))
+abbrev pub AreReadCases : List ℕ → Option (List ℕ) → List (List ℕ) → Type 0
+AreReadCases input left cases = (cases ≡ complete_cases input) ⊎ (IsAtEnd left × (cases ≡ case_lines input))
 
 -- a front of a verdict text of the cases that were due was written, but not all of it, and nothing
 -- else
@@ -54,7 +54,7 @@ pub record AnswersFront (left left' taken taken' : Option (List ℕ)) : Type 0 w
   pub front : List ℕ
   pub back : List ℕ
   pub read : Consumes left left' input
-  pub due : AreDue input left' cases
+  pub due : AreReadCases input left' cases
   pub verdicts : IsVerdictText cases (front ++ back)
   pub written : Appends taken taken' front
   pub cut : 0 < length back

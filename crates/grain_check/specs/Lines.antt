@@ -27,15 +27,15 @@ is_case [] = false
 is_case (byte ∷ bytes) = not (byte == 35)
 
 -- the lines that are answered, each by one verdict
-abbrev pub cases_of : List ℕ → List (List ℕ)
-cases_of input = filter is_case (lines input)
+abbrev pub case_lines : List ℕ → List (List ℕ)
+case_lines input = filter is_case (lines input)
 
 -- those of them that a line feed ends
 abbrev pub complete_cases : List ℕ → List (List ℕ)
 complete_cases input = filter is_case (complete_lines input)
 
 -- the input is these lines, each ended by a line feed, and then a rest without one
-pub record IsCut (input : List ℕ) (lines : List (List ℕ)) (rest : List ℕ) : Type 0 where
+pub record AreLines (input : List ℕ) (lines : List (List ℕ)) (rest : List ℕ) : Type 0 where
   pub whole : input ≡ ended_lines lines ++ rest
   pub each : All (Lacks 10) lines
   pub lacks : Lacks 10 rest

@@ -2,7 +2,7 @@
 use Rattle.std.specs.Prelude.{◌≡◌, ℕ, ◌+◌, ◌-◌, ◌^◌, min, length, List, [], ◌++◌, map, filter}
 use Rattle.std.specs.Prelude.{count_by}
 use Rattle.std.specs.Str.Lines.{strip_carriage_return}
-use Rattle.grain_check.specs.Lines.{IsCut, is_case}
+use Rattle.grain_check.specs.Lines.{AreLines, is_case}
 use Rattle.grain_check.specs.Case.{is_bad}
 use Rattle.grain_check.specs.Verdict.{IsVerdictText}
 use Rattle.grain_check.specs.declared.report.Summary.{Summary}
@@ -21,8 +21,8 @@ pub record Written : Type 0 where
   pub summary : Summary
 
 -- before the first case
-abbrev pub nothing : Written
-nothing = record { text = []; summary = record { cases = 0; bad = 0 } }
+abbrev pub none_written : Written
+none_written = record { text = []; summary = record { cases = 0; bad = 0 } }
 
 -- a verdict text of the cases comes behind the old text, and they are counted
 pub record Answers (cases : List (List ℕ)) (old new : Written) : Type 0 where
@@ -36,5 +36,5 @@ pub record Answers (cases : List (List ℕ)) (old new : Written) : Type 0 where
 -- rest is carried
 pub record AnswersBytes (carry bytes new_carry : List ℕ) (old new : Written) : Type 0 where
   pub lines : List (List ℕ)
-  pub cut : IsCut (carry ++ bytes) lines new_carry
+  pub cut : AreLines (carry ++ bytes) lines new_carry
   pub answers : Answers (filter is_case (map strip_carriage_return lines)) old new

@@ -2,7 +2,7 @@
 
 ghost use Rattle.std.specs.Prelude.{◌≡◌, IfOk, IsSomeAnd, OnErr};
 ghost use Rattle.std.specs.Option.{option_map};
-ghost use Rattle.grain_check.specs.Case.{TakesMemory, asked, code_by, site_by, verify_by, view};
+ghost use Rattle.grain_check.specs.Case.{TakesMemory, asked, code_by, site_by, verify_by, as_asked};
 ghost use Rattle.grain_check.specs.Words.{words};
 
 use crate::fields::{are_chunks, caps_of, chunks_of, hex_of, u32_of};
@@ -32,7 +32,7 @@ pub(crate) enum Case {
 
 /// The case of a line whose first word is `code`, by what stands after that word.
 fn code_case(alloc: Global, fields: &[u8]) -> Result<Option<Case>, AllocError>
-    ensures ok { IfOk result (λ found. option_map view found ≡ code_by (words fields.now)) }
+    ensures ok { IfOk result (λ found. option_map as_asked found ≡ code_by (words fields.now)) }
     ensures memory { OnErr result (IsSomeAnd (code_by (words fields.now)) TakesMemory) }
 {
     let Some((hex, rest)) = next_word(fields) else {
@@ -46,7 +46,7 @@ fn code_case(alloc: Global, fields: &[u8]) -> Result<Option<Case>, AllocError>
 
 /// The case of a line whose first word is `site`, by what stands after that word.
 fn site_case(alloc: Global, fields: &[u8]) -> Result<Option<Case>, AllocError>
-    ensures ok { IfOk result (λ found. option_map view found ≡ site_by (words fields.now)) }
+    ensures ok { IfOk result (λ found. option_map as_asked found ≡ site_by (words fields.now)) }
     ensures memory { OnErr result (IsSomeAnd (site_by (words fields.now)) TakesMemory) }
 {
     let Some((hex, fields)) = next_word(fields) else {
@@ -66,7 +66,7 @@ fn site_case(alloc: Global, fields: &[u8]) -> Result<Option<Case>, AllocError>
 
 /// The case of a line whose first word is `verify`, by what stands after that word.
 fn verify_case(alloc: Global, fields: &[u8]) -> Result<Option<Case>, AllocError>
-    ensures ok { IfOk result (λ found. option_map view found ≡ verify_by (words fields.now)) }
+    ensures ok { IfOk result (λ found. option_map as_asked found ≡ verify_by (words fields.now)) }
     ensures memory { OnErr result (IsSomeAnd (verify_by (words fields.now)) TakesMemory) }
 {
     let Some((caps, fields)) = next_word(fields) else {
@@ -95,7 +95,7 @@ fn verify_case(alloc: Global, fields: &[u8]) -> Result<Option<Case>, AllocError>
 /// [`AllocError`] where the line has a form with bytes or chunks, and memory for them was refused.
 #[tactic(auto, unfolding(crate::specs::Case::asked))]
 pub(crate) fn case_of(alloc: Global, line: &[u8]) -> Result<Option<Case>, AllocError>
-    ensures ok { IfOk result (λ found. option_map view found ≡ asked line.now) }
+    ensures ok { IfOk result (λ found. option_map as_asked found ≡ asked line.now) }
     ensures memory { OnErr result (IsSomeAnd (asked line.now) TakesMemory) }
 {
     let Some((name, fields)) = next_word(line) else {

@@ -8,7 +8,7 @@ ghost use Rattle.std.specs.List.{list_all, slice_split};
 ghost use Rattle.std.specs.Option.{option_map};
 ghost use Rattle.grain.specs.CapBits.{set_of};
 ghost use Rattle.hex.specs.Hex.{decode_of};
-ghost use Rattle.grain_check.specs.Fields.{caps_of, chunk_of, chunks_of, hex_of, is_colon, u16_of};
+ghost use Rattle.grain_check.specs.Fields.{caps_spelled, chunk_of, chunks_spelled, hex_of, is_colon, u16_of};
 ghost use Rattle.grain_check.specs.Fields.{u32_of, SpellChunks, SpellsBytes};
 ghost use Rattle.grain_check.specs.Words.{words};
 
@@ -73,7 +73,7 @@ fn u16_of(word: &[u8]) -> Option<u16>
 
 /// The capabilities that four hexadecimal digits spell, where each bit is a capability.
 pub(crate) fn caps_of(word: &[u8]) -> Option<Caps>
-    ensures { option_map set_of result ≡ caps_of word.now }
+    ensures { option_map set_of result ≡ caps_spelled word.now }
 {
     let mut bits = [0; 2];
     let Ok(()) = hex::decode_to_slice(word, &mut bits) else {
@@ -106,7 +106,7 @@ fn chunk_of(word: &[u8]) -> Option<Chunk>
 
 /// Whether each of these words spells a chunk. It takes no memory.
 pub(crate) fn are_chunks(fields: &[u8]) -> bool
-    ensures { result ≡ is_some (chunks_of (words fields.now)) }
+    ensures { result ≡ is_some (chunks_spelled (words fields.now)) }
 {
     let mut rest = fields;
     'testing: while let Some((word, more)) = next_word(rest) {
@@ -121,7 +121,7 @@ pub(crate) fn are_chunks(fields: &[u8]) -> bool
 /// The chunks that these words spell, as far as there is memory.
 fn read_chunks(alloc: Global, fields: &[u8]) -> Result<Option<Vec<Chunk>>, AllocError>
     ensures ok { IfOk result (λ found. option_map (λ chunks. chunks.items) found
-        ≡ chunks_of (words fields.now)) }
+        ≡ chunks_spelled (words fields.now)) }
     ensures memory { OnErr result (0 < length (words fields.now)) }
 {
     let mut chunks = Vec::new(alloc);
@@ -142,7 +142,7 @@ fn read_chunks(alloc: Global, fields: &[u8]) -> Result<Option<Vec<Chunk>>, Alloc
 /// [`AllocError`] where the words spell some chunks and memory for them was refused.
 pub(crate) fn chunks_of(alloc: Global, fields: &[u8]) -> Result<Option<Vec<Chunk>>, AllocError>
     ensures ok { IfOk result (λ found. option_map (λ chunks. chunks.items) found
-        ≡ chunks_of (words fields.now)) }
+        ≡ chunks_spelled (words fields.now)) }
     ensures memory { OnErr result (SpellChunks (words fields.now)) }
 {
     match read_chunks(alloc, fields) {

@@ -7,7 +7,7 @@ ghost use Rattle.std.specs.Str.Lines.{strip_carriage_return};
 ghost use Rattle.grain_check.specs.Stream.{SendsFront};
 ghost use Rattle.grain_check.specs.Words.{Lacks};
 ghost use Rattle.grain_check.specs.Lines.{is_case};
-ghost use Rattle.grain_check.specs.Report.{Answers, AnswersBytes, CountsOn, Written, nothing};
+ghost use Rattle.grain_check.specs.Report.{Answers, AnswersBytes, CountsOn, Written, none_written};
 
 use crate::case::case_of;
 use crate::stream::{Failed, Sink, send};
@@ -70,7 +70,7 @@ impl Model for Verdicts {
 
 impl Verdicts {
     fn new(alloc: Global) -> Self
-        ensures { result ≡ nothing }
+        ensures { result ≡ none_written }
     {
         Verdicts {
             text: String::new(alloc),
@@ -106,7 +106,7 @@ impl Report {
     /// A report before the first byte of an input.
     pub(crate) fn new(alloc: Global) -> Self
         ensures carry { result.carry.items ≡ [] }
-        ensures verdicts { result.verdicts ≡ nothing }
+        ensures verdicts { result.verdicts ≡ none_written }
     {
         Report {
             alloc,

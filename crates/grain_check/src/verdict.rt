@@ -4,7 +4,7 @@ ghost use Rattle.std.specs.Prelude.{◌≡◌, ◌≢◌, ◌++◌, Ok, Err, IfE
 ghost use Rattle.std.specs.Option.{option_map};
 ghost use Rattle.grain.specs.CapBits.{set_of};
 ghost use Rattle.grain.specs.declared.VerifyError.{VerifyError};
-ghost use Rattle.grain_check.specs.Case.{view};
+ghost use Rattle.grain_check.specs.Case.{as_asked};
 ghost use Rattle.grain_check.specs.Verdict.{Adds, CodeVerdict, IsJudged, IsVerdictOn, SiteVerdict};
 ghost use Rattle.grain_check.specs.Verdict.{VerifyVerdict, accepted_text, program};
 
@@ -101,7 +101,7 @@ pub(crate) fn write_verdict(
     text: &mut String,
     case: &Option<Case>,
 ) -> Result<(), AllocError>
-    ensures { OnOk result (Adds (IsVerdictOn (option_map view case.now))
+    ensures { OnOk result (Adds (IsVerdictOn (option_map as_asked case.now))
         (string_bytes text.old) (string_bytes text.new)) }
 {
     match case {

@@ -2,11 +2,12 @@
 use Rattle.std.proofs.Common.{◌≡◌, ℕ, ◌+◌, ◌-◌, ◌≤◌, inl, inr, List, [], ◌∷◌, Option, subst, sym, ap, ◌∙◌}
 use Rattle.std.specs.List.{Contains}
 use Rattle.grain.specs.Accepted.{ChunkPasses, IsFramed, IsSafe}
-use Rattle.grain.specs.Capabilities.{Allows, caps_of}
+use Rattle.grain.specs.Capabilities.{Allows}
 use Rattle.grain.specs.Code.{Bytecode, Code, coded}
 use Rattle.grain.specs.Counts.{Counts, last_base}
-use Rattle.grain.specs.Effects.{Edge, Meets, after_fall, after_jump, iterators_needed, stack_effect, targets}
-use Rattle.grain.specs.Flow.{fall_for, flow_of, jump_for}
+use Rattle.grain.specs.Effects.{Edge, Meets, after_fall, after_jump, iterators_needed, targets}
+use Rattle.grain.specs.Rows.{Row, caps_of, flow_of, row}
+use Rattle.grain.specs.FlowFields.{fall_for, jump_for}
 use Rattle.grain.specs.Machine.{Catches, Finds, Flows, IsKeptRun, IsRunKeptAtQuiet, Machine, Moves, MovesKeptAtQuiet, Steps}
 use Rattle.grain.specs.Setting.{Setting}
 use Rattle.grain.specs.Sinking.{FallsShortOf, ReachesUpTo, Sinks, Stays}
@@ -14,19 +15,17 @@ use Rattle.grain.specs.Span.{Span}
 use Rattle.grain.specs.Typing.{HasTyping, IsDeepest, IsReachedCount, IsTyping, Passes, Reached, StandsIn, begin, onward}
 use Rattle.grain_bytecode.specs.declared.Op.{Op}
 
--- the same capabilities, and the same of each operation: what it does to the stacks, what it asks, and where it leads
+-- the same capabilities, and the same of each operation: its row, and where it leads
 pub record Alike (s t : Setting) (u w : List (List ℕ)) : Type 0 where
   pub caps : s.caps ≡ t.caps
-  pub effects : (op : Op) → stack_effect s.chains op ≡ stack_effect t.chains op
-  pub asks : (op : Op) → caps_of s op ≡ caps_of t op
+  pub rows : (op : Op) → row s op ≡ row t op
   pub leads : (op : Op) (x : ℕ) → Contains (targets u op) x → Contains (targets w op) x
   pub leads_back : (op : Op) (x : ℕ) → Contains (targets w op) x → Contains (targets u op) x
 
 pub flip : {s t : Setting} {u w : List (List ℕ)} → Alike s t u w → Alike t s w u
 flip like = record {
   caps = sym like.caps;
-  effects = λ op. sym (like.effects op);
-  asks = λ op. sym (like.asks op);
+  rows = λ op. sym (like.rows op);
   leads = like.leads_back;
   leads_back = like.leads;
 }
@@ -47,28 +46,28 @@ module _ (bytes : List ℕ) {s t : Setting} {u w : List (List ℕ)} (like : Alik
 
   pub meets : (op : Op) (c : Counts) → Meets s op c → Meets t op c
   meets op c h = record {
-    operands = subst (λ (e : ℕ × ℕ × ℕ). e.0 ≤ c.operands) (like.effects op) h.operands;
+    operands = subst (λ (r : Row). r.needs ≤ c.operands) (like.rows op) h.operands;
     iterators = h.iterators;
     handlers = h.handlers;
   }
 
   pub allowed : (op : Op) → Allows s.caps (caps_of s op) → Allows t.caps (caps_of t op)
-  allowed op h = subst (λ (n : ℕ). Allows n (caps_of t op)) like.caps (subst (λ (n : ℕ). Allows s.caps n) (like.asks op) h)
+  allowed op h = subst (λ (n : ℕ). Allows n (caps_of t op)) like.caps (subst (λ (r : Row). Allows s.caps r.asks) (like.rows op) h)
 
   stays : (op : Op) (c : Counts) → Stays s op c → Stays t op c
-  stays op c h loud = subst (λ (e : ℕ × ℕ × ℕ). ReachesUpTo (last_base c.bases) (record { operands = c.operands - e.1; iterators = c.iterators - iterators_needed op })) (like.effects op) (h loud)
+  stays op c h loud = subst (λ (r : Row). ReachesUpTo (last_base c.bases) (record { operands = c.operands - r.takes; iterators = c.iterators - iterators_needed op })) (like.rows op) (h loud)
 
   pub sinks : (op : Op) (c : Counts) (need have : ℕ) → Sinks s op c need have → Sinks t op c need have
-  sinks op c need have h = (h.0, subst (λ (e : ℕ × ℕ × ℕ). FallsShortOf (last_base c.bases) (record { operands = c.operands - e.1; iterators = c.iterators - iterators_needed op }) need have) (like.effects op) h.1)
+  sinks op c need have h = (h.0, subst (λ (r : Row). FallsShortOf (last_base c.bases) (record { operands = c.operands - r.takes; iterators = c.iterators - iterators_needed op }) need have) (like.rows op) h.1)
 
   pub passes : (at : ℕ) (c : Counts) (op : Op) → Passes one chunk at c op → Passes other chunk at c op
   passes at c op h = record { stands = stands at op h.stands; meets = meets op c h.meets; allowed = allowed op h.allowed; stays = stays op c h.stays }
 
   jumped : (op : Op) (c : Counts) → after_jump s op c ≡ after_jump t op c
-  jumped op c = ap (λ (e : ℕ × ℕ × ℕ). jump_for (flow_of op) (c.operands - e.1 + e.2) c) (like.effects op)
+  jumped op c = ap (λ (r : Row). jump_for (flow_of op) (c.operands - r.takes + r.gives) c) (like.rows op)
 
   fallen : (op : Op) (c : Counts) → after_fall s op c ≡ after_fall t op c
-  fallen op c = ap (λ (e : ℕ × ℕ × ℕ). fall_for (flow_of op) (c.operands - e.1 + e.2) c) (like.effects op)
+  fallen op c = ap (λ (r : Row). fall_for (flow_of op) (c.operands - r.takes + r.gives) c) (like.rows op)
 
   pub edge : (op : Op) (at : ℕ) (c : Counts) (x : ℕ) (d : Counts) → Edge one op at c x d → Edge other op at c x d
   edge op at c x d (inl j) = inl (like.leads op x j.0, j.1 ∙ jumped op c)
@@ -104,7 +103,7 @@ module _ (bytes : List ℕ) {s t : Setting} {u w : List (List ℕ)} (like : Alik
     handler = h.handler;
     outer = h.outer;
     finds = finds m h.op h.finds;
-    operands_low = subst (λ (e : ℕ × ℕ × ℕ). m.operands - e.1 ≤ h.operands_found) (like.effects h.op) h.operands_low;
+    operands_low = subst (λ (r : Row). m.operands - r.takes ≤ h.operands_found) (like.rows h.op) h.operands_low;
     operands_high = h.operands_high;
     iterators_low = h.iterators_low;
     iterators_high = h.iterators_high;

@@ -1,6 +1,6 @@
 -- Code is refused alike beside pools that operations find alike.
 use Rattle.std.proofs.Common.{◌≡◌, ℕ, inl, inr, List, ap, ◌∙◌}
-use Rattle.grain.specs.Capabilities.{caps_of}
+use Rattle.grain.specs.Rows.{Row, caps_of}
 use Rattle.grain.specs.CapBits.{missing}
 use Rattle.grain.specs.Code.{Bytecode}
 use Rattle.grain.specs.Flaw.{ChunkFlaw, Comes, ComesAllowed, Conflicts, FallsOff, Leads}
@@ -56,7 +56,7 @@ module _ (bytes : List ℕ) {s t : Setting} {u w : List (List ℕ)} (like : Alik
   }
 
   lacking : (op : Op) → missing s.caps (caps_of s op) ≡ missing t.caps (caps_of t op)
-  lacking op = ap (λ n. missing n (caps_of s op)) like.caps ∙ ap (λ n. missing t.caps n) (like.asks op)
+  lacking op = ap (λ n. missing n (caps_of s op)) like.caps ∙ ap (λ (r : Row). missing t.caps r.asks) (like.rows op)
 
   pub chunk_flaw : (e : VerifyError) → ChunkFlaw one chunk e → ChunkFlaw other chunk e
   chunk_flaw (errors.MissingCaps artifact absent at) h =
@@ -68,7 +68,7 @@ module _ (bytes : List ℕ) {s t : Setting} {u w : List (List ℕ)} (like : Alik
   chunk_flaw (errors.DepthConflict at expected found) h =
       (framed bytes like chunk h.0, record { entry = h.1.entry; end = h.1.end; place = h.1.place }, conflicts at expected found h.2)
   chunk_flaw (errors.Underflow at need have) h =
-      (framed bytes like chunk h.0, (h.1.0, h.1.1, comes_allowed at h.1.0 h.1.1 h.1.2, h.1.3 ∙ ap (λ (e : ℕ × ℕ × ℕ). e.0) (like.effects h.1.0), h.1.4, h.1.5))
+      (framed bytes like chunk h.0, (h.1.0, h.1.1, comes_allowed at h.1.0 h.1.1 h.1.2, h.1.3 ∙ ap (λ (r : Row). r.needs) (like.rows h.1.0), h.1.4, h.1.5))
   chunk_flaw (errors.IteratorUnderflow at) h = (framed bytes like chunk h.0, (h.1.0, h.1.1, comes_allowed at h.1.0 h.1.1 h.1.2, h.1.3))
   chunk_flaw (errors.HandlerUnderflow at) h = (framed bytes like chunk h.0, (h.1.0, h.1.1, comes_allowed at h.1.0 h.1.1 h.1.2, h.1.3))
   chunk_flaw (errors.SinksBelowHandler at need have) h =

@@ -1,11 +1,14 @@
--- Flaws that are none of a chunk.
-use Rattle.std.proofs.Common.{◌≡◌, ℕ, ◌⊎◌, inl, inr, List}
+-- Which flaws are of a chunk.
+use Rattle.std.proofs.Common.{◌≡◌, ℕ, ◌⊎◌, inl, inr, List, refl, arith}
 use Rattle.std.specs.Borrow.{Bor}
-use Rattle.grain.specs.Accepted.{Input}
-use Rattle.grain.specs.Flaw.{ChunkFlaw, IsFlawOfChunks}
+use Rattle.grain.specs.Accepted.{FunctionsPass, Input}
+use Rattle.grain.specs.Flaw.{ChunkFlaw, Flaw, IsFlawOfChunks, bad_index, of_chunk, of_code, of_constant, of_functions, undecodable}
 use Rattle.grain.specs.Span.{Span}
+use Rattle.grain_base.specs.declared.caps.Caps.{Caps}
 use Rattle.grain.specs.declared.VerifyError.{VerifyError}
 use Rattle.grain.specs.declared.VerifyError.TheVariants as errors
+use Rattle.grain_flat.specs.Judging.{input_of}
+use Rattle.grain_flat.specs.declared.judge.Judge.{Judge}
 
 abbrev pub IsOfCode : VerifyError → Type 0
 IsOfCode e =
@@ -20,3 +23,13 @@ none_of_chunk i e is flaw = at _ is (flaw.chunk.here (record { entry = 0; end = 
     at chunk (inr (inl h)) flaw = rw h.3 at flaw
     at chunk (inr (inr (inl h))) flaw = rw h.2 at flaw
     at chunk (inr (inr (inr h))) flaw = rw h at flaw
+
+-- Where no constants are verified: what isn't of the code is of a chunk, if functions pass wherever capabilities are lacking.
+pub some_of_chunk : (j : Judge) (chunks : List Span) (e : VerifyError) → (IsOfCode e → ⊥)
+    → ((artifact absent : Caps) (at : ℕ) → e ≡ errors.MissingCaps artifact absent at → FunctionsPass (input_of j chunks)) → Flaw (input_of j chunks) e
+    → IsFlawOfChunks (input_of j chunks) e
+some_of_chunk j chunks e code pass (of_constant is asks) = absurd (omega (arith, asks.inside))
+some_of_chunk j chunks e code pass (of_code constants (undecodable {at} front none)) = absurd (code (inl (at, refl)))
+some_of_chunk j chunks e code pass (of_code constants (bad_index {at} {what} {index} op front stands is)) = absurd (code (inr (inl (at, what, index, refl))))
+some_of_chunk j chunks e code pass (of_functions {artifact} {absent} is asks) = absurd (asks.refused (pass artifact absent 0 refl asks.functions))
+some_of_chunk j chunks e code pass (of_chunk flaw) = flaw

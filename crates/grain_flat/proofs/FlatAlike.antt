@@ -1,13 +1,14 @@
 -- Operations find pools of one flat form alike.
-use Rattle.std.proofs.Common.{◌≡◌, ℕ, List, [], ◌∷◌, ◌++◌, get_or, map, refl, subst, sym, ap, ◌∙◌}
+use Rattle.std.proofs.Common.{◌≡◌, ℕ, List, [], ◌∷◌, ◌++◌, false, get_or, map, refl, subst, sym, ap, ◌∙◌}
 use Rattle.std.specs.List.{AllZip, Contains, flat_map}
 use Rattle.std.proofs.lemmas.List.Concat.{flat_map-cons}
-use Rattle.grain.specs.Capabilities.{caps_of, chain_caps}
+use Rattle.grain.specs.Capabilities.{chain_caps}
 use Rattle.grain.specs.Chain.{consumed}
 use Rattle.grain.specs.Dispatch.{Arms, Case, listed, targets}
-use Rattle.grain.specs.Effects.{stack_effect}
 use Rattle.grain.specs.Flow as flows
-use Rattle.grain.specs.Flow.{Flow, flow_of, targets_for}
+use Rattle.grain.specs.Flow.{Falls, Flow}
+use Rattle.grain.specs.Rows.{does, flow_of, row}
+use Rattle.grain.specs.FlowFields.{targets_for}
 use Rattle.grain.specs.Setting.{Setting}
 use Rattle.grain_bytecode.specs.declared.Chain.{Chain}
 use Rattle.grain_bytecode.specs.declared.Op.{Op}
@@ -33,13 +34,6 @@ flat_same f g same (x ∷ xs) = flat_map-cons f x xs ∙ ap (λ ys. ys ++ flat_m
 -- what a function that rows tell gives of chains of one flat form
 pub all_told : {X : Type 0} (f : Chain → X) (g : Told → X) → ((c : Chain) → f c ≡ g (told_of c)) → (cs ds : List Chain) → map told_of cs ≡ map told_of ds → map f cs ≡ map f ds
 all_told f g told cs ds same = map_told f told_of g told cs ∙ ap (map g) same ∙ sym (map_told f told_of g told ds)
-
-effect_same : (cs ds : List Chain) → map consumed cs ≡ map consumed ds → (op : Op) → stack_effect cs op ≡ stack_effect ds op
-effect_same cs ds same (ops.Chain h) = ap (λ ks. let k = get_or ks h 0 in (k, k, 1)) same
-effect_same cs ds same (ops.CallRef n a (receiver.Local slot) capture) = refl
-effect_same cs ds same (ops.CallRef n a (receiver.Named m) capture) = refl
-effect_same cs ds same (ops.CallRef n a receiver.This capture) = refl
-effect_same cs ds same op = refl
 
 -- what the rows of cases tell of a case
 case_same : (f : Case → ℕ) (g : CCase → ℕ) → ((c : Case) → f c ≡ g (case_row c)) → (t u : Arms) → SameArms t u → (x : ℕ) → Contains (map f (listed t.cases)) x → Contains (map f (listed u.cases)) x
@@ -80,12 +74,13 @@ pub record AreOf (p : CPools) (chains : List Chain) (switches : List Arms) : Typ
 abbrev pub setting_of : ℕ → CPools → List Chain → List Arms → Setting
 setting_of caps p chains switches = (code_with caps [] p chains switches).setting
 
-asks_same : (caps : ℕ) (p : CPools) (cs ds : List Chain) (ts us : List Arms) → map chain_caps cs ≡ map chain_caps ds → (op : Op) → caps_of (setting_of caps p cs ts) op ≡ caps_of (setting_of caps p ds us) op
-asks_same caps p cs ds ts us same (ops.Chain h) = ap (λ ks. get_or ks h 0) same
-asks_same caps p cs ds ts us same (ops.CallRef n a (receiver.Local slot) capture) = refl
-asks_same caps p cs ds ts us same (ops.CallRef n a (receiver.Named m) capture) = refl
-asks_same caps p cs ds ts us same (ops.CallRef n a receiver.This capture) = refl
-asks_same caps p cs ds ts us same op = refl
+row_same : (caps : ℕ) (p : CPools) (cs ds : List Chain) (ts us : List Arms) → map consumed cs ≡ map consumed ds → map chain_caps cs ≡ map chain_caps ds → (op : Op)
+    → row (setting_of caps p cs ts) op ≡ row (setting_of caps p ds us) op
+row_same caps p cs ds ts us takes asks (ops.Chain h) = λ i. let k = get_or (takes i) h 0 in does k k 1 (get_or (asks i) h 0) Falls false
+row_same caps p cs ds ts us takes asks (ops.CallRef n a (receiver.Local slot) capture) = refl
+row_same caps p cs ds ts us takes asks (ops.CallRef n a (receiver.Named m) capture) = refl
+row_same caps p cs ds ts us takes asks (ops.CallRef n a receiver.This capture) = refl
+row_same caps p cs ds ts us takes asks op = refl
 
 pub told_same : (p : CPools) (cs ds : List Chain) (ts us : List Arms) → AreOf p cs ts → AreOf p ds us → map told_of cs ≡ map told_of ds
 told_same p cs ds ts us one other =
@@ -102,8 +97,7 @@ alike caps p cs ds ts us one other =
     let told = told_same p cs ds ts us one other in
     record {
       caps = refl;
-      effects = effect_same cs ds (all_told consumed told_consumed consumed_told cs ds told);
-      asks = asks_same caps p cs ds ts us (all_told chain_caps told_caps caps_told cs ds told);
+      rows = row_same caps p cs ds ts us (all_told consumed told_consumed consumed_told cs ds told) (all_told chain_caps told_caps caps_told cs ds told);
       leads = λ op. flow_same ts us (arms_same p cs ds ts us one other) (flow_of op);
       leads_back = λ op. flow_same us ts (arms_same p ds cs us ts other one) (flow_of op);
     }

@@ -41,7 +41,8 @@ tests_by_same s t same operands row = ap (λ ts. ts ++ map (operand_test operand
 told_tests_same : (s t : Setting) → SameSizes s t → (x : Told) → told_tests s x ≡ told_tests t x
 told_tests_same s t same x =
     ap (λ ts. ts ++ flat_map (tests_by s x.0.operands) x.1 ++ field_tests s (tail_names (x.0.tail, x.0.op))) (fields_same s t same (root_names (x.0.root, x.0.root_name)))
-    ∙ ap (λ ts. field_tests t (root_names (x.0.root, x.0.root_name)) ++ ts ++ field_tests s (tail_names (x.0.tail, x.0.op))) (flat_same (tests_by s x.0.operands) (tests_by t x.0.operands) (tests_by_same s t same x.0.operands) x.1)
+    ∙ ap (λ ts. field_tests t (root_names (x.0.root, x.0.root_name)) ++ ts ++ field_tests s (tail_names (x.0.tail, x.0.op)))
+    (flat_same (tests_by s x.0.operands) (tests_by t x.0.operands) (tests_by_same s t same x.0.operands) x.1)
     ∙ ap (λ ts. field_tests t (root_names (x.0.root, x.0.root_name)) ++ flat_map (tests_by t x.0.operands) x.1 ++ ts) (fields_same s t same (tail_names (x.0.tail, x.0.op)))
 
 -- the tests inside chains of one flat form
@@ -82,7 +83,8 @@ cases_at s t shared pools.SyntaxSites i x has = has
 
 all_cases : (s t : Setting) → ((w x : ℕ) → Contains (get_or s.cases w []) x → Contains (get_or t.cases w []) x) → (fs : List Field) (x : ℕ) → Contains (all_case_constants s fs) x → Contains (all_case_constants t fs) x
 all_cases s t shared [] x has = has
-all_cases s t shared (Index pool i ∷ fs) x has = appended (pool_constants s pool i) (all_case_constants s fs) (pool_constants t pool i) (all_case_constants t fs) x (cases_at s t shared pool i x) (all_cases s t shared fs x) has
+all_cases s t shared (Index pool i ∷ fs) x has =
+    appended (pool_constants s pool i) (all_case_constants s fs) (pool_constants t pool i) (all_case_constants t fs) x (cases_at s t shared pool i x) (all_cases s t shared fs x) has
 all_cases s t shared (Slot i ∷ fs) x has = all_cases s t shared fs x has
 all_cases s t shared (Count i ∷ fs) x has = all_cases s t shared fs x has
 all_cases s t shared (Target i ∷ fs) x has = all_cases s t shared fs x has

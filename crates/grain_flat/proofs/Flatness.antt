@@ -139,7 +139,8 @@ nothing_left [] none = refl
 nothing_left (x ∷ xs) none = absurd (omega arith)
 
 -- chains with these rows and these steps
-chains_of : (rows : List CChain) (given : List CStep) → All IsChainRow rows → All IsStepRow given → sum_by (λ (r : CChain). r.steps) rows ≡ length given → length given < 2 ^ 63 → (cs : List Chain) × AreChains rows given cs
+chains_of : (rows : List CChain) (given : List CStep) → All IsChainRow rows → All IsStepRow given → sum_by (λ (r : CChain). r.steps) rows ≡ length given → length given < 2 ^ 63
+    → (cs : List Chain) × AreChains rows given cs
 chains_of [] given known steps long small = ([], record { rows_are = refl; steps_are = nothing_left given long })
 chains_of (row ∷ rows) given known steps long small =
     let counted : row.steps + sum_by (λ (r : CChain). r.steps) rows ≡ length given = sym (sum_by-cons (λ (r : CChain). r.steps) row rows) ∙ long in
@@ -182,7 +183,8 @@ one_more_switch row rows own more near far ts own_long near_long others =
     }
 
 -- switches with these rows, cases and ranges
-switches_of : (rows : List CSwitch) (cases : List CCase) (ranges : List ℕ) → sum_by (λ (r : CSwitch). r.cases) rows ≡ length cases → sum_by (λ (r : CSwitch). r.ranges) rows ≡ length ranges → (ts : List Arms) × AreSwitches rows cases ranges ts
+switches_of : (rows : List CSwitch) (cases : List CCase) (ranges : List ℕ) → sum_by (λ (r : CSwitch). r.cases) rows ≡ length cases
+    → sum_by (λ (r : CSwitch). r.ranges) rows ≡ length ranges → (ts : List Arms) × AreSwitches rows cases ranges ts
 switches_of [] cases ranges c r = ([], record { rows_are = refl; pieces = []; cases_are = nothing_left cases c; each = tt; ranges_are = nothing_left ranges r })
 switches_of (row ∷ rows) cases ranges c r =
     let counted : row.cases + sum_by (λ (r : CSwitch). r.cases) rows ≡ length cases = sym (sum_by-cons (λ (r : CSwitch). r.cases) row rows) ∙ c in

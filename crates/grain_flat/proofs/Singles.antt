@@ -2,35 +2,21 @@
 use Rattle.std.proofs.Common.{◌≡◌, ℕ, zero, suc, ◌<◌, ◌⊎◌, inl, inr, List, [], ◌∷◌, Some, get_or, refl, subst, ◌∙◌, arith}
 use Rattle.std.proofs.lemmas.List.{get_or_default}
 use Rattle.grain.specs.Accepted.{ChunkPasses, IsAccepted}
-use Rattle.grain.specs.Flaw.{ChunkFlaw, Flaw, IsFlawOfChunks}
+use Rattle.grain.specs.Flaw.{ChunkFlaw, Flaw, IsFlawOfChunks, of_chunk, of_code, of_constant, of_functions}
 use Rattle.grain.specs.Span.{Span}
 use Rattle.grain.specs.Verdict.{ReachesChunks}
 use Rattle.grain.specs.declared.VerifyError.{VerifyError}
-use Rattle.grain.specs.declared.VerifyError.TheVariants as errors
 use Rattle.grain_flat.specs.Answers.{FlawAt}
 use Rattle.grain_flat.specs.Judging.{IsFirstRefused, code_of, input_of}
 use Rattle.grain_flat.specs.declared.judge.Judge.{Judge}
 
 -- what is refused before the chunks is refused so with any
 pub before_any : (j : Judge) (one other : List Span) (e : VerifyError) → Flaw (input_of j one) e → (IsFlawOfChunks (input_of j one) e → ⊥) → Flaw (input_of j other) e
-before_any j one other (errors.MissingCaps artifact absent at) (inl (is, zero_at, inl h)) none = absurd (omega (arith, h.inside))
-before_any j one other (errors.MissingCaps artifact absent at) (inl (is, zero_at, inr h)) none =
-    inl (is, zero_at, inr (record { constants = h.constants; code = h.code; functions = h.functions; what = h.what; refused = h.refused }))
-before_any j one other (errors.MissingCaps artifact absent at) (inr h) none = absurd (none h)
-before_any j one other (errors.Undecodable at) h none = h
-before_any j one other (errors.BadIndex at what index) h none = h
-before_any j one other (errors.TrailingBytes at len) h none = h
-before_any j one other errors.OutOfMemory h none = h
-before_any j one other (errors.ChunkOutOfRange entry end len) h none = absurd (none h)
-before_any j one other (errors.JumpOutOfRange at target) h none = absurd (none h)
-before_any j one other (errors.JumpIntoAnInstruction at target) h none = absurd (none h)
-before_any j one other (errors.DepthConflict at expected found) h none = absurd (none h)
-before_any j one other (errors.Underflow at need have) h none = absurd (none h)
-before_any j one other (errors.StackExceedsDeclared needed declared) h none = absurd (none h)
-before_any j one other (errors.IteratorUnderflow at) h none = absurd (none h)
-before_any j one other (errors.HandlerUnderflow at) h none = absurd (none h)
-before_any j one other (errors.SinksBelowHandler at need have) h none = absurd (none h)
-before_any j one other errors.FallsOffTheEnd h none = absurd (none h)
+before_any j one other e (of_constant is h) none = absurd (omega (arith, h.inside))
+before_any j one other e (of_code pass f) none = of_code pass f
+before_any j one other e (of_functions is h) none =
+    of_functions is (record { constants = h.constants; code = h.code; functions = h.functions; what = h.what; refused = h.refused })
+before_any j one other e (of_chunk h) none = absurd (none h)
 
 -- a chunk that is the first that doesn't pass doesn't pass by itself
 pub fails_alone : (j : Judge) (chunks : List Span) (k : ℕ) (chunk : Span) → chunk ≡ get_or chunks k chunk → IsFirstRefused (code_of j) chunks k → IsAccepted (input_of j (chunk ∷ [])) → ⊥

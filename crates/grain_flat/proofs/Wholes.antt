@@ -6,7 +6,7 @@ use Rattle.grain.specs.Accepted.{AllowsConst, AreIndexed, AreDeepest, AreSafe, A
 use Rattle.grain.specs.Code.{coded}
 use Rattle.grain.specs.ConstCaps.{const_caps}
 use Rattle.grain.specs.Dispatch.{Arms, targets}
-use Rattle.grain.specs.Flaw.{CodeFlaw, ConstantAsks, Flaw, IsFirstFlaw, IsFlawOfChunks, PassesTo}
+use Rattle.grain.specs.Flaw.{CodeFlaw, ConstantAsks, Flaw, IsFirstFlaw, IsFlawOfChunks, PassesTo, bad_index, of_chunk, of_code, of_constant, of_functions, undecodable}
 use Rattle.grain.specs.Setting.{Setting}
 use Rattle.grain.specs.Span.{Span}
 use Rattle.grain.specs.Meter.{AreReached}
@@ -69,21 +69,8 @@ module _ (caps : ℕ) (bytes : List ℕ) (p : CPools) (cs ds : List Chain) (ts u
   passes_to at h = record { inside = h.inside; front = all_indexed _ h.front }
 
   code_flaw : (e : VerifyError) → CodeFlaw s bytes e → CodeFlaw t bytes e
-  code_flaw (errors.Undecodable at) h = (passes_to at h.0, h.1)
-  code_flaw (errors.BadIndex at what index) h = (passes_to at h.0, (h.1.0, h.1.1, out s t tested h.1.0 what.now index h.1.2))
-  code_flaw (errors.MissingCaps artifact absent at) h = h
-  code_flaw (errors.TrailingBytes at len) h = h
-  code_flaw (errors.ChunkOutOfRange entry end len) h = h
-  code_flaw (errors.JumpOutOfRange at target) h = h
-  code_flaw (errors.JumpIntoAnInstruction at target) h = h
-  code_flaw (errors.DepthConflict at expected found) h = h
-  code_flaw (errors.Underflow at need have) h = h
-  code_flaw (errors.StackExceedsDeclared needed declared) h = h
-  code_flaw (errors.IteratorUnderflow at) h = h
-  code_flaw (errors.HandlerUnderflow at) h = h
-  code_flaw (errors.SinksBelowHandler at need have) h = h
-  code_flaw errors.FallsOffTheEnd h = h
-  code_flaw errors.OutOfMemory h = h
+  code_flaw e (undecodable {at} p none) = undecodable (passes_to at p) none
+  code_flaw e (bad_index {at} {what} {index} op p stands is) = bad_index op (passes_to at p) stands (out s t tested op what.now index is)
 
   all_typed : (chunks : List Span) (numbers : List ℕ) → AreTyped (mine chunks) numbers → AreTyped (theirs chunks) numbers
   all_typed chunks numbers = zip_map (HasTyping (coded (mine chunks).code)) (HasTyping (coded (theirs chunks).code)) (typed bytes like) chunks numbers
@@ -107,7 +94,8 @@ module _ (caps : ℕ) (bytes : List ℕ) (p : CPools) (cs ds : List Chain) (ts u
   }
 
 -- the constants that ask what rows say pass where the rows do
-row_of : (rows : List CConstant) (consts : List Dynamic) → rows ≡ map asked_row (map const_caps consts) → (k : ℕ) (d : Dynamic) (r : CConstant) → k < length consts → asked_row (const_caps (get_or consts k d)) ≡ get_or rows k r
+row_of : (rows : List CConstant) (consts : List Dynamic) → rows ≡ map asked_row (map const_caps consts) → (k : ℕ) (d : Dynamic) (r : CConstant) → k < length consts
+    → asked_row (const_caps (get_or consts k d)) ≡ get_or rows k r
 row_of rows consts is k d r inside =
     let inner : get_or (map const_caps consts) k (const_caps d) ≡ const_caps (get_or consts k d) = get_or-map const_caps consts k d (const_caps d) inside in
     let long : k < length (map const_caps consts) = omega (arith, length-map consts const_caps) in
@@ -190,34 +178,17 @@ module _ (caps : ℕ) (bytes : List ℕ) (chunks : List Span) (p : CPools) (cs :
   code_flaw_there = code_flaw caps bytes p cs rest.pooled.chains ts rest.pooled.switches made given_are
 
   before_there : (e : VerifyError) → Flaw verified e → (IsFlawOfChunks verified e → ⊥) → Flaw given e
-  before_there (errors.MissingCaps artifact absent at) (inl (is, start, inl h)) none = absurd (omega (arith, h.inside))
-  before_there (errors.MissingCaps artifact absent at) (inl (is, start, inr h)) none =
-      inl (
-        is,
-        start,
-        inr (record {
-          constants = constants;
-          code = code_there h.code;
-          functions = λ are. h.functions (some.any (sym rest.functions_are ∙ ap length are));
-          what = h.what;
-          refused = h.refused;
-        }),
-      )
-  before_there (errors.MissingCaps artifact absent at) (inr h) none = absurd (none h)
-  before_there (errors.Undecodable at) h none = (constants, code_flaw_there (errors.Undecodable at) h.1)
-  before_there (errors.BadIndex at what index) h none = (constants, code_flaw_there (errors.BadIndex at what index) h.1)
-  before_there (errors.TrailingBytes at len) h none = h
-  before_there errors.OutOfMemory h none = h
-  before_there (errors.ChunkOutOfRange entry end len) h none = absurd (none h)
-  before_there (errors.JumpOutOfRange at target) h none = absurd (none h)
-  before_there (errors.JumpIntoAnInstruction at target) h none = absurd (none h)
-  before_there (errors.DepthConflict at expected found) h none = absurd (none h)
-  before_there (errors.Underflow at need have) h none = absurd (none h)
-  before_there (errors.StackExceedsDeclared needed declared) h none = absurd (none h)
-  before_there (errors.IteratorUnderflow at) h none = absurd (none h)
-  before_there (errors.HandlerUnderflow at) h none = absurd (none h)
-  before_there (errors.SinksBelowHandler at need have) h none = absurd (none h)
-  before_there errors.FallsOffTheEnd h none = absurd (none h)
+  before_there e (of_constant is h) none = absurd (omega (arith, h.inside))
+  before_there e (of_code pass f) none = of_code constants (code_flaw_there e f)
+  before_there e (of_functions is h) none =
+      of_functions is (record {
+        constants = constants;
+        code = code_there h.code;
+        functions = λ are. h.functions (some.any (sym rest.functions_are ∙ ap length are));
+        what = h.what;
+        refused = h.refused;
+      })
+  before_there e (of_chunk h) none = absurd (none h)
 
   pub flaw_there : (place : Option ℕ) (e : VerifyError) → FlawAt verified place e → FlawAt given place e
   flaw_there None e h = (before_there e h.0 h.1, λ flaw. h.1 (chunks_back e flaw))
@@ -252,13 +223,15 @@ pub no_constants : (caps : ℕ) → All (ConstantPasses caps) []
 no_constants caps k d none = absurd (omega arith)
 
 -- what a constant asks that isn't all there refuses all with the flat form
-pub constant_flaw : (artifact absent : Caps) (bytes : List ℕ) (chunks : List Span) (p : CPools) → IsFirstRefusedRow artifact.0 p.constants.now absent.0 → Refuses artifact.0 bytes chunks p None (errors.MissingCaps artifact absent 0)
+pub constant_flaw : (artifact absent : Caps) (bytes : List ℕ) (chunks : List Span) (p : CPools) → IsFirstRefusedRow artifact.0 p.constants.now absent.0
+    → Refuses artifact.0 bytes chunks p None (errors.MissingCaps artifact absent 0)
 constant_flaw artifact absent bytes chunks p h =
-    let asks : (whole : Whole p) → ConstantAsks artifact.0 whole.consts absent.0 = λ whole. constant_asks artifact.0 absent.0 p.constants.now whole.consts (whole.rest.pooled.asked_are ∙ ap (map asked_row) (sym whole.asked_are)) h in
+    let asks : (whole : Whole p) → ConstantAsks artifact.0 whole.consts absent.0 = λ whole. constant_asks artifact.0 absent.0 p.constants.now whole.consts
+    (whole.rest.pooled.asked_are ∙ ap (map asked_row) (sym whole.asked_are)) h in
     let fails : (whole : Whole p) → All (ConstantPasses artifact.0) whole.consts → ⊥ = λ whole pass. let a = asks whole in
     a.refused (subst (AllowsConst artifact.0) (a.here values.Unit) (pass a.place values.Unit a.inside)) in
     record {
       refused = λ whole accepted. fails whole accepted.constants;
-      flaw = λ whole. (inl (refl, refl, inl (asks whole)), λ flaw. fails whole flaw.constants);
+      flaw = λ whole. (of_constant refl (asks whole), λ flaw. fails whole flaw.constants);
       cause = inl (record { artifact = artifact; asked = absent; artifact_is = refl; first = h; place_is = refl; error_is = refl });
     }

@@ -11,7 +11,8 @@ use Rattle.grain.specs.declared.VerifyError.TheVariants as errors
 use Rattle.grain_base.specs.declared.caps.Caps.{Caps}
 use Rattle.grain_flat.specs.Asking.{IsFirstRefusedRow, RowPasses}
 use Rattle.grain_flat.specs.Flat.{Rest, Whole, flat_input, rest_input}
-use Rattle.grain_flat.specs.declared.faults.TheConstants.{NO_CHUNK, MISSING_CAPS, UNDECODABLE, TRAILING_BYTES, CHUNK_OUT_OF_RANGE, JUMP_OUT_OF_RANGE, JUMP_INTO_AN_INSTRUCTION, DEPTH_CONFLICT, UNDERFLOW, FALLS_OFF_THE_END, STACK_EXCEEDS_DECLARED, ITERATOR_UNDERFLOW, HANDLER_UNDERFLOW, SINKS_BELOW_HANDLER, BAD_INDEX}
+use Rattle.grain_flat.specs.declared.faults.TheConstants.{NO_CHUNK, MISSING_CAPS, UNDECODABLE, TRAILING_BYTES, CHUNK_OUT_OF_RANGE, JUMP_OUT_OF_RANGE, JUMP_INTO_AN_INSTRUCTION}
+use Rattle.grain_flat.specs.declared.faults.TheConstants.{DEPTH_CONFLICT, UNDERFLOW, FALLS_OFF_THE_END, STACK_EXCEEDS_DECLARED, ITERATOR_UNDERFLOW, HANDLER_UNDERFLOW, SINKS_BELOW_HANDLER, BAD_INDEX}
 use Rattle.grain_flat.specs.declared.kinds.TheConstants.{NOTHING, CONSTANT, NAME, OPERATOR, OP_ASSIGNMENT, FRAGMENT, CHAIN, SWITCH, SYNTAX_SITE, OPERAND}
 use Rattle.grain_flat.specs.declared.records.CFault.{CFault}
 use Rattle.grain_flat.specs.declared.records.CPools.{CPools}

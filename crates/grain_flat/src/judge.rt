@@ -81,6 +81,7 @@ impl Judge<'_> {
     }
 
     /// Whether what is wrong is a chunk, and not what is tested before the chunks.
+    #[tactic(auto, using(crate::proofs::Before::some_of_chunk))]
     fn is_of_chunk(&self, error: &VerifyError) -> bool
         ensures chunk { OnTrue result ((chunks : List Span)
             → Flaw (input_of self.now chunks) error.now

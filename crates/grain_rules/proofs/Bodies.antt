@@ -37,8 +37,15 @@ between (suc fuel) bytes at end enough s b l m =
       | inl k ↦
           let more = between fuel bytes (at + w) end (let q = k.0 in omega arith) k.1 b k.0 m in
           let e : end - at ≡ w + (end - (at + w)) = let q = k.0 in omega arith in
-          let cut : take (end - at) (drop at bytes) ≡ take w (drop at bytes) ++ take (end - (at + w)) (drop (at + w) bytes) = ap (λ n. take n (drop at bytes)) e ∙ (take-add w (end - (at + w)) (drop at bytes) ∙ ap (λ xs. take w (drop at bytes) ++ take (end - (at + w)) xs) (drop-drop w at bytes)) in
-          (op ∷ more.0, record { each = (instr_is (take w (drop at bytes)) op found.1, more.1.each); whole = cut ∙ (ap (λ xs. xs ++ take (end - (at + w)) (drop (at + w) bytes)) here ∙ (ap (λ xs. spelling op ++ xs) more.1.whole ∙ sym (flat_map-cons spelling op more.0))) })
+          let cut : take (end - at) (drop at bytes) ≡ take w (drop at bytes) ++ take (end - (at + w)) (drop (at + w) bytes) = ap (λ n. take n (drop at bytes)) e
+          ∙ (take-add w (end - (at + w)) (drop at bytes) ∙ ap (λ xs. take w (drop at bytes) ++ take (end - (at + w)) xs) (drop-drop w at bytes)) in (
+            op ∷ more.0,
+            record {
+              each = (instr_is (take w (drop at bytes)) op found.1, more.1.each);
+              whole = cut
+                  ∙ (ap (λ xs. xs ++ take (end - (at + w)) (drop (at + w) bytes)) here ∙ (ap (λ xs. spelling op ++ xs) more.1.whole ∙ sym (flat_map-cons spelling op more.0)));
+            },
+          )
       | inr e ↦
           let long : end - at ≡ w = omega arith in
           (op ∷ [], record { each = (instr_is (take w (drop at bytes)) op found.1, tt); whole = ap (λ n. take n (drop at bytes)) long ∙ (here ∙ sym (flat_map-cons spelling op [] ∙ append-nil (spelling op))) })
@@ -52,12 +59,15 @@ pub body_whole : (code : Bytecode) (chunk : Span) → ChunkPasses code chunk →
 body_whole code chunk p =
     let h = (p.typed.1.met chunk.entry _ p.typed.1.entry).1.stands.within in
     let f = p.framed in
-    let cut : body chunk code.bytes ≡ take (chunk.end - chunk.entry) (drop chunk.entry code.bytes) = ap (λ (b : Bool). cond b (take (chunk.end - chunk.entry) (drop chunk.entry code.bytes)) []) (inside_test chunk.entry chunk.end (length code.bytes) f.ordered f.inside) in
+    let cut : body chunk code.bytes ≡ take (chunk.end - chunk.entry)
+    (drop chunk.entry code.bytes) = ap (λ (b : Bool). cond b (take (chunk.end - chunk.entry) (drop chunk.entry code.bytes)) []) (inside_test chunk.entry chunk.end (length code.bytes) f.ordered f.inside) in
     let all = between chunk.end code.bytes chunk.entry chunk.end (omega arith) f.entry f.end h.end f.inside in
     (all.0, subst (λ (b : List ℕ). AreInstructions b all.0) (sym cut) all.1)
 
 -- where a switch leads that a kept run meets, the typing covers a place of the chunk
-pub switch_inside : (code : Bytecode) (chunk : Span) (m : ℕ) (typing : ℕ → Option Counts) → IsTyping (coded code) chunk m typing → (x : Machine) → IsOnKeptRun (coded code) chunk x → (w : ℕ) → Finds (coded code) chunk x (ops.Switch w) → (t : Arms) (subject : Content) → get_or code.switches w [] ≡ targets t → IsInChunk (coded code) chunk (dispatched t subject) × ((c : Counts) × (typing (dispatched t subject) ≡ Some c))
+pub switch_inside : (code : Bytecode) (chunk : Span) (m : ℕ) (typing : ℕ → Option Counts) → IsTyping (coded code) chunk m typing → (x : Machine) → IsOnKeptRun (coded code) chunk x
+    → (w : ℕ) → Finds (coded code) chunk x (ops.Switch w) → (t : Arms) (subject : Content) → get_or code.switches w [] ≡ targets t
+    → IsInChunk (coded code) chunk (dispatched t subject) × ((c : Counts) × (typing (dispatched t subject) ≡ Some c))
 switch_inside code chunk m typing h x run w f t subject e =
     let reached = (kept_run_tied (coded code) chunk m (typing, h) run.0 x run.1).reached in
     let covered = typing_covers (coded code) chunk m typing h x.address (counts x) reached in

@@ -7,7 +7,9 @@ use Rattle.grain_rules.specs.Code.{Code}
 use Rattle.grain_rules.specs.Counts.{Base, Counts, without_last}
 use Rattle.grain_rules.specs.Depths.{DepthEdge, Depths, IsDepthTyping, PassesByDepth, depths_after_fall, depths_after_jump, depths_of}
 use Rattle.grain_rules.specs.Effects.{after_fall, after_jump, operands_after}
-use Rattle.grain_rules.specs.Flow.{Flow, PopsHandler, PushesHandler, fall_for, flow_of, jump_for}
+use Rattle.grain_rules.specs.Flow.{Flow, PopsHandler, PushesHandler}
+use Rattle.grain_rules.specs.FlowFields.{fall_for, jump_for}
+use Rattle.grain_rules.specs.Rows.{flow_of}
 use Rattle.grain_rules.specs.Layout.{Reads}
 use Rattle.grain_rules.specs.Typing.{IsTyping}
 
@@ -55,8 +57,11 @@ module _ (code : Code) (chunk : Span) (m : ℕ) (typing : ℕ → Option Counts)
     met = λ at d is. (
         let c = counts_there (typing at) d is in
         let found = typed.met at c.0 c.1 in
-        let meets = found.1.meets in
-        (found.0, subst (λ (x : Depths). PassesByDepth code chunk at x found.0) c.2 (record { stands = found.1.stands; operands = meets.operands; iterators = meets.iterators; handlers = meets.handlers; allowed = found.1.allowed }))
+        let meets = found.1.meets in (
+          found.0,
+          subst (λ (x : Depths). PassesByDepth code chunk at x found.0) c.2
+              (record { stands = found.1.stands; operands = meets.operands; iterators = meets.iterators; handlers = meets.handlers; allowed = found.1.allowed }),
+        )
         );
     closed = λ at d op b e is reads edge. (
         let c = counts_there (typing at) d is in

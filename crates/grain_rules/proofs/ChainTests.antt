@@ -63,7 +63,8 @@ chain_pass s c h =
     let tail = field_tests s (tail_fields c.tail) in
     let front = each_front IsPassed (root ++ middle) tail h in
     each_both (IsBounded s) (root_fields c.root ++ flat_map step_fields c.steps.items) (tail_fields c.tail)
-    (each_both (IsBounded s) (root_fields c.root) (flat_map step_fields c.steps.items) (fields_pass s (root_fields c.root) (each_front IsPassed root middle front)) (steps_pass s c.operands c.steps.items (each_back IsPassed root middle front)))
+    (each_both (IsBounded s) (root_fields c.root) (flat_map step_fields c.steps.items) (fields_pass s (root_fields c.root) (each_front IsPassed root middle front))
+    (steps_pass s c.operands c.steps.items (each_back IsPassed root middle front)))
     (fields_pass s (tail_fields c.tail) (each_back IsPassed (root ++ middle) tail h))
 
 chains_pass : (s : Setting) (all : List Chain) (x : ℕ) → AllByRecursion IsPassed (get_or (map (chain_tests s) all) x []) → AllByRecursion (IsBounded s) (get_or (map chain_fields all) x [])
@@ -96,7 +97,8 @@ pub within_pools : (s : Setting) (op : Op) → Indexed s op → IsWithinPools s 
 within_pools s op h =
     let own = (form op).1 in
     record {
-      fields = each_both (IsBounded s) own (all_inner chain_fields s own) (fields_pass s own (each_front IsPassed (field_tests s own) (all_inner (chain_tests s) s own) h.tests)) (all_pass s own (each_back IsPassed (field_tests s own) (all_inner (chain_tests s) s own) h.tests));
+      fields = each_both (IsBounded s) own (all_inner chain_fields s own) (fields_pass s own (each_front IsPassed (field_tests s own) (all_inner (chain_tests s) s own) h.tests))
+          (all_pass s own (each_back IsPassed (field_tests s own) (all_inner (chain_tests s) s own) h.tests));
       cases = h.cases;
     }
 
@@ -134,7 +136,8 @@ operands_within s x c step place h found among taken =
     steps_within s c.operands c.steps.items step place (each_back IsPassed root middle front) among taken
 
 -- and of one that an instruction of an accepted program names
-pub accepted_within : (i : Input) → IsAccepted i → (all : List Op) → AreInstructions i.code.bytes all → (x : ℕ) → Contains all (ops.Chain x) → (c : Chain) → slice_get i.code.setting.chains x ≡ Some c → (step : Step) → Contains c.steps.items step → (place : ℕ) → TakesOperand step place → place < c.operands
+pub accepted_within : (i : Input) → IsAccepted i → (all : List Op) → AreInstructions i.code.bytes all → (x : ℕ) → Contains all (ops.Chain x) → (c : Chain)
+    → slice_get i.code.setting.chains x ≡ Some c → (step : Step) → Contains c.steps.items step → (place : ℕ) → TakesOperand step place → place < c.operands
 accepted_within i accepted all are x named c found step among place taken =
     let code = accepted.code in
     let same = (one_front code.0 all [] [] code.1.each are.each begins_none_nil begins_none_nil (ap (λ (b : List ℕ). b ++ []) (sym code.1.whole ∙ are.whole))).0 in

@@ -4,7 +4,8 @@ use Rattle.std.proofs.lemmas.Option.{same_Some}
 use Rattle.grain_code.specs.Span.{Span}
 use Rattle.grain_code.specs.declared.op.Op.{Op}
 use Rattle.grain_rules.specs.Accepted.{ChunkPasses, IsSafe}
-use Rattle.grain_rules.specs.Capabilities.{Allows, caps_of}
+use Rattle.grain_rules.specs.Capabilities.{Allows}
+use Rattle.grain_rules.specs.Rows.{caps_of}
 use Rattle.grain_rules.specs.Code.{Bytecode, Code, coded}
 use Rattle.grain_rules.specs.Counts.{Base, Counts, last_base, nothing}
 use Rattle.grain_rules.specs.Effects.{Meets, after_fall, after_jump}

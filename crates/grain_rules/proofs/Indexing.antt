@@ -8,7 +8,7 @@ use Rattle.grain_code.specs.InstructionTable.{Instr, form, width_of}
 use Rattle.grain_code.specs.declared.op.Op.{Op}
 use Rattle.grain_code.proofs.Splits.{one_more}
 use Rattle.grain_rules.specs.Accepted.{AreIndexed}
-use Rattle.grain_rules.specs.Flaw.{CodeFlaw, PassesTo}
+use Rattle.grain_rules.specs.Flaw.{CodeFlaw, PassesTo, bad_index, undecodable}
 use Rattle.grain_rules.specs.FirstOut.{alone}
 use Rattle.grain_rules.specs.Indices.{Indexed, IsOut}
 use Rattle.grain_rules.specs.Setting.{Setting, setting}
@@ -46,9 +46,8 @@ out_any caps pools op what index (inl h) = inl (record { earlier = h.earlier; ba
 out_any caps pools op what index (inr h) = inr (record { passed = h.passed; case = h.case; fails = h.fails; named = h.named })
 
 pub flaw_any : (caps : Caps) (pools : Pools) (code : List ℕ) (e : VerifyError) → CodeFlaw (alone pools) code e → CodeFlaw (setting caps pools) code e
-flaw_any caps pools code (errors.Undecodable at) h = (passes_any caps pools code at h.0, h.1)
-flaw_any caps pools code (errors.BadIndex at what index) h = (passes_any caps pools code at h.0, (h.1.0, h.1.1, out_any caps pools h.1.0 what.now index h.1.2))
-flaw_any caps pools code e h = absurd h
+flaw_any caps pools code e (undecodable {at} p none) = undecodable (passes_any caps pools code at p) none
+flaw_any caps pools code e (bad_index {at} {what} {index} op p stands out) = bad_index op (passes_any caps pools code at p) stands (out_any caps pools op what.now index out)
 
 front_is : (x n : ℕ) (rest : List ℕ) → take (n + 1) (x ∷ rest) ≡ x ∷ take n rest
 front_is x n rest = rw add-one refl

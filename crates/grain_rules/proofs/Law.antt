@@ -8,9 +8,11 @@ use Rattle.grain_code.specs.declared.op.Op.{Op}
 use Rattle.grain_rules.specs.Code.{Code}
 use Rattle.grain_rules.specs.Counts.{Base, Counts, armed, without_last}
 use Rattle.grain_rules.specs.Effects.{Edge, after_fall, after_jump, falls_through, operands_after, targets}
-use Rattle.grain_rules.specs.Flow.{Flow, PopsHandler, PushesHandler, fall_for, falls_for, flow_of, jump_for, targets_for}
+use Rattle.grain_rules.specs.Flow.{Flow, PopsHandler, PushesHandler}
 use Rattle.grain_rules.specs.Layout.{next, switches}
-use Rattle.grain_rules.specs.Machine.{Handler, Machine, first, base_of, counts, Finds, handlers_for, handlers_after, jumps_for, Flows, Steps, innermost, Catches, IsKept, Moves, IsKeptRun, IsOnKeptRun}
+use Rattle.grain_rules.specs.Machine.{Handler, Machine, first, base_of, counts, Finds, handlers_behind, handlers_after, Flows, Steps, innermost, Catches, IsKept, Moves, IsKeptRun, IsOnKeptRun}
+use Rattle.grain_rules.specs.FlowFields.{bases_for, fall_for, falls_for, jump_for, jumps_for, targets_for}
+use Rattle.grain_rules.specs.Rows.{flow_of}
 use Rattle.grain_rules.specs.EdgeSteps.{IsArmed, armed_counts, IsEdgeStep, IsEdgeCatch}
 use Rattle.grain_rules.specs.Typing.{IsTyping, HasTyping, Passes, Reached, begin, onward}
 use Rattle.grain_rules.proofs.Once.{reads_once}
@@ -33,12 +35,6 @@ min_right {a} {b} h = omega arith
 pub counts_ext : (c d : Counts) → c.operands ≡ d.operands → c.iterators ≡ d.iterators → c.bases ≡ d.bases → c ≡ d
 counts_ext c d x y z = λ i. record { operands = x i; iterators = y i; bases = z i }
 
--- the bases after an operation of such a flow
-abbrev pub bases_for : Flow → Counts → List Base
-bases_for (PushesHandler target) c = armed c
-bases_for PopsHandler c = without_last c.bases
-bases_for f c = c.bases
-
 fall_bases : (f : Flow) (left : ℕ) (c : Counts) → (fall_for f left c).bases ≡ bases_for f c
 fall_bases (PushesHandler target) left c = refl
 fall_bases f left c = refl
@@ -55,7 +51,7 @@ map_without_last : (hs : List Handler) → map base_of (without_last hs) ≡ wit
 map_without_last [] = refl
 map_without_last (h ∷ hs) = refl
 
-handlers_bases : (f : Flow) (m : Machine) → map base_of (handlers_for f m) ≡ bases_for f (counts m)
+handlers_bases : (f : Flow) (m : Machine) → map base_of (handlers_behind f m) ≡ bases_for f (counts m)
 handlers_bases (PushesHandler target) m = refl
 handlers_bases PopsHandler m = map_without_last m.handlers
 handlers_bases f m = refl
@@ -80,11 +76,13 @@ pub record IsTied (code : Code) (chunk : Span) (m : Machine) : Type 0 where
   pub armed : AreArmed code chunk m.handlers
 
 -- the innermost handler that isn't spent is one of them, and those outside it are too
-innermost_at : (P : List Handler → Type 0) (b : Bool) (x : Handler) (hs : List Handler) (h : Handler) (outer : List Handler) → (innermost hs ≡ Some (h, outer) → P (h ∷ outer)) → P (x ∷ hs) → cond b (innermost hs) (Some (x, hs)) ≡ Some (h, outer) → P (h ∷ outer)
+innermost_at : (P : List Handler → Type 0) (b : Bool) (x : Handler) (hs : List Handler) (h : Handler) (outer : List Handler) → (innermost hs ≡ Some (h, outer) → P (h ∷ outer))
+    → P (x ∷ hs) → cond b (innermost hs) (Some (x, hs)) ≡ Some (h, outer) → P (h ∷ outer)
 innermost_at P true x hs h outer ih a e = ih e
 innermost_at P false x hs h outer ih a e = subst (λ (p : Handler × List Handler). P (p.0 ∷ p.1)) (same_Some (x, hs) (h, outer) e) a
 
-pub innermost_kept : (P : List Handler → Type 0) → ((x : Handler) (hs : List Handler) → P (x ∷ hs) → P hs) → (hs : List Handler) (h : Handler) (outer : List Handler) → P hs → innermost hs ≡ Some (h, outer) → P (h ∷ outer)
+pub innermost_kept : (P : List Handler → Type 0) → ((x : Handler) (hs : List Handler) → P (x ∷ hs) → P hs) → (hs : List Handler) (h : Handler) (outer : List Handler) → P hs
+    → innermost hs ≡ Some (h, outer) → P (h ∷ outer)
 innermost_kept P down [] h outer a e = absurd (none-some (h, outer) e)
 innermost_kept P down (x ∷ hs) h outer a e = innermost_at P x.spent x hs h outer (λ k. innermost_kept P down hs h outer (down x hs a) k) a e
 
@@ -92,7 +90,7 @@ without_last_armed : (code : Code) (chunk : Span) (hs : List Handler) → AreArm
 without_last_armed code chunk [] h = h
 without_last_armed code chunk (x ∷ hs) h = h.1
 
-handlers_armed : (code : Code) (chunk : Span) (op : Op) (m : Machine) (f : Flow) → flow_of op ≡ f → Passes code chunk m.address (counts m) op → IsTied code chunk m → AreArmed code chunk (handlers_for f m)
+handlers_armed : (code : Code) (chunk : Span) (op : Op) (m : Machine) (f : Flow) → flow_of op ≡ f → Passes code chunk m.address (counts m) op → IsTied code chunk m → AreArmed code chunk (handlers_behind f m)
 handlers_armed code chunk op m (PushesHandler target) e p h = (record { place = m.address; op = op; reached = h.reached; passes = p; arms = e }, h.armed)
 handlers_armed code chunk op m PopsHandler e p h = without_last_armed code chunk m.handlers h.armed
 handlers_armed code chunk op m f e p h = h.armed
@@ -105,7 +103,8 @@ catch_edge code op target c e = (
 )
 
 -- where an armed handler catches is reached
-armed_reached : (code : Code) (chunk : Span) (h : Handler) (outer : List Handler) → IsArmed code chunk h outer → Reached code chunk h.target (record { operands = h.operands; iterators = h.iterators; bases = base_of h ∷ map base_of outer })
+armed_reached : (code : Code) (chunk : Span) (h : Handler) (outer : List Handler) → IsArmed code chunk h outer
+    → Reached code chunk h.target (record { operands = h.operands; iterators = h.iterators; bases = base_of h ∷ map base_of outer })
 armed_reached code chunk h outer a = onward a.reached a.passes (inl (catch_edge code a.op h.target (armed_counts h outer) a.arms))
 
 -- some state of a kept run
@@ -161,7 +160,8 @@ module _ (code : Code) (chunk : Span) (d : ℕ) (typed : HasTyping code chunk d)
       (w.0, record { stands = w.1.stands; meets = w.1.meets })
 
   -- where a kept fault lands, the edge leads on which its handler was armed
-  pub catch_lands : (m n : Machine) → IsOnKeptRun code chunk m → (fault : Catches code chunk m n) → IsKept fault → (armed : IsArmed code chunk fault.handler fault.outer) × (n.address ≡ fault.handler.target) × (counts n ≡ after_jump code.setting armed.op (armed_counts fault.handler fault.outer))
+  pub catch_lands : (m n : Machine) → IsOnKeptRun code chunk m → (fault : Catches code chunk m n) → IsKept fault
+      → (armed : IsArmed code chunk fault.handler fault.outer) × (n.address ≡ fault.handler.target) × (counts n ≡ after_jump code.setting armed.op (armed_counts fault.handler fault.outer))
   catch_lands m n run fault kept =
       let h = kept_run_tied run.0 m run.1 in
       let a = innermost_kept (AreArmed code chunk) (λ x hs q. q.1) m.handlers fault.handler fault.outer h.armed fault.caught in
@@ -195,7 +195,7 @@ module _ (code : Code) (chunk : Span) (d : ℕ) (typed : HasTyping code chunk d)
         edge = inr (falls, refl, refl);
         operands = ap (λ (x : Counts). x.operands) (sym after);
         iterators = ap (λ (x : Counts). x.iterators) (sym after);
-        handlers = ap (λ (f : Flow). handlers_for f m) (sym e);
+        handlers = ap (λ (f : Flow). handlers_behind f m) (sym e);
       } in
       let w = run_finds after_arming (m ∷ run.0, (inl arming, run.1)) in
       let n : Machine = record { address = target; operands = min m.operands m.operands; iterators = min m.iterators m.iterators; handlers = record h { spent = true } ∷ m.handlers } in

@@ -10,7 +10,8 @@ use Rattle.grain_rules.specs.Layout.{Layout, Coded, Listed, Reads}
 
 pub stands_once : (bytes : List ℕ) (at : ℕ) (op other : Op) → StandsAt bytes at op → StandsAt bytes at other → op ≡ other
 stands_once bytes at op other h k =
-    (one_instruction (take (width_of op) (drop at bytes)) (take (width_of other) (drop at bytes)) (drop (width_of op) (drop at bytes)) (drop (width_of other) (drop at bytes)) op other h k (take-append-drop (width_of op) (drop at bytes) ∙ sym (take-append-drop (width_of other) (drop at bytes)))).1
+    (one_instruction (take (width_of op) (drop at bytes)) (take (width_of other) (drop at bytes)) (drop (width_of op) (drop at bytes)) (drop (width_of other) (drop at bytes)) op other h k
+    (take-append-drop (width_of op) (drop at bytes) ∙ sym (take-append-drop (width_of other) (drop at bytes)))).1
 
 pub reads_once : (layout : Layout) (at : ℕ) (op other : Op) → Reads layout at op → Reads layout at other → op ≡ other
 reads_once (Coded bytes switches) at op other a b = stands_once bytes at op other a b

@@ -3,14 +3,17 @@ use Rattle.std.proofs.Common.{◌≡◌, ℕ, inl, inr, Bool, true, false, List,
 use Rattle.grain_code.specs.Span.{Span}
 use Rattle.grain_code.specs.declared.op.Op.{Op}
 use Rattle.grain_code.specs.declared.op.Op.TheVariants as ops
+use Rattle.grain_code.specs.declared.op.Receiver.TheVariants as receiver
 use Rattle.grain_rules.specs.Code.{Code}
 use Rattle.grain_rules.specs.Counts.{Base, Counts, last_base, without_last}
-use Rattle.grain_rules.specs.Flow.{Flow, PopsHandler, PushesHandler, flow_of}
+use Rattle.grain_rules.specs.Flow.{Flow, PopsHandler, PushesHandler}
+use Rattle.grain_rules.specs.FlowFields.{bases_for}
 use Rattle.grain_rules.specs.Machine.{Handler, Machine, base_of, counts, Catches, IsKept, Moves, MovesKeptAtQuiet, IsKeptRun, IsRunKeptAtQuiet}
 use Rattle.grain_rules.specs.Setting.{Setting}
-use Rattle.grain_rules.specs.Sinking.{ReachesUpTo, Stays, is_quiet, untouched}
+use Rattle.grain_rules.specs.Sinking.{ReachesUpTo, Stays, untouched}
+use Rattle.grain_rules.specs.Rows.{flow_of, is_quiet}
 use Rattle.grain_rules.specs.Typing.{HasTyping, Reached, begin, onward}
-use Rattle.grain_rules.proofs.Law.{bases_for, edge_bases, found_passes, innermost_kept, kept_run_tied}
+use Rattle.grain_rules.proofs.Law.{edge_bases, found_passes, innermost_kept, kept_run_tied}
 
 -- the stacks reach up to each of these bases
 abbrev ReachUpToAll : Base → List Base → Type 0
@@ -51,6 +54,9 @@ arming_sounds (ops.UnwindTo depth) target e = absurd cc
 arming_sounds ops.Return target e = absurd cc
 arming_sounds ops.IterDrop target e = absurd cc
 arming_sounds ops.PopHandler target e = absurd cc
+arming_sounds (ops.CallRef n a (receiver.Local slot) capture) target e = refl
+arming_sounds (ops.CallRef n a (receiver.Named m) capture) target e = refl
+arming_sounds (ops.CallRef n a receiver.This capture) target e = refl
 arming_sounds op target e = refl
 
 -- what an operation leaves as it was is no more than there was

@@ -29,7 +29,8 @@ splits_from code at [] inside are = let e = ap length are.whole in let l = lengt
 splits_from code at (op ∷ ops) inside are =
     let cut : drop at code ≡ spelling op ++ flat_map spelling ops = are.whole ∙ flat_map-cons spelling op ops in
     let here : StandsAt code at op = subst (λ (b : List ℕ). Begins b op) (sym cut) (begins_spelling op (flat_map spelling ops) are.each.0) in
-    let rest : drop (at + width_of op) code ≡ flat_map spelling ops = sym (drop-drop (width_of op) at code) ∙ ap (drop (width_of op)) cut ∙ drop_at (spelling op) (flat_map spelling ops) (width_of op) (spelling_width op) in
+    let rest : drop (at + width_of op) code ≡ flat_map spelling ops = sym (drop-drop (width_of op) at code) ∙ ap (drop (width_of op)) cut
+    ∙ drop_at (spelling op) (flat_map spelling ops) (width_of op) (spelling_width op) in
     let f = op_fits code at op inside here in
     let p = width_pos op in
     (refl, omega arith, (op, here, splits_from code (at + width_of op) ops f (record { each = are.each.1; whole = rest })))
@@ -113,7 +114,8 @@ cases_eq_le : (m n : ℕ) → m ≤ n → (m ≡ n) ⊎ (m < n)
 cases_eq_le m n h = elim (cases_lt m n) [ inl l ↦ inr l | inr g ↦ inl (omega arith) ]
 
 -- from a start before a boundary, what follows is a start before it, or the boundary itself
-pub next_start : (code : List ℕ) (a end : ℕ) (op : Op) → IsStart code a → IsBoundary code end → StandsAt code a op → a < end → end ≤ length code → ((a + width_of op < end) × IsStart code (a + width_of op)) ⊎ (a + width_of op ≡ end)
+pub next_start : (code : List ℕ) (a end : ℕ) (op : Op) → IsStart code a → IsBoundary code end → StandsAt code a op → a < end → end ≤ length code
+    → ((a + width_of op < end) × IsStart code (a + width_of op)) ⊎ (a + width_of op ≡ end)
 next_start code a end op s b i l m =
     let f = boundary_apart code a end op s b i l in
     elim (split_next code 0 s.starts a op (split_splits code s.starts s.split) s.here i) [

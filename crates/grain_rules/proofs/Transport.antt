@@ -10,22 +10,23 @@ use Rattle.std.proofs.lemmas.Option.{get_or_from_slice_get, none-some, slice_get
 use Rattle.grain_code.specs.Assembly.{AreWritable, CanAssemble, EachWritable, IsAssembly, assembled}
 use Rattle.grain_code.specs.InstructionTable.{form}
 use Rattle.grain_code.specs.Span.{Span}
-use Rattle.grain_pools.specs.declared.chain.Chain.{Chain}
 use Rattle.grain_code.specs.declared.op.Op.{Op}
 use Rattle.grain_code.specs.declared.op.Op.TheVariants as ops
 use Rattle.grain_code.specs.declared.op.Receiver.TheVariants as receiver
 use Rattle.grain_code.proofs.Placed.{stands_there}
 use Rattle.grain_rules.specs.Accepted.{IsFramed}
 use Rattle.grain_rules.specs.ByIndex.{IsCut, LeadWithin, listed, moved, placed}
-use Rattle.grain_rules.specs.Capabilities.{Allows, caps_of}
+use Rattle.grain_rules.specs.Capabilities.{Allows}
 use Rattle.grain_rules.specs.Code.{Bytecode, Code}
 use Rattle.grain_rules.specs.Counts.{Counts, last_base, nothing}
-use Rattle.grain_rules.specs.Effects.{Edge, Meets, after_fall, after_jump, falls_through, handlers_needed, iterators_needed, needs, operands_after, stack_effect, takes, targets}
+use Rattle.grain_rules.specs.Effects.{Edge, Meets, after_fall, after_jump, falls_through, handlers_needed, iterators_needed, operands_after, targets}
 use Rattle.grain_rules.specs.Flow as flows
-use Rattle.grain_rules.specs.Flow.{Flow, fall_for, falls_for, flow_of, handlers_for, iterators_for, jump_for, targets_for}
+use Rattle.grain_rules.specs.Flow.{Flow}
 use Rattle.grain_rules.specs.Layout.{Reads}
 use Rattle.grain_rules.specs.Setting.{Setting}
-use Rattle.grain_rules.specs.Sinking.{ReachesUpTo, Stays, is_quiet, untouched}
+use Rattle.grain_rules.specs.Sinking.{ReachesUpTo, Stays, untouched}
+use Rattle.grain_rules.specs.Rows.{Row, caps_of, flow_of, is_quiet, needs, row, takes, unset}
+use Rattle.grain_rules.specs.FlowFields.{fall_for, falls_for, handlers_for, iterators_for, jump_for, targets_for}
 use Rattle.grain_rules.specs.Typing.{HasTyping, IsDeepest, Passes, Reached, StandsIn, begin, onward}
 use Rattle.grain_rules.proofs.Offsets.{apart, ascends, before, next_there, not_after, offset_end, op_here, rises_to, same_or_below, start_there}
 use Rattle.grain_rules.proofs.Once.{reads_once}
@@ -44,44 +45,26 @@ flow_along f flows.EndsIterator = flows.EndsIterator
 flow_along f (flows.PushesHandler t) = flows.PushesHandler (f t)
 flow_along f flows.PopsHandler = flows.PopsHandler
 
--- what an assembled operation does
-same_effect : (chains : List Chain) (offsets : List ℕ) (op : Op) → stack_effect chains (assembled offsets op) ≡ stack_effect chains op
-same_effect chains offsets (ops.CallRef n a (receiver.Local slot) capture) = refl
-same_effect chains offsets (ops.CallRef n a (receiver.Named m) capture) = refl
-same_effect chains offsets (ops.CallRef n a receiver.This capture) = refl
-same_effect chains offsets (ops.CallFnPtr a is_method capture (Some from)) = refl
-same_effect chains offsets (ops.CallFnPtr a true capture None) = refl
-same_effect chains offsets (ops.CallFnPtr a false capture None) = refl
-same_effect chains offsets (ops.DeclareLocal n false is_global) = refl
-same_effect chains offsets (ops.DeclareLocal n true is_global) = refl
-same_effect chains offsets op = refl
+-- an assembled operation does the same, and its flow leads to offsets
+same_row : (s : Setting) (offsets : List ℕ) (op : Op) → row s (assembled offsets op) ≡ record (row s op) { flow = flow_along (slice_index offsets) (row s op).flow }
+same_row s offsets (ops.CallRef n a (receiver.Local slot) capture) = refl
+same_row s offsets (ops.CallRef n a (receiver.Named m) capture) = refl
+same_row s offsets (ops.CallRef n a receiver.This capture) = refl
+same_row s offsets (ops.CallFnPtr a is_method capture (Some from)) = refl
+same_row s offsets (ops.CallFnPtr a true capture None) = refl
+same_row s offsets (ops.CallFnPtr a false capture None) = refl
+same_row s offsets (ops.DeclareLocal n false is_global) = refl
+same_row s offsets (ops.DeclareLocal n true is_global) = refl
+same_row s offsets op = refl
 
 same_caps : (s : Setting) (offsets : List ℕ) (op : Op) → caps_of s (assembled offsets op) ≡ caps_of s op
-same_caps s offsets (ops.CallRef n a (receiver.Local slot) capture) = refl
-same_caps s offsets (ops.CallRef n a (receiver.Named m) capture) = refl
-same_caps s offsets (ops.CallRef n a receiver.This capture) = refl
-same_caps s offsets (ops.CallFnPtr a is_method capture (Some from)) = refl
-same_caps s offsets (ops.CallFnPtr a true capture None) = refl
-same_caps s offsets (ops.CallFnPtr a false capture None) = refl
-same_caps s offsets (ops.DeclareLocal n false is_global) = refl
-same_caps s offsets (ops.DeclareLocal n true is_global) = refl
-same_caps s offsets op = refl
+same_caps s offsets op = ap (λ (r : Row). r.asks) (same_row s offsets op)
 
 same_quiet : (offsets : List ℕ) (op : Op) → is_quiet (assembled offsets op) ≡ is_quiet op
-same_quiet offsets (ops.CallFnPtr a is_method capture (Some from)) = refl
-same_quiet offsets (ops.CallFnPtr a true capture None) = refl
-same_quiet offsets (ops.CallFnPtr a false capture None) = refl
-same_quiet offsets (ops.DeclareLocal n false is_global) = refl
-same_quiet offsets (ops.DeclareLocal n true is_global) = refl
-same_quiet offsets op = refl
+same_quiet offsets op = ap (λ (r : Row). r.quiet) (same_row unset offsets op)
 
 flow_assembled : (offsets : List ℕ) (op : Op) → flow_of (assembled offsets op) ≡ flow_along (slice_index offsets) (flow_of op)
-flow_assembled offsets (ops.CallFnPtr a is_method capture (Some from)) = refl
-flow_assembled offsets (ops.CallFnPtr a true capture None) = refl
-flow_assembled offsets (ops.CallFnPtr a false capture None) = refl
-flow_assembled offsets (ops.DeclareLocal n false is_global) = refl
-flow_assembled offsets (ops.DeclareLocal n true is_global) = refl
-flow_assembled offsets op = refl
+flow_assembled offsets op = ap (λ (r : Row). r.flow) (same_row unset offsets op)
 
 iterators_along : (f : ℕ → ℕ) (flow : Flow) → iterators_for (flow_along f flow) ≡ iterators_for flow
 iterators_along f (flows.AdvancesIterator t) = refl
@@ -110,10 +93,10 @@ targets_along f switches flow = refl
 -- what meets its needs by index meets them by address, and sinks as far
 module _ (s : Setting) (offsets : List ℕ) (op : Op) where
   needs_same : needs s (assembled offsets op) ≡ needs s op
-  needs_same = ap (λ (e : ℕ × ℕ × ℕ). e.0) (same_effect s.chains offsets op)
+  needs_same = ap (λ (r : Row). r.needs) (same_row s offsets op)
 
   after_same : (n : ℕ) → operands_after s (assembled offsets op) n ≡ operands_after s op n
-  after_same n = ap (λ (e : ℕ × ℕ × ℕ). n - e.1 + e.2) (same_effect s.chains offsets op)
+  after_same n = ap (λ (r : Row). n - r.takes + r.gives) (same_row s offsets op)
 
   iterators_same : iterators_needed (assembled offsets op) ≡ iterators_needed op
   iterators_same = ap iterators_for (flow_assembled offsets op) ∙ iterators_along (slice_index offsets) (flow_of op)
@@ -136,7 +119,7 @@ module _ (s : Setting) (offsets : List ℕ) (op : Op) where
   }
 
   takes_same : takes s (assembled offsets op) ≡ takes s op
-  takes_same = ap (λ (e : ℕ × ℕ × ℕ). e.1) (same_effect s.chains offsets op)
+  takes_same = ap (λ (r : Row). r.takes) (same_row s offsets op)
 
   untouched_same : (c : Counts) → untouched s (assembled offsets op) c ≡ untouched s op c
   untouched_same c = λ i. record { operands = c.operands - takes_same i; iterators = c.iterators - iterators_same i }
@@ -195,6 +178,9 @@ own_target n t (ops.IterNext j (Some counter)) w c = subst (λ x. x ≤ n) (sym 
 own_target n t (ops.PushHandler j None) w c = subst (λ x. x ≤ n) (sym (only_one j t c)) w.0
 own_target n t (ops.PushHandler j (Some name)) w c = subst (λ x. x ≤ n) (sym (only_one j t c)) w.0
 own_target n t (ops.Switch i) w c = absurd (in_nil t (subst (λ (xs : List ℕ). Contains xs t) (get_or_past [] i [] (omega arith)) c))
+own_target n t (ops.CallRef name a (receiver.Local slot) capture) w c = absurd (in_nil t c)
+own_target n t (ops.CallRef name a (receiver.Named other) capture) w c = absurd (in_nil t c)
+own_target n t (ops.CallRef name a receiver.This capture) w c = absurd (in_nil t c)
 own_target n t op w c = absurd (in_nil t c)
 
 -- the targets of an operation are its own, or those of a switch
@@ -379,7 +365,8 @@ module _ (s : Setting) (all : List Op) (switches : List (List ℕ)) (code offset
   pub typed_here : (cut : Span) (m : ℕ) → IsCut (length all) cut → HasTyping there (moved f cut) m → HasTyping here cut m
   typed_here cut m part (typing, h) =
       let at_entry = h.met (f cut.entry) nothing h.entry in
-      let first : cut.entry < length all = let l = before all code offsets made cut.entry cut.end (let p = part.ordered in let q = part.inside in omega arith) at_entry.1.stands.within.end in let q = part.inside in omega arith in (
+      let first : cut.entry < length all = let l = before all code offsets made cut.entry cut.end (let p = part.ordered in let q = part.inside in omega arith)
+      at_entry.1.stands.within.end in let q = part.inside in omega arith in (
         back typing,
         record {
           entry = back_at typing cut.entry first ∙ h.entry;

@@ -9,7 +9,7 @@ use Rattle.grain_rules.specs.Typing.{HasTyping, IsDeepest}
 use Rattle.grain_rules.specs.Verdict.{IsVerdict, ReachesChunks}
 use Rattle.grain_rules.specs.declared.error.VerifyError.{VerifyError}
 use Rattle.grain_rules.specs.declared.error.VerifyError.TheVariants.{OutOfMemory}
-use Rattle.grain_rules.proofs.Whole.{chunk_flawed, safe_all}
+use Rattle.grain_rules.proofs.Whole.{chunk_flawed, memory_no_flaw, safe_all}
 
 -- a test before the chunks fails
 pub refused_before : (i : Input) (e : VerifyError) → (IsAccepted i → ⊥) → Flaw i e → IsVerdict i (Err e)
@@ -23,7 +23,9 @@ refused_before i e refused flaw = record {
 }
 
 -- they pass, and the chunks decide
-pub after_chunks : (i : Input) (result : Result (Vec ℕ Global) VerifyError) → ReachesChunks i → OnOk result (All (ChunkPasses i.code) i.chunks) → IfOk result (λ v. AllZip (HasTyping (coded i.code)) i.chunks v.items) → IfOk result (λ v. AllZip (IsDeepest (coded i.code)) i.chunks v.items) → (All (ChunkPasses i.code) i.chunks → IfErr result (λ e. e ≡ OutOfMemory)) → IfErr result (λ e. (e ≡ OutOfMemory) ⊎ IsFirstFlaw i.code i.chunks e) → IsVerdict i result
+pub after_chunks : (i : Input) (result : Result (Vec ℕ Global) VerifyError) → ReachesChunks i → OnOk result (All (ChunkPasses i.code) i.chunks)
+    → IfOk result (λ v. AllZip (HasTyping (coded i.code)) i.chunks v.items) → IfOk result (λ v. AllZip (IsDeepest (coded i.code)) i.chunks v.items)
+    → (All (ChunkPasses i.code) i.chunks → IfErr result (λ e. e ≡ OutOfMemory)) → IfErr result (λ e. (e ≡ OutOfMemory) ⊎ IsFirstFlaw i.code i.chunks e) → IsVerdict i result
 after_chunks i (Ok numbers) before passes typed deepest accepts flaws = record {
   accepted = record { constants = before.constants; code = before.code; functions = before.functions; chunks = passes };
   typed = typed;
@@ -46,7 +48,7 @@ after_chunks i (Err e) before passes typed deepest accepts flaws = record {
 
 -- memory is wanted after these tests alone
 pub memory_before : (i : Input) (e : VerifyError) → Flaw i e → e ≡ OutOfMemory → ReachesChunks i
-memory_before i e flaw m = absurd (subst (Flaw i) m flaw)
+memory_before i e flaw m = absurd (memory_no_flaw i e m flaw)
 
 pub memory_after : (i : Input) (result : Result (Vec ℕ Global) VerifyError) → ReachesChunks i → IfErr result (λ e. e ≡ OutOfMemory → ReachesChunks i)
 memory_after i (Ok numbers) before = tt

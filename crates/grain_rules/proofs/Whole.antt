@@ -1,5 +1,5 @@
 -- What passes the tests before the chunks has none of their flaws.
-use Rattle.std.proofs.Common.{◌≡◌, ℕ, ◌<◌, inl, inr, suc, List, [], ◌∷◌, ◌++◌, length, drop, refl, sym, ap, subst, ◌∙◌, arith}
+use Rattle.std.proofs.Common.{◌≡◌, ℕ, ◌<◌, inl, inr, suc, List, [], ◌∷◌, ◌++◌, length, drop, get_or, refl, sym, ap, subst, ◌∙◌, arith}
 use Rattle.std.specs.List.{All, AllByRecursion, AllZip, Contains, flat_map}
 use Rattle.std.proofs.lemmas.List.{append-nil, append_cancel_left, take-append-drop}
 use Rattle.std.proofs.lemmas.List.Elements.{All-contains}
@@ -13,7 +13,7 @@ use Rattle.grain_code.proofs.Instructions.{begins_fits}
 use Rattle.grain_code.proofs.Splits.{begins_cons, no_front_inside}
 use Rattle.grain_rules.specs.Accepted.{AllowsConst, AreIndexed, ChunkPasses, CodePasses, ConstantPasses, ConstantsPass, FunctionsPass, Input, IsSafe}
 use Rattle.grain_rules.specs.Code.{Bytecode, coded}
-use Rattle.grain_rules.specs.Flaw.{CodeFlaw, Flaw, IsFirstFlaw, ConstantAsks}
+use Rattle.grain_rules.specs.Flaw.{ChunkFlaw, CodeFlaw, Flaw, IsFirstFlaw, ConstantAsks, bad_index, of_chunk, of_code, of_constant, of_functions, undecodable}
 use Rattle.grain_rules.specs.Indices.{Indexed, IsOut, IsPassed, cases_of}
 use Rattle.grain_rules.specs.Setting.{Setting}
 use Rattle.grain_rules.specs.Typing.{IsDeepest}
@@ -33,9 +33,11 @@ begins_once : (bytes : List ℕ) (op other : Op) → Begins bytes op → Begins 
 begins_once bytes op other h k = stands_once bytes 0 op other h k
 
 -- an instruction that stands behind a front of instructions is one of them all
-stands_among : (bytes rest : List ℕ) (ops front : List Op) (op : Op) → AllByRecursion IsInstruction ops → AllByRecursion IsInstruction front → bytes ≡ flat_map spelling ops → bytes ≡ flat_map spelling front ++ rest → Begins rest op → Contains ops op
+stands_among : (bytes rest : List ℕ) (ops front : List Op) (op : Op) → AllByRecursion IsInstruction ops → AllByRecursion IsInstruction front → bytes ≡ flat_map spelling ops
+    → bytes ≡ flat_map spelling front ++ rest → Begins rest op → Contains ops op
 stands_among bytes rest [] [] op all all' e e' h = absurd (let f = begins_fits rest op h in let w = width_pos op in let l : length rest ≡ 0 = ap (λ (b : List ℕ). length b) (sym e' ∙ e) in omega arith)
-stands_among bytes rest [] (o' ∷ os') op all all' e e' h = absurd (let b = (begins_cons o' os' rest bytes all'.0 e').1 in let f = begins_fits bytes o' b in let w = width_pos o' in let l : length bytes ≡ 0 = ap (λ (b : List ℕ). length b) e in omega arith)
+stands_among bytes rest [] (o' ∷ os') op all all' e e' h =
+    absurd (let b = (begins_cons o' os' rest bytes all'.0 e').1 in let f = begins_fits bytes o' b in let w = width_pos o' in let l : length bytes ≡ 0 = ap (λ (b : List ℕ). length b) e in omega arith)
 stands_among bytes rest (o ∷ os) [] op all all' e e' h =
     let b = (begins_cons o os [] bytes all.0 (e ∙ sym (append-nil (flat_map spelling (o ∷ os))))).1 in
     subst (λ (x : Op). Contains (o ∷ os) x) (begins_once bytes o op b (subst (λ (x : List ℕ). Begins x op) (sym e') h)) (in_head o os)
@@ -71,13 +73,12 @@ none_out s op what index h (inr o) =
 
 -- code that passes has no flaw
 pub no_code_flaw : (s : Setting) (bytes : List ℕ) (e : VerifyError) → AreIndexed s bytes → CodeFlaw s bytes e → ⊥
-no_code_flaw s bytes (errors.Undecodable at) (ops, are, all) (p, none) =
+no_code_flaw s bytes e (ops, are, all) (undecodable {at} p none) =
     no_front_inside bytes at (starts_from 0 ops) p.inside (starts_from 0 p.front.0, (p.front.0, p.front.1, refl), none) (ops, are, refl)
-no_code_flaw s bytes (errors.BadIndex at what index) (ops, are, all) (p, (op, stands, out)) =
-    let e : bytes ≡ flat_map spelling p.front.0 ++ drop at bytes = sym (take-append-drop at bytes) ∙ ap (λ (b : List ℕ). b ++ drop at bytes) p.front.1.whole in
-    let c = stands_among bytes (drop at bytes) ops p.front.0 op are.each p.front.1.each are.whole e stands in
+no_code_flaw s bytes e (ops, are, all) (bad_index {at} {what} {index} op p stands out) =
+    let same : bytes ≡ flat_map spelling p.front.0 ++ drop at bytes = sym (take-append-drop at bytes) ∙ ap (λ (b : List ℕ). b ++ drop at bytes) p.front.1.whole in
+    let c = stands_among bytes (drop at bytes) ops p.front.0 op are.each p.front.1.each are.whole same stands in
     none_out s op what.now index (All-contains (Indexed s) ops op all c) out
-no_code_flaw s bytes e h f = absurd f
 
 -- the numbers of chunks that pass say what their kept runs do
 pub safe_all : (code : Bytecode) (chunks : List Span) (numbers : List ℕ) → All (ChunkPasses code) chunks → AllZip (IsDeepest (coded code)) chunks numbers → AllZip (IsSafe code) chunks numbers
@@ -90,21 +91,17 @@ safe_all code (c ∷ cs) (n ∷ ns) all z =
 abbrev no_chunk : Span
 no_chunk = record { entry = 0; end = 0; max_stack = 0 }
 
--- a flaw of the code is one of what was verified, where the constants pass
-pub code_flawed : (i : Input) (e : VerifyError) → ConstantsPass i → CodeFlaw i.code.setting i.code.bytes e → Flaw i e
-code_flawed i (errors.Undecodable at) p f = (p, f)
-code_flawed i (errors.BadIndex at what index) p f = (p, f)
-code_flawed i e p f = absurd f
+-- want of memory is no flaw
+memory_no_code_flaw : (s : Setting) (bytes : List ℕ) (e : VerifyError) → e ≡ errors.OutOfMemory → CodeFlaw s bytes e → ⊥
+memory_no_code_flaw s bytes e m (undecodable p none) = cc
+memory_no_code_flaw s bytes e m (bad_index op p stands out) = cc
 
--- and want of memory is none
-pub memory_no_code_flaw : (s : Setting) (bytes : List ℕ) (e : VerifyError) → e ≡ errors.OutOfMemory → CodeFlaw s bytes e → ⊥
-memory_no_code_flaw s bytes e m f = subst (CodeFlaw s bytes) m f
+pub memory_no_flaw : (i : Input) (e : VerifyError) → e ≡ errors.OutOfMemory → Flaw i e → ⊥
+memory_no_flaw i e m (of_constant is asks) = cc
+memory_no_flaw i e m (of_code pass f) = memory_no_code_flaw i.code.setting i.code.bytes e m f
+memory_no_flaw i e m (of_functions is asks) = cc
+memory_no_flaw i e m (of_chunk f) = subst (ChunkFlaw i.code (get_or i.chunks f.chunk.place no_chunk)) m (f.chunk.here no_chunk)
 
--- the same of the first flaw of a chunk, where the tests before the chunks pass
+-- the first flaw of a chunk is one of what was verified, where the tests before the chunks pass
 pub chunk_flawed : (i : Input) (e : VerifyError) → ConstantsPass i → CodePasses i → FunctionsPass i → IsFirstFlaw i.code i.chunks e → Flaw i e
-chunk_flawed i (errors.MissingCaps artifact absent at) p q r f = inr (record { constants = p; code = q; functions = r; chunk = f })
-chunk_flawed i (errors.Undecodable at) p q r f = absurd (f.here no_chunk)
-chunk_flawed i (errors.BadIndex at what index) p q r f = absurd (f.here no_chunk)
-chunk_flawed i (errors.TrailingBytes at len) p q r f = absurd (f.here no_chunk)
-chunk_flawed i errors.OutOfMemory p q r f = absurd (f.here no_chunk)
-chunk_flawed i e p q r f = record { constants = p; code = q; functions = r; chunk = f }
+chunk_flawed i e p q r f = of_chunk (record { constants = p; code = q; functions = r; chunk = f })

@@ -42,7 +42,9 @@ unindexed_is tag small some =
     the_other (get_or UNINDEXED_WIDTHS tag 0) (tag_width tag) (sym same ∙ h) some
 
 -- where the code has that many bytes, an instruction without an index stands
-pub stands_unindexed : (code : List ℕ) (at : ℕ) → IsBytes code → at < length code → 0 < get_or UNINDEXED_WIDTHS (get_or code at 0) 0 → at + get_or UNINDEXED_WIDTHS (get_or code at 0) 0 ≤ length code → (op : Op) × StandsAt code at op × (get_or UNINDEXED_WIDTHS (get_or code at 0) 0 ≡ width_of op) × ((s : Setting) → Indexed s op)
+pub stands_unindexed : (code : List ℕ) (at : ℕ) → IsBytes code → at < length code → 0 < get_or UNINDEXED_WIDTHS (get_or code at 0) 0
+    → at + get_or UNINDEXED_WIDTHS (get_or code at 0) 0 ≤ length code
+    → (op : Op) × StandsAt code at op × (get_or UNINDEXED_WIDTHS (get_or code at 0) 0 ≡ width_of op) × ((s : Setting) → Indexed s op)
 stands_unindexed code at bytes inside some fit =
     let tag = get_or code at 0 in
     let w = get_or UNINDEXED_WIDTHS tag 0 in

@@ -8,7 +8,8 @@ use Rattle.grain_code.specs.Span.{Span}
 use Rattle.grain_code.specs.Split.{AreInstructions}
 use Rattle.grain_code.specs.declared.op.Op.{Op}
 use Rattle.grain_code.specs.declared.function.Function.{Function}
-use Rattle.grain_rules.specs.Capabilities.{Allows, caps_of}
+use Rattle.grain_rules.specs.Capabilities.{Allows}
+use Rattle.grain_rules.specs.Rows.{caps_of}
 use Rattle.grain_rules.specs.Code.{Bytecode, bytecode, coded}
 use Rattle.grain_rules.specs.ConstCaps.{const_caps}
 use Rattle.grain_rules.specs.Indices.{Indexed}

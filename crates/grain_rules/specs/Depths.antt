@@ -4,12 +4,13 @@ use Rattle.std.specs.Prelude.{◌≡◌, ℕ, ◌+◌, ◌-◌, ◌≤◌, ◌�
 use Rattle.std.specs.List.{Contains}
 use Rattle.grain_code.specs.Span.{Span}
 use Rattle.grain_code.specs.declared.op.Op.{Op}
-use Rattle.grain_rules.specs.Capabilities.{Allows, caps_of}
+use Rattle.grain_rules.specs.Capabilities.{Allows}
 use Rattle.grain_rules.specs.Code.{Code}
 use Rattle.grain_rules.specs.Counts.{Counts, nothing}
-use Rattle.grain_rules.specs.Effects.{falls_through, handlers_needed, iterators_needed, needs, operands_after, targets}
+use Rattle.grain_rules.specs.Effects.{falls_through, handlers_needed, iterators_needed, operands_after, targets}
 use Rattle.grain_rules.specs.Flow as flows
-use Rattle.grain_rules.specs.Flow.{Flow, flow_of}
+use Rattle.grain_rules.specs.Flow.{Flow}
+use Rattle.grain_rules.specs.Rows.{caps_of, flow_of, needs}
 use Rattle.grain_rules.specs.Layout.{Reads, next, switches}
 use Rattle.grain_rules.specs.Typing.{StandsIn}
 

@@ -4,7 +4,8 @@ use Rattle.grain_code.specs.Span.{Span}
 use Rattle.grain_code.specs.declared.op.Op.{Op}
 use Rattle.grain_rules.specs.Code.{Code}
 use Rattle.grain_rules.specs.Counts.{Counts}
-use Rattle.grain_rules.specs.Flow.{PushesHandler, flow_of}
+use Rattle.grain_rules.specs.Flow.{PushesHandler}
+use Rattle.grain_rules.specs.Rows.{flow_of}
 use Rattle.grain_rules.specs.Machine.{Handler, Machine, base_of, counts, Steps, Catches, IsKept}
 use Rattle.grain_rules.specs.Typing.{Passes, Reached}
 

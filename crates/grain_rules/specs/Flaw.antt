@@ -1,18 +1,21 @@
 -- What each refusal says of what was verified.
 use Rattle.std.specs.Prelude.{◌≡◌, ◌≢◌, ◌⊎◌, ℕ, ◌+◌, ◌<◌, ◌≤◌, true, List, [], length, take, Some}
+use Rattle.std.specs.Borrow.{Bor}
 use Rattle.std.specs.List.{AllWithin, Contains, HoldsAt}
 use Rattle.grain_base.specs.CapBits.{FUNCTION, missing}
+use Rattle.grain_base.specs.declared.caps.Caps.{Caps}
 use Rattle.grain_base.specs.declared.value.Dynamic.{Dynamic}
 use Rattle.grain_code.specs.Span.{Span}
 use Rattle.grain_code.specs.Split as split
 use Rattle.grain_code.specs.InstructionTable.{width_of}
 use Rattle.grain_code.specs.declared.op.Op.{Op}
 use Rattle.grain_rules.specs.Accepted.{Input, AreIndexed, ConstantPasses, ConstantsPass, CodePasses, FunctionsPass, ChunkPasses, IsFramed}
-use Rattle.grain_rules.specs.Capabilities.{Allows, caps_of}
+use Rattle.grain_rules.specs.Capabilities.{Allows}
 use Rattle.grain_rules.specs.Code.{Bytecode, coded}
 use Rattle.grain_rules.specs.ConstCaps.{const_caps}
 use Rattle.grain_rules.specs.Counts.{Counts}
-use Rattle.grain_rules.specs.Effects.{Meets, needs, iterators_needed, handlers_needed, targets, falls_through}
+use Rattle.grain_rules.specs.Effects.{Meets, iterators_needed, handlers_needed, targets, falls_through}
+use Rattle.grain_rules.specs.Rows.{caps_of, needs}
 use Rattle.grain_rules.specs.Indices.{IsOut}
 use Rattle.grain_rules.specs.Layout.{IsStart, IsBoundary}
 use Rattle.grain_rules.specs.Setting.{Setting}
@@ -130,42 +133,16 @@ pub record PassesTo (setting : Setting) (bytes : List ℕ) (at : ℕ) : Type 0 w
   pub inside : at < length bytes
   pub front : AreIndexed setting (take at bytes)
 
--- what a refusal of the code says of it: behind a front that passes stands no instruction, or one with an index out of
--- bounds
-abbrev pub CodeFlaw : Setting → List ℕ → VerifyError → Type 0
-CodeFlaw setting bytes (errors.Undecodable at) = PassesTo setting bytes at × split.NoneStandsAt bytes at
-CodeFlaw setting bytes (errors.BadIndex at what index) =
-    PassesTo setting bytes at × ((op : Op) × split.StandsAt bytes at op × IsOut setting op what.now index)
-CodeFlaw setting bytes (errors.MissingCaps artifact absent at) = ⊥
-CodeFlaw setting bytes (errors.TrailingBytes at len) = ⊥
-CodeFlaw setting bytes (errors.ChunkOutOfRange entry end len) = ⊥
-CodeFlaw setting bytes (errors.JumpOutOfRange at target) = ⊥
-CodeFlaw setting bytes (errors.JumpIntoAnInstruction at target) = ⊥
-CodeFlaw setting bytes (errors.DepthConflict at expected found) = ⊥
-CodeFlaw setting bytes (errors.Underflow at need have) = ⊥
-CodeFlaw setting bytes (errors.StackExceedsDeclared needed declared) = ⊥
-CodeFlaw setting bytes (errors.IteratorUnderflow at) = ⊥
-CodeFlaw setting bytes (errors.HandlerUnderflow at) = ⊥
-CodeFlaw setting bytes (errors.SinksBelowHandler at need have) = ⊥
-CodeFlaw setting bytes errors.FallsOffTheEnd = ⊥
-CodeFlaw setting bytes errors.OutOfMemory = ⊥
+-- what a refusal of the code says of it
+pub data CodeFlaw (setting : Setting) (bytes : List ℕ) : VerifyError → Type 0 where
+  -- behind a front that passes stands no instruction
+  undecodable : {at : ℕ} → PassesTo setting bytes at → split.NoneStandsAt bytes at → CodeFlaw setting bytes (errors.Undecodable at)
+  -- behind such a front stands one with an index out of bounds
+  bad_index : {at : ℕ} {what : Bor (List ℕ)} {index : ℕ} (op : Op) → PassesTo setting bytes at → split.StandsAt bytes at op → IsOut setting op what.now index → CodeFlaw setting bytes (errors.BadIndex at what index)
 
--- What each refusal says. Want of memory says nothing of what was verified, and bytes never trail.
-abbrev pub Flaw : Input → VerifyError → Type 0
-Flaw i (errors.MissingCaps artifact absent at) =
-    ((artifact.0 ≡ i.code.setting.caps) × (at ≡ 0) × (ConstantAsks i.code.setting.caps i.consts absent.0 ⊎ FunctionsAsk i absent.0))
-    ⊎ IsFlawOfChunks i (errors.MissingCaps artifact absent at)
-Flaw i (errors.Undecodable at) = ConstantsPass i × CodeFlaw i.code.setting i.code.bytes (errors.Undecodable at)
-Flaw i (errors.BadIndex at what index) = ConstantsPass i × CodeFlaw i.code.setting i.code.bytes (errors.BadIndex at what index)
-Flaw i (errors.TrailingBytes at len) = ⊥
-Flaw i errors.OutOfMemory = ⊥
-Flaw i (errors.ChunkOutOfRange entry end len) = IsFlawOfChunks i (errors.ChunkOutOfRange entry end len)
-Flaw i (errors.JumpOutOfRange at target) = IsFlawOfChunks i (errors.JumpOutOfRange at target)
-Flaw i (errors.JumpIntoAnInstruction at target) = IsFlawOfChunks i (errors.JumpIntoAnInstruction at target)
-Flaw i (errors.DepthConflict at expected found) = IsFlawOfChunks i (errors.DepthConflict at expected found)
-Flaw i (errors.Underflow at need have) = IsFlawOfChunks i (errors.Underflow at need have)
-Flaw i (errors.StackExceedsDeclared needed declared) = IsFlawOfChunks i (errors.StackExceedsDeclared needed declared)
-Flaw i (errors.IteratorUnderflow at) = IsFlawOfChunks i (errors.IteratorUnderflow at)
-Flaw i (errors.HandlerUnderflow at) = IsFlawOfChunks i (errors.HandlerUnderflow at)
-Flaw i (errors.SinksBelowHandler at need have) = IsFlawOfChunks i (errors.SinksBelowHandler at need have)
-Flaw i errors.FallsOffTheEnd = IsFlawOfChunks i errors.FallsOffTheEnd
+-- What each refusal says, in the order of the tests. Want of memory says nothing of what was verified, and bytes never trail.
+pub data Flaw (i : Input) : VerifyError → Type 0 where
+  of_constant : {artifact absent : Caps} → artifact.0 ≡ i.code.setting.caps → ConstantAsks i.code.setting.caps i.consts absent.0 → Flaw i (errors.MissingCaps artifact absent 0)
+  of_code : {e : VerifyError} → ConstantsPass i → CodeFlaw i.code.setting i.code.bytes e → Flaw i e
+  of_functions : {artifact absent : Caps} → artifact.0 ≡ i.code.setting.caps → FunctionsAsk i absent.0 → Flaw i (errors.MissingCaps artifact absent 0)
+  of_chunk : {e : VerifyError} → IsFlawOfChunks i e → Flaw i e

@@ -3,7 +3,9 @@ pub mod Setting
 pub mod Layout
 pub mod Code
 pub mod Flow
+pub mod FlowFields
 pub mod Capabilities
+pub mod Rows
 pub mod ConstCaps
 pub mod Effects
 pub mod Sinking

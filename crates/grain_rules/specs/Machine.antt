@@ -4,10 +4,10 @@ use Rattle.grain_code.specs.Span.{Span}
 use Rattle.grain_code.specs.declared.op.Op.{Op}
 use Rattle.grain_rules.specs.Code.{Code}
 use Rattle.grain_rules.specs.Counts.{Base, Counts, without_last}
-use Rattle.grain_rules.specs.Effects.{Jumps, FallsThrough, Meets, takes, iterators_needed}
+use Rattle.grain_rules.specs.Effects.{Jumps, FallsThrough, Meets, iterators_needed}
 use Rattle.grain_rules.specs.Flow as flows
-use Rattle.grain_rules.specs.Flow.{Flow, flow_of}
-use Rattle.grain_rules.specs.Sinking.{is_quiet}
+use Rattle.grain_rules.specs.Flow.{Flow, leaving}
+use Rattle.grain_rules.specs.Rows.{flow_of, is_quiet, takes}
 use Rattle.grain_rules.specs.Typing.{StandsIn}
 
 -- an armed handler: where it catches, the stacks that stood when it was armed, and whether it has caught
@@ -41,37 +41,24 @@ pub record Finds (code : Code) (chunk : Span) (m : Machine) (op : Op) : Type 0 w
   pub meets : Meets code.setting op (counts m)
 
 -- the handlers that are armed after an operation of such a flow
-abbrev pub handlers_for : Flow → Machine → List Handler
-handlers_for flows.Falls m = m.handlers
-handlers_for flows.Ends m = m.handlers
-handlers_for (flows.Jumps target) m = m.handlers
-handlers_for (flows.Branches target) m = m.handlers
-handlers_for (flows.Switches w) m = m.handlers
-handlers_for flows.BeginsIterator m = m.handlers
-handlers_for (flows.AdvancesIterator exit) m = m.handlers
-handlers_for flows.EndsIterator m = m.handlers
-handlers_for (flows.PushesHandler target) m = record { target = target; operands = m.operands; iterators = m.iterators; spent = false } ∷ m.handlers
-handlers_for flows.PopsHandler m = without_last m.handlers
+abbrev pub handlers_behind : Flow → Machine → List Handler
+handlers_behind flows.Falls m = m.handlers
+handlers_behind flows.Ends m = m.handlers
+handlers_behind (flows.Jumps target) m = m.handlers
+handlers_behind (flows.Branches target) m = m.handlers
+handlers_behind (flows.Switches w) m = m.handlers
+handlers_behind flows.BeginsIterator m = m.handlers
+handlers_behind (flows.AdvancesIterator exit) m = m.handlers
+handlers_behind flows.EndsIterator m = m.handlers
+handlers_behind (flows.PushesHandler target) m = record { target = target; operands = m.operands; iterators = m.iterators; spent = false } ∷ m.handlers
+handlers_behind flows.PopsHandler m = without_last m.handlers
 
 abbrev pub handlers_after : Op → Machine → List Handler
-handlers_after op m = handlers_for (flow_of op) m
-
--- whether an ordinary step may jump: it never follows a catch edge
-abbrev pub jumps_for : Flow → Bool
-jumps_for flows.Falls = true
-jumps_for flows.Ends = true
-jumps_for (flows.Jumps target) = true
-jumps_for (flows.Branches target) = true
-jumps_for (flows.Switches w) = true
-jumps_for flows.BeginsIterator = true
-jumps_for (flows.AdvancesIterator exit) = true
-jumps_for flows.EndsIterator = true
-jumps_for (flows.PushesHandler target) = false
-jumps_for flows.PopsHandler = true
+handlers_after op m = handlers_behind (flow_of op) m
 
 -- the edges that an ordinary step follows: all but the catch edge
 abbrev pub Flows : Code → Op → ℕ → Counts → ℕ → Counts → Type 0
-Flows code op at c b d = ((jumps_for (flow_of op) ≡ true) × Jumps code op c b d) ⊎ FallsThrough code op at c b d
+Flows code op at c b d = (((leaving [] (flow_of op)).jumps ≡ true) × Jumps code op c b d) ⊎ FallsThrough code op at c b d
 
 -- an ordinary step
 pub record Steps (code : Code) (chunk : Span) (m n : Machine) : Type 0 where

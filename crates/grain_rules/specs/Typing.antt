@@ -3,7 +3,8 @@ use Rattle.std.specs.Prelude.{◌≡◌, ◌↔◌, ℕ, ◌<◌, ◌≤◌, Lis
 use Rattle.std.specs.List.{Contains, IsDistinct}
 use Rattle.grain_code.specs.Span.{Span}
 use Rattle.grain_code.specs.declared.op.Op.{Op}
-use Rattle.grain_rules.specs.Capabilities.{Allows, caps_of}
+use Rattle.grain_rules.specs.Capabilities.{Allows}
+use Rattle.grain_rules.specs.Rows.{caps_of}
 use Rattle.grain_rules.specs.Code.{Code}
 use Rattle.grain_rules.specs.Counts.{Counts, nothing}
 use Rattle.grain_rules.specs.Effects.{Edge, Meets}

@@ -11,7 +11,8 @@ use std::fmt;
 /// `at` is the address of an instruction. It prints as the verdict lines of the program `grain_check` have it.
 #[derive(Clone, Debug, PartialEq, Eq, Drop)]
 pub enum VerifyError {
-    /// The host lacks capabilities that a constant, the functions or a reached instruction ask.
+    /// The host lacks capabilities that a constant, the functions or a reached instruction ask. Let through, the script would
+    /// do what the host has taken out, or what was never built into it.
     MissingCaps {
         /// The capabilities that were handed in.
         artifact: Caps,
@@ -20,7 +21,8 @@ pub enum VerifyError {
         /// 0 for a constant and for functions.
         at: usize,
     },
-    /// No instruction stands at the address.
+    /// No instruction stands at the address. A machine that came there would take data for a tag, or read the fields of an
+    /// instruction behind the end of the code.
     Undecodable {
         /// The address behind the longest front of the code that splits.
         at: usize,
@@ -32,7 +34,7 @@ pub enum VerifyError {
         /// How many bytes the code has.
         len: usize,
     },
-    /// The chunk runs backwards or past the code.
+    /// The chunk runs backwards or past the code. What a machine fetched there wouldn't be the program's.
     ChunkOutOfRange {
         /// The address where the chunk begins.
         entry: u32,
@@ -41,21 +43,25 @@ pub enum VerifyError {
         /// How many bytes the code has.
         len: usize,
     },
-    /// A target lies outside the chunk.
+    /// A target lies outside the chunk. The run would go on in the body of another function, with the locals of this one and
+    /// past the room that was made for its operands.
     JumpOutOfRange {
         /// The instruction that names it.
         at: usize,
         /// The address that is named.
         target: u32,
     },
-    /// A target lies inside an instruction, or a chunk begins or ends in one.
+    /// A target lies inside an instruction, or a chunk begins or ends in one. Its fields would be run as instructions that
+    /// nobody has looked at.
     JumpIntoAnInstruction {
         /// The instruction that names the target; of a chunk, its entry.
         at: usize,
         /// The address that is named; of a chunk, its entry or its end.
         target: u32,
     },
-    /// Two paths meet with unlike counts of operands or iterators, or with unlike bases of armed handlers.
+    /// Two paths meet with unlike counts of operands or iterators, or with unlike bases of armed handlers. What is popped
+    /// behind that place would on one of them be another's, and a loop that leaves an operand each round would want a stack
+    /// without end.
     DepthConflict {
         /// The address where they meet.
         at: usize,
@@ -65,7 +71,7 @@ pub enum VerifyError {
         /// How many operands the other path has there.
         found: usize,
     },
-    /// Operands are lacking.
+    /// Operands are lacking. The instruction would take what a caller has on the stack, or what lies below it.
     Underflow {
         /// The instruction that needs them.
         at: usize,
@@ -74,27 +80,28 @@ pub enum VerifyError {
         /// How many operands there are.
         have: usize,
     },
-    /// A path runs past the end of its chunk, or the chunk is empty.
+    /// A path runs past the end of its chunk, or the chunk is empty. The run would go on in whatever stands behind it.
     FallsOffTheEnd,
-    /// A chunk needs more operands than it declares.
+    /// A chunk needs more operands than it declares, and so more than a host makes room for.
     StackExceedsDeclared {
         /// The greatest operand count that is reached in the chunk.
         needed: usize,
         /// The operand count that the chunk declares.
         declared: u16,
     },
-    /// No iterator is there.
+    /// No iterator is there. The instruction would advance or end a loop of the caller's.
     IteratorUnderflow {
         /// The instruction that needs one.
         at: usize,
     },
-    /// No handler is armed.
+    /// No handler is armed. The instruction would disarm one of the caller's, which then wouldn't catch what it has to.
     HandlerUnderflow {
         /// The instruction that needs one.
         at: usize,
     },
     /// An instruction that isn't quiet doesn't leave what stood when the last handler was armed: so many operands, or
-    /// where there are enough, so many iterators (docs/FORMAT.md, "Verification").
+    /// where there are enough, so many iterators (docs/FORMAT.md, "Verification"). Were it to fault, the handler would go on
+    /// with fewer than its code takes.
     SinksBelowHandler {
         /// The instruction.
         at: usize,
@@ -103,7 +110,8 @@ pub enum VerifyError {
         /// How many there are, without the operands that the instruction takes, or without its iterator.
         have: usize,
     },
-    /// An index is at or above the size of its pool, or a step takes an operand that its chain doesn't take.
+    /// An index is at or above the size of its pool, or a step takes an operand that its chain doesn't take. Looked up
+    /// without a test, it would name what stands behind the pool, or an operand that isn't the chain's.
     BadIndex {
         /// The instruction that has the index, or names the chain or the switch that has it.
         at: usize,

@@ -15,7 +15,7 @@ use std::test::Fail;
 const MANY: u32 = 300;
 
 /// A unit and a return behind these operations.
-fn code_of(alloc: Global, ops: Vec<Op>) -> Result<Vec<u8>, Fail> {
+pub(crate) fn code_of(alloc: Global, ops: Vec<Op>) -> Result<Vec<u8>, Fail> {
     let mut ops = ops;
     ops.push(Op::Unit)?;
     ops.push(Op::Return)?;
@@ -26,7 +26,7 @@ fn code_of(alloc: Global, ops: Vec<Op>) -> Result<Vec<u8>, Fail> {
 }
 
 /// What is answered of the code with these parts as one chunk that declares 8, where the host has these capabilities.
-fn said(alloc: Global, caps: Caps, code: Vec<u8>, parts: Parts) -> Result<String, Fail> {
+pub(crate) fn said(alloc: Global, caps: Caps, code: Vec<u8>, parts: Parts) -> Result<String, Fail> {
     let main = Chunk::new(0, u32::try_from(code.len()).unwrap_or(u32::MAX), 8);
     let program = Program::new(alloc, caps, code, main, Vec::new(alloc), parts);
     Ok(format!(in alloc; "{:?}", program.verify())?)

@@ -89,7 +89,8 @@ module _ (nodes : List Node) (firsts : List ℕ) (elsewhere : Node → Option �
   }
 
 -- a new node on top of a list on which another base lies
-module _ (nodes : List Node) (firsts : List ℕ) (elsewhere later : Node → Option ℕ) (x : Node) (are : AreFirsts nodes firsts elsewhere) (k : ℕ) (first : first_on firsts x.parent ≡ suc k) (unlike : is_eq (base_cmp (get_or nodes k no_node).base x.base) ≡ false) where
+module _ (nodes : List Node) (firsts : List ℕ) (elsewhere later : Node → Option ℕ) (x : Node) (are : AreFirsts nodes firsts elsewhere) (k : ℕ) (first : first_on firsts x.parent ≡ suc k)
+    (unlike : is_eq (base_cmp (get_or nodes k no_node).base x.base) ≡ false) where
   found_else : found_in nodes firsts elsewhere x ≡ elsewhere x
   found_else = ap (found_with nodes elsewhere x) first ∙ ap (λ (b : Bool). cond b (Some (suc k)) (elsewhere x)) unlike
 
@@ -145,21 +146,19 @@ module _ (nodes : List Node) (firsts : List ℕ) (elsewhere later : Node → Opt
           );
     }
 
--- what was read of the firsts
-pub first_read : (nodes : List Node) (firsts : List ℕ) (elsewhere : Node → Option ℕ) (n f : ℕ) → AreFirsts nodes firsts elsewhere → n ≤ length nodes → f ≡ get_or firsts n f → first_on firsts n ≡ f
-first_read nodes firsts elsewhere n f are l e = sym (get_or_read firsts n f (let k = are.long in omega arith) e 0)
-
 -- the first on top of a list, where there is one
 pub first_inside : (nodes : List Node) (firsts : List ℕ) (elsewhere : Node → Option ℕ) (n f : ℕ) → AreFirsts nodes firsts elsewhere → first_on firsts n ≡ f → f ≢ 0 → f - 1 < length nodes
 first_inside nodes firsts elsewhere n zero are is some = absurd (some refl)
 first_inside nodes firsts elsewhere n (suc k) are is some = let l = (are.there n k is).0 in omega arith
 
 -- a node with its base is found by its number
-pub first_found : (nodes : List Node) (firsts : List ℕ) (elsewhere : Node → Option ℕ) (x : Node) (f : ℕ) → first_on firsts x.parent ≡ f → f ≢ 0 → (get_or nodes (f - 1) no_node).base ≡ x.base → found_in nodes firsts elsewhere x ≡ Some f
+pub first_found : (nodes : List Node) (firsts : List ℕ) (elsewhere : Node → Option ℕ) (x : Node) (f : ℕ) → first_on firsts x.parent ≡ f → f ≢ 0
+    → (get_or nodes (f - 1) no_node).base ≡ x.base → found_in nodes firsts elsewhere x ≡ Some f
 first_found nodes firsts elsewhere x zero is some same = absurd (some refl)
 first_found nodes firsts elsewhere x (suc k) is some same =
     let at : suc k - 1 ≡ k = omega arith in
-    let here : is_eq (base_cmp (get_or nodes k no_node).base x.base) ≡ true = subst (λ (b : kept.Base). is_eq (base_cmp b x.base) ≡ true) (sym (ap (λ j. (get_or nodes j no_node).base) (sym at) ∙ same)) (base_self x.base) in
+    let here : is_eq (base_cmp (get_or nodes k no_node).base x.base) ≡ true = subst (λ (b : kept.Base). is_eq (base_cmp b x.base) ≡ true)
+    (sym (ap (λ j. (get_or nodes j no_node).base) (sym at) ∙ same)) (base_self x.base) in
     ap (found_with nodes elsewhere x) is ∙ ap (λ (b : Bool). cond b (Some (suc k)) (elsewhere x)) here
 
 pub some_first : (f : ℕ) → f ≢ 0 → (k : ℕ) × (f ≡ suc k)
@@ -206,7 +205,8 @@ module _ (old new : Lists) (x : Node) (shared : IsShared old) (on : x.parent ≤
       grows_by (first_fresh ns fs before x are on none) (subst (λ (gs : List ℕ). IsNoted gs after) (sym firsts) (subst (IsNoted (set (fs ++ 0 ∷ []) x.parent (size old + 1))) (sym same) known))
 
   -- another lies there first, and the map has it now
-  pub grows_other : (k : ℕ) → first_on (firsts_of old) x.parent ≡ suc k → is_eq (base_cmp (get_or old.nodes.items k no_node).base x.base) ≡ false → before x ≡ None → (firsts_of new) ≡ (firsts_of old) ++ 0 ∷ [] → ((q : Node) → after q ≡ cond (is_eq (node_cmp x q)) (Some (size old + 1)) (before q)) → Grows old new
+  pub grows_other : (k : ℕ) → first_on (firsts_of old) x.parent ≡ suc k → is_eq (base_cmp (get_or old.nodes.items k no_node).base x.base) ≡ false → before x ≡ None
+      → (firsts_of new) ≡ (firsts_of old) ++ 0 ∷ [] → ((q : Node) → after q ≡ cond (is_eq (node_cmp x q)) (Some (size old + 1)) (before q)) → Grows old new
   grows_other k first unlike none firsts noted =
       let ns = old.nodes.items in
       let fs = firsts_of old in

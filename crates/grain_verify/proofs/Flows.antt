@@ -4,11 +4,14 @@ use Rattle.std.specs.Int.Bits.{and_zero_l}
 use Rattle.grain_code.specs.Span.{Span}
 use Rattle.grain_code.specs.declared.op.Op.{Op}
 use Rattle.grain_verify.specs.Arrivals.{RefusesState}
-use Rattle.grain_rules.specs.Capabilities.{Allows, caps_of}
+use Rattle.grain_rules.specs.Capabilities.{Allows}
 use Rattle.grain_rules.specs.Code.{Bytecode, coded}
 use Rattle.grain_rules.specs.Counts.{Counts}
-use Rattle.grain_rules.specs.Effects.{stack_effect, needs, Meets, operands_after}
-use Rattle.grain_rules.specs.Flow.{Flow, flow_of, iterators_for, handlers_for}
+use Rattle.grain_rules.specs.Effects.{Meets, operands_after}
+use Rattle.grain_rules.specs.Flow.{Flow}
+use Rattle.grain_rules.specs.Rows.{caps_of, flow_of, needs}
+use Rattle.grain_verify.specs.Operands.{stack_effect}
+use Rattle.grain_rules.specs.FlowFields.{handlers_for, iterators_for}
 use Rattle.grain_verify.specs.FlowView.{IsMetBy, IsShort, flow}
 use Rattle.grain_verify.specs.Plain.{GoesOn}
 use Rattle.grain_rules.specs.Setting.{Setting}
@@ -20,7 +23,7 @@ use Rattle.grain_rules.specs.declared.error.VerifyError.{VerifyError}
 use Rattle.grain_rules.specs.declared.error.VerifyError.TheVariants as errors
 
 -- the operands that are left
-pub left_is : (s : Setting) (op : Op) (needs takes gives n : ℕ) → (needs, takes, gives) ≡ stack_effect s.chains op → n - takes + gives ≡ operands_after s op n
+pub left_is : (s : Setting) (op : Op) (needs takes gives n : ℕ) → (needs, takes, gives) ≡ stack_effect s op → n - takes + gives ≡ operands_after s op n
 left_is s op needs takes gives n known = ap (λ (e : ℕ × ℕ × ℕ). n - e.1 + e.2) known
 
 pub meets_known : (s : Setting) (op : Op) (c : Counts) (f : Flow) → f ≡ flow_of op → needs s op ≤ c.operands → IsMetBy f c → Meets s op c
@@ -40,7 +43,9 @@ pub nothing_missing : (caps : ℕ) → Allows caps 0
 nothing_missing caps = and_zero_l (2 ^ 16 - 1 - caps)
 
 -- an operation that finds all that it needs, and stays above the base of the last handler, passes
-pub passes_known : (code : Bytecode) (chunk : Span) (at : ℕ) (op : Op) (c : Counts) (caps needs takes gives : ℕ) (f : Flow) → StandsIn (coded code) chunk at op → caps ≡ caps_of code.setting op → (needs, takes, gives) ≡ stack_effect code.setting.chains op → f ≡ flow_of op → Allows code.setting.caps caps → needs ≤ c.operands → IsMetBy f c → Stays code.setting op c → Passes (coded code) chunk at c op
+pub passes_known : (code : Bytecode) (chunk : Span) (at : ℕ) (op : Op) (c : Counts) (caps needs takes gives : ℕ) (f : Flow) → StandsIn (coded code) chunk at op
+    → caps ≡ caps_of code.setting op → (needs, takes, gives) ≡ stack_effect code.setting op → f ≡ flow_of op → Allows code.setting.caps caps → needs ≤ c.operands → IsMetBy f c
+    → Stays code.setting op c → Passes (coded code) chunk at c op
 passes_known code chunk at op c caps needs takes gives f stands asked known same allowed there met stays = record {
   stands = stands;
   meets = meets_known code.setting op c f same (subst (λ n. n ≤ c.operands) (ap (λ (e : ℕ × ℕ × ℕ). e.0) known) there) met;

@@ -2,11 +2,11 @@
 use Rattle.std.proofs.Common.{◌≡◌, ◌⊎◌, inl, inr, ℕ, ◌≤◌, List, [], ◌∷◌, ◌++◌, map, Option, refl, sym, ap, subst, ◌∙◌}
 use Rattle.std.specs.List.{All}
 use Rattle.std.proofs.lemmas.List.{append-nil}
-use Rattle.std.proofs.lemmas.List.Elements.{All-cons, All-nil}
+use Rattle.std.proofs.lemmas.List.Elements.{All-nil}
 use Rattle.grain_code.specs.Span.{Span}
-use Rattle.grain_verify.specs.Arrivals.{IsPlaced, IsStartIn, RefusesSwitch, RefusesTargetOf, Sends, all_underway, underway, view}
+use Rattle.grain_verify.specs.Arrivals.{IsPlaced, IsStartIn, Pushes, RefusesSwitch, RefusesTargetOf, Sends, all_underway, underway, view}
 use Rattle.grain_rules.specs.Counts.{Counts}
-use Rattle.grain_rules.specs.Flow.{bases_for, targets_for}
+use Rattle.grain_rules.specs.FlowFields.{bases_for, targets_for}
 use Rattle.grain_verify.specs.FlowView.{IsFollowed, IsMetBy, RefusesFlow, falls_to, flow, jumped, next_to}
 use Rattle.grain_verify.specs.Lists.{list_of, size}
 use Rattle.grain_verify.specs.declared.flow.Flow.{Flow}
@@ -16,7 +16,9 @@ use Rattle.grain_verify.specs.declared.state.Arrival.{Arrival}
 use Rattle.grain_verify.specs.declared.state.State.{State}
 
 -- a flow that finds what it needs is refused at its targets
-pub refused_there : (starts : List ℕ) (chunk : Span) (switches : List (List ℕ)) (at : ℕ) (c : Counts) (after : State) (sent : List (Option State)) (way is : Flow) (target : ℕ) (e : VerifyError) → way ≡ is → IsMetBy (flow is target) c → RefusesTargetOf starts chunk at (targets_for switches (flow is target)) e ⊎ RefusesSwitch switches (flow is target) after sent e → RefusesFlow starts chunk switches at c after sent (flow way target) e
+pub refused_there : (starts : List ℕ) (chunk : Span) (switches : List (List ℕ)) (at : ℕ) (c : Counts) (after : State) (sent : List (Option State)) (way is : Flow) (target : ℕ) (e : VerifyError)
+    → way ≡ is → IsMetBy (flow is target) c → RefusesTargetOf starts chunk at (targets_for switches (flow is target)) e ⊎ RefusesSwitch switches (flow is target) after sent e
+    → RefusesFlow starts chunk switches at c after sent (flow way target) e
 refused_there starts chunk switches at c after sent way is target e same met refused =
     subst (λ (w : Flow). RefusesFlow starts chunk switches at c after sent (flow w target) e) (sym same) (inr (met, refused))
 
@@ -25,11 +27,15 @@ pub goes_on : (work : List Arrival) (here next : Arrival) (width : ℕ) (s falle
 goes_on work here next width s fallen is same = ap (λ (a : Arrival). work ++ a ∷ []) (is ∙ ap (next_to here width) same)
 
 -- a flow is followed, where the armed handlers have this list then
-module _ (starts : List ℕ) (chunk : Span) (switches : List (List ℕ)) (left : ℕ) (here : Arrival) (width : ℕ) (old new : Lists) (sent : List (Option State)) (work : List Arrival) (way is : Flow) (target : ℕ) (same : way ≡ is) (list : ℕ) (there : list ≤ size new) (bases : list_of new list ≡ bases_for (flow is target) (view old here.state)) where
+module _ (starts : List ℕ) (chunk : Span) (switches : List (List ℕ)) (left : ℕ) (here : Arrival) (width : ℕ) (old new : Lists) (sent : List (Option State)) (work : List Arrival)
+    (way is : Flow) (target : ℕ) (same : way ≡ is) (list : ℕ) (there : list ≤ size new) (bases : list_of new list ≡ bases_for (flow is target) (view old here.state)) where
   abbrev OnWay : List Arrival → List Arrival → Type 0
   OnWay pushed on_way = on_way ≡ pushed ++ falls_to (flow is target) left list here width
 
-  pub followed : (new_sent : List (Option State)) (pushed on_way : List Arrival) → Sends starts chunk switches (flow is target) (jumped (flow is target) left list here.state) sent new_sent (map underway work) (map underway pushed) → (All (IsPlaced starts chunk) work → All (IsPlaced starts chunk) pushed) → OnWay pushed on_way → IsFollowed starts chunk switches (flow way target) left here width old new sent new_sent work on_way
+  pub followed : (new_sent : List (Option State)) (pushed on_way : List Arrival)
+      → Sends starts chunk switches (flow is target) (jumped (flow is target) left list here.state) sent new_sent (map underway work) (map underway pushed)
+      → (All (IsPlaced starts chunk) work → All (IsPlaced starts chunk) pushed) → OnWay pushed on_way
+      → IsFollowed starts chunk switches (flow way target) left here width old new sent new_sent work on_way
   followed new_sent pushed on_way sends placed all =
       subst (λ (w : Flow). IsFollowed starts chunk switches (flow w target) left here width old new sent new_sent work on_way) (sym same)
       (record { list = list; there = there; bases = bases; pushed = pushed; sends = sends; placed = placed; all = all })
@@ -44,12 +50,9 @@ module _ (starts : List ℕ) (chunk : Span) (switches : List (List ℕ)) (left :
       })) (λ h. h) all
 
   -- it has one, and this state was pushed to it
-  pub followed_to : (pushed on_way : List Arrival) (s : State) → targets_for switches (flow is target) ≡ target ∷ [] → s ≡ jumped (flow is target) left list here.state → IsStartIn starts chunk target → map underway pushed ≡ map underway work ++ all_underway s (target ∷ []) → (All (IsPlaced starts chunk) work → All (IsPlaced starts chunk) pushed) → OnWay pushed on_way → IsFollowed starts chunk switches (flow way target) left here width old new sent sent work on_way
-  followed_to pushed on_way s one after inside added placed all =
-      followed sent pushed on_way (inl (record {
-        starts_in = subst (All (IsStartIn starts chunk)) (sym one) (All-cons (IsStartIn starts chunk) target [] inside (All-nil (IsStartIn starts chunk)));
-        added =
-            subst (λ (ts : List ℕ). map underway pushed ≡ map underway work ++ all_underway (jumped (flow is target) left list here.state) ts) (sym one)
-            (subst (λ (a : State). map underway pushed ≡ map underway work ++ all_underway a (target ∷ [])) after added);
-        noted = inl refl;
-      })) placed all
+  pub followed_to : (pushed on_way : List Arrival) (s : State) → targets_for switches (flow is target) ≡ target ∷ []
+      → s ≡ jumped (flow is target) left list here.state → Pushes starts chunk s (target ∷ []) work pushed → OnWay pushed on_way → IsFollowed starts chunk switches (flow way target) left
+      here width old new sent sent work on_way
+  followed_to pushed on_way s one after pushes all =
+      let p = subst (λ (ts : List ℕ). Pushes starts chunk (jumped (flow is target) left list here.state) ts work pushed) (sym one) (subst (λ (a : State). Pushes starts chunk a (target ∷ []) work pushed) after pushes) in
+      followed sent pushed on_way (inl (record { starts_in = p.starts_in; added = p.added; noted = inl refl })) p.placed all

@@ -18,12 +18,6 @@ in_front code end at tag is =
     let l = length-take end code in
     omega (arith, k, l)
 
--- an address past it
-pub past_front : (code : List ℕ) (end last at : ℕ) → end ≡ last → last ≤ length code → length (take end code) ≤ at → last ≤ at
-past_front code end last at same inside past =
-    let l = length-take end code in
-    omega (arith, same, inside, past, l)
-
 -- the byte there is the tag of the instruction that stands there in the code
 pub front_tag : (code : List ℕ) (end at tag : ℕ) (op : Op) → slice_get (take end code) at ≡ Some tag → StandsAt code at op → (form op).0 ≡ tag
 front_tag code end at tag op is stands =
@@ -34,7 +28,8 @@ front_tag code end at tag op is stands =
     sym (standing_tag code at op (omega (arith, there, l)) stands) ∙ sym (get_or-take end code at 0 k) ∙ byte
 
 -- the head of the instruction that stands there in the code
-pub head_there : (code : List ℕ) (end at : ℕ) (head : Option Head) → (at < end → IsStart code at) → IfSome head (λ h. slice_get (take end code) at ≡ Some h.tag) → IfSome head (λ h. (op : Op) → (form op).0 ≡ h.tag → h.width ≡ width_of op) → IfSome head (HasHead code at)
+pub head_there : (code : List ℕ) (end at : ℕ) (head : Option Head) → (at < end → IsStart code at) → IfSome head (λ h. slice_get (take end code) at ≡ Some h.tag)
+    → IfSome head (λ h. (op : Op) → (form op).0 ≡ h.tag → h.width ≡ width_of op) → IfSome head (HasHead code at)
 head_there code end at None place tag width = tt
 head_there code end at (Some h) place tag width =
     let s = start_op code at (place (in_front code end at h.tag tag)) in

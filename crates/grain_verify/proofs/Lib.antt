@@ -4,22 +4,24 @@ pub mod Flows
 pub mod Following
 pub mod Growth
 pub mod Heads
+pub mod Leading
 pub mod Metering
 pub mod Most
 pub mod NamedLists
 pub mod Numbering
 pub mod Ordinals
 pub mod Places
-pub mod Progress
 pub mod Pushing
 mod Quietness
 pub mod Refusing
 pub mod Sending
 pub mod Sharing
 pub mod Staying
+pub mod Taking
 pub mod Telling
 pub mod Ticks
 pub mod Turns
 pub mod VisitCounts
 pub mod Visiting
 pub mod Walking
+pub mod Worklist

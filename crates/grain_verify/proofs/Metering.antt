@@ -16,14 +16,12 @@ use Rattle.grain_rules.specs.declared.error.VerifyError.{VerifyError}
 use Rattle.grain_verify.proofs.Chunks.{number_more}
 use Rattle.grain_verify.proofs.Ticks.{counted_both, counted_nothing}
 
-sum_more : (starts : List ℕ) (chunks : List Span) (i : ℕ) (x : Span) → i < length chunks → x ≡ get_or chunks i x → sum_by (starts_within starts) (take (i + 1) chunks) ≡ sum_by (starts_within starts) (take i chunks) + starts_within starts x
+sum_more : (starts : List ℕ) (chunks : List Span) (i : ℕ) (x : Span) → i < length chunks → x ≡ get_or chunks i x
+    → sum_by (starts_within starts) (take (i + 1) chunks) ≡ sum_by (starts_within starts) (take i chunks) + starts_within starts x
 sum_more starts chunks i x l is =
     ap (sum_by (starts_within starts)) (take_more chunks i x l)
     ∙ sum_by_push (starts_within starts) (take i chunks) (get_or chunks i x)
     ∙ ap (λ (y : Span). sum_by (starts_within starts) (take i chunks) + starts_within starts y) (sym is)
-
-pub counted_none : (code : Bytecode) (starts : List ℕ) (count : ℕ) → AreCounted code starts [] count count
-counted_none code starts count = record { visits = 0; within = omega arith; counted = counted_nothing count; reached = ([], tt, refl) }
 
 module _ (code : Bytecode) (starts : List ℕ) (chunks : List Span) (i : ℕ) (x : Span) (old mid new : ℕ) (l : i < length chunks) (is : x ≡ get_or chunks i x) (before : AreCounted code starts (take i chunks) old mid) where
   -- a chunk was walked to the end
@@ -51,19 +49,17 @@ module _ (code : Bytecode) (starts : List ℕ) (chunks : List Span) (i : ℕ) (x
     reached = tt;
   })
 
--- nothing was walked
-pub refused_first : {A : Type 0} (code : Bytecode) (starts : List ℕ) (chunks : List Span) (count : ℕ) (e : VerifyError) → AreMeteredChunks {A = A} code starts chunks count count (Err e)
-refused_first code starts chunks count e = record { visits = 0; within = omega arith; counted = counted_nothing count; reached = tt }
-
 -- all were walked
-pub counted_all : {A : Type 0} (code : Bytecode) (starts : List ℕ) (chunks : List Span) (i old new : ℕ) (numbers : A) → length chunks ≤ i → AreCounted code starts (take i chunks) old new → AreMeteredChunks {A = A} code starts chunks old new (Ok numbers)
+pub counted_all : {A : Type 0} (code : Bytecode) (starts : List ℕ) (chunks : List Span) (i old new : ℕ) (numbers : A) → length chunks ≤ i → AreCounted code starts (take i chunks) old new
+    → AreMeteredChunks {A = A} code starts chunks old new (Ok numbers)
 counted_all code starts chunks i old new numbers past before =
     let all = take_all i chunks past in
     let c = subst (λ (cs : List Span). AreCounted code starts cs old new) all before in
     record { visits = c.visits; within = c.within; counted = c.counted; reached = c.reached }
 
 -- what was counted of the chunks was counted of the whole
-pub metered_chunks : (i : Input) (old new : ℕ) (result : Result (Vec ℕ Global) VerifyError) → (starts : List ℕ) → Split i.code.bytes starts → AreMeteredChunks i.code starts i.chunks old new result → IsMetered i old new result
+pub metered_chunks : (i : Input) (old new : ℕ) (result : Result (Vec ℕ Global) VerifyError) → (starts : List ℕ) → Split i.code.bytes starts
+    → AreMeteredChunks i.code starts i.chunks old new result → IsMetered i old new result
 metered_chunks i old new (Ok numbers) starts split m = record { accepted = (m.visits, m.reached, m.counted); refused = tt }
 metered_chunks i old new (Err e) starts split m = record {
   accepted = tt;

@@ -1,9 +1,9 @@
 -- States that name lists of bases, while lists come to them.
-use Rattle.std.proofs.Common.{◌≡◌, ℕ, zero, suc, ◌<◌, ◌≤◌, inl, inr, List, [], ◌∷◌, length, get_or, set, map, Option, Some, None, option_map, IfSome, refl, sym, ap, subst, ◌∙◌, arith}
+use Rattle.std.proofs.Common.{◌≡◌, ℕ, suc, ◌≤◌, inl, inr, List, [], ◌∷◌, length, get_or, set, map, replicate, Option, Some, None, option_map, IfSome, refl, sym, ap, subst, ◌∙◌, arith}
 use Rattle.std.specs.List.{All}
 use Rattle.std.proofs.lemmas.Bool.{cases_lt}
 use Rattle.std.proofs.lemmas.List.{get_or_past, length-map}
-use Rattle.std.proofs.lemmas.List.Elements.{All-map, All-set, All-weaker}
+use Rattle.std.proofs.lemmas.List.Elements.{All-map, All-replicate, All-set, All-weaker}
 use Rattle.std.proofs.Math.ListN.{get_or-map}
 use Rattle.grain_code.specs.Span.{Span}
 use Rattle.grain_verify.specs.Arrivals.{Coming, Underway, all_underway, coming, sent_by, underway, view}
@@ -13,6 +13,7 @@ use Rattle.grain_rules.specs.Flow as flows
 use Rattle.grain_verify.specs.FlowView.{fallen, jumped}
 use Rattle.grain_verify.specs.Lists.{Grows, IsShared, size}
 use Rattle.grain_verify.specs.Progress.{NameLists, NamesList, Walking}
+use Rattle.grain_verify.specs.States.{no_state as none}
 use Rattle.grain_verify.specs.declared.lists.Lists.{Lists}
 use Rattle.grain_verify.specs.declared.state.Arrival.{Arrival}
 use Rattle.grain_verify.specs.declared.state.State.{State}
@@ -41,13 +42,8 @@ named_there lists states k s named e = subst (λ (o : Option State). IfSome o (N
 pub named_set : (lists : Lists) (states : List (Option State)) (k : ℕ) (s : State) → NamesList lists s → NameLists lists states → NameLists lists (set states k (Some s))
 named_set lists states k s named all = All-set (λ (o : Option State). IfSome o (NamesList lists)) states k (Some s) named all
 
-pub none_named : (lists : Lists) (states : List (Option State)) → ((k : ℕ) → get_or states k None ≡ None) → NameLists lists states
-none_named lists states none k d l = subst (λ (o : Option State). IfSome o (NamesList lists)) (sym (in_range states k d l ∙ none k)) tt
-  where
-    in_range : (xs : List (Option State)) (j : ℕ) (d : Option State) → j < length xs → get_or xs j d ≡ get_or xs j None
-    in_range [] j d l = absurd (omega arith)
-    in_range (x ∷ xs) zero d l = refl
-    in_range (x ∷ xs) (suc j) d l = in_range xs j d (omega arith)
+pub none_named : (lists : Lists) (n : ℕ) → NameLists lists (replicate n none)
+none_named lists n = All-replicate (λ (o : Option State). IfSome o (NamesList lists)) n none tt
 
 -- arrivals name lists where the states do that are under way
 pub arrivals_named : (lists : Lists) (xs : List Arrival) → All (λ (u : Underway). NamesList lists u.state) (map underway xs) → All (λ (a : Arrival). NamesList lists a.state) xs
@@ -96,14 +92,21 @@ module _ (old new : Lists) (grows : Grows old new) where
   sent_kept states named = map_same (option_map (view new)) (option_map (view old)) (λ (o : Option State). IfSome o (NamesList old)) seen_kept states named
 
   coming_kept : (xs : List Arrival) → All (λ (a : Arrival). NamesList old a.state) xs → map (coming new) xs ≡ map (coming old) xs
-  coming_kept xs named = map_same (coming new) (coming old) (λ (a : Arrival). NamesList old a.state) (λ a h. (let P : Counts → Coming = λ c. record { at = a.at; counts = c } in ap P (view_kept a.state h))) xs named
+  coming_kept xs named = map_same (coming new) (coming old) (λ (a : Arrival). NamesList old a.state) (λ a h. (let P : Counts → Coming = λ c. (a.at, c) in ap P (view_kept a.state h))) xs named
 
-  pub walking_kept : (code : Bytecode) (chunk : Span) (starts : List ℕ) (states sent : List (Option State)) (arrivals : List Arrival) (deepest : ℕ) → NameLists old states → NameLists old sent → All (λ (a : Arrival). NamesList old a.state) arrivals → Walking code chunk starts old states (sent_by old sent) (map (coming old) arrivals) deepest → Walking code chunk starts new states (sent_by new sent) (map (coming new) arrivals) deepest
+  pub walking_kept : (code : Bytecode) (chunk : Span) (starts : List ℕ) (states sent : List (Option State)) (arrivals : List Arrival) (deepest : ℕ) → NameLists old states
+      → NameLists old sent → All (λ (a : Arrival). NamesList old a.state) arrivals → Walking code chunk starts old states (sent_by old sent) (map (coming old) arrivals) deepest
+      → Walking code chunk starts new states (sent_by new sent) (map (coming new) arrivals) deepest
   walking_kept code chunk starts states sent arrivals deepest named_states named_sent named_arrivals w =
       subst (λ (xs : List Coming). Walking code chunk starts new states (sent_by new sent) xs deepest) (sym (coming_kept arrivals named_arrivals))
       (subst (λ (ss : List (Option Counts)). Walking code chunk starts new states ss (map (coming old) arrivals) deepest) (sym (sent_kept sent named_sent))
       (record {
-        seen = w.seen;
-        agrees = λ k at e. seen_kept (get_or states k None) (named_at old states k named_states) ∙ w.agrees k at e;
-        progress = w.progress;
+        marked = w.marked;
+        search = w.search;
+        listed = λ x. (
+          λ c. (let (k, s, e, f, g) = (w.listed x).0 c in (k, s, e, f, g ∙ sym (view_kept s (named_there old states k s named_states f)))),
+          λ h. (let (k, s, e, f, g) = h in (w.listed x).1 (k, s, e, f, g ∙ view_kept s (named_there old states k s named_states f))),
+        );
+        count = w.count;
+        known = w.known;
       }))

@@ -9,7 +9,8 @@ use Rattle.grain_verify.proofs.Places.{placed_contains}
 use Rattle.grain_rules.proofs.Splits.{SplitsFrom, split_above, split_splits, width_pos}
 
 -- what follows the instruction of an ordinal has the next
-follows : (code : List ℕ) (at : ℕ) (xs : List ℕ) (k a : ℕ) (op : Op) → SplitsFrom code at xs → slice_get xs k ≡ Some a → StandsAt code a op → (slice_get xs (suc k) ≡ Some (a + width_of op)) ⊎ (a + width_of op ≡ length code)
+follows : (code : List ℕ) (at : ℕ) (xs : List ℕ) (k a : ℕ) (op : Op) → SplitsFrom code at xs → slice_get xs k ≡ Some a → StandsAt code a op
+    → (slice_get xs (suc k) ≡ Some (a + width_of op)) ⊎ (a + width_of op ≡ length code)
 follows code at [] k a op h e i = absurd (cc)
 follows code at (x ∷ []) zero a op (s, l, (o, j, h)) e i =
     let same : at ≡ a = sym s ∙ same_Some x a e in

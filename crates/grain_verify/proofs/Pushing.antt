@@ -1,53 +1,69 @@
 -- Pushing one state to many targets.
 use Rattle.std.proofs.Common.{◌≡◌, ℕ, ◌+◌, ◌<◌, inl, inr, List, [], ◌∷◌, ◌++◌, length, get_or, map, drop, drop-cons, add-one, sym, ap, subst, ◌∙◌, append_assoc}
-use Rattle.std.specs.List.{All, Contains}
-use Rattle.std.proofs.lemmas.List.{map_push}
-use Rattle.std.proofs.lemmas.List.Elements.{All-cons, All-push, All-append, Contains-append_left, Contains-append_right}
+use Rattle.std.specs.List.{Contains}
+use Rattle.std.proofs.lemmas.List.{append-nil, map-append, map_push}
+use Rattle.std.proofs.lemmas.List.Elements.{All-append, All-cons, All-nil, All-push, Contains-append_left, Contains-append_right}
 use Rattle.grain_code.specs.Span.{Span}
+use Rattle.grain_pools.specs.Dispatch.{arms, listed}
+use Rattle.grain_pools.specs.declared.switch.Switch.{Switch}
 use Rattle.grain_pools.specs.declared.switch.SwitchRange.{SwitchRange}
-use Rattle.grain_verify.specs.Arrivals.{RefusesTargetOf, all_underway}
-use Rattle.grain_verify.specs.Arrivals.{range_targets}
-use Rattle.grain_verify.specs.Arrivals.{Underway, underway}
+use Rattle.grain_rules.specs.Code.{switch_targets}
+use Rattle.grain_verify.specs.Arrivals.{IsPlaced, IsStartIn, Pushes, RefusesTargetOf, Underway, all_underway, case_targets, range_targets, underway}
 use Rattle.grain_rules.specs.declared.error.VerifyError.{VerifyError}
 use Rattle.grain_verify.specs.declared.state.Arrival.{Arrival}
 use Rattle.grain_verify.specs.declared.state.State.{State}
-use Rattle.grain_rules.proofs.Splits.{in_tail}
+use Rattle.grain_rules.proofs.Splits.{in_head}
 
 -- an arrival pushed
-pub pushed_one : (work : List Arrival) (a : Arrival) (t : ℕ) (s : State) → underway a ≡ record { at = t; state = s } → map underway (work ++ a ∷ []) ≡ map underway work ++ all_underway s (t ∷ [])
-pushed_one work a t s e = map_push underway work a ∙ ap (λ (u : Underway). map underway work ++ u ∷ []) e
+pub pushed_one : (starts : List ℕ) (chunk : Span) (work : List Arrival) (a : Arrival) (t : ℕ) (s : State)
+    → underway a ≡ record { at = t; state = s } → IsStartIn starts chunk t → IsPlaced starts chunk a → Pushes starts chunk s (t ∷ []) work (work ++ a ∷ [])
+pushed_one starts chunk work a t s arrives inside placed = record {
+  starts_in = All-cons (IsStartIn starts chunk) t [] inside (All-nil (IsStartIn starts chunk));
+  added = map_push underway work a ∙ ap (λ (u : Underway). map underway work ++ u ∷ []) arrives;
+  placed = λ all. All-push (IsPlaced starts chunk) work a all placed;
+}
 
--- one target pushed, of those that are left
-pub pushed_next : (s : State) (first work new : List Underway) (left ts : List ℕ) (x : ℕ) → left ≡ x ∷ ts → new ≡ work ++ all_underway s (x ∷ []) → work ++ all_underway s left ≡ first → new ++ all_underway s ts ≡ first
-pushed_next s first work new left ts x e f g =
-    ap (λ (ys : List Underway). ys ++ all_underway s ts) f ∙ (append_assoc work (all_underway s (x ∷ [])) (all_underway s ts) ∙ (ap (λ (ys : List ℕ). work ++ all_underway s ys) (sym e) ∙ g))
+-- the state is pushed to some of these targets, in their order, and the others are left
+pub record PushesUpTo (starts : List ℕ) (chunk : Span) (s : State) (all left : List ℕ) (old new : List Arrival) : Type 0 where
+  pub done : List ℕ
+  pub in_order : done ++ left ≡ all
+  pub pushes : Pushes starts chunk s done old new
 
-pub inside_next : (P : ℕ → Type 0) (left ts : List ℕ) (x : ℕ) → left ≡ x ∷ ts → P x → All P ts → All P left
-inside_next P left ts x e p h = subst (All P) (sym e) (All-cons P x ts p h)
+pub none_pushed : (starts : List ℕ) (chunk : Span) (s : State) (all left : List ℕ) (work : List Arrival) → left ≡ all → PushesUpTo starts chunk s all left work work
+none_pushed starts chunk s all left work e = record { done = []; in_order = e; pushes = record { starts_in = All-nil (IsStartIn starts chunk); added = sym (append-nil (map underway work)); placed = λ h. h } }
 
-pub left_next : (left ts : List ℕ) (x t : ℕ) → left ≡ x ∷ ts → Contains ts t → Contains left t
-left_next left ts x t e c = subst (λ (ys : List ℕ). Contains ys t) (sym e) (in_tail x ts t c)
+-- one more is pushed
+pub one_pushed : (starts : List ℕ) (chunk : Span) (s : State) (all left ts : List ℕ) (x : ℕ) (old work new : List Arrival)
+    → left ≡ x ∷ ts → PushesUpTo starts chunk s all left old work → Pushes starts chunk s (x ∷ []) work new → PushesUpTo starts chunk s all ts old new
+one_pushed starts chunk s all left ts x old work new e so_far more = record {
+  done = so_far.done ++ x ∷ [];
+  in_order = append_assoc so_far.done (x ∷ []) ts ∙ (ap (λ (ys : List ℕ). so_far.done ++ ys) (sym e) ∙ so_far.in_order);
+  pushes = record {
+    starts_in = All-append (IsStartIn starts chunk) so_far.done (x ∷ []) so_far.pushes.starts_in more.starts_in;
+    added =
+        more.added
+        ∙ (ap (λ (ys : List Underway). ys ++ all_underway s (x ∷ [])) so_far.pushes.added
+        ∙ (append_assoc (map underway old) (all_underway s so_far.done) (all_underway s (x ∷ []))
+        ∙ ap (λ (ys : List Underway). map underway old ++ ys) (sym (map-append (λ (t : ℕ). record { at = t; state = s }) so_far.done (x ∷ [])))));
+    placed = λ h. more.placed (so_far.pushes.placed h);
+  };
+}
 
--- the one that is pushed is of those that are left
-pub one_left : (left ts : List ℕ) (x t : ℕ) → left ≡ x ∷ ts → Contains (x ∷ []) t → Contains left t
-one_left left ts x t e c = subst (λ (ys : List ℕ). Contains ys t) (sym e) (Contains-append_left (x ∷ []) ts t c)
+-- none is left
+pub all_pushed : (starts : List ℕ) (chunk : Span) (s : State) (all : List ℕ) (old new : List Arrival) → PushesUpTo starts chunk s all [] old new → Pushes starts chunk s all old new
+all_pushed starts chunk s all old new up = subst (λ (ts : List ℕ). Pushes starts chunk s ts old new) (sym (append-nil up.done) ∙ up.in_order) up.pushes
+
+-- the next one is refused
+pub next_refused : (starts : List ℕ) (chunk : Span) (s : State) (at : ℕ) (all left ts : List ℕ) (x : ℕ) (old work : List Arrival) (e : VerifyError)
+    → left ≡ x ∷ ts → PushesUpTo starts chunk s all left old work → RefusesTargetOf starts chunk at (x ∷ []) e → RefusesTargetOf starts chunk at all e
+next_refused starts chunk s at all left ts x old work e is so_far (inl m) = inl m
+next_refused starts chunk s at all left ts x old work e is so_far (inr r) =
+    let in_order = ap (λ (ys : List ℕ). so_far.done ++ ys) (sym is) ∙ so_far.in_order in
+    inr (r.0, subst (λ (ys : List ℕ). Contains ys r.0) in_order (Contains-append_right so_far.done (x ∷ ts) r.0 (Contains-append_left (x ∷ []) ts r.0 r.1)), r.2)
 
 pub ranges_left : (rs : List SwitchRange) (i : ℕ) (d : SwitchRange) → i < length rs → range_targets (drop i rs) ≡ (get_or rs i d).target ∷ range_targets (drop (i + 1) rs)
 ranges_left rs i d l = ap range_targets (drop-cons rs i d l) ∙ ap (λ n. (get_or rs i d).target ∷ range_targets (drop n rs)) (sym (add-one i))
 
-pub in_first : (xs ys zs : List ℕ) (t : ℕ) → Contains xs t → Contains (xs ++ ys ++ zs) t
-in_first xs ys zs t h = Contains-append_left (xs ++ ys) zs t (Contains-append_left xs ys t h)
-
-pub in_second : (xs ys zs : List ℕ) (t : ℕ) → Contains ys t → Contains (xs ++ ys ++ zs) t
-in_second xs ys zs t h = Contains-append_left (xs ++ ys) zs t (Contains-append_right xs ys t h)
-
-pub in_third : (xs ys zs : List ℕ) (t : ℕ) → Contains zs t → Contains (xs ++ ys ++ zs) t
-in_third xs ys zs t h = Contains-append_right (xs ++ ys) zs t h
-
-pub all_three : (P : ℕ → Type 0) (xs ys : List ℕ) (x : ℕ) → All P xs → All P ys → P x → All P (xs ++ ys ++ x ∷ [])
-all_three P xs ys x a b p = All-push P (xs ++ ys) x (All-append P xs ys a b) p
-
--- the refusal of one target of some is that of one of more
-pub refused_of : (starts : List ℕ) (chunk : Span) (at : ℕ) (xs ys : List ℕ) (e : VerifyError) → ((t : ℕ) → Contains xs t → Contains ys t) → RefusesTargetOf starts chunk at xs e → RefusesTargetOf starts chunk at ys e
-refused_of starts chunk at xs ys e f (inl m) = inl m
-refused_of starts chunk at xs ys e f (inr r) = inr (r.0, f r.0 r.1, r.2)
+-- where a switch goes by default is one of its targets
+pub default_named : (s : Switch) → Contains (switch_targets s) s.default
+default_named s = Contains-append_right (case_targets (listed (arms s).cases) ++ range_targets s.ranges.items) (s.default ∷ []) s.default (in_head s.default [])

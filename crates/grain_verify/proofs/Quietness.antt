@@ -2,7 +2,7 @@
 use Rattle.std.proofs.Common.{rules, ◌≡◌, ℕ, Bool, get_or, subst}
 use Rattle.grain_code.specs.InstructionTable.{form}
 use Rattle.grain_code.specs.declared.op.Op.{Op}
-use Rattle.grain_rules.specs.Sinking.{is_quiet}
+use Rattle.grain_rules.specs.Rows.{is_quiet}
 use Rattle.grain_verify.specs.declared.sinking.TheConstants.{QUIET}
 
 row : (d : Bool) (op : Op) → get_or QUIET (form op).0 d ≡ is_quiet op

@@ -7,7 +7,8 @@ use Rattle.grain_code.specs.declared.op.Op.{Op}
 use Rattle.grain_code.proofs.Splits.{one_split}
 use Rattle.grain_rules.specs.Accepted.{IsFramed}
 use Rattle.grain_rules.specs.Code.{Bytecode, coded}
-use Rattle.grain_rules.specs.Capabilities.{Allows, caps_of}
+use Rattle.grain_rules.specs.Capabilities.{Allows}
+use Rattle.grain_rules.specs.Rows.{caps_of}
 use Rattle.grain_rules.specs.Counts.{Counts, last_base}
 use Rattle.grain_rules.specs.Effects.{Meets}
 use Rattle.grain_verify.specs.Arrivals.{IsStartIn, RefusesTarget, RefusesState}
@@ -49,8 +50,11 @@ refused_state code chunk at op c (errors.SinksBelowHandler a need have) f comes 
 refused_state code chunk at op c e f comes h = absurd h
 
 -- the refusal of an instruction that sinks below the base of the last handler
-pub refused_sinking : (code : Bytecode) (chunk : Span) (at : ℕ) (op : Op) (c : Counts) (e : VerifyError) → IsFramed code chunk → Comes code chunk at op c → Allows code.setting.caps (caps_of code.setting op) → Meets code.setting op c → RefusesSinking op at (last_base c.bases) (untouched code.setting op c) e → ChunkFlaw code chunk e
-refused_sinking code chunk at op c (errors.SinksBelowHandler a need have) f comes allowed meets (ea, loud, short) = refused_state code chunk at op c (errors.SinksBelowHandler a need have) f comes (ea, allowed, meets, (loud, short))
+pub refused_sinking : (code : Bytecode) (chunk : Span) (at : ℕ) (op : Op) (c : Counts) (e : VerifyError) → IsFramed code chunk → Comes code chunk at op c
+    → Allows code.setting.caps (caps_of code.setting op) → Meets code.setting op c → RefusesSinking op at (last_base c.bases) (untouched code.setting op c) e
+    → ChunkFlaw code chunk e
+refused_sinking code chunk at op c (errors.SinksBelowHandler a need have) f comes allowed meets (ea, loud, short) =
+    refused_state code chunk at op c (errors.SinksBelowHandler a need have) f comes (ea, allowed, meets, (loud, short))
 refused_sinking code chunk at op c e f comes allowed meets h = absurd h
 
 renamed : (code : Bytecode) (chunk : Span) (at a target t : ℕ) → Leads code chunk at target → a ≡ at → t ≡ target → Leads code chunk a t
@@ -60,7 +64,9 @@ renamed code chunk at a target t n e f = subst (λ (x : ℕ). Leads code chunk x
 pub start_listed : (bytes starts : List ℕ) (at : ℕ) → Split bytes starts → IsStart bytes at → Contains starts at
 start_listed bytes starts at split s = subst (λ (xs : List ℕ). Contains xs at) (one_split bytes s.starts starts s.split split) s.here
 
-pub refused_target : (code : Bytecode) (starts : List ℕ) (chunk : Span) (at target : ℕ) (e : VerifyError) → Split code.bytes starts → IsFramed code chunk → Leads code chunk at target → RefusesTarget starts chunk at target e → ChunkFlaw code chunk e
+pub refused_target : (code : Bytecode) (starts : List ℕ) (chunk : Span) (at target : ℕ) (e : VerifyError) → Split code.bytes starts → IsFramed code chunk
+    → Leads code chunk at target → RefusesTarget starts chunk at target e → ChunkFlaw code chunk e
 refused_target code starts chunk at target (errors.JumpOutOfRange a t) split f n (ea, et, out) = (f, renamed code chunk at a target t n ea et, out)
-refused_target code starts chunk at target (errors.JumpIntoAnInstruction a t) split f n (ea, et, low, high, un) = inr (f, renamed code chunk at a target t n ea et, low, high, λ s. un (start_listed code.bytes starts t split s))
+refused_target code starts chunk at target (errors.JumpIntoAnInstruction a t) split f n (ea, et, low, high, un) =
+    inr (f, renamed code chunk at a target t n ea et, low, high, λ s. un (start_listed code.bytes starts t split s))
 refused_target code starts chunk at target e split f n h = absurd h

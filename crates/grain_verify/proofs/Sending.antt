@@ -8,7 +8,8 @@ use Rattle.std.proofs.lemmas.Simd.{map-map}
 use Rattle.grain_code.specs.Span.{Span}
 use Rattle.grain_verify.specs.Arrivals.{Coming, Sends, Underway, all_to, all_underway, coming, sent_by, underway, view}
 use Rattle.grain_rules.specs.Counts.{Base, Counts}
-use Rattle.grain_rules.specs.Flow.{Flow, Switches, AdvancesIterator, BeginsIterator, EndsIterator, PopsHandler, PushesHandler, bases_for, fall_for, jump_for, targets_for}
+use Rattle.grain_rules.specs.Flow.{Flow, Switches, AdvancesIterator, BeginsIterator, EndsIterator, PopsHandler, PushesHandler}
+use Rattle.grain_rules.specs.FlowFields.{bases_for, fall_for, jump_for, targets_for}
 use Rattle.grain_verify.specs.FlowView.{fallen, jumped}
 use Rattle.grain_verify.specs.Lists.{IsShared, list_of}
 use Rattle.grain_verify.specs.Progress.{NameLists, NamesList}
@@ -16,6 +17,7 @@ use Rattle.grain_verify.specs.declared.lists.Lists.{Lists}
 use Rattle.grain_verify.specs.declared.state.Arrival.{Arrival}
 use Rattle.grain_verify.specs.declared.state.State.{State}
 use Rattle.grain_verify.proofs.NamedLists.{arrivals_named, named_set, sent_named, underway_named}
+use Rattle.grain_verify.proofs.Places.{set_cases}
 use Rattle.grain_verify.proofs.Sharing.{one_number}
 
 -- other states stand for other counts
@@ -47,7 +49,7 @@ module _ (lists : Lists) (left list : ℕ) (s : State) where
 
 -- a state under way, as counts
 abbrev as_coming : Lists → Underway → Coming
-as_coming lists u = record { at = u.at; counts = view lists u.state }
+as_coming lists u = (u.at, view lists u.state)
 
 coming_as : (lists : Lists) (xs : List Arrival) → map (as_coming lists) (map underway xs) ≡ map (coming lists) xs
 coming_as lists xs = map-map (as_coming lists) underway xs
@@ -71,16 +73,22 @@ come_none lists old new e = sym (coming_as lists new) ∙ ap (map (as_coming lis
 pub was_sent : (lists : Lists) (sent : List (Option State)) (w : ℕ) (s : State) → get_or sent w None ≡ Some s → get_or (sent_by lists sent) w None ≡ Some (view lists s)
 was_sent lists sent w s e = get_or-map (option_map (view lists)) sent w None ∙ ap (option_map (view lists)) e
 
-pub noted_as : (lists : Lists) (f : Flow) (sent new : List (Option State)) (s : State) → (new ≡ sent) ⊎ ((w : ℕ) × (f ≡ Switches w) × (new ≡ set sent w (Some s))) → (sent_by lists new ≡ sent_by lists sent) ⊎ ((w : ℕ) × (f ≡ Switches w) × (sent_by lists new ≡ set (sent_by lists sent) w (Some (view lists s))))
-noted_as lists f sent new s (inl e) = inl (ap (sent_by lists) e)
-noted_as lists f sent new s (inr (w, is, e)) = inr (w, is, ap (sent_by lists) e ∙ map-set (option_map (view lists)) sent w (Some s))
+pub noted_cases : (lists : Lists) (f : Flow) (sent new : List (Option State)) (s : State)
+    → (new ≡ sent) ⊎ ((w : ℕ) × (f ≡ Switches w) × (new ≡ set sent w (Some s)))
+    → (v : ℕ) (c : Counts) → get_or (sent_by lists new) v None ≡ Some c
+    → (get_or (sent_by lists sent) v None ≡ Some c) ⊎ ((f ≡ Switches v) × (c ≡ view lists s))
+noted_cases lists f sent new s (inl e) v c k = inl (ap (λ (ss : List (Option State)). get_or (sent_by lists ss) v None) (sym e) ∙ k)
+noted_cases lists f sent new s (inr (w, is, e)) v c k =
+    let noted = ap (sent_by lists) e ∙ map-set (option_map (view lists)) sent w (Some s) in
+    elim (set_cases (sent_by lists sent) w v (view lists s) c (ap (λ (cs : List (Option Counts)). get_or cs v None) (sym noted) ∙ k)) [ inl h ↦ inr (is ∙ ap Switches (sym h.0), sym h.1) | inr old ↦ inl old ]
 
 -- what is sent names a list that there is
 module _ (lists : Lists) (starts : List ℕ) (chunk : Span) (switches : List (List ℕ)) (f : Flow) (after : State) (sent new_sent : List (Option State)) (old new : List Arrival) (named : NamesList lists after) where
   pub sends_named : All (λ (a : Arrival). NamesList lists a.state) old → Sends starts chunk switches f after sent new_sent (map underway old) (map underway new) → All (λ (a : Arrival). NamesList lists a.state) new
   sends_named all (inl to_all) =
       let P : Underway → Type 0 = λ u. NamesList lists u.state in
-      arrivals_named lists new (subst (All P) (sym to_all.added) (All-append P (map underway old) (all_underway after (targets_for switches f)) (underway_named lists old all) (sent_named lists after (targets_for switches f) named)))
+      arrivals_named lists new (subst (All P) (sym to_all.added)
+      (All-append P (map underway old) (all_underway after (targets_for switches f)) (underway_named lists old all) (sent_named lists after (targets_for switches f) named)))
   sends_named all (inr to_none) =
       let P : Underway → Type 0 = λ u. NamesList lists u.state in
       arrivals_named lists new (subst (All P) (sym to_none.added) (underway_named lists old all))

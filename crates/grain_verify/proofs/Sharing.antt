@@ -40,7 +40,8 @@ within_push (suc most) nodes x zero p w = refl
 within_push (suc most) nodes x (suc k) p w =
     let e : get_or (nodes ++ x ∷ []) k no_node ≡ get_or nodes k no_node = get_or_append_left nodes (x ∷ []) no_node k (omega arith) in
     let q = p k (omega arith) in
-    ap (λ (y : Node). as_base y.base ∷ list_within most (nodes ++ x ∷ []) y.parent) e ∙ ap (λ (bs : List Base). as_base (get_or nodes k no_node).base ∷ bs) (within_push most nodes x (get_or nodes k no_node).parent p (omega arith))
+    ap (λ (y : Node). as_base y.base ∷ list_within most (nodes ++ x ∷ []) y.parent) e
+    ∙ ap (λ (bs : List Base). as_base (get_or nodes k no_node).base ∷ bs) (within_push most nodes x (get_or nodes k no_node).parent p (omega arith))
 
 pub named_push : (nodes : List Node) (x : Node) (n : ℕ) → Parents nodes → n ≤ length nodes → list_in (nodes ++ x ∷ []) n ≡ list_in nodes n
 named_push nodes x n p w = within_push n nodes x n p w
@@ -100,14 +101,19 @@ found_list nodes find x n s e =
     let l = h.2 in
     (omega (arith, m, l), ap (list_in nodes) m ∙ (named_suc nodes h.0 s.parents l ∙ ap (λ (y : Node). as_base y.base ∷ list_in nodes y.parent) h.3))
 
-pub pushed_list : (nodes new : List Node) (x : Node) (n : ℕ) → Parents nodes → x.parent ≤ length nodes → new ≡ nodes ++ x ∷ [] → n ≡ length new → (n ≤ length new) × (list_in new n ≡ as_base x.base ∷ list_in nodes x.parent)
+pub pushed_list : (nodes new : List Node) (x : Node) (n : ℕ) → Parents nodes → x.parent ≤ length nodes → new ≡ nodes ++ x ∷ [] → n ≡ length new
+    → (n ≤ length new) × (list_in new n ≡ as_base x.base ∷ list_in nodes x.parent)
 pushed_list nodes new x n p w f e =
     let k = length nodes in
     let m : n ≡ suc k = e ∙ (ap length f ∙ (length_push nodes x ∙ add-one k)) in
     let q = parents_push nodes x p w in
     let l : k < length (nodes ++ x ∷ []) = let g = length_push nodes x in omega arith in
-    let y : get_or (nodes ++ x ∷ []) k no_node ≡ x = get_or_push nodes x no_node k refl in
-    (omega (arith, e), ap (λ (ns : List Node). list_in ns n) f ∙ (ap (list_in (nodes ++ x ∷ [])) m ∙ (named_suc (nodes ++ x ∷ []) k q l ∙ (ap (λ (z : Node). as_base z.base ∷ list_in (nodes ++ x ∷ []) z.parent) y ∙ ap (λ (bs : List Base). as_base x.base ∷ bs) (named_push nodes x x.parent p w)))))
+    let y : get_or (nodes ++ x ∷ []) k no_node ≡ x = get_or_push nodes x no_node k refl in (
+      omega (arith, e),
+      ap (λ (ns : List Node). list_in ns n) f
+          ∙ (ap (list_in (nodes ++ x ∷ [])) m ∙ (named_suc (nodes ++ x ∷ []) k q l
+          ∙ (ap (λ (z : Node). as_base z.base ∷ list_in (nodes ++ x ∷ []) z.parent) y ∙ ap (λ (bs : List Base). as_base x.base ∷ bs) (named_push nodes x x.parent p w)))),
+    )
 
 -- the order tells nodes apart
 pub node_exact : (x y : Node) → is_eq (node_cmp x y) ≡ true → x ≡ y
@@ -125,7 +131,8 @@ either true = inl refl
 either false = inr refl
 
 -- a new node, noted behind the others, is shared too
-module _ (nodes : List Node) (find later : Node → Option ℕ) (x : Node) (s : IsSharing nodes find) (fresh : find x ≡ None) (on : x.parent ≤ length nodes) (noted : (q : Node) → later q ≡ cond (is_eq (node_cmp x q)) (Some (length nodes + 1)) (find q)) where
+module _ (nodes : List Node) (find later : Node → Option ℕ) (x : Node) (s : IsSharing nodes find) (fresh : find x ≡ None) (on : x.parent ≤ length nodes)
+    (noted : (q : Node) → later q ≡ cond (is_eq (node_cmp x q)) (Some (length nodes + 1)) (find q)) where
   at_self : later x ≡ Some (length nodes + 1)
   at_self = noted x ∙ ap (λ b. cond b (Some (length nodes + 1)) (find x)) (node_self x)
 

@@ -12,7 +12,7 @@ use Rattle.grain_code.specs.declared.op.Op.TheVariants as ops
 use Rattle.grain_code.specs.declared.op.Receiver.TheVariants as receiver
 use Rattle.grain_code.proofs.Instructions.{instr_width}
 use Rattle.grain_rules.specs.Flow as flows
-use Rattle.grain_rules.specs.Flow.{flow_of}
+use Rattle.grain_rules.specs.Rows.{flow_of}
 use Rattle.grain_verify.specs.FlowView.{HasTarget, flow}
 use Rattle.grain_verify.specs.TagEffects.{IsFixed, Tells, TellsFlow}
 use Rattle.grain_verify.specs.declared.flow.Flow.{Flow}
@@ -21,47 +21,47 @@ use Rattle.grain_verify.specs.declared.tag_effects.TheConstants.{TAG_EFFECTS}
 use Rattle.grain_verify.specs.declared.tag_effects.TagEffect.{TagEffect}
 
 told : (d : TagEffect) (op : Op) → Tells (get_or TAG_EFFECTS (form op).0 d) op
-told d (ops.Const c) = (record { operands = λ chains. refl; caps = λ s. refl }, refl)
-told d ops.Unit = (record { operands = λ chains. refl; caps = λ s. refl }, refl)
-told d (ops.Bool false) = (record { operands = λ chains. refl; caps = λ s. refl }, refl)
-told d (ops.Bool true) = (record { operands = λ chains. refl; caps = λ s. refl }, refl)
-told d (ops.LoadLocal s) = (record { operands = λ chains. refl; caps = λ s. refl }, refl)
-told d (ops.StoreLocal s false) = (record { operands = λ chains. refl; caps = λ s. refl }, refl)
-told d (ops.StoreLocal s true) = (record { operands = λ chains. refl; caps = λ s. refl }, refl)
-told d (ops.AssignLocal s n None) = (record { operands = λ chains. refl; caps = λ s. refl }, refl)
-told d (ops.AssignLocal s n (Some o)) = (record { operands = λ chains. refl; caps = λ s. refl }, refl)
-told d (ops.DeclareLocal n false is_global) = (record { operands = λ chains. refl; caps = λ s. refl }, refl)
-told d (ops.DeclareLocal n true false) = (record { operands = λ chains. refl; caps = λ s. refl }, refl)
-told d (ops.DeclareLocal n true true) = (record { operands = λ chains. refl; caps = λ s. refl }, refl)
-told d ops.Pop = (record { operands = λ chains. refl; caps = λ s. refl }, refl)
-told d (ops.Jump j) = (record { operands = λ chains. refl; caps = λ s. refl }, (j, [], refl, refl))
-told d (ops.JumpIfTrue j) = (record { operands = λ chains. refl; caps = λ s. refl }, (j, [], refl, refl))
-told d (ops.JumpIfFalse j) = (record { operands = λ chains. refl; caps = λ s. refl }, (j, [], refl, refl))
+told d (ops.Const c) = (record { operands = λ s. refl; caps = λ s. refl }, refl)
+told d ops.Unit = (record { operands = λ s. refl; caps = λ s. refl }, refl)
+told d (ops.Bool false) = (record { operands = λ s. refl; caps = λ s. refl }, refl)
+told d (ops.Bool true) = (record { operands = λ s. refl; caps = λ s. refl }, refl)
+told d (ops.LoadLocal s) = (record { operands = λ s. refl; caps = λ s. refl }, refl)
+told d (ops.StoreLocal s false) = (record { operands = λ s. refl; caps = λ s. refl }, refl)
+told d (ops.StoreLocal s true) = (record { operands = λ s. refl; caps = λ s. refl }, refl)
+told d (ops.AssignLocal s n None) = (record { operands = λ s. refl; caps = λ s. refl }, refl)
+told d (ops.AssignLocal s n (Some o)) = (record { operands = λ s. refl; caps = λ s. refl }, refl)
+told d (ops.DeclareLocal n false is_global) = (record { operands = λ s. refl; caps = λ s. refl }, refl)
+told d (ops.DeclareLocal n true false) = (record { operands = λ s. refl; caps = λ s. refl }, refl)
+told d (ops.DeclareLocal n true true) = (record { operands = λ s. refl; caps = λ s. refl }, refl)
+told d ops.Pop = (record { operands = λ s. refl; caps = λ s. refl }, refl)
+told d (ops.Jump j) = (record { operands = λ s. refl; caps = λ s. refl }, (j, [], refl, refl))
+told d (ops.JumpIfTrue j) = (record { operands = λ s. refl; caps = λ s. refl }, (j, [], refl, refl))
+told d (ops.JumpIfFalse j) = (record { operands = λ s. refl; caps = λ s. refl }, (j, [], refl, refl))
 told d (ops.Call n a None capture) = tt
 told d (ops.Call n a (Some o) capture) = tt
-told d (ops.UnwindTo s) = (record { operands = λ chains. refl; caps = λ s. refl }, refl)
-told d ops.Tick = (record { operands = λ chains. refl; caps = λ s. refl }, refl)
-told d ops.Return = (record { operands = λ chains. refl; caps = λ s. refl }, refl)
-told d (ops.EvalAst r true) = (record { operands = λ chains. refl; caps = λ s. refl }, refl)
-told d (ops.EvalAst r false) = (record { operands = λ chains. refl; caps = λ s. refl }, refl)
+told d (ops.UnwindTo s) = (record { operands = λ s. refl; caps = λ s. refl }, refl)
+told d ops.Tick = (record { operands = λ s. refl; caps = λ s. refl }, refl)
+told d ops.Return = (record { operands = λ s. refl; caps = λ s. refl }, refl)
+told d (ops.EvalAst r true) = (record { operands = λ s. refl; caps = λ s. refl }, refl)
+told d (ops.EvalAst r false) = (record { operands = λ s. refl; caps = λ s. refl }, refl)
 told d (ops.Chain h) = tt
 told d (ops.MakeArray s) = tt
 told d (ops.Switch w) = tt
 told d (ops.LoadNamed n) = tt
-told d (ops.AssignNamed n None) = (record { operands = λ chains. refl; caps = λ s. refl }, refl)
-told d (ops.AssignNamed n (Some o)) = (record { operands = λ chains. refl; caps = λ s. refl }, refl)
-told d ops.Throw = (record { operands = λ chains. refl; caps = λ s. refl }, refl)
-told d ops.IterInit = (record { operands = λ chains. refl; caps = λ s. refl }, refl)
-told d (ops.IterNext j None) = (record { operands = λ chains. refl; caps = λ s. refl }, (j, [], refl, refl))
-told d (ops.IterNext j (Some s)) = (record { operands = λ chains. refl; caps = λ s. refl }, (j, Slot s ∷ [], refl, refl))
-told d ops.IterDrop = (record { operands = λ chains. refl; caps = λ s. refl }, refl)
-told d (ops.StoreShared s) = (record { operands = λ chains. refl; caps = λ s. refl }, refl)
-told d ops.PopHandler = (record { operands = λ chains. refl; caps = λ s. refl }, refl)
-told d (ops.PushHandler j None) = (record { operands = λ chains. refl; caps = λ s. refl }, (j, [], refl, refl))
-told d (ops.PushHandler j (Some n)) = (record { operands = λ chains. refl; caps = λ s. refl }, (j, name n ∷ [], refl, refl))
-told d ops.InterpolateStart = (record { operands = λ chains. refl; caps = λ s. refl }, refl)
-told d ops.InterpolateAppend = (record { operands = λ chains. refl; caps = λ s. refl }, refl)
-told d ops.InterpolateEnd = (record { operands = λ chains. refl; caps = λ s. refl }, refl)
+told d (ops.AssignNamed n None) = (record { operands = λ s. refl; caps = λ s. refl }, refl)
+told d (ops.AssignNamed n (Some o)) = (record { operands = λ s. refl; caps = λ s. refl }, refl)
+told d ops.Throw = (record { operands = λ s. refl; caps = λ s. refl }, refl)
+told d ops.IterInit = (record { operands = λ s. refl; caps = λ s. refl }, refl)
+told d (ops.IterNext j None) = (record { operands = λ s. refl; caps = λ s. refl }, (j, [], refl, refl))
+told d (ops.IterNext j (Some s)) = (record { operands = λ s. refl; caps = λ s. refl }, (j, Slot s ∷ [], refl, refl))
+told d ops.IterDrop = (record { operands = λ s. refl; caps = λ s. refl }, refl)
+told d (ops.StoreShared s) = (record { operands = λ s. refl; caps = λ s. refl }, refl)
+told d ops.PopHandler = (record { operands = λ s. refl; caps = λ s. refl }, refl)
+told d (ops.PushHandler j None) = (record { operands = λ s. refl; caps = λ s. refl }, (j, [], refl, refl))
+told d (ops.PushHandler j (Some n)) = (record { operands = λ s. refl; caps = λ s. refl }, (j, name n ∷ [], refl, refl))
+told d ops.InterpolateStart = (record { operands = λ s. refl; caps = λ s. refl }, refl)
+told d ops.InterpolateAppend = (record { operands = λ s. refl; caps = λ s. refl }, refl)
+told d ops.InterpolateEnd = (record { operands = λ s. refl; caps = λ s. refl }, refl)
 told d ops.MakeFnPtr = tt
 told d (ops.Curry a) = tt
 told d (ops.CallFnPtr a false false None) = tt
@@ -72,32 +72,33 @@ told d (ops.CallFnPtr a is_method capture (Some (receiver.Named n))) = tt
 told d (ops.CallFnPtr a is_method capture (Some receiver.This)) = tt
 told d (ops.Share s) = tt
 told d (ops.ShareNamed n) = tt
-told d (ops.LoadShared s) = (record { operands = λ chains. refl; caps = λ s. refl }, refl)
+told d (ops.LoadShared s) = (record { operands = λ s. refl; caps = λ s. refl }, refl)
 told d (ops.MakeClosure n) = tt
 told d ops.IsShared = tt
-told d ops.Checkpoint = (record { operands = λ chains. refl; caps = λ s. refl }, refl)
-told d (ops.CheckSize s false) = (record { operands = λ chains. refl; caps = λ s. refl }, refl)
-told d (ops.CheckSize s true) = (record { operands = λ chains. refl; caps = λ s. refl }, refl)
+told d ops.Checkpoint = (record { operands = λ s. refl; caps = λ s. refl }, refl)
+told d (ops.CheckSize s false) = (record { operands = λ s. refl; caps = λ s. refl }, refl)
+told d (ops.CheckSize s true) = (record { operands = λ s. refl; caps = λ s. refl }, refl)
 told d (ops.MakeMap s) = tt
 told d (ops.CallRef n a (receiver.Local s) capture) = tt
 told d (ops.CallRef n a (receiver.Named m) capture) = tt
 told d (ops.CallRef n a receiver.This capture) = tt
 told d (ops.Rotate a) = tt
-told d (ops.LoadSharedNamed n) = (record { operands = λ chains. refl; caps = λ s. refl }, refl)
+told d (ops.LoadSharedNamed n) = (record { operands = λ s. refl; caps = λ s. refl }, refl)
 told d ops.LoadThis = tt
 told d ops.LoadThisShared = tt
 told d ops.RequireThis = tt
 told d (ops.AssignThis None) = tt
 told d (ops.AssignThis (Some o)) = tt
-told d (ops.SkipIfNotUnit j) = (record { operands = λ chains. refl; caps = λ s. refl }, (j, [], refl, refl))
-told d (ops.Statement s) = (record { operands = λ chains. refl; caps = λ s. refl }, refl)
+told d (ops.SkipIfNotUnit j) = (record { operands = λ s. refl; caps = λ s. refl }, (j, [], refl, refl))
+told d (ops.Statement s) = (record { operands = λ s. refl; caps = λ s. refl }, refl)
 told d (ops.CustomSyntax y) = tt
 told d (ops.ExportLocal s n) = tt
 told d (ops.ExportNamed n m) = tt
 told d (ops.Import n) = tt
 
 -- a flow that a tag tells is that of the operation, with its first field as the target
-pub tells_flow : (f : Flow) (e : ℕ × ℕ × ℕ) (op : Op) (target : ℕ) → (HasTarget f → (t : ℕ) (others : List Field) → (form op).1 ≡ Target t ∷ others → target ≡ t) → TellsFlow (Some f) e op → IsFixed op e × (flow f target ≡ flow_of op)
+pub tells_flow : (f : Flow) (e : ℕ × ℕ × ℕ) (op : Op) (target : ℕ) → (HasTarget f → (t : ℕ) (others : List Field) → (form op).1 ≡ Target t ∷ others → target ≡ t)
+    → TellsFlow (Some f) e op → IsFixed op e × (flow f target ≡ flow_of op)
 tells_flow ways.Falls e op target first (fixed, is) = (fixed, sym is)
 tells_flow ways.Ends e op target first (fixed, is) = (fixed, sym is)
 tells_flow ways.Jumps e op target first (fixed, (t, others, first_is, is)) = (fixed, ap flows.Jumps (first tt t others first_is) ∙ sym is)

@@ -1,27 +1,30 @@
 -- A turn of the walk: an instruction is visited.
-use Rattle.std.proofs.Common.{◌≡◌, ◌⊎◌, inl, inr, ℕ, ◌+◌, ◌-◌, ◌<◌, ◌≤◌, max, cond, Bool, true, false, List, [], ◌∷◌, ◌++◌, length, get_or, set, slice_get, map, Option, Some, None, refl, sym, ap, subst, ◌∙◌, append_assoc, add-one, arith}
+use Rattle.std.proofs.Common.{◌≡◌, ◌+◌, ◌-◌, ◌≤◌, ◌∷◌, ◌++◌, ◌∙◌}
+use Rattle.std.proofs.Common.{inl, inr, ℕ, max, cond, Bool, true, false, List, [], length, get_or, set, slice_get, map, Option, Some, None, refl, sym, ap, subst, append_assoc, add-one, arith}
 use Rattle.std.specs.List.{All, Contains}
-use Rattle.std.proofs.lemmas.Bool.{cases_eq, cases_lt}
-use Rattle.std.proofs.lemmas.List.{append-nil, get_or-set_same, get_or-set_other, get_or_past, length-set, map-append, map_push}
-use Rattle.std.proofs.lemmas.List.Elements.{All-contains, All-contains_itself, All-push, All-weaker, Contains-append_cases, Contains-append_left, Contains-append_right, Contains-push}
-use Rattle.std.proofs.lemmas.Option.{same_Some, none-some, slice_get_within}
+use Rattle.std.proofs.lemmas.List.{append-nil, length-set, map-append, map_push}
+use Rattle.std.proofs.lemmas.List.Elements.{All-contains, All-push}
 use Rattle.grain_code.specs.InstructionTable.{width_of}
 use Rattle.grain_code.specs.Span.{Span}
 use Rattle.grain_code.specs.Split.{StandsAt}
 use Rattle.grain_code.specs.declared.op.Op.{Op}
 use Rattle.grain_rules.specs.Accepted.{IsFramed}
-use Rattle.grain_verify.specs.Arrivals.{Coming, IsPlaced, IsStartIn, RefusesSwitch, Sends, all_to, arrivals, coming, falling, sent_by, underway, view}
-use Rattle.grain_rules.specs.Code.{Bytecode, coded}
+use Rattle.grain_verify.specs.Arrivals.{Coming, IsPlaced, IsStartIn, RefusesSwitch, Sends, all_to, coming, falling, sent_by, underway, view}
+use Rattle.grain_rules.specs.Code.{coded}
 use Rattle.grain_rules.specs.Counts.{Counts}
-use Rattle.grain_rules.specs.Capabilities.{Allows, caps_of}
-use Rattle.grain_rules.specs.Effects.{after_fall, after_jump, operands_after, stack_effect, targets}
+use Rattle.grain_rules.specs.Capabilities.{Allows}
+use Rattle.grain_rules.specs.Effects.{after_fall, after_jump, operands_after, targets}
 use Rattle.grain_verify.specs.FlowView.{IsFollowed, IsMetBy, fallen, falls_to, jumped, next_to}
-use Rattle.grain_rules.specs.Flow.{Flow, Switches, bases_for, fall_for, falls_for, flow_of, jump_for, targets_for}
+use Rattle.grain_rules.specs.Flow.{Flow}
+use Rattle.grain_rules.specs.Rows.{caps_of, flow_of}
+use Rattle.grain_verify.specs.Operands.{stack_effect}
+use Rattle.grain_rules.specs.FlowFields.{bases_for, fall_for, falls_for, jump_for, targets_for}
 use Rattle.grain_rules.specs.Flaw.{ChunkFlaw}
+use Rattle.grain_verify.specs.Graph.{Pending}
 use Rattle.grain_verify.specs.Lists.{Grows, list_of, size}
 use Rattle.grain_verify.specs.Progress.{HaltsAt, IsWalking, KnowsLists, NameLists, NamesList, Walking, visits_in}
 use Rattle.grain_rules.specs.Sinking.{Stays}
-use Rattle.grain_rules.specs.Typing.{IsInChunk, Passes, Reached, onward}
+use Rattle.grain_rules.specs.Typing.{IsInChunk, Passes, onward}
 use Rattle.grain_verify.specs.Walk.{IsReady, bytecode_of}
 use Rattle.grain_rules.specs.declared.error.VerifyError.{VerifyError}
 use Rattle.grain_rules.specs.declared.error.VerifyError.TheVariants as errors
@@ -30,157 +33,112 @@ use Rattle.grain_verify.specs.declared.state.Arrival.{Arrival}
 use Rattle.grain_verify.specs.declared.state.State.{State}
 use Rattle.grain_verify.specs.declared.walk.Prepared.{Prepared}
 use Rattle.grain_verify.specs.declared.walk.Traversal.{Traversal}
+use Rattle.grain_rules.proofs.Splits.{in_nil}
 use Rattle.grain_verify.proofs.Flows.{left_is, passes_known}
-use Rattle.grain_verify.proofs.NamedLists.{all_named_more, arrivals_named_more, fallen_named, grows_not, jumped_named, named_more, named_set, named_there, view_kept, walking_kept}
+use Rattle.grain_verify.proofs.NamedLists.{all_named_more, arrivals_named_more, fallen_named, jumped_named, named_more, named_set, named_there, view_kept, walking_kept}
 use Rattle.grain_verify.proofs.Ordinals.{next_ordinal}
-use Rattle.grain_verify.proofs.Progress.{Comes, in_map, map_out}
+use Rattle.grain_verify.proofs.Leading.{jumps_to}
 use Rattle.grain_verify.proofs.Refusing.{start_in}
-use Rattle.grain_verify.proofs.Sending.{come_all, come_none, noted_as, sends_named, switches_named, unlike_views, view_fallen, view_jumped, was_sent}
-use Rattle.grain_verify.proofs.VisitCounts.{visits_room}
-use Rattle.grain_verify.proofs.Walking.{taken_inside, taken_reached, taken_small, visited_more, walking_visit}
+use Rattle.grain_verify.proofs.Sending.{come_all, come_none, noted_cases, sends_named, switches_named, unlike_views, view_fallen, view_jumped, was_sent}
+use Rattle.grain_verify.proofs.VisitCounts.{visited_more}
+use Rattle.grain_verify.proofs.Taking.{left_named, left_placed, taken_inside, taken_known, taken_named, taken_place, taken_reached, taken_walking}
+use Rattle.grain_verify.proofs.Walking.{JumpsTo, pending_reached, sent_before, walking_visit}
 
--- what comes by all edges, with the counts that are sent to a switch noted
-module _ (code : Bytecode) (op : Op) (at : ℕ) (c : Counts) (sent : List (Option Counts)) where
-  sent_all : (t : ℕ) → Contains (targets code.switches op) t → Contains (arrivals code op at c) (record { at = t; counts = after_jump code.setting op c })
-  sent_all t k = Contains-append_left (all_to (after_jump code.setting op c) (targets code.switches op)) (falling code op at c) _ (in_map (after_jump code.setting op c) (targets code.switches op) t (after_jump code.setting op c) k refl)
-
-  noted_switch : (w : ℕ) → flow_of op ≡ Switches w → (v : ℕ) (d : Counts) → get_or (set sent w (Some (after_jump code.setting op c))) v None ≡ Some d → (get_or sent v None ≡ Some d) ⊎ ((t : ℕ) → Contains (get_or code.switches v []) t → Contains (targets code.switches op) t × (d ≡ after_jump code.setting op c) × Contains (arrivals code op at c) (record { at = t; counts = d }))
-  noted_switch w is v d e = elim (cases_eq v w) [
-    | inr other ↦ inl (sym (get_or-set_other sent w v (Some (after_jump code.setting op c)) None other) ∙ e)
-    | inl same ↦ elim (cases_lt w (length sent)) [
-      | inr past ↦ absurd (none-some d (sym (get_or_past (set sent w (Some (after_jump code.setting op c))) v None (let l = length-set sent w (Some (after_jump code.setting op c)) in omega arith)) ∙ e))
-      | inl inside ↦
-          let is_after : d ≡ after_jump code.setting op c = sym (same_Some (after_jump code.setting op c) d (sym (get_or-set_same sent w (Some (after_jump code.setting op c)) None inside) ∙ ap (λ n. get_or (set sent w (Some (after_jump code.setting op c))) n None) (sym same) ∙ e)) in
-          inr (λ t k.
-          let named : Contains (targets code.switches op) t = subst (λ (f : Flow). Contains (targets_for code.switches f) t) (sym is) (subst (λ n. Contains (get_or code.switches n []) t) same k) in
-          (named, is_after, subst (λ (x : Counts). Contains (arrivals code op at c) (record { at = t; counts = x })) (sym is_after) (sent_all t named)))
-    ]
-  ]
-
-  comes_all : (new_sent : List (Option Counts)) → ((new_sent ≡ sent) ⊎ ((w : ℕ) × (flow_of op ≡ Switches w) × (new_sent ≡ set sent w (Some (after_jump code.setting op c))))) → Comes code sent new_sent op at c (arrivals code op at c)
-  comes_all new_sent (inl e) = record { sub = λ x k. k; all = λ x k. inl k; noted = λ v d k. inl (ap (λ (s : List (Option Counts)). get_or s v None) (sym e) ∙ k) }
-  comes_all new_sent (inr (w, is, e)) = record { sub = λ x k. k; all = λ x k. inl k; noted = λ v d k. noted_switch w is v d (ap (λ (s : List (Option Counts)). get_or s v None) (sym e) ∙ k) }
-
-  -- what comes where the counts were sent to a switch before
-  comes_none : (new_sent : List (Option Counts)) (w : ℕ) → new_sent ≡ sent → flow_of op ≡ Switches w → get_or sent w None ≡ Some (after_jump code.setting op c) → Comes code sent new_sent op at c (falling code op at c)
-  comes_none new_sent w e is before = record {
-    sub = λ x k. Contains-append_right (all_to (after_jump code.setting op c) (targets code.switches op)) (falling code op at c) x k;
-    all = λ x k. elim (Contains-append_cases (all_to (after_jump code.setting op c) (targets code.switches op)) (falling code op at c) x k) [
-      | inl there ↦
-          let (named, same) = map_out (after_jump code.setting op c) (targets code.switches op) x there in
-          inr (w, before ∙ ap (λ (y : Counts). Some y) (sym same), subst (λ (f : Flow). Contains (targets_for code.switches f) x.at) is named)
-      | inr goes ↦ inl goes
-    ];
-    noted = λ v d k. inl (ap (λ (s : List (Option Counts)). get_or s v None) (sym e) ∙ k);
-  }
-
--- an instruction at which the walk halts, where lists may since have come to those that there were
-module _ (p : Prepared) (chunk : Span) (t : Traversal) (old lists : Lists) (here : Arrival) (deepest : ℕ) (grows : Grows old lists) (h : HaltsAt p chunk old t here deepest) where
-  pub halts_place : slice_get p.starts.starts here.ordinal ≡ Some here.at
-  halts_place = All-contains (IsPlaced p.starts.starts chunk) (t.work.items ++ here ∷ []) here h.is.placed (Contains-push t.work.items here) h.within
-
-  pub halts_named : NamesList old here.state
-  halts_named = All-contains (λ (a : Arrival). NamesList old a.state) (t.work.items ++ here ∷ []) here h.is.known.waiting (Contains-push t.work.items here)
-
-  pub halts_view : view lists here.state ≡ view old here.state
-  halts_view = view_kept old lists grows here.state halts_named
-
-  pub halts_walking : Walking (bytecode_of p) chunk p.starts.starts lists h.before (sent_by lists t.sent) (map (coming lists) t.work.items ++ coming lists here ∷ []) h.earlier
-  halts_walking =
-      subst (λ (xs : List Coming). Walking (bytecode_of p) chunk p.starts.starts lists h.before (sent_by lists t.sent) xs h.earlier) (map_push (coming lists) t.work.items here)
-      (walking_kept old lists grows (bytecode_of p) chunk p.starts.starts h.before t.sent (t.work.items ++ here ∷ []) h.earlier h.is.known.states h.is.known.sent h.is.known.waiting h.is.walking)
-
-  pub halts_reached : Reached (coded (bytecode_of p)) chunk here.at (view lists here.state)
-  halts_reached = taken_reached _ _ _ _ _ _ _ here _ halts_walking
-
-  pub halts_inside : IsInChunk (coded (bytecode_of p)) chunk here.at
-  halts_inside = taken_inside _ _ _ _ _ _ _ here _ halts_walking h.within
-
-  -- there is room for another visit, and so for another list
-  pub halts_room : visits_in h.before < chunk.end
-  halts_room = visits_room _ _ _ _ _ _ _ here _ halts_walking halts_place h.fresh h.within
-
-  pub halts_small : (here.state.operands < chunk.end) × (here.state.iterators < chunk.end)
-  halts_small = taken_small _ _ _ _ _ _ _ here _ halts_walking halts_room
-
-  -- what was sent to a switch before was reached at each of its targets
-  pub halts_sent : (w : ℕ) (c : Counts) → get_or (sent_by lists t.sent) w None ≡ Some c → (x : ℕ) → Contains (get_or (bytecode_of p).switches w []) x → IsInChunk (coded (bytecode_of p)) chunk x × Reached (coded (bytecode_of p)) chunk x c
-  halts_sent w c e x k = let s = halts_walking.progress.sent_there w c e x k in (s.inside, s.reached)
-
--- its edges are followed
-module _ (p : Prepared) (chunk : Span) (t new : Traversal) (here : Arrival) (deepest : ℕ) (op : Op) (pushed falls_on : List Arrival) (ready : IsReady p) (framed : IsFramed (bytecode_of p) chunk) (old lists : Lists) (grows : Grows old lists) (h : HaltsAt p chunk old t here deepest) (passes : Passes (coded (bytecode_of p)) chunk here.at (view lists here.state) op) (falls : map (coming lists) falls_on ≡ falling (bytecode_of p) op here.at (view lists here.state)) (states : new.states ≡ t.states) (long : length new.sent ≡ length t.sent) (placed : All (IsPlaced p.starts.starts chunk) (pushed ++ falls_on)) (sent_named : NameLists lists new.sent) (named : All (λ (a : Arrival). NamesList lists a.state) (pushed ++ falls_on)) where
+-- the edges of an instruction at which the walk halts are followed, where lists may since have come to those that there were
+module _ (p : Prepared) (chunk : Span) (t new : Traversal) (here : Arrival) (deepest : ℕ) (op : Op) (pushed falls_on : List Arrival) (ready : IsReady p)
+    (framed : IsFramed (bytecode_of p) chunk) (old lists : Lists) (grows : Grows old lists) (h : HaltsAt p chunk old t here deepest)
+    (passes : Passes (coded (bytecode_of p)) chunk here.at (view lists here.state) op) (falls : map (coming lists) falls_on ≡ falling (bytecode_of p) op here.at (view lists here.state))
+    (states : new.states ≡ t.states) (long : length new.sent ≡ length t.sent) (placed : All (IsPlaced p.starts.starts chunk) (pushed ++ falls_on))
+    (sent_named : NameLists lists new.sent) (named : All (λ (a : Arrival). NamesList lists a.state) (pushed ++ falls_on)) where
   marked : new.states ≡ set h.before here.ordinal (Some here.state)
   marked = states ∙ h.marked
-
-  inside_states : here.ordinal < length h.before
-  inside_states = let place = halts_place p chunk t old lists here deepest grows h in let l = slice_get_within p.starts.starts here.ordinal here.at place in let f = h.is.fits.states in omega arith
 
   knows : KnowsLists lists new (pushed ++ falls_on)
   knows = record {
     shared = grows.shared;
-    states = subst (NameLists lists) (sym marked) (named_set lists h.before here.ordinal here.state (named_more old lists grows here.state (halts_named p chunk t old lists here deepest grows h)) (all_named_more old lists grows h.before h.is.known.states));
+    states =
+        subst (NameLists lists) (sym marked)
+        (named_set lists h.before here.ordinal here.state (named_more old lists grows here.state (taken_named _ _ h.is)) (all_named_more old lists grows h.before h.is.known.states));
     sent = sent_named;
     waiting = named;
     few = (
-        let more : visits_in new.states ≡ visits_in h.before + 1 = ap visits_in marked ∙ visited_more h.before here.ordinal here.state inside_states h.fresh in
+        let more : visits_in new.states ≡ visits_in h.before + 1 = ap visits_in marked ∙ visited_more h.before here.ordinal here.state (taken_known _ _ h.is h.within) h.fresh in
         let few = h.is.known.few in
         let one = grows.few in
         omega (arith, more)
         );
   }
 
-  followed : (come : List Coming) → Comes (bytecode_of p) (sent_by lists t.sent) (sent_by lists new.sent) op here.at (view lists here.state) come → ((x : ℕ) → Contains (targets (bytecode_of p).switches op) x → IsInChunk (coded (bytecode_of p)) chunk x) → map (coming lists) (pushed ++ falls_on) ≡ map (coming lists) t.work.items ++ come → IsWalking p chunk lists new (pushed ++ falls_on) deepest
-  followed come comes inside added =
-      let fits = h.is.fits in
-      let walk : List (Option State) → List Coming → ℕ → Type 0 = λ s xs n. Walking (bytecode_of p) chunk p.starts.starts lists s (sent_by lists new.sent) xs n in
+  walking : Walking (bytecode_of p) chunk p.starts.starts lists h.before (sent_by lists t.sent) (map (coming lists) t.work.items ++ coming lists here ∷ []) h.earlier
+  walking =
+      subst (λ (xs : List Coming). Walking (bytecode_of p) chunk p.starts.starts lists h.before (sent_by lists t.sent) xs h.earlier) (map_push (coming lists) t.work.items here)
+      (walking_kept old lists grows (bytecode_of p) chunk p.starts.starts h.before t.sent (t.work.items ++ here ∷ []) h.earlier h.is.known.states h.is.known.sent h.is.known.waiting h.is.walking)
+
+  followed : (jumped : List Coming) → ((x : ℕ) → Contains (targets (bytecode_of p).switches op) x → IsInChunk (coded (bytecode_of p)) chunk x)
+      → JumpsTo (bytecode_of p) op (view lists here.state) (sent_by lists t.sent) (sent_by lists new.sent) (Pending walking.marked (map (coming lists) t.work.items ++ coming lists here ∷ [])) jumped
+      → map (coming lists) pushed ≡ map (coming lists) t.work.items ++ jumped → IsWalking p chunk lists new (pushed ++ falls_on) deepest
+  followed jumped inside jumps added =
+      let code = bytecode_of p in
+      let work = map (coming lists) t.work.items in
+      let come = falling code op here.at (view lists here.state) in
+      let walk : List (Option State) → List Coming → ℕ → Type 0 = λ s xs n. Walking code chunk p.starts.starts lists s (sent_by lists new.sent) xs n in
       let before = set h.before here.ordinal (Some here.state) in
-      let w = walking_visit (bytecode_of p) chunk p.starts.starts lists h.before (sent_by lists t.sent) (sent_by lists new.sent) (map (coming lists) t.work.items) come here h.earlier op ready.starts fits.states framed (halts_place p chunk t old lists here deepest grows h) h.fresh passes inside comes (halts_walking p chunk t old lists here deepest grows h) in
-      let all = map (coming lists) (pushed ++ falls_on) in
+      let w = walking_visit work here walking ready.starts h.is.fits.states (taken_place _ _ h.is h.within) h.fresh (record { passes = passes; inside = inside }) jumps in
+      let whole : map (coming lists) (pushed ++ falls_on) ≡ work ++ (jumped ++ come) =
+      map-append (coming lists) pushed falls_on
+      ∙ ap (λ (xs : List Coming). xs ++ map (coming lists) falls_on) added
+      ∙ ap (λ (xs : List Coming). (work ++ jumped) ++ xs) falls
+      ∙ append_assoc work jumped come in
       record {
-        fits = record { states = ap (λ (s : List (Option State)). length s) marked ∙ length-set h.before here.ordinal (Some here.state) ∙ fits.states; sent = long ∙ fits.sent };
+        fits = record { states = ap (λ (s : List (Option State)). length s) marked ∙ length-set h.before here.ordinal (Some here.state) ∙ h.is.fits.states; sent = long ∙ h.is.fits.sent };
         placed = placed;
         known = knows;
         walking =
-            subst (λ (s : List (Option State)). walk s all deepest) (sym marked)
-            (subst (walk before all) (sym h.deeper)
-            (subst (λ (xs : List Coming). walk before xs (max h.earlier here.state.operands)) (sym added) w));
+            subst (λ (s : List (Option State)). walk s (map (coming lists) (pushed ++ falls_on)) deepest) (sym marked)
+            (subst (walk before (map (coming lists) (pushed ++ falls_on))) (sym h.deeper)
+            (subst (λ (xs : List Coming). walk before xs (max h.earlier here.state.operands)) (sym whole) w));
       }
 
-  pub turned : (after : State) → view lists after ≡ after_jump (bytecode_of p).setting op (view lists here.state) → Sends p.starts.starts chunk (bytecode_of p).switches (flow_of op) after t.sent new.sent (map underway t.work.items) (map underway pushed) → IsWalking p chunk lists new (pushed ++ falls_on) deepest
+  pub turned : (after : State) → view lists after ≡ after_jump (bytecode_of p).setting op (view lists here.state)
+      → Sends p.starts.starts chunk (bytecode_of p).switches (flow_of op) after t.sent new.sent (map underway t.work.items) (map underway pushed)
+      → IsWalking p chunk lists new (pushed ++ falls_on) deepest
   turned after is (inl all) =
       let code = bytecode_of p in
-      let c = view lists here.state in
       let ts = targets code.switches op in
-      let Noted : Counts → Type 0 = λ d. (sent_by lists new.sent ≡ sent_by lists t.sent) ⊎ ((w : ℕ) × (flow_of op ≡ Switches w) × (sent_by lists new.sent ≡ set (sent_by lists t.sent) w (Some d))) in
-      let added = come_all lists t.work.items pushed after ts all.added ∙ ap (λ (d : Counts). map (coming lists) t.work.items ++ all_to d ts) is in
-      followed (arrivals code op here.at c)
-      (comes_all code op here.at c (sent_by lists t.sent) (sent_by lists new.sent) (subst Noted is (noted_as lists (flow_of op) t.sent new.sent after all.noted)))
+      let d = after_jump code.setting op (view lists here.state) in
+      followed (all_to d ts)
       (λ x k. start_in code p.starts.starts chunk x ready.starts (All-contains (IsStartIn p.starts.starts chunk) ts x all.starts_in k))
-      (map-append (coming lists) pushed falls_on
-      ∙ ap (λ (xs : List Coming). xs ++ map (coming lists) falls_on) added
-      ∙ ap (λ (xs : List Coming). (map (coming lists) t.work.items ++ all_to (after_jump code.setting op c) ts) ++ xs) falls
-      ∙ append_assoc (map (coming lists) t.work.items) (all_to (after_jump code.setting op c) ts) (falling code op here.at c))
+      (record {
+        sub = λ x k. (jumps_to d ts x).0 k;
+        all = λ x j. inl ((jumps_to d ts x).1 j);
+        noted = λ v c k. elim (noted_cases lists (flow_of op) t.sent new.sent after all.noted v c k) [ inl old ↦ inl old | inr (flow, same) ↦ inr (flow, same ∙ is) ];
+      })
+      (come_all lists t.work.items pushed after ts all.added ∙ ap (λ (c : Counts). map (coming lists) t.work.items ++ all_to c ts) is)
   turned after is (inr none) =
       let code = bytecode_of p in
-      let c = view lists here.state in
-      let before = was_sent lists t.sent none.switch after none.before ∙ ap (λ (d : Counts). Some d) is in
-      followed (falling code op here.at c)
-      (comes_none code op here.at c (sent_by lists t.sent) (sent_by lists new.sent) none.switch (ap (sent_by lists) none.kept) none.is before)
-      (λ x k. (halts_sent p chunk t old lists here deepest grows h none.switch (after_jump code.setting op c) before x (subst (λ (f : Flow). Contains (targets_for code.switches f) x) none.is k)).0)
-      (map-append (coming lists) pushed falls_on
-      ∙ ap (λ (xs : List Coming). xs ++ map (coming lists) falls_on) (come_none lists t.work.items pushed none.added)
-      ∙ ap (λ (xs : List Coming). map (coming lists) t.work.items ++ xs) falls)
+      let d = after_jump code.setting op (view lists here.state) in
+      let before = was_sent lists t.sent none.switch after none.before ∙ ap (λ (c : Counts). Some c) is in
+      let there = λ (x : ℕ) (k : Contains (targets code.switches op) x). sent_before walking none.switch d before x (subst (λ (f : Flow). Contains (targets_for code.switches f) x) none.is k) in
+      followed []
+      (λ x k. (there x k).0)
+      (record {
+        sub = λ x k. absurd (in_nil x k);
+        all = λ x j. inr (subst (λ (c : Counts). Pending walking.marked (map (coming lists) t.work.items ++ coming lists here ∷ []) (x.0, c)) (sym j.1) (there x.0 j.0).1);
+        noted = λ v c k. inl (ap (λ (s : List (Option State)). get_or (sent_by lists s) v None) (sym none.kept) ∙ k);
+      })
+      (come_none lists t.work.items pushed none.added ∙ sym (append-nil (map (coming lists) t.work.items)))
 
 -- what falls through is placed
-pub falls_placed : (p : Prepared) (chunk : Span) (here : Arrival) (op : Op) (s : State) → IsReady p → IsFramed (bytecode_of p) chunk → slice_get p.starts.starts here.ordinal ≡ Some here.at → StandsAt p.code.now here.at op → IsPlaced p.starts.starts chunk (next_to here (width_of op) s)
+pub falls_placed : (p : Prepared) (chunk : Span) (here : Arrival) (op : Op) (s : State) → IsReady p → IsFramed (bytecode_of p) chunk
+    → slice_get p.starts.starts here.ordinal ≡ Some here.at → StandsAt p.code.now here.at op → IsPlaced p.starts.starts chunk (next_to here (width_of op) s)
 falls_placed p chunk here op s ready framed place stands l = elim (next_ordinal p.code.now p.starts.starts ready.starts here.ordinal here.at op place stands) [
   | inl e ↦ subst (λ k. slice_get p.starts.starts k ≡ Some (here.at + width_of op)) (sym (add-one here.ordinal)) e
   | inr end ↦ absurd (let f = framed.inside in omega arith)
 ]
 
 -- what falls through, if it does, as counts
-coming_next : (lists : Lists) (b : Bool) (here : Arrival) (s : State) (width next : ℕ) → here.at + width ≡ next → map (coming lists) (cond b (next_to here width s ∷ []) []) ≡ cond b (record { at = next; counts = view lists s } ∷ []) []
-coming_next lists true here s width next e = let P : ℕ → List Coming = λ a. record { at = a; counts = view lists s } ∷ [] in ap P e
+coming_next : (lists : Lists) (b : Bool) (here : Arrival) (s : State) (width next : ℕ) → here.at + width ≡ next → map (coming lists) (cond b (next_to here width s ∷ []) []) ≡ cond b ((next, view lists s) ∷ []) []
+coming_next lists true here s width next e = let P : ℕ → List Coming = λ a. (a, view lists s) ∷ [] in ap P e
 coming_next lists false here s width next e = refl
 
 -- one arrival more, if it comes, is as all others are
@@ -190,26 +148,28 @@ one_more P false xs a p all = subst (All P) (sym (append-nil xs)) all
 
 -- An instruction that finds what it asks and needs, and stays above the base of the last handler, is visited, where its flow
 -- is followed.
-module _ (p : Prepared) (chunk : Span) (t new : Traversal) (here : Arrival) (deepest : ℕ) (op : Op) (width : ℕ) (ready : IsReady p) (framed : IsFramed (bytecode_of p) chunk) (old lists : Lists) (grows : Grows old lists) (h : HaltsAt p chunk old t here deepest) (stands : StandsAt p.code.now here.at op) (wide : width ≡ width_of op) where
+module _ (p : Prepared) (chunk : Span) (t new : Traversal) (here : Arrival) (deepest : ℕ) (op : Op) (width : ℕ) (ready : IsReady p) (framed : IsFramed (bytecode_of p) chunk)
+    (old lists : Lists) (grows : Grows old lists) (h : HaltsAt p chunk old t here deepest) (stands : StandsAt p.code.now here.at op) (wide : width ≡ width_of op) where
   next_placed : (s : State) → IsPlaced p.starts.starts chunk (next_to here width s)
   next_placed s =
       subst (λ n. IsPlaced p.starts.starts chunk (next_to here n s)) (sym wide)
-      (falls_placed p chunk here op s ready framed (halts_place p chunk t old lists here deepest grows h) stands)
+      (falls_placed p chunk here op s ready framed (taken_place _ _ h.is h.within) stands)
 
-  -- the arrivals that were there before
-  earlier : (P : Arrival → Type 0) → All P (t.work.items ++ here ∷ []) → All P t.work.items
-  earlier P all = let work = t.work.items in All-weaker (Contains work) P (λ a k. All-contains P (work ++ here ∷ []) a all (Contains-append_left work (here ∷ []) a k)) work (All-contains_itself work)
-
-  visited_here : (caps needs takes gives list : ℕ) (f : Flow) (pushed : List Arrival) → caps ≡ caps_of (bytecode_of p).setting op → (needs, takes, gives) ≡ stack_effect (bytecode_of p).setting.chains op → f ≡ flow_of op → Allows (bytecode_of p).setting.caps caps → needs ≤ here.state.operands → IsMetBy f (view lists here.state) → Stays (bytecode_of p).setting op (view lists here.state) → list ≤ size lists → list_of lists list ≡ bases_for f (view lists here.state) → Sends p.starts.starts chunk (bytecode_of p).switches f (jumped f (here.state.operands - takes + gives) list here.state) t.sent new.sent (map underway t.work.items) (map underway pushed) → new.states ≡ t.states → length new.sent ≡ length t.sent → (All (IsPlaced p.starts.starts chunk) t.work.items → All (IsPlaced p.starts.starts chunk) pushed) → IsWalking p chunk lists new (pushed ++ falls_to f (here.state.operands - takes + gives) list here width) deepest
+  visited_here : (caps needs takes gives list : ℕ) (f : Flow) (pushed : List Arrival) → caps ≡ caps_of (bytecode_of p).setting op
+      → (needs, takes, gives) ≡ stack_effect (bytecode_of p).setting op → f ≡ flow_of op → Allows (bytecode_of p).setting.caps caps → needs ≤ here.state.operands
+      → IsMetBy f (view lists here.state) → Stays (bytecode_of p).setting op (view lists here.state) → list ≤ size lists → list_of lists list ≡ bases_for f (view lists here.state)
+      → Sends p.starts.starts chunk (bytecode_of p).switches f (jumped f (here.state.operands - takes + gives) list here.state) t.sent new.sent (map underway t.work.items) (map underway pushed)
+      → new.states ≡ t.states → length new.sent ≡ length t.sent → (All (IsPlaced p.starts.starts chunk) t.work.items → All (IsPlaced p.starts.starts chunk) pushed)
+      → IsWalking p chunk lists new (pushed ++ falls_to f (here.state.operands - takes + gives) list here width) deepest
   visited_here caps needs takes gives list f pushed asked known same allowed there met stays in_lists bases sends states long placed =
       let code = bytecode_of p in
       let c = view lists here.state in
       let left = here.state.operands - takes + gives in
       let is : left ≡ operands_after code.setting op here.state.operands = left_is code.setting op needs takes gives here.state.operands known in
-      let passes = passes_known code chunk here.at op c caps needs takes gives f (record { within = halts_inside p chunk t old lists here deepest grows h; is = stands }) asked known same allowed there met stays in
+      let passes = passes_known code chunk here.at op c caps needs takes gives f (record { within = taken_inside _ _ h.is h.within; is = stands }) asked known same allowed there met stays in
       let sent_state = jumped f left list here.state in
       let next_state = fallen f left list here.state in
-      let named = named_more old lists grows here.state (halts_named p chunk t old lists here deepest grows h) in
+      let named = named_more old lists grows here.state (taken_named _ _ h.is) in
       let jump_named = jumped_named lists f left list here.state in_lists named in
       let next_is : view lists next_state ≡ after_fall code.setting op c =
       view_fallen lists left list here.state f bases ∙ (ap (λ (g : Flow). fall_for g left c) same ∙ ap (λ n. fall_for (flow_of op) n c) is) in
@@ -217,35 +177,42 @@ module _ (p : Prepared) (chunk : Span) (t new : Traversal) (here : Arrival) (dee
       view_jumped lists left list here.state f bases ∙ (ap (λ (g : Flow). jump_for g left c) same ∙ ap (λ n. jump_for (flow_of op) n c) is) in
       let goes =
       coming_next lists (falls_for f) here next_state width (here.at + width_of op) (ap (λ n. here.at + n) wide)
-      ∙ (ap (λ (g : Flow). cond (falls_for g) (record { at = here.at + width_of op; counts = view lists next_state } ∷ []) []) same
-      ∙ (let P : Counts → List Coming = λ d. cond (falls_for (flow_of op)) (record { at = here.at + width_of op; counts = d } ∷ []) [] in ap P next_is)) in
+      ∙ (ap (λ (g : Flow). cond (falls_for g) ((here.at + width_of op, view lists next_state) ∷ []) []) same
+      ∙ (let P : Counts → List Coming = λ d. cond (falls_for (flow_of op)) ((here.at + width_of op, d) ∷ []) [] in ap P next_is)) in
       let work_named = sends_named lists p.starts.starts chunk code.switches f sent_state t.sent new.sent t.work.items pushed jump_named
-      (earlier (λ (a : Arrival). NamesList lists a.state) (arrivals_named_more old lists grows (t.work.items ++ here ∷ []) h.is.known.waiting)) sends in
+      (arrivals_named_more old lists grows t.work.items (left_named _ _ h.is)) sends in
       turned p chunk t new here deepest op pushed (falls_to f left list here width) ready framed old lists grows h passes goes states long
-      (one_more (IsPlaced p.starts.starts chunk) (falls_for f) pushed (next_to here width next_state) (next_placed next_state) (placed (earlier (IsPlaced p.starts.starts chunk) h.is.placed)))
+      (one_more (IsPlaced p.starts.starts chunk) (falls_for f) pushed (next_to here width next_state) (next_placed next_state) (placed (left_placed _ _ h.is)))
       (switches_named lists p.starts.starts chunk code.switches f sent_state t.sent new.sent t.work.items pushed jump_named (all_named_more old lists grows t.sent h.is.known.sent) sends)
       (one_more (λ (a : Arrival). NamesList lists a.state) (falls_for f) pushed (next_to here width next_state) (fallen_named lists f left list here.state in_lists named) work_named)
       sent_state sent_is
       (subst (λ (g : Flow). Sends p.starts.starts chunk code.switches g sent_state t.sent new.sent (map underway t.work.items) (map underway pushed)) same sends)
 
   -- the same, where what it finds is told of the lists that there were before
-  pub visited : (caps needs takes gives : ℕ) (f : Flow) (on_way : List Arrival) → caps ≡ caps_of (bytecode_of p).setting op → (needs, takes, gives) ≡ stack_effect (bytecode_of p).setting.chains op → f ≡ flow_of op → Allows (bytecode_of p).setting.caps caps → needs ≤ here.state.operands → IsMetBy f (view old here.state) → Stays (bytecode_of p).setting op (view old here.state) → IsFollowed p.starts.starts chunk (bytecode_of p).switches f (here.state.operands - takes + gives) here width old lists t.sent new.sent t.work.items on_way → new.states ≡ t.states → length new.sent ≡ length t.sent → IsWalking p chunk lists new on_way deepest
+  pub visited : (caps needs takes gives : ℕ) (f : Flow) (on_way : List Arrival) → caps ≡ caps_of (bytecode_of p).setting op
+      → (needs, takes, gives) ≡ stack_effect (bytecode_of p).setting op → f ≡ flow_of op → Allows (bytecode_of p).setting.caps caps → needs ≤ here.state.operands
+      → IsMetBy f (view old here.state) → Stays (bytecode_of p).setting op (view old here.state)
+      → IsFollowed p.starts.starts chunk (bytecode_of p).switches f (here.state.operands - takes + gives) here width old lists t.sent new.sent t.work.items on_way
+      → new.states ≡ t.states → length new.sent ≡ length t.sent → IsWalking p chunk lists new on_way deepest
   visited caps needs takes gives f on_way asked known same allowed there met stays is states long =
-      let kept : view old here.state ≡ view lists here.state = sym (halts_view p chunk t old lists here deepest grows h) in
-      let w = visited_here caps needs takes gives is.list f is.pushed asked known same allowed there (subst (IsMetBy f) kept met) (subst (Stays (bytecode_of p).setting op) kept stays) is.there (is.bases ∙ ap (bases_for f) kept) is.sends states long is.placed in
+      let kept : view old here.state ≡ view lists here.state = sym (view_kept old lists grows here.state (taken_named _ _ h.is)) in
+      let w = visited_here caps needs takes gives is.list f is.pushed asked known same allowed there (subst (IsMetBy f) kept met) (subst (Stays (bytecode_of p).setting op) kept stays)
+      is.there (is.bases ∙ ap (bases_for f) kept) is.sends states long is.placed in
       subst (λ (xs : List Arrival). IsWalking p chunk lists new xs deepest) (sym is.all) w
 
 -- another state than an instruction sends was sent to the targets of its switch before
-pub refused_switch : (p : Prepared) (chunk : Span) (t : Traversal) (lists : Lists) (here : Arrival) (deepest : ℕ) (op : Op) (needs takes gives : ℕ) (f : Flow) (e : VerifyError) → IsFramed (bytecode_of p) chunk → HaltsAt p chunk lists t here deepest → (needs, takes, gives) ≡ stack_effect (bytecode_of p).setting.chains op → f ≡ flow_of op → Passes (coded (bytecode_of p)) chunk here.at (view lists here.state) op → RefusesSwitch (bytecode_of p).switches f (record here.state { operands = here.state.operands - takes + gives }) t.sent e → ChunkFlaw (bytecode_of p) chunk e
+pub refused_switch : (p : Prepared) (chunk : Span) (t : Traversal) (lists : Lists) (here : Arrival) (deepest : ℕ) (op : Op) (needs takes gives : ℕ) (f : Flow) (e : VerifyError)
+    → IsFramed (bytecode_of p) chunk → HaltsAt p chunk lists t here deepest → (needs, takes, gives) ≡ stack_effect (bytecode_of p).setting op → f ≡ flow_of op
+    → Passes (coded (bytecode_of p)) chunk here.at (view lists here.state) op
+    → RefusesSwitch (bytecode_of p).switches f (record here.state { operands = here.state.operands - takes + gives }) t.sent e → ChunkFlaw (bytecode_of p) chunk e
 refused_switch p chunk t lists here deepest op needs takes gives f (errors.DepthConflict a expected found) framed h known same passes (w, before, is, sent, unlike, named, first, second) =
     let code = bytecode_of p in
     let c = view lists here.state in
     let left = here.state.operands - takes + gives in
     let after : State = record here.state { operands = left } in
-    let grows = grows_not lists h.is.known.shared in
     let before_named = named_there lists t.sent w before h.is.known.sent sent in
-    let here_named = halts_named p chunk t lists lists here deepest grows h in
-    let there = halts_sent p chunk t lists lists here deepest grows h w (view lists before) (was_sent lists t.sent w before sent) a named in
+    let here_named = taken_named _ _ h.is in
+    let there = sent_before (taken_walking _ _ h.is) w (view lists before) (was_sent lists t.sent w before sent) a named in
     let left_same = left_is code.setting op needs takes gives here.state.operands known in
     let after_is : view lists after ≡ after_jump code.setting op c =
     ap (λ (g : Flow). jump_for g left c) (sym is ∙ same) ∙ ap (λ n. jump_for (flow_of op) n c) left_same in
@@ -255,8 +222,8 @@ refused_switch p chunk t lists here deepest op needs takes gives f (errors.Depth
       record {
         one = view lists before;
         other = view lists after;
-        one_reached = there.1;
-        other_reached = onward (halts_reached p chunk t lists lists here deepest grows h) passes (inl (jumps, after_is));
+        one_reached = pending_reached (taken_walking _ _ h.is) (a, view lists before) there.1;
+        other_reached = onward (taken_reached _ _ h.is) passes (inl (jumps, after_is));
         unlike = unlike_views lists before after h.is.known.shared before_named here_named unlike;
         expected_is = first;
         found_is = second;

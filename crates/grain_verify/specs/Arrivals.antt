@@ -7,11 +7,13 @@ use Rattle.grain_code.specs.Span.{Span}
 use Rattle.grain_code.specs.InstructionTable.{width_of}
 use Rattle.grain_code.specs.declared.op.Op.{Op}
 use Rattle.grain_pools.specs.declared.switch.SwitchRange.{SwitchRange}
-use Rattle.grain_rules.specs.Capabilities.{Allows, caps_of}
+use Rattle.grain_rules.specs.Capabilities.{Allows}
 use Rattle.grain_rules.specs.Code.{Bytecode}
 use Rattle.grain_rules.specs.Counts.{Counts}
-use Rattle.grain_rules.specs.Effects.{Meets, needs, iterators_needed, handlers_needed, targets, falls_through, after_jump, after_fall}
-use Rattle.grain_rules.specs.Flow.{Flow, Switches, targets_for}
+use Rattle.grain_rules.specs.Effects.{Meets, iterators_needed, handlers_needed, falls_through, after_fall}
+use Rattle.grain_rules.specs.Flow.{Flow, Switches}
+use Rattle.grain_rules.specs.Rows.{caps_of, needs}
+use Rattle.grain_rules.specs.FlowFields.{targets_for}
 use Rattle.grain_verify.specs.Lists.{list_of}
 use Rattle.grain_rules.specs.Sinking.{Sinks}
 use Rattle.grain_rules.specs.declared.error.VerifyError.{VerifyError}
@@ -24,17 +26,16 @@ use Rattle.grain_verify.specs.declared.state.State.{State}
 abbrev pub view : Lists → State → Counts
 view lists s = record { operands = s.operands; iterators = s.iterators; bases = list_of lists s.list }
 
--- counts on their way to an address
-pub record Coming : Type 0 where
-  pub at : ℕ
-  pub counts : Counts
+-- an address, and counts on their way to it
+abbrev pub Coming : Type 0
+Coming = ℕ × Counts
 
 abbrev pub coming : Lists → Arrival → Coming
-coming lists a = record { at = a.at; counts = view lists a.state }
+coming lists a = (a.at, view lists a.state)
 
 -- counts on their way to each of these addresses
 abbrev pub all_to : Counts → List ℕ → List Coming
-all_to c ts = map (λ (t : ℕ). record { at = t; counts = c }) ts
+all_to c ts = map (λ (t : ℕ). (t, c)) ts
 
 -- a state on its way to an address
 pub record Underway : Type 0 where
@@ -67,6 +68,12 @@ RefusesTarget starts chunk at target e = ⊥
 -- the refusal is want of memory, or that of one of these targets
 abbrev pub RefusesTargetOf : List ℕ → Span → ℕ → List ℕ → VerifyError → Type 0
 RefusesTargetOf starts chunk at ts e = (e ≡ errors.OutOfMemory) ⊎ ((t : ℕ) × Contains ts t × RefusesTarget starts chunk at t e)
+
+-- a state is pushed to each of these targets, all of them starts of the chunk
+pub record Pushes (starts : List ℕ) (chunk : Span) (after : State) (ts : List ℕ) (old new : List Arrival) : Type 0 where
+  pub starts_in : All (IsStartIn starts chunk) ts
+  pub added : map underway new ≡ map underway old ++ all_underway after ts
+  pub placed : All (IsPlaced starts chunk) old → All (IsPlaced starts chunk) new
 
 -- the states that were sent to the targets of switches, as counts
 abbrev pub sent_by : Lists → List (Option State) → List (Option Counts)
@@ -112,11 +119,7 @@ RefusesState code op at c e = ⊥
 
 -- what falls through to the next instruction, if it does
 abbrev pub falling : Bytecode → Op → ℕ → Counts → List Coming
-falling code op at c = cond (falls_through op) (record { at = at + width_of op; counts = after_fall code.setting op c } ∷ []) []
-
--- where the written edges lead, in the order in which they are pushed
-abbrev pub arrivals : Bytecode → Op → ℕ → Counts → List Coming
-arrivals code op at c = all_to (after_jump code.setting op c) (targets code.switches op) ++ falling code op at c
+falling code op at c = cond (falls_through op) ((at + width_of op, after_fall code.setting op c) ∷ []) []
 
 -- the targets of a switch, part by part
 abbrev pub case_targets : List Case → List ℕ

@@ -5,7 +5,7 @@ use Rattle.grain_code.specs.Span.{Span}
 use Rattle.grain_verify.specs.Arrivals.{IsPlaced, RefusesSwitch, RefusesTargetOf, Sends, underway, view}
 use Rattle.grain_rules.specs.Counts.{Counts}
 use Rattle.grain_rules.specs.Flow as flows
-use Rattle.grain_rules.specs.Flow.{bases_for, falls_for, handlers_for, iterators_for, targets_for}
+use Rattle.grain_rules.specs.FlowFields.{bases_for, falls_for, handlers_for, iterators_for, targets_for}
 use Rattle.grain_verify.specs.Lists.{list_of, size}
 use Rattle.grain_verify.specs.declared.flow.Flow.{Flow}
 use Rattle.grain_verify.specs.declared.flow.Flow.TheVariants as ways
@@ -89,7 +89,8 @@ falls_to f left list here width = cond (falls_for f) (next_to here width (fallen
 
 -- How an operation of such a flow and width is followed, where so many operands are left: the armed handlers have some list
 -- then, its state is sent to its targets, and another falls through, if it does. All these are then on their way.
-pub record IsFollowed (starts : List ℕ) (chunk : Span) (switches : List (List ℕ)) (f : flows.Flow) (left : ℕ) (here : Arrival) (width : ℕ) (old new : Lists) (sent new_sent : List (Option State)) (work on_way : List Arrival) : Type 0 where
+pub record IsFollowed (starts : List ℕ) (chunk : Span) (switches : List (List ℕ)) (f : flows.Flow) (left : ℕ) (here : Arrival) (width : ℕ) (old new : Lists)
+    (sent new_sent : List (Option State)) (work on_way : List Arrival) : Type 0 where
   pub list : ℕ
   pub there : list ≤ size new
   pub bases : list_of new list ≡ bases_for f (view old here.state)

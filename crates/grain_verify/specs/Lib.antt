@@ -1,11 +1,14 @@
 pub mod Arrivals
 pub mod FlowView
+pub mod Graph
 pub mod Lists
 pub mod Meter
+pub mod Operands
 pub mod Plain
 pub mod SinkingView
 pub mod States
 pub mod TagEffects
 pub mod PoolCaps
 pub mod Progress
+pub mod Visits
 pub mod Walk

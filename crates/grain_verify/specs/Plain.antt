@@ -2,12 +2,11 @@
 use Rattle.std.specs.Prelude.{◌≡◌, ⊤, ℕ, ◌+◌, ◌-◌, ◌<◌, ◌≤◌, ◌^◌, List}
 use Rattle.grain_code.specs.InstructionTable.{width_of}
 use Rattle.grain_code.specs.Split.{StandsAt}
-use Rattle.grain_pools.specs.declared.chain.Chain.{Chain}
 use Rattle.grain_code.specs.declared.op.Op.{Op}
-use Rattle.grain_rules.specs.Capabilities.{caps_of}
 use Rattle.grain_rules.specs.Counts.{last_base}
-use Rattle.grain_rules.specs.Effects.{stack_effect}
-use Rattle.grain_rules.specs.Flow.{Falls, flow_of}
+use Rattle.grain_rules.specs.Flow.{Falls}
+use Rattle.grain_rules.specs.Rows.{caps_of, flow_of}
+use Rattle.grain_verify.specs.Operands.{stack_effect}
 use Rattle.grain_verify.specs.Lists.{list_of}
 use Rattle.grain_rules.specs.Setting.{Setting}
 use Rattle.grain_rules.specs.Sinking.{ReachesUpTo}
@@ -19,7 +18,7 @@ use Rattle.grain_verify.specs.declared.state.State.{State}
 
 -- it asks nothing of the host, and falls through
 pub record IsPlain (op : Op) (needs takes gives : ℕ) : Type 0 where
-  pub operands : (chains : List Chain) → (needs, takes, gives) ≡ stack_effect chains op
+  pub operands : (s : Setting) → (needs, takes, gives) ≡ stack_effect s op
   pub caps : (s : Setting) → caps_of s op ≡ 0
   pub flow : flow_of op ≡ Falls
 

@@ -1,17 +1,20 @@
 -- How far the walk over a chunk has come.
-use Rattle.std.specs.Prelude.{◌≡◌, ◌↔◌, ℕ, ◌+◌, ◌*◌, ◌-◌, ◌<◌, ◌^◌, ◌≤◌, ◌⊎◌, List, ◌∷◌, [], ◌++◌, Option, None, Some, get_or, length, map, max, nat_eq, option_map, slice_get, slice_set, sum_by, IfSome, OnOk, Result}
-use Rattle.std.specs.List.{All, Contains, IsDistinct}
+use Rattle.std.specs.Prelude.{◌≡◌, ◌↔◌, ℕ, ◌+◌, ◌*◌, ◌-◌, ◌<◌, ◌^◌, ◌≤◌, List, ◌∷◌, [], ◌++◌, Option, None, Some, get_or, length, map, max, nat_eq, slice_get, slice_set, sum_by, IfSome, OnOk, Result}
+use Rattle.std.specs.List.{All, Contains, count_by}
+use Rattle.std.specs.Option.{is_some}
 use Rattle.grain_code.specs.Span.{Span}
-use Rattle.grain_code.specs.Split.{StandsAt}
 use Rattle.grain_code.specs.declared.op.Op.{Op}
 use Rattle.grain_verify.specs.Arrivals.{Coming, IsPlaced, coming, sent_by, view}
+use Rattle.grain_rules.specs.Accepted.{IsFramed}
 use Rattle.grain_rules.specs.Code.{Bytecode, coded}
 use Rattle.grain_rules.specs.Counts.{Counts, nothing}
-use Rattle.grain_rules.specs.Effects.{Edge}
-use Rattle.grain_rules.specs.Flaw.{FallsOff}
+use Rattle.grain_rules.specs.Effects.{Edge, after_jump, targets}
+use Rattle.grain_rules.specs.Flow.{Switches}
+use Rattle.grain_rules.specs.Rows.{flow_of}
+use Rattle.grain_verify.specs.Graph.{IsSearch, Path}
 use Rattle.grain_verify.specs.Lists.{IsShared, size}
 use Rattle.grain_verify.specs.Meter.{AreReached, HasCounted, starts_within}
-use Rattle.grain_rules.specs.Typing.{IsInChunk, IsReachedCount, Passes, Reached}
+use Rattle.grain_rules.specs.Typing.{IsInChunk, IsReachedCount, Passes}
 use Rattle.grain_verify.specs.Walk.{bytecode_of}
 use Rattle.grain_rules.specs.declared.error.VerifyError.{VerifyError}
 use Rattle.grain_verify.specs.declared.lists.Lists.{Lists}
@@ -20,68 +23,55 @@ use Rattle.grain_verify.specs.declared.state.State.{State}
 use Rattle.grain_verify.specs.declared.walk.Prepared.{Prepared}
 use Rattle.grain_verify.specs.declared.walk.Traversal.{Traversal}
 
--- the counts with which addresses were visited
-abbrev pub Seen : Type 0
-Seen = ℕ → Option Counts
+-- The operation here passes, and all its targets are in the chunk.
+pub record Visits (code : Bytecode) (chunk : Span) (x : Coming) (op : Op) : Type 0 where
+  pub passes : Passes (coded code) chunk x.0 x.1 op
+  pub inside : (t : ℕ) → Contains (targets code.switches op) t → IsInChunk (coded code) chunk t
 
--- this address was visited with these counts, or they are on their way there
-abbrev pub Pending : Seen → List Coming → ℕ → Counts → Type 0
-Pending seen work at c = (seen at ≡ Some c) ⊎ Contains work (record { at = at; counts = c })
+-- the edges of a chunk, between its addresses with their counts, and where they lead from its entry
+abbrev pub Goes : Bytecode → Span → Coming → Coming → Type 0
+Goes code chunk x y = (op : Op) × Visits code chunk x op × Edge (coded code) op x.0 x.1 y.0 y.1
 
--- a start of the chunk, or its end, to which something falls off
-abbrev pub Lands : Bytecode → Span → ℕ → Type 0
-Lands code chunk at = IsInChunk (coded code) chunk at ⊎ ((at ≡ chunk.end) × FallsOff code chunk)
-
--- no count is greater
-pub record IsSmall (most : ℕ) (c : Counts) : Type 0 where
-  pub operands : c.operands ≤ most
-  pub iterators : c.iterators ≤ most
-
--- what holds of counts on their way, where so many addresses were visited
-pub record Waits (code : Bytecode) (chunk : Span) (visits : ℕ) (a : Coming) : Type 0 where
-  pub reached : Reached (coded code) chunk a.at a.counts
-  pub lands : Lands code chunk a.at
-  pub small : IsSmall visits a.counts
-
--- counts that were sent to the targets of a switch are there or on their way
-pub record WasSent (code : Bytecode) (chunk : Span) (seen : Seen) (work : List Coming) (target : ℕ) (c : Counts) : Type 0 where
-  pub pending : Pending seen work target c
-  pub reached : Reached (coded code) chunk target c
-  pub inside : IsInChunk (coded code) chunk target
-
--- What was visited so far is a typing but for what is on its way: so many addresses, none with more operands than the
--- deepest.
-pub record Progress (code : Bytecode) (chunk : Span) (seen : Seen) (sent : List (Option Counts)) (visits : ℕ) (work : List Coming) (deepest : ℕ) : Type 0 where
-  pub started : Pending seen work chunk.entry nothing
-  pub passed : (at : ℕ) (c : Counts) → seen at ≡ Some c → (op : Op) × Passes (coded code) chunk at c op
-  pub shallow : (at : ℕ) (c : Counts) → seen at ≡ Some c → c.operands ≤ deepest
-  pub reached : (at : ℕ) (c : Counts) → seen at ≡ Some c → Reached (coded code) chunk at c
-  pub closed : (at : ℕ) (c : Counts) (op : Op) (b : ℕ) (d : Counts) → seen at ≡ Some c → StandsAt code.bytes at op → Edge (coded code) op at c b d → Pending seen work b d
-  pub waiting : (a : Coming) → Contains work a → Waits code chunk visits a
-  pub sent_there : (w : ℕ) (c : Counts) → get_or sent w None ≡ Some c → (t : ℕ) → Contains (get_or code.switches w []) t → WasSent code chunk seen work t c
-  pub attained : (at : ℕ) × ((c : Counts) × Reached (coded code) chunk at c × (c.operands ≡ deepest))
-  pub visited : List ℕ
-  pub distinct : IsDistinct nat_eq visited
-  pub listed : (at : ℕ) → Contains visited at ↔ ((c : Counts) × (seen at ≡ Some c))
-  pub count : length visited ≡ visits
+abbrev pub Walks : Bytecode → Span → ℕ → Coming → Type 0
+Walks code chunk n x = Path (chunk.entry, nothing) (Goes code chunk) n x
 
 -- how many targets all switches have
 abbrev pub all_targets : List (List ℕ) → ℕ
 all_targets switches = sum_by (λ (ts : List ℕ). length ts) switches
 
 -- how many states there are
-abbrev pub one_if_some : Option State → ℕ
-one_if_some None = 0
-one_if_some (Some s) = 1
-
 abbrev pub visits_in : List (Option State) → ℕ
-visits_in states = sum_by one_if_some states
+visits_in states = count_by is_some states
 
--- the same, where each start has a state once it was visited, and these are the lists of bases
+-- one of the starts, with the counts for which its state stands
+abbrev pub HasState : List ℕ → Lists → List (Option State) → Coming → Type 0
+HasState starts lists states x = (k : ℕ) × (s : State) × (slice_get starts k ≡ Some x.0) × (get_or states k None ≡ Some s) × (x.1 ≡ view lists s)
+
+-- counts that were sent to the targets of a switch were sent by an instruction that was visited
+pub record WasSent (code : Bytecode) (chunk : Span) (marked : List Coming) (switch : ℕ) (c : Counts) : Type 0 where
+  pub x : Coming
+  pub op : Op
+  pub visited : Contains marked x
+  pub visits : Visits code chunk x op
+  pub flow : flow_of op ≡ Switches switch
+  pub is : c ≡ after_jump code.setting op x.1
+
+-- The chunk is whole instructions, and what was visited in it passes, with no more operands than the deepest that is reached.
+pub record AreVisited (code : Bytecode) (chunk : Span) (sent : List (Option Counts)) (marked : List Coming) (deepest : ℕ) : Type 0 where
+  pub framed : IsFramed code chunk
+  pub holds : chunk.entry < chunk.end
+  pub passed : (x : Coming) → Contains marked x → (op : Op) × Visits code chunk x op
+  pub shallow : (x : Coming) → Contains marked x → x.1.operands ≤ deepest
+  pub attained : (n : ℕ) × (x : Coming) × Walks code chunk n x × (x.1.operands ≡ deepest)
+  pub sent_there : (w : ℕ) (c : Counts) → get_or sent w None ≡ Some c → WasSent code chunk marked w c
+
+-- the walk is a search of the chunk, in which each start has a state once it was visited
 pub record Walking (code : Bytecode) (chunk : Span) (starts : List ℕ) (lists : Lists) (states : List (Option State)) (sent : List (Option Counts)) (work : List Coming) (deepest : ℕ) : Type 0 where
-  pub seen : Seen
-  pub agrees : (k at : ℕ) → slice_get starts k ≡ Some at → option_map (view lists) (get_or states k None) ≡ seen at
-  pub progress : Progress code chunk seen sent (visits_in states) work deepest
+  pub marked : List Coming
+  pub search : IsSearch nat_eq (chunk.entry, nothing) (Goes code chunk) marked work
+  pub listed : (x : Coming) → Contains marked x ↔ HasState starts lists states x
+  pub count : length marked ≡ visits_in states
+  pub known : AreVisited code chunk sent marked deepest
 
 -- a state names a list that there is
 abbrev pub NamesList : Lists → State → Type 0

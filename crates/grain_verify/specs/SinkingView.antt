@@ -2,7 +2,8 @@
 use Rattle.std.specs.Prelude.{◌≡◌, ℕ, false}
 use Rattle.grain_code.specs.declared.op.Op.{Op}
 use Rattle.grain_rules.specs.Counts.{Base}
-use Rattle.grain_rules.specs.Sinking.{FallsShortOf, is_quiet}
+use Rattle.grain_rules.specs.Sinking.{FallsShortOf}
+use Rattle.grain_rules.specs.Rows.{is_quiet}
 use Rattle.grain_rules.specs.declared.error.VerifyError.{VerifyError}
 use Rattle.grain_rules.specs.declared.error.VerifyError.TheVariants as errors
 

@@ -1,14 +1,13 @@
 -- What tags tell of instructions.
-use Rattle.std.specs.Prelude.{◌≡◌, ⊤, ℕ, List, ◌∷◌, Option, None, Some}
+use Rattle.std.specs.Prelude.{◌≡◌, ⊤, ℕ, ◌+◌, ◌≤◌, List, ◌∷◌, Option, None, Some}
 use Rattle.grain_code.specs.InstructionTable.{form}
 use Rattle.grain_pools.specs.declared.chain.Chain.{Chain}
 use Rattle.grain_code.specs.declared.field.Field.{Field}
 use Rattle.grain_code.specs.declared.field.Field.TheVariants.{Target}
 use Rattle.grain_code.specs.declared.op.Op.{Op}
-use Rattle.grain_rules.specs.Capabilities.{caps_of}
-use Rattle.grain_rules.specs.Effects.{stack_effect}
 use Rattle.grain_rules.specs.Flow as flows
-use Rattle.grain_rules.specs.Flow.{flow_of}
+use Rattle.grain_rules.specs.Rows.{caps_of, flow_of}
+use Rattle.grain_verify.specs.Operands.{stack_effect}
 use Rattle.grain_verify.specs.FlowView.{flow}
 use Rattle.grain_verify.specs.PoolCaps.{AreAsked}
 use Rattle.grain_rules.specs.Setting.{Setting}
@@ -22,7 +21,7 @@ use Rattle.grain_verify.specs.declared.tag_effects.ToldFlow.TheVariants as told
 
 -- its needs, what it takes and what it gives are these whatever the pools hold, and it asks nothing of the host
 pub record IsFixed (op : Op) (effect : ℕ × ℕ × ℕ) : Type 0 where
-  pub operands : (chains : List Chain) → effect ≡ stack_effect chains op
+  pub operands : (s : Setting) → effect ≡ stack_effect s op
   pub caps : (s : Setting) → caps_of s op ≡ 0
 
 -- it is left by this flow, whose target is its first field
@@ -59,14 +58,20 @@ told_flow told.PopsHandler = Some ways.PopsHandler
 abbrev pub Tells : TagEffect → Op → Type 0
 Tells row op = TellsFlow (told_flow row.flow) (row.needs, row.takes, row.gives) op
 
+-- it is what the table says of this tag
+pub record IsRowOf (row : TagEffect) (tag : ℕ) : Type 0 where
+  pub tells : (op : Op) → (form op).0 ≡ tag → Tells row op
+  pub there : row.takes ≤ row.needs
+  pub by_one : row.gives ≤ row.takes + 1
+
 -- the effect is that of the operation, whatever the pools hold, and asks nothing of the host
 pub record IsEffectOf (e : Effect) (op : Op) : Type 0 where
-  pub operands : (chains : List Chain) → (e.needs, e.takes, e.gives) ≡ stack_effect chains op
+  pub operands : (s : Setting) → (e.needs, e.takes, e.gives) ≡ stack_effect s op
   pub asks : (s : Setting) → e.asks.0 ≡ caps_of s op
   pub flow_is : flow e.flow e.target ≡ flow_of op
 
 -- the effect is that of the operation, with these chains in the pool, and names and chains that ask this of the host
 pub record IsEffectIn (chains : List Chain) (asked : PoolCaps) (e : Effect) (op : Op) : Type 0 where
-  pub operands : (e.needs, e.takes, e.gives) ≡ stack_effect chains op
+  pub operands : (s : Setting) → s.chains ≡ chains → (e.needs, e.takes, e.gives) ≡ stack_effect s op
   pub asks : (s : Setting) → AreAsked s asked → e.asks.0 ≡ caps_of s op
   pub flow_is : flow e.flow e.target ≡ flow_of op

@@ -1,20 +1,21 @@
 //! Pushing where an instruction may lead.
-ghost use Rattle.std.specs.Prelude.{◌≡◌, ◌<◌, ◌++◌, ◌∷◌, ◌⊎◌, [], Some, get_or, length, map, slice_get, IfErr, IfNone, IfOk, IfSome, OnOk};
+ghost use Rattle.std.specs.Prelude.{◌≡◌, ◌<◌, ◌∷◌, ◌⊎◌, [], Some, get_or, length, map, slice_get, IfErr, IfNone, IfOk, IfSome, OnOk};
 ghost use Rattle.std.specs.List.{All};
-ghost use Rattle.grain_pools.specs.Dispatch.{listed, arms};
-ghost use Rattle.grain_verify.specs.Arrivals.{IsPlaced, IsStartIn, RefusesSwitch, RefusesTarget, RefusesTargetOf, Sends};
-ghost use Rattle.grain_verify.specs.Arrivals.{all_underway, case_targets, range_targets, underway};
+ghost use Rattle.grain_verify.specs.Arrivals.{IsPlaced, IsStartIn, Pushes, RefusesSwitch, RefusesTarget};
+ghost use Rattle.grain_verify.specs.Arrivals.{RefusesTargetOf, Sends, underway};
 ghost use Rattle.grain_rules.specs.Code.{switch_targets};
 ghost use Rattle.grain_rules.specs.Flow as flows;
 
 use crate::state::{Arrival, State, check_same};
 use crate::states::States;
-use grain_base::Dynamic;
-use grain_bytecode::{Chunk, Starts, Switch, SwitchRange};
+use grain_bytecode::{Chunk, Starts, Switch};
 use grain_rules::VerifyError;
-use std::collections::HashMap;
 
-/// How many instructions stand before a target, which has to be a start of the chunk.
+/// How many instructions stand before a target, which has to be a start of the chunk: elsewhere a run would come to code that
+/// this walk doesn't visit, or read bytes within an instruction as another one.
+///
+/// # Errors
+/// `JumpOutOfRange` or `JumpIntoAnInstruction`.
 #[inline(always)]
 fn place_of(starts: &Starts, chunk: &Chunk, at: u32, target: u32) -> Result<usize, VerifyError>
     ensures ok { OnOk result (IsStartIn starts.now.starts chunk.now target) }
@@ -31,7 +32,10 @@ fn place_of(starts: &Starts, chunk: &Chunk, at: u32, target: u32) -> Result<usiz
     }
 }
 
-/// The state on its way to a target, which has to be a start of the chunk.
+/// The state on its way to a target.
+///
+/// # Errors
+/// `JumpOutOfRange` or `JumpIntoAnInstruction` where it is none.
 #[inline(always)]
 pub(crate) fn arrival_at(
     starts: &Starts,
@@ -55,6 +59,9 @@ pub(crate) fn arrival_at(
 }
 
 /// Pushes the state to one target.
+///
+/// # Errors
+/// `JumpOutOfRange` or `JumpIntoAnInstruction` where it is none, `OutOfMemory` where it was refused.
 #[inline(always)]
 pub(crate) fn push_target(
     starts: &Starts,
@@ -64,11 +71,8 @@ pub(crate) fn push_target(
     after: State,
     work: &mut Vec<Arrival>,
 ) -> Result<(), VerifyError>
-    ensures pushed { OnOk result (map underway work.new.items
-        ≡ map underway work.old.items ++ all_underway after (target ∷ [])) }
-    ensures inside { OnOk result (IsStartIn starts.now.starts chunk.now target) }
-    ensures placed { All (IsPlaced starts.now.starts chunk.now) work.old.items
-        → OnOk result (All (IsPlaced starts.now.starts chunk.now) work.new.items) }
+    ensures pushed { OnOk result (Pushes starts.now.starts chunk.now after (target ∷ [])
+        work.old.items work.new.items) }
     ensures err { IfErr result (λ e.
         RefusesTargetOf starts.now.starts chunk.now at (target ∷ []) e) }
 {
@@ -77,80 +81,10 @@ pub(crate) fn push_target(
     Ok(())
 }
 
-/// Pushes the state to the target of each case.
-fn push_cases(
-    starts: &Starts,
-    chunk: &Chunk,
-    at: u32,
-    cases: &HashMap<Dynamic, (u32, u32)>,
-    after: State,
-    work: &mut Vec<Arrival>,
-) -> Result<(), VerifyError>
-    ensures pushed { OnOk result (map underway work.new.items
-        ≡ map underway work.old.items ++ all_underway after (case_targets cases.now.entries)) }
-    ensures inside { OnOk result
-        (All (IsStartIn starts.now.starts chunk.now) (case_targets cases.now.entries)) }
-    ensures placed { All (IsPlaced starts.now.starts chunk.now) work.old.items
-        → OnOk result (All (IsPlaced starts.now.starts chunk.now) work.new.items) }
-    ensures err { IfErr result (λ e. RefusesTargetOf starts.now.starts chunk.now at
-        (case_targets cases.now.entries) e) }
-{
-    for (_, (target, _)) in cases {
-        push_target(starts, chunk, at, *target, after, work)?;
-    }
-    Ok(())
-}
-
-/// Pushes the state to the target of each range.
-fn push_ranges(
-    starts: &Starts,
-    chunk: &Chunk,
-    at: u32,
-    ranges: &[SwitchRange],
-    after: State,
-    work: &mut Vec<Arrival>,
-) -> Result<(), VerifyError>
-    ensures pushed { OnOk result (map underway work.new.items
-        ≡ map underway work.old.items ++ all_underway after (range_targets ranges.now)) }
-    ensures inside { OnOk result
-        (All (IsStartIn starts.now.starts chunk.now) (range_targets ranges.now)) }
-    ensures placed { All (IsPlaced starts.now.starts chunk.now) work.old.items
-        → OnOk result (All (IsPlaced starts.now.starts chunk.now) work.new.items) }
-    ensures err { IfErr result (λ e. RefusesTargetOf starts.now.starts chunk.now at
-        (range_targets ranges.now) e) }
-{
-    for range in ranges {
-        push_target(starts, chunk, at, range.target, after, work)?;
-    }
-    Ok(())
-}
-
-/// Pushes the state to the target of each case, if there are any.
-fn push_all_cases(
-    starts: &Starts,
-    chunk: &Chunk,
-    at: u32,
-    switch: &Switch,
-    after: State,
-    work: &mut Vec<Arrival>,
-) -> Result<(), VerifyError>
-    ensures pushed { OnOk result (map underway work.new.items
-        ≡ map underway work.old.items
-        ++ all_underway after (case_targets (listed (arms switch.now).cases))) }
-    ensures inside { OnOk result (All (IsStartIn starts.now.starts chunk.now)
-        (case_targets (listed (arms switch.now).cases))) }
-    ensures placed { All (IsPlaced starts.now.starts chunk.now) work.old.items
-        → OnOk result (All (IsPlaced starts.now.starts chunk.now) work.new.items) }
-    ensures err { IfErr result (λ e. RefusesTargetOf starts.now.starts chunk.now at
-        (case_targets (listed (arms switch.now).cases)) e) }
-{
-    match &switch.cases {
-        Some(cases) => push_cases(starts, chunk, at, cases, after, work),
-        None => Ok(()),
-    }
-}
-
-/// Pushes the state to each target of the switch.
+/// Pushes the state to each target of the switch: those of its cases and of its ranges, and where it goes by default.
+///
+/// # Errors
+/// Those of the first target that is none.
 fn push_switch(
     starts: &Starts,
     chunk: &Chunk,
@@ -159,22 +93,23 @@ fn push_switch(
     after: State,
     work: &mut Vec<Arrival>,
 ) -> Result<(), VerifyError>
-    ensures pushed { OnOk result (map underway work.new.items
-        ≡ map underway work.old.items ++ all_underway after (switch_targets switch.now)) }
-    ensures inside { OnOk result
-        (All (IsStartIn starts.now.starts chunk.now) (switch_targets switch.now)) }
-    ensures placed { All (IsPlaced starts.now.starts chunk.now) work.old.items
-        → OnOk result (All (IsPlaced starts.now.starts chunk.now) work.new.items) }
+    ensures pushed { OnOk result (Pushes starts.now.starts chunk.now after
+        (switch_targets switch.now) work.old.items work.new.items) }
     ensures err { IfErr result (λ e. RefusesTargetOf starts.now.starts chunk.now at
         (switch_targets switch.now) e) }
 {
-    push_all_cases(starts, chunk, at, switch, after, work)?;
-    push_ranges(starts, chunk, at, &switch.ranges, after, work)?;
-    push_target(starts, chunk, at, switch.default, after, work)?;
-    Ok(())
+    if let Some(cases) = &switch.cases {
+        for (_, (target, _)) in cases {
+            push_target(starts, chunk, at, *target, after, work)?;
+        }
+    }
+    for range in &switch.ranges {
+        push_target(starts, chunk, at, range.target, after, work)?;
+    }
+    push_target(starts, chunk, at, switch.default, after, work)
 }
 
-/// The switch of an index, if there is one.
+/// The switch of an index, if there is one. It is cut from [`push_table`] for the prover alone.
 #[inline(always)]
 fn switch_at(switches: &[Switch], index: u32) -> Option<&Switch>
     ensures found { IfSome result (λ s. (index < length switches.now)
@@ -184,7 +119,8 @@ fn switch_at(switches: &[Switch], index: u32) -> Option<&Switch>
     switches.get(index as usize)
 }
 
-/// Pushes the state to each target of the switch of an index, if there is one, unless it was sent there before.
+/// Pushes the state to each target of the switch of an index, if there is one, unless it was sent there before. Many
+/// instructions may name one switch, and a walk that pushed all its targets for each of them would take time by the product.
 ///
 /// # Errors
 /// Those of the first target that is none, and `DepthConflict` where another state was sent there before.

@@ -1,9 +1,8 @@
 //! What operations ask of the host, what they need of the stacks and leave on them, and how they are left.
 ghost use Rattle.std.specs.Prelude.{◌≡◌, ◌+◌, ◌<◌, ◌≤◌, ◌^◌, get_or, map};
 ghost use Rattle.grain_pools.specs.Chain.{consumed};
-ghost use Rattle.grain_rules.specs.Capabilities.{caps_of};
-ghost use Rattle.grain_rules.specs.Effects.{stack_effect};
-ghost use Rattle.grain_rules.specs.Flow.{flow_of};
+ghost use Rattle.grain_rules.specs.Rows.{caps_of, flow_of};
+ghost use Rattle.grain_verify.specs.Operands.{stack_effect};
 ghost use Rattle.grain_verify.specs.FlowView.{flow};
 ghost use Rattle.grain_verify.specs.PoolCaps.{AreAsked};
 ghost use Rattle.grain_rules.specs.Setting.{Setting};
@@ -35,8 +34,9 @@ impl Effect {
     /// It is the instruction table (docs/FORMAT.md, "Instructions") by what operations have in common.
     #[inline(always)]
     pub(crate) fn of(op: &Op, chains: &[Chain], asked: &PoolCaps) -> Effect
-        ensures operands { (result.needs, result.takes, result.gives)
-            ≡ stack_effect chains.now op.now }
+        ensures operands { (s : Setting)
+            → s.chains ≡ chains.now
+            → (result.needs, result.takes, result.gives) ≡ stack_effect s op.now }
         ensures asks { (s : Setting) → AreAsked s asked.now → result.asks.0 ≡ caps_of s op.now }
         ensures flow { flow result.flow result.target ≡ flow_of op.now }
     {
@@ -159,7 +159,7 @@ impl Effect {
         }
     }
 
-    // Takes all that it needs, asks nothing of the host and falls through.
+    /// Takes all that it needs, asks nothing of the host and falls through.
     #[inline(always)]
     fn taking(takes: u32, gives: u32) -> Effect
         requires { gives ≤ takes + 1 }
@@ -179,7 +179,7 @@ impl Effect {
         }
     }
 
-    // Takes some, gives none, and needs others below them, which it keeps.
+    /// Takes some, gives none, and needs others below them, which it keeps.
     #[inline(always)]
     fn keeping(kept: u32, takes: u32) -> Effect
         requires { kept + takes < 2 ^ 32 }
@@ -199,7 +199,7 @@ impl Effect {
         }
     }
 
-    // The same, with this asked of the host.
+    /// The same, with this asked of the host.
     #[inline(always)]
     fn asking(self, caps: Caps) -> Effect
         ensures asks { result.asks ≡ caps }
@@ -219,7 +219,7 @@ impl Effect {
         }
     }
 
-    // The same, with this flow, which leads nowhere.
+    /// The same, with this flow, which leads nowhere.
     #[inline(always)]
     fn flowing(self, flow: Flow) -> Effect
         ensures asks { result.asks ≡ self.asks }
@@ -231,7 +231,7 @@ impl Effect {
         self.leading(flow, 0)
     }
 
-    // The same, with this flow to this target.
+    /// The same, with this flow to this target.
     #[inline(always)]
     fn leading(self, flow: Flow, target: u32) -> Effect
         ensures asks { result.asks ≡ self.asks }
@@ -252,7 +252,7 @@ impl Effect {
     }
 }
 
-// How many operands the chain at an index takes; none where there is no chain.
+/// How many operands the chain at an index takes; none where there is no chain.
 fn consumed_at(chains: &[Chain], index: u32) -> u32
     ensures { result ≡ get_or (map consumed chains.now) index 0 }
 {

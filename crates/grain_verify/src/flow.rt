@@ -1,6 +1,6 @@
 //! How operations are left.
 ghost use Rattle.std.specs.Prelude.{◌≡◌, ◌↔◌, ℕ, IsTrue};
-ghost use Rattle.grain_rules.specs.Flow.{iterators_for};
+ghost use Rattle.grain_rules.specs.FlowFields.{iterators_for};
 ghost use Rattle.grain_verify.specs.FlowView.{HasTarget, flow};
 
 /// How an operation is left, and what that does to iterators and handlers. Where it leads is its target.

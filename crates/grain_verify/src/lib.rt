@@ -5,12 +5,12 @@
 #![tactic(auto)]
 
 mod by_tag;
+mod chunk;
 mod edges;
 mod effects;
 mod flow;
 mod lists;
 mod meter;
-mod plain;
 mod pool_caps;
 mod sinking;
 mod state;

@@ -167,14 +167,14 @@ impl Lists {
     }
 }
 
-/// The number of the list of an equal node, if there is one.
+/// The number of the list of an equal node, if there is one. It is cut from [`Lists::with_base`] for the prover alone.
 fn number_of(numbers: &BTreeMap<Node, u32>, node: Node) -> Option<u32>
     ensures { result ≡ get node_cmp numbers.now node }
 {
     numbers.get(&node).copied()
 }
 
-/// Gives the list of a node its number.
+/// Gives the list of a node its number. It is cut from [`Lists::with_base`] for the prover alone.
 fn remember(numbers: &mut BTreeMap<Node, u32>, node: Node, number: u32) -> Result<(), AllocError>
     ensures { OnOk result (Updates node_cmp numbers.old numbers.new node (Some number)) }
 {

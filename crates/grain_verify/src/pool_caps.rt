@@ -49,7 +49,7 @@ impl PoolCaps {
     }
 }
 
-// The capabilities at an index; none past the list.
+/// The capabilities at an index; none past the list.
 fn caps_at(list: &[Caps], index: u32) -> Caps
     ensures { result.0 ≡ get_or (numbers list.now) index 0 }
 {

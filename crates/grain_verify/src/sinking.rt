@@ -4,17 +4,17 @@ ghost use Rattle.grain_code.specs.InstructionTable.{Instr, form};
 ghost use Rattle.grain_code.specs.declared.op.Op.{Op};
 ghost use Rattle.grain_verify.specs.Arrivals.{view};
 ghost use Rattle.grain_rules.specs.Counts.{last_base};
-ghost use Rattle.grain_rules.specs.Effects.{stack_effect};
-ghost use Rattle.grain_rules.specs.Flow.{flow_of};
 ghost use Rattle.grain_verify.specs.FlowView.{IsMetBy, IsShort, flow};
 ghost use Rattle.grain_verify.specs.Lists.{IsShared, as_base, size};
 ghost use Rattle.grain_rules.specs.Setting.{Setting};
-ghost use Rattle.grain_rules.specs.Sinking.{ReachesUpTo, Stays, is_quiet, untouched};
+ghost use Rattle.grain_rules.specs.Sinking.{ReachesUpTo, Stays, untouched};
+ghost use Rattle.grain_verify.specs.Operands.{stack_effect};
+ghost use Rattle.grain_rules.specs.Rows.{flow_of, is_quiet};
 ghost use Rattle.grain_verify.specs.SinkingView.{RefusesSinking};
 
 use crate::effects::Effect;
 use crate::lists::{Base, Lists};
-use crate::state::Arrival;
+use crate::state::{Arrival, State};
 use grain_bytecode::Instruction;
 use grain_rules::VerifyError;
 
@@ -42,10 +42,12 @@ static QUIET: [bool; 256] = [
     false, false, false, false, false, false,
 ];
 
-/// Whether the instruction is quiet, or else leaves what stood when the last handler was armed.
+/// Whether the instruction is quiet, or else leaves what stood when the last handler was armed. Where it faults, that handler's
+/// code runs on what it left, and would find fewer operands or iterators than were tested there.
 ///
 /// # Errors
-/// `SinksBelowHandler` at its address; `IteratorUnderflow` where it lacks an iterator, as far as handlers are armed.
+/// `SinksBelowHandler` at its address. Where a handler is armed, the iterator that it takes is looked for first
+/// ([`State::without_iterators`]); else its flow asks for it.
 #[inline(always)]
 pub(crate) fn check_stays(
     instruction: &Instruction<'_>,
@@ -59,12 +61,12 @@ pub(crate) fn check_stays(
     requires operands { effect.needs ≤ here.state.operands }
     ensures stays { (s : Setting) (op : Op)
         → Instr (instruction.now.tag ∷ instruction.now.fields.now) op
-        → (effect.needs, effect.takes, effect.gives) ≡ stack_effect s.chains op
+        → (effect.needs, effect.takes, effect.gives) ≡ stack_effect s op
         → flow effect.flow effect.target ≡ flow_of op
         → OnOk result (Stays s op (view lists.now here.state)) }
     ensures err { (s : Setting) (op : Op)
         → Instr (instruction.now.tag ∷ instruction.now.fields.now) op
-        → (effect.needs, effect.takes, effect.gives) ≡ stack_effect s.chains op
+        → (effect.needs, effect.takes, effect.gives) ≡ stack_effect s op
         → flow effect.flow effect.target ≡ flow_of op
         → IfErr result (λ e.
         IsShort (flow effect.flow effect.target) here.at (view lists.now here.state) e
@@ -77,12 +79,10 @@ pub(crate) fn check_stays(
         return Ok(());
     }
     let needed = effect.flow.iterators_needed();
-    if state.iterators < needed {
-        return Err(VerifyError::IteratorUnderflow { at: at as usize });
-    }
+    let State { iterators, .. } = state.without_iterators(needed, at)?;
     let left = Base {
         operands: state.operands - effect.takes,
-        iterators: state.iterators - needed,
+        iterators,
     };
     check_sinking(instruction.tag, at, left, lists.last_base(state.list))
 }

@@ -28,7 +28,8 @@ pub(crate) struct Arrival {
     pub(crate) state: State,
 }
 
-/// Whether what is at an address already has the state that comes to it.
+/// Whether what is at an address already has the state that comes to it. All that follows was tested with the first one
+/// alone, so that a run with another would find fewer operands than were tested, or another handler armed.
 ///
 /// # Errors
 /// `DepthConflict` at the address.
@@ -86,22 +87,23 @@ impl State {
         }
     }
 
-    /// The state with one iterator fewer.
+    /// The state with so many iterators fewer. A machine that ends or advances an iterator reaches below its stack where
+    /// there is none.
     ///
     /// # Errors
-    /// `IteratorUnderflow` at the address where there is none.
+    /// `IteratorUnderflow` at the address where there are fewer.
     #[inline(always)]
-    pub(crate) fn without_iterator(self, at: u32) -> Result<State, VerifyError>
-        ensures ok { IfOk result (λ s. (0 < self.iterators)
-            × (s ≡ record self { iterators = self.iterators - 1 })) }
+    pub(crate) fn without_iterators(self, needed: u32, at: u32) -> Result<State, VerifyError>
+        ensures ok { IfOk result (λ s. (needed ≤ self.iterators)
+            × (s ≡ record self { iterators = self.iterators - needed })) }
         ensures err { IfErr result (λ e. (e ≡ VerifyError.IteratorUnderflow at)
-            × (self.iterators ≡ 0)) }
+            × (self.iterators < needed)) }
     {
-        if self.iterators == 0 {
+        if self.iterators < needed {
             return Err(VerifyError::IteratorUnderflow { at: at as usize });
         }
         Ok(State {
-            iterators: self.iterators - 1,
+            iterators: self.iterators - needed,
             ..self
         })
     }

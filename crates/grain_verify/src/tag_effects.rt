@@ -1,8 +1,6 @@
 //! What instructions do, as far as their tags tell.
-ghost use Rattle.std.specs.Prelude.{◌≡◌, ◌+◌, ◌≤◌};
-ghost use Rattle.grain_code.specs.InstructionTable.{form};
-ghost use Rattle.grain_code.specs.declared.op.Op.{Op};
-ghost use Rattle.grain_verify.specs.TagEffects.{Tells, told_flow};
+ghost use Rattle.std.specs.Prelude.{◌≡◌};
+ghost use Rattle.grain_verify.specs.TagEffects.{IsRowOf, told_flow};
 
 use crate::flow::Flow;
 
@@ -201,9 +199,7 @@ static TAG_EFFECTS: [TagEffect; 256] = [
 /// What the instructions with a tag do, as far as it tells.
 #[inline(always)]
 pub(crate) fn tag_effect(tag: u8) -> &'static TagEffect
-    ensures told { (op : Op) → (form op).0 ≡ tag → Tells result.now op }
-    ensures there { result.now.takes ≤ result.now.needs }
-    ensures by_one { result.now.gives ≤ result.now.takes + 1 }
+    ensures { IsRowOf result.now tag }
 {
     &TAG_EFFECTS[tag as usize]
 }

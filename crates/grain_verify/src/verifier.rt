@@ -1,5 +1,5 @@
 //! The verifier.
-ghost use Rattle.std.specs.Prelude.{◌≡◌, ◌≢◌, ◌⊎◌, ℕ, IfErr, IfOk, List, OnOk};
+ghost use Rattle.std.specs.Prelude.{◌≡◌, ◌⊎◌, ℕ, IfErr, IfOk, List, OnOk};
 ghost use Rattle.std.specs.List.{All, AllZip};
 ghost use Rattle.grain_code.specs.Span.{Span};
 ghost use Rattle.grain_code.specs.Split.{Split};
@@ -14,6 +14,7 @@ ghost use Rattle.grain_rules.specs.Typing.{HasTyping, IsDeepest};
 ghost use Rattle.grain_rules.specs.Verdict.{IsVerdict, ReachesChunks};
 ghost use Rattle.grain_verify.specs.Walk.{IsReady, bytecode_of};
 
+use crate::chunk::verify_chunk;
 use crate::lists::Lists;
 use crate::meter::Meter;
 use crate::pool_caps::PoolCaps;
@@ -73,7 +74,7 @@ fn walk_chunks(
     let mut lists = Lists::new(alloc);
     let mut deepest = Vec::with_capacity(alloc, chunks.len())?;
     for chunk in chunks {
-        let needed = prepared.verify_chunk(chunk, &mut lists, &mut traversal, meter)?;
+        let needed = verify_chunk(prepared, chunk, &mut lists, &mut traversal, meter)?;
         deepest.push_reserved(needed);
     }
     Ok(deepest)

@@ -1,33 +1,32 @@
-//! The walk over one chunk.
-ghost use Rattle.std.specs.Prelude.{◌≡◌, ◌≢◌, ℕ, ◌+◌, ◌-◌, ◌≤◌, ◌<◌, ◌^◌, ◌++◌, ◌∷◌, ◌⊎◌, [], None, Some};
+//! The walk over one chunk: [`Prepared::walk`] takes arrivals from the worklist, [`Prepared::walk_from`] goes on from each,
+//! instruction after instruction, and [`Prepared::visit`] or [`Prepared::visit_told`] does one of them.
+ghost use Rattle.std.specs.Prelude.{◌≡◌, ℕ, ◌+◌, ◌-◌, ◌≤◌, ◌<◌, ◌^◌, ◌++◌, ◌∷◌, ◌⊎◌, [], None, Some};
 ghost use Rattle.std.specs.Prelude.{get_or, length, replicate, slice_get, IfErr, IfNone, IfOk, IfSome, OnOk};
 ghost use Rattle.std.specs.Option.{option_to_list};
-ghost use Rattle.grain_code.specs.InstructionTable.{Instr, form};
+ghost use Rattle.grain_code.specs.InstructionTable.{Instr};
 ghost use Rattle.grain_code.specs.Split.{StandsAt};
 ghost use Rattle.grain_code.specs.declared.op.Op.{Op};
-ghost use Rattle.grain_rules.specs.Accepted.{ChunkPasses, IsFramed};
+ghost use Rattle.grain_rules.specs.Accepted.{IsFramed};
 ghost use Rattle.grain_verify.specs.Arrivals.{RefusesState, view};
-ghost use Rattle.grain_rules.specs.Capabilities.{Allows, caps_of};
+ghost use Rattle.grain_rules.specs.Capabilities.{Allows};
 ghost use Rattle.grain_rules.specs.Code.{coded};
-ghost use Rattle.grain_rules.specs.Effects.{needs};
-ghost use Rattle.grain_rules.specs.Flaw.{ChunkFlaw};
+ghost use Rattle.grain_rules.specs.Rows.{caps_of, needs};
 ghost use Rattle.grain_verify.specs.FlowView.{IsFollowed, IsMetBy, RefusesFlow, flow};
 ghost use Rattle.grain_verify.specs.Lists.{Grows, IsShared, size};
 ghost use Rattle.grain_verify.specs.Meter.{starts_within};
-ghost use Rattle.grain_verify.specs.Plain.{GoesOn, IsFloor, LeavesFloor};
-ghost use Rattle.grain_verify.specs.Progress.{Fits, HaltsAt, IsMeteredChunk, IsWalking, all_targets, visits_in, weight};
-ghost use Rattle.grain_verify.specs.TagEffects.{IsEffectIn, TellsFlow};
+ghost use Rattle.grain_verify.specs.Plain.{GoesOn, IsFloor};
+ghost use Rattle.grain_verify.specs.Progress.{Fits, HaltsAt, IsWalking, visits_in, weight};
+ghost use Rattle.grain_verify.specs.TagEffects.{IsEffectIn, IsRowOf, told_flow};
 ghost use Rattle.grain_rules.specs.Typing.{HasTyping, IsDeepest, IsInChunk, IsReachedCount};
+ghost use Rattle.grain_verify.specs.Visits.{CarriesFloor, IsMarked, IsVisited, RefusesChunk};
 ghost use Rattle.grain_verify.specs.Walk.{HasHead, IsPassing, IsReady, bytecode_of};
 ghost use Rattle.grain_verify.specs.declared.lists.Lists.{Lists};
 
-use crate::by_tag::{effect_by_tag, effect_told};
+use crate::by_tag::{effect_by_tag, effect_told, plain_next};
 use crate::edges::{arrival_at, push_table, push_target};
 use crate::effects::Effect;
 use crate::flow::Flow;
 use crate::lists::Lists;
-use crate::meter::Meter;
-use crate::plain::plain_next;
 use crate::pool_caps::PoolCaps;
 use crate::sinking::check_stays;
 use crate::state::{Arrival, State, check_same};
@@ -84,7 +83,8 @@ impl Traversal {
         })
     }
 
-    /// Begins the next chunk, in which nothing was visited.
+    /// Begins the next chunk, in which nothing was visited. A state that stayed from another chunk would pass for a visit in
+    /// this one, and what stands there would go untested.
     #[inline(never)]
     fn begin_chunk(&mut self)
         ensures states { self.new.states ≡ replicate (length self.old.states) None }
@@ -97,7 +97,7 @@ impl Traversal {
     }
 }
 
-/// The instruction that stands at an address, where its head is known.
+/// The instruction that stands at an address, where its head is known: one look at its first byte has told its width.
 #[inline(always)]
 fn instruction_at<'a>(code: &'a [u8], at: usize, head: Head) -> Instruction<'a>
     requires { HasHead code.now at head }
@@ -113,7 +113,11 @@ fn instruction_at<'a>(code: &'a [u8], at: usize, head: Head) -> Instruction<'a>
 }
 
 impl Prepared<'_> {
-    /// Whether the host has what the instruction asks, and the operand stack what it needs.
+    /// Whether the host has what the instruction asks, and the operand stack what it needs. Else a machine would do what the
+    /// host doesn't allow, or read below its operand stack.
+    ///
+    /// # Errors
+    /// `MissingCaps`, or `Underflow` where nothing is missing.
     #[inline(always)]
     fn check_needs(&self, effect: Effect, at: u32, state: State) -> Result<(), VerifyError>
         ensures allowed { OnOk result (Allows self.now.caps.0 effect.asks.0) }
@@ -142,7 +146,12 @@ impl Prepared<'_> {
     }
 
     /// Sends the state that an instruction of this width leaves to its targets, where it has what it asks and the operands
-    /// that it needs. It answers what falls through, or the target of a jump in place of pushing it.
+    /// that it needs. It answers what falls through, or the target of a jump in place of pushing it. A way that was left out
+    /// here would lead runs to code that was never tested, or with other counts than were tested.
+    ///
+    /// # Errors
+    /// `IteratorUnderflow` or `HandlerUnderflow` where it lacks one; those of its targets; `DepthConflict` where another state
+    /// was sent to its switch before; `OutOfMemory` where it was refused.
     #[inline(always)]
     fn follow(
         &self,
@@ -173,9 +182,8 @@ impl Prepared<'_> {
         ensures states { OnOk result (traversal.new.states ≡ traversal.old.states) }
         ensures long { OnOk result (length traversal.new.sent ≡ length traversal.old.sent) }
         ensures goes_on { GoesOn effect.flow → IfOk result (λ next. IfNone next ⊥) }
-        ensures floor { (floor : ℕ) → IsFloor lists.old here.state floor
-            → IfOk result (λ next. IfSome next (λ a.
-            LeavesFloor effect.flow floor lists.new a.state)) }
+        ensures floor { IfOk result (λ next. IfSome next (λ a.
+            CarriesFloor effect.flow lists.old lists.new here.state a.state)) }
         ensures err { IfErr result (RefusesFlow self.now.starts.starts chunk.now
             (bytecode_of self.now).switches here.at (view lists.old here.state) (record here.state {
               operands = here.state.operands - effect.takes + effect.gives;
@@ -208,7 +216,7 @@ impl Prepared<'_> {
                 Ok(Some(here.next(width, begun)))
             }
             Flow::AdvancesIterator => {
-                let ended = state.without_iterator(at)?;
+                let ended = state.without_iterators(1, at)?;
                 push_target(starts, chunk, at, target, ended, work)?;
                 let advanced = State {
                     operands: state.operands + 1,
@@ -216,7 +224,7 @@ impl Prepared<'_> {
                 };
                 Ok(Some(here.next(width, advanced)))
             }
-            Flow::EndsIterator => Ok(Some(here.next(width, state.without_iterator(at)?))),
+            Flow::EndsIterator => Ok(Some(here.next(width, state.without_iterators(1, at)?))),
             Flow::PushesHandler => {
                 let armed = state.with_handler(lists)?;
                 push_target(starts, chunk, at, target, armed, work)?;
@@ -226,14 +234,15 @@ impl Prepared<'_> {
         }
     }
 
-    /// What an instruction does. It is decoded where its tag and its target don't tell.
+    /// What an instruction does. It is decoded where its tag and its target don't tell, since decoding takes longer.
     #[inline(always)]
-    fn effect_of(&self, instruction: &Instruction<'_>) -> Effect
-        requires { (op : Op) × Instr (instruction.now.tag ∷ instruction.now.fields.now) op }
+    fn effect_of(&self, instruction: &Instruction<'_>, told: &TagEffect) -> Effect
+        requires row { IsRowOf told.now instruction.now.tag }
+        requires known { (op : Op) × Instr (instruction.now.tag ∷ instruction.now.fields.now) op }
         ensures { (op : Op) → Instr (instruction.now.tag ∷ instruction.now.fields.now) op
             → IsEffectIn self.now.pools.now.chains.now self.now.asked result op }
     {
-        if let Some(effect) = effect_by_tag(instruction) {
+        if let Some(effect) = effect_by_tag(instruction, told) {
             return effect;
         }
         let Some(op) = instruction.op() else {
@@ -243,7 +252,11 @@ impl Prepared<'_> {
     }
 
     /// Follows the flow of an instruction that has all that it asks and needs but maybe an iterator or a handler. It answers
-    /// the next arrival, if there is one that isn't on the worklist.
+    /// the next arrival, if there is one that isn't on the worklist. It is cut from [`Prepared::visit`] and
+    /// [`Prepared::visit_told`] for the prover alone, which is told here once why the walk stays right.
+    ///
+    /// # Errors
+    /// Those of [`Prepared::follow`].
     #[inline(always)]
     fn follow_passing(
         &self,
@@ -254,65 +267,53 @@ impl Prepared<'_> {
         lists: &mut Lists,
         traversal: &mut Traversal,
     ) -> Result<Option<Arrival>, VerifyError>
-        requires ready { IsReady self.now }
-        requires framed { IsFramed (bytecode_of self.now) chunk.now }
+        requires marked { IsMarked self.now chunk.now lists.old traversal.old here }
         requires passing { IsPassing self.now lists.old here instruction.now effect }
-        requires halts { (deepest : ℕ)
-            × HaltsAt self.now chunk.now lists.old traversal.old here deepest }
-        ensures ok { (deepest : ℕ)
-            → HaltsAt self.now chunk.now lists.old traversal.old here deepest
-            → IfOk result (λ next. IsWalking self.now chunk.now lists.new traversal.new
-            (traversal.new.work.items ++ option_to_list next) deepest) }
-        ensures states { OnOk result (traversal.new.states ≡ traversal.old.states) }
-        ensures few { IfOk result (λ next. length (traversal.new.work.items ++ option_to_list next)
-            ≤ length traversal.old.work.items
-            + (all_targets (bytecode_of self.now).switches + 2)) }
+        ensures visited { IfOk result (λ next. IsVisited self.now chunk.now lists.old lists.new
+            traversal.old traversal.new here (option_to_list next)) }
         ensures goes_on { GoesOn effect.flow → IfOk result (λ next. IfNone next ⊥) }
-        ensures floor { (floor : ℕ) → IsFloor lists.old here.state floor
-            → IfOk result (λ next. IfSome next (λ a.
-            LeavesFloor effect.flow floor lists.new a.state)) }
-        ensures err { IfErr result (λ e. (e ≡ VerifyError.OutOfMemory)
-            ⊎ ChunkFlaw (bytecode_of self.now) chunk.now e) }
+        ensures floor { IfOk result (λ next. IfSome next (λ a.
+            CarriesFloor effect.flow lists.old lists.new here.state a.state)) }
+        ensures err { IfErr result (RefusesChunk (bytecode_of self.now) chunk.now) }
     {
         self.follow(chunk, effect, here, instruction.width(), lists, traversal)
     }
 
     /// Visits an instruction: tests what it asks and needs and what it leaves as it was, and follows its flow. It answers the
     /// next arrival, if there is one that isn't on the worklist.
+    ///
+    /// # Errors
+    /// The first test that fails, by its name.
     #[inline(always)]
     fn visit(
         &self,
         chunk: &Chunk,
         here: Arrival,
         head: Head,
+        told: &TagEffect,
         lists: &mut Lists,
         traversal: &mut Traversal,
     ) -> Result<Option<Arrival>, VerifyError>
-        requires ready { IsReady self.now }
-        requires framed { IsFramed (bytecode_of self.now) chunk.now }
+        requires marked { IsMarked self.now chunk.now lists.old traversal.old here }
         requires headed { HasHead self.now.code.now here.at head }
-        requires halts { (deepest : ℕ)
-            × HaltsAt self.now chunk.now lists.old traversal.old here deepest }
-        ensures ok { (deepest : ℕ)
-            → HaltsAt self.now chunk.now lists.old traversal.old here deepest
-            → IfOk result (λ next. IsWalking self.now chunk.now lists.new traversal.new
-            (traversal.new.work.items ++ option_to_list next) deepest) }
-        ensures states { OnOk result (traversal.new.states ≡ traversal.old.states) }
-        ensures few { IfOk result (λ next. length (traversal.new.work.items ++ option_to_list next)
-            ≤ length traversal.old.work.items
-            + (all_targets (bytecode_of self.now).switches + 2)) }
-        ensures err { IfErr result (λ e. (e ≡ VerifyError.OutOfMemory)
-            ⊎ ChunkFlaw (bytecode_of self.now) chunk.now e) }
+        requires row { IsRowOf told.now head.tag }
+        ensures visited { IfOk result (λ next. IsVisited self.now chunk.now lists.old lists.new
+            traversal.old traversal.new here (option_to_list next)) }
+        ensures err { IfErr result (RefusesChunk (bytecode_of self.now) chunk.now) }
     {
         let instruction = instruction_at(self.code, here.at as usize, head);
-        let effect = self.effect_of(&instruction);
+        let effect = self.effect_of(&instruction, told);
         self.check_needs(effect, here.at, here.state)?;
         check_stays(&instruction, effect, here, lists)?;
         self.follow_passing(chunk, here, &instruction, effect, lists, traversal)
     }
 
     /// Visits an instruction that goes on and needs no iterator, of which its tag tells all, and that finds the operands that
-    /// it needs above the floor. It answers the next arrival.
+    /// it needs above the floor. It answers the next arrival. What [`Prepared::visit`] tests can't fail then: it asks nothing of
+    /// the host, and the operands above the floor are those that it may take.
+    ///
+    /// # Errors
+    /// Those of [`Prepared::follow`].
     #[inline(always)]
     fn visit_told(
         &self,
@@ -324,30 +325,18 @@ impl Prepared<'_> {
         lists: &mut Lists,
         traversal: &mut Traversal,
     ) -> Result<Arrival, VerifyError>
-        requires ready { IsReady self.now }
-        requires framed { IsFramed (bytecode_of self.now) chunk.now }
+        requires marked { IsMarked self.now chunk.now lists.old traversal.old here }
         requires headed { HasHead self.now.code.now here.at head }
-        requires told { (op : Op) → (form op).0 ≡ head.tag
-            → TellsFlow (Some way) (told.now.needs, told.now.takes, told.now.gives) op }
-        requires there { told.now.takes ≤ told.now.needs }
-        requires by_one { told.now.gives ≤ told.now.takes + 1 }
+        requires row { IsRowOf told.now head.tag }
+        requires way { told_flow told.now.flow ≡ Some way }
         requires goes_on { GoesOn way }
         requires above { (floor : ℕ) × IsFloor lists.old here.state floor
             × (floor + told.now.needs ≤ here.state.operands) }
-        requires halts { (deepest : ℕ)
-            × HaltsAt self.now chunk.now lists.old traversal.old here deepest }
-        ensures ok { (deepest : ℕ)
-            → HaltsAt self.now chunk.now lists.old traversal.old here deepest
-            → IfOk result (λ next. IsWalking self.now chunk.now lists.new traversal.new
-            (traversal.new.work.items ++ next ∷ []) deepest) }
-        ensures states { OnOk result (traversal.new.states ≡ traversal.old.states) }
-        ensures few { OnOk result (length traversal.new.work.items + 1
-            ≤ length traversal.old.work.items
-            + (all_targets (bytecode_of self.now).switches + 2)) }
-        ensures floor { (floor : ℕ) → IsFloor lists.old here.state floor
-            → IfOk result (λ next. LeavesFloor way floor lists.new next.state) }
-        ensures err { IfErr result (λ e. (e ≡ VerifyError.OutOfMemory)
-            ⊎ ChunkFlaw (bytecode_of self.now) chunk.now e) }
+        ensures visited { IfOk result (λ next. IsVisited self.now chunk.now lists.old lists.new
+            traversal.old traversal.new here (next ∷ [])) }
+        ensures floor { IfOk result (λ next.
+            CarriesFloor way lists.old lists.new here.state next.state) }
+        ensures err { IfErr result (RefusesChunk (bytecode_of self.now) chunk.now) }
     {
         let instruction = instruction_at(self.code, here.at as usize, head);
         let effect = effect_told(&instruction, told, way);
@@ -357,7 +346,8 @@ impl Prepared<'_> {
         }
     }
 
-    /// The head of the instruction at an address that was come to, or `None` at the end of the chunk.
+    /// The head of the instruction at an address that was come to, or `None` at the end of the chunk. What stands behind the end
+    /// is other code, whose counts this walk doesn't know.
     #[inline(always)]
     fn head_at(&self, chunk: &Chunk, at: u32) -> Option<Head>
         requires framed { IsFramed (bytecode_of self.now) chunk.now }
@@ -371,7 +361,8 @@ impl Prepared<'_> {
         Head::at(code, at as usize)
     }
 
-    /// Marks an instruction as visited, and counts it.
+    /// Marks an instruction as visited, and counts it. It is marked before its flow is followed, so that a loop back to it ends
+    /// there. It is cut from [`Prepared::walk_from`] for the prover alone.
     #[inline(always)]
     fn mark(
         &self,
@@ -403,8 +394,14 @@ impl Prepared<'_> {
 
     /// Walks from an arrival on, until nothing comes next that wasn't visited.
     ///
+    /// What is come to twice is tested once, with the counts of the first path. So a second path has to bring the same: a run
+    /// on it would else find fewer operands than were tested, or leave other counts to all that follows.
+    ///
     /// What tags tell most often is visited without the tests of [`Prepared::visit`] where the operands are above the floor,
     /// each flow in an arm of its own, which is compiled apart.
+    ///
+    /// # Errors
+    /// `DepthConflict` where counts differ, `FallsOffTheEnd` at the chunk's end, and those of visits.
     #[inline(always)]
     fn walk_from(
         &self,
@@ -427,8 +424,7 @@ impl Prepared<'_> {
         ensures lighter { OnOk result (weight self.now traversal.new
             (length traversal.new.work.items)
             < weight self.now traversal.old (length traversal.old.work.items + 1)) }
-        ensures err { IfErr result (λ e. (e ≡ VerifyError.OutOfMemory)
-            ⊎ ChunkFlaw (bytecode_of self.now) chunk.now e) }
+        ensures err { IfErr result (RefusesChunk (bytecode_of self.now) chunk.now) }
     {
         let mut here = from;
         let mut floor = from.state.floor(lists);
@@ -437,11 +433,11 @@ impl Prepared<'_> {
                 return check_same(here.at, before, here.state);
             }
             self.mark(chunk, here, lists, traversal, visits, deepest);
-            if let Some(next) = plain_next(head, here, floor) {
+            let told = tag_effect(head.tag);
+            if let Some(next) = plain_next(told, head, here, floor) {
                 here = next;
                 continue;
             }
-            let told = tag_effect(head.tag);
             let above = floor + u64::from(told.needs) <= u64::from(here.state.operands);
             match told.flow {
                 ToldFlow::Jumps if above => {
@@ -463,7 +459,7 @@ impl Prepared<'_> {
                     floor = here.state.floor(lists);
                 }
                 _ => {
-                    let Some(next) = self.visit(chunk, here, head, lists, traversal)? else {
+                    let Some(next) = self.visit(chunk, here, head, told, lists, traversal)? else {
                         return Ok(());
                     };
                     here = next;
@@ -475,8 +471,11 @@ impl Prepared<'_> {
     }
 
     /// Walks from the chunk's entry, an instruction of this ordinal, and answers the greatest operand count that it meets.
-    /// It counts the instructions that it visits.
-    fn walk(
+    /// It counts the instructions that it visits. No run starts elsewhere, so what it doesn't come to needs no test.
+    ///
+    /// # Errors
+    /// Those of [`Prepared::walk_from`].
+    pub(crate) fn walk(
         &self,
         chunk: &Chunk,
         ordinal: usize,
@@ -496,8 +495,7 @@ impl Prepared<'_> {
         ensures within { visits.new ≤ starts_within self.now.starts.starts chunk.now }
         ensures reached { OnOk result
             (IsReachedCount (coded (bytecode_of self.now)) chunk.now visits.new) }
-        ensures err { IfErr result (λ e. (e ≡ VerifyError.OutOfMemory)
-            ⊎ ChunkFlaw (bytecode_of self.now) chunk.now e) }
+        ensures err { IfErr result (RefusesChunk (bytecode_of self.now) chunk.now) }
         ensures fits { OnOk result (Fits self.now traversal.new) }
         ensures shared { OnOk result (IsShared lists.new) }
     {
@@ -516,82 +514,5 @@ impl Prepared<'_> {
                 None => return Ok(deepest),
             }
         }
-    }
-
-    /// How many instructions stand before the chunk's entry, where the chunk lies in the code and begins and ends where
-    /// instructions do.
-    #[inline(never)]
-    fn check_frame(&self, chunk: &Chunk) -> Result<usize, VerifyError>
-        requires { IsReady self.now }
-        ensures framed { OnOk result (IsFramed (bytecode_of self.now) chunk.now) }
-        ensures holds { OnOk result (chunk.now.entry < chunk.now.end) }
-        ensures place { IfOk result (λ k. slice_get self.now.starts.starts k ≡ Some chunk.now.entry) }
-        ensures err { IfErr result (λ e. ChunkFlaw (bytecode_of self.now) chunk.now e
-            × (e ≢ VerifyError.OutOfMemory)) }
-    {
-        let entry = chunk.entry() as usize;
-        let end = chunk.end() as usize;
-        let len = self.code.len();
-        if end > len || entry > end {
-            return Err(VerifyError::ChunkOutOfRange {
-                entry: chunk.entry(),
-                end: chunk.end(),
-                len,
-            });
-        }
-        if entry == end {
-            return Err(VerifyError::FallsOffTheEnd);
-        }
-        let Some(ordinal) = self.starts.ordinal(entry) else {
-            return Err(VerifyError::JumpIntoAnInstruction {
-                at: entry,
-                target: chunk.entry(),
-            });
-        };
-        if end < len && !self.starts.contains(end) {
-            return Err(VerifyError::JumpIntoAnInstruction {
-                at: entry,
-                target: chunk.end(),
-            });
-        }
-        Ok(ordinal)
-    }
-
-    /// The deepest operand stack of the chunk, or why it is refused.
-    pub(crate) fn verify_chunk(
-        &self,
-        chunk: &Chunk,
-        lists: &mut Lists,
-        traversal: &mut Traversal,
-        meter: &mut Meter,
-    ) -> Result<u16, VerifyError>
-        requires ready { IsReady self.now }
-        requires fits { Fits self.now traversal.old }
-        requires shared { IsShared lists.old }
-        ensures passes { OnOk result (ChunkPasses (bytecode_of self.now) chunk.now) }
-        ensures typed { IfOk result (λ n. HasTyping (coded (bytecode_of self.now)) chunk.now n) }
-        ensures deepest { IfOk result (λ n. IsDeepest (coded (bytecode_of self.now)) chunk.now n) }
-        ensures accepts { ChunkPasses (bytecode_of self.now) chunk.now
-            → IfErr result (λ e. e ≡ VerifyError.OutOfMemory) }
-        ensures flaws { IfErr result (λ e. (e ≡ VerifyError.OutOfMemory)
-            ⊎ ChunkFlaw (bytecode_of self.now) chunk.now e) }
-        ensures metered { IsMeteredChunk (bytecode_of self.now)
-            self.now.starts.starts chunk.now meter.old meter.new result }
-        ensures fits { OnOk result (Fits self.now traversal.new) }
-        ensures shared { OnOk result (IsShared lists.new) }
-    {
-        let ordinal = self.check_frame(chunk)?;
-        let mut visits = 0;
-        let walked = self.walk(chunk, ordinal, lists, traversal, &mut visits);
-        meter.add(visits);
-        let needed = walked?;
-        let declared = chunk.max_stack();
-        if needed > u32::from(declared) {
-            return Err(VerifyError::StackExceedsDeclared {
-                needed: needed as usize,
-                declared,
-            });
-        }
-        Ok(needed as u16)
     }
 }

@@ -13,13 +13,16 @@ place-requires-clause-inside c =
     let heads = c.args.heads.items in
     let cuts = c.args.cuts.now in
     cut_there heads cuts c.requires.count (length c.args.offsets.now - 1) (length c.loop-head.yielded) (c.in-Some.head, c.in-Some.cut.now) c.requires.inside
-    (YieldsList-turn (YieldsList-from_zip (YieldsList-from_vec heads (cc) (cc)) (YieldsList-from_slice cuts (cc))) c.loop-head.yielded c.loop-head.head-iterator c.loop-head.yielded_by c.next.result c.next.new.self (c.in-Some.head, c.in-Some.cut) c.in-Some.is c.next.ensures.steps)
+    (YieldsList-turn (YieldsList-from_zip (YieldsList-from_vec heads (cc) (cc)) (YieldsList-from_slice cuts (cc))) c.loop-head.yielded c.loop-head.head-iterator c.loop-head.yielded_by
+    c.next.result c.next.new.self (c.in-Some.head, c.in-Some.cut) c.in-Some.is c.next.ensures.steps)
 
 pub returns-clause-heads : goal.returns-clause-heads
 returns-clause-heads c =
     let heads = c.args.heads.items in
     let cuts = c.args.cuts.now in
-    c.loop-head.invariant.heads ∙ heads_listed heads cuts c.requires.count c.loop-head.yielded (YieldsList-end (YieldsList-from_zip (YieldsList-from_vec heads (cc) (cc)) (YieldsList-from_slice cuts (cc))) c.loop-head.yielded c.loop-head.head-iterator c.loop-head.yielded_by c.next.result c.next.new.self c.in-None.is c.next.ensures.steps).0
+    c.loop-head.invariant.heads ∙ heads_listed heads cuts c.requires.count c.loop-head.yielded
+    (YieldsList-end (YieldsList-from_zip (YieldsList-from_vec heads (cc) (cc)) (YieldsList-from_slice cuts (cc))) c.loop-head.yielded c.loop-head.head-iterator c.loop-head.yielded_by
+    c.next.result c.next.new.self c.in-None.is c.next.ensures.steps).0
 
 pub returns-clause-chunks : goal.returns-clause-chunks
 returns-clause-chunks c =
@@ -27,5 +30,7 @@ returns-clause-chunks c =
     let cuts = c.args.cuts.now in
     let place = moved (slice_index c.args.offsets.now) in
     c.loop-head.invariant.chunks
-    ∙ cuts_listed heads cuts c.requires.count (λ cut. place (span_of cut)) c.loop-head.yielded (YieldsList-end (YieldsList-from_zip (YieldsList-from_vec heads (cc) (cc)) (YieldsList-from_slice cuts (cc))) c.loop-head.yielded c.loop-head.head-iterator c.loop-head.yielded_by c.next.result c.next.new.self c.in-None.is c.next.ensures.steps).0
+    ∙ cuts_listed heads cuts c.requires.count (λ cut. place (span_of cut)) c.loop-head.yielded
+    (YieldsList-end (YieldsList-from_zip (YieldsList-from_vec heads (cc) (cc)) (YieldsList-from_slice cuts (cc))) c.loop-head.yielded c.loop-head.head-iterator c.loop-head.yielded_by
+    c.next.result c.next.new.self c.in-None.is c.next.ensures.steps).0
     ∙ sym (map-map place span_of cuts)

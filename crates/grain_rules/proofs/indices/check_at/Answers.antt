@@ -5,12 +5,16 @@ use Rattle.grain_code.specs.declared.op.Op.{Op}
 use Rattle.grain_code.proofs.Instructions.{instr_width}
 use Rattle.grain_code.proofs.Reading.{same_instruction}
 use Rattle.grain_rules.specs.FirstOut.{alone}
+use Rattle.grain_rules.specs.Flaw.{bad_index, undecodable}
 use Rattle.grain_rules.specs.Indices.{IsOut}
 use Rattle.grain_rules.proofs.Indexing.{indexed_more}
 use Rattle.grain_rules.proofs.indices.check_at.Goals as goal
 
 pub unreachable-requires : goal.unreachable-requires
 unreachable-requires g c = let found = c.in-Some.ensures.found in c.in_default-op.ensures.none found.0 found.2
+
+pub returns-in_default-clause-err : goal.returns-in_default-clause-err
+returns-in_default-clause-err g c = undecodable (record { inside = c.requires.inside; front = c.requires.front }) c.in_default.ensures.none
 
 pub returns-in-Ok-clause-ok : goal.returns-in-Ok-clause-ok
 returns-in-Ok-clause-ok g c =
@@ -29,4 +33,5 @@ returns-in-Err-clause-err g c =
     let found = c.in-Some.ensures.found in
     let op = c.in-Some-op.op in
     let same = same_instruction (i.tag ∷ i.fields.now) found.0 op found.2 c.in-Some-op.ensures.found in
-    (record { inside = c.requires.inside; front = c.requires.front }, (op, subst (λ (o : Op). StandsAt c.args.code.now c.args.at o) same found.1, subst (λ (what : List ℕ). IsOut (alone c.args.pools.now) op what c.in-Err.bad.index) (sym c.word_of.ensures) c.in-Err.ensures.err))
+    bad_index op (record { inside = c.requires.inside; front = c.requires.front }) (subst (λ (o : Op). StandsAt c.args.code.now c.args.at o) same found.1)
+    (subst (λ (what : List ℕ). IsOut (alone c.args.pools.now) op what c.in-Err.bad.index) (sym c.word_of.ensures) c.in-Err.ensures.err)

@@ -1,13 +1,11 @@
-use Rattle.std.proofs.Common.{inl, inr, ℕ, List, [], ◌∷◌, ◌++◌, map, get_or, sym, subst, ◌∙◌, ap, refl}
+use Rattle.std.proofs.Common.{inl, inr, ℕ, List, [], ◌++◌, map, get_or, sym, subst, ◌∙◌, ap, refl}
 use Rattle.std.specs.List.{All, Contains}
 use Rattle.std.proofs.lemmas.Result.{err_from_is_err_and}
-use Rattle.grain_pools.specs.Dispatch.{arms, listed}
-use Rattle.grain_verify.specs.Arrivals.{IsStartIn, RefusesSwitch, RefusesTargetOf, all_underway, case_targets, range_targets, underway}
+use Rattle.grain_verify.specs.Arrivals.{IsStartIn, RefusesSwitch, RefusesTargetOf, all_underway, underway}
 use Rattle.grain_rules.specs.Code.{switch_targets}
 use Rattle.grain_rules.specs.Flow.{Switches}
-use Rattle.grain_verify.proofs.Pushing.{in_third}
+use Rattle.grain_verify.proofs.Pushing.{default_named}
 use Rattle.grain_verify.proofs.Refusing.{err_so}
-use Rattle.grain_rules.proofs.Splits.{in_head}
 use Rattle.grain_verify.proofs.edges.push_table.Goals as goal
 
 pub returns-in_err-push_switch-in-None-clause-err : goal.returns-in_err-push_switch-in-None-clause-err
@@ -24,16 +22,17 @@ returns-in-Some-get-clause-err c =
     let switches = map switch_targets c.args.switches.now in
     let known = sym c.get.ensures ∙ c.in-Some-get.is in
     let named : Contains (get_or switches c.args.index []) s.default =
-    subst (λ (ts : List ℕ). Contains ts s.default) (sym c.in-Some.ensures.found.1) (in_third (case_targets (listed (arms s).cases)) (range_targets s.ranges.items) (s.default ∷ []) s.default (in_head s.default [])) in
-    err_so c.check_same.result (λ e h. inr (subst (RefusesSwitch switches (Switches c.args.index) c.args.after c.args.sent.now) (sym h.0) (c.args.index, before, refl, known, h.1, named, refl, refl))) c.check_same.ensures.err
+    subst (λ (ts : List ℕ). Contains ts s.default) (sym c.in-Some.ensures.found.1) (default_named s) in
+    err_so c.check_same.result (λ e h. inr (subst (RefusesSwitch switches (Switches c.args.index) c.args.after c.args.sent.now) (sym h.0)
+    (c.args.index, before, refl, known, h.1, named, refl, refl))) c.check_same.ensures.err
 
 pub returns-in_ok-push_switch-in-None-clause-sends : goal.returns-in_ok-push_switch-in-None-clause-sends
 returns-in_ok-push_switch-in-None-clause-sends c =
     let found = sym c.in-Some.ensures.found.1 in
-    let pushed = c.in_ok-push_switch-in-None.ensures in
+    let pushed = c.in_ok-push_switch-in-None.ensures.pushed in
     let P = IsStartIn c.args.starts.now.starts c.args.chunk.now in
     inl (record {
-      starts_in = subst (All P) found pushed.inside;
-      added = pushed.pushed ∙ ap (λ (ts : List ℕ). map underway c.args.work.now.items ++ all_underway c.args.after ts) found;
+      starts_in = subst (All P) found pushed.starts_in;
+      added = pushed.added ∙ ap (λ (ts : List ℕ). map underway c.args.work.now.items ++ all_underway c.args.after ts) found;
       noted = inr (c.args.index, refl, c.set.ensures);
     })

@@ -34,10 +34,13 @@ loop-chunk-preserved c =
       shared = v.shared;
       one_each = omega (arith, c.push_reserved.ensures.len, c.loop-chunk.invariant.one_each);
       reserved = omega (arith, c.push_reserved.ensures.capacity, c.loop-chunk.invariant.reserved);
-      counted = counted_more code c.args.prepared.now.starts.starts c.args.chunks.now c.loop-chunk.chunk-index c.chunk-item.result c.args.meter.now c.loop-chunk.meter c.verify_chunk.new.meter c.loop-chunk-test.true c.chunk-item.is c.loop-chunk.invariant.counted c.in_ok-needed.needed v.metered;
+      counted = counted_more code c.args.prepared.now.starts.starts c.args.chunks.now c.loop-chunk.chunk-index c.chunk-item.result c.args.meter.now c.loop-chunk.meter
+          c.verify_chunk.new.meter c.loop-chunk-test.true c.chunk-item.is c.loop-chunk.invariant.counted c.in_ok-needed.needed v.metered;
       passes = passes_more code c.args.chunks.now c.loop-chunk.chunk-index c.chunk-item.result c.loop-chunk-test.true c.chunk-item.is c.loop-chunk.invariant.passes v.passes;
-      deepest = rw c.push_reserved.ensures.items (number_more (IsDeepest (coded code)) c.args.chunks.now c.loop-chunk.deepest.items c.loop-chunk.chunk-index c.chunk-item.result c.in_ok-needed.needed c.loop-chunk-test.true c.chunk-item.is c.loop-chunk.invariant.deepest v.deepest);
-      typed = rw c.push_reserved.ensures.items (number_more (HasTyping (coded code)) c.args.chunks.now c.loop-chunk.deepest.items c.loop-chunk.chunk-index c.chunk-item.result c.in_ok-needed.needed c.loop-chunk-test.true c.chunk-item.is c.loop-chunk.invariant.typed v.typed);
+      deepest = rw c.push_reserved.ensures.items (number_more (IsDeepest (coded code)) c.args.chunks.now c.loop-chunk.deepest.items c.loop-chunk.chunk-index c.chunk-item.result
+          c.in_ok-needed.needed c.loop-chunk-test.true c.chunk-item.is c.loop-chunk.invariant.deepest v.deepest);
+      typed = rw c.push_reserved.ensures.items (number_more (HasTyping (coded code)) c.args.chunks.now c.loop-chunk.deepest.items c.loop-chunk.chunk-index c.chunk-item.result
+          c.in_ok-needed.needed c.loop-chunk-test.true c.chunk-item.is c.loop-chunk.invariant.typed v.typed);
     }
 
 pub returns-clause-passes : goal.returns-clause-passes
@@ -51,7 +54,8 @@ pub returns-in_err-needed-clause-metered : goal.returns-in_err-needed-clause-met
 returns-in_err-needed-clause-metered c =
     let p = err_from_is_err_and c.from_residual-in_err-needed.result c.from_residual-in_err-needed.ensures.1 in
     let m = c.in_err-needed.ensures.metered in
-    counted_refused (bytecode_of c.args.prepared.now) c.args.prepared.now.starts.starts c.args.chunks.now c.loop-chunk.chunk-index c.chunk-item.result c.args.meter.now c.loop-chunk.meter c.verify_chunk.new.meter c.loop-chunk-test.true c.chunk-item.is c.loop-chunk.invariant.counted c.in_err-needed.field-0.0 m c.from_residual-in_err-needed.result (p.1 ∙ ap (λ (x : VerifyError). Err x) p.2)
+    counted_refused (bytecode_of c.args.prepared.now) c.args.prepared.now.starts.starts c.args.chunks.now c.loop-chunk.chunk-index c.chunk-item.result c.args.meter.now c.loop-chunk.meter
+    c.verify_chunk.new.meter c.loop-chunk-test.true c.chunk-item.is c.loop-chunk.invariant.counted c.in_err-needed.field-0.0 m c.from_residual-in_err-needed.result (p.1 ∙ ap (λ (x : VerifyError). Err x) p.2)
 
 pub push_reserved-requires : goal.push_reserved-requires
 push_reserved-requires c = omega (arith, c.loop-chunk.invariant.one_each, c.loop-chunk.invariant.reserved, c.loop-chunk-test.true)

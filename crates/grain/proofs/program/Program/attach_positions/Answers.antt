@@ -29,7 +29,8 @@ returns-in_err-sites-clause-flaws c =
     let e = c.in_err-sites.field-0.0 in
     let old = c.args.self.now in
     let s = c.args.sidecar.now in
-    let reads = reads_of old s (places c.in_ok-positions.positions) c.deref.result.now c.deref-2.result.now (c.if-sidecar-self.false ∙ ap (λ (q : Program). q.debug_id) c.self.view_is) c.deref.ensures.value (c.deref-2.ensures.value ∙ ap (λ (q : Program). q.code) c.self.view_is) c.in_ok-positions.ensures.ok in
+    let reads = reads_of old s (places c.in_ok-positions.positions) c.deref.result.now c.deref-2.result.now (c.if-sidecar-self.false ∙ ap (λ (q : Program). q.debug_id) c.self.view_is)
+    c.deref.ensures.value (c.deref-2.ensures.value ∙ ap (λ (q : Program). q.code) c.self.view_is) c.in_ok-positions.ensures.ok in
     rw (p.1, p.2) (elim c.in_err-sites.ensures.err as (λ _. (e ≡ table_error.OutOfMemory) ⊎ SidecarFlaw old s e) [
       | inl memory ↦ inl memory
       | inr flaw ↦ inr (subst (SidecarFlaw old s) (sym flaw.1) (places c.in_ok-positions.positions, reads, subst (λ bytes. StreamFlaw bytes flaw.0) c.deref-3.ensures.value flaw.2))
@@ -52,7 +53,8 @@ returns-then-len-slots-clause-flaws c =
     let s = c.args.sidecar.now in
     let sites = c.in_ok-sites.sites in
     let chains = c.deref-4.ensures.value ∙ ap (λ (q : Program). q.chains) c.self.view_is in
-    let reads = reads_of old s (places c.in_ok-positions.positions) c.deref.result.now c.deref-2.result.now (c.if-sidecar-self.false ∙ ap (λ (q : Program). q.debug_id) c.self.view_is) c.deref.ensures.value (c.deref-2.ensures.value ∙ ap (λ (q : Program). q.code) c.self.view_is) c.in_ok-positions.ensures.ok in
+    let reads = reads_of old s (places c.in_ok-positions.positions) c.deref.result.now c.deref-2.result.now (c.if-sidecar-self.false ∙ ap (λ (q : Program). q.debug_id) c.self.view_is)
+    c.deref.ensures.value (c.deref-2.ensures.value ∙ ap (λ (q : Program). q.code) c.self.view_is) c.in_ok-positions.ensures.ok in
     let counts : length (all_positions c.deref-4.result.now) ≡ length (all_positions old.chains) = ap (λ (cs : List Chain). length (all_positions cs)) chains in
     inr (
       places c.in_ok-positions.positions,
@@ -71,7 +73,8 @@ returns-clause-attached c =
     let old = c.args.self.now in
     let s = c.args.sidecar.now in
     let sites = c.in_ok-sites.sites in
-    let reads = reads_of old s (places c.in_ok-positions.positions) c.deref.result.now c.deref-2.result.now (c.if-sidecar-self.false ∙ ap (λ (q : Program). q.debug_id) c.self.view_is) c.deref.ensures.value (c.deref-2.ensures.value ∙ ap (λ (q : Program). q.code) c.self.view_is) c.in_ok-positions.ensures.ok in
+    let reads = reads_of old s (places c.in_ok-positions.positions) c.deref.result.now c.deref-2.result.now (c.if-sidecar-self.false ∙ ap (λ (q : Program). q.debug_id) c.self.view_is)
+    c.deref.ensures.value (c.deref-2.ensures.value ∙ ap (λ (q : Program). q.code) c.self.view_is) c.in_ok-positions.ensures.ok in
     let chains = c.deref-4.ensures.value ∙ ap (λ (q : Program). q.chains) c.self.view_is in
     let written = with_items_is c.self.inside.parts.chains c.draw_chains.new.chains (let h = c.draw_chains.auto.chains in let k = c.deref_mut.ensures.len in omega arith) in
     let before = c.deref_mut.ensures.value ∙ ap (λ (q : Program). q.chains) c.self.view_is in

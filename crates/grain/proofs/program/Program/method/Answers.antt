@@ -45,10 +45,13 @@ loop-function-preserved c =
       text = c.is_typed.ensures.text ∙ inv.text;
       typed = none_more p fs i f c.loop-function-test.true c.function-item.is c.loop-function.invariant.typed test;
       untyped = elim c.if-is_none.branch [
-        | then-is_none+then-is_untyped w ↦ ap option_copied w.untyped-is ∙ kept_first (λ r. r.now) q fs i f c.loop-function.untyped c.loop-function-test.true c.function-item.is c.loop-function.invariant.untyped w.if-is_none.ensures (sym w.is_untyped.ensures ∙ w.if-is_untyped.true)
+        | then-is_none+then-is_untyped w ↦ ap option_copied w.untyped-is
+            ∙ kept_first (λ r. r.now) q fs i f c.loop-function.untyped c.loop-function-test.true c.function-item.is c.loop-function.invariant.untyped w.if-is_none.ensures (sym w.is_untyped.ensures ∙ w.if-is_untyped.true)
         | else-is_none w ↦ elim w.else-is_none.branch [
-          | else-is_none-via-then-is_none+else-is_untyped v ↦ ap option_copied w.untyped-is ∙ kept_fails q fs i f (option_copied c.loop-function.untyped) c.loop-function-test.true c.function-item.is c.loop-function.invariant.untyped (sym v.is_untyped.ensures ∙ v.if-is_untyped.false)
-          | else-is_none-via-else-is_none v ↦ ap option_copied w.untyped-is ∙ kept_stays (λ r. r.now) q fs i f c.loop-function.untyped c.loop-function-test.true c.function-item.is c.loop-function.invariant.untyped v.if-is_none.ensures
+          | else-is_none-via-then-is_none+else-is_untyped v ↦ ap option_copied w.untyped-is
+              ∙ kept_fails q fs i f (option_copied c.loop-function.untyped) c.loop-function-test.true c.function-item.is c.loop-function.invariant.untyped (sym v.is_untyped.ensures ∙ v.if-is_untyped.false)
+          | else-is_none-via-else-is_none v ↦ ap option_copied w.untyped-is
+              ∙ kept_stays (λ r. r.now) q fs i f c.loop-function.untyped c.loop-function-test.true c.function-item.is c.loop-function.invariant.untyped v.if-is_none.ensures
         ]
       ];
     }

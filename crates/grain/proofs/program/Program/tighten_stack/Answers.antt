@@ -8,7 +8,8 @@ use Rattle.grain.proofs.program.Program.tighten_stack.Goals as goal
 
 pub declare-requires : goal.declare-requires
 declare-requires c =
-    ap (λ (numbers : List ℕ). length numbers) c.deref.ensures.value ∙ AllZip-long (IsDeepest (coded (input_of c.args.self.now).code)) (chunks_of c.args.self.now) c.in_ok-numbers.numbers.items c.in_ok-numbers.ensures.verdict.deepest
+    ap (λ (numbers : List ℕ). length numbers) c.deref.ensures.value
+    ∙ AllZip-long (IsDeepest (coded (input_of c.args.self.now).code)) (chunks_of c.args.self.now) c.in_ok-numbers.numbers.items c.in_ok-numbers.ensures.verdict.deepest
 
 pub returns-clause-ok : goal.returns-clause-ok
 returns-clause-ok c =

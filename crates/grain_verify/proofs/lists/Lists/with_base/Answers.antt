@@ -23,7 +23,9 @@ other_base : (a b : Base) → false ≡ (eqb a.operands b.operands && eqb a.iter
 other_base a b h = grind (arith, nat_tests, common_steps)
 
 -- the first on top of the list has another base
-other_first : (nodes : List Node) (firsts : List ℕ) (elsewhere : Node → Option ℕ) (n f : ℕ) (y : Node) (b : Base) → AreFirsts nodes firsts elsewhere → first_on firsts n ≡ f → (f ≡ 0 → ⊥) → y ≡ get_or nodes (f - 1) y → false ≡ (eqb y.base.operands b.operands && eqb y.base.iterators b.iterators) → (k : ℕ) × (first_on firsts n ≡ suc k) × (is_eq (base_cmp (get_or nodes k no_node).base b) ≡ false)
+other_first : (nodes : List Node) (firsts : List ℕ) (elsewhere : Node → Option ℕ) (n f : ℕ) (y : Node) (b : Base) → AreFirsts nodes firsts elsewhere → first_on firsts n ≡ f
+    → (f ≡ 0 → ⊥) → y ≡ get_or nodes (f - 1) y → false ≡ (eqb y.base.operands b.operands && eqb y.base.iterators b.iterators)
+    → (k : ℕ) × (first_on firsts n ≡ suc k) × (is_eq (base_cmp (get_or nodes k no_node).base b) ≡ false)
 other_first nodes firsts elsewhere n f y b are is some read h =
     let k = some_first f some in
     let inside = first_inside nodes firsts elsewhere n f are is some in
@@ -61,7 +63,8 @@ returns-then-first-eq0-clause-grows c =
     let made = c.in_ok-number.ensures in
     let set_there = c.set_first.ensures in
     let none = sym c.first_on-first.ensures ∙ c.if-first-eq0.true in
-    grows_first old _ x c.requires.shared c.requires.list (ap (λ (v : Vec Node Global). v.items) set_there.nodes ∙ made.nodes) none (set_there.firsts ∙ (λ i. set (made.firsts i) c.args.list (made.number i))) (set_there.others ∙ made.others)
+    grows_first old _ x c.requires.shared c.requires.list (ap (λ (v : Vec Node Global). v.items) set_there.nodes ∙ made.nodes) none
+    (set_there.firsts ∙ (λ i. set (made.firsts i) c.args.list (made.number i))) (set_there.others ∙ made.others)
 
 pub returns-then-first-eq0-clause-list : goal.returns-then-first-eq0-clause-list
 returns-then-first-eq0-clause-list c =
@@ -79,7 +82,8 @@ returns-in-Some-clause-list c =
     let elsewhere : Node → Option ℕ = get node_cmp lists.others in
     let x : Node = record { parent = c.args.list; base = c.args.base } in
     let is = sym c.first_on-first.ensures in
-    let other = other_first lists.nodes.items (firsts_of lists) elsewhere c.args.list c.first_on-first.result c.index.result.now c.args.base are is c.if-first-eq0.false c.index.ensures (sym c.if-eq.false ∙ c.eq.ensures) in
+    let other = other_first lists.nodes.items (firsts_of lists) elsewhere c.args.list c.first_on-first.result c.index.result.now c.args.base are is c.if-first-eq0.false c.index.ensures
+    (sym c.if-eq.false ∙ c.eq.ensures) in
     found_list lists.nodes.items _ x c.in-Some.number c.requires.shared.sharing (other_found lists.nodes.items (firsts_of lists) elsewhere elsewhere x are other.0 other.1 other.2 c.in-Some.number (sym c.in-Some.ensures))
 
 -- or is added to it
@@ -93,7 +97,8 @@ returns-clause-grows c =
     let is = sym c.first_on-first.ensures in
     let other = other_first old.nodes.items (firsts_of old) elsewhere c.args.list c.first_on-first.result c.index.result.now c.args.base are is c.if-first-eq0.false c.index.ensures (sym c.if-eq.false ∙ c.eq.ensures) in
     let finds : get node_cmp c.add-2.new.self.others ≡ elsewhere = ap (get node_cmp) made.others in
-    grows_other old _ x c.requires.shared c.requires.list made.nodes other.0 other.1 other.2 (sym c.in_default.ensures) made.firsts (λ q. c.in_ok-remember.ensures.0 q ∙ (λ i. cond (is_eq (node_cmp x q)) (Some (made.number i)) (finds i q)))
+    grows_other old _ x c.requires.shared c.requires.list made.nodes other.0 other.1 other.2 (sym c.in_default.ensures) made.firsts
+    (λ q. c.in_ok-remember.ensures.0 q ∙ (λ i. cond (is_eq (node_cmp x q)) (Some (made.number i)) (finds i q)))
 
 pub returns-clause-list : goal.returns-clause-list
 returns-clause-list c =

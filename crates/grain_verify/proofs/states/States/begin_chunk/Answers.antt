@@ -21,7 +21,10 @@ returns c =
           let n = length old.entries.items in
           let same_len : vec_len old.entries ≡ n = omega (arith, old.entries.ok) in
           let items : w.fill.new.self.items ≡ replicate n none = w.fill.ensures.items (λ y same. same) ∙ ap (λ k. replicate k none) same_len in
-          rw (w.self-inside-is) (subst (All (λ (e : Entry). 2 ^ 32 - 1 - 1 < e.chunk)) (sym items) (All-replicate (λ (e : Entry). 2 ^ 32 - 1 - 1 < e.chunk) n none (omega arith)), ap (λ (es : List Entry). length es) items ∙ length-replicate n none)
+          rw (w.self-inside-is) (
+            subst (All (λ (e : Entry). 2 ^ 32 - 1 - 1 < e.chunk)) (sym items) (All-replicate (λ (e : Entry). 2 ^ 32 - 1 - 1 < e.chunk) n none (omega arith)),
+            ap (λ (es : List Entry). length es) items ∙ length-replicate n none,
+          )
       | else-self-eq0 w ↦ rw (w.self-inside-is) (λ k d l. (let h = c.self.invariant.later k d l in let f = w.if-self-eq0.false in omega arith), refl)
     ] in
     nothing_later (after.chunk - 1) after.entries.items known.0 ∙ ap (λ n. replicate n no_state) (known.1 ∙ sym long)

@@ -1,72 +1,62 @@
-use Rattle.std.proofs.Common.{◌≡◌, ◌⊎◌, ◌∷◌, ◌++◌, inl, inr, subst, arith}
+use Rattle.std.proofs.Common.{◌≡◌, ◌⊎◌, ◌∷◌, ◌++◌, inl, inr, refl, subst, arith}
 use Rattle.std.specs.Option.{option_to_list}
 use Rattle.std.specs.List.{Contains}
-use Rattle.std.proofs.lemmas.Result.{IfOk-weaker}
 use Rattle.grain_code.specs.InstructionTable.{width_of}
 use Rattle.grain_code.proofs.Instructions.{instr_width}
 use Rattle.grain_verify.specs.Arrivals.{view}
 use Rattle.grain_rules.specs.Capabilities.{Allows}
 use Rattle.grain_rules.specs.Code.{coded}
 use Rattle.grain_rules.specs.Flaw.{ChunkFlaw}
-use Rattle.grain_rules.specs.Flow.{Flow, targets_for}
+use Rattle.grain_rules.specs.Flow.{Flow}
+use Rattle.grain_rules.specs.FlowFields.{targets_for}
 use Rattle.grain_verify.specs.FlowView.{IsMetBy, flow}
 use Rattle.grain_rules.specs.Typing.{StandsIn}
 use Rattle.grain_verify.specs.Walk.{bytecode_of}
 use Rattle.grain_rules.specs.declared.error.VerifyError.TheVariants.{OutOfMemory}
 use Rattle.grain_verify.proofs.Flows.{passes_known, short_state}
 use Rattle.grain_verify.proofs.Most.{followed_few}
-use Rattle.grain_verify.proofs.NamedLists.{grows_not}
 use Rattle.grain_verify.proofs.Ordinals.{ordinal_low}
 use Rattle.grain_verify.proofs.Refusing.{all_ok, err_so, refused_state, refused_target}
 use Rattle.grain_rules.proofs.Splits.{boundary_apart}
-use Rattle.grain_verify.proofs.Turns.{halts_inside, halts_named, halts_place, halts_reached, halts_room, halts_small, refused_switch, visited}
+use Rattle.grain_verify.proofs.Taking.{taken_inside, taken_named, taken_place, taken_reached, taken_room, taken_small}
+use Rattle.grain_verify.proofs.Turns.{refused_switch, visited}
 use Rattle.grain_verify.proofs.walk.Prepared.follow_passing.Goals as goal
 
 pub follow-requires-clause-list : goal.follow-requires-clause-list
 follow-requires-clause-list c =
-    let t = c.args.traversal.now in
-    let before = c.args.lists.now in
-    let halts = c.requires.halts in
-    halts_named c.args.self.now c.args.chunk.now t before before c.args.here halts.0 (grows_not before halts.1.is.known.shared) halts.1
+    let halts = c.requires.marked.halts in
+    taken_named _ _ halts.1.is
 
 pub follow-requires-clause-lists_room : goal.follow-requires-clause-lists_room
 follow-requires-clause-lists_room c =
-    let t = c.args.traversal.now in
-    let before = c.args.lists.now in
-    let halts = c.requires.halts in
-    let room = halts_room c.args.self.now c.args.chunk.now t before before c.args.here halts.0 (grows_not before halts.1.is.known.shared) halts.1 in
+    let halts = c.requires.marked.halts in
+    let room = taken_room _ _ halts.1.is halts.1.within c.requires.marked.ready halts.1.fresh in
     let few = halts.1.is.known.few in
     let fits = halts.1.addresses in
     omega (arith, room, few, fits)
 
 pub follow-requires-clause-operands_room : goal.follow-requires-clause-operands_room
 follow-requires-clause-operands_room c =
-    let t = c.args.traversal.now in
-    let before = c.args.lists.now in
-    let halts = c.requires.halts in
-    let s = halts_small c.args.self.now c.args.chunk.now t before before c.args.here halts.0 (grows_not before halts.1.is.known.shared) halts.1 in
+    let halts = c.requires.marked.halts in
+    let s = taken_small _ _ halts.1.is halts.1.within c.requires.marked.ready halts.1.fresh in
     let fits = halts.1.addresses in
     omega (arith, s.0)
 
 pub follow-requires-clause-iterators_room : goal.follow-requires-clause-iterators_room
 follow-requires-clause-iterators_room c =
-    let t = c.args.traversal.now in
-    let before = c.args.lists.now in
-    let halts = c.requires.halts in
-    let s = halts_small c.args.self.now c.args.chunk.now t before before c.args.here halts.0 (grows_not before halts.1.is.known.shared) halts.1 in
+    let halts = c.requires.marked.halts in
+    let s = taken_small _ _ halts.1.is halts.1.within c.requires.marked.ready halts.1.fresh in
     let fits = halts.1.addresses in
     omega (arith, s.1)
 
 pub follow-requires-clause-room : goal.follow-requires-clause-room
 follow-requires-clause-room c =
     let self = c.args.self.now in
-    let t = c.args.traversal.now in
-    let before = c.args.lists.now in
     let i = c.args.instruction.now in
     let op = c.requires.passing.op in
-    let halts = c.requires.halts in
-    let within = halts_inside self c.args.chunk.now t before before c.args.here halts.0 (grows_not before halts.1.is.known.shared) halts.1 in
-    let apart = boundary_apart self.code.now c.args.here.at c.args.chunk.now.end op within.place c.requires.framed.end c.requires.passing.stands within.end in
+    let halts = c.requires.marked.halts in
+    let within = taken_inside _ _ halts.1.is halts.1.within in
+    let apart = boundary_apart self.code.now c.args.here.at c.args.chunk.now.end op within.place c.requires.marked.framed.end c.requires.passing.stands within.end in
     let wide = instr_width (i.tag ∷ i.fields.now) op c.requires.passing.is in
     let fits = halts.1.addresses in
     omega (arith, apart, wide, c.width.ensures)
@@ -74,11 +64,9 @@ follow-requires-clause-room c =
 pub follow-requires-clause-ordinal_room : goal.follow-requires-clause-ordinal_room
 follow-requires-clause-ordinal_room c =
     let self = c.args.self.now in
-    let t = c.args.traversal.now in
-    let before = c.args.lists.now in
-    let halts = c.requires.halts in
-    let place = halts_place self c.args.chunk.now t before before c.args.here halts.0 (grows_not before halts.1.is.known.shared) halts.1 in
-    let low = ordinal_low self.code.now self.starts.starts c.requires.ready.starts c.args.here.ordinal c.args.here.at place in
+    let halts = c.requires.marked.halts in
+    let place = taken_place _ _ halts.1.is halts.1.within in
+    let low = ordinal_low self.code.now self.starts.starts c.requires.marked.ready.starts c.args.here.ordinal c.args.here.at place in
     omega (arith, low)
 
 pub returns-clause-err : goal.returns-clause-err
@@ -90,26 +78,30 @@ returns-clause-err c =
     let t = c.args.traversal.now in
     let before = c.args.lists.now in
     let counts = view before here.state in
-    let halts = c.requires.halts in
-    let grows = grows_not before halts.1.is.known.shared in
+    let halts = c.requires.marked.halts in
     let op = c.requires.passing.op in
     let does = c.args.effect in
     let known = c.requires.passing.does in
-    let asked = known.asks code.setting c.requires.ready.asked in
+    let operands = known.operands code.setting refl in
+    let asked = known.asks code.setting c.requires.marked.ready.asked in
     let found = c.requires.passing in
-    let reached = halts_reached self chunk t before before here halts.0 grows halts.1 in
-    let stands : StandsIn (coded code) chunk here.at op = record { within = halts_inside self chunk t before before here halts.0 grows halts.1; is = c.requires.passing.stands } in
+    let reached = taken_reached _ _ halts.1.is in
+    let stands : StandsIn (coded code) chunk here.at op = record { within = taken_inside _ _ halts.1.is halts.1.within; is = c.requires.passing.stands } in
     let stays = c.requires.passing.stays in
-    let passes = λ (met : IsMetBy (flow does.flow does.target) counts). passes_known code chunk here.at op counts does.asks.0 does.needs does.takes does.gives (flow does.flow does.target) stands asked known.operands known.flow_is found.allowed found.there met stays in
+    let passes = λ (met : IsMetBy (flow does.flow does.target) counts). passes_known code chunk here.at op counts does.asks.0 does.needs does.takes does.gives (flow does.flow does.target)
+    stands asked operands known.flow_is found.allowed found.there met stays in
     err_so c.follow.result (λ e refused. elim refused as (λ _. (e ≡ OutOfMemory) ⊎ ChunkFlaw code chunk e) [
-      | inl short ↦ inr (refused_state code chunk here.at op counts e c.requires.framed (record { reached = reached; stands = stands }) (short_state code op here.at counts (flow does.flow does.target) e known.flow_is (subst (Allows code.setting.caps) asked found.allowed) short))
+      | inl short ↦ inr (refused_state code chunk here.at op counts e c.requires.marked.framed (record { reached = reached; stands = stands })
+          (short_state code op here.at counts (flow does.flow does.target) e known.flow_is (subst (Allows code.setting.caps) asked found.allowed) short))
       | inr (met, inl (inl m)) ↦ inl m
-      | inr (met, inl (inr (x, named, bad))) ↦ inr (refused_target code self.starts.starts chunk here.at x e c.requires.ready.starts c.requires.framed (record { counts = counts; op = op; reached = reached; passes = passes met; names = subst (λ (f : Flow). Contains (targets_for code.switches f) x) known.flow_is named }) bad)
-      | inr (met, inr unlike) ↦ inr (refused_switch self chunk t before here halts.0 op does.needs does.takes does.gives (flow does.flow does.target) e c.requires.framed halts.1 known.operands known.flow_is (passes met) unlike)
+      | inr (met, inl (inr (x, named, bad))) ↦ inr (refused_target code self.starts.starts chunk here.at x e c.requires.marked.ready.starts c.requires.marked.framed
+          (record { counts = counts; op = op; reached = reached; passes = passes met; names = subst (λ (f : Flow). Contains (targets_for code.switches f) x) known.flow_is named }) bad)
+      | inr (met, inr unlike) ↦ inr (refused_switch self chunk t before here halts.0 op does.needs does.takes does.gives (flow does.flow does.target) e c.requires.marked.framed halts.1
+          operands known.flow_is (passes met) unlike)
     ]) c.follow.ensures.err
 
-pub returns-clause-ok : goal.returns-clause-ok
-returns-clause-ok c deepest halts =
+pub returns-clause-visited : goal.returns-clause-visited
+returns-clause-visited c =
     let self = c.args.self.now in
     let code = bytecode_of self in
     let before = c.args.lists.now in
@@ -118,14 +110,14 @@ returns-clause-ok c deepest halts =
     let op = c.requires.passing.op in
     let does = c.args.effect in
     let known = c.requires.passing.does in
+    let operands = known.operands code.setting refl in
     let found = c.requires.passing in
-    let stays = c.requires.passing.stays in
-    let wide : c.width.result ≡ width_of op = let e = c.width.ensures in let w = instr_width (i.tag ∷ i.fields.now) op c.requires.passing.is in omega arith in
+    let wide : c.width.result ≡ width_of op = let e = c.width.ensures in let w = instr_width (i.tag ∷ i.fields.now) op found.is in omega arith in
     let done = c.follow.ensures in
-    all_ok c.follow.result done.grows done.met done.states done.long (λ next grows met states long followed.
-    visited self c.args.chunk.now c.args.traversal.now new c.args.here deepest op c.width.result c.requires.ready c.requires.framed before c.follow.new.lists grows halts c.requires.passing.stands wide does.asks.0 does.needs does.takes does.gives (flow does.flow does.target) (new.work.items ++ option_to_list next) (known.asks code.setting c.requires.ready.asked) known.operands known.flow_is found.allowed found.there met stays followed states long) done.followed
-
-pub returns-clause-few : goal.returns-clause-few
-returns-clause-few c =
-    let new = c.follow.new.traversal in
-    IfOk-weaker c.follow.result _ _ (λ next followed. followed_few _ c.args.chunk.now _ _ _ _ _ _ _ _ _ c.args.traversal.now.work.items (new.work.items ++ option_to_list next) followed) c.follow.ensures.followed
+    all_ok c.follow.result done.grows done.met done.states done.long (λ next grows met states long followed. record {
+      walking = λ deepest halts. visited self c.args.chunk.now c.args.traversal.now new c.args.here deepest op c.width.result c.requires.marked.ready c.requires.marked.framed before
+          c.follow.new.lists grows halts found.stands wide does.asks.0 does.needs does.takes does.gives (flow does.flow does.target) (new.work.items ++ option_to_list next)
+          (known.asks code.setting c.requires.marked.ready.asked) operands known.flow_is found.allowed found.there met found.stays followed states long;
+      states = states;
+      few = followed_few _ c.args.chunk.now _ _ _ _ _ _ _ _ _ c.args.traversal.now.work.items (new.work.items ++ option_to_list next) followed;
+    }) done.followed

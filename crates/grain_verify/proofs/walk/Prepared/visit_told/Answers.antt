@@ -1,18 +1,17 @@
-use Rattle.std.proofs.Common.{◌≡◌, ◌-◌, ◌++◌, IfNone, IfSome, Option, ap, sym, subst, ◌∙◌, arith}
+use Rattle.std.proofs.Common.{◌≡◌, ◌-◌, IfNone, IfSome, Option, ap, sym, subst, ◌∙◌, arith}
 use Rattle.std.specs.Option.{option_to_list}
 use Rattle.grain_verify.specs.Arrivals.{view}
 use Rattle.grain_rules.specs.Capabilities.{Allows}
 use Rattle.grain_rules.specs.Counts.{Base, last_base}
-use Rattle.grain_rules.specs.Flow.{iterators_for}
+use Rattle.grain_rules.specs.FlowFields.{iterators_for}
 use Rattle.grain_verify.specs.FlowView.{flow}
-use Rattle.grain_verify.specs.Plain.{GoesOn, LeavesFloor}
-use Rattle.grain_verify.specs.Progress.{IsWalking}
+use Rattle.grain_verify.specs.Plain.{GoesOn}
 use Rattle.grain_rules.specs.Sinking.{ReachesUpTo}
+use Rattle.grain_verify.specs.Visits.{CarriesFloor, IsVisited}
 use Rattle.grain_verify.specs.Walk.{bytecode_of}
 use Rattle.grain_verify.specs.declared.flow.Flow.{Flow}
 use Rattle.grain_verify.specs.declared.state.Arrival.{Arrival}
 use Rattle.grain_verify.proofs.Flows.{goes_freely, nothing_missing}
-use Rattle.grain_rules.proofs.Indexing.{tag_of}
 use Rattle.grain_verify.proofs.Staying.{untouched_known}
 use Rattle.grain_verify.proofs.walk.Prepared.visit_told.Goals as goal
 
@@ -26,39 +25,36 @@ follow_passing-requires-clause-passing c =
     let told = c.args.told.now in
     let does = c.effect_told-effect.result in
     let e = c.effect_told-effect.ensures in
-    let known = e.does op is (c.requires.told op (tag_of i.tag i.fields.now op is ∙ c.instruction_at-instruction.ensures.tag)) in
+    let known = e.does op is in
     let (floor, is_floor, above) = c.requires.above in
     let counts = view c.args.lists.now here.state in
     let needed : iterators_for (flow does.flow does.target) ≡ 0 = ap (λ w. iterators_for (flow w does.target)) e.flow ∙ goes_freely c.args.way does.target c.requires.goes_on in
     let left : Base = record { operands = counts.operands - does.takes; iterators = counts.iterators - iterators_for (flow does.flow does.target) } in
-    let reaches = is_floor (here.state.operands - told.takes) (omega arith) (omega (arith, above, c.requires.there)) in
+    let reaches = is_floor (here.state.operands - told.takes) (omega arith) (omega (arith, above, c.requires.row.there)) in
     record {
       op = op;
       stands = c.instruction_at-instruction.ensures.found.1;
       is = is;
-      does = record { operands = known.operands setting.chains; asks = λ s asked. known.asks s; flow_is = known.flow_is };
+      does = record { operands = λ s same. known.operands s; asks = λ s asked. known.asks s; flow_is = known.flow_is };
       allowed = subst (Allows setting.caps) (sym e.asks) (nothing_missing setting.caps);
       there = omega (arith, e.needs, above);
-      stays = λ loud. subst (ReachesUpTo (last_base counts.bases)) (untouched_known setting op counts does.needs does.takes does.gives (flow does.flow does.target) (known.operands setting.chains) known.flow_is) (record { operands = (let r = reaches.operands in omega (arith, r, e.takes)); iterators = (let r = reaches.iterators in omega (arith, r, needed)) });
+      stays = λ loud. subst (ReachesUpTo (last_base counts.bases))
+          (untouched_known setting op counts does.needs does.takes does.gives (flow does.flow does.target) (known.operands setting) known.flow_is)
+          (record { operands = (let r = reaches.operands in omega (arith, r, e.takes)); iterators = (let r = reaches.iterators in omega (arith, r, needed)) });
     }
-
-pub effect_told-effect-requires-clause-tells : goal.effect_told-effect-requires-clause-tells
-effect_told-effect-requires-clause-tells c =
-    let i = c.instruction_at-instruction.result in
-    let (op, stands, is) = c.instruction_at-instruction.ensures.found in
-    (op, is, c.requires.told op (tag_of i.tag i.fields.now op is ∙ c.instruction_at-instruction.ensures.tag))
 
 pub unreachable-requires : goal.unreachable-requires
 unreachable-requires c =
     let goes = c.in_ok-next.ensures.goes_on (subst GoesOn (sym c.effect_told-effect.ensures.flow) c.requires.goes_on) in
     subst (λ (o : Option Arrival). IfNone o ⊥) c.in-None.is goes
 
-pub returns-clause-ok : goal.returns-clause-ok
-returns-clause-ok c deepest halts =
-    let new = c.follow_passing.new.traversal in
-    subst (λ (o : Option Arrival). IsWalking c.args.self.now c.args.chunk.now c.follow_passing.new.lists new (new.work.items ++ option_to_list o) deepest) c.in-Some.is (c.in_ok-next.ensures.ok deepest halts)
+pub returns-clause-visited : goal.returns-clause-visited
+returns-clause-visited c =
+    let new = c.follow_passing.new in
+    subst (λ (o : Option Arrival). IsVisited c.args.self.now c.args.chunk.now c.args.lists.now new.lists c.args.traversal.now new.traversal c.args.here (option_to_list o)) c.in-Some.is c.in_ok-next.ensures.visited
 
 pub returns-clause-floor : goal.returns-clause-floor
-returns-clause-floor c floor is =
-    let known = subst (λ (o : Option Arrival). IfSome o (λ a. LeavesFloor c.effect_told-effect.result.flow floor c.follow_passing.new.lists a.state)) c.in-Some.is (c.in_ok-next.ensures.floor floor is) in
-    subst (λ (w : Flow). LeavesFloor w floor c.follow_passing.new.lists c.in-Some.next.state) c.effect_told-effect.ensures.flow known
+returns-clause-floor c =
+    let carries : Flow → Arrival → Type 0 = λ w a. CarriesFloor w c.args.lists.now c.follow_passing.new.lists c.args.here.state a.state in
+    let known = subst (λ (o : Option Arrival). IfSome o (carries c.effect_told-effect.result.flow)) c.in-Some.is c.in_ok-next.ensures.floor in
+    subst (λ (w : Flow). carries w c.in-Some.next) c.effect_told-effect.ensures.flow known

@@ -1,64 +1,64 @@
-use Rattle.std.proofs.Common.{inr, ◌+◌, ◌≤◌, ◌++◌, List, Option, Some, length, refl, sym, ap, subst, ◌∙◌, arith}
+use Rattle.std.proofs.Common.{inr, ◌+◌, List, Option, Some, length, refl, sym, ap, subst, ◌∙◌, arith}
 use Rattle.std.specs.Option.{option_to_list}
-use Rattle.std.proofs.lemmas.List.{append-nil, length_push}
+use Rattle.std.proofs.lemmas.List.{append-nil}
 use Rattle.grain_rules.specs.Flaw.{ChunkFlaw}
-use Rattle.grain_verify.specs.Progress.{IsWalking, all_targets, visits_in}
+use Rattle.grain_verify.specs.Progress.{IsWalking, visits_in}
+use Rattle.grain_verify.specs.Visits.{IsVisited}
 use Rattle.grain_verify.specs.Walk.{bytecode_of}
 use Rattle.grain_verify.specs.declared.state.Arrival.{Arrival}
 use Rattle.grain_verify.specs.declared.state.State.{State}
-use Rattle.grain_verify.proofs.Most.{lighter_still}
-use Rattle.grain_verify.proofs.NamedLists.{grows_not}
+use Rattle.grain_verify.proofs.Most.{lighter_still, lighter_visited, next_visited}
 use Rattle.grain_verify.proofs.Ordinals.{ordinal_low}
 use Rattle.grain_verify.proofs.Refusing.{err_so, ok_so}
 use Rattle.grain_rules.proofs.Splits.{boundary_apart}
-use Rattle.grain_verify.proofs.Turns.{halts_inside, halts_place, halts_small}
-use Rattle.grain_verify.proofs.Visiting.{off_conflicts, off_falls, off_inside, off_known, off_named, off_skipped, off_within, plain_visited}
+use Rattle.grain_verify.proofs.Taking.{taken_conflicts, taken_falls, taken_inside, taken_known, taken_named, taken_place, taken_skipped, taken_small, taken_within}
+use Rattle.grain_verify.proofs.Visiting.{plain_visited}
 use Rattle.grain_verify.proofs.walk.Prepared.walk_from.Goals as goal
 
 pub others-init : goal.others-init
 others-init c = record { walking = c.requires.walking; floor = c.floor-floor.ensures.floor; small = c.floor-floor.ensures.small; counted = c.requires.counted; lighter = omega arith }
 
 pub head_at-requires-clause-place : goal.head_at-requires-clause-place
-head_at-requires-clause-place c = off_inside c.args.self.now c.args.chunk.now c.others.lists _ _ _ c.others.here _ refl c.others.invariant.walking
+head_at-requires-clause-place c = taken_inside _ _ c.others.invariant.walking
 
 pub get-requires : goal.get-requires
-get-requires c = off_known c.args.self.now c.args.chunk.now c.others.lists _ _ _ c.others.here _ refl c.others.invariant.walking c.in-Some.ensures.inside
+get-requires c = taken_known _ _ c.others.invariant.walking c.in-Some.ensures.inside
 
 pub returns-in-Some-get-clause-walking : goal.returns-in-Some-get-clause-walking
 returns-in-Some-get-clause-walking c =
-    let t = c.others.traversal in
-    ok_so c.check_same.result (λ same. off_skipped c.args.self.now c.args.chunk.now c.others.lists t _ t.work.items c.others.here _ refl c.others.invariant.walking t refl refl c.in-Some.ensures.inside (sym c.get.ensures ∙ (c.in-Some-get.is ∙ ap (λ (s : State). Some s) same))) c.check_same.ensures.ok
+    ok_so c.check_same.result (λ same. taken_skipped _ _ c.others.invariant.walking c.in-Some.ensures.inside (sym c.get.ensures ∙ (c.in-Some-get.is ∙ ap (λ (s : State). Some s) same))) c.check_same.ensures.ok
 
 pub returns-in-Some-get-clause-within : goal.returns-in-Some-get-clause-within
 returns-in-Some-get-clause-within c =
-    let few = off_within c.args.self.now c.args.chunk.now c.others.lists _ _ _ c.others.here _ refl c.others.invariant.walking c.requires.ready in
+    let few = taken_within _ _ c.others.invariant.walking c.requires.ready in
     omega (arith, few, c.others.invariant.counted)
 
 pub returns-in-Some-get-clause-err : goal.returns-in-Some-get-clause-err
 returns-in-Some-get-clause-err c =
     let flaw = ChunkFlaw (bytecode_of c.args.self.now) c.args.chunk.now in
-    err_so c.check_same.result (λ e unlike. inr (subst flaw (sym unlike.0) (off_conflicts c.args.self.now c.args.chunk.now c.others.lists _ _ _ c.others.here _ refl c.others.invariant.walking c.in-Some-get.before c.requires.framed c.in-Some.ensures.inside (sym c.get.ensures ∙ c.in-Some-get.is) unlike.1))) c.check_same.ensures.err
+    let conflicts = taken_conflicts _ _ c.others.invariant.walking c.in-Some.ensures.inside c.in-Some-get.before c.requires.framed (sym c.get.ensures ∙ c.in-Some-get.is) in
+    err_so c.check_same.result (λ e unlike. inr (subst flaw (sym unlike.0) (conflicts unlike.1))) c.check_same.ensures.err
 
 pub plain_next-requires-clause-room : goal.plain_next-requires-clause-room
 plain_next-requires-clause-room c =
     let self = c.args.self.now in
     let head = c.in-Some.ensures.headed in
     let halts = c.mark.ensures.halts in
-    let within = halts_inside self c.args.chunk.now _ _ _ c.others.here _ (grows_not c.others.lists halts.is.known.shared) halts in
+    let within = taken_inside _ _ halts.is halts.within in
     let apart = boundary_apart self.code.now c.others.here.at c.args.chunk.now.end head.op within.place c.requires.framed.end head.stands within.end in
     omega (arith, apart, head.width, c.in-Some.ensures.addresses)
 
 pub plain_next-requires-clause-operands_room : goal.plain_next-requires-clause-operands_room
 plain_next-requires-clause-operands_room c =
     let halts = c.mark.ensures.halts in
-    let small = halts_small c.args.self.now c.args.chunk.now _ _ _ c.others.here _ (grows_not c.others.lists halts.is.known.shared) halts in
+    let small = taken_small _ _ halts.is halts.within c.requires.ready halts.fresh in
     omega (arith, small.0, c.in-Some.ensures.addresses)
 
 pub plain_next-requires-clause-ordinal_room : goal.plain_next-requires-clause-ordinal_room
 plain_next-requires-clause-ordinal_room c =
     let self = c.args.self.now in
     let halts = c.mark.ensures.halts in
-    let place = halts_place self c.args.chunk.now _ _ _ c.others.here _ (grows_not c.others.lists halts.is.known.shared) halts in
+    let place = taken_place _ _ halts.is halts.within in
     let low = ordinal_low self.code.now self.starts.starts c.requires.ready.starts c.others.here.ordinal c.others.here.at place in
     omega (arith, low, c.in-Some.ensures.inside, c.in-Some.ensures.addresses)
 
@@ -85,11 +85,11 @@ others-preserved-then-above c =
     let done = c.mark.ensures in
     let told = c.in_ok-here-in-Jumps.ensures in
     record {
-      walking = told.ok c.mark.new.deepest done.halts;
+      walking = told.visited.walking c.mark.new.deepest done.halts;
       floor = told.floor c.others.floor c.others.invariant.floor;
       small = c.others.invariant.small;
-      counted = done.counted ∙ sym (ap visits_in told.states);
-      lighter = (let less = lighter_still c.args.self.now c.others.traversal c.mark.new.traversal c.visit_told.new.traversal _ _ done.more done.long done.work told.states told.few c.others.invariant.lighter in omega (arith, less));
+      counted = done.counted ∙ sym (ap visits_in told.visited.states);
+      lighter = lighter_visited _ _ _ _ c.others.traversal c.mark.new.traversal _ _ _ _ done.more done.long done.work told.visited c.others.invariant.lighter;
     }
 
 pub visit_told-requires-in-Branches-clause-above : goal.visit_told-requires-in-Branches-clause-above
@@ -100,11 +100,11 @@ others-preserved-then-above-2 c =
     let done = c.mark.ensures in
     let told = c.in_ok-here-in-Branches.ensures in
     record {
-      walking = told.ok c.mark.new.deepest done.halts;
+      walking = told.visited.walking c.mark.new.deepest done.halts;
       floor = told.floor c.others.floor c.others.invariant.floor;
       small = c.others.invariant.small;
-      counted = done.counted ∙ sym (ap visits_in told.states);
-      lighter = (let less = lighter_still c.args.self.now c.others.traversal c.mark.new.traversal c.visit_told-in-Branches.new.traversal _ _ done.more done.long done.work told.states told.few c.others.invariant.lighter in omega (arith, less));
+      counted = done.counted ∙ sym (ap visits_in told.visited.states);
+      lighter = lighter_visited _ _ _ _ c.others.traversal c.mark.new.traversal _ _ _ _ done.more done.long done.work told.visited c.others.invariant.lighter;
     }
 
 pub visit_told-requires-in-PushesHandler-clause-above : goal.visit_told-requires-in-PushesHandler-clause-above
@@ -116,71 +116,69 @@ others-preserved-then-above-3 c =
     let told = c.in_ok-here-in-PushesHandler.ensures in
     let is_floor = told.floor c.others.floor c.others.invariant.floor in
     record {
-      walking = told.ok c.mark.new.deepest done.halts;
+      walking = told.visited.walking c.mark.new.deepest done.halts;
       floor = λ n l up. is_floor n l (omega (arith, up, c.floor_armed-floor.ensures.floor));
       small = c.floor_armed-floor.ensures.small;
-      counted = done.counted ∙ sym (ap visits_in told.states);
-      lighter = (let less = lighter_still c.args.self.now c.others.traversal c.mark.new.traversal c.visit_told-in-PushesHandler.new.traversal _ _ done.more done.long done.work told.states told.few c.others.invariant.lighter in omega (arith, less));
+      counted = done.counted ∙ sym (ap visits_in told.visited.states);
+      lighter = lighter_visited _ _ _ _ c.others.traversal c.mark.new.traversal _ _ _ _ done.more done.long done.work told.visited c.others.invariant.lighter;
     }
 
 pub visit_told-requires-in-PopsHandler-clause-above : goal.visit_told-requires-in-PopsHandler-clause-above
 visit_told-requires-in-PopsHandler-clause-above c = (c.others.floor, c.others.invariant.floor, omega (arith, c.from.ensures, c.from-in-Some.ensures, c.if-above-4.true))
 
 pub floor-floor-requires-in-PopsHandler-clause-shared : goal.floor-floor-requires-in-PopsHandler-clause-shared
-floor-floor-requires-in-PopsHandler-clause-shared c = (c.in_ok-here-in-PopsHandler.ensures.ok c.mark.new.deepest c.mark.ensures.halts).known.shared
+floor-floor-requires-in-PopsHandler-clause-shared c = (c.in_ok-here-in-PopsHandler.ensures.visited.walking c.mark.new.deepest c.mark.ensures.halts).known.shared
 
 pub floor-floor-requires-in-PopsHandler-clause-list : goal.floor-floor-requires-in-PopsHandler-clause-list
 floor-floor-requires-in-PopsHandler-clause-list c =
-    off_named c.args.self.now c.args.chunk.now _ _ _ _ c.in_ok-here-in-PopsHandler.here _ refl (c.in_ok-here-in-PopsHandler.ensures.ok c.mark.new.deepest c.mark.ensures.halts)
+    taken_named _ _ (c.in_ok-here-in-PopsHandler.ensures.visited.walking c.mark.new.deepest c.mark.ensures.halts)
 
 pub others-preserved-then-above-4 : goal.others-preserved-then-above-4
 others-preserved-then-above-4 c =
     let done = c.mark.ensures in
     let told = c.in_ok-here-in-PopsHandler.ensures in
     record {
-      walking = told.ok c.mark.new.deepest done.halts;
+      walking = told.visited.walking c.mark.new.deepest done.halts;
       floor = c.floor-floor-in-PopsHandler.ensures.floor;
       small = c.floor-floor-in-PopsHandler.ensures.small;
-      counted = done.counted ∙ sym (ap visits_in told.states);
-      lighter = (let less = lighter_still c.args.self.now c.others.traversal c.mark.new.traversal c.visit_told-in-PopsHandler.new.traversal _ _ done.more done.long done.work told.states told.few c.others.invariant.lighter in omega (arith, less));
+      counted = done.counted ∙ sym (ap visits_in told.visited.states);
+      lighter = lighter_visited _ _ _ _ c.others.traversal c.mark.new.traversal _ _ _ _ done.more done.long done.work told.visited c.others.invariant.lighter;
     }
 
 pub returns-in_default-2-clause-walking : goal.returns-in_default-2-clause-walking
 returns-in_default-2-clause-walking c =
-    let new = c.visit.new.traversal in
-    let w = subst (λ (o : Option Arrival). IsWalking c.args.self.now c.args.chunk.now c.visit.new.lists new (new.work.items ++ option_to_list o) c.mark.new.deepest) c.in_default-2.is (c.in_ok-next-in_default-flow.ensures.ok c.mark.new.deepest c.mark.ensures.halts) in
-    subst (λ (xs : List Arrival). IsWalking c.args.self.now c.args.chunk.now c.visit.new.lists new xs c.mark.new.deepest) (append-nil new.work.items) w
+    let new = c.visit.new in
+    let at : Option Arrival → Type 0 = λ o. IsVisited c.args.self.now c.args.chunk.now c.others.lists new.lists c.mark.new.traversal new.traversal c.others.here (option_to_list o) in
+    let visited = subst at c.in_default-2.is c.in_ok-next-in_default-flow.ensures.visited in
+    subst (λ (xs : List Arrival). IsWalking c.args.self.now c.args.chunk.now new.lists new.traversal xs c.mark.new.deepest) (append-nil new.traversal.work.items) (visited.walking c.mark.new.deepest c.mark.ensures.halts)
 
 pub floor-floor-requires-in_default-flow-clause-shared : goal.floor-floor-requires-in_default-flow-clause-shared
-floor-floor-requires-in_default-flow-clause-shared c = (c.in_ok-next-in_default-flow.ensures.ok c.mark.new.deepest c.mark.ensures.halts).known.shared
+floor-floor-requires-in_default-flow-clause-shared c = (c.in_ok-next-in_default-flow.ensures.visited.walking c.mark.new.deepest c.mark.ensures.halts).known.shared
 
 pub floor-floor-requires-in_default-flow-clause-list : goal.floor-floor-requires-in_default-flow-clause-list
 floor-floor-requires-in_default-flow-clause-list c =
-    let new = c.visit.new.traversal in
-    let w = subst (λ (o : Option Arrival). IsWalking c.args.self.now c.args.chunk.now c.visit.new.lists new (new.work.items ++ option_to_list o) c.mark.new.deepest) c.in-Some-2.is (c.in_ok-next-in_default-flow.ensures.ok c.mark.new.deepest c.mark.ensures.halts) in
-    off_named c.args.self.now c.args.chunk.now _ _ _ _ c.in-Some-2.next _ refl w
+    let new = c.visit.new in
+    let visited = next_visited _ _ _ _ _ _ _ _ _ c.in-Some-2.is c.in_ok-next-in_default-flow.ensures.visited in
+    taken_named _ _ (visited.walking c.mark.new.deepest c.mark.ensures.halts)
 
 pub others-preserved : goal.others-preserved
 others-preserved c =
     let done = c.mark.ensures in
-    let new = c.visit.new.traversal in
-    let self = c.args.self.now in
-    let visited = c.in_ok-next-in_default-flow.ensures in
-    let few = subst (λ (o : Option Arrival). length (new.work.items ++ option_to_list o) ≤ length c.mark.new.traversal.work.items + (all_targets (bytecode_of self).switches + 2)) c.in-Some-2.is visited.few in
-    let one = length_push new.work.items c.in-Some-2.next in
+    let new = c.visit.new in
+    let visited = next_visited _ _ _ _ _ _ _ _ _ c.in-Some-2.is c.in_ok-next-in_default-flow.ensures.visited in
     record {
-      walking = subst (λ (o : Option Arrival). IsWalking self c.args.chunk.now c.visit.new.lists new (new.work.items ++ option_to_list o) c.mark.new.deepest) c.in-Some-2.is (visited.ok c.mark.new.deepest done.halts);
+      walking = visited.walking c.mark.new.deepest done.halts;
       floor = c.floor-floor-in_default-flow.ensures.floor;
       small = c.floor-floor-in_default-flow.ensures.small;
       counted = done.counted ∙ sym (ap visits_in visited.states);
-      lighter = (let less = lighter_still self c.others.traversal c.mark.new.traversal new (length new.work.items + 1) _ done.more done.long done.work visited.states (omega (arith, few, one)) c.others.invariant.lighter in omega (arith, less));
+      lighter = lighter_visited _ _ _ _ c.others.traversal c.mark.new.traversal _ _ _ _ done.more done.long done.work visited c.others.invariant.lighter;
     }
 
 pub returns-clause-within : goal.returns-clause-within
 returns-clause-within c =
-    let few = off_within c.args.self.now c.args.chunk.now c.others.lists _ _ _ c.others.here _ refl c.others.invariant.walking c.requires.ready in
+    let few = taken_within _ _ c.others.invariant.walking c.requires.ready in
     omega (arith, few, c.others.invariant.counted)
 
 pub returns-clause-err : goal.returns-clause-err
 returns-clause-err c =
-    inr (inr (c.requires.framed, off_falls c.args.self.now c.args.chunk.now c.others.lists _ _ _ c.others.here _ refl c.others.invariant.walking c.in_default.ensures.none))
+    inr (inr (c.requires.framed, taken_falls _ _ c.others.invariant.walking c.in_default.ensures.none))

@@ -4,12 +4,12 @@ use Rattle.grain_code.specs.Split.{Split}
 use Rattle.grain_rules.specs.Layout.{IsBoundary}
 use Rattle.grain_verify.proofs.Places.{contains_place, placed_contains}
 use Rattle.grain_verify.proofs.Refusing.{start_listed}
-use Rattle.grain_verify.proofs.walk.Prepared.check_frame.Goals as goal
-use Rattle.grain_verify.proofs.walk.Prepared.check_frame.Goals.{else-end-len-2-via-then-end-len-2+else-not-contains, else-end-len-2-via-else-end-len-2}
+use Rattle.grain_verify.proofs.chunk.check_frame.Goals as goal
+use Rattle.grain_verify.proofs.chunk.check_frame.Goals.{else-end-len-2-via-then-end-len-2+else-not-contains, else-end-len-2-via-else-end-len-2}
 
 pub returns-in_default-clause-err : goal.returns-in_default-clause-err
 returns-in_default-clause-err c =
-    let starts = c.args.self.now.starts.starts in
+    let starts = c.args.prepared.now.starts.starts in
     let entry = c.args.chunk.now.entry in
     let named = c.entry-entry.ensures in (
       inl (
@@ -19,7 +19,7 @@ returns-in_default-clause-err c =
         inl (
           c.entry-in_default.ensures,
           λ s.
-              let place = contains_place starts entry (start_listed c.args.self.now.code.now starts entry c.requires.starts s) in
+              let place = contains_place starts entry (start_listed c.args.prepared.now.code.now starts entry c.requires.starts s) in
               c.in_default.not-Some place.0 ((c.ordinal.ensures.place place.0).1 (place.1 ∙ ap (λ (n : ℕ). Some n) (sym named))),
         ),
       ),
@@ -33,8 +33,8 @@ not_listed bytes starts at split un l (inr e) = absurd (omega arith)
 
 pub returns-then-not-contains-clause-err : goal.returns-then-not-contains-clause-err
 returns-then-not-contains-clause-err c =
-    let starts = c.args.self.now.starts.starts in
-    let bytes = c.args.self.now.code.now in
+    let starts = c.args.prepared.now.starts.starts in
+    let bytes = c.args.prepared.now.code.now in
     let entry = c.entry-entry.ensures in
     let end = c.end-end.ensures in
     let last = c.end-then-not-contains.ensures in
@@ -45,7 +45,12 @@ returns-then-not-contains-clause-err c =
         entry,
         inr (
           last,
-          record { starts = starts; split = c.requires.starts; here = subst (Contains starts) entry (placed_contains starts c.in-Some.ordinal c.entry-entry.result ((c.ordinal.ensures.place c.in-Some.ordinal).0 c.in-Some.is)) },
+          record {
+            starts = starts;
+            split = c.requires.starts;
+            here = subst (Contains starts) entry
+                (placed_contains starts c.in-Some.ordinal c.entry-entry.result ((c.ordinal.ensures.place c.in-Some.ordinal).0 c.in-Some.is));
+          },
           not_listed bytes starts c.args.chunk.now.end c.requires.starts un (let l = c.if-end-len-2.true in omega arith),
         ),
       ),
@@ -54,16 +59,22 @@ returns-then-not-contains-clause-err c =
 
 pub returns-clause-framed : goal.returns-clause-framed
 returns-clause-framed c =
-    let starts = c.args.self.now.starts.starts in
-    let bytes = c.args.self.now.code.now in
+    let starts = c.args.prepared.now.starts.starts in
+    let bytes = c.args.prepared.now.code.now in
     let entry = c.entry-entry.ensures in
     let end = c.end-end.ensures in
     record {
       ordered = let l = c.if-entry-end.false in omega arith;
       inside = let l = c.if-end-len.false in omega arith;
-      entry = record { starts = starts; split = c.requires.starts; here = subst (Contains starts) entry (placed_contains starts c.in-Some.ordinal c.entry-entry.result ((c.ordinal.ensures.place c.in-Some.ordinal).0 c.in-Some.is)) };
+      entry = record {
+        starts = starts;
+        split = c.requires.starts;
+        here = subst (Contains starts) entry
+            (placed_contains starts c.in-Some.ordinal c.entry-entry.result ((c.ordinal.ensures.place c.in-Some.ordinal).0 c.in-Some.is));
+      };
       end = elim c.else-end-len-2.branch as (λ _. IsBoundary bytes c.args.chunk.now.end) [
-        | else-end-len-2-via-then-end-len-2+else-not-contains w ↦ inl (record { starts = starts; split = c.requires.starts; here = subst (Contains starts) end (w.contains.ensures.0 (let f = w.if-not-contains.false in cc)) })
+        | else-end-len-2-via-then-end-len-2+else-not-contains w ↦ inl
+            (record { starts = starts; split = c.requires.starts; here = subst (Contains starts) end (w.contains.ensures.0 (let f = w.if-not-contains.false in cc)) })
         | else-end-len-2-via-else-end-len-2 w ↦ inr (let l = w.if-end-len-2.false in let m = c.if-end-len.false in omega arith)
       ];
     }

@@ -2,18 +2,18 @@ use Rattle.std.proofs.Common.{◌≡◌, ◌+◌, ◌-◌, ◌≤◌, ap, subst,
 use Rattle.grain_code.specs.InstructionTable.{width_of}
 use Rattle.grain_verify.specs.TagEffects.{TellsFlow, told_flow}
 use Rattle.grain_verify.specs.declared.tag_effects.ToldFlow.{ToldFlow}
-use Rattle.grain_verify.proofs.plain.plain_next.Goals as goal
+use Rattle.grain_verify.proofs.by_tag.plain_next.Goals as goal
 
 pub returns-in-Falls : goal.returns-in-Falls
 returns-in-Falls c code lists op stands tag width is_floor =
     let here = c.args.here in
-    let told = c.tag_effect-told.result.now in
+    let told = c.args.told.now in
     let wide : c.from-in-Falls-3.result ≡ width_of op = let e = c.from-in-Falls-3.ensures in omega arith in
-    let tells = subst (λ (f : ToldFlow). TellsFlow (told_flow f) (told.needs, told.takes, told.gives) op) c.in-Falls.is (c.tag_effect-told.ensures.told op tag) in
+    let tells = subst (λ (f : ToldFlow). TellsFlow (told_flow f) (told.needs, told.takes, told.gives) op) c.in-Falls.is (c.requires.row.tells op tag) in
     let takes = c.from-in-Falls.ensures in
     let gives = c.from-in-Falls-2.ensures in
     let enough : c.args.floor + told.needs ≤ here.state.operands = omega (arith, c.from.ensures, c.if-floor-from.true) in
-    let fewer = c.tag_effect-told.ensures.there in
+    let fewer = c.requires.row.there in
     record {
       op = op;
       needs = told.needs;

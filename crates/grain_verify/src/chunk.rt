@@ -1,0 +1,103 @@
+//! What is tested of one chunk: its frame, what its walk meets, and the operand count that it declares.
+ghost use Rattle.std.specs.Prelude.{◌≡◌, ◌≢◌, ◌<◌, Some, slice_get, IfErr, IfOk, OnOk};
+ghost use Rattle.grain_rules.specs.Accepted.{ChunkPasses, IsFramed};
+ghost use Rattle.grain_rules.specs.Code.{coded};
+ghost use Rattle.grain_rules.specs.Flaw.{ChunkFlaw};
+ghost use Rattle.grain_rules.specs.Typing.{HasTyping, IsDeepest};
+ghost use Rattle.grain_verify.specs.Lists.{IsShared};
+ghost use Rattle.grain_verify.specs.Progress.{Fits, IsMeteredChunk};
+ghost use Rattle.grain_verify.specs.Visits.{RefusesChunk};
+ghost use Rattle.grain_verify.specs.Walk.{IsReady, bytecode_of};
+
+use crate::lists::Lists;
+use crate::meter::Meter;
+use crate::walk::{Prepared, Traversal};
+use grain_bytecode::Chunk;
+use grain_rules::VerifyError;
+
+/// How many instructions stand before the chunk's entry, where the chunk lies in the code and begins and ends where
+/// instructions do.
+///
+/// A walk that began within an instruction would read bytes that no test of the code has read as one, with indices that
+/// lead nowhere; an end within an instruction would have its last one reach beyond the chunk.
+///
+/// # Errors
+/// `ChunkOutOfRange`; `FallsOffTheEnd` where it is empty; `JumpIntoAnInstruction` to its entry or its end.
+#[inline(never)]
+fn check_frame(prepared: &Prepared<'_>, chunk: &Chunk) -> Result<usize, VerifyError>
+    requires { IsReady prepared.now }
+    ensures framed { OnOk result (IsFramed (bytecode_of prepared.now) chunk.now) }
+    ensures holds { OnOk result (chunk.now.entry < chunk.now.end) }
+    ensures place { IfOk result (λ k. slice_get prepared.now.starts.starts k ≡ Some chunk.now.entry) }
+    ensures err { IfErr result (λ e. ChunkFlaw (bytecode_of prepared.now) chunk.now e
+        × (e ≢ VerifyError.OutOfMemory)) }
+{
+    let entry = chunk.entry() as usize;
+    let end = chunk.end() as usize;
+    let len = prepared.code.len();
+    if end > len || entry > end {
+        return Err(VerifyError::ChunkOutOfRange {
+            entry: chunk.entry(),
+            end: chunk.end(),
+            len,
+        });
+    }
+    if entry == end {
+        return Err(VerifyError::FallsOffTheEnd);
+    }
+    let Some(ordinal) = prepared.starts.ordinal(entry) else {
+        return Err(VerifyError::JumpIntoAnInstruction {
+            at: entry,
+            target: chunk.entry(),
+        });
+    };
+    if end < len && !prepared.starts.contains(end) {
+        return Err(VerifyError::JumpIntoAnInstruction {
+            at: entry,
+            target: chunk.end(),
+        });
+    }
+    Ok(ordinal)
+}
+
+/// The greatest operand count that any run of the chunk reaches. The meter takes what the walk visits, where it is refused
+/// too.
+///
+/// # Errors
+/// One of the chunk's flaws: of its frame, of its walk, or `StackExceedsDeclared`, since a host makes stacks as deep as
+/// chunks declare. `OutOfMemory` where it was refused.
+pub(crate) fn verify_chunk(
+    prepared: &Prepared<'_>,
+    chunk: &Chunk,
+    lists: &mut Lists,
+    traversal: &mut Traversal,
+    meter: &mut Meter,
+) -> Result<u16, VerifyError>
+    requires ready { IsReady prepared.now }
+    requires fits { Fits prepared.now traversal.old }
+    requires shared { IsShared lists.old }
+    ensures passes { OnOk result (ChunkPasses (bytecode_of prepared.now) chunk.now) }
+    ensures typed { IfOk result (λ n. HasTyping (coded (bytecode_of prepared.now)) chunk.now n) }
+    ensures deepest { IfOk result (λ n. IsDeepest (coded (bytecode_of prepared.now)) chunk.now n) }
+    ensures accepts { ChunkPasses (bytecode_of prepared.now) chunk.now
+        → IfErr result (λ e. e ≡ VerifyError.OutOfMemory) }
+    ensures flaws { IfErr result (RefusesChunk (bytecode_of prepared.now) chunk.now) }
+    ensures metered { IsMeteredChunk (bytecode_of prepared.now)
+        prepared.now.starts.starts chunk.now meter.old meter.new result }
+    ensures fits { OnOk result (Fits prepared.now traversal.new) }
+    ensures shared { OnOk result (IsShared lists.new) }
+{
+    let ordinal = check_frame(prepared, chunk)?;
+    let mut visits = 0;
+    let walked = prepared.walk(chunk, ordinal, lists, traversal, &mut visits);
+    meter.add(visits);
+    let needed = walked?;
+    let declared = chunk.max_stack();
+    if needed > u32::from(declared) {
+        return Err(VerifyError::StackExceedsDeclared {
+            needed: needed as usize,
+            declared,
+        });
+    }
+    Ok(needed as u16)
+}
