@@ -15,7 +15,7 @@ use Rattle.grain_bytecode.specs.declared.positions.TableError.{TableError}
 use Rattle.grain_bytecode.specs.declared.positions.TableError.TheVariants as table_error
 use Rattle.grain_bytecode.proofs.Arriving.{one_arrival}
 use Rattle.grain.specs.Program.{Program, listed_positions}
-use Rattle.grain.specs.Sidecars.{Reads}
+use Rattle.grain.specs.Sidecars.{ReadsPlaces}
 use Rattle.grain.specs.Slots.{drawn}
 use Rattle.grain.specs.declared.sidecar.Sidecar.{Sidecar}
 use Rattle.grain.proofs.Drawing.{drawn_none}
@@ -77,7 +77,7 @@ only_memory table code found (table_error.ChainStream error) read refusal = absu
 only_memory table code found (table_error.ChainCount sites slots) read refusal = absurd refusal
 
 -- what is read of the sidecar's table and the program's code
-pub reads_of : (p : Program) (s : Sidecar) (found : Option (List Place)) (table code : List ℕ) → s.debug_id ≡ p.debug_id → table ≡ s.positions.items → code ≡ p.code → IsRead table code found → Reads p s found
+pub reads_of : (p : Program) (s : Sidecar) (found : Option (List Place)) (table code : List ℕ) → s.debug_id ≡ p.debug_id → table ≡ s.positions.items → code ≡ p.code → IsRead table code found → ReadsPlaces p s found
 reads_of p s found table code own e h read = record {
   own = own;
   read = subst (λ (t : List ℕ). IsRead t p.code found) e (subst (λ (c : List ℕ). IsRead table c found) h read);

@@ -9,7 +9,7 @@ use Rattle.grain_base.specs.CapBits.{FUNCTION}
 use Rattle.grain_base.specs.declared.caps.Caps.{Caps}
 use Rattle.grain_code.specs.Assembly.{assembled, retarget}
 use Rattle.grain_pools.specs.Dispatch as dispatch
-use Rattle.grain_pools.specs.Dispatch.{Arms, Case, arms, offset_at, resolved, resolved_case, resolved_range, targets}
+use Rattle.grain_pools.specs.Dispatch.{Arms, Case, arms, offset_at, resolved, resolved_case, resolved_range, arm_targets}
 use Rattle.grain_code.specs.Fields as fields
 use Rattle.grain_code.specs.InstructionTable.{form}
 use Rattle.grain_code.specs.Span.{Span}
@@ -24,7 +24,7 @@ use Rattle.grain_code.proofs.Instructions.{begins_none_nil}
 use Rattle.grain_code.proofs.Splits.{one_front}
 use Rattle.grain_rules.specs.Accepted.{AreDeepest, ChunkPasses, ConstantPasses, IsAccepted}
 use Rattle.grain.specs.Build.{AreDeepestByIndex, CanBuild, CanLay, Draft, IsLaid, by_index, head_of, leads, setting_with}
-use Rattle.grain_rules.specs.ByIndex.{IsCut, LeadWithin, moved}
+use Rattle.grain_rules.specs.ByIndex.{IsCut, LeadWithin, span_moved}
 use Rattle.grain_rules.specs.Capabilities.{Allows}
 use Rattle.grain_rules.specs.Code.{Bytecode, coded, switch_targets}
 use Rattle.grain_rules.specs.Indices.{Indexed, IsPassed, Test, all_case_constants, all_inner, case_constants, cases_of, chain_tests, field_test, field_tests, inner, tests_of}
@@ -128,7 +128,7 @@ module _ (offsets : List ℕ) where
   range_targets [] = refl
   range_targets (r ∷ rs) = ap (λ (rest : List ℕ). offset_at offsets r.target ∷ rest) (range_targets rs)
 
-  targets_resolved : (a : Arms) → targets (resolved offsets a) ≡ map (offset_at offsets) (targets a)
+  targets_resolved : (a : Arms) → arm_targets (resolved offsets a) ≡ map (offset_at offsets) (arm_targets a)
   targets_resolved a =
       let cs = map (λ (c : Case). c.1.0) (dispatch.listed a.cases) in
       let rs = map (λ (r : SwitchRange). r.target) a.ranges in
@@ -141,17 +141,17 @@ module _ (offsets : List ℕ) where
       let low : t ≤ n = h 0 0 (omega arith) in
       λ i. get_or_default offsets t t 0 (omega arith) i ∷ offsets_within n ts count (λ k d l. h (suc k) d (omega arith)) i
 
-  all_targets : (n : ℕ) (all : List Arms) → length offsets ≡ n + 1 → All (All (λ t. t ≤ n)) (map targets all) → map targets (map (resolved offsets) all) ≡ map (map (slice_index offsets)) (map targets all)
+  all_targets : (n : ℕ) (all : List Arms) → length offsets ≡ n + 1 → All (All (λ t. t ≤ n)) (map arm_targets all) → map arm_targets (map (resolved offsets) all) ≡ map (map (slice_index offsets)) (map arm_targets all)
   all_targets n [] count h = refl
   all_targets n (a ∷ all) count h =
-      λ i. (targets_resolved a ∙ offsets_within n (targets a) count (h 0 [] (omega arith))) i ∷ all_targets n all count (λ k d l. h (suc k) d (omega arith)) i
+      λ i. (targets_resolved a ∙ offsets_within n (arm_targets a) count (h 0 [] (omega arith))) i ∷ all_targets n all count (λ k d l. h (suc k) d (omega arith)) i
 
 same_targets : (offsets : List ℕ) (n : ℕ) (new old : List Switch) → length offsets ≡ n + 1 → LeadWithin n (map switch_targets old)
     → map arms new ≡ map (resolved offsets) (map arms old) → map switch_targets new ≡ map (map (slice_index offsets)) (map switch_targets old)
 same_targets offsets n new old count fit e =
-    let cut = map-map targets arms old in
-    sym (map-map targets arms new)
-    ∙ ap (map targets) e
+    let cut = map-map arm_targets arms old in
+    sym (map-map arm_targets arms new)
+    ∙ ap (map arm_targets) e
     ∙ all_targets offsets n (map arms old) count (subst (LeadWithin n) (sym cut) fit)
     ∙ ap (map (map (slice_index offsets))) cut
 
@@ -194,13 +194,13 @@ module _ (d : Draft) (p : Program) (lays : CanLay d) (laid : IsLaid d p) where
   constants_same : All (ConstantPasses p.caps.0) p.consts ≡ All (ConstantPasses d.caps.0) d.parts.consts.items
   constants_same = λ i. All (ConstantPasses (same_caps i).0) (same_constants i)
 
-  chunk_there : (cut : Span) → IsCut (length d.ops) cut → HasTyping (by_index d) cut cut.max_stack → ChunkPasses there (moved f cut)
+  chunk_there : (cut : Span) → IsCut (length d.ops) cut → HasTyping (by_index d) cut cut.max_stack → ChunkPasses there (span_moved f cut)
   chunk_there cut part typing = record {
     framed = framed_there s d.ops (leads d) p.code laid.offsets laid.code lays.ops lays.switches there cut cut.max_stack refl part typing;
     typed = typed_there s d.ops (leads d) p.code laid.offsets laid.code lays.ops lays.switches cut cut.max_stack part.inside typing;
   }
 
-  chunk_here : (cut : Span) → IsCut (length d.ops) cut → ChunkPasses there (moved f cut) → HasTyping (by_index d) cut cut.max_stack
+  chunk_here : (cut : Span) → IsCut (length d.ops) cut → ChunkPasses there (span_moved f cut) → HasTyping (by_index d) cut cut.max_stack
   chunk_here cut part h = typed_here s d.ops (leads d) p.code laid.offsets laid.code lays.ops lays.switches cut cut.max_stack part h.typed
 
   -- what passes by index is accepted as bytes
@@ -217,7 +217,7 @@ module _ (d : Draft) (p : Program) (lays : CanLay d) (laid : IsLaid d p) where
     chunks =
         subst (λ (c : Bytecode). All (ChunkPasses c) (chunks_of p)) (sym same_code)
         (subst (All (ChunkPasses there)) (sym laid.chunks)
-        (All-map (ChunkPasses there) (moved f) d.cuts (λ k cut l. chunk_there _ (lays.cuts k cut l) (h.typed k cut l))));
+        (All-map (ChunkPasses there) (span_moved f) d.cuts (λ k cut l. chunk_there _ (lays.cuts k cut l) (h.typed k cut l))));
   }
 
   -- and the other way
@@ -233,11 +233,11 @@ module _ (d : Draft) (p : Program) (lays : CanLay d) (laid : IsLaid d p) where
         indexed_here s laid.offsets _ (All-before_map (Indexed s) (assembled laid.offsets) d.ops indexed k op l);
     functions = λ some. subst (λ (c : Caps). Allows c.0 FUNCTION) same_caps (h.functions (λ none. some (sym laid.heads ∙ ap (map head_of) none)));
     typed = λ k cut l.
-        let chunks : All (ChunkPasses there) (map (moved f) d.cuts) = subst (All (ChunkPasses there)) laid.chunks (subst (λ (c : Bytecode). All (ChunkPasses c) (chunks_of p)) same_code h.chunks) in
-        chunk_here _ (lays.cuts k cut l) (All-before_map (ChunkPasses there) (moved f) d.cuts chunks k cut l);
+        let chunks : All (ChunkPasses there) (map (span_moved f) d.cuts) = subst (All (ChunkPasses there)) laid.chunks (subst (λ (c : Bytecode). All (ChunkPasses c) (chunks_of p)) same_code h.chunks) in
+        chunk_here _ (lays.cuts k cut l) (All-before_map (ChunkPasses there) (span_moved f) d.cuts chunks k cut l);
   }
 
-  each_deepest : (cuts : List Span) (numbers : List ℕ) → All (IsCut (length d.ops)) cuts → AllZip (IsDeepest (coded there)) (map (moved f) cuts) numbers → AllZip (IsDeepest (by_index d)) cuts numbers
+  each_deepest : (cuts : List Span) (numbers : List ℕ) → All (IsCut (length d.ops)) cuts → AllZip (IsDeepest (coded there)) (map (span_moved f) cuts) numbers → AllZip (IsDeepest (by_index d)) cuts numbers
   each_deepest [] [] parts h = h
   each_deepest [] (n ∷ ns) parts h = absurd h
   each_deepest (c ∷ cs) [] parts h = absurd h
@@ -246,7 +246,7 @@ module _ (d : Draft) (p : Program) (lays : CanLay d) (laid : IsLaid d p) where
     each_deepest cs ns (λ k cut l. parts (suc k) cut (omega arith)) h.1,
   )
 
-  each_there : (cuts : List Span) (numbers : List ℕ) → All (IsCut (length d.ops)) cuts → AllZip (IsDeepest (by_index d)) cuts numbers → AllZip (IsDeepest (coded there)) (map (moved f) cuts) numbers
+  each_there : (cuts : List Span) (numbers : List ℕ) → All (IsCut (length d.ops)) cuts → AllZip (IsDeepest (by_index d)) cuts numbers → AllZip (IsDeepest (coded there)) (map (span_moved f) cuts) numbers
   each_there [] [] parts h = h
   each_there [] (n ∷ ns) parts h = absurd h
   each_there (c ∷ cs) [] parts h = absurd h

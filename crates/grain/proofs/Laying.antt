@@ -6,7 +6,7 @@ use Rattle.std.proofs.lemmas.List.{length-map}
 use Rattle.std.proofs.lemmas.List.Elements.{All-contains, All-drop, All-map, All-take}
 use Rattle.std.proofs.lemmas.Simd.{map-map}
 use Rattle.std.proofs.lemmas.Slice.Zip.{firsts-zip, get_or-zip, seconds-zip}
-use Rattle.grain_pools.specs.Dispatch.{Fits, IsFirstPast, arms}
+use Rattle.grain_pools.specs.Dispatch.{AreWithin, IsFirstPast, arms}
 use Rattle.grain_code.specs.Span.{Span}
 use Rattle.grain_pools.specs.declared.switch.Switch.{Switch}
 use Rattle.grain.specs.Build.{span_of}
@@ -55,13 +55,13 @@ others_lie P cuts all =
     All-map P span_of (take (length cuts - 1) (drop 1 cuts)) (All-take each (length cuts - 1) (drop 1 cuts) (All-drop each 1 cuts (All-before_map P span_of cuts all)))
 
 -- switches that lead to operations or their end have targets among the offsets, and the other way round
-fits_lead : (n : ℕ) (ss : List Switch) → All (λ s. Fits (n + 1) (arms s)) ss → LeadWithin n (map switch_targets ss)
+fits_lead : (n : ℕ) (ss : List Switch) → All (λ s. AreWithin (n + 1) (arms s)) ss → LeadWithin n (map switch_targets ss)
 fits_lead n [] h k d l = absurd (omega arith)
 fits_lead n (s ∷ ss) h zero d l = λ i e m. let below = h 0 s (omega arith) i e m in omega arith
 fits_lead n (s ∷ ss) h (suc k) d l = fits_lead n ss (λ j t m. h (suc j) t (omega arith)) k d (omega arith)
 
-pub lead_within : (n count : ℕ) (ss : List Switch) → count ≡ n + 1 → All (λ s. Fits count (arms s)) ss → LeadWithin n (map switch_targets ss)
-lead_within n count ss e h = fits_lead n ss (subst (λ (k : ℕ). All (λ s. Fits k (arms s)) ss) e h)
+pub lead_within : (n count : ℕ) (ss : List Switch) → count ≡ n + 1 → All (λ s. AreWithin count (arms s)) ss → LeadWithin n (map switch_targets ss)
+lead_within n count ss e h = fits_lead n ss (subst (λ (k : ℕ). All (λ s. AreWithin k (arms s)) ss) e h)
 
 pub none_past : (n count : ℕ) (ss : List Switch) (i target : ℕ) → count ≡ n + 1 → LeadWithin n (map switch_targets ss) → IsFirstPast count ss i target → ⊥
 none_past n count [] i target e lead h = let l = h.inside in absurd (omega arith)

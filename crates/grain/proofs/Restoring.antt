@@ -22,7 +22,7 @@ use Rattle.grain_pools.specs.declared.chain.Step.TheVariants as steps
 use Rattle.grain_pools.specs.declared.chain.Tail.{Tail}
 use Rattle.grain_bytecode.proofs.Arriving.{one_arrival}
 use Rattle.grain_bytecode.proofs.Streams.{one_stream}
-use Rattle.grain_bytecode.specs.Positions.{Arrived, IsRead, Place, byte_place, code_site, dense, entries_of, entry_of, matched, place_at, site_place, table_places}
+use Rattle.grain_bytecode.specs.Positions.{Arrived, IsRead, Place, byte_place, code_site, dense, entries_at_places, entry_of, matched, place_at, site_place, table_places}
 use Rattle.grain_code.specs.InstructionTable.{width_of}
 use Rattle.grain_code.specs.Split.{BeginsNone, Split}
 use Rattle.grain_code.proofs.Instructions.{begins_none_nil}
@@ -325,7 +325,7 @@ abbrev known_places : Option (List Place) → List Place
 known_places None = []
 known_places (Some places) = places
 
-known_entries : (places : Option (List Place)) → entries_of places ≡ entries 0 (known_places places)
+known_entries : (places : Option (List Place)) → entries_at_places places ≡ entries 0 (known_places places)
 known_entries None = refl
 known_entries (Some places) = refl
 
@@ -351,7 +351,7 @@ recorded_at : (p : Program) (h : CanComeBack p) → Recorded p h.starts
 recorded_at p h =
     let split = split_splits p.code h.starts h.split in
     let stand : (entry : Entry) → Contains (entries 0 (known_places (places_of p))) entry → Contains h.starts entry.0 =
-    λ entry c. All-contains (λ (e : Entry). Contains h.starts e.0) (entries_of (places_of p)) entry h.recorded (subst (λ (list : List Entry). Contains list entry) (sym (known_entries (places_of p))) c) in
+    λ entry c. All-contains (λ (e : Entry). Contains h.starts e.0) (entries_at_places (places_of p)) entry h.recorded (subst (λ (list : List Entry). Contains list entry) (sym (known_entries (places_of p))) c) in
     record {
       split = split;
       stand = stand;

@@ -12,7 +12,7 @@ use Rattle.grain_pools.specs.declared.error.AssembleError.TheVariants as refusal
 use Rattle.grain_code.specs.declared.function.Function.{Function}
 use Rattle.grain_code.specs.declared.op.Op.{Op}
 use Rattle.grain_rules.specs.Accepted.{ConstantPasses}
-use Rattle.grain_rules.specs.ByIndex.{IsCut, LeadWithin, listed, moved}
+use Rattle.grain_rules.specs.ByIndex.{IsCut, LeadWithin, code_by_index, span_moved}
 use Rattle.grain_rules.specs.Capabilities.{Allows}
 use Rattle.grain_rules.specs.Code.{Code, switch_targets}
 use Rattle.grain_rules.specs.Flaw.{Flaw}
@@ -64,7 +64,7 @@ leads d = map switch_targets d.parts.switches.items
 
 -- the operations by index, with what they are judged against
 abbrev pub by_index : Draft → Code
-by_index d = listed (setting_with d.caps d.parts) d.ops (leads d)
+by_index d = code_by_index (setting_with d.caps d.parts) d.ops (leads d)
 
 -- each cut is a part of the operations
 abbrev pub AreCuts : Draft → Type 0
@@ -93,7 +93,7 @@ head_of f = record { name = f.name; params = f.params; access = f.access; this_t
 pub record IsLaid (d : Draft) (p : Program) : Type 0 where
   pub offsets : List ℕ
   pub code : IsAssembly d.ops p.code offsets
-  pub chunks : chunks_of p ≡ map (moved (slice_index offsets)) d.cuts
+  pub chunks : chunks_of p ≡ map (span_moved (slice_index offsets)) d.cuts
   pub heads : map head_of p.functions ≡ d.heads
   pub switches : map arms p.switches ≡ map (resolved offsets) (map arms d.parts.switches.items)
   pub rest : record p { switches = d.parts.switches.items } ≡ made d.caps p.code p.main p.functions d.parts
@@ -149,7 +149,7 @@ of_verify (faults.BadIndex at what index) = errors.Verify (faults.BadIndex at wh
 
 -- what is printed of an error
 abbrev pub build_error_text : BuildError → List ℕ
-build_error_text (errors.Assemble error) = assemble_errors.text_of error
+build_error_text (errors.Assemble error) = assemble_errors.assemble_error_text error
 build_error_text (errors.BadCut place) = codes "cut " ++ (decimal place ++ codes " runs backwards or past the operations")
 build_error_text (errors.Verify error) = verify_error_text error
 build_error_text errors.OutOfMemory = codes "out of memory"

@@ -8,7 +8,7 @@ use Rattle.grain_base.specs.declared.pos.Site.{Site}
 use Rattle.grain_base.specs.declared.position.Position.{Position}
 use Rattle.grain_pools.specs.Chain.{shape}
 use Rattle.grain_bytecode.specs.ChainStream.{Stream, StreamFlaw, all_positions, numbers_of, recorded}
-use Rattle.grain_bytecode.specs.Positions.{IsRead, IsRefusal, Place, entries_of, site_place}
+use Rattle.grain_bytecode.specs.Positions.{IsRead, IsRefusal, Place, entries_at_places, site_place}
 use Rattle.grain_code.specs.Split.{Split}
 use Rattle.grain_bytecode.specs.declared.positions.TableError.{TableError}
 use Rattle.grain_bytecode.specs.declared.positions.TableError.TheVariants as table_error
@@ -24,8 +24,8 @@ pub record DiffersInPositions (old new : Program) : Type 0 where
 -- The number of the program, the table of its positions and the stream of those in its chains, in shortest spellings.
 pub record IsSidecar (p : Program) (s : Sidecar) : Type 0 where
   pub id : s.debug_id ≡ p.debug_id
-  pub written : let list = entries_of (places_of p) in AreShortest s.positions.items (length list ∷ numbers_from 0 list)
-  pub table : let list = entries_of (places_of p) in length list < 2 ^ 32 → Table s.positions.items list
+  pub written : let list = entries_at_places (places_of p) in AreShortest s.positions.items (length list ∷ numbers_from 0 list)
+  pub table : let list = entries_at_places (places_of p) in length list < 2 ^ 32 → Table s.positions.items list
   pub chains_written : let list = all_positions p.chains in AreShortest s.chains.items (length list ∷ flat_map numbers_of list)
   pub stream : let list = all_positions p.chains in length list < 2 ^ 32 → Stream s.chains.items (map recorded list)
 
@@ -35,7 +35,7 @@ pub record CanComeBack (p : Program) : Type 0 where
   pub starts : List ℕ
   pub split : Split p.code starts
   pub short : length p.code < 2 ^ 32
-  pub recorded : All (λ entry. Contains starts entry.0) (entries_of (places_of p))
+  pub recorded : All (λ entry. Contains starts entry.0) (entries_at_places (places_of p))
   pub few : length (all_positions p.chains) < 2 ^ 32
 
 -- no position is left, and all else is as it was
@@ -45,13 +45,13 @@ pub record IsStripped (old new : Program) : Type 0 where
   pub rest : DiffersInPositions old new
 
 -- the table of the sidecar, which is of this program, is read with its code, and gives these places
-pub record Reads (p : Program) (s : Sidecar) (places : Option (List Place)) : Type 0 where
+pub record ReadsPlaces (p : Program) (s : Sidecar) (places : Option (List Place)) : Type 0 where
   pub own : s.debug_id ≡ p.debug_id
   pub read : IsRead s.positions.items p.code places
 
 -- and its stream has a slot for each position in the chains
 pub record Belongs (p : Program) (s : Sidecar) (places : Option (List Place)) (slots : List (Option Site)) : Type 0 where
-  pub reads : Reads p s places
+  pub reads : ReadsPlaces p s places
   pub stream : Stream s.chains.items slots
   pub counted : length slots ≡ length (all_positions p.chains)
 
@@ -79,6 +79,6 @@ abbrev pub SidecarFlaw : Program → Sidecar → TableError → Type 0
 SidecarFlaw p s (table_error.WrongProgram expected found) = (expected ≡ s.debug_id) × (found ≡ p.debug_id) × (expected ≢ found)
 SidecarFlaw p s (table_error.Malformed error) = (s.debug_id ≡ p.debug_id) × IsRefusal s.positions.items p.code (table_error.Malformed error)
 SidecarFlaw p s (table_error.PastTheEnd entries some instructions) = (s.debug_id ≡ p.debug_id) × IsRefusal s.positions.items p.code (table_error.PastTheEnd entries some instructions)
-SidecarFlaw p s (table_error.ChainStream error) = (places : Option (List Place)) × Reads p s places × StreamFlaw s.chains.items error
-SidecarFlaw p s (table_error.ChainCount sites slots) = (places : Option (List Place)) × Reads p s places × Miscounts p s sites slots
+SidecarFlaw p s (table_error.ChainStream error) = (places : Option (List Place)) × ReadsPlaces p s places × StreamFlaw s.chains.items error
+SidecarFlaw p s (table_error.ChainCount sites slots) = (places : Option (List Place)) × ReadsPlaces p s places × Miscounts p s sites slots
 SidecarFlaw p s table_error.OutOfMemory = ⊥

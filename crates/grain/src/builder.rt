@@ -3,7 +3,7 @@ ghost use Rattle.std.specs.Prelude.{◌≡◌, ◌↔◌, ◌⊎◌, ℕ, ◌+�
 ghost use Rattle.std.specs.List.{All};
 ghost use Rattle.grain_code.specs.Assembly.{CanAssemble};
 ghost use Rattle.grain.specs.Build.{AreCuts, AreDeepestByIndex, BuildFlaw, CanBuild, CanLay, IsFirstBadCut, IsLaid, draft, head_of, span_of};
-ghost use Rattle.grain_rules.specs.ByIndex.{IsCut, moved};
+ghost use Rattle.grain_rules.specs.ByIndex.{IsCut, span_moved};
 
 use crate::program::{Parts, Program};
 use grain_base::{Caps, FnAccess};
@@ -35,7 +35,7 @@ impl Cut {
     fn place(&self, offsets: &[u32]) -> Chunk
         requires some { 0 < length offsets.now }
         requires inside { IsCut (length offsets.now - 1) (span_of self.now) }
-        ensures { result ≡ moved (slice_index offsets.now) (span_of self.now) }
+        ensures { result ≡ span_moved (slice_index offsets.now) (span_of self.now) }
     {
         Chunk::new(offsets[self.first], offsets[self.end], self.max_stack)
     }
@@ -155,7 +155,7 @@ fn place_functions(
     requires inside { All (IsCut (length offsets.now - 1)) (map span_of cuts.now) }
     ensures heads { IfOk result (λ functions. map head_of functions.items ≡ heads.items) }
     ensures chunks { IfOk result (λ functions. map (λ f. f.chunk) functions.items
-        ≡ map (moved (slice_index offsets.now)) (map span_of cuts.now)) }
+        ≡ map (span_moved (slice_index offsets.now)) (map span_of cuts.now)) }
 {
     let mut functions = Vec::with_capacity(alloc, heads.len())?;
     for (head, cut) in heads.into_iter().zip(cuts) {

@@ -2,7 +2,7 @@
 ghost use Rattle.std.specs.Prelude.{◌≡◌, ◌≤◌, ◌<◌, ◌^◌, ◌⊎◌, ◌↔◌, List, Option, Err, IsOk, IfOk, IfErr, OnOk, OnErr, All, Any};
 ghost use Rattle.grain_base.specs.declared.pos.Site.{Site};
 ghost use Rattle.grain_bytecode.specs.ChainStream.{Stream, StreamFlaw};
-ghost use Rattle.grain_bytecode.specs.Positions.{Place, entries_of};
+ghost use Rattle.grain_bytecode.specs.Positions.{Place, entries_at_places};
 ghost use Rattle.grain_bytecode.specs.declared.positions.StripError.TheVariants as strip_error;
 ghost use Rattle.grain_bytecode.specs.declared.positions.TableError.TheVariants as table_error;
 ghost use Rattle.grain.specs.Program.{places_of};
@@ -36,9 +36,9 @@ impl Program {
     pub fn sidecar(&self) -> Result<Sidecar, StripError>
         ensures ok { IfOk result (IsSidecar self.now) }
         ensures fits { IsOk result
-            → All (λ entry. entry.0 < 2 ^ 32) (entries_of (places_of self.now)) }
+            → All (λ entry. entry.0 < 2 ^ 32) (entries_at_places (places_of self.now)) }
         ensures wide { (result ≡ Err strip_error.AddressTooWide)
-            ↔ Any (λ entry. 2 ^ 32 ≤ entry.0) (entries_of (places_of self.now)) }
+            ↔ Any (λ entry. 2 ^ 32 ≤ entry.0) (entries_at_places (places_of self.now)) }
     {
         Ok(Sidecar {
             debug_id: self.parts.debug_id,
@@ -56,9 +56,9 @@ impl Program {
         ensures ok { IfOk result (IsSidecar self.old) }
         ensures stripped { OnOk result (IsStripped self.old self.new) }
         ensures fits { IsOk result
-            → All (λ entry. entry.0 < 2 ^ 32) (entries_of (places_of self.old)) }
+            → All (λ entry. entry.0 < 2 ^ 32) (entries_at_places (places_of self.old)) }
         ensures wide { (result ≡ Err strip_error.AddressTooWide)
-            ↔ Any (λ entry. 2 ^ 32 ≤ entry.0) (entries_of (places_of self.old)) }
+            ↔ Any (λ entry. 2 ^ 32 ≤ entry.0) (entries_at_places (places_of self.old)) }
         ensures unchanged { OnErr result (self.new ≡ self.old) }
     {
         let sidecar = self.sidecar()?;

@@ -75,7 +75,8 @@ abbrev Rise : List ℕ → Type 0
 Rise xs = All (λ delta. 0 < delta) (drop 1 xs) × (sum xs < 2 ^ 32)
 
 -- one more delta behind whole entries, whether its entry is finished or not
-pub ascend_more : (entries delta : ℕ) (numbers more : List ℕ) → length numbers ≡ 3 * entries → deltas more ≡ delta ∷ [] → Ascend numbers → (0 < entries → 0 < delta) → sum (deltas numbers) + delta < 2 ^ 32 → Ascend (numbers ++ more)
+pub ascend_more : (entries delta : ℕ) (numbers more : List ℕ) → length numbers ≡ 3 * entries → deltas more ≡ delta ∷ [] → Ascend numbers → (0 < entries → 0 < delta)
+    → sum (deltas numbers) + delta < 2 ^ 32 → Ascend (numbers ++ more)
 ascend_more entries delta [] more whole one ascend later fits =
     subst Rise (sym one) (All-nil (λ d. 0 < d), omega (arith, sum-cons delta []))
 ascend_more entries delta (d ∷ []) more whole one ascend later fits = absurd (omega arith)

@@ -29,7 +29,8 @@ encoded_none sites items ascending counted = record {
   fitting = λ fits. fits;
 }
 
-pub encoded_without : (sites : List Entry) (index before : ℕ) (items : List ℕ) (d : Entry) → Encoded sites index before items → index < length sites → (get_or sites index d).1.line ≡ 0 → Encoded sites (index + 1) before items
+pub encoded_without : (sites : List Entry) (index before : ℕ) (items : List ℕ) (d : Entry) → Encoded sites index before items → index < length sites
+    → (get_or sites index d).1.line ≡ 0 → Encoded sites (index + 1) before items
 encoded_without sites index before items d e within none =
     let same = kept_without sites index d within none in
     record {
@@ -61,7 +62,8 @@ encoded_with sites index before items a b c d e within some fit delta line colum
     }
 
 -- shortest spellings of entries are spellings of entries
-shortest_entries : (before least : ℕ) (bytes : List ℕ) (list : List Entry) → before ≤ least → RisesFrom least (addresses list) → AllByRecursion Fits list → AreShortest bytes (numbers_from before list) → AreEntries before bytes list []
+shortest_entries : (before least : ℕ) (bytes : List ℕ) (list : List Entry) → before ≤ least → RisesFrom least (addresses list) → AllByRecursion Fits list
+    → AreShortest bytes (numbers_from before list) → AreEntries before bytes list []
 shortest_entries before least bytes [] above rises fits spelled = spelled
 shortest_entries before least bytes (entry ∷ list) above rises fits spelled =
     let fit = fits.0 in
@@ -77,7 +79,8 @@ shortest_entries before least bytes (entry ∷ list) above rises fits spelled =
       shortest_entries entry.0 (entry.0 + 1) column.1 list (omega arith) rises.1 fits.1 column.4,
     )
 
-pub shortest_table : (bytes : List ℕ) (list : List Entry) → IsStrictlyIncreasing (addresses list) → AllByRecursion Fits list → length list < 2 ^ 32 → AreShortest bytes (length list ∷ numbers_from 0 list) → Table bytes list
+pub shortest_table : (bytes : List ℕ) (list : List Entry) → IsStrictlyIncreasing (addresses list) → AllByRecursion Fits list → length list < 2 ^ 32
+    → AreShortest bytes (length list ∷ numbers_from 0 list) → Table bytes list
 shortest_table bytes list ascending fits few spelled = record {
   after = spelled.1;
   counted = (spelled.0, spelled.1, spelled.2, (spelled.3.spelled, few), refl);
@@ -85,9 +88,11 @@ shortest_table bytes list ascending fits few spelled = record {
   ascending = ascending;
 }
 
-pub encoded_end : (sites : List Entry) (index before : ℕ) (items : List ℕ) → Encoded sites index before items → length sites ≤ index → AreShortest items (length (kept sites) ∷ numbers_from 0 (kept sites)) × AllByRecursion Fits (kept sites)
+pub encoded_end : (sites : List Entry) (index before : ℕ) (items : List ℕ) → Encoded sites index before items → length sites ≤ index
+    → AreShortest items (length (kept sites) ∷ numbers_from 0 (kept sites)) × AllByRecursion Fits (kept sites)
 encoded_end sites index before items e over =
     let none : kept (drop index sites) ≡ [] = ap kept (drop_all index sites over) in (
-      subst (λ (xs : List ℕ). AreShortest xs (length (kept sites) ∷ numbers_from 0 (kept sites))) (append-nil items) (e.written [] (subst (λ (list : List Entry). AreShortest [] (numbers_from before list)) (sym none) refl)),
+      subst (λ (xs : List ℕ). AreShortest xs (length (kept sites) ∷ numbers_from 0 (kept sites))) (append-nil items)
+          (e.written [] (subst (λ (list : List Entry). AreShortest [] (numbers_from before list)) (sym none) refl)),
       e.fitting (subst (AllByRecursion Fits) (sym none) tt),
     )

@@ -3,9 +3,9 @@ use Rattle.std.proofs.Common.{◌≡◌, ℕ, zero, suc, ◌+◌, ◌^◌, ◌<�
 use Rattle.std.specs.Iterator.{Drains}
 use Rattle.std.proofs.lemmas.Bool.{cases_lt, ne_eqb}
 use Rattle.grain_base.specs.declared.varint.Error.{Error}
-use Rattle.grain_base.specs.Varint.{Begins, U32Flaw}
+use Rattle.grain_base.specs.Varint.{BeginsNumbers, U32Flaw}
 use Rattle.grain_base.specs.EntriesLeft.{EntriesLeft}
-use Rattle.grain_base.specs.AddressTable.{Entry, IsNext, NoneNext, AreEntries, EntrySteps, Table, Holds, Front}
+use Rattle.grain_base.specs.AddressTable.{Entry, IsNext, NoneNext, AreEntries, EntrySteps, Table, Holds, LongestFront}
 use Rattle.grain_base.proofs.Numbers.{AreThree, three, begins-append, begins_once, begins_flawless, Reading, Number, Flaw, reading}
 
 -- an entry of its three numbers
@@ -13,9 +13,9 @@ entry_of : ℕ → ℕ → ℕ → Entry
 entry_of address line column = (address, record { line = line; column = column })
 
 -- numbers behind the same bytes are one
-once_behind : (m n : ℕ) (bytes other rest more : List ℕ) → bytes ≡ other → Begins bytes (m ∷ []) rest → Begins other (n ∷ []) more → (m ≡ n) × (rest ≡ more)
+once_behind : (m n : ℕ) (bytes other rest more : List ℕ) → bytes ≡ other → BeginsNumbers bytes (m ∷ []) rest → BeginsNumbers other (n ∷ []) more → (m ≡ n) × (rest ≡ more)
 once_behind m n bytes other rest more same first second =
-    begins_once bytes m n rest more first (subst (λ (xs : List ℕ). Begins xs (n ∷ []) more) (sym same) second)
+    begins_once bytes m n rest more first (subst (λ (xs : List ℕ). BeginsNumbers xs (n ∷ []) more) (sym same) second)
 
 -- the numbers of the next entry
 parts : (before : ℕ) (bytes : List ℕ) (entry : Entry) (rest : List ℕ) (next : IsNext before bytes entry rest) → AreThree bytes next.delta entry.1.line entry.1.column rest
@@ -38,25 +38,25 @@ no_delta before bytes error flaw entry rest next =
     let p = parts before bytes entry rest next in
     begins_flawless bytes next.delta p.after error p.first flaw
 
-pub address_large : (before delta : ℕ) (bytes after : List ℕ) → Begins bytes (delta ∷ []) after → 2 ^ 32 ≤ before + delta → NoneNext before bytes
+pub address_large : (before delta : ℕ) (bytes after : List ℕ) → BeginsNumbers bytes (delta ∷ []) after → 2 ^ 32 ≤ before + delta → NoneNext before bytes
 address_large before delta bytes after begins large entry rest next =
     let p = parts before bytes entry rest next in
     absurd (omega (arith, next.address, next.fits, (begins_once bytes next.delta delta p.after after p.first begins).0))
 
-pub no_line : (before delta : ℕ) (bytes after : List ℕ) (error : Error) → Begins bytes (delta ∷ []) after → U32Flaw after error → NoneNext before bytes
+pub no_line : (before delta : ℕ) (bytes after : List ℕ) (error : Error) → BeginsNumbers bytes (delta ∷ []) after → U32Flaw after error → NoneNext before bytes
 no_line before delta bytes after error begins flaw entry rest next =
     let p = parts before bytes entry rest next in
     let same = begins_once bytes next.delta delta p.after after p.first begins in
     begins_flawless p.after entry.1.line p.mid error p.second (subst (λ (xs : List ℕ). U32Flaw xs error) (sym same.1) flaw)
 
-pub no_column : (before delta line : ℕ) (bytes after mid : List ℕ) (error : Error) → Begins bytes (delta ∷ []) after → Begins after (line ∷ []) mid → U32Flaw mid error → NoneNext before bytes
+pub no_column : (before delta line : ℕ) (bytes after mid : List ℕ) (error : Error) → BeginsNumbers bytes (delta ∷ []) after → BeginsNumbers after (line ∷ []) mid → U32Flaw mid error → NoneNext before bytes
 no_column before delta line bytes after mid error begins second flaw entry rest next =
     let p = parts before bytes entry rest next in
     let same = begins_once bytes next.delta delta p.after after p.first begins in
     let then = once_behind entry.1.line line p.after after p.mid mid same.1 p.second second in
     begins_flawless p.mid entry.1.column rest error p.third (subst (λ (xs : List ℕ). U32Flaw xs error) (sym then.1) flaw)
 
-pub is_next : (before delta line column : ℕ) (bytes after mid rest : List ℕ) → Begins bytes (delta ∷ []) after → Begins after (line ∷ []) mid → Begins mid (column ∷ []) rest → before + delta < 2 ^ 32
+pub is_next : (before delta line column : ℕ) (bytes after mid rest : List ℕ) → BeginsNumbers bytes (delta ∷ []) after → BeginsNumbers after (line ∷ []) mid → BeginsNumbers mid (column ∷ []) rest → before + delta < 2 ^ 32
     → IsNext before bytes (before + delta, record { line = line; column = column }) rest
 is_next before delta line column bytes after mid rest first second third fits = record {
   delta = delta;
@@ -180,7 +180,7 @@ counted (Flaw error flaw) = []
 pub front : List ℕ → List Entry
 front bytes = counted (reading bytes)
 
-pub front_counted : (bytes : List ℕ) (count : ℕ) (after : List ℕ) → Begins bytes (count ∷ []) after → front bytes ≡ entries_from count 0 after
+pub front_counted : (bytes : List ℕ) (count : ℕ) (after : List ℕ) → BeginsNumbers bytes (count ∷ []) after → front bytes ≡ entries_from count 0 after
 unfolding front counted
 front_counted bytes count after begins = by_case (reading bytes)
   where
@@ -200,7 +200,7 @@ front_uncounted bytes error flaw = by_case (reading bytes)
 front_longest : (bytes : List ℕ) (other : List Entry) → Holds bytes other → length other ≤ length (front bytes)
 front_longest bytes other held = rw (front_counted bytes held.count held.after held.counted) (entries_longest held.count 0 held.after other held.rest held.entries held.enough)
 
-pub front_is : (bytes : List ℕ) → Front bytes (front bytes)
+pub front_is : (bytes : List ℕ) → LongestFront bytes (front bytes)
 unfolding front counted
 front_is bytes = record { held = by_case (reading bytes); longest = front_longest bytes }
   where
@@ -209,14 +209,15 @@ front_is bytes = record { held = by_case (reading bytes); longest = front_longes
     by_case (Flaw error flaw) = inl refl
 
 -- there is one front
-pub front_once : (bytes : List ℕ) (a b : List Entry) → Front bytes a → Front bytes b → a ≡ b
+pub front_once : (bytes : List ℕ) (a b : List Entry) → LongestFront bytes a → LongestFront bytes b → a ≡ b
 front_once bytes a b first second = by_case a b first.held second.held first.longest second.longest
   where
     none_longer : (list : List Entry) → length list ≤ 0 → list ≡ []
     none_longer [] short = refl
     none_longer (e ∷ list) short = absurd (omega arith)
 
-    by_case : (a b : List Entry) → (a ≡ []) ⊎ Holds bytes a → (b ≡ []) ⊎ Holds bytes b → ((other : List Entry) → Holds bytes other → length other ≤ length a) → ((other : List Entry) → Holds bytes other → length other ≤ length b) → a ≡ b
+    by_case : (a b : List Entry) → (a ≡ []) ⊎ Holds bytes a → (b ≡ []) ⊎ Holds bytes b → ((other : List Entry) → Holds bytes other → length other ≤ length a)
+        → ((other : List Entry) → Holds bytes other → length other ≤ length b) → a ≡ b
     by_case a b (inl none) (inl nothing) longest other = none ∙ sym nothing
     by_case a b (inl none) (inr held) longest other = none ∙ sym (none_longer b (omega (arith, longest b held, ap length none)))
     by_case a b (inr held) (inl none) longest other = none_longer a (omega (arith, other a held, ap length none)) ∙ sym none
@@ -225,7 +226,7 @@ front_once bytes a b first second = by_case a b first.held second.held first.lon
         entries_same 0 f.after a b f.rest s.rest f.entries (subst (λ (xs : List ℕ). AreEntries 0 xs b s.rest) (sym one.1) s.entries) (omega (arith, longest b s, other a f))
 
 -- a table is its front
-pub table_front : (bytes : List ℕ) (list : List Entry) → Table bytes list → Front bytes list
+pub table_front : (bytes : List ℕ) (list : List Entry) → Table bytes list → LongestFront bytes list
 table_front bytes list table = record {
   held = inr (record { count = length list; after = table.after; rest = []; counted = table.counted; entries = table.entries; enough = omega arith });
   longest = λ other held. omega (arith, held.enough, (begins_once bytes held.count (length list) held.after table.after held.counted table.counted).0);

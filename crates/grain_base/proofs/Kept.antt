@@ -25,15 +25,21 @@ ascends_without sites index least d a within none =
     let same = kept_without sites index d within none in
     record { down = λ rises. subst (λ (list : List Entry). RisesFrom least (addresses list)) same (a.down rises); up = λ rises. a.up (subst (λ (list : List Entry). RisesFrom least (addresses list)) (sym same) rises) }
 
-pub ascends_with : (sites : List Entry) (index least : ℕ) (d : Entry) → Ascends sites index least → index < length sites → (get_or sites index d).1.line ≢ 0 → least ≤ (get_or sites index d).0 → Ascends sites (index + 1) ((get_or sites index d).0 + 1)
+pub ascends_with : (sites : List Entry) (index least : ℕ) (d : Entry) → Ascends sites index least → index < length sites → (get_or sites index d).1.line ≢ 0
+    → least ≤ (get_or sites index d).0 → Ascends sites (index + 1) ((get_or sites index d).0 + 1)
 ascends_with sites index least d a within some above =
     let same = kept_with sites index d within some in
-    record { down = λ rises. (subst (λ (list : List Entry). RisesFrom least (addresses list)) same (a.down rises)).1; up = λ rises. a.up (subst (λ (list : List Entry). RisesFrom least (addresses list)) (sym same) (above, rises)) }
+    record {
+      down = λ rises. (subst (λ (list : List Entry). RisesFrom least (addresses list)) same (a.down rises)).1;
+      up = λ rises. a.up
+          (subst (λ (list : List Entry). RisesFrom least (addresses list)) (sym same) (above, rises));
+    }
 
 pub ascends_end : (sites : List Entry) (index least : ℕ) → Ascends sites index least → length sites ≤ index → IsStrictlyIncreasing (addresses (kept sites))
 ascends_end sites index least a over = rises_up 0 (addresses (kept sites)) (a.up (subst (λ (list : List Entry). RisesFrom least (addresses (kept list))) (sym (drop_all index sites over)) tt))
 
-pub falls : (sites : List Entry) (index least : ℕ) (d : Entry) → Ascends sites index least → index < length sites → (get_or sites index d).1.line ≢ 0 → (get_or sites index d).0 < least → IsStrictlyIncreasing (addresses (kept sites)) → ⊥
+pub falls : (sites : List Entry) (index least : ℕ) (d : Entry) → Ascends sites index least → index < length sites → (get_or sites index d).1.line ≢ 0
+    → (get_or sites index d).0 < least → IsStrictlyIncreasing (addresses (kept sites)) → ⊥
 falls sites index least d a within some below rises =
     let left = subst (λ (list : List Entry). RisesFrom least (addresses list)) (kept_with sites index d within some) (a.down (rises_from (addresses (kept sites)) rises)) in
     absurd (omega (arith, left.0))

@@ -5,12 +5,12 @@ use Rattle.std.proofs.lemmas.List.{take_at, take-append-drop, drop-drop}
 use Rattle.std.proofs.lemmas.List.Elements.{All-nil, All-cons, All-take}
 use Rattle.grain_base.specs.declared.varint.Error.{Error}
 use Rattle.grain_base.specs.declared.varint.Error.TheVariants.{Truncated, Overflow}
-use Rattle.grain_base.specs.Varint.{AreGroups, number_of, Spells, StandsAt, IsCutShort, NoneStands, U32Flaw, Begins}
+use Rattle.grain_base.specs.Varint.{AreGroups, number_of, Spells, NumberStandsAt, IsCutShort, NoneStands, U32Flaw, BeginsNumbers}
 use Rattle.grain_base.proofs.Groups.{GoesOn, none_ends, one_front}
 use Rattle.grain_base.proofs.Standing.{one_spelling, stands_within, cut_stands}
 
 -- a number stands at the front of the bytes, and then come the others
-pub begins_at : (bytes : List ℕ) (from n to : ℕ) → StandsAt bytes from n to → n < 2 ^ 32 → Begins (drop from bytes) (n ∷ []) (drop to bytes)
+pub begins_at : (bytes : List ℕ) (from n to : ℕ) → NumberStandsAt bytes from n to → n < 2 ^ 32 → BeginsNumbers (drop from bytes) (n ∷ []) (drop to bytes)
 begins_at bytes from n to standing fits =
     let behind : from + (to - from) ≡ to = omega (arith, stands_within bytes from n to standing) in (
       take (to - from) (drop from bytes),
@@ -20,26 +20,26 @@ begins_at bytes from n to standing fits =
       drop-drop (to - from) from bytes ∙ ap (λ i. drop i bytes) behind,
     )
 
-pub begins-append : (bytes : List ℕ) (ns ms mid rest : List ℕ) → Begins bytes ns mid → Begins mid ms rest → Begins bytes (ns ++ ms) rest
-begins-append bytes [] ms mid rest first second = subst (λ (xs : List ℕ). Begins xs ms rest) (sym first) second
+pub begins-append : (bytes : List ℕ) (ns ms mid rest : List ℕ) → BeginsNumbers bytes ns mid → BeginsNumbers mid ms rest → BeginsNumbers bytes (ns ++ ms) rest
+begins-append bytes [] ms mid rest first second = subst (λ (xs : List ℕ). BeginsNumbers xs ms rest) (sym first) second
 begins-append bytes (n ∷ ns) ms mid rest first second =
     (first.0, first.1, first.2, first.3, begins-append first.1 ns ms mid rest first.4 second)
 
 -- more bytes behind the last number
-pub begins_longer : (bytes ns rest more : List ℕ) → Begins bytes ns rest → Begins (bytes ++ more) ns (rest ++ more)
+pub begins_longer : (bytes ns rest more : List ℕ) → BeginsNumbers bytes ns rest → BeginsNumbers (bytes ++ more) ns (rest ++ more)
 begins_longer bytes [] rest more begins = ap (λ (xs : List ℕ). xs ++ more) begins
 begins_longer bytes (n ∷ ns) rest more begins =
     (begins.0, begins.1 ++ more, ap (λ (xs : List ℕ). xs ++ more) begins.2 ∙ append_assoc begins.0 begins.1 more, begins.3, begins_longer begins.1 ns rest more begins.4)
 
 -- the bytes of the numbers, without those that follow
-pub begins_front : (bytes ns rest : List ℕ) → Begins bytes ns rest → (front : List ℕ) × (bytes ≡ front ++ rest) × Begins front ns []
+pub begins_front : (bytes ns rest : List ℕ) → BeginsNumbers bytes ns rest → (front : List ℕ) × (bytes ≡ front ++ rest) × BeginsNumbers front ns []
 begins_front bytes [] rest begins = ([], begins, refl)
 begins_front bytes (n ∷ ns) rest begins =
     let more = begins_front begins.1 ns rest begins.4 in
     (begins.0 ++ more.0, begins.2 ∙ ap (λ (xs : List ℕ). begins.0 ++ xs) more.1 ∙ sym (append_assoc begins.0 more.0 rest), (begins.0, more.0, refl, begins.3, more.2))
 
 -- the first number is one, and so is what follows it
-pub begins_once : (bytes : List ℕ) (m n : ℕ) (rest more : List ℕ) → Begins bytes (m ∷ []) rest → Begins bytes (n ∷ []) more → (m ≡ n) × (rest ≡ more)
+pub begins_once : (bytes : List ℕ) (m n : ℕ) (rest more : List ℕ) → BeginsNumbers bytes (m ∷ []) rest → BeginsNumbers bytes (n ∷ []) more → (m ≡ n) × (rest ≡ more)
 begins_once bytes m n rest more first second =
     let one = one_spelling first.0 second.0 first.1 second.1 m n first.3.0 second.3.0 (sym first.2 ∙ second.2) in
     (one.1, sym first.4 ∙ one.2 ∙ second.4)
@@ -48,11 +48,11 @@ begins_once bytes m n rest more first second =
 pub record AreThree (bytes : List ℕ) (a b c : ℕ) (rest : List ℕ) : Type 0 where
   pub after : List ℕ
   pub mid : List ℕ
-  pub first : Begins bytes (a ∷ []) after
-  pub second : Begins after (b ∷ []) mid
-  pub third : Begins mid (c ∷ []) rest
+  pub first : BeginsNumbers bytes (a ∷ []) after
+  pub second : BeginsNumbers after (b ∷ []) mid
+  pub third : BeginsNumbers mid (c ∷ []) rest
 
-pub three : (bytes : List ℕ) (a b c : ℕ) (rest : List ℕ) → Begins bytes (a ∷ b ∷ c ∷ []) rest → AreThree bytes a b c rest
+pub three : (bytes : List ℕ) (a b c : ℕ) (rest : List ℕ) → BeginsNumbers bytes (a ∷ b ∷ c ∷ []) rest → AreThree bytes a b c rest
 three bytes a b c rest all = record {
   after = all.1;
   mid = all.4.1;
@@ -62,7 +62,7 @@ three bytes a b c rest all = record {
 }
 
 -- a number that fits excludes an error
-pub begins_flawless : (bytes : List ℕ) (n : ℕ) (rest : List ℕ) (error : Error) → Begins bytes (n ∷ []) rest → U32Flaw bytes error → ⊥
+pub begins_flawless : (bytes : List ℕ) (n : ℕ) (rest : List ℕ) (error : Error) → BeginsNumbers bytes (n ∷ []) rest → U32Flaw bytes error → ⊥
 begins_flawless bytes n rest error number flaw = within error flaw
   where
     here : Spells (take (length number.0) bytes) n
@@ -101,7 +101,7 @@ parts (byte ∷ bytes) = elim (cases_lt byte 0x80) [
 
 -- Either a number that fits stands at the front of the bytes, or an error says why none does.
 pub data Reading (bytes : List ℕ) : Type 0 where
-  Number : (n : ℕ) (rest : List ℕ) → Begins bytes (n ∷ []) rest → Reading bytes
+  Number : (n : ℕ) (rest : List ℕ) → BeginsNumbers bytes (n ∷ []) rest → Reading bytes
   Flaw : (error : Error) → U32Flaw bytes error → Reading bytes
 
 -- spelled in other groups than these it isn't
@@ -139,16 +139,18 @@ reading bytes = elim (parts bytes) [
 ]
 
 -- What is known of the first number where it is read, and where it can't be.
-pub first_read : {E : Type 0} (bytes : List ℕ) (m : ℕ) (rest : List ℕ) → Begins bytes (m ∷ []) rest → (n : ℕ) → (◌≡◌ {A = Result ℕ E} (Ok m) (Ok n)) ↔ ((left : List ℕ) × Begins bytes (n ∷ []) left)
+pub first_read : {E : Type 0} (bytes : List ℕ) (m : ℕ) (rest : List ℕ) → BeginsNumbers bytes (m ∷ []) rest → (n : ℕ) → (◌≡◌ {A = Result ℕ E} (Ok m) (Ok n)) ↔ ((left : List ℕ) × BeginsNumbers bytes (n ∷ []) left)
 first_read bytes m rest begins n =
-    (λ same. (rest, subst (λ (k : ℕ). Begins bytes (k ∷ []) rest) (cc) begins), λ other. ap (λ (k : ℕ). Ok k) (begins_once bytes m n rest other.0 begins other.1).0)
+    (λ same. (rest, subst (λ (k : ℕ). BeginsNumbers bytes (k ∷ []) rest) (cc) begins), λ other. ap (λ (k : ℕ). Ok k) (begins_once bytes m n rest other.0 begins other.1).0)
 
-pub first_unread : {E : Type 0} (bytes : List ℕ) (error : Error) (e : E) → U32Flaw bytes error → (n : ℕ) → (◌≡◌ {A = Result ℕ E} (Err e) (Ok n)) ↔ ((left : List ℕ) × Begins bytes (n ∷ []) left)
+pub first_unread : {E : Type 0} (bytes : List ℕ) (error : Error) (e : E) → U32Flaw bytes error → (n : ℕ) → (◌≡◌ {A = Result ℕ E} (Err e) (Ok n)) ↔ ((left : List ℕ) × BeginsNumbers bytes (n ∷ []) left)
 first_unread bytes error e flaw n = (λ same. absurd cc, λ other. absurd (begins_flawless bytes n other.0 error other.1 flaw))
 
-pub no_error : {E : Type 0} (as_error : Error → E) (bytes : List ℕ) (m : ℕ) (rest : List ℕ) → Begins bytes (m ∷ []) rest → (e : E) → (◌≡◌ {A = Result ℕ E} (Ok m) (Err e)) ↔ ((error : Error) × U32Flaw bytes error × (e ≡ as_error error))
+pub no_error : {E : Type 0} (as_error : Error → E) (bytes : List ℕ) (m : ℕ) (rest : List ℕ) → BeginsNumbers bytes (m ∷ []) rest → (e : E) → (◌≡◌ {A = Result ℕ E} (Ok m) (Err e)) ↔
+    ((error : Error) × U32Flaw bytes error × (e ≡ as_error error))
 no_error as_error bytes m rest begins e = (λ same. absurd cc, λ other. absurd (begins_flawless bytes m rest other.0 begins other.1))
 
-pub the_error : {E : Type 0} (as_error : Error → E) (bytes : List ℕ) (error : Error) → U32Flaw bytes error → (e : E) → (◌≡◌ {A = Result ℕ E} (Err (as_error error)) (Err e)) ↔ ((found : Error) × U32Flaw bytes found × (e ≡ as_error found))
+pub the_error : {E : Type 0} (as_error : Error → E) (bytes : List ℕ) (error : Error) → U32Flaw bytes error → (e : E) → (◌≡◌ {A = Result ℕ E} (Err (as_error error)) (Err e)) ↔
+    ((found : Error) × U32Flaw bytes found × (e ≡ as_error found))
 the_error {E} as_error bytes error flaw e =
     (λ same. (error, flaw, cc), λ other. ap (λ (x : E). Err x) (ap as_error (one_u32_flaw bytes error other.0 flaw other.1) ∙ sym other.2))

@@ -6,7 +6,7 @@ use Rattle.std.proofs.lemmas.List.{take_more, take_all, take-take, length-take, 
 use Rattle.std.proofs.lemmas.List.Elements.{All-nil, All-more, All-take}
 use Rattle.std.proofs.lemmas.Nat.{pow-add, and_mask, or_comm, or_shifted, shl_whole}
 use Rattle.grain_base.specs.declared.varint.Error.TheVariants.{Truncated, Overflow}
-use Rattle.grain_base.specs.Varint.{number_of, StandsAt, NoneStands, NumberFlaw}
+use Rattle.grain_base.specs.Varint.{number_of, NumberStandsAt, NoneStands, NumberFlaw}
 use Rattle.grain_base.proofs.Groups.{GoesOn, number_of-push, number_of-below, groups_push, none_ends}
 
 -- From a place of the bytes on, so many groups go on. Their number is the value, and the cursor stands behind them.
@@ -66,7 +66,7 @@ passes_more bytes from count value at byte passed within read more =
     }
 
 pub stands : (bytes : List ℕ) (from count value at byte : ℕ) → Passes bytes from count value at → at < length bytes → byte ≡ get_or bytes at 0 → byte < 0x80 → count ≤ 9 → (count ≡ 9 → byte ≤ 1)
-    → StandsAt bytes from (value + byte % 128 * 128 ^ count) (at + 1)
+    → NumberStandsAt bytes from (value + byte % 128 * 128 ^ count) (at + 1)
 stands bytes from count value at byte passed within read last ten tenth =
     let next = front_more bytes from count value at byte passed within read in
     let front = take count (drop from bytes) in
@@ -98,7 +98,8 @@ pub too_wide : (bytes : List ℕ) (from value at byte : ℕ) → Passes bytes fr
 too_wide bytes from value at byte passed within read wide =
     let next = front_more bytes from 9 value at byte passed within read in
     let none : NoneStands (drop from bytes) = λ taken n spelled. elim (cases_lt taken 10) [
-      | inl less ↦ none_ends (take taken (drop from bytes)) (subst (λ (xs : List ℕ). All GoesOn xs) (take-take taken 9 (drop from bytes) (omega arith)) (All-take GoesOn taken (take 9 (drop from bytes)) passed.go_on)) spelled.groups
+      | inl less ↦ none_ends (take taken (drop from bytes)) (subst (λ (xs : List ℕ). All GoesOn xs) (take-take taken 9 (drop from bytes) (omega arith))
+          (All-take GoesOn taken (take 9 (drop from bytes)) passed.go_on)) spelled.groups
       | inr more ↦ absurd (omega (arith, spelled.tenth, get_or-take taken (drop from bytes) 9 0 (omega arith), next.1))
     ] in
     ((none, λ short. absurd (omega (arith, short.0, next.0))), omega (arith, passed.here, length-take 10 (drop from bytes), next.0))

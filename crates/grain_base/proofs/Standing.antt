@@ -1,5 +1,6 @@
 -- Of the numbers that stand at a place there is one at most, and where there is none one error says why.
-use Rattle.std.proofs.Common.{◌≡◌, ℕ, ℤ, pos, negsuc, ◌+◌, ◌-◌, ◌*◌, ◌/◌, ◌%◌, ◌^◌, ◌<◌, ◌≤◌, ◌≢◌, ◌↔◌, inl, inr, bit_and, List, ◌++◌, length, take, drop, get_or, slice_range, Result, Ok, Err, IfOk, OnErr, refl, sym, ap, subst, ◌∙◌, arith}
+use Rattle.std.proofs.Common.{◌≡◌, ℕ, ℤ, pos, negsuc, ◌+◌, ◌-◌, ◌*◌, ◌/◌, ◌%◌, ◌^◌, ◌<◌, ◌≤◌, ◌≢◌, ◌↔◌, inl, inr, bit_and}
+use Rattle.std.proofs.Common.{List, ◌++◌, length, take, drop, get_or, slice_range, Result, Ok, Err, IfOk, OnErr, refl, sym, ap, subst, ◌∙◌, arith}
 use Rattle.std.proofs.lemmas.List.{take-append-drop, length-take, length-drop}
 use Rattle.std.specs.Int.{w64, cast_signed}
 use Rattle.std.proofs.lemmas.Int.{ints}
@@ -7,7 +8,7 @@ use Rattle.std.proofs.lemmas.Nat.{and_mask}
 use Rattle.std.proofs.lemmas.List.Elements.{All-take}
 use Rattle.grain_base.specs.declared.varint.Error.{Error}
 use Rattle.grain_base.specs.declared.varint.Error.TheVariants.{Truncated, Overflow}
-use Rattle.grain_base.specs.Varint.{number_of, Spells, StandsAt, IsCutShort, NoneStands, NumberFlaw, U32Flaw, Reads, zigzag}
+use Rattle.grain_base.specs.Varint.{number_of, Spells, NumberStandsAt, IsCutShort, NoneStands, NumberFlaw, U32Flaw, ReadsNumber, zigzag}
 use Rattle.grain_base.proofs.Groups.{GoesOn, groups_some, none_ends, one_front}
 use Rattle.grain_base.proofs.Reading.{passes_none, stands}
 
@@ -18,14 +19,14 @@ one_spelling a b x y m n first second same =
     (one.0, sym first.number ∙ ap number_of one.0 ∙ second.number, one.1)
 
 -- what spelled numbers at a place have in common with its end
-pub stands_within : (bytes : List ℕ) (from n to : ℕ) → StandsAt bytes from n to → (from < to) × (length (slice_range bytes from to) ≡ to - from)
+pub stands_within : (bytes : List ℕ) (from n to : ℕ) → NumberStandsAt bytes from n to → (from < to) × (length (slice_range bytes from to) ≡ to - from)
 stands_within bytes from n to standing =
     let some = groups_some (slice_range bytes from to) standing.1.groups in
     let long = length-take (to - from) (drop from bytes) in
     let rest = length-drop from bytes in
     (omega arith, omega (arith, standing.0))
 
-pub stands_once : (bytes : List ℕ) (from m n to end : ℕ) → StandsAt bytes from m to → StandsAt bytes from n end → (m ≡ n) × (to ≡ end)
+pub stands_once : (bytes : List ℕ) (from m n to end : ℕ) → NumberStandsAt bytes from m to → NumberStandsAt bytes from n end → (m ≡ n) × (to ≡ end)
 stands_once bytes from m n to end first second =
     let same = take-append-drop (to - from) (drop from bytes) ∙ sym (take-append-drop (end - from) (drop from bytes)) in
     let one = one_spelling (slice_range bytes from to) (slice_range bytes from end) _ _ m n first.1 second.1 same in
@@ -48,30 +49,30 @@ one_flaw bytes Overflow Truncated first second = absurd (first.1 second)
 one_flaw bytes Overflow Overflow first second = refl
 
 -- What reading gives says all that stands there.
-pub reads_found : (bytes : List ℕ) (from to : ℕ) (result : Result ℕ Error) → Reads bytes from result to → IfOk result (λ n. StandsAt bytes from n to)
+pub reads_found : (bytes : List ℕ) (from to : ℕ) (result : Result ℕ Error) → ReadsNumber bytes from result to → IfOk result (λ n. NumberStandsAt bytes from n to)
 reads_found bytes from to (Ok n) reads = reads
 reads_found bytes from to (Err e) reads = tt
 
-pub reads_spelled : (bytes : List ℕ) (from to : ℕ) (result : Result ℕ Error) → Reads bytes from result to → (n end : ℕ) → StandsAt bytes from n end → (result ≡ Ok n) × (to ≡ end)
+pub reads_spelled : (bytes : List ℕ) (from to : ℕ) (result : Result ℕ Error) → ReadsNumber bytes from result to → (n end : ℕ) → NumberStandsAt bytes from n end → (result ≡ Ok n) × (to ≡ end)
 reads_spelled bytes from to (Ok m) reads n end standing =
     let one = stands_once bytes from m n to end reads standing in
     (ap (λ (k : ℕ). Ok k) one.0, one.1)
 reads_spelled bytes from to (Err e) reads n end standing = absurd (flaw_stands (drop from bytes) e reads.0 (end - from) n standing.1)
 
-pub reads_error : (bytes : List ℕ) (from to : ℕ) (result : Result ℕ Error) → Reads bytes from result to → (e : Error) → (result ≡ Err e) ↔ NumberFlaw (drop from bytes) e
+pub reads_error : (bytes : List ℕ) (from to : ℕ) (result : Result ℕ Error) → ReadsNumber bytes from result to → (e : Error) → (result ≡ Err e) ↔ NumberFlaw (drop from bytes) e
 reads_error bytes from to (Ok n) reads e = (λ same. absurd cc, λ flaw. absurd (flaw_stands (drop from bytes) e flaw (to - from) n reads.1))
 reads_error bytes from to (Err error) reads e =
     (λ same. let one : error ≡ e = cc in subst (NumberFlaw (drop from bytes)) one reads.0, λ flaw. ap (λ (x : Error). Err x) (one_flaw (drop from bytes) error e reads.0 flaw))
 
-pub reads_cursor : (bytes : List ℕ) (from to : ℕ) (result : Result ℕ Error) → Reads bytes from result to → OnErr result (to ≡ from + length (take 10 (drop from bytes)))
+pub reads_cursor : (bytes : List ℕ) (from to : ℕ) (result : Result ℕ Error) → ReadsNumber bytes from result to → OnErr result (to ≡ from + length (take 10 (drop from bytes)))
 reads_cursor bytes from to (Ok n) reads = tt
 reads_cursor bytes from to (Err e) reads = reads.1
 
 -- one group
-pub reads_one : (bytes : List ℕ) (from byte : ℕ) → from < length bytes → byte ≡ get_or bytes from 0 → byte < 0x80 → StandsAt bytes from byte (from + 1)
+pub reads_one : (bytes : List ℕ) (from byte : ℕ) → from < length bytes → byte ≡ get_or bytes from 0 → byte < 0x80 → NumberStandsAt bytes from byte (from + 1)
 reads_one bytes from byte within read last =
     let value : 0 + byte % 128 * 128 ^ 0 ≡ byte = omega arith in
-    subst (λ (n : ℕ). StandsAt bytes from n (from + 1)) value (stands bytes from 0 0 from byte (passes_none bytes from) within read last (omega arith) (λ nine. absurd (omega arith)))
+    subst (λ (n : ℕ). NumberStandsAt bytes from n (from + 1)) value (stands bytes from 0 0 from byte (passes_none bytes from) within read last (omega arith) (λ nine. absurd (omega arith)))
 
 -- numbers that are spelled alike are one
 zigzag_once : (a b : ℤ) → zigzag a ≡ zigzag b → a ≡ b
@@ -80,7 +81,7 @@ zigzag_once (pos m) (negsuc n) same = absurd (omega arith)
 zigzag_once (negsuc m) (pos n) same = absurd (omega arith)
 zigzag_once (negsuc m) (negsuc n) same = ap negsuc (omega arith)
 
-pub zigzag_spelled : (bytes : List ℕ) (from to end : ℕ) (a b : ℤ) → StandsAt bytes from (zigzag a) to → StandsAt bytes from (zigzag b) end → (◌≡◌ {A = Result ℤ Error} (Ok a) (Ok b)) × (to ≡ end)
+pub zigzag_spelled : (bytes : List ℕ) (from to end : ℕ) (a b : ℤ) → NumberStandsAt bytes from (zigzag a) to → NumberStandsAt bytes from (zigzag b) end → (◌≡◌ {A = Result ℤ Error} (Ok a) (Ok b)) × (to ≡ end)
 zigzag_spelled bytes from to end a b first second =
     let one = stands_once bytes from (zigzag a) (zigzag b) to end first second in
     (ap (λ (v : ℤ). Ok v) (zigzag_once a b one.0), one.1)
@@ -113,16 +114,17 @@ u32_flaw bytes error e flaw = (there error e flaw, back error e flaw)
     back Overflow Truncated flaw other = absurd (flaw.1 other)
     back Overflow Overflow flaw other = refl
 
-pub u32_large : (bytes : List ℕ) (from n to : ℕ) → StandsAt bytes from n to → 2 ^ 32 ≤ n → (e : Error) → (◌≡◌ {A = Result ℕ Error} (Err Overflow) (Err e)) ↔ U32Flaw (drop from bytes) e
+pub u32_large : (bytes : List ℕ) (from n to : ℕ) → NumberStandsAt bytes from n to → 2 ^ 32 ≤ n → (e : Error) → (◌≡◌ {A = Result ℕ Error} (Err Overflow) (Err e)) ↔ U32Flaw (drop from bytes) e
 u32_large bytes from n to standing large Truncated = (λ same. absurd cc, λ flaw. absurd (cut_stands (drop from bytes) flaw (to - from) n standing.1))
 u32_large bytes from n to standing large Overflow = (λ same. inr (to - from, n, standing.1, large), λ flaw. refl)
 
-pub u32_small : (bytes : List ℕ) (from n to : ℕ) → StandsAt bytes from n to → n < 2 ^ 32 → (e : Error) → (◌≡◌ {A = Result ℕ Error} (Ok n) (Err e)) ↔ U32Flaw (drop from bytes) e
+pub u32_small : (bytes : List ℕ) (from n to : ℕ) → NumberStandsAt bytes from n to → n < 2 ^ 32 → (e : Error) → (◌≡◌ {A = Result ℕ Error} (Ok n) (Err e)) ↔ U32Flaw (drop from bytes) e
 u32_small bytes from n to standing small e = (λ same. absurd cc, λ flaw. absurd (none e flaw))
   where
     none : (e : Error) → U32Flaw (drop from bytes) e → ⊥
     none Truncated flaw = cut_stands (drop from bytes) flaw (to - from) n standing.1
     none Overflow (inl wide) = wide.0 (to - from) n standing.1
     none Overflow (inr large) =
-        let one = one_spelling (take (to - from) (drop from bytes)) (take large.0 (drop from bytes)) _ _ n large.1 standing.1 large.2 (take-append-drop (to - from) (drop from bytes) ∙ sym (take-append-drop large.0 (drop from bytes))) in
+        let one = one_spelling (take (to - from) (drop from bytes)) (take large.0 (drop from bytes)) _ _ n large.1 standing.1 large.2
+        (take-append-drop (to - from) (drop from bytes) ∙ sym (take-append-drop large.0 (drop from bytes))) in
         absurd (omega (arith, one.1, large.3))

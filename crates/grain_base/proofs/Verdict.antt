@@ -1,12 +1,13 @@
 -- What a check has to answer: the one answer that the bytes allow.
-use Rattle.std.proofs.Common.{◌≡◌, ℕ, zero, suc, ◌+◌, ◌*◌, ◌^◌, ◌<◌, ◌≤◌, ◌↔◌, inl, inr, List, [], ◌∷◌, ◌++◌, length, Option, Some, None, Result, Ok, Err, IsOk, cond, nat_eq, nat_lt, sum, refl, sym, ap, subst, ◌∙◌, arith}
+use Rattle.std.proofs.Common.{◌≡◌, ℕ, zero, suc, ◌+◌, ◌*◌, ◌^◌, ◌<◌, ◌≤◌, ◌↔◌, inl, inr, List, [], ◌∷◌, ◌++◌, length}
+use Rattle.std.proofs.Common.{Option, Some, None, Result, Ok, Err, IsOk, cond, nat_eq, nat_lt, sum, refl, sym, ap, subst, ◌∙◌, arith}
 use Rattle.std.specs.List.Sorted.{IsStrictlyIncreasing}
 use Rattle.std.proofs.lemmas.Bool.{ne_eqb, lt-ltb, le-ltb}
 use Rattle.grain_base.specs.declared.pos.Error.{Error}
 use Rattle.grain_base.specs.declared.pos.Error.TheVariants.{Truncated, Overflow, OutOfOrder, TrailingBytes}
 use Rattle.grain_base.specs.declared.varint.Error.{Error as NumberError}
 use Rattle.grain_base.specs.declared.varint.Error.TheVariants as number_error
-use Rattle.grain_base.specs.Varint.{Begins, U32Flaw}
+use Rattle.grain_base.specs.Varint.{BeginsNumbers, U32Flaw}
 use Rattle.grain_base.specs.AddressTable.{Entry, addresses, AreEntries, Table, deltas, IsUnfinished, IsUnreadable, IsNextDelta, FirstFlaw, as_table_error}
 use Rattle.grain_base.proofs.Numbers.{three, begins_longer, begins_once, begins_flawless, one_u32_flaw, Reading, Number, Flaw, reading}
 use Rattle.grain_base.proofs.Rising.{rises_next, rises_rest}
@@ -20,7 +21,7 @@ after_number : {bytes : List ℕ} → Reading bytes → (ℕ → List ℕ → An
 after_number (Number n rest begins) then = then n rest
 after_number (Flaw error flaw) then = Err (as_table_error error)
 
-after_number_is : (bytes : List ℕ) (r : Reading bytes) (n : ℕ) (rest : List ℕ) (then : ℕ → List ℕ → Answer) → Begins bytes (n ∷ []) rest → after_number r then ≡ then n rest
+after_number_is : (bytes : List ℕ) (r : Reading bytes) (n : ℕ) (rest : List ℕ) (then : ℕ → List ℕ → Answer) → BeginsNumbers bytes (n ∷ []) rest → after_number r then ≡ then n rest
 unfolding after_number
 after_number_is bytes (Number m left found) n rest then begins = let one = begins_once bytes m n left rest found begins in ap (λ x. then x left) one.0 ∙ ap (then n) one.1
 after_number_is bytes (Flaw error flaw) n rest then begins = absurd (begins_flawless bytes n rest error begins flaw)
@@ -48,23 +49,24 @@ answer_from (suc count) previous bytes =
     after_number (reading bytes) (λ delta after. after_delta previous delta (λ address. after_number (reading after) (λ line mid. after_number (reading mid) (λ column rest. answer_from count (Some address) rest))))
 
 -- Whole and unfinished entries, as far as they are in order.
-one_read : (count : ℕ) (previous : Option ℕ) (bytes : List ℕ) (delta : ℕ) (after : List ℕ) → Begins bytes (delta ∷ []) after → Follows previous delta
+one_read : (count : ℕ) (previous : Option ℕ) (bytes : List ℕ) (delta : ℕ) (after : List ℕ) → BeginsNumbers bytes (delta ∷ []) after → Follows previous delta
     → answer_from (suc count) previous bytes ≡ after_number (reading after) (λ line mid. after_number (reading mid) (λ column rest. answer_from count (Some (led_to previous delta)) rest))
 unfolding answer_from
 one_read count previous bytes delta after begins follows =
     after_number_is bytes (reading bytes) delta after _ begins ∙ after_delta_is previous delta _ follows
 
-two_read : (count : ℕ) (previous : Option ℕ) (bytes : List ℕ) (delta line : ℕ) (after mid : List ℕ) → Begins bytes (delta ∷ []) after → Begins after (line ∷ []) mid → Follows previous delta
+two_read : (count : ℕ) (previous : Option ℕ) (bytes : List ℕ) (delta line : ℕ) (after mid : List ℕ) → BeginsNumbers bytes (delta ∷ []) after → BeginsNumbers after (line ∷ []) mid → Follows previous delta
     → answer_from (suc count) previous bytes ≡ after_number (reading mid) (λ column rest. answer_from count (Some (led_to previous delta)) rest)
 two_read count previous bytes delta line after mid begins second follows =
     one_read count previous bytes delta after begins follows ∙ after_number_is after (reading after) line mid _ second
 
-entry_read : (count : ℕ) (previous : Option ℕ) (bytes : List ℕ) (delta line column : ℕ) (after mid rest : List ℕ) → Begins bytes (delta ∷ []) after → Begins after (line ∷ []) mid → Begins mid (column ∷ []) rest → Follows previous delta
+entry_read : (count : ℕ) (previous : Option ℕ) (bytes : List ℕ) (delta line column : ℕ) (after mid rest : List ℕ) → BeginsNumbers bytes (delta ∷ []) after → BeginsNumbers after (line ∷ []) mid
+    → BeginsNumbers mid (column ∷ []) rest → Follows previous delta
     → answer_from (suc count) previous bytes ≡ answer_from count (Some (led_to previous delta)) rest
 entry_read count previous bytes delta line column after mid rest begins second third follows =
     two_read count previous bytes delta line after mid begins second follows ∙ after_number_is mid (reading mid) column rest _ third
 
-unreadable_from : (count : ℕ) (previous : Option ℕ) (bytes numbers left : List ℕ) (error : NumberError) → Begins bytes numbers left → length numbers < 3 * count → LeadOn previous numbers → U32Flaw left error
+unreadable_from : (count : ℕ) (previous : Option ℕ) (bytes numbers left : List ℕ) (error : NumberError) → BeginsNumbers bytes numbers left → length numbers < 3 * count → LeadOn previous numbers → U32Flaw left error
     → answer_from count previous bytes ≡ Err (as_table_error error)
 unfolding answer_from
 unreadable_from zero previous bytes numbers left error begins short lead flaw = absurd (omega arith)
@@ -80,7 +82,8 @@ unreadable_from (suc count) previous bytes (d ∷ l ∷ c ∷ numbers) left erro
     ∙ unreadable_from count (Some (led_to previous d)) begins.4.4.1 numbers left error begins.4.4.4 (omega arith) lead.1 flaw
 
 -- behind whole entries a delta stands that doesn't lead on
-stopped_from : (count entries : ℕ) (previous : Option ℕ) (bytes numbers left : List ℕ) (delta : ℕ) (error : Error) → Begins bytes (numbers ++ delta ∷ []) left → length numbers ≡ 3 * entries → length numbers < 3 * count → LeadOn previous numbers
+stopped_from : (count entries : ℕ) (previous : Option ℕ) (bytes numbers left : List ℕ) (delta : ℕ) (error : Error) → BeginsNumbers bytes (numbers ++ delta ∷ []) left
+    → length numbers ≡ 3 * entries → length numbers < 3 * count → LeadOn previous numbers
     → ((then : ℕ → Answer) → after_delta (last_from previous numbers) delta then ≡ Err error) → answer_from count previous bytes ≡ Err error
 unfolding answer_from
 stopped_from zero entries previous bytes numbers left delta error begins whole short lead stop = absurd (omega arith)
@@ -124,7 +127,7 @@ all_read bytes (entry ∷ list) rest are rises =
 answer_of : List ℕ → Answer
 answer_of bytes = after_number (reading bytes) (λ count after. answer_from count None after)
 
-answer_counted : (bytes : List ℕ) (count : ℕ) (after : List ℕ) → Begins bytes (count ∷ []) after → answer_of bytes ≡ answer_from count None after
+answer_counted : (bytes : List ℕ) (count : ℕ) (after : List ℕ) → BeginsNumbers bytes (count ∷ []) after → answer_of bytes ≡ answer_from count None after
 unfolding answer_of
 answer_counted bytes count after begins = after_number_is bytes (reading bytes) count after _ begins
 
@@ -136,13 +139,14 @@ unreadable_answer : (bytes : List ℕ) (error : NumberError) → IsUnreadable by
 unfolding answer_of
 unreadable_answer bytes error u = by_case u.numbers u.read u.unfinished
   where
-    by_case : (numbers : List ℕ) → Begins bytes numbers u.left → IsUnfinished numbers → answer_of bytes ≡ Err (as_table_error error)
+    by_case : (numbers : List ℕ) → BeginsNumbers bytes numbers u.left → IsUnfinished numbers → answer_of bytes ≡ Err (as_table_error error)
     by_case [] read unfinished = after_flaw_is bytes (reading bytes) error _ (subst (λ (xs : List ℕ). U32Flaw xs error) (sym read) u.flaw)
     by_case (count ∷ numbers) read unfinished =
         answer_counted bytes count read.1 (read.0, read.1, read.2, read.3, refl)
         ∙ unreadable_from count None read.1 numbers u.left error read.4 unfinished.0 (lead_on numbers unfinished.1) u.flaw
 
-stopped_answer : (bytes numbers : List ℕ) (delta : ℕ) (error : Error) (next : IsNextDelta bytes numbers delta) → ((then : ℕ → Answer) → after_delta (last_from None numbers) delta then ≡ Err error) → answer_of bytes ≡ Err error
+stopped_answer : (bytes numbers : List ℕ) (delta : ℕ) (error : Error) (next : IsNextDelta bytes numbers delta)
+    → ((then : ℕ → Answer) → after_delta (last_from None numbers) delta then ≡ Err error) → answer_of bytes ≡ Err error
 stopped_answer bytes numbers delta error next stop =
     let read = next.read in
     answer_counted bytes next.count read.1 (read.0, read.1, read.2, read.3, refl)

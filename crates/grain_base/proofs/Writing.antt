@@ -18,7 +18,8 @@ pub record Written (groups : List ℕ) (count rest number : ℕ) : Type 0 where
   pub some : 0 < count → 0 < rest
 
 -- the number that the groups stand for with one more byte
-number_more : (groups : List ℕ) (count byte : ℕ) → length groups ≡ 10 → count ≤ 9 → (take (count + 1) (set groups count byte) ≡ take count groups ++ byte ∷ []) × (number_of (take count groups ++ byte ∷ []) ≡ number_of (take count groups) + byte % 128 * 128 ^ count)
+number_more : (groups : List ℕ) (count byte : ℕ) → length groups ≡ 10 → count ≤ 9
+    → (take (count + 1) (set groups count byte) ≡ take count groups ++ byte ∷ []) × (number_of (take count groups ++ byte ∷ []) ≡ number_of (take count groups) + byte % 128 * 128 ^ count)
 number_more groups count byte room inside =
     (take_more_set groups count byte (omega arith), number_of-push (take count groups) byte ∙ ap (λ n. number_of (take count groups) + byte % 128 * 128 ^ n) (length-take-le count groups (omega arith)))
 

@@ -7,7 +7,7 @@ use Rattle.grain_base.specs.declared.pos.Site.{Site}
 use Rattle.grain_base.specs.declared.varint.Error.{Error as NumberError}
 use Rattle.grain_base.specs.declared.varint.Error.TheVariants as number_error
 use Rattle.grain_base.specs.EntriesLeft.{EntriesLeft}
-use Rattle.grain_base.specs.Varint.{Begins, U32Flaw}
+use Rattle.grain_base.specs.Varint.{BeginsNumbers, U32Flaw}
 
 -- an address, and the site recorded for it
 abbrev pub Entry : Type 0
@@ -20,7 +20,7 @@ addresses list = map (λ entry. entry.0) list
 -- leads to its address from the one before it.
 pub record IsNext (before : ℕ) (bytes : List ℕ) (entry : Entry) (rest : List ℕ) : Type 0 where
   pub delta : ℕ
-  pub spelled : Begins bytes (delta ∷ entry.1.line ∷ entry.1.column ∷ []) rest
+  pub spelled : BeginsNumbers bytes (delta ∷ entry.1.line ∷ entry.1.column ∷ []) rest
   pub address : entry.0 ≡ before + delta
   pub fits : entry.0 < 2 ^ 32
 
@@ -36,7 +36,7 @@ AreEntries before bytes (entry ∷ entries) rest = (after : List ℕ) × IsNext 
 -- The bytes are a table of these entries: how many they are, and then each of them. Their addresses strictly ascend.
 pub record Table (bytes : List ℕ) (list : List Entry) : Type 0 where
   pub after : List ℕ
-  pub counted : Begins bytes (length list ∷ []) after
+  pub counted : BeginsNumbers bytes (length list ∷ []) after
   pub entries : AreEntries 0 after list []
   pub ascending : IsStrictlyIncreasing (addresses list)
 
@@ -45,12 +45,12 @@ pub record Holds (bytes : List ℕ) (list : List Entry) : Type 0 where
   pub count : ℕ
   pub after : List ℕ
   pub rest : List ℕ
-  pub counted : Begins bytes (count ∷ []) after
+  pub counted : BeginsNumbers bytes (count ∷ []) after
   pub entries : AreEntries 0 after list rest
   pub enough : length list ≤ count
 
 -- the longest list of entries that the bytes hold, or none where they begin with no count
-pub record Front (bytes : List ℕ) (list : List Entry) : Type 0 where
+pub record LongestFront (bytes : List ℕ) (list : List Entry) : Type 0 where
   pub held : (list ≡ []) ⊎ Holds bytes list
   pub longest : (other : List Entry) → Holds bytes other → length other ≤ length list
 
@@ -102,7 +102,7 @@ IsUnfinished (count ∷ numbers) = (length numbers < 3 * count) × Ascend number
 pub record IsUnreadable (bytes : List ℕ) (error : NumberError) : Type 0 where
   pub numbers : List ℕ
   pub left : List ℕ
-  pub read : Begins bytes numbers left
+  pub read : BeginsNumbers bytes numbers left
   pub unfinished : IsUnfinished numbers
   pub flaw : U32Flaw left error
 
@@ -111,7 +111,7 @@ pub record IsNextDelta (bytes numbers : List ℕ) (delta : ℕ) : Type 0 where
   pub count : ℕ
   pub entries : ℕ
   pub left : List ℕ
-  pub read : Begins bytes (count ∷ numbers ++ delta ∷ []) left
+  pub read : BeginsNumbers bytes (count ∷ numbers ++ delta ∷ []) left
   pub whole : length numbers ≡ 3 * entries
   pub unfinished : IsUnfinished (count ∷ numbers)
 
@@ -129,11 +129,11 @@ as_table_error number_error.Truncated = table_error.Truncated
 as_table_error number_error.Overflow = table_error.Overflow
 
 -- what is printed of an error
-abbrev pub text_of : Error → List ℕ
-text_of table_error.Truncated = codes "address table ends before its last number"
-text_of table_error.Overflow = codes "address table holds a number or an address too wide to read"
-text_of (table_error.OutOfOrder at) = codes "address table has two entries in a row for address " ++ decimal at
-text_of (table_error.TrailingBytes count) =
+abbrev pub table_error_text : Error → List ℕ
+table_error_text table_error.Truncated = codes "address table ends before its last number"
+table_error_text table_error.Overflow = codes "address table holds a number or an address too wide to read"
+table_error_text (table_error.OutOfOrder at) = codes "address table has two entries in a row for address " ++ decimal at
+table_error_text (table_error.TrailingBytes count) =
     codes "address table has " ++ decimal count ++ codes " bytes past its last entry"
 
 -- what is printed of an error for programmers: its name and its fields

@@ -7,7 +7,8 @@ use Rattle.std.specs.Cmp.{IsEquivalence, decided, booleans_Decides, signed_Decid
 use Rattle.std.specs.Hash.{Alike, same_Alike}
 use Rattle.std.specs.Ordering.{int_eq}
 use Rattle.std.specs.Str.{bytes_eq}
-use Rattle.grain_base.specs.Content.{Content, unit, boolean, integer, character, text, range, range_inclusive, array, blob, object_map, fn_ptr, host, Items, no_items, item, Entries, no_entries, entry, same, same_items, same_entries, hash_writes}
+use Rattle.grain_base.specs.Content.{Content, unit, boolean, integer, character, text, range, range_inclusive, array, blob, object_map}
+use Rattle.grain_base.specs.Content.{fn_ptr, host, Items, no_items, item, Entries, no_entries, entry, same, same_items, same_entries, hash_writes}
 
 -- what is decided in other words
 reworded : {P Q : Type 0} (r : Bool) → Decides r P → (P → Q) → (Q → P) → Decides r Q
@@ -42,7 +43,8 @@ mutual
   pub same_entries_Decides : (es fs : Entries) → Decides (same_entries es fs) (es ≡ fs)
   same_entries_Decides no_entries no_entries = (λ h. refl, λ e. refl)
   same_entries_Decides (entry k x es) (entry l y fs) =
-      reworded _ (Decides-and (bytes_eq k l && same x y) (same_entries es fs) (Decides-and (bytes_eq k l) (same x y) (bytes_eq-Decides k l) (same_Decides x y)) (same_entries_Decides es fs)) (λ e. cc) (λ e. ((cc, cc), cc))
+      reworded _ (Decides-and (bytes_eq k l && same x y) (same_entries es fs) (Decides-and (bytes_eq k l) (same x y) (bytes_eq-Decides k l) (same_Decides x y)) (same_entries_Decides es fs))
+      (λ e. cc) (λ e. ((cc, cc), cc))
   same_entries_Decides _ _ = (λ h. absurd (cc), λ e. cc)
 
 pub same_equivalence : IsEquivalence same

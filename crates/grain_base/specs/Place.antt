@@ -19,5 +19,5 @@ abbrev pub column_of : Position → Option ℕ
 column_of p = cond (nat_eq p.column 0) None (Some p.column)
 
 -- what is printed of a position
-abbrev pub text_of : Position → List ℕ
-text_of p = cond (is_none p) (codes "none") (decimal p.line ++ (codes ":" ++ decimal p.column))
+abbrev pub position_text : Position → List ℕ
+position_text p = cond (is_none p) (codes "none") (decimal p.line ++ (codes ":" ++ decimal p.column))

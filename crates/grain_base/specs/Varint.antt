@@ -37,8 +37,8 @@ zigzag (pos m) = 2 * m
 zigzag (negsuc m) = 2 * m + 1
 
 -- the bytes from one place up to another spell the number
-abbrev pub StandsAt : List ℕ → ℕ → ℕ → ℕ → Type 0
-StandsAt bytes from n to = (to ≤ length bytes) × Spells (slice_range bytes from to) n
+abbrev pub NumberStandsAt : List ℕ → ℕ → ℕ → ℕ → Type 0
+NumberStandsAt bytes from n to = (to ≤ length bytes) × Spells (slice_range bytes from to) n
 
 -- fewer than ten bytes, each of which says that another follows
 abbrev pub IsCutShort : List ℕ → Type 0
@@ -59,14 +59,14 @@ U32Flaw bytes Truncated = IsCutShort bytes
 U32Flaw bytes Overflow = NumberFlaw bytes Overflow ⊎ ((taken n : ℕ) × Spells (take taken bytes) n × (2 ^ 32 ≤ n))
 
 -- what is printed of an error
-abbrev pub text_of : Error → List ℕ
-text_of Truncated = codes "number ends before its last group"
-text_of Overflow = codes "number is too wide to read"
+abbrev pub number_error_text : Error → List ℕ
+number_error_text Truncated = codes "number ends before its last group"
+number_error_text Overflow = codes "number is too wide to read"
 
 -- what reading the number at a place of the bytes gives, and where the cursor stands after it
-abbrev pub Reads : List ℕ → ℕ → Result ℕ Error → ℕ → Type 0
-Reads bytes from (Ok n) to = StandsAt bytes from n to
-Reads bytes from (Err error) to = NumberFlaw (drop from bytes) error × (to ≡ from + length (take 10 (drop from bytes)))
+abbrev pub ReadsNumber : List ℕ → ℕ → Result ℕ Error → ℕ → Type 0
+ReadsNumber bytes from (Ok n) to = NumberStandsAt bytes from n to
+ReadsNumber bytes from (Err error) to = NumberFlaw (drop from bytes) error × (to ≡ from + length (take 10 (drop from bytes)))
 
 -- The numbers stand at the front of the bytes, one after another, each spelled as the relation says, and then the rest
 -- follows.
@@ -75,8 +75,8 @@ AreSpelled By bytes [] rest = bytes ≡ rest
 AreSpelled By bytes (n ∷ ns) rest = (spelling after : List ℕ) × (bytes ≡ spelling ++ after) × By spelling n × AreSpelled By after ns rest
 
 -- any spellings of numbers that fit u32, and then the rest
-abbrev pub Begins : List ℕ → List ℕ → List ℕ → Type 0
-Begins bytes ns rest = AreSpelled (λ spelling n. Spells spelling n × (n < 2 ^ 32)) bytes ns rest
+abbrev pub BeginsNumbers : List ℕ → List ℕ → List ℕ → Type 0
+BeginsNumbers bytes ns rest = AreSpelled (λ spelling n. Spells spelling n × (n < 2 ^ 32)) bytes ns rest
 
 -- the bytes are these numbers, each in its shortest spelling
 abbrev pub AreShortest : List ℕ → List ℕ → Type 0

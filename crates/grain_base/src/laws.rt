@@ -1,8 +1,8 @@
 //! Laws of the definitions that contracts cite, each the contract of a function that does nothing else.
 
 ghost use Rattle.std.specs.Prelude.{◌≡◌, ℕ, ℤ, None, pos, neg_ℤ, ◌+◌, ◌<◌, ◌*ℤ◌, ◌-ℤ◌, ◌≤ℤ◌, ◌<ℤ◌, ◌↔◌, IsTrue, ◌^◌, List, ◌++◌, length, All};
-ghost use Rattle.grain_base.specs.Varint.{Spells, IsShortest, StandsAt, zigzag};
-ghost use Rattle.grain_base.specs.AddressTable.{Entry, Table, Front};
+ghost use Rattle.grain_base.specs.Varint.{Spells, IsShortest, NumberStandsAt, zigzag};
+ghost use Rattle.grain_base.specs.AddressTable.{Entry, Table, LongestFront};
 ghost use Rattle.std.specs.Int.RustNames.{bit_and};
 ghost use Rattle.bitflags.specs.Sets.{known_bits};
 ghost use Rattle.grain_base.specs.CapBits.{caps_table};
@@ -20,7 +20,7 @@ pub fn no_spelling_begins_another()
 /// A number that is written is read again, whatever stands before it and whatever follows it.
 pub fn written_is_read()
     ensures { (before spelling after : List ℕ) (n : ℕ) → IsShortest spelling n
-        → StandsAt (before ++ spelling ++ after) (length before) n
+        → NumberStandsAt (before ++ spelling ++ after) (length before) n
         (length before + length spelling) }
 {}
 
@@ -38,13 +38,13 @@ pub fn signed_numbers_are_folded()
 
 /// Bytes have one front, so `resolve` is a function of them.
 pub fn one_front()
-    ensures { (bytes : List ℕ) (a b : List Entry) → Front bytes a → Front bytes b → a ≡ b }
+    ensures { (bytes : List ℕ) (a b : List Entry) → LongestFront bytes a → LongestFront bytes b → a ≡ b }
 {}
 
 /// The front of a table is its list, so a table that `encode` wrote resolves every address as its list does.
 pub fn tables_resolve()
     ensures front { (bytes : List ℕ) (list front : List Entry) → Table bytes list
-        → Front bytes front → front ≡ list }
+        → LongestFront bytes front → front ≡ list }
     ensures one { (bytes : List ℕ) (a b : List Entry) → Table bytes a → Table bytes b → a ≡ b }
 {}
 

@@ -11,8 +11,8 @@ ghost use Rattle.std.specs.Iterator.{Drains};
 ghost use Rattle.std.specs.List.Sorted.{IsStrictlyIncreasing};
 ghost use Rattle.grain_base.specs.declared.varint.Error.{Error as NumberError};
 ghost use Rattle.grain_base.specs.declared.pos.Error.{Error as TableError};
-ghost use Rattle.grain_base.specs.Varint.{Begins, U32Flaw, AreShortest};
-ghost use Rattle.grain_base.specs.AddressTable.{Entry, addresses, IsNext, NoneNext, Table, Front, EntrySteps, FirstFlaw, site_at, kept, numbers_from, as_table_error};
+ghost use Rattle.grain_base.specs.Varint.{BeginsNumbers, U32Flaw, AreShortest};
+ghost use Rattle.grain_base.specs.AddressTable.{Entry, addresses, IsNext, NoneNext, Table, LongestFront, EntrySteps, FirstFlaw, site_at, kept, numbers_from, as_table_error};
 
 mod walk;
 
@@ -62,9 +62,9 @@ impl From<varint::Error> for Error {
 
 impl fmt::Display for Error {
     ghost use Rattle.std.specs.Prelude.{Some};
-    ghost use Rattle.grain_base.specs.AddressTable.{text_of};
+    ghost use Rattle.grain_base.specs.AddressTable.{table_error_text};
 
-    ghost output = { λ error. Some (text_of error) };
+    ghost output = { λ error. Some (table_error_text error) };
 
     fn fmt<W: fmt::Write>(&self, f: &mut fmt::Formatter<W>) -> fmt::Result {
         match self {
@@ -127,10 +127,10 @@ fn entry(table: &[u8], at: &mut usize, before: u32) -> Result<(u32, Site), varin
 /// To read them all takes time by the length of the address table, and no memory.
 #[must_use]
 pub fn entries(table: &[u8]) -> Entries<'_>
-    ensures from_the_start { (n : ℕ) (after : List ℕ) → Begins table.now (n ∷ []) after
+    ensures from_the_start { (n : ℕ) (after : List ℕ) → BeginsNumbers table.now (n ∷ []) after
         → result ≡ record { count = n; before = 0; bytes = after } }
     ensures gives { (items : List Entry) → Drains EntrySteps result items
-        → Front table.now items }
+        → LongestFront table.now items }
 {
     let mut at = 0;
     let Ok(count) = varint::u32(table, &mut at) else {
@@ -158,7 +158,7 @@ pub fn entries(table: &[u8]) -> Entries<'_>
 /// It reads the address table up to the entry, and takes no memory.
 #[must_use]
 pub fn resolve(table: &[u8], address: u32) -> Option<Site>
-    ensures { (front : List Entry) × Front table.now front × (result ≡ site_at front address) }
+    ensures { (front : List Entry) × LongestFront table.now front × (result ≡ site_at front address) }
 {
     for (here, site) in entries(table) {
         if here == address {
@@ -179,7 +179,7 @@ pub fn resolve(table: &[u8], address: u32) -> Option<Site>
 ///
 /// `Truncated` or `Overflow` where that number can't be read.
 pub fn count(table: &[u8]) -> Result<u32, Error>
-    ensures ok { (n : ℕ) → (result ≡ Ok n) ↔ ((rest : List ℕ) × Begins table.now (n ∷ []) rest) }
+    ensures ok { (n : ℕ) → (result ≡ Ok n) ↔ ((rest : List ℕ) × BeginsNumbers table.now (n ∷ []) rest) }
     ensures err { (e : TableError) → (result ≡ Err e)
         ↔ ((error : NumberError) × U32Flaw table.now error × (e ≡ as_table_error error)) }
 {

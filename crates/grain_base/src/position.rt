@@ -70,9 +70,9 @@ impl Position {
 /// `none`, or the line and the column with a colon between them.
 impl fmt::Display for Position {
     ghost use Rattle.std.specs.Prelude.{Some};
-    ghost use Rattle.grain_base.specs.Place.{text_of};
+    ghost use Rattle.grain_base.specs.Place.{position_text};
 
-    ghost output = { λ p. Some (text_of p) };
+    ghost output = { λ p. Some (position_text p) };
 
     fn fmt<W: fmt::Write>(&self, f: &mut fmt::Formatter<W>) -> fmt::Result {
         let line = self.line;
@@ -88,9 +88,9 @@ impl fmt::Display for Position {
 /// The text of `Display`.
 impl fmt::Debug for Position {
     ghost use Rattle.std.specs.Prelude.{Some};
-    ghost use Rattle.grain_base.specs.Place.{text_of};
+    ghost use Rattle.grain_base.specs.Place.{position_text};
 
-    ghost debug_output = { λ p. Some (text_of p) };
+    ghost debug_output = { λ p. Some (position_text p) };
 
     fn fmt<W: fmt::Write>(&self, f: &mut fmt::Formatter<W>) -> fmt::Result {
         fmt::Display::fmt(self, f)

@@ -10,7 +10,7 @@
 //! takes constant time, since these are ten at most.
 
 ghost use Rattle.std.specs.Prelude.{◌≡◌, ℕ, ℤ, ◌+◌, ◌^◌, ◌<◌, ◌↔◌, length, take, drop, Ok, Err, IfOk, OnOk, OnErr};
-ghost use Rattle.grain_base.specs.Varint.{AppendsShortest, IsShortest, StandsAt, NoneStands, NumberFlaw, Reads, U32Flaw, zigzag};
+ghost use Rattle.grain_base.specs.Varint.{AppendsShortest, IsShortest, NumberStandsAt, NoneStands, NumberFlaw, ReadsNumber, U32Flaw, zigzag};
 ghost use Rattle.grain_base.specs.declared.varint.Error.{Error};
 
 use std::alloc::AllocError;
@@ -27,9 +27,9 @@ pub enum Error {
 
 impl fmt::Display for Error {
     ghost use Rattle.std.specs.Prelude.{Some};
-    ghost use Rattle.grain_base.specs.Varint.{text_of};
+    ghost use Rattle.grain_base.specs.Varint.{number_error_text};
 
-    ghost output = { λ error. Some (text_of error) };
+    ghost output = { λ error. Some (number_error_text error) };
 
     fn fmt<W: fmt::Write>(&self, f: &mut fmt::Formatter<W>) -> fmt::Result {
         match self {
@@ -55,8 +55,8 @@ const TENTH_MAX: u8 = 1;
 #[inline(always)]
 pub fn u64(bytes: &[u8], at: &mut usize) -> Result<u64, Error>
     // A number is read exactly where one is spelled.
-    ensures found { IfOk result (λ n. StandsAt bytes.now at.old n at.new) }
-    ensures spelled { (n end : ℕ) → StandsAt bytes.now at.old n end
+    ensures found { IfOk result (λ n. NumberStandsAt bytes.now at.old n at.new) }
+    ensures spelled { (n end : ℕ) → NumberStandsAt bytes.now at.old n end
         → (result ≡ Ok n) × (at.new ≡ end) }
 
     // Elsewhere the error says what is wrong there.
@@ -75,7 +75,7 @@ pub fn u64(bytes: &[u8], at: &mut usize) -> Result<u64, Error>
 
 /// Reads a number of any number of groups, as [`u64`] does.
 fn groups(bytes: &[u8], at: &mut usize) -> Result<u64, Error>
-    ensures { Reads bytes.now at.old result at.new }
+    ensures { ReadsNumber bytes.now at.old result at.new }
 {
     let mut value = 0u64;
     for group in 0..9u32 {
@@ -106,8 +106,8 @@ fn groups(bytes: &[u8], at: &mut usize) -> Result<u64, Error>
 #[inline]
 pub fn i64(bytes: &[u8], at: &mut usize) -> Result<i64, Error>
     // Each number that is spelled stands for a signed one.
-    ensures found { IfOk result (λ v. StandsAt bytes.now at.old (zigzag v) at.new) }
-    ensures spelled { (v : ℤ) (end : ℕ) → StandsAt bytes.now at.old (zigzag v) end
+    ensures found { IfOk result (λ v. NumberStandsAt bytes.now at.old (zigzag v) at.new) }
+    ensures spelled { (v : ℤ) (end : ℕ) → NumberStandsAt bytes.now at.old (zigzag v) end
         → (result ≡ Ok v) × (at.new ≡ end) }
 
     // Elsewhere the error and the cursor are those of `u64`.
@@ -127,8 +127,8 @@ pub fn i64(bytes: &[u8], at: &mut usize) -> Result<i64, Error>
 #[inline(always)]
 pub fn u32(bytes: &[u8], at: &mut usize) -> Result<u32, Error>
     // A number is read exactly where one is spelled that fits. The cursor passes one that doesn't fit too.
-    ensures found { IfOk result (λ n. StandsAt bytes.now at.old n at.new) }
-    ensures spelled { (n end : ℕ) → StandsAt bytes.now at.old n end
+    ensures found { IfOk result (λ n. NumberStandsAt bytes.now at.old n at.new) }
+    ensures spelled { (n end : ℕ) → NumberStandsAt bytes.now at.old n end
         → (at.new ≡ end) × (n < 2 ^ 32 → result ≡ Ok n) }
 
     // Elsewhere the error says what is wrong there.

@@ -2,11 +2,11 @@
 use Rattle.std.proofs.Common.{◌≡◌, ◌≢◌, ℕ, List, [], ◌∷◌, length, refl, arith}
 use Rattle.grain_base.proofs.Numbers.{begins_once, begins_flawless}
 use Rattle.grain_base.specs.AddressTable.{Entry, Table}
-use Rattle.grain_base.specs.Varint.{Begins, U32Flaw}
+use Rattle.grain_base.specs.Varint.{BeginsNumbers, U32Flaw}
 use Rattle.grain_base.specs.declared.varint.Error.{Error as NumberError}
 
 -- a table begins with the number of its entries
-pub entry_count : (table : List ℕ) (list : List Entry) (count : ℕ) → Table table list → (rest : List ℕ) × Begins table (count ∷ []) rest → count ≡ length list
+pub entry_count : (table : List ℕ) (list : List Entry) (count : ℕ) → Table table list → (rest : List ℕ) × BeginsNumbers table (count ∷ []) rest → count ≡ length list
 entry_count table list count is begins = (begins_once table count (length list) begins.0 is.after begins.1 is.counted).0
 
 pub countable : (table : List ℕ) (list : List Entry) (error : NumberError) → Table table list → U32Flaw table error → ⊥

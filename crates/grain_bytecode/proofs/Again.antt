@@ -127,7 +127,8 @@ each_again n offsets long (op ∷ all) each = (here, each_again n offsets long a
   within t h = let first = (first_index offsets t (omega arith)).0 in omega arith
 
   same : form (back offsets op) ≡ form (retarget g op)
-  same = ap form (retarget_canon (index_of offsets) (retarget (slice_index offsets) op)) ∙ form_canon (retarget (index_of offsets) (retarget (slice_index offsets) op)) ∙ ap form (retarget_twice (index_of offsets) (slice_index offsets) op)
+  same = ap form (retarget_canon (index_of offsets) (retarget (slice_index offsets) op)) ∙ form_canon (retarget (index_of offsets) (retarget (slice_index offsets) op))
+      ∙ ap form (retarget_twice (index_of offsets) (slice_index offsets) op)
 
   here : AreWritable n (form (back offsets op)).1
   here = subst (λ (p : ℕ × List Field). AreWritable n p.1) (sym (same ∙ form_retarget g op)) (fields_again n g within (form op).1 each.0)

@@ -8,7 +8,7 @@ use Rattle.grain_base.proofs.Entries.{next_once}
 use Rattle.grain_base.proofs.Rising.{RisesFrom, rises_from}
 use Rattle.grain_base.specs.AddressTable.{Entry, addresses, AreEntries, AreDue, EntrySteps, Table, known, site_at}
 use Rattle.grain_base.specs.EntriesLeft.{EntriesLeft}
-use Rattle.grain_base.specs.Varint.{Begins}
+use Rattle.grain_base.specs.Varint.{BeginsNumbers}
 use Rattle.grain_base.specs.declared.pos.Site.{Site}
 use Rattle.grain_base.specs.declared.position.Position.{Position}
 use Rattle.grain_bytecode.specs.Positions.{AreAhead, IsPlaced, from_address, code_site}
@@ -43,7 +43,8 @@ kept at e list behind =
 abbrev pub Skipped : ℕ → Option Entry → EntriesLeft → Option Entry → EntriesLeft → Type 0
 Skipped at read from next left = (list : List Entry) → AreAhead read from list → (ahead : List Entry) × AreAhead next left ahead × (from_address at ahead ≡ from_address at list)
 
-pub skipped_more : (at : ℕ) (read : Option Entry) (from : EntriesLeft) (entry : Entry) (old new : EntriesLeft) (r : Option Entry) → Skipped at read from (Some entry) old → entry.0 < at → EntrySteps old r new → Skipped at read from r new
+pub skipped_more : (at : ℕ) (read : Option Entry) (from : EntriesLeft) (entry : Entry) (old new : EntriesLeft) (r : Option Entry) → Skipped at read from (Some entry) old
+    → entry.0 < at → EntrySteps old r new → Skipped at read from r new
 skipped_more at read from entry old new r skipped below step list is =
     let w = skipped list is in
     let others = w.1.0 in
@@ -107,14 +108,16 @@ met_ahead list ahead at (Some entry) left near is =
 abbrev pub Abreast : List ℕ → ℕ → Option Entry → EntriesLeft → Type 0
 Abreast table at next left = (list : List Entry) → Table table list → (ahead : List Entry) × AreAhead next left ahead × Nears list ahead at
 
-pub abreast_start : (table : List ℕ) (start new : EntriesLeft) (next : Option Entry) → ((n : ℕ) (after : List ℕ) → Begins table (n ∷ []) after → start ≡ record { count = n; before = 0; bytes = after }) → EntrySteps start next new → Abreast table 0 next new
+pub abreast_start : (table : List ℕ) (start new : EntriesLeft) (next : Option Entry)
+    → ((n : ℕ) (after : List ℕ) → BeginsNumbers table (n ∷ []) after → start ≡ record { count = n; before = 0; bytes = after }) → EntrySteps start next new → Abreast table 0 next new
 abreast_start table start new next begins step list is =
     let at_start = begins (length list) is.after is.counted in
     let due : AreDue start list = subst (λ (s : EntriesLeft). AreDue s list) (sym at_start) ([], is.entries, refl) in
     (list, ahead_next start new next list due step, record { least = 0; rises = rises_from (addresses list) is.ascending; same = λ a behind. refl })
 
 -- the entries before the address are passed over
-pub abreast_from : (table : List ℕ) (at : ℕ) (read next : Option Entry) (from left : EntriesLeft) → Abreast table at read from → ((list : List Entry) → AreAhead read from list → AreAhead next left (from_address at list)) → Abreast table at next left
+pub abreast_from : (table : List ℕ) (at : ℕ) (read next : Option Entry) (from left : EntriesLeft) → Abreast table at read from
+    → ((list : List Entry) → AreAhead read from list → AreAhead next left (from_address at list)) → Abreast table at next left
 abreast_from table at read next from left abreast skips list is =
     let w = abreast list is in
     (from_address at w.0, skips w.0 w.1, nears_from list w.0 at w.2)
@@ -125,7 +128,8 @@ abreast_on table at behind next left less abreast list is =
     (w.0, w.1, nears_on list w.0 at behind less w.2)
 
 -- what is placed for the entry is placed for the table
-pub place_of_table : (table : List ℕ) (at : ℕ) (read next : Option Entry) (from left : EntriesLeft) (old new : List Position) (met : Bool) → Abreast table at read from → ((list : List Entry) → AreAhead read from list → AreAhead next left (from_address at list))
+pub place_of_table : (table : List ℕ) (at : ℕ) (read next : Option Entry) (from left : EntriesLeft) (old new : List Position) (met : Bool) → Abreast table at read from
+    → ((list : List Entry) → AreAhead read from list → AreAhead next left (from_address at list))
     → IsPlaced (code_site (option_to_list next) at) at old new met → (list : List Entry) → Table table list → IsPlaced (code_site list at) at old new met
 place_of_table table at read next from left old new met abreast skips placed list is =
     let w = abreast list is in

@@ -6,7 +6,7 @@ use Rattle.std.proofs.lemmas.List.{append-nil, length-map, take_all}
 use Rattle.std.proofs.lemmas.Grind.{flat_map-append}
 use Rattle.std.proofs.Math.Seq.{take-suc}
 use Rattle.grain_base.specs.Place.{line_of, column_of}
-use Rattle.grain_base.specs.Varint.{AppendsShortest, AreShortest, Begins}
+use Rattle.grain_base.specs.Varint.{AppendsShortest, AreShortest, BeginsNumbers}
 use Rattle.grain_base.specs.declared.position.Position.{Position}
 use Rattle.grain_pools.specs.declared.chain.Chain.{Chain}
 use Rattle.grain_pools.specs.Chain.{positions}
@@ -93,7 +93,7 @@ sites_recorded : (list : List Position) → map recorded list ≡ sites_of (flat
 sites_recorded [] = refl
 sites_recorded (p ∷ list) = cc (recorded_is p, sites_recorded list)
 
-shortest_begins : (bytes ns : List ℕ) → AreShortest bytes ns → Fit ns → Begins bytes ns []
+shortest_begins : (bytes ns : List ℕ) → AreShortest bytes ns → Fit ns → BeginsNumbers bytes ns []
 shortest_begins bytes [] spelled fit = spelled
 shortest_begins bytes (n ∷ ns) spelled fit = (spelled.0, spelled.1, spelled.2, (spelled.3.spelled, fit.0), shortest_begins spelled.1 ns spelled.4 fit.1)
 

@@ -1,5 +1,6 @@
 -- Reading code from its beginning, and what a table has for the addresses on the way.
-use Rattle.std.proofs.Common.{◌≡◌, ◌≢◌, ℕ, ◌+◌, ◌<◌, ◌≤◌, List, [], ◌∷◌, ◌++◌, length, map, take, get_or, slice_set, true, false, Bool, cond, ◌||◌, eqb, nat_lt, inl, inr, Option, Some, None, is_some, refl, sym, ap, subst, ◌∙◌, arith}
+use Rattle.std.proofs.Common.{◌≡◌, ◌≢◌, ℕ, ◌+◌, ◌<◌, ◌≤◌, List, [], ◌∷◌, ◌++◌, length, map, take, get_or, slice_set, true, false}
+use Rattle.std.proofs.Common.{Bool, cond, ◌||◌, eqb, nat_lt, inl, inr, Option, Some, None, is_some, refl, sym, ap, subst, ◌∙◌, arith}
 use Rattle.std.specs.Prelude.{All, option_and_then}
 use Rattle.std.specs.List.{list_any}
 use Rattle.std.proofs.lemmas.Bool.{cases_eq, eq-eqb, ne_eqb}
@@ -91,7 +92,8 @@ found_more list arrived n at count old new met found inside sized is = by_site (
     by_site None e (same, unmet) = record {
       counted = more None e unmet;
       placed = λ k d below. rw same (elim (cases_eq at k) [
-        | inl it ↦ found.placed k d below ∙ subst (λ j. byte_place list arrived j ≡ byte_place list (arrived ++ at ∷ []) j) it (nothing list arrived at (sym e) ∙ sym (here list arrived at ∙ ap (option_and_then site_place) e))
+        | inl it ↦ found.placed k d below ∙ subst (λ j. byte_place list arrived j ≡ byte_place list (arrived ++ at ∷ []) j) it
+            (nothing list arrived at (sym e) ∙ sym (here list arrived at ∙ ap (option_and_then site_place) e))
         | inr other ↦ found.placed k d below ∙ sym (elsewhere list arrived at k other)
       ]);
     }
@@ -124,7 +126,8 @@ walked_more table code at count width old new met walked inside sized is (op, st
     few false = let before = walked.few in omega arith
 
 -- the places as a list
-pub placed_list : (list : List Entry) (arrived code : List ℕ) (positions : List Position) → length positions ≡ length code → Placed list arrived (length code) positions → map place_of positions ≡ table_places list arrived code
+pub placed_list : (list : List Entry) (arrived code : List ℕ) (positions : List Position) → length positions ≡ length code → Placed list arrived (length code) positions
+    → map place_of positions ≡ table_places list arrived code
 placed_list list arrived code [] sized placed = fill_by_all (byte_place list arrived) [] (length code) None sized (λ k inside. absurd (omega arith))
 placed_list list arrived code (p ∷ ps) sized placed =
     fill_by_all (byte_place list arrived) (map place_of (p ∷ ps)) (length code) None (length-map (p ∷ ps) place_of ∙ sized) (λ k inside. lists.get_or-map place_of (p ∷ ps) k p None (omega arith) ∙ placed k p inside)

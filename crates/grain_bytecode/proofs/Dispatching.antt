@@ -11,7 +11,7 @@ use Rattle.grain_base.specs.Content.{Content, integer, hashable, same}
 use Rattle.grain_base.specs.View.{content}
 use Rattle.grain_base.specs.declared.value.Dynamic.{Dynamic}
 use Rattle.grain_pools.specs.declared.switch.SwitchRange.{SwitchRange}
-use Rattle.grain_pools.specs.Dispatch.{Case, Fits, Arms, by_cases, by_ranges, contains, dispatched, listed, offset_at, resolved, resolved_case, resolved_range, targets}
+use Rattle.grain_pools.specs.Dispatch.{Case, AreWithin, Arms, by_cases, by_ranges, contains, dispatched, listed, offset_at, resolved, resolved_case, resolved_range, arm_targets}
 
 -- the image of each element is among the images
 contains_mapped : {X Y : Type 0} (f : X → Y) (xs : List X) → All (λ x. Contains (map f xs) (f x)) xs
@@ -53,14 +53,16 @@ range_among rs x =
     mapped among (λ (r : SwitchRange). r.target) (find (λ r. contains r x) rs)
     (found (λ (r : SwitchRange). among r.target) (λ r. contains r x) rs (contains_mapped (λ (r : SwitchRange). r.target) rs))
 
-pub dispatched_among : (t : Arms) (x : Content) → Contains (targets t) (dispatched t x)
+pub dispatched_among : (t : Arms) (x : Content) → Contains (arm_targets t) (dispatched t x)
 dispatched_among t x =
-    let among = Contains (targets t) in
+    let among = Contains (arm_targets t) in
     let cases = map (λ (c : Case). c.1.0) (listed t.cases) in
     let ranges = map (λ (r : SwitchRange). r.target) t.ranges in
     let last : among t.otherwise = Contains-push (cases ++ ranges) t.otherwise in
-    let by_case : IfSome (by_cases t.cases x) among = IfSome_then (by_cases t.cases x) (case_among t.cases x) (λ y h. Contains-append_left (cases ++ ranges) (t.otherwise ∷ []) y (Contains-append_left cases ranges y h)) in
-    let by_range : IfSome (by_ranges t.ranges x) among = IfSome_then (by_ranges t.ranges x) (range_among t.ranges x) (λ y h. Contains-append_left (cases ++ ranges) (t.otherwise ∷ []) y (Contains-append_right cases ranges y h)) in
+    let by_case : IfSome (by_cases t.cases x) among = IfSome_then (by_cases t.cases x) (case_among t.cases x)
+    (λ y h. Contains-append_left (cases ++ ranges) (t.otherwise ∷ []) y (Contains-append_left cases ranges y h)) in
+    let by_range : IfSome (by_ranges t.ranges x) among = IfSome_then (by_ranges t.ranges x) (range_among t.ranges x)
+    (λ y h. Contains-append_left (cases ++ ranges) (t.otherwise ∷ []) y (Contains-append_right cases ranges y h)) in
     chosen among (hashable x) _ t.otherwise (unwrapped among (by_cases t.cases x) _ by_case (unwrapped among (by_ranges t.ranges x) t.otherwise by_range last)) last
 
 -- a range contains what it contained
@@ -98,10 +100,16 @@ cond-map f false x y = refl
 
 pub dispatched-resolved : (offsets : List ℕ) (t : Arms) (x : Content) → dispatched (resolved offsets t) x ≡ offset_at offsets (dispatched t x)
 dispatched-resolved offsets t x =
-    rw (by_cases-resolved offsets t.cases x, by_ranges-resolved offsets t.ranges x, unwrap_or-map (offset_at offsets) (by_ranges t.ranges x) t.otherwise, unwrap_or-map (offset_at offsets) (by_cases t.cases x) (unwrap_or (by_ranges t.ranges x) t.otherwise))
+    rw (
+      by_cases-resolved offsets t.cases x,
+      by_ranges-resolved offsets t.ranges x,
+      unwrap_or-map (offset_at offsets) (by_ranges t.ranges x) t.otherwise,
+      unwrap_or-map (offset_at offsets)
+          (by_cases t.cases x) (unwrap_or (by_ranges t.ranges x) t.otherwise),
+    )
     (cond-map (offset_at offsets) (hashable x) _ t.otherwise)
 
-pub dispatched_offset : (offsets : List ℕ) (t : Arms) (x : Content) → Fits (length offsets) t → slice_get offsets (dispatched t x) ≡ Some (dispatched (resolved offsets t) x)
+pub dispatched_offset : (offsets : List ℕ) (t : Arms) (x : Content) → AreWithin (length offsets) t → slice_get offsets (dispatched t x) ≡ Some (dispatched (resolved offsets t) x)
 dispatched_offset offsets t x fits =
-    let inside : dispatched t x < length offsets = All-contains (λ target. target < length offsets) (targets t) (dispatched t x) fits (dispatched_among t x) in
+    let inside : dispatched t x < length offsets = All-contains (λ target. target < length offsets) (arm_targets t) (dispatched t x) fits (dispatched_among t x) in
     slice_get-get_or offsets (dispatched t x) (dispatched t x) inside ∙ ap (λ (o : ℕ). Some o) (sym (dispatched-resolved offsets t x))

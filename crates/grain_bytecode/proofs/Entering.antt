@@ -1,5 +1,6 @@
 -- The entries of an address table for positions.
-use Rattle.std.proofs.Common.{◌≡◌, ℕ, zero, suc, ◌+◌, ◌<◌, ◌≤◌, ◌^◌, ◌&&◌, Bool, List, [], ◌∷◌, ◌++◌, length, map, take, get_or, slice_index_or, true, false, inl, inr, Option, Some, None, unwrap_or, refl, sym, ap, ◌∙◌, arith, add-one}
+use Rattle.std.proofs.Common.{◌≡◌, ℕ, zero, suc, ◌+◌, ◌<◌, ◌≤◌, ◌^◌, ◌&&◌, Bool, List, [], ◌∷◌, ◌++◌, length, map}
+use Rattle.std.proofs.Common.{take, get_or, slice_index_or, true, false, inl, inr, Option, Some, None, unwrap_or, refl, sym, ap, ◌∙◌, arith, add-one}
 use Rattle.std.specs.Prelude.{All, Any, filter_map}
 use Rattle.std.specs.List.{enumerate_from, cons_option, list_all, AllWithin, HoldsAt}
 use Rattle.std.specs.Option.{is_none}
@@ -12,7 +13,7 @@ use Rattle.grain_base.specs.AddressTable.{Entry, addresses, kept}
 use Rattle.grain_base.specs.Place.{place_of, line_of, column_of, is_none as no_place}
 use Rattle.grain_base.specs.declared.position.Position.{Position}
 use Rattle.std.specs.List.Sorted.{IsStrictlyIncreasing}
-use Rattle.grain_bytecode.specs.Positions.{entry_of, entries_of}
+use Rattle.grain_bytecode.specs.Positions.{entry_of, entries_at_places}
 
 -- the entries for places from an address on
 abbrev entries_from : ℕ → List Position → List Entry
@@ -30,12 +31,13 @@ map-push f (y ∷ xs) x = ap (λ ys. f y ∷ ys) (map-push f xs x)
 
 -- one position more
 entries_next : (list : List Position) (i : ℕ) (d : Position) → i < length list
-    → entries_of (Some (map place_of (take (i + 1) list))) ≡ entries_of (Some (map place_of (take i list))) ++ cons_option (entry_of (i, place_of (get_or list i d))) []
+    → entries_at_places (Some (map place_of (take (i + 1) list))) ≡ entries_at_places (Some (map place_of (take i list))) ++ cons_option (entry_of (i, place_of (get_or list i d))) []
 entries_next list i d inside =
     let place = place_of (get_or list i d) in
     let front = map place_of (take i list) in
     let long : 0 + length front ≡ i = omega (arith, length-map (take i list) place_of, length-take-le i list (omega arith)) in
-    let cut : map place_of (take (i + 1) list) ≡ front ++ place ∷ [] = ap (λ n. map place_of (take n list)) (add-one i) ∙ ap (map place_of) (take-suc list i d inside) ∙ map-push place_of (take i list) (get_or list i d) in
+    let cut : map place_of (take (i + 1) list) ≡ front ++ place ∷ [] = ap (λ n. map place_of (take n list)) (add-one i) ∙ ap (map place_of) (take-suc list i d inside)
+    ∙ map-push place_of (take i list) (get_or list i d) in
     ap (λ l. filter_map entry_of (enumerate_from 0 l)) cut
     ∙ ap (filter_map entry_of) (enumerate-push 0 front place ∙ ap (λ n. enumerate_from 0 front ++ (n, place) ∷ []) long)
     ∙ filter_map-append entry_of (enumerate_from 0 front) ((i, place) ∷ [])
@@ -63,15 +65,15 @@ somewhere p line e = elim (cases_eq p.line 0) [
 
 -- a position without a line has no entry
 pub without_line : (list : List Position) (i : ℕ) (d : Position) → i < length list → None ≡ line_of (get_or list i d)
-    → entries_of (Some (map place_of (take (i + 1) list))) ≡ entries_of (Some (map place_of (take i list)))
+    → entries_at_places (Some (map place_of (take (i + 1) list))) ≡ entries_at_places (Some (map place_of (take i list)))
 without_line list i d inside none =
-    entries_next list i d inside ∙ ap (λ place. entries_of (Some (map place_of (take i list))) ++ cons_option (entry_of (i, place)) []) (nowhere (get_or list i d) none) ∙ append-nil _
+    entries_next list i d inside ∙ ap (λ place. entries_at_places (Some (map place_of (take i list))) ++ cons_option (entry_of (i, place)) []) (nowhere (get_or list i d) none) ∙ append-nil _
 
 -- one that has a line has one
 pub with_line : (list : List Position) (i : ℕ) (d : Position) (line : ℕ) → i < length list → Some line ≡ line_of (get_or list i d)
-    → entries_of (Some (map place_of (take (i + 1) list))) ≡ entries_of (Some (map place_of (take i list))) ++ (i, record { line = line; column = unwrap_or (column_of (get_or list i d)) 0 }) ∷ []
+    → entries_at_places (Some (map place_of (take (i + 1) list))) ≡ entries_at_places (Some (map place_of (take i list))) ++ (i, record { line = line; column = unwrap_or (column_of (get_or list i d)) 0 }) ∷ []
 with_line list i d line inside some =
-    entries_next list i d inside ∙ ap (λ place. entries_of (Some (map place_of (take i list))) ++ cons_option (entry_of (i, place)) []) (somewhere (get_or list i d) line some)
+    entries_next list i d inside ∙ ap (λ place. entries_at_places (Some (map place_of (take i list))) ++ cons_option (entry_of (i, place)) []) (somewhere (get_or list i d) line some)
 
 -- ... and stands too high
 any_more : (o : Option Entry) (rest : List Entry) → Any (λ entry. 2 ^ 32 ≤ entry.0) rest → Any (λ entry. 2 ^ 32 ≤ entry.0) (cons_option o rest)
@@ -83,7 +85,7 @@ any_high at [] i d line inside some high = absurd (omega arith)
 any_high at (p ∷ list) zero d line inside some high = rw (somewhere p line some) (0, (at, record { line = line; column = unwrap_or (column_of p) 0 }), omega arith, refl, omega arith)
 any_high at (p ∷ list) (suc i) d line inside some high = any_more (entry_of (at, place_of p)) (entries_from (at + 1) list) (any_high (at + 1) list i d line (omega arith) some (omega arith))
 
-pub too_high : (list : List Position) (i : ℕ) (d : Position) (line : ℕ) → i < length list → Some line ≡ line_of (get_or list i d) → 2 ^ 32 ≤ i → Any (λ entry. 2 ^ 32 ≤ entry.0) (entries_of (Some (map place_of list)))
+pub too_high : (list : List Position) (i : ℕ) (d : Position) (line : ℕ) → i < length list → Some line ≡ line_of (get_or list i d) → 2 ^ 32 ≤ i → Any (λ entry. 2 ^ 32 ≤ entry.0) (entries_at_places (Some (map place_of list)))
 too_high list i d line inside some high = any_high 0 list i d line inside some (omega arith)
 
 -- no address both fits and doesn't
@@ -111,10 +113,10 @@ rises_with at (p ∷ list) = elim (cases_eq p.line 0) [
   | inr some ↦ rw (ne_eqb p.line 0 some) (omega arith, rises_with (at + 1) list)
 ]
 
-pub entries_kept : (list : List Position) → kept (entries_of (Some (map place_of list))) ≡ entries_of (Some (map place_of list))
+pub entries_kept : (list : List Position) → kept (entries_at_places (Some (map place_of list))) ≡ entries_at_places (Some (map place_of list))
 entries_kept list = kept_from 0 list
 
-pub entries_ascend : (list : List Position) → IsStrictlyIncreasing (addresses (kept (entries_of (Some (map place_of list)))))
+pub entries_ascend : (list : List Position) → IsStrictlyIncreasing (addresses (kept (entries_at_places (Some (map place_of list)))))
 entries_ascend list = rw (kept_from 0 list) (rises_up 0 _ (rises_with 0 list))
 
 -- positions that are all none

@@ -6,10 +6,12 @@ use Rattle.grain_pools.specs.declared.chain.Step.{Step}
 use Rattle.grain_pools.specs.declared.chain.Step.TheVariants.{Index, Property, Method}
 
 -- a method with arguments takes the last one, and none behind it
-last_argument : (argc operand last : ℕ) → cond (nat_lt 0 argc) (Some (operand + argc - 1)) None ≡ Some last → (operand ≤ last) × (last < operand + argc) × ((place : ℕ) → (operand ≤ place) × (place < operand + argc) → place ≤ last)
+last_argument : (argc operand last : ℕ) → cond (nat_lt 0 argc) (Some (operand + argc - 1)) None ≡ Some last
+    → (operand ≤ last) × (last < operand + argc) × ((place : ℕ) → (operand ≤ place) × (place < operand + argc) → place ≤ last)
 last_argument argc operand last e = at (nat_lt 0 argc) refl e
   where
-    at : (some : Bool) → nat_lt 0 argc ≡ some → cond some (Some (operand + argc - 1)) None ≡ Some last → (operand ≤ last) × (last < operand + argc) × ((place : ℕ) → (operand ≤ place) × (place < operand + argc) → place ≤ last)
+    at : (some : Bool) → nat_lt 0 argc ≡ some → cond some (Some (operand + argc - 1)) None ≡ Some last
+        → (operand ≤ last) × (last < operand + argc) × ((place : ℕ) → (operand ≤ place) × (place < operand + argc) → place ≤ last)
     at true test is =
         let same : operand + argc - 1 ≡ last = cc in
         let some : 0 < argc = grind (arith, nat_tests) in

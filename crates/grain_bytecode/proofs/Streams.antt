@@ -7,11 +7,11 @@ use Rattle.std.proofs.Math.Seq.{drop-length}
 use Rattle.grain_base.specs.declared.pos.Site.{Site}
 use Rattle.grain_base.specs.declared.varint.Error.{Error as NumberError}
 use Rattle.grain_base.specs.declared.varint.Error.TheVariants as number_error
-use Rattle.grain_base.specs.Varint.{Begins, U32Flaw}
+use Rattle.grain_base.specs.Varint.{BeginsNumbers, U32Flaw}
 use Rattle.grain_base.proofs.Numbers.{Reading, Number, Flaw, reading, begins_once, begins_flawless, begins-append, begins_longer, begins_front, one_u32_flaw}
 use Rattle.grain_bytecode.specs.declared.sites.StreamError.{StreamError}
 use Rattle.grain_bytecode.specs.declared.sites.StreamError.TheVariants.{Truncated, Overflow, TrailingBytes, OutOfMemory}
-use Rattle.grain_bytecode.specs.ChainStream.{Stream, Records, IsUnfinished, IsUnreadable, Trails, StreamFlaw, site_of, sites_of, as_stream_error}
+use Rattle.grain_bytecode.specs.ChainStream.{Stream, Records, IsSlotDue, IsSlotUnreadable, Trails, StreamFlaw, site_of, sites_of, as_stream_error}
 
 -- so many numbers, and what is left behind them
 abbrev Read : Type 0
@@ -29,7 +29,7 @@ abbrev read_many : ℕ → List ℕ → Read
 read_many zero bytes = Ok ([], bytes)
 read_many (suc k) bytes = then_read (reading bytes) (read_many k)
 
-then_number : (bytes : List ℕ) (r : Reading bytes) (n : ℕ) (rest : List ℕ) (more : List ℕ → Read) → Begins bytes (n ∷ []) rest → then_read r more ≡ in_front n (more rest)
+then_number : (bytes : List ℕ) (r : Reading bytes) (n : ℕ) (rest : List ℕ) (more : List ℕ → Read) → BeginsNumbers bytes (n ∷ []) rest → then_read r more ≡ in_front n (more rest)
 then_number bytes (Number m left begins) n rest more read = let once = begins_once bytes m n left rest begins read in ap (λ k. in_front k (more left)) once.0 ∙ ap (λ xs. in_front n (more xs)) once.1
 then_number bytes (Flaw error flaw) n rest more read = absurd (begins_flawless bytes n rest error read flaw)
 
@@ -37,17 +37,17 @@ then_flaw : (bytes : List ℕ) (r : Reading bytes) (error : NumberError) (more :
 then_flaw bytes (Number m left begins) error more flaw = absurd (begins_flawless bytes m left error begins flaw)
 then_flaw bytes (Flaw other here) error more flaw = ap (λ e. Err e) (one_u32_flaw bytes other error here flaw)
 
-first_of : (bytes : List ℕ) (n : ℕ) (ns rest : List ℕ) (begins : Begins bytes (n ∷ ns) rest) → Begins bytes (n ∷ []) begins.1
+first_of : (bytes : List ℕ) (n : ℕ) (ns rest : List ℕ) (begins : BeginsNumbers bytes (n ∷ ns) rest) → BeginsNumbers bytes (n ∷ []) begins.1
 first_of bytes n ns rest begins = (begins.0, begins.1, begins.2, begins.3, refl)
 
 -- numbers that stand there are read
-many_read : (bytes ns rest : List ℕ) → Begins bytes ns rest → read_many (length ns) bytes ≡ Ok (ns, rest)
+many_read : (bytes ns rest : List ℕ) → BeginsNumbers bytes ns rest → read_many (length ns) bytes ≡ Ok (ns, rest)
 many_read bytes [] rest begins = ap (λ xs. Ok ([], xs)) begins
 many_read bytes (n ∷ ns) rest begins =
     then_number bytes (reading bytes) n begins.1 (read_many (length ns)) (first_of bytes n ns rest begins) ∙ ap (in_front n) (many_read begins.1 ns rest begins.4)
 
 -- where one can't be read, no more are
-many_unread : (k : ℕ) (bytes ns left : List ℕ) (error : NumberError) → Begins bytes ns left → length ns < k → U32Flaw left error → read_many k bytes ≡ Err error
+many_unread : (k : ℕ) (bytes ns left : List ℕ) (error : NumberError) → BeginsNumbers bytes ns left → length ns < k → U32Flaw left error → read_many k bytes ≡ Err error
 many_unread zero bytes ns left error begins few flaw = absurd (omega arith)
 many_unread (suc k) bytes [] left error begins few flaw = then_flaw bytes (reading bytes) error (read_many k) (subst (λ xs. U32Flaw xs error) (sym begins) flaw)
 many_unread (suc k) bytes (n ∷ ns) left error begins few flaw =
@@ -70,19 +70,19 @@ counted (Err error) = Err (as_stream_error error)
 abbrev answer : List ℕ → Answer
 answer bytes = counted (read_many 1 bytes)
 
-count_read : (bytes : List ℕ) (count : ℕ) (after : List ℕ) → Begins bytes (count ∷ []) after → answer bytes ≡ ended (read_many (2 * count) after)
+count_read : (bytes : List ℕ) (count : ℕ) (after : List ℕ) → BeginsNumbers bytes (count ∷ []) after → answer bytes ≡ ended (read_many (2 * count) after)
 count_read bytes count after begins = ap counted (many_read bytes (count ∷ []) after begins)
 
-behind_count : (bytes : List ℕ) (count : ℕ) (ns rest : List ℕ) (begins : Begins bytes (count ∷ ns) rest) → length ns ≡ 2 * count → answer bytes ≡ ended (Ok (ns, rest))
+behind_count : (bytes : List ℕ) (count : ℕ) (ns rest : List ℕ) (begins : BeginsNumbers bytes (count ∷ ns) rest) → length ns ≡ 2 * count → answer bytes ≡ ended (Ok (ns, rest))
 behind_count bytes count ns rest begins long =
     count_read bytes count begins.1 (first_of bytes count ns rest begins) ∙ ap ended (ap (λ k. read_many k begins.1) (sym long) ∙ many_read begins.1 ns rest begins.4)
 
 pub stream_answer : (bytes : List ℕ) (slots : List (Option Site)) → Stream bytes slots → answer bytes ≡ Ok slots
 stream_answer bytes slots is = behind_count bytes (length slots) is.numbers [] is.spelled is.paired ∙ ap (λ xs. Ok xs) (sym is.sites)
 
-unreadable_answer : (bytes : List ℕ) (error : NumberError) → IsUnreadable bytes error → answer bytes ≡ Err (as_stream_error error)
+unreadable_answer : (bytes : List ℕ) (error : NumberError) → IsSlotUnreadable bytes error → answer bytes ≡ Err (as_stream_error error)
 unreadable_answer bytes error is = of_numbers is.numbers is.read is.unfinished where
-  of_numbers : (numbers : List ℕ) → Begins bytes numbers is.left → IsUnfinished numbers → answer bytes ≡ Err (as_stream_error error)
+  of_numbers : (numbers : List ℕ) → BeginsNumbers bytes numbers is.left → IsSlotDue numbers → answer bytes ≡ Err (as_stream_error error)
   of_numbers [] read unfinished = ap counted (many_unread 1 bytes [] is.left error read (omega arith) is.flaw)
   of_numbers (count ∷ numbers) read unfinished =
       count_read bytes count read.1 (first_of bytes count numbers is.left read) ∙ ap ended (many_unread (2 * count) read.1 numbers is.left error read.4 unfinished is.flaw)
@@ -102,19 +102,19 @@ flaw_answer bytes (TrailingBytes count) flaw = trailing_answer bytes count flaw
 flaw_answer bytes OutOfMemory flaw = absurd flaw
 
 -- an error of a number is one of the stream
-pub unreadable : (bytes : List ℕ) (error : NumberError) → IsUnreadable bytes error → StreamFlaw bytes (as_stream_error error)
+pub unreadable : (bytes : List ℕ) (error : NumberError) → IsSlotUnreadable bytes error → StreamFlaw bytes (as_stream_error error)
 unreadable bytes number_error.Truncated is = is
 unreadable bytes number_error.Overflow is = is
 
 -- Whole numbers of slots were read, and so the bytes up to the cursor hold the count and them.
 pub record Slots (stream : List ℕ) (count turns at : ℕ) (sites : List (Option Site)) : Type 0 where
   pub numbers : List ℕ
-  pub read : Begins stream (count ∷ numbers) (drop at stream)
+  pub read : BeginsNumbers stream (count ∷ numbers) (drop at stream)
   pub paired : length numbers ≡ 2 * turns
   pub are : sites ≡ sites_of numbers
   pub inside : at ≤ length stream
 
-pub slots_none : (stream : List ℕ) (count at : ℕ) → Begins stream (count ∷ []) (drop at stream) → at ≤ length stream → Slots stream count 0 at []
+pub slots_none : (stream : List ℕ) (count at : ℕ) → BeginsNumbers stream (count ∷ []) (drop at stream) → at ≤ length stream → Slots stream count 0 at []
 slots_none stream count at begins inside = record { numbers = []; read = begins; paired = refl; are = refl; inside = inside }
 
 sites_of-push : (numbers : List ℕ) (k line column : ℕ) → length numbers ≡ 2 * k → sites_of (numbers ++ line ∷ column ∷ []) ≡ sites_of numbers ++ site_of line column ∷ []
@@ -124,7 +124,8 @@ sites_of-push (a ∷ []) (suc k) line column paired = absurd (omega (arith, pair
 sites_of-push (a ∷ b ∷ numbers) zero line column paired = absurd (omega (arith, paired))
 sites_of-push (a ∷ b ∷ numbers) (suc k) line column paired = ap (λ sites. site_of a b ∷ sites) (sites_of-push numbers k line column (omega (arith, paired)))
 
-pub slots_more : (stream : List ℕ) (count turns at after line column : ℕ) (sites : List (Option Site)) → Slots stream count turns at sites → Begins (drop at stream) (line ∷ column ∷ []) (drop after stream) → after ≤ length stream
+pub slots_more : (stream : List ℕ) (count turns at after line column : ℕ) (sites : List (Option Site)) → Slots stream count turns at sites
+    → BeginsNumbers (drop at stream) (line ∷ column ∷ []) (drop after stream) → after ≤ length stream
     → Slots stream count (turns + 1) after (sites ++ site_of line column ∷ [])
 slots_more stream count turns at after line column sites slots read inside = record {
   numbers = slots.numbers ++ line ∷ column ∷ [];
@@ -136,7 +137,7 @@ slots_more stream count turns at after line column sites slots read inside = rec
 
 -- a slot can't be read
 pub slots_broken : (stream : List ℕ) (count turns at : ℕ) (sites : List (Option Site)) (error : NumberError) → Slots stream count turns at sites → turns < count
-    → (numbers left : List ℕ) × Begins (drop at stream) numbers left × (length numbers < 2) × U32Flaw left error → IsUnreadable stream error
+    → (numbers left : List ℕ) × BeginsNumbers (drop at stream) numbers left × (length numbers < 2) × U32Flaw left error → IsSlotUnreadable stream error
 slots_broken stream count turns at sites error slots more (numbers, left, read, few, flaw) = record {
   numbers = count ∷ slots.numbers ++ numbers;
   left = left;
@@ -152,7 +153,7 @@ slots_all stream count at sites slots none =
     let many : count ≡ length sites = sym (ap length slots.are ∙ length-sites_of slots.numbers count slots.paired) in
     record {
       numbers = slots.numbers;
-      spelled = subst (λ n. Begins stream (n ∷ slots.numbers) []) many (subst (Begins stream (count ∷ slots.numbers)) end slots.read);
+      spelled = subst (λ n. BeginsNumbers stream (n ∷ slots.numbers) []) many (subst (BeginsNumbers stream (count ∷ slots.numbers)) end slots.read);
       paired = slots.paired ∙ ap (λ n. 2 * n) many;
       sites = slots.are;
     } where
@@ -173,7 +174,7 @@ slots_trail stream count at sites slots some =
       parts = front.1;
       is = slots_all front.0 count (length front.0) sites (record {
         numbers = slots.numbers;
-        read = subst (Begins front.0 (count ∷ slots.numbers)) (sym (drop-length front.0)) front.2;
+        read = subst (BeginsNumbers front.0 (count ∷ slots.numbers)) (sym (drop-length front.0)) front.2;
         paired = slots.paired;
         are = slots.are;
         inside = omega arith;
@@ -209,7 +210,7 @@ pub says_error : (bytes : List ℕ) (r : Result (Unit {0}) StreamError) (error :
 says_error bytes r error (returned, is, same) flaw = subst (Says bytes) (sym (is ∙ ap (λ e. Err e) same)) flaw
 
 -- the count can't be read
-pub uncounted : (stream : List ℕ) (error : NumberError) → U32Flaw stream error → IsUnreadable stream error
+pub uncounted : (stream : List ℕ) (error : NumberError) → U32Flaw stream error → IsSlotUnreadable stream error
 uncounted stream error flaw = record { numbers = []; left = stream; read = refl; unfinished = tt; flaw = flaw }
 
 -- a stream has no flaw
@@ -228,7 +229,7 @@ pub one_stream : (bytes : List ℕ) (slots other : List (Option Site)) → Strea
 one_stream bytes slots other a b = let e = sym (stream_answer bytes slots a) ∙ stream_answer bytes other b in cc
 
 -- Numbers that can't be read, where a slot's would have to be.
-pub unrecorded : (stream : List ℕ) (numbers left : List ℕ) (error : NumberError) (slot : ℕ) (site : Site) → Begins stream numbers left → length numbers < 2 * slot + 3 → U32Flaw left error → Records stream slot site → ⊥
+pub unrecorded : (stream : List ℕ) (numbers left : List ℕ) (error : NumberError) (slot : ℕ) (site : Site) → BeginsNumbers stream numbers left → length numbers < 2 * slot + 3 → U32Flaw left error → Records stream slot site → ⊥
 unrecorded stream numbers left error slot site read few flaw records =
     let all = records.count ∷ records.before ++ site.line ∷ site.column ∷ [] in
     let long : length all ≡ 2 * slot + 3 = omega (arith, length-append records.before (site.line ∷ site.column ∷ []), records.place) in
@@ -242,10 +243,10 @@ behind_first : (m n : ℕ) (ms ns : List ℕ) → m ∷ ms ≡ n ∷ ns → ms �
 behind_first m n ms ns e = cc
 
 -- the slots before it were read
-pub recorded : (stream : List ℕ) (count slot at after line column : ℕ) (sites : List (Option Site)) → Slots stream count slot at sites → slot < count → Begins (drop at stream) (line ∷ column ∷ []) (drop after stream)
+pub recorded : (stream : List ℕ) (count slot at after line column : ℕ) (sites : List (Option Site)) → Slots stream count slot at sites → slot < count → BeginsNumbers (drop at stream) (line ∷ column ∷ []) (drop after stream)
     → (site : Site) → (site_of line column ≡ Some site) ↔ Records stream slot site
 recorded stream count slot at after line column sites slots inside read site = (there, back) where
-  all : Begins stream (count ∷ slots.numbers ++ line ∷ column ∷ []) (drop after stream)
+  all : BeginsNumbers stream (count ∷ slots.numbers ++ line ∷ column ∷ []) (drop after stream)
   all = begins-append stream (count ∷ slots.numbers) (line ∷ column ∷ []) (drop at stream) (drop after stream) slots.read read
 
   there : site_of line column ≡ Some site → Records stream slot site
@@ -268,7 +269,7 @@ recorded stream count slot at after line column sites slots inside read site = (
       let column_is : column ≡ site.column = cc in
       ap (λ n. site_of n column) line_is ∙ ap (site_of site.line) column_is ∙ sym (some_site site.line site.column (λ none. let known = records.known in absurd (omega arith)))
 
-pub past_count : (stream : List ℕ) (count slot : ℕ) (rest : List ℕ) (site : Site) → Begins stream (count ∷ []) rest → count ≤ slot → Records stream slot site → ⊥
+pub past_count : (stream : List ℕ) (count slot : ℕ) (rest : List ℕ) (site : Site) → BeginsNumbers stream (count ∷ []) rest → count ≤ slot → Records stream slot site → ⊥
 past_count stream count slot rest site read past records =
     let first = first_of stream records.count (records.before ++ site.line ∷ site.column ∷ []) records.rest records.read in
     let once = begins_once stream count records.count rest _ read first in
@@ -277,7 +278,7 @@ past_count stream count slot rest site read past records =
 
 -- a slot at or before it can't be read
 pub broken_before : (stream : List ℕ) (count turns slot at : ℕ) (sites : List (Option Site)) (error : NumberError) (site : Site) → Slots stream count turns at sites → turns ≤ slot
-    → (numbers left : List ℕ) × Begins (drop at stream) numbers left × (length numbers < 2) × U32Flaw left error → Records stream slot site → ⊥
+    → (numbers left : List ℕ) × BeginsNumbers (drop at stream) numbers left × (length numbers < 2) × U32Flaw left error → Records stream slot site → ⊥
 broken_before stream count turns slot at sites error site slots before (numbers, left, read, few, flaw) =
     unrecorded stream (count ∷ slots.numbers ++ numbers) left error slot site (begins-append stream (count ∷ slots.numbers) numbers (drop at stream) left slots.read read)
     (omega (arith, length-append slots.numbers numbers, slots.paired, few)) flaw

@@ -3,7 +3,7 @@ use Rattle.std.specs.Prelude.{◌≡◌, ℕ, ◌*◌, ◌<◌, ⊤, List, [], �
 use Rattle.grain_base.specs.declared.pos.Site.{Site}
 use Rattle.grain_base.specs.declared.varint.Error.{Error as NumberError}
 use Rattle.grain_base.specs.declared.varint.Error.TheVariants as number_error
-use Rattle.grain_base.specs.Varint.{Begins, U32Flaw, AreShortest}
+use Rattle.grain_base.specs.Varint.{BeginsNumbers, U32Flaw, AreShortest}
 use Rattle.grain_base.specs.Place.{place_of, line_of, column_of}
 use Rattle.grain_base.specs.declared.position.Position.{Position}
 use Rattle.std.specs.List.{flat_map}
@@ -25,7 +25,7 @@ sites_of [] = []
 -- The bytes are a stream of these slots: how many they are, and of each a line and a column, all numbers that fit u32.
 pub record Stream (bytes : List ℕ) (slots : List (Option Site)) : Type 0 where
   pub numbers : List ℕ
-  pub spelled : Begins bytes (length slots ∷ numbers) []
+  pub spelled : BeginsNumbers bytes (length slots ∷ numbers) []
   pub paired : length numbers ≡ 2 * length slots
   pub sites : slots ≡ sites_of numbers
 
@@ -34,22 +34,22 @@ pub record Records (bytes : List ℕ) (slot : ℕ) (site : Site) : Type 0 where
   pub count : ℕ
   pub before : List ℕ
   pub rest : List ℕ
-  pub read : Begins bytes (count ∷ before ++ site.line ∷ site.column ∷ []) rest
+  pub read : BeginsNumbers bytes (count ∷ before ++ site.line ∷ site.column ∷ []) rest
   pub place : length before ≡ 2 * slot
   pub counted : slot < count
   pub known : 0 < site.line
 
 -- Behind these numbers of a stream another is due: its count, or one of the two of each slot.
-abbrev pub IsUnfinished : List ℕ → Type 0
-IsUnfinished [] = ⊤
-IsUnfinished (count ∷ numbers) = length numbers < 2 * count
+abbrev pub IsSlotDue : List ℕ → Type 0
+IsSlotDue [] = ⊤
+IsSlotDue (count ∷ numbers) = length numbers < 2 * count
 
 -- The first number of a stream that is due and can't be read can't for this reason.
-pub record IsUnreadable (bytes : List ℕ) (error : NumberError) : Type 0 where
+pub record IsSlotUnreadable (bytes : List ℕ) (error : NumberError) : Type 0 where
   pub numbers : List ℕ
   pub left : List ℕ
-  pub read : Begins bytes numbers left
-  pub unfinished : IsUnfinished numbers
+  pub read : BeginsNumbers bytes numbers left
+  pub unfinished : IsSlotDue numbers
   pub flaw : U32Flaw left error
 
 -- a stream stands at the front of the bytes, and so many bytes follow it
@@ -64,8 +64,8 @@ pub record Trails (bytes : List ℕ) (count : ℕ) : Type 0 where
 
 -- the first thing that is wrong with bytes that are no stream, in the order in which they are read
 abbrev pub StreamFlaw : List ℕ → StreamError → Type 0
-StreamFlaw bytes stream_error.Truncated = IsUnreadable bytes number_error.Truncated
-StreamFlaw bytes stream_error.Overflow = IsUnreadable bytes number_error.Overflow
+StreamFlaw bytes stream_error.Truncated = IsSlotUnreadable bytes number_error.Truncated
+StreamFlaw bytes stream_error.Overflow = IsSlotUnreadable bytes number_error.Overflow
 StreamFlaw bytes (stream_error.TrailingBytes count) = Trails bytes count
 StreamFlaw bytes stream_error.OutOfMemory = ⊥
 
@@ -91,8 +91,8 @@ as_stream_error number_error.Truncated = stream_error.Truncated
 as_stream_error number_error.Overflow = stream_error.Overflow
 
 -- what is printed of an error
-abbrev pub text_of : StreamError → List ℕ
-text_of stream_error.Truncated = codes "chain position stream ends mid-slot"
-text_of stream_error.Overflow = codes "chain position stream holds a number too wide to read"
-text_of (stream_error.TrailingBytes count) = codes "chain position stream has " ++ decimal count ++ codes " bytes past its last slot"
-text_of stream_error.OutOfMemory = codes "out of memory"
+abbrev pub stream_error_text : StreamError → List ℕ
+stream_error_text stream_error.Truncated = codes "chain position stream ends mid-slot"
+stream_error_text stream_error.Overflow = codes "chain position stream holds a number too wide to read"
+stream_error_text (stream_error.TrailingBytes count) = codes "chain position stream has " ++ decimal count ++ codes " bytes past its last slot"
+stream_error_text stream_error.OutOfMemory = codes "out of memory"

@@ -1,6 +1,8 @@
 -- The positions of code: for each byte a place in the source text. And how an address table stands for them; in this file
 -- a table is an address table.
-use Rattle.std.specs.Prelude.{◌≡◌, ◌≢◌, ℕ, ◌-◌, ◌/◌, ◌%◌, ◌^◌, ◌≤◌, ◌⊎◌, replicate, Bool, true, false, List, [], ◌∷◌, ◌++◌, length, take, drop, map, filter_map, count_by, codes, decimal, nat_lt, nat_le, slice_get, slice_set, Option, Some, None, is_some, is_none, unwrap_or, option_map, option_and_then, ◌==◌, ◌||◌, if◌then◌else◌}
+use Rattle.std.specs.Prelude.{◌≡◌, ◌≢◌, ℕ, ◌-◌, ◌/◌, ◌%◌, ◌^◌, ◌≤◌, ◌⊎◌, replicate, Bool, true, false, List, [], ◌∷◌, ◌++◌, length, take, drop}
+use Rattle.std.specs.Prelude.{map, filter_map, count_by, codes, decimal, nat_lt, nat_le, slice_get, slice_set}
+use Rattle.std.specs.Prelude.{Option, Some, None, is_some, is_none, unwrap_or, option_map, option_and_then, ◌==◌, ◌||◌, if◌then◌else◌}
 use Rattle.std.specs.Fmt.{digits}
 use Rattle.std.specs.List.{prefix_len, list_all, list_any, enumerate_from, range_with_len}
 use Rattle.grain_base.specs.AddressTable.{Entry, Table, AreDue, FirstFlaw, site_at, debug_text_of}
@@ -8,7 +10,7 @@ use Rattle.grain_base.specs.EntriesLeft.{EntriesLeft}
 use Rattle.grain_base.specs.Place.{place_of}
 use Rattle.grain_base.specs.declared.pos.Site.{Site}
 use Rattle.grain_base.specs.declared.position.Position.{Position}
-use Rattle.grain_bytecode.specs.ChainStream.{text_of as stream_text}
+use Rattle.grain_bytecode.specs.ChainStream.{stream_error_text as stream_text}
 use Rattle.grain_code.specs.Split.{NoneStandsAt, Split}
 use Rattle.grain_bytecode.specs.declared.positions.Positions.{Positions}
 use Rattle.grain_bytecode.specs.declared.positions.Positions.TheVariants.{Stripped, Dense}
@@ -44,9 +46,9 @@ abbrev pub entry_of : ℕ × Place → Option Entry
 entry_of item = option_map (λ place. (item.0, record { line = place.0; column = place.1 })) item.1
 
 -- an entry for each place that there is, with its address
-abbrev pub entries_of : Option (List Place) → List Entry
-entries_of None = []
-entries_of (Some list) = filter_map entry_of (enumerate_from 0 list)
+abbrev pub entries_at_places : Option (List Place) → List Entry
+entries_at_places None = []
+entries_at_places (Some list) = filter_map entry_of (enumerate_from 0 list)
 
 -- Reading the code arrives at these addresses: at the starts of its longest front that splits and, where that front isn't
 -- the whole code, last at the address where it ends.
@@ -123,16 +125,17 @@ abbrev pub id_text : ℕ → List ℕ
 id_text id = codes "0x" ++ (hex_half (id / 2 ^ 64) ++ hex_half (id % 2 ^ 64))
 
 -- what is printed of an error
-abbrev pub text_of : TableError → List ℕ
-text_of (table_error.Malformed error) = codes "position table is malformed: " ++ debug_text_of error
-text_of (table_error.PastTheEnd entries some instructions) =
-    codes "position table has " ++ (decimal entries ++ (codes " entries but only " ++ (decimal some ++ (codes " begin an instruction of this chunk's " ++ (decimal instructions ++ codes " code bytes, so it is a different program's")))))
-text_of (table_error.WrongProgram expected found) =
+abbrev pub positions_error_text : TableError → List ℕ
+positions_error_text (table_error.Malformed error) = codes "position table is malformed: " ++ debug_text_of error
+positions_error_text (table_error.PastTheEnd entries some instructions) =
+    codes "position table has " ++ (decimal entries ++ (codes " entries but only " ++ (decimal some
+    ++ (codes " begin an instruction of this chunk's " ++ (decimal instructions ++ codes " code bytes, so it is a different program's")))))
+positions_error_text (table_error.WrongProgram expected found) =
     codes "sidecar belongs to debug id " ++ (id_text expected ++ (codes ", not to this program's " ++ id_text found))
-text_of (table_error.ChainStream error) = stream_text error
-text_of (table_error.ChainCount sites slots) =
+positions_error_text (table_error.ChainStream error) = stream_text error
+positions_error_text (table_error.ChainCount sites slots) =
     codes "chain site stream holds " ++ (decimal sites ++ (codes " sites but this program's chains carry " ++ (decimal slots ++ codes " positions, so it is a different program's")))
-text_of table_error.OutOfMemory = codes "out of memory"
+positions_error_text table_error.OutOfMemory = codes "out of memory"
 
 -- what is printed where positions can't be written
 abbrev pub strip_error_text : StripError → List ℕ

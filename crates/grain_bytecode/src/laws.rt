@@ -11,13 +11,13 @@ ghost use Rattle.grain_base.specs.Content.{Content};
 ghost use Rattle.grain_base.specs.declared.pos.Site.{Site};
 ghost use Rattle.grain_pools.specs.Chain.{TakesOperand, last_operand};
 ghost use Rattle.grain_bytecode.specs.ChainStream.{Stream};
-ghost use Rattle.grain_pools.specs.Dispatch.{Fits, Arms, dispatched, resolved, targets};
+ghost use Rattle.grain_pools.specs.Dispatch.{AreWithin, Arms, dispatched, resolved, arm_targets};
 ghost use Rattle.grain_bytecode.specs.Names.{first_flaw, names_in, starts_of};
 ghost use Rattle.grain_bytecode.specs.Positions.{Arrived};
 ghost use Rattle.grain_bytecode.specs.Qualified.{IsLastCut, last_cut, separator};
 ghost use Rattle.grain_pools.specs.StepBits.{flags_table};
 ghost use Rattle.grain_code.specs.InstructionTable.{Instr, canon};
-ghost use Rattle.grain_code.specs.Split.{Split, IsBoundary, FrontEnds};
+ghost use Rattle.grain_code.specs.Split.{Split, IsSplitBoundary, FrontEnds};
 ghost use Rattle.grain_code.specs.Disassembly.{IsDisassembly};
 ghost use Rattle.grain_code.specs.Assembly.{IsAssembly, CanAssemble, with_indices};
 ghost use Rattle.grain_pools.specs.declared.chain.Step.{Step};
@@ -50,7 +50,7 @@ pub fn code_splits_in_one_way()
 
 /// Code that splits is cut by a boundary into two that do.
 pub fn boundaries_cut_code()
-    ensures { (code starts : List ℕ) (at : ℕ) → Split code starts → IsBoundary code starts at
+    ensures { (code starts : List ℕ) (at : ℕ) → Split code starts → IsSplitBoundary code starts at
         → ((front : List ℕ) × Split (take at code) front)
         × ((back : List ℕ) × Split (drop at code) back) }
 {}
@@ -81,12 +81,12 @@ pub fn streams_have_one_list()
 
 /// A switch leads to one of its targets.
 pub fn dispatch_answers_a_target()
-    ensures { (t : Arms) (subject : Content) → Contains (targets t) (dispatched t subject) }
+    ensures { (t : Arms) (subject : Content) → Contains (arm_targets t) (dispatched t subject) }
 {}
 
 /// A switch whose targets are replaced by offsets leads to the offset of where it led.
 pub fn dispatch_follows_its_offsets()
-    ensures { (offsets : List ℕ) (t : Arms) (subject : Content) → Fits (length offsets) t
+    ensures { (offsets : List ℕ) (t : Arms) (subject : Content) → AreWithin (length offsets) t
         → slice_get offsets (dispatched t subject)
         ≡ Some (dispatched (resolved offsets t) subject) }
 {}

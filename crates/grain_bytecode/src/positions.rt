@@ -8,7 +8,7 @@ ghost use Rattle.std.specs.Bool.{OnTrue, OnFalse};
 ghost use Rattle.grain_base.specs.AddressTable.{Entry, Table, numbers_from};
 ghost use Rattle.grain_base.specs.Place.{place_of};
 ghost use Rattle.grain_base.specs.Varint.{AreShortest};
-ghost use Rattle.grain_bytecode.specs.Positions.{Arrived, IsRead, IsRefusal, IsPlaced, places, dense, place_at, site_place, entries_of, code_site, matched, table_places, AreAhead, from_address};
+ghost use Rattle.grain_bytecode.specs.Positions.{Arrived, IsRead, IsRefusal, IsPlaced, places, dense, place_at, site_place, entries_at_places, code_site, matched, table_places, AreAhead, from_address};
 ghost use Rattle.grain_bytecode.specs.declared.positions.StripError.TheVariants as strip_error;
 ghost use Rattle.grain_bytecode.specs.declared.positions.TableError.TheVariants as table_error;
 
@@ -121,9 +121,9 @@ impl From<AllocError> for TableError {
 }
 
 impl fmt::Display for TableError {
-    ghost use Rattle.grain_bytecode.specs.Positions.{text_of};
+    ghost use Rattle.grain_bytecode.specs.Positions.{positions_error_text};
 
-    ghost output = { λ error. Some (text_of error) };
+    ghost output = { λ error. Some (positions_error_text error) };
 
     fn fmt<W: fmt::Write>(&self, f: &mut fmt::Formatter<W>) -> fmt::Result {
         match self {
@@ -226,14 +226,14 @@ impl Positions {
     /// `AddressTooWide` where one of these stands above 4294967295; else `OutOfMemory` where there is no memory for the
     /// address table.
     pub fn to_table(&self, alloc: Global) -> Result<Vec<u8>, StripError>
-        ensures written { let list = entries_of (places self.now) in
+        ensures written { let list = entries_at_places (places self.now) in
             IfOk result (λ table. AreShortest table.items (length list ∷ numbers_from 0 list)) }
-        ensures table { let list = entries_of (places self.now) in
+        ensures table { let list = entries_at_places (places self.now) in
             length list < 2 ^ 32 → IfOk result (λ table. Table table.items list) }
         ensures fits { IsOk result
-            → All (λ entry. entry.0 < 2 ^ 32) (entries_of (places self.now)) }
+            → All (λ entry. entry.0 < 2 ^ 32) (entries_at_places (places self.now)) }
         ensures wide { (result ≡ Err strip_error.AddressTooWide)
-            ↔ Any (λ entry. 2 ^ 32 ≤ entry.0) (entries_of (places self.now)) }
+            ↔ Any (λ entry. 2 ^ 32 ≤ entry.0) (entries_at_places (places self.now)) }
     {
         match self {
             Positions::Stripped => Ok(pos::encode(alloc, &[])?),
@@ -283,9 +283,9 @@ impl Positions {
 /// Whether the address of each position that has a line fits a `u32`.
 fn addresses_fit(positions: &[Position]) -> bool
     ensures fit { OnTrue result (All (λ entry. entry.0 < 2 ^ 32)
-        (entries_of (Some (map place_of positions.now)))) }
+        (entries_at_places (Some (map place_of positions.now)))) }
     ensures wide { OnFalse result (Any (λ entry. 2 ^ 32 ≤ entry.0)
-        (entries_of (Some (map place_of positions.now)))) }
+        (entries_at_places (Some (map place_of positions.now)))) }
 {
     for (at, position) in positions.iter().enumerate() {
         let Some(_line) = position.line() else {
@@ -300,8 +300,8 @@ fn addresses_fit(positions: &[Position]) -> bool
 
 /// An entry for each position that has a line, with its address.
 fn sites_of(alloc: Global, positions: &[Position]) -> Result<Vec<(u32, Site)>, AllocError>
-    requires { All (λ entry. entry.0 < 2 ^ 32) (entries_of (Some (map place_of positions.now))) }
-    ensures { IfOk result (λ sites. sites.items ≡ entries_of (Some (map place_of positions.now))) }
+    requires { All (λ entry. entry.0 < 2 ^ 32) (entries_at_places (Some (map place_of positions.now))) }
+    ensures { IfOk result (λ sites. sites.items ≡ entries_at_places (Some (map place_of positions.now))) }
 {
     let mut sites = Vec::new(alloc);
     for (at, position) in positions.iter().enumerate() {

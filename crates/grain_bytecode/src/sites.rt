@@ -11,7 +11,7 @@ ghost use Rattle.std.specs.Prelude.{◌≡◌, ◌<◌, ◌≤◌, ◌+◌, ◌^
 ghost use Rattle.std.specs.List.{flat_map};
 ghost use Rattle.grain_base.specs.declared.pos.Site.{Site};
 ghost use Rattle.grain_base.specs.declared.varint.Error.{Error as NumberError};
-ghost use Rattle.grain_base.specs.Varint.{Begins, U32Flaw, AreShortest};
+ghost use Rattle.grain_base.specs.Varint.{BeginsNumbers, U32Flaw, AreShortest};
 ghost use Rattle.grain_bytecode.specs.declared.sites.StreamError.{StreamError};
 ghost use Rattle.grain_bytecode.specs.declared.sites.StreamError.TheVariants.{OutOfMemory};
 ghost use Rattle.grain_pools.specs.Chain.{positions};
@@ -67,9 +67,9 @@ impl<T: Drop> From<AllocFailed<T>> for StreamError {
 }
 
 impl fmt::Display for StreamError {
-    ghost use Rattle.grain_bytecode.specs.ChainStream.{text_of};
+    ghost use Rattle.grain_bytecode.specs.ChainStream.{stream_error_text};
 
-    ghost output = { λ error. Some (text_of error) };
+    ghost output = { λ error. Some (stream_error_text error) };
 
     fn fmt<W: fmt::Write>(&self, f: &mut fmt::Formatter<W>) -> fmt::Result {
         match self {
@@ -93,11 +93,11 @@ impl std::error::Error for StreamError {}
 /// Reads the next slot.
 fn next_slot(stream: &[u8], at: &mut usize) -> Result<Option<Site>, varint::Error>
     ensures ok { IfOk result (λ site. (line column : ℕ)
-        × Begins (drop at.old stream.now) (line ∷ column ∷ []) (drop at.new stream.now)
+        × BeginsNumbers (drop at.old stream.now) (line ∷ column ∷ []) (drop at.new stream.now)
         × (site ≡ site_of line column)) }
     ensures inside { OnOk result (at.new ≤ length stream.now) }
     ensures err { IfErr result (λ error. (numbers left : List ℕ)
-        × Begins (drop at.old stream.now) numbers left × (length numbers < 2)
+        × BeginsNumbers (drop at.old stream.now) numbers left × (length numbers < 2)
         × U32Flaw left error) }
 {
     let line = varint::u32(stream, at)?;

@@ -1,7 +1,7 @@
 //! Address tables, and streams of the positions of chains.
 ghost use Rattle.std.specs.Prelude.{◌≡◌, ◌≢◌, ◌↔◌, List, Option, Some, None, cond};
 ghost use Rattle.std.specs.Bool.{OnFalse, OnTrue};
-ghost use Rattle.grain.specs.AddressTable.{Entry, FirstFlaw, Front, Table, site_at};
+ghost use Rattle.grain.specs.AddressTable.{Entry, FirstFlaw, LongestFront, Table, site_at};
 ghost use Rattle.grain.specs.ChainStream.{Records, Stream, StreamFlaw};
 ghost use Rattle.grain_base.specs.declared.pos.Error.{Error as TableError};
 ghost use Rattle.grain_base.specs.declared.pos.Site.{Site};
@@ -41,7 +41,7 @@ fn stream_flaw(error: StreamError) -> (u32, u64)
 /// is none, and then nothing is written.
 #[unsafe(no_mangle)]
 pub extern "C" fn grain_site(table: &[u8], address: u32, line: &mut u32, column: &mut u32) -> bool
-    ensures site { (front : List Entry) × Front table.now front × (site_at front address
+    ensures site { (front : List Entry) × LongestFront table.now front × (site_at front address
         ≡ cond result (Some (record { line = line.new; column = column.new })) None) }
     ensures kept { OnFalse result ((line.new ≡ line.old) × (column.new ≡ column.old)) }
 {

@@ -2,7 +2,7 @@
 ghost use Rattle.std.specs.Prelude.{◌≡◌, ◌≢◌, ◌<◌, ◌≤◌, ◌↔◌, ◌++◌, IfNone, IfOk, IfSome, ℕ, List, drop, length, string_bytes};
 ghost use Rattle.grain.specs.Texts.{verify_error_text};
 ghost use Rattle.grain.specs.declared.VerifyError.{VerifyError};
-ghost use Rattle.grain_flat.specs.Answers.{Tells, word_kind};
+ghost use Rattle.grain_flat.specs.Answers.{TellsRefusal, word_kind};
 ghost use Rattle.grain_flat.specs.declared.kinds.TheConstants.{NOTHING};
 
 use crate::answers::{NO_REFUSAL, OUT_OF_MEMORY, SHORT, WRITTEN};
@@ -40,8 +40,8 @@ fn word_of(kind: u32) -> Option<&'static str>
 
 /// The refusal that a record tells, if it tells one.
 fn error_of(fault: &CFault) -> Option<VerifyError>
-    ensures some { IfSome result (Tells fault.now) }
-    ensures none { IfNone result ((e : VerifyError) → Tells fault.now e → ⊥) }
+    ensures some { IfSome result (TellsRefusal fault.now) }
+    ensures none { IfNone result ((e : VerifyError) → TellsRefusal fault.now e → ⊥) }
 {
     let at = fault.at as usize;
     match (fault.kind, fault.at, fault.first, fault.second) {
@@ -125,13 +125,13 @@ pub extern "C" fn grain_fault_text(
     text: &mut [u8],
     size: &mut usize,
 ) -> u32
-    ensures written { result ≡ WRITTEN → (e : VerifyError) × Tells fault.now e
+    ensures written { result ≡ WRITTEN → (e : VerifyError) × TellsRefusal fault.now e
         × (size.new ≡ length (verify_error_text e))
         × (text.new ≡ verify_error_text e ++ drop (length (verify_error_text e)) text.old) }
-    ensures short { result ≡ SHORT → (e : VerifyError) × Tells fault.now e
+    ensures short { result ≡ SHORT → (e : VerifyError) × TellsRefusal fault.now e
         × (size.new ≡ length (verify_error_text e))
         × (length text.old < length (verify_error_text e)) }
-    ensures no_refusal { (result ≡ NO_REFUSAL) ↔ ((e : VerifyError) → Tells fault.now e → ⊥) }
+    ensures no_refusal { (result ≡ NO_REFUSAL) ↔ ((e : VerifyError) → TellsRefusal fault.now e → ⊥) }
     ensures answers { result ≤ 3 }
 
     // What isn't written stays as it was.

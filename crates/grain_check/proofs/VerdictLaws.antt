@@ -7,7 +7,7 @@ use Rattle.std.proofs.lemmas.Grind.{flat_map-append}
 use Rattle.std.specs.Str.Lines.{strip_carriage_return}
 use Rattle.std.proofs.lemmas.List.{length-append}
 use Rattle.std.proofs.lemmas.List.Sums.{sum_by-append}
-use Rattle.grain.specs.AddressTable.{Entry, Front, site_at}
+use Rattle.grain.specs.AddressTable.{Entry, LongestFront, site_at}
 use Rattle.grain.specs.Split.{IsCount}
 use Rattle.grain.specs.Site.{Site}
 use Rattle.grain.specs.Accepted.{Input}
@@ -22,7 +22,7 @@ use Rattle.grain_check.proofs.LineLaws.{cases_in, cases_in-append}
 pub adds_count : (bytes old new : List ℕ) (counted : Result ℕ ℕ) → IsCount bytes counted → new ≡ old ++ code_text counted → Adds (CodeVerdict bytes) old new
 adds_count bytes old new counted count is = record { added = code_text counted; kind = record { counted = counted; count = count; is = refl }; text = is }
 
-pub adds_found : (table old new : List ℕ) (address : ℕ) (entries : List Entry) (found : Option Site) → Front table entries → found ≡ site_at entries address
+pub adds_found : (table old new : List ℕ) (address : ℕ) (entries : List Entry) (found : Option Site) → LongestFront table entries → found ≡ site_at entries address
     → new ≡ old ++ site_text found → Adds (SiteVerdict table address) old new
 adds_found table old new address entries found front found_is is = record {
   added = site_text found;

@@ -3,7 +3,7 @@ use Rattle.std.specs.Prelude.{◌≡◌, ℕ, List, [], ◌++◌, codes, decimal
 use Rattle.std.specs.Prelude.{Ok, Err, flat_map}
 use Rattle.std.specs.List.{AllZip}
 use Rattle.grain.specs.Accepted.{AreDeepest, Input, IsAccepted}
-use Rattle.grain.specs.AddressTable.{Entry, Front, site_at}
+use Rattle.grain.specs.AddressTable.{Entry, LongestFront, site_at}
 use Rattle.grain.specs.Flaw.{Flaw}
 use Rattle.grain.specs.Split.{IsCount}
 use Rattle.grain.specs.Span.{Span}
@@ -37,7 +37,7 @@ site_text (Some found) = codes "site " ++ decimal found.line ++ codes ":" ++ dec
 -- the text is the verdict on an address: the site that the table records for it, if it does
 pub record SiteVerdict (table : List ℕ) (address : ℕ) (text : List ℕ) : Type 0 where
   pub entries : List Entry
-  pub front : Front table entries
+  pub front : LongestFront table entries
   pub is : text ≡ site_text (site_at entries address)
 
 -- code with chunks, without constants and functions, all pools being empty

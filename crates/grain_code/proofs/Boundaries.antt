@@ -9,7 +9,7 @@ use Rattle.std.proofs.lemmas.List.Sums.{sum_by-cons}
 use Rattle.std.proofs.lemmas.Grind.{flat_map-append}
 use Rattle.grain_code.specs.declared.op.Op.{Op}
 use Rattle.grain_code.specs.InstructionTable.{spelling, width_of}
-use Rattle.grain_code.specs.Split.{IsInstruction, AreInstructions, starts_from, Split, IsBoundary, FrontEnds}
+use Rattle.grain_code.specs.Split.{IsInstruction, AreInstructions, starts_from, Split, IsSplitBoundary, FrontEnds}
 use Rattle.grain_code.proofs.Instructions.{spelling_width}
 use Rattle.grain_code.proofs.Splits.{one_front}
 
@@ -39,7 +39,7 @@ cut_behind code front back are =
       record { each = each.1; whole = ap (drop (sum_by width_of front)) e ∙ drop_at _ _ _ (spellings_width front) },
     )
 
-pub boundary_cuts : (code starts : List ℕ) (at : ℕ) → Split code starts → IsBoundary code starts at
+pub boundary_cuts : (code starts : List ℕ) (at : ℕ) → Split code starts → IsSplitBoundary code starts at
     → ((front : List ℕ) × Split (take at code) front) × ((back : List ℕ) × Split (drop at code) back)
 boundary_cuts code starts at split (inl start) =
     let found = before_start 0 at split.0 (subst (λ xs. Contains xs at) split.2 start) in

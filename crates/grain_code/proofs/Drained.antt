@@ -8,10 +8,10 @@ use Rattle.grain_code.specs.declared.op.Op.{Op}
 use Rattle.grain_code.specs.InstructionTable.{spelling, width_of}
 use Rattle.grain_code.specs.Split.{BeginsNone}
 use Rattle.grain_code.specs.Unread.{Unread}
-use Rattle.grain_code.specs.Disassembly.{Steps, placed_from, IsDisassembly}
+use Rattle.grain_code.specs.Disassembly.{StepsOn, placed_from, IsDisassembly}
 use Rattle.grain_code.proofs.Splits.{instr_is}
 
-pub drained : (s : Unread) (items : List (ℕ × Op)) → Drains Steps s items → IsDisassembly s.at s.bytes items
+pub drained : (s : Unread) (items : List (ℕ × Op)) → Drains StepsOn s items → IsDisassembly s.at s.bytes items
 drained s [] d =
     let none : BeginsNone d.1.0.bytes = d.1.2.0 in
     ([], s.bytes, refl, tt, refl, subst (λ (u : Unread). BeginsNone u.bytes) (sym d.1.1) none)

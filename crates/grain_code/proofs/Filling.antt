@@ -30,7 +30,8 @@ filling_start words before bits count at width starts last some filling =
     let kept : (n : ℕ) → n ≤ at → set_below new n ≡ set_below old n = λ n fits. alike new old n (λ b lower. other b (omega arith)) in
     let open_fits : 64 * length words ≤ at = omega (arith, last, div-add-mod at 64) in
     record {
-      below = gap new (at + 1) (at + width) (omega arith) (λ b from. clear b (omega arith)) ∙ rw add-one (below_set new at (set_here (bits_of words) bits at long)) ∙ ap (λ xs. xs ++ at ∷ []) (kept at (omega arith) ∙ filling.below);
+      below = gap new (at + 1) (at + width) (omega arith) (λ b from. clear b (omega arith)) ∙ rw add-one (below_set new at (set_here (bits_of words) bits at long))
+          ∙ ap (λ xs. xs ++ at ∷ []) (kept at (omega arith) ∙ filling.below);
       clear = λ b from. clear b (omega arith);
       closed = λ i word is. filling.closed i word is ∙ ap length (sym (kept (64 * i) (omega (arith, open_fits, slice_get_within words i word is))));
       opened = filling.opened ∙ ap length (sym (kept (64 * length words) open_fits));

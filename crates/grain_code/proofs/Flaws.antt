@@ -11,7 +11,7 @@ use Rattle.grain_pools.specs.declared.error.AssembleError.{AssembleError}
 use Rattle.grain_pools.specs.declared.error.AssembleError.TheVariants.{PoolTooLarge, JumpOutOfRange, SwitchTargetOutOfRange, ChunkTooLarge, OutOfMemory}
 use Rattle.grain_code.specs.InstructionTable.{form, name}
 use Rattle.grain_code.specs.Fields.{receiver_name}
-use Rattle.grain_code.specs.Assembly.{IsWritable, AreWritable, EachWritable, IsShort, CanAssemble, Accuses, AccusesFirst, AccusesFirstOf, IsAssemblyFlaw, tested}
+use Rattle.grain_code.specs.Assembly.{IsWritable, AreWritable, EachWritable, HasShortCode, CanAssemble, Accuses, AccusesFirst, AccusesFirstOf, IsAssemblyFlaw, tested}
 
 -- a list, cut round one of its elements
 pub cut_round : {X : Type 0} (xs : List X) (i : ℕ) (d : X) → i < length xs → xs ≡ take i xs ++ get_or xs i d ∷ drop (suc i) xs
@@ -91,7 +91,7 @@ flawless all (JumpOutOfRange at target) can flaw = none_accused all _ can flaw.1
 flawless all (SwitchTargetOutOfRange table target) can flaw = flaw
 
 -- the widths' sum is the first flaw
-pub too_long : (all : List Op) (error : AssembleError) → (IsShort all → ⊥) × (error ≡ ChunkTooLarge (2 ^ 64 - 1)) → IsAssemblyFlaw all error
+pub too_long : (all : List Op) (error : AssembleError) → (HasShortCode all → ⊥) × (error ≡ ChunkTooLarge (2 ^ 64 - 1)) → IsAssemblyFlaw all error
 too_long all error (long, same) = subst (IsAssemblyFlaw all) (sym same) (long, refl)
 
 -- the operation at an index has the first flaw of the fields, where those before it can be written
@@ -109,7 +109,7 @@ first_op all i d inside passed error first =
     }
 
 -- a field is the first flaw where the widths' sum isn't
-pub field_flaw : (all : List Op) (error : AssembleError) → IsShort all → AccusesFirstOf all error → IsAssemblyFlaw all error
+pub field_flaw : (all : List Op) (error : AssembleError) → HasShortCode all → AccusesFirstOf all error → IsAssemblyFlaw all error
 field_flaw all OutOfMemory short flaw = flaw.named.named
 field_flaw all (ChunkTooLarge bytes) short flaw = absurd flaw.named.named
 field_flaw all (PoolTooLarge what entries) short flaw = (short, flaw)

@@ -103,7 +103,8 @@ lower bits at (suc n) inside = last (is_set bits n) refl (lower bits at n (omega
   where
     last : (b : Bool) → is_set bits n ≡ b → count_by (λ s. nat_lt s at) (set_below bits n) ≡ length (set_below bits n) → count_by (λ s. nat_lt s at) (set_below bits (suc n)) ≡ length (set_below bits (suc n))
     last true here more =
-        ap (count_by (λ s. nat_lt s at)) (below_set bits n here) ∙ sum_by_push (λ s. cond (nat_lt s at) 1 0) (set_below bits n) n ∙ ap (λ b. count_by (λ s. nat_lt s at) (set_below bits n) + cond b 1 0) (lt-ltb n at (omega arith))
+        ap (count_by (λ s. nat_lt s at)) (below_set bits n here) ∙ sum_by_push (λ s. cond (nat_lt s at) 1 0) (set_below bits n) n
+        ∙ ap (λ b. count_by (λ s. nat_lt s at) (set_below bits n) + cond b 1 0) (lt-ltb n at (omega arith))
         ∙ ap (λ k. k + 1) more ∙ sym (length_push (set_below bits n) n) ∙ ap length (sym (below_set bits n here))
     last false here more = ap (count_by (λ s. nat_lt s at)) (below_unset bits n here) ∙ more ∙ ap length (sym (below_unset bits n here))
 
@@ -117,6 +118,7 @@ counted_below bits at (suc n) inside = elim (cases_lt n at) [
   where
     last : (b : Bool) → is_set bits n ≡ b → at ≤ n → count_by (λ s. nat_lt s at) (set_below bits n) ≡ length (set_below bits at) → count_by (λ s. nat_lt s at) (set_below bits (suc n)) ≡ length (set_below bits at)
     last true here before more =
-        ap (count_by (λ s. nat_lt s at)) (below_set bits n here) ∙ sum_by_push (λ s. cond (nat_lt s at) 1 0) (set_below bits n) n ∙ ap (λ b. count_by (λ s. nat_lt s at) (set_below bits n) + cond b 1 0) (le-ltb n at before)
+        ap (count_by (λ s. nat_lt s at)) (below_set bits n here) ∙ sum_by_push (λ s. cond (nat_lt s at) 1 0) (set_below bits n) n
+        ∙ ap (λ b. count_by (λ s. nat_lt s at) (set_below bits n) + cond b 1 0) (le-ltb n at before)
         ∙ omega (arith, more)
     last false here before more = ap (count_by (λ s. nat_lt s at)) (below_unset bits n here) ∙ more

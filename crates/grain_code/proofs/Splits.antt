@@ -24,7 +24,8 @@ one_more code at ops op front here =
     let n = width_of op in
     record {
       each = each_more ops op front.each (instr_is (take n (drop at code)) op here);
-      whole = take-add at n code ∙ ap (λ bytes. bytes ++ take n (drop at code)) front.whole ∙ ap (λ bytes. flat_map spelling ops ++ bytes) (here.spelled ∙ sym (append-nil (spelling op))) ∙ sym (flat_map-append spelling ops (op ∷ []));
+      whole = take-add at n code ∙ ap (λ bytes. bytes ++ take n (drop at code)) front.whole ∙ ap (λ bytes. flat_map spelling ops ++ bytes) (here.spelled ∙ sym (append-nil (spelling op)))
+          ∙ sym (flat_map-append spelling ops (op ∷ []));
     }
 
 pub begins_cons : (o : Op) (os : List Op) (rest bytes : List ℕ) → IsInstruction o → bytes ≡ flat_map spelling (o ∷ os) ++ rest → (bytes ≡ spelling o ++ (flat_map spelling os ++ rest)) × Begins bytes o

@@ -20,12 +20,13 @@ use Rattle.grain_code.proofs.Reading.{IsBytes, bytes_taken, bytes_dropped, value
 
 letter_sizes : (fs : List Field) → sum_by letter_size (map letter_of fs) ≡ sum_by size_of fs
 letter_sizes [] = refl
-letter_sizes (f ∷ fs) = sum_by-cons letter_size (letter_of f) (map letter_of fs) ∙ ap (λ n. letter_size (letter_of f) + n) (letter_sizes fs) ∙ ap (λ n. n + sum_by size_of fs) (same f) ∙ sym (sum_by-cons size_of f fs) where
-  same : (f : Field) → letter_size (letter_of f) ≡ size_of f
-  same (Index pool x) = refl
-  same (Slot x) = refl
-  same (Count x) = refl
-  same (Target x) = refl
+letter_sizes (f ∷ fs) =
+    sum_by-cons letter_size (letter_of f) (map letter_of fs) ∙ ap (λ n. letter_size (letter_of f) + n) (letter_sizes fs) ∙ ap (λ n. n + sum_by size_of fs) (same f) ∙ sym (sum_by-cons size_of f fs) where
+      same : (f : Field) → letter_size (letter_of f) ≡ size_of f
+      same (Index pool x) = refl
+      same (Slot x) = refl
+      same (Count x) = refl
+      same (Target x) = refl
 
 pub width_is : (op : Op) → tag_width (form op).0 ≡ width_of op
 width_is op =

@@ -1,5 +1,6 @@
 -- Bits in words of 64, and how many of them are set below one.
-use Rattle.std.proofs.Common.{◌≡◌, ◌≢◌, ℕ, zero, suc, ◌+◌, ◌*◌, ◌/◌, ◌%◌, ◌^◌, ◌<◌, ◌≤◌, inl, inr, ◌↔◌, true, false, eqb, nat_lt, List, [], ◌∷◌, ◌++◌, length, get_or, slice_get, option_map, Some, None, bit_or, bit_and, ◌-◌, w64, refl, sym, ap, ◌∙◌, arith, lit<}
+use Rattle.std.proofs.Common.{◌≡◌, ◌≢◌, ℕ, zero, suc, ◌+◌, ◌*◌, ◌/◌, ◌%◌, ◌^◌, ◌<◌, ◌≤◌, inl, inr, ◌↔◌, true, false, eqb, nat_lt}
+use Rattle.std.proofs.Common.{List, [], ◌∷◌, ◌++◌, length, get_or, slice_get, option_map, Some, None, bit_or, bit_and, ◌-◌, w64, refl, sym, ap, ◌∙◌, arith, lit<}
 use Rattle.std.specs.Prelude.{count_by, count_ones}
 use Rattle.std.specs.Int.{bit_at}
 use Rattle.std.specs.List.{Contains}

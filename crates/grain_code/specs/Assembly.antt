@@ -101,13 +101,13 @@ abbrev pub EachWritable : ℕ → List Op → Type 0
 EachWritable n = AllByRecursion (λ op. AreWritable n (form op).1)
 
 -- the sum of the widths fits u32
-abbrev pub IsShort : List Op → Type 0
-IsShort ops = sum_by width_of ops < 2 ^ 32
+abbrev pub HasShortCode : List Op → Type 0
+HasShortCode ops = sum_by width_of ops < 2 ^ 32
 
 -- Operations can be assembled: the widths' sum fits u32, each index into a pool is at most 65535, and each target is at
 -- most the number of operations.
 pub record CanAssemble (ops : List Op) : Type 0 where
-  pub short : IsShort ops
+  pub short : HasShortCode ops
   pub writable : EachWritable (length ops) ops
 
 -- what an error calls a pool
@@ -156,9 +156,9 @@ pub record AccusesFirstOf (ops : List Op) (error : AssembleError) : Type 0 where
 -- the error is the first flaw of the operations
 abbrev pub IsAssemblyFlaw : List Op → AssembleError → Type 0
 IsAssemblyFlaw ops errors.OutOfMemory = ⊥
-IsAssemblyFlaw ops (errors.ChunkTooLarge bytes) = (IsShort ops → ⊥) × (bytes ≡ 2 ^ 64 - 1)
-IsAssemblyFlaw ops (errors.PoolTooLarge what entries) = IsShort ops × AccusesFirstOf ops (errors.PoolTooLarge what entries)
-IsAssemblyFlaw ops (errors.JumpOutOfRange at target) = IsShort ops × AccusesFirstOf ops (errors.JumpOutOfRange at target)
+IsAssemblyFlaw ops (errors.ChunkTooLarge bytes) = (HasShortCode ops → ⊥) × (bytes ≡ 2 ^ 64 - 1)
+IsAssemblyFlaw ops (errors.PoolTooLarge what entries) = HasShortCode ops × AccusesFirstOf ops (errors.PoolTooLarge what entries)
+IsAssemblyFlaw ops (errors.JumpOutOfRange at target) = HasShortCode ops × AccusesFirstOf ops (errors.JumpOutOfRange at target)
 IsAssemblyFlaw ops (errors.SwitchTargetOutOfRange table target) = ⊥
 
 -- the index of the operation that is written at an offset

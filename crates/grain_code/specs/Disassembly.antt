@@ -8,9 +8,9 @@ use Rattle.grain_code.specs.Unread.{Unread}
 
 -- One step gives the instruction that comes first, with its address, and leaves what follows it. It gives nothing, and
 -- leaves all, where none comes.
-abbrev pub Steps : Unread → Option (ℕ × Op) → Unread → Type 0
-Steps old None new = BeginsNone old.bytes × (new ≡ old)
-Steps old (Some (at, op)) new = (at ≡ old.at) × Begins old.bytes op × (new ≡ record { at = old.at + width_of op; bytes = drop (width_of op) old.bytes })
+abbrev pub StepsOn : Unread → Option (ℕ × Op) → Unread → Type 0
+StepsOn old None new = BeginsNone old.bytes × (new ≡ old)
+StepsOn old (Some (at, op)) new = (at ≡ old.at) × Begins old.bytes op × (new ≡ record { at = old.at + width_of op; bytes = drop (width_of op) old.bytes })
 
 -- instructions with their addresses, the first of them at an address
 abbrev pub placed_from : ℕ → List Op → List (ℕ × Op)

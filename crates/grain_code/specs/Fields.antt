@@ -8,11 +8,11 @@ use Rattle.grain_code.specs.declared.field.Field.TheVariants.{Index, Slot, Count
 use Rattle.grain_code.specs.declared.field.Fields.{Fields}
 use Rattle.grain_code.specs.declared.field.Fields.TheVariants as fields
 
-abbrev pub list_of : Fields → List Field
-list_of fields.None = []
-list_of (fields.One fs) = fs
-list_of (fields.Two fs) = fs
-list_of (fields.Three fs) = fs
+abbrev pub field_list : Fields → List Field
+field_list fields.None = []
+field_list (fields.One fs) = fs
+field_list (fields.Two fs) = fs
+field_list (fields.Three fs) = fs
 
 -- the field with its target mapped
 abbrev pub moved : (ℕ → ℕ) → Field → Field

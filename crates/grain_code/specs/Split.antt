@@ -39,8 +39,8 @@ abbrev pub Split : List ℕ → List ℕ → Type 0
 Split code starts = (ops : List Op) × AreInstructions code ops × (starts ≡ starts_from 0 ops)
 
 -- a start of an instruction, or the end of the code
-abbrev pub IsBoundary : List ℕ → List ℕ → ℕ → Type 0
-IsBoundary code starts at = Contains starts at ⊎ (at ≡ length code)
+abbrev pub IsSplitBoundary : List ℕ → List ℕ → ℕ → Type 0
+IsSplitBoundary code starts at = Contains starts at ⊎ (at ≡ length code)
 
 -- the longest front of the code that splits ends at this address
 abbrev pub FrontEnds : List ℕ → ℕ → Type 0

@@ -8,7 +8,7 @@ ghost use Rattle.std.specs.List.{flat_map, AllByRecursion};
 ghost use Rattle.grain_code.specs.InstructionTable.{form, bytes_of, spelling, FieldFits};
 ghost use Rattle.grain_code.specs.Fields.{moved, receiver_name};
 ghost use Rattle.grain_code.specs.Split.{AreInstructions, Split, StandsAt};
-ghost use Rattle.grain_code.specs.Assembly.{retarget, assembled, offsets_from, IsAssembly, CanAssemble, IsShort, IsWritable, AreWritable, Accuses, AccusesFirst, AccusesFirstOf, EachWritable, IsAssemblyFlaw, tested};
+ghost use Rattle.grain_code.specs.Assembly.{retarget, assembled, offsets_from, IsAssembly, CanAssemble, HasShortCode, IsWritable, AreWritable, Accuses, AccusesFirst, AccusesFirstOf, EachWritable, IsAssemblyFlaw, tested};
 ghost use Rattle.grain_code.specs.declared.op.Op.{Op};
 ghost use Rattle.grain_code.specs.declared.field.Field.TheVariants.{Index};
 ghost use Rattle.grain_pools.specs.declared.error.AssembleError.TheVariants.{ChunkTooLarge, OutOfMemory};
@@ -96,8 +96,8 @@ fn check_op(count: usize, at: usize, op: &Op) -> Result<(), AssembleError>
 
 /// Tests whether the code would be short enough.
 fn check_length(ops: &[Op]) -> Result<(), AssembleError>
-    ensures { MatchResult result (λ _. IsShort ops.now)
-        (λ error. (IsShort ops.now → ⊥) × (error ≡ ChunkTooLarge (2 ^ 64 - 1))) }
+    ensures { MatchResult result (λ _. HasShortCode ops.now)
+        (λ error. (HasShortCode ops.now → ⊥) × (error ≡ ChunkTooLarge (2 ^ 64 - 1))) }
 {
     let mut bytes = 0u32;
     for op in ops {
@@ -173,7 +173,7 @@ fn put(code: &mut Vec<u8>, offsets: &[u32], op: &Op) -> Result<(), AllocError>
 
 /// Where each operation is written, and behind these where the last one ends.
 fn offsets_of(alloc: Global, ops: &[Op]) -> Result<Vec<u32>, AllocError>
-    requires { IsShort ops.now }
+    requires { HasShortCode ops.now }
     ensures { IfOk result (λ offsets. offsets.items ≡ offsets_from 0 ops.now) }
 {
     let mut offsets = Vec::with_capacity(alloc, ops.len() + 1)?;

@@ -1,7 +1,7 @@
 //! Chunks: the parts of the code that are run by themselves.
 ghost use Rattle.std.specs.Prelude.{◌≡◌, ℕ, List};
 ghost use Rattle.std.specs.Iterator.{Drains};
-ghost use Rattle.grain_code.specs.Disassembly.{Steps, IsDisassembly};
+ghost use Rattle.grain_code.specs.Disassembly.{StepsOn, IsDisassembly};
 ghost use Rattle.grain_code.specs.Span.{Span, body, front};
 ghost use Rattle.grain_code.specs.declared.op.Op.{Op};
 
@@ -88,7 +88,7 @@ impl Chunk {
     pub fn ops<'a>(&self, code: &'a [u8]) -> Disassembly<'a>
         ensures from_the_entry { result
             ≡ record { at = self.now.entry; bytes = body self.now code.now } }
-        ensures gives { (items : List (ℕ × Op)) → Drains Steps result items
+        ensures gives { (items : List (ℕ × Op)) → Drains StepsOn result items
             → IsDisassembly self.now.entry (body self.now code.now) items }
     {
         disassemble_from(self.front(code), self.entry() as usize)

@@ -3,7 +3,7 @@
 ghost use Rattle.std.specs.Prelude.{◌≡◌, ℕ, List, drop, length};
 ghost use Rattle.std.specs.Iterator.{at_most, Drains};
 ghost use Rattle.grain_code.specs.Unread.{Unread};
-ghost use Rattle.grain_code.specs.Disassembly.{Steps, IsDisassembly};
+ghost use Rattle.grain_code.specs.Disassembly.{StepsOn, IsDisassembly};
 ghost use Rattle.grain_code.specs.declared.op.Op.{Op};
 
 use crate::instruction::read;
@@ -26,7 +26,7 @@ impl<'a> Model for Disassembly<'a> {
 impl Iterator for Disassembly<'_> {
     type Item = (usize, Op);
 
-    ghost next_gives = { Steps };
+    ghost next_gives = { StepsOn };
 
     ghost remaining = { λ s. at_most (length s.bytes) };
 
@@ -43,7 +43,7 @@ impl Iterator for Disassembly<'_> {
 #[must_use]
 pub fn disassemble(code: &[u8]) -> Disassembly<'_>
     ensures from_the_start { result ≡ record { at = 0; bytes = code.now } }
-    ensures gives { (items : List (ℕ × Op)) → Drains Steps result items
+    ensures gives { (items : List (ℕ × Op)) → Drains StepsOn result items
         → IsDisassembly 0 code.now items }
 {
     disassemble_from(code, 0)
@@ -52,7 +52,7 @@ pub fn disassemble(code: &[u8]) -> Disassembly<'_>
 /// The instructions of code with their addresses, from an address up to the first thing that is no instruction.
 pub(crate) fn disassemble_from(code: &[u8], at: usize) -> Disassembly<'_>
     ensures from_there { result ≡ record { at = at; bytes = drop at code.now } }
-    ensures gives { (items : List (ℕ × Op)) → Drains Steps result items
+    ensures gives { (items : List (ℕ × Op)) → Drains StepsOn result items
         → IsDisassembly at (drop at code.now) items }
 {
     Disassembly { code, at }

@@ -2,7 +2,7 @@
 
 ghost use Rattle.std.specs.Prelude.{◌≡◌};
 ghost use Rattle.grain_code.specs.Assembly.{name_of};
-ghost use Rattle.grain_code.specs.Fields.{list_of};
+ghost use Rattle.grain_code.specs.Fields.{field_list};
 ghost use Rattle.grain_code.specs.InstructionTable.{form, width_of};
 
 use crate::op::{Op, Receiver};
@@ -72,7 +72,7 @@ pub(crate) enum Fields {
 
 impl Fields {
     pub(crate) fn as_slice(&self) -> &[Field]
-        ensures { result.now ≡ list_of self.now }
+        ensures { result.now ≡ field_list self.now }
     {
         match self {
             Fields::None => &[],
@@ -93,7 +93,7 @@ pub(crate) fn width_of(op: &Op) -> u32
 
 /// The tag of an operation and its fields: the instruction table (docs/FORMAT.md, "Instructions").
 pub(crate) fn layout(op: &Op) -> (u8, Fields)
-    ensures { (result.0, list_of result.1) ≡ form op.now }
+    ensures { (result.0, field_list result.1) ≡ form op.now }
 {
     match op {
         Op::Const(c) => (

@@ -43,7 +43,8 @@ pub enum Op {
         /// Whether the value becomes a constant.
         is_const: bool,
     },
-    /// Pushes the value of the variable of a name, qualified or not.
+    /// Pushes the value of the variable of a name, qualified or not. It is for variables that no slot reaches, as those that
+    /// the caller had before the script ran.
     LoadNamed(u32),
     /// Exports the variable of a name under another.
     ExportNamed {
@@ -59,7 +60,8 @@ pub enum Op {
         /// The op-assignment to go through, or none for a plain assignment.
         op: Option<u32>,
     },
-    /// Pops a value and assigns it to a local slot.
+    /// Pops a value and assigns it to a local slot. It is more than a store: `x += y` may change `x` in place, which a load, a
+    /// sum and a store can't.
     AssignLocal {
         /// The slot.
         slot: u16,
@@ -68,7 +70,8 @@ pub enum Op {
         /// The op-assignment to go through, or none for a plain assignment.
         op: Option<u32>,
     },
-    /// Pops a value and declares it as the next local variable.
+    /// Pops a value and declares it as the next local variable. Slots are counted, so one declaration too many would have all
+    /// later ones name other variables.
     DeclareLocal {
         /// The index of the variable's name.
         name: u32,
@@ -91,7 +94,8 @@ pub enum Op {
         /// Where to jump.
         target: u32,
     },
-    /// Looks at the top of the operand stack, and jumps to the target where it isn't unit.
+    /// Looks at the top of the operand stack, and jumps to the target where it isn't unit. The value stays on both ways, so
+    /// that `??` has it as its result.
     SkipIfNotUnit {
         /// Where to jump.
         target: u32,
@@ -107,7 +111,8 @@ pub enum Op {
         /// Whether the callee sees the caller's scope. The code doesn't say so.
         capture_parent_scope: bool,
     },
-    /// Calls a function whose first argument is a variable, passed by reference where it can be.
+    /// Calls a function whose first argument is a variable, passed by reference where it can be. Of a local nothing was
+    /// pushed, so that it needs an operand less.
     CallRef {
         /// The index of the function's name, qualified or not.
         name: u32,
@@ -118,15 +123,17 @@ pub enum Op {
         /// Whether the callee sees the caller's scope. The code doesn't say so.
         capture_parent_scope: bool,
     },
-    /// Moves the top of the operand stack below so many others.
+    /// Moves the top of the operand stack below so many others, as a receiver that was read last goes below its arguments.
     Rotate(u8),
-    /// Looks at the top of the operand stack, and jumps where a switch leads it.
+    /// Looks at the top of the operand stack, and jumps where a switch leads it. The value stays below what the arms push,
+    /// and each way out of them has to pop it.
     Switch(u32),
-    /// Makes a local slot a shared value.
+    /// Makes a local slot a shared value, so that a closure and the code around it see each other's changes.
     Share(u16),
     /// Makes the variable of a name a shared value.
     ShareNamed(u32),
-    /// Pushes a local slot, shared if it is.
+    /// Pushes a local slot, shared if it is. [`Op::LoadLocal`] would push what the share holds, and a closure that is given
+    /// that has a copy.
     LoadShared(u16),
     /// Pushes the variable of a name, shared if it is.
     LoadSharedNamed(u32),
@@ -138,7 +145,7 @@ pub enum Op {
     IsShared,
     /// Pops a function pointer and so many arguments, and pushes the pointer with these curried.
     Curry(u8),
-    /// Calls a function pointer that lies below its arguments.
+    /// Calls a function pointer that lies below its arguments, so that it needs an operand more than they are.
     CallFnPtr {
         /// How many arguments there are.
         argc: u8,
@@ -155,7 +162,8 @@ pub enum Op {
     MakeArray(u16),
     /// Pops so many keys and values over a map, and pushes the map with these.
     MakeMap(u16),
-    /// Tests the size that an array or a map literal has come to, at this element.
+    /// Tests the size that an array or a map literal has come to, at this element. It is an instruction of its own since the
+    /// limit is told at the element that passed it, and an instruction has one position.
     CheckSize {
         /// The index of the element within its literal.
         index: u16,
@@ -164,15 +172,17 @@ pub enum Op {
     },
     /// Pushes the empty text that an interpolation starts with.
     InterpolateStart,
-    /// Pops a value and adds its text to the one below.
+    /// Pops a value and adds its text to the one below. Each piece has an instruction, since the limit is told at the piece
+    /// that passed it.
     InterpolateAppend,
     /// Ends the text of an interpolation.
     InterpolateEnd,
-    /// Drops local variables down to so many.
+    /// Drops local variables down to so many. Without it a loop would leave those of each round behind.
     UnwindTo(u16),
-    /// Counts an operation against the limit.
+    /// Counts an operation against the limit, where a loop begins and each time it goes round. Without it nothing would stop
+    /// a loop that never ends.
     Tick,
-    /// Notes how far the scope reaches.
+    /// Notes how far the scope reaches, to which a fault drops it that jumps past an [`Op::UnwindTo`].
     Checkpoint,
     /// Begins a statement at this depth.
     Statement {
@@ -181,7 +191,7 @@ pub enum Op {
     },
     /// Pops a value and raises it as a fault.
     Throw,
-    /// Pops a value and begins to go over it.
+    /// Pops a value and begins to go over it. Iterators have a stack of their own, since they are no values of the language.
     IterInit,
     /// Pushes the next item of the innermost iterator, or drops the iterator and jumps to the exit.
     IterNext {
@@ -190,18 +200,20 @@ pub enum Op {
         /// The slot that counts the items, if one does.
         counter_slot: Option<u16>,
     },
-    /// Drops the innermost iterator.
+    /// Drops the innermost iterator. A loop that is left early has to, since it doesn't come to its [`Op::IterNext`] again.
     IterDrop,
-    /// Arms a handler for faults.
+    /// Arms a handler for faults. It notes how high the stacks stand, to which a catch cuts them: what a fault leaves behind
+    /// depends on where it came.
     PushHandler {
         /// Where a fault that is caught jumps.
         target: u32,
         /// The index of the name that the fault is bound to, if it is.
         catch_var: Option<u32>,
     },
-    /// Disarms the innermost handler.
+    /// Disarms the innermost handler. One that stayed would catch the faults of what follows.
     PopHandler,
-    /// Pops a value into a local slot, through the share if the slot is one.
+    /// Pops a value into a local slot, through the share if the slot is one, so that closures that were made in a loop see
+    /// its next item.
     StoreShared(u16),
     /// Ends the run of the chunk.
     Return,
@@ -209,14 +221,16 @@ pub enum Op {
     LoadThis,
     /// Pushes the bound `this`, shared if it is.
     LoadThisShared,
-    /// Raises a fault where `this` isn't bound.
+    /// Raises a fault where `this` isn't bound, before what is assigned to it is computed: else that could fault first, by
+    /// another name.
     RequireThis,
     /// Pops a value and assigns it to the bound `this`.
     AssignThis {
         /// The op-assignment to go through, or none for a plain assignment.
         op: Option<u32>,
     },
-    /// Runs a fragment of syntax that wasn't compiled, and pushes its value.
+    /// Runs a fragment of syntax that wasn't compiled, and pushes its value, so that all of the language runs, compiled or
+    /// not.
     EvalAst {
         /// The index of the fragment.
         residual: u32,

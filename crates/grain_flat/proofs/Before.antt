@@ -7,7 +7,7 @@ use Rattle.grain.specs.Span.{Span}
 use Rattle.grain_base.specs.declared.caps.Caps.{Caps}
 use Rattle.grain.specs.declared.VerifyError.{VerifyError}
 use Rattle.grain.specs.declared.VerifyError.TheVariants as errors
-use Rattle.grain_flat.specs.Judging.{input_of}
+use Rattle.grain_flat.specs.Judging.{judged_input}
 use Rattle.grain_flat.specs.declared.judge.Judge.{Judge}
 
 abbrev pub IsOfCode : VerifyError → Type 0
@@ -26,8 +26,8 @@ none_of_chunk i e is flaw = at _ is (flaw.chunk.here (record { entry = 0; end = 
 
 -- Where no constants are verified: what isn't of the code is of a chunk, if functions pass wherever capabilities are lacking.
 pub some_of_chunk : (j : Judge) (chunks : List Span) (e : VerifyError) → (IsOfCode e → ⊥)
-    → ((artifact absent : Caps) (at : ℕ) → e ≡ errors.MissingCaps artifact absent at → FunctionsPass (input_of j chunks)) → Flaw (input_of j chunks) e
-    → IsFlawOfChunks (input_of j chunks) e
+    → ((artifact absent : Caps) (at : ℕ) → e ≡ errors.MissingCaps artifact absent at → FunctionsPass (judged_input j chunks)) → Flaw (judged_input j chunks) e
+    → IsFlawOfChunks (judged_input j chunks) e
 some_of_chunk j chunks e code pass (of_constant is asks) = absurd (omega (arith, asks.inside))
 some_of_chunk j chunks e code pass (of_code constants (undecodable {at} front none)) = absurd (code (inl (at, refl)))
 some_of_chunk j chunks e code pass (of_code constants (bad_index {at} {what} {index} op front stands is)) = absurd (code (inr (inl (at, what, index, refl))))

@@ -4,7 +4,7 @@ use Rattle.std.specs.List.{AllZip, Contains, flat_map}
 use Rattle.std.proofs.lemmas.List.Concat.{flat_map-cons}
 use Rattle.grain.specs.Capabilities.{chain_caps}
 use Rattle.grain.specs.Chain.{consumed}
-use Rattle.grain.specs.Dispatch.{Arms, Case, listed, targets}
+use Rattle.grain.specs.Dispatch.{Arms, Case, listed, arm_targets}
 use Rattle.grain.specs.Flow as flows
 use Rattle.grain.specs.Flow.{Falls, Flow}
 use Rattle.grain.specs.Rows.{does, flow_of, row}
@@ -16,7 +16,7 @@ use Rattle.grain_bytecode.specs.declared.Op.TheVariants as ops
 use Rattle.grain_bytecode.specs.declared.Receiver.TheVariants as receiver
 use Rattle.grain_flat.specs.declared.records.CCase.{CCase}
 use Rattle.grain_flat.specs.declared.records.CPools.{CPools}
-use Rattle.grain_flat.specs.Flat.{AreChains, AreSwitches, case_constants, case_row, case_rows, code_with, range_targets}
+use Rattle.grain_flat.specs.Flat.{AreChains, AreSwitches, arm_constants, case_row, case_rows, code_with, arm_range_targets}
 use Rattle.grain_flat.proofs.Alike.{Alike}
 use Rattle.grain_flat.proofs.ChainRows.{Told, caps_told, consumed_told, map_told, told_alike, told_caps, told_consumed, told_of}
 use Rattle.grain_flat.proofs.Members.{appended, at_place, mapped}
@@ -42,20 +42,20 @@ case_same f g told t u same x has =
     (mapped g (case_rows t) (case_rows u) (record { target = 0; constant = 0 }) same.cases x (subst (λ ys. Contains ys x) (map_told f case_row g told (listed t.cases)) has))
 
 -- where switches lead, and the constants of their cases
-target_same : (t u : Arms) → SameArms t u → (x : ℕ) → Contains (targets t) x → Contains (targets u) x
+target_same : (t u : Arms) → SameArms t u → (x : ℕ) → Contains (arm_targets t) x → Contains (arm_targets u) x
 target_same t u same x =
-    appended (map (λ (c : Case). c.1.0) (listed t.cases) ++ range_targets t) (t.otherwise ∷ []) (map (λ (c : Case). c.1.0) (listed u.cases) ++ range_targets u) (u.otherwise ∷ []) x
+    appended (map (λ (c : Case). c.1.0) (listed t.cases) ++ arm_range_targets t) (t.otherwise ∷ []) (map (λ (c : Case). c.1.0) (listed u.cases) ++ arm_range_targets u) (u.otherwise ∷ []) x
     (
-    appended (map (λ (c : Case). c.1.0) (listed t.cases)) (range_targets t) (map (λ (c : Case). c.1.0) (listed u.cases)) (range_targets u) x (case_same (λ c. c.1.0) (λ row. row.target) (λ c. refl) t u same x)
+    appended (map (λ (c : Case). c.1.0) (listed t.cases)) (arm_range_targets t) (map (λ (c : Case). c.1.0) (listed u.cases)) (arm_range_targets u) x (case_same (λ c. c.1.0) (λ row. row.target) (λ c. refl) t u same x)
     (subst (λ ys. Contains ys x) same.ranges)
     )
     (subst (λ n. Contains (n ∷ []) x) same.otherwise)
 
-pub constant_same : (t u : Arms) → SameArms t u → (x : ℕ) → Contains (case_constants t) x → Contains (case_constants u) x
+pub constant_same : (t u : Arms) → SameArms t u → (x : ℕ) → Contains (arm_constants t) x → Contains (arm_constants u) x
 constant_same t u same = case_same (λ c. c.1.1) (λ row. row.constant) (λ c. refl) t u same
 
-flow_same : (ts us : List Arms) → AllZip SameArms ts us → (f : Flow) (x : ℕ) → Contains (targets_for (map targets ts) f) x → Contains (targets_for (map targets us) f) x
-flow_same ts us same (flows.Switches w) x has = at_place SameArms targets targets target_same ts us same w x has
+flow_same : (ts us : List Arms) → AllZip SameArms ts us → (f : Flow) (x : ℕ) → Contains (targets_for (map arm_targets ts) f) x → Contains (targets_for (map arm_targets us) f) x
+flow_same ts us same (flows.Switches w) x has = at_place SameArms arm_targets arm_targets target_same ts us same w x has
 flow_same ts us same flows.Falls x has = has
 flow_same ts us same flows.Ends x has = has
 flow_same ts us same (flows.Jumps target) x has = has
@@ -92,7 +92,7 @@ arms_same p cs ds ts us one other =
     (sym one.switches_are.cases_are ∙ other.switches_are.cases_are) one.switches_are.each other.switches_are.each
     (sym one.switches_are.ranges_are ∙ other.switches_are.ranges_are)
 
-pub alike : (caps : ℕ) (p : CPools) (cs ds : List Chain) (ts us : List Arms) → AreOf p cs ts → AreOf p ds us → Alike (setting_of caps p cs ts) (setting_of caps p ds us) (map targets ts) (map targets us)
+pub alike : (caps : ℕ) (p : CPools) (cs ds : List Chain) (ts us : List Arms) → AreOf p cs ts → AreOf p ds us → Alike (setting_of caps p cs ts) (setting_of caps p ds us) (map arm_targets ts) (map arm_targets us)
 alike caps p cs ds ts us one other =
     let told = told_same p cs ds ts us one other in
     record {

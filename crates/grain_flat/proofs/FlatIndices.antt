@@ -16,7 +16,7 @@ use Rattle.grain_bytecode.specs.declared.Pool.TheVariants as pools
 use Rattle.grain_bytecode.specs.declared.Op.{Op}
 use Rattle.grain_flat.specs.declared.records.CPools.{CPools}
 use Rattle.grain_flat.specs.declared.records.CStep.{CStep}
-use Rattle.grain_flat.specs.Flat.{case_constants}
+use Rattle.grain_flat.specs.Flat.{arm_constants}
 use Rattle.grain_flat.proofs.ChainRows.{Told, map_told, root_names, tail_names, step_names, last_of, tests_by, tests_told, told_of, told_tests}
 use Rattle.grain_flat.proofs.FlatAlike.{AreOf, arms_same, constant_same, flat_same, map_same, setting_of, told_same}
 use Rattle.grain_flat.proofs.Members.{appended, at_place, by_recursion, of_recursion}
@@ -130,8 +130,8 @@ module _ (caps : ℕ) (p : CPools) (cs ds : List Chain) (ts us : List Arms) (one
   chains_long : length cs ≡ length ds
   chains_long = sym (length-map cs told_of) ∙ ap length (told_same p cs ds ts us one other) ∙ length-map ds told_of
 
-  switches_long : length (map case_constants ts) ≡ length (map case_constants us)
-  switches_long = length-map ts case_constants ∙ sym (AllZip-long SameArms ts us (arms_same p cs ds ts us one other)) ∙ sym (length-map us case_constants)
+  switches_long : length (map arm_constants ts) ≡ length (map arm_constants us)
+  switches_long = length-map ts arm_constants ∙ sym (AllZip-long SameArms ts us (arms_same p cs ds ts us one other)) ∙ sym (length-map us arm_constants)
 
   sizes_same : SameSizes s t
   sizes_same pools.Chains = chains_long
@@ -151,7 +151,7 @@ module _ (caps : ℕ) (p : CPools) (cs ds : List Chain) (ts us : List Arms) (one
       cc (own, inside)
 
   cases_same : (op : Op) (x : ℕ) → Contains (cases_of s op) x → Contains (cases_of t op) x
-  cases_same op = all_cases s t (at_place SameArms case_constants case_constants constant_same ts us (arms_same p cs ds ts us one other)) (form op).1
+  cases_same op = all_cases s t (at_place SameArms arm_constants arm_constants constant_same ts us (arms_same p cs ds ts us one other)) (form op).1
 
 pub tested_alike : (caps : ℕ) (p : CPools) (cs ds : List Chain) (ts us : List Arms) → AreOf p cs ts → AreOf p ds us → TestedAlike (setting_of caps p cs ts) (setting_of caps p ds us)
 tested_alike caps p cs ds ts us one other = record {

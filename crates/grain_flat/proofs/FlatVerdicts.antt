@@ -5,14 +5,14 @@ use Rattle.std.specs.declared.alloc.Global.{Global}
 use Rattle.std.proofs.lemmas.Slice.Zip.{AllZip-long}
 use Rattle.grain.specs.Accepted.{Input}
 use Rattle.grain.specs.Code.{switch_targets}
-use Rattle.grain.specs.Dispatch.{Arms, arms, targets}
+use Rattle.grain.specs.Dispatch.{Arms, arms, arm_targets}
 use Rattle.grain.specs.Names.{names_in}
 use Rattle.grain.specs.Setting.{case_consts}
 use Rattle.grain.specs.Span.{Span}
 use Rattle.grain_bytecode.specs.declared.Chain.{Chain}
 use Rattle.grain_bytecode.specs.declared.Function.{Function}
 use Rattle.grain_bytecode.specs.declared.Switch.{Switch}
-use Rattle.grain_flat.specs.Flat.{case_constants}
+use Rattle.grain_flat.specs.Flat.{arm_constants}
 use Rattle.grain_flat.specs.Asking.{RowPasses}
 use Rattle.grain_flat.specs.Judging.{AreSome, IsFlatMetered, IsFlatVerdict, IsMeteredOf, IsVerdictOf, judged}
 use Rattle.grain_flat.specs.declared.judge.Stop.{Stop}
@@ -48,8 +48,8 @@ pub over_is : (caps : ℕ) (bytes : List ℕ) (chunks : List Span) (p : CPools) 
     → names ≡ names_in p.names.now p.starts.now → chains ≡ made → switches ≡ given
     → over caps bytes chunks p functions names chains switches ≡ judged caps bytes chunks p functions made (map arms given)
 over_is caps bytes chunks p functions names chains made switches given names_are chains_are switches_are =
-    let cases = ap (map case_consts) switches_are ∙ map_told case_consts arms case_constants (λ s. refl) given in
-    let leads = ap (map switch_targets) switches_are ∙ map_told switch_targets arms targets (λ s. refl) given in
+    let cases = ap (map case_consts) switches_are ∙ map_told case_consts arms arm_constants (λ s. refl) given in
+    let leads = ap (map switch_targets) switches_are ∙ map_told switch_targets arms arm_targets (λ s. refl) given in
     λ k. record {
       code = record {
         setting = record {

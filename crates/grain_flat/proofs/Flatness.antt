@@ -16,7 +16,7 @@ use Rattle.grain_base.specs.declared.value.Dynamic.TheVariants as values
 use Rattle.grain_bytecode.specs.declared.Chain.{Chain}
 use Rattle.grain_bytecode.specs.declared.Step.{Step}
 use Rattle.grain_bytecode.specs.declared.SwitchRange.{SwitchRange}
-use Rattle.grain_flat.specs.Flat.{AreChains, AreSwitches, IsAskedRow, IsChainRow, IsFlat, IsStepRow, Pooled, asked_row, case_row, case_rows, chain_row, range_targets, step_row, step_rows, switch_row}
+use Rattle.grain_flat.specs.Flat.{AreChains, AreSwitches, IsAskedRow, IsChainRow, IsFlat, IsStepRow, Pooled, asked_row, case_row, case_rows, chain_row, arm_range_targets, step_row, step_rows, switch_row}
 use Rattle.grain_flat.specs.declared.records.CCase.{CCase}
 use Rattle.grain_flat.specs.declared.records.CChain.{CChain}
 use Rattle.grain_flat.specs.declared.records.CConstant.{CConstant}
@@ -63,13 +63,13 @@ counted_cases (t ∷ ts) (p ∷ ps) h =
     ∙ sym (length-append p (flat_map (λ p. p) ps))
     ∙ ap length (sym (flat_map-cons (λ p. p) p ps))
 
-counted_ranges : (ts : List Arms) → sum_by (λ (r : CSwitch). r.ranges) (map switch_row ts) ≡ length (flat_map range_targets ts)
+counted_ranges : (ts : List Arms) → sum_by (λ (r : CSwitch). r.ranges) (map switch_row ts) ≡ length (flat_map arm_range_targets ts)
 counted_ranges [] = refl
 counted_ranges (t ∷ ts) =
     sum_by-cons (λ (r : CSwitch). r.ranges) (switch_row t) (map switch_row ts)
-    ∙ ap (λ n. length (range_targets t) + n) (counted_ranges ts)
-    ∙ sym (length-append (range_targets t) (flat_map range_targets ts))
-    ∙ ap length (sym (flat_map-cons range_targets t ts))
+    ∙ ap (λ n. length (arm_range_targets t) + n) (counted_ranges ts)
+    ∙ sym (length-append (arm_range_targets t) (flat_map arm_range_targets ts))
+    ∙ ap length (sym (flat_map-cons arm_range_targets t ts))
 
 pub is_flat : (p : CPools) → Pooled p → IsFlat p
 is_flat p h = record {
@@ -172,14 +172,14 @@ one_more_switch : (row : CSwitch) (rows : List CSwitch) (own more : List CCase) 
     → AreSwitches (row ∷ rows) (own ++ more) (near ++ far) (arms_of row own near ∷ ts)
 one_more_switch row rows own more near far ts own_long near_long others =
     let cases : length (case_rows (arms_of row own near)) ≡ row.cases = ap length (cases_kept own) ∙ own_long in
-    let ranges : length (range_targets (arms_of row own near)) ≡ row.ranges = ap length (ranges_kept near) ∙ near_long in
+    let ranges : length (arm_range_targets (arms_of row own near)) ≡ row.ranges = ap length (ranges_kept near) ∙ near_long in
     let row_is : switch_row (arms_of row own near) ≡ row = λ k. record { cases = cases k; ranges = ranges k; otherwise = row.otherwise } in
     record {
       rows_are = cc (row_is, others.rows_are);
       pieces = own ∷ others.pieces;
       cases_are = ap (λ xs. own ++ xs) others.cases_are ∙ sym (flat_map-cons (λ p. p) own others.pieces);
       each = (subst (λ xs. IsPermutation own xs) (sym (cases_kept own)) (IsPermutation-refl own), others.each);
-      ranges_are = ap (λ xs. near ++ xs) others.ranges_are ∙ ap (λ xs. xs ++ flat_map range_targets ts) (sym (ranges_kept near)) ∙ sym (flat_map-cons range_targets (arms_of row own near) ts);
+      ranges_are = ap (λ xs. near ++ xs) others.ranges_are ∙ ap (λ xs. xs ++ flat_map arm_range_targets ts) (sym (ranges_kept near)) ∙ sym (flat_map-cons arm_range_targets (arms_of row own near) ts);
     }
 
 -- switches with these rows, cases and ranges

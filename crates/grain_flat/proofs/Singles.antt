@@ -7,11 +7,11 @@ use Rattle.grain.specs.Span.{Span}
 use Rattle.grain.specs.Verdict.{ReachesChunks}
 use Rattle.grain.specs.declared.VerifyError.{VerifyError}
 use Rattle.grain_flat.specs.Answers.{FlawAt}
-use Rattle.grain_flat.specs.Judging.{IsFirstRefused, code_of, input_of}
+use Rattle.grain_flat.specs.Judging.{IsFirstRefused, code_of, judged_input}
 use Rattle.grain_flat.specs.declared.judge.Judge.{Judge}
 
 -- what is refused before the chunks is refused so with any
-pub before_any : (j : Judge) (one other : List Span) (e : VerifyError) → Flaw (input_of j one) e → (IsFlawOfChunks (input_of j one) e → ⊥) → Flaw (input_of j other) e
+pub before_any : (j : Judge) (one other : List Span) (e : VerifyError) → Flaw (judged_input j one) e → (IsFlawOfChunks (judged_input j one) e → ⊥) → Flaw (judged_input j other) e
 before_any j one other e (of_constant is h) none = absurd (omega (arith, h.inside))
 before_any j one other e (of_code pass f) none = of_code pass f
 before_any j one other e (of_functions is h) none =
@@ -19,7 +19,7 @@ before_any j one other e (of_functions is h) none =
 before_any j one other e (of_chunk h) none = absurd (none h)
 
 -- a chunk that is the first that doesn't pass doesn't pass by itself
-pub fails_alone : (j : Judge) (chunks : List Span) (k : ℕ) (chunk : Span) → chunk ≡ get_or chunks k chunk → IsFirstRefused (code_of j) chunks k → IsAccepted (input_of j (chunk ∷ [])) → ⊥
+pub fails_alone : (j : Judge) (chunks : List Span) (k : ℕ) (chunk : Span) → chunk ≡ get_or chunks k chunk → IsFirstRefused (code_of j) chunks k → IsAccepted (judged_input j (chunk ∷ [])) → ⊥
 fails_alone j chunks k chunk is first accepted = first.refused chunk (subst (ChunkPasses (code_of j)) is (accepted.chunks 0 chunk (omega arith)))
 
 at_first : (j : Judge) (chunk : Span) (e : VerifyError) (place : ℕ) → place < 1 → ((d : Span) → ChunkFlaw (code_of j) (get_or (chunk ∷ []) place d) e) → ChunkFlaw (code_of j) chunk e
@@ -27,8 +27,8 @@ at_first j chunk e zero inside here = here chunk
 at_first j chunk e (suc place) inside here = absurd (omega arith)
 
 -- what is wrong with it alone is wrong with it at its place
-pub flaw_there : (j : Judge) (chunks : List Span) (k : ℕ) (chunk : Span) (e : VerifyError) → ReachesChunks (input_of j chunks) → chunk ≡ get_or chunks k chunk → IsFirstRefused (code_of j) chunks k
-    → IsFlawOfChunks (input_of j (chunk ∷ [])) e → FlawAt (input_of j chunks) (Some k) e
+pub flaw_there : (j : Judge) (chunks : List Span) (k : ℕ) (chunk : Span) (e : VerifyError) → ReachesChunks (judged_input j chunks) → chunk ≡ get_or chunks k chunk → IsFirstRefused (code_of j) chunks k
+    → IsFlawOfChunks (judged_input j (chunk ∷ [])) e → FlawAt (judged_input j chunks) (Some k) e
 flaw_there j chunks k chunk e reaches is first flaw =
     let own = at_first j chunk e flaw.chunk.place flaw.chunk.inside flaw.chunk.here in (
       record {

@@ -5,7 +5,7 @@ use Rattle.std.proofs.lemmas.List.{get_or-map, length-map}
 use Rattle.grain.specs.Accepted.{AllowsConst, AreIndexed, AreDeepest, AreSafe, AreTyped, ChunkPasses, CodePasses, ConstantPasses, FunctionsPass, Input, IsAccepted, IsSafe}
 use Rattle.grain.specs.Code.{coded}
 use Rattle.grain.specs.ConstCaps.{const_caps}
-use Rattle.grain.specs.Dispatch.{Arms, targets}
+use Rattle.grain.specs.Dispatch.{Arms, arm_targets}
 use Rattle.grain.specs.Flaw.{CodeFlaw, ConstantAsks, Flaw, IsFirstFlaw, IsFlawOfChunks, PassesTo, bad_index, of_chunk, of_code, of_constant, of_functions, undecodable}
 use Rattle.grain.specs.Setting.{Setting}
 use Rattle.grain.specs.Span.{Span}
@@ -47,7 +47,7 @@ module _ (caps : ℕ) (bytes : List ℕ) (p : CPools) (cs ds : List Chain) (ts u
   abbrev t : Setting
   t = setting_of caps p ds us
 
-  like : Alike s t (map targets ts) (map targets us)
+  like : Alike s t (map arm_targets ts) (map arm_targets us)
   like = alike caps p cs ds ts us one other
 
   tested : TestedAlike s t

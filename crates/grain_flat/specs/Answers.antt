@@ -95,24 +95,24 @@ told place (errors.BadIndex at what index) = record { kind = BAD_INDEX; chunk = 
 told place errors.OutOfMemory = record { kind = NOTHING; chunk = chunk_number place; at = 0; first = 0; second = 0 }
 
 -- a refusal as it is told: its numbers fit their types, and what it calls an index is known
-abbrev pub IsRefusal : VerifyError → Type 0
-IsRefusal (errors.MissingCaps artifact missing at) = (artifact.0 < 2 ^ 16) × (missing.0 < 2 ^ 16)
-IsRefusal (errors.Undecodable at) = ⊤
-IsRefusal (errors.TrailingBytes at len) = ⊤
-IsRefusal (errors.ChunkOutOfRange entry end len) = (entry < 2 ^ 32) × (end < 2 ^ 32)
-IsRefusal (errors.JumpOutOfRange at target) = target < 2 ^ 32
-IsRefusal (errors.JumpIntoAnInstruction at target) = target < 2 ^ 32
-IsRefusal (errors.DepthConflict at expected found) = ⊤
-IsRefusal (errors.Underflow at need have) = ⊤
-IsRefusal errors.FallsOffTheEnd = ⊤
-IsRefusal (errors.StackExceedsDeclared needed declared) = declared < 2 ^ 16
-IsRefusal (errors.IteratorUnderflow at) = ⊤
-IsRefusal (errors.HandlerUnderflow at) = ⊤
-IsRefusal (errors.SinksBelowHandler at need have) = ⊤
-IsRefusal (errors.BadIndex at what index) = (index < 2 ^ 32) × (word_kind what.now ≢ NOTHING)
-IsRefusal errors.OutOfMemory = ⊥
+abbrev pub IsToldRefusal : VerifyError → Type 0
+IsToldRefusal (errors.MissingCaps artifact missing at) = (artifact.0 < 2 ^ 16) × (missing.0 < 2 ^ 16)
+IsToldRefusal (errors.Undecodable at) = ⊤
+IsToldRefusal (errors.TrailingBytes at len) = ⊤
+IsToldRefusal (errors.ChunkOutOfRange entry end len) = (entry < 2 ^ 32) × (end < 2 ^ 32)
+IsToldRefusal (errors.JumpOutOfRange at target) = target < 2 ^ 32
+IsToldRefusal (errors.JumpIntoAnInstruction at target) = target < 2 ^ 32
+IsToldRefusal (errors.DepthConflict at expected found) = ⊤
+IsToldRefusal (errors.Underflow at need have) = ⊤
+IsToldRefusal errors.FallsOffTheEnd = ⊤
+IsToldRefusal (errors.StackExceedsDeclared needed declared) = declared < 2 ^ 16
+IsToldRefusal (errors.IteratorUnderflow at) = ⊤
+IsToldRefusal (errors.HandlerUnderflow at) = ⊤
+IsToldRefusal (errors.SinksBelowHandler at need have) = ⊤
+IsToldRefusal (errors.BadIndex at what index) = (index < 2 ^ 32) × (word_kind what.now ≢ NOTHING)
+IsToldRefusal errors.OutOfMemory = ⊥
 
 -- the record tells this refusal, of whichever chunk
-pub record Tells (fault : CFault) (e : VerifyError) : Type 0 where
-  pub is : IsRefusal e
+pub record TellsRefusal (fault : CFault) (e : VerifyError) : Type 0 where
+  pub is : IsToldRefusal e
   pub told_is : record fault { chunk = NO_CHUNK } ≡ told None e

@@ -8,7 +8,7 @@ use Rattle.grain.specs.ConstCaps.{const_caps}
 use Rattle.grain.specs.Span.{Span}
 use Rattle.grain_base.specs.declared.value.Dynamic.{Dynamic}
 use Rattle.grain_bytecode.specs.declared.Function.{Function}
-use Rattle.grain.specs.Dispatch.{Arms, Case, listed, targets}
+use Rattle.grain.specs.Dispatch.{Arms, Case, listed, arm_targets}
 use Rattle.grain.specs.Names.{first_flaw, names_in}
 use Rattle.grain_bytecode.specs.declared.Chain.{Chain}
 use Rattle.grain_bytecode.specs.declared.Root.{Root}
@@ -73,14 +73,14 @@ abbrev pub case_rows : Arms → List CCase
 case_rows t = map case_row (listed t.cases)
 
 -- the constant of each case
-abbrev pub case_constants : Arms → List ℕ
-case_constants t = map (λ (c : Case). c.1.1) (listed t.cases)
+abbrev pub arm_constants : Arms → List ℕ
+arm_constants t = map (λ (c : Case). c.1.1) (listed t.cases)
 
-abbrev pub range_targets : Arms → List ℕ
-range_targets t = map (λ r. r.target) t.ranges
+abbrev pub arm_range_targets : Arms → List ℕ
+arm_range_targets t = map (λ r. r.target) t.ranges
 
 abbrev pub switch_row : Arms → CSwitch
-switch_row t = record { cases = length (case_rows t); ranges = length (range_targets t); otherwise = t.otherwise }
+switch_row t = record { cases = length (case_rows t); ranges = length (arm_range_targets t); otherwise = t.otherwise }
 
 -- these rows, and these cases and targets of ranges of all of them, are those of these switches, the cases of each in
 -- some order
@@ -89,7 +89,7 @@ pub record AreSwitches (rows : List CSwitch) (cases : List CCase) (ranges : List
   pub pieces : List (List CCase)
   pub cases_are : cases ≡ flat_map (λ piece. piece) pieces
   pub each : AllZip (λ piece t. IsPermutation piece (case_rows t)) pieces switches
-  pub ranges_are : ranges ≡ flat_map range_targets switches
+  pub ranges_are : ranges ≡ flat_map arm_range_targets switches
 
 -- pools with this flat form, and what constants of this flat form ask
 pub record Pooled (p : CPools) : Type 0 where
@@ -139,10 +139,10 @@ code_with caps bytes p chains switches = record {
     assign_ops = p.op_assignments;
     residuals = p.fragments;
     chains = chains;
-    cases = map case_constants switches;
+    cases = map arm_constants switches;
   };
   bytes = bytes;
-  switches = map targets switches;
+  switches = map arm_targets switches;
 }
 
 -- functions and pools with this flat form, constants aside

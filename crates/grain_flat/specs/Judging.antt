@@ -23,8 +23,8 @@ abbrev pub code_of : Judge → Bytecode
 code_of j = bytecode j.caps j.pools.now j.code.now
 
 -- what is judged with these chunks, without constants
-abbrev pub input_of : Judge → List Span → Input
-input_of j chunks = input j.caps [] j.code.now j.functions.now chunks j.pools.now
+abbrev pub judged_input : Judge → List Span → Input
+judged_input j chunks = input j.caps [] j.code.now j.functions.now chunks j.pools.now
 
 -- the chunk at this place is the first that doesn't pass
 pub record IsFirstRefused (code : Bytecode) (chunks : List Span) (place : ℕ) : Type 0 where

@@ -4,7 +4,7 @@ ghost use Rattle.std.specs.List.{All};
 ghost use Rattle.std.specs.List.Sorted.{IsPermutation};
 ghost use Rattle.grain.specs.Dispatch.{arms};
 ghost use Rattle.grain.specs.Names.{first_flaw, names_in};
-ghost use Rattle.grain_flat.specs.Flat.{AreChains, AreSwitches, IsChainRow, IsFlat, IsStepRow, case_row, case_rows, chain_row, range_targets, step_row, switch_row};
+ghost use Rattle.grain_flat.specs.Flat.{AreChains, AreSwitches, IsChainRow, IsFlat, IsStepRow, case_row, case_rows, chain_row, arm_range_targets, step_row, switch_row};
 ghost use Rattle.grain_flat.specs.Judging.{IsMadeOf};
 
 use crate::records::{CCase, CChain, CPools, CStep, CSwitch};
@@ -117,7 +117,7 @@ fn switch_of(
     requires ranges { length ranges.now ≡ row.now.ranges }
     ensures row { IfOk result (λ s. switch_row (arms s) ≡ row.now) }
     ensures cases { IfOk result (λ s. IsPermutation cases.now (case_rows (arms s))) }
-    ensures ranges { IfOk result (λ s. range_targets (arms s) ≡ ranges.now) }
+    ensures ranges { IfOk result (λ s. arm_range_targets (arms s) ≡ ranges.now) }
 {
     let cases = cases_of(alloc, cases)?;
     let ranges = ranges_of(alloc, ranges)?;

@@ -9,7 +9,7 @@ ghost use Rattle.grain.specs.Span.{Span};
 ghost use Rattle.grain.specs.Verdict.{IsVerdict, ReachesChunks};
 ghost use Rattle.grain.specs.declared.VerifyError.{VerifyError};
 ghost use Rattle.grain_flat.specs.Answers.{FlawAt};
-ghost use Rattle.grain_flat.specs.Judging.{IsFirstRefused, IsMeteredOf, IsVerdictOf, code_of, input_of};
+ghost use Rattle.grain_flat.specs.Judging.{IsFirstRefused, IsMeteredOf, IsVerdictOf, code_of, judged_input};
 
 use crate::asking::allows;
 use grain::{Caps, Chunk, Function, Meter, Pools, VerifyError, verify_metered};
@@ -57,8 +57,8 @@ impl From<AllocError> for Stop {
 impl Judge<'_> {
     /// Verifies it with these chunks, and counts what the walks look at.
     fn verify_metered(&self, chunks: &[Chunk], meter: &mut Meter) -> Result<Vec<u16>, VerifyError>
-        ensures verdict { IsVerdict (input_of self.now chunks.now) result }
-        ensures metered { IsMetered (input_of self.now chunks.now) meter.old meter.new result }
+        ensures verdict { IsVerdict (judged_input self.now chunks.now) result }
+        ensures metered { IsMetered (judged_input self.now chunks.now) meter.old meter.new result }
     {
         verify_metered(
             self.alloc,
@@ -74,7 +74,7 @@ impl Judge<'_> {
 
     /// Verifies it with these chunks.
     fn verify(&self, chunks: &[Chunk]) -> Result<Vec<u16>, VerifyError>
-        ensures { IsVerdict (input_of self.now chunks.now) result }
+        ensures { IsVerdict (judged_input self.now chunks.now) result }
     {
         let mut meter = Meter::new();
         self.verify_metered(chunks, &mut meter)
@@ -84,10 +84,10 @@ impl Judge<'_> {
     #[tactic(auto, using(crate::proofs::Before::some_of_chunk))]
     fn is_of_chunk(&self, error: &VerifyError) -> bool
         ensures chunk { OnTrue result ((chunks : List Span)
-            → Flaw (input_of self.now chunks) error.now
-            → IsFlawOfChunks (input_of self.now chunks) error.now) }
+            → Flaw (judged_input self.now chunks) error.now
+            → IsFlawOfChunks (judged_input self.now chunks) error.now) }
         ensures before { OnFalse result ((chunks : List Span)
-            → IsFlawOfChunks (input_of self.now chunks) error.now → ⊥) }
+            → IsFlawOfChunks (judged_input self.now chunks) error.now → ⊥) }
     {
         match error {
             VerifyError::Undecodable { .. }
@@ -112,7 +112,7 @@ impl Judge<'_> {
 
     /// Whether all of these chunks pass.
     fn passes(&self, chunks: &[Chunk]) -> Result<bool, AllocError>
-        requires { ReachesChunks (input_of self.now chunks.now) }
+        requires { ReachesChunks (judged_input self.now chunks.now) }
         ensures { IfOk result (λ passes. MatchBool passes
             (All (ChunkPasses (code_of self.now)) chunks.now)
             (All (ChunkPasses (code_of self.now)) chunks.now → ⊥)) }
@@ -131,7 +131,7 @@ impl Judge<'_> {
     /// Fronts of the chunks are verified, their ends by halves, so that their number is the logarithm of that of the
     /// chunks.
     fn first_refused(&self, chunks: &[Chunk]) -> Result<usize, AllocError>
-        requires reaches { ReachesChunks (input_of self.now chunks.now) }
+        requires reaches { ReachesChunks (judged_input self.now chunks.now) }
         requires refused { All (ChunkPasses (code_of self.now)) chunks.now → ⊥ }
         ensures { IfOk result (IsFirstRefused (code_of self.now) chunks.now) }
     {
@@ -150,9 +150,9 @@ impl Judge<'_> {
 
     /// What is wrong with the chunk at the place, which is the first that doesn't pass.
     fn refusal_at(&self, chunks: &[Chunk], place: usize) -> Result<Refusal, AllocError>
-        requires reaches { ReachesChunks (input_of self.now chunks.now) }
+        requires reaches { ReachesChunks (judged_input self.now chunks.now) }
         requires first { IsFirstRefused (code_of self.now) chunks.now place }
-        ensures { IfOk result (λ r. FlawAt (input_of self.now chunks.now) r.place r.error) }
+        ensures { IfOk result (λ r. FlawAt (judged_input self.now chunks.now) r.place r.error) }
     {
         let Err(error) = self.verify(&[chunks[place]]) else {
             unreachable!();
@@ -174,9 +174,9 @@ impl Judge<'_> {
         chunks: &[Chunk],
         error: VerifyError,
     ) -> Result<Refusal, AllocError>
-        requires refused { IsAccepted (input_of self.now chunks.now) → ⊥ }
-        requires flaw { Flaw (input_of self.now chunks.now) error }
-        ensures { IfOk result (λ r. FlawAt (input_of self.now chunks.now) r.place r.error) }
+        requires refused { IsAccepted (judged_input self.now chunks.now) → ⊥ }
+        requires flaw { Flaw (judged_input self.now chunks.now) error }
+        ensures { IfOk result (λ r. FlawAt (judged_input self.now chunks.now) r.place r.error) }
     {
         if !self.is_of_chunk(&error) {
             return Ok(Refusal { place: None, error });
@@ -194,8 +194,8 @@ impl Judge<'_> {
     /// The numbers of the chunks, or why it isn't accepted with them. The meter counts what is looked at until then; where a
     /// chunk is refused, not what finding it looks at again.
     pub(crate) fn verdict(&self, chunks: &[Chunk], meter: &mut Meter) -> Result<Vec<u16>, Stop>
-        ensures verdict { IsVerdictOf (input_of self.now chunks.now) result }
-        ensures metered { IsMeteredOf (input_of self.now chunks.now) meter.old meter.new result }
+        ensures verdict { IsVerdictOf (judged_input self.now chunks.now) result }
+        ensures metered { IsMeteredOf (judged_input self.now chunks.now) meter.old meter.new result }
     {
         match self.verify_metered(chunks, meter) {
             Ok(numbers) => Ok(numbers),

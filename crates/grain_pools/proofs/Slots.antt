@@ -36,10 +36,18 @@ pub front_slots : (c : Chain) (i : ℕ) → length (root_positions c.root) + sum
 front_slots c i =
     let cut : steps_positions c.steps.items ≡ steps_positions (take i c.steps.items) ++ steps_positions (drop i c.steps.items) =
     ap steps_positions (sym (take-append-drop i c.steps.items)) ∙ flat_map-append step_positions (take i c.steps.items) (drop i c.steps.items) in
-    omega (arith, length-append (root_positions c.root) (steps_positions c.steps.items), ap length cut, length-append (steps_positions (take i c.steps.items)) (steps_positions (drop i c.steps.items)), slots_are_sum (take i c.steps.items))
+    omega (
+      arith,
+      length-append (root_positions c.root) (steps_positions c.steps.items),
+      ap length cut,
+      length-append (steps_positions (take i c.steps.items))
+          (steps_positions (drop i c.steps.items)),
+      slots_are_sum (take i c.steps.items),
+    )
 
 -- the slots before a step and its own
-pub more_slots : (c : Chain) (i : ℕ) (d : Step) → i < length c.steps.items → length (root_positions c.root) + length (steps_positions (take i c.steps.items)) + length (step_positions (get_or c.steps.items i d)) ≤ length (positions c)
+pub more_slots : (c : Chain) (i : ℕ) (d : Step) → i < length c.steps.items
+    → length (root_positions c.root) + length (steps_positions (take i c.steps.items)) + length (step_positions (get_or c.steps.items i d)) ≤ length (positions c)
 more_slots c i d h = omega (arith, length-append (root_positions c.root) (steps_positions c.steps.items), length-flat_map-take step_positions c.steps.items i d h)
 
 -- a step carries a position, so that its first slot is one of the chain's

@@ -57,12 +57,12 @@ abbrev pub dispatched : Arms → Content → ℕ
 dispatched t x = cond (hashable x) (unwrap_or (by_cases t.cases x) (unwrap_or (by_ranges t.ranges x) t.otherwise)) t.otherwise
 
 -- each target among the arms
-abbrev pub targets : Arms → List ℕ
-targets t = map (λ (c : Case). c.1.0) (listed t.cases) ++ map (λ (r : SwitchRange). r.target) t.ranges ++ t.otherwise ∷ []
+abbrev pub arm_targets : Arms → List ℕ
+arm_targets t = map (λ (c : Case). c.1.0) (listed t.cases) ++ map (λ (r : SwitchRange). r.target) t.ranges ++ t.otherwise ∷ []
 
 -- each target is an index of n offsets
-abbrev pub Fits : ℕ → Arms → Type 0
-Fits n t = All (λ target. target < n) (targets t)
+abbrev pub AreWithin : ℕ → Arms → Type 0
+AreWithin n t = All (λ target. target < n) (arm_targets t)
 
 -- the first target that is no index of n offsets
 abbrev pub first_past : ℕ → List ℕ → Option ℕ
@@ -88,7 +88,7 @@ resolved offsets t = record {
 
 -- the switch at i is the first that has a target past n offsets, and this is one such target
 pub record IsFirstPast (n : ℕ) (ss : List Switch) (i target : ℕ) : Type 0 where
-  pub before : AllWithin (λ s. Fits n (arms s)) ss 0 i
+  pub before : AllWithin (λ s. AreWithin n (arms s)) ss 0 i
   pub inside : i < length ss
-  pub here : HoldsAt (λ s. Contains (targets (arms s)) target) ss i
+  pub here : HoldsAt (λ s. Contains (arm_targets (arms s)) target) ss i
   pub past : n ≤ target

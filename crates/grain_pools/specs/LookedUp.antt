@@ -51,14 +51,14 @@ word_of (chain i) = codes "chain"
 word_of (switch i) = codes "switch"
 word_of (syntax_site i) = codes "custom syntax site"
 
-abbrev pub index_of : Sought → ℕ
-index_of (name i) = i
-index_of (constant i) = i
-index_of (operator i) = i
-index_of (op_assignment i) = i
-index_of (chain i) = i
-index_of (switch i) = i
-index_of (syntax_site i) = i
+abbrev pub sought_index : Sought → ℕ
+sought_index (name i) = i
+sought_index (constant i) = i
+sought_index (operator i) = i
+sought_index (op_assignment i) = i
+sought_index (chain i) = i
+sought_index (switch i) = i
+sought_index (syntax_site i) = i
 
 -- The texts' look-ups, in the order in which they are made. What is looked up behind an index follows it, if the index
 -- finds something.
@@ -131,7 +131,7 @@ names_sought ns p = map name ns
 
 -- the error is want of memory, or names this
 abbrev pub NamesFirst : Option Sought → DisassembleError → Type 0
-NamesFirst first (errors.Missing what index) = IsSomeAnd first (λ x. (what.now ≡ word_of x) × (index ≡ index_of x))
+NamesFirst first (errors.Missing what index) = IsSomeAnd first (λ x. (what.now ≡ word_of x) × (index ≡ sought_index x))
 NamesFirst first errors.OutOfMemory = ⊤
 
 -- each index that is looked up finds something
@@ -147,7 +147,7 @@ abbrev pub LooksUp : {T : Type 0} → Pools → (Pools → List Sought) → Resu
 LooksUp p sought r = MatchResult r (λ _. FindsAll p sought) (NamesMissing p sought)
 
 -- what is printed of an error
-abbrev pub text_of : DisassembleError → List ℕ
-text_of (errors.Missing what index) =
+abbrev pub disassemble_error_text : DisassembleError → List ℕ
+disassemble_error_text (errors.Missing what index) =
     codes "disassembly needs " ++ (what.now ++ (codes " " ++ (decimal index ++ codes ", which isn't there")))
-text_of errors.OutOfMemory = codes "out of memory"
+disassemble_error_text errors.OutOfMemory = codes "out of memory"

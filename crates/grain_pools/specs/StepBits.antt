@@ -11,5 +11,5 @@ abbrev pub flags_table : List Row
 flags_table = (codes "SKIP_IF_UNIT", SKIP_IF_UNIT) ∷ []
 
 -- the number whose bits are the set
-abbrev pub set_of : StepFlags → ℕ
-set_of flags = flags.0
+abbrev pub step_set_of : StepFlags → ℕ
+step_set_of flags = flags.0

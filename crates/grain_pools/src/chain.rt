@@ -26,7 +26,7 @@ impl StepFlags {
 
 impl Flags for StepFlags {
     ghost use Rattle.std.specs.Prelude.{⊤};
-    ghost use Rattle.grain_pools.specs.StepBits.{flags_table, set_of};
+    ghost use Rattle.grain_pools.specs.StepBits.{flags_table, step_set_of};
 
     type Bits = u8;
 
@@ -34,7 +34,7 @@ impl Flags for StepFlags {
 
     ghost table = { flags_table };
 
-    ghost set_of = { set_of };
+    ghost set_of = { step_set_of };
 
     fn flags<'a>() -> &'a [Flag<StepFlags>] {
         StepFlags::FLAGS
@@ -52,7 +52,8 @@ impl Flags for StepFlags {
 /// One step along a chain. Names are indices of the name pool.
 #[derive(Clone, Debug, PartialEq, Eq, Drop)]
 pub enum Step {
-    /// `[i]`.
+    /// `[i]`. The index was computed before the chain began and lies among its operands: one that is out of them would be
+    /// another expression's.
     Index {
         /// Where the index lies among the operands of the chain.
         operand: u16,
@@ -63,7 +64,8 @@ pub enum Step {
         /// Where the bracket before the index stands.
         bracket: Position,
     },
-    /// `.name`, which is read by one function and written by another.
+    /// `.name`, which is read by one function and written by another; both have names of their own in the pool, so that no
+    /// name is made while the script runs.
     Property {
         /// The name of the property.
         name: u32,
@@ -76,7 +78,7 @@ pub enum Step {
         /// Where the property's name stands in the source.
         pos: Position,
     },
-    /// `.name(arguments)`.
+    /// `.name(arguments)`. What it is called on is what the chain has come to, and isn't an operand.
     Method {
         /// The name of the method.
         name: u32,

@@ -58,9 +58,9 @@ impl<T: Drop> From<AllocFailed<T>> for AssembleError {
 
 impl fmt::Display for AssembleError {
     ghost use Rattle.std.specs.Prelude.{Some};
-    ghost use Rattle.grain_pools.specs.AssembleErrors.{text_of};
+    ghost use Rattle.grain_pools.specs.AssembleErrors.{assemble_error_text};
 
-    ghost output = { λ error. Some (text_of error) };
+    ghost output = { λ error. Some (assemble_error_text error) };
 
     fn fmt<W: fmt::Write>(&self, f: &mut fmt::Formatter<W>) -> fmt::Result {
         match self {

@@ -2,7 +2,7 @@
 ghost use Rattle.std.specs.Prelude.{◌≡◌, ℕ, map, length, OnOk, IfErr};
 ghost use Rattle.std.specs.List.{All};
 ghost use Rattle.grain_base.specs.View.{content};
-ghost use Rattle.grain_pools.specs.Dispatch.{contains, dispatched, by_cases, by_ranges, arms, listed, targets, first_past, Fits, offset_at, resolved, resolved_case, resolved_range, IsFirstPast};
+ghost use Rattle.grain_pools.specs.Dispatch.{contains, dispatched, by_cases, by_ranges, arms, listed, arm_targets, first_past, AreWithin, offset_at, resolved, resolved_case, resolved_range, IsFirstPast};
 
 use crate::error::AssembleError;
 use grain_base::Dynamic;
@@ -90,7 +90,7 @@ impl Switch {
     // A target that is no index of so many offsets, if there is one.
     #[tactic(auto, using(crate::proofs::Past::past_append))]
     fn target_past(&self, offsets: usize) -> Option<u32>
-        ensures { result ≡ first_past offsets (targets (arms self.now)) }
+        ensures { result ≡ first_past offsets (arm_targets (arms self.now)) }
     {
         if let Some(target) = self.case_target_past(offsets) {
             return Some(target);
@@ -172,7 +172,7 @@ fn resolve_ranges(ranges: &mut [SwitchRange], offsets: &[u32])
 /// [`AssembleError::SwitchTargetOutOfRange`] where a target is no index of the offsets, with the first switch that has
 /// such a target, and one such target. Then no switch is changed.
 pub fn resolve_switch_targets(switches: &mut [Switch], offsets: &[u32]) -> Result<(), AssembleError>
-    ensures fits { OnOk result (All (λ s. Fits (length offsets.now) (arms s)) switches.old) }
+    ensures fits { OnOk result (All (λ s. AreWithin (length offsets.now) (arms s)) switches.old) }
     ensures ok { OnOk result (map arms switches.new
         ≡ map (resolved offsets.now) (map arms switches.old)) }
     ensures err { IfErr result (λ e. (switches.new ≡ switches.old)

@@ -6,7 +6,7 @@ use Rattle.std.proofs.lemmas.Bool.Decides.{nat_tests}
 use Rattle.std.proofs.lemmas.List.{append-nil, drop-drop}
 use Rattle.std.proofs.lemmas.List.Concat.{flat_map-cons}
 use Rattle.grain_base.specs.Content.{Content}
-use Rattle.grain_pools.specs.Dispatch.{Arms, dispatched, targets}
+use Rattle.grain_pools.specs.Dispatch.{Arms, dispatched, arm_targets}
 use Rattle.grain_code.specs.Span.{Span, body}
 use Rattle.grain_code.specs.Split.{AreInstructions}
 use Rattle.grain_code.specs.InstructionTable.{spelling, width_of}
@@ -66,7 +66,7 @@ body_whole code chunk p =
 
 -- where a switch leads that a kept run meets, the typing covers a place of the chunk
 pub switch_inside : (code : Bytecode) (chunk : Span) (m : ℕ) (typing : ℕ → Option Counts) → IsTyping (coded code) chunk m typing → (x : Machine) → IsOnKeptRun (coded code) chunk x
-    → (w : ℕ) → Finds (coded code) chunk x (ops.Switch w) → (t : Arms) (subject : Content) → get_or code.switches w [] ≡ targets t
+    → (w : ℕ) → Finds (coded code) chunk x (ops.Switch w) → (t : Arms) (subject : Content) → get_or code.switches w [] ≡ arm_targets t
     → IsInChunk (coded code) chunk (dispatched t subject) × ((c : Counts) × (typing (dispatched t subject) ≡ Some c))
 switch_inside code chunk m typing h x run w f t subject e =
     let reached = (kept_run_tied (coded code) chunk m (typing, h) run.0 x run.1).reached in

@@ -15,7 +15,7 @@ use Rattle.grain_code.specs.declared.op.Op.TheVariants as ops
 use Rattle.grain_code.specs.declared.op.Receiver.TheVariants as receiver
 use Rattle.grain_code.proofs.Placed.{stands_there}
 use Rattle.grain_rules.specs.Accepted.{IsFramed}
-use Rattle.grain_rules.specs.ByIndex.{IsCut, LeadWithin, listed, moved, placed}
+use Rattle.grain_rules.specs.ByIndex.{IsCut, LeadWithin, code_by_index, span_moved, placed}
 use Rattle.grain_rules.specs.Capabilities.{Allows}
 use Rattle.grain_rules.specs.Code.{Bytecode, Code}
 use Rattle.grain_rules.specs.Counts.{Counts, last_base, nothing}
@@ -242,7 +242,7 @@ module _ (s : Setting) (all : List Op) (switches : List (List ℕ)) (code offset
   f = slice_index offsets
 
   abbrev here : Code
-  here = listed s all switches
+  here = code_by_index s all switches
 
   abbrev there : Code
   there = placed s f code switches
@@ -281,7 +281,7 @@ module _ (s : Setting) (all : List Op) (switches : List (List ℕ)) (code offset
   edge_bounded i op c j d r (inl e) = bounded op (listed_in i op r) j e.0
   edge_bounded i op c j d r (inr e) = let l = slice_get_within all i op r in let k = e.1 in omega arith
 
-  stands_in_there : (cut : Span) (i : ℕ) (op : Op) → cut.end ≤ length all → StandsIn here cut i op → StandsIn there (moved f cut) (f i) (assembled offsets op)
+  stands_in_there : (cut : Span) (i : ℕ) (op : Op) → cut.end ≤ length all → StandsIn here cut i op → StandsIn there (span_moved f cut) (f i) (assembled offsets op)
   stands_in_there cut i op part h =
       let w = h.within in
       record {
@@ -293,7 +293,7 @@ module _ (s : Setting) (all : List Op) (switches : List (List ℕ)) (code offset
         is = stands i op h.is;
       }
 
-  passes_there : (cut : Span) (i : ℕ) (c : Counts) (op : Op) → cut.end ≤ length all → Passes here cut i c op → Passes there (moved f cut) (f i) c (assembled offsets op)
+  passes_there : (cut : Span) (i : ℕ) (c : Counts) (op : Op) → cut.end ≤ length all → Passes here cut i c op → Passes there (span_moved f cut) (f i) c (assembled offsets op)
   passes_there cut i c op part p = record {
     stands = stands_in_there cut i op part p.stands;
     meets = meets_there s offsets op c p.meets;
@@ -302,14 +302,14 @@ module _ (s : Setting) (all : List Op) (switches : List (List ℕ)) (code offset
   }
 
   -- what stands in the chunk is the operation of an index of the cut
-  passes_here : (cut : Span) (i : ℕ) (c : Counts) (op' : Op) → IsCut (length all) cut → i ≤ length all → Passes there (moved f cut) (f i) c op' → (op : Op) × Passes here cut i c op × (op' ≡ assembled offsets op)
+  passes_here : (cut : Span) (i : ℕ) (c : Counts) (op' : Op) → IsCut (length all) cut → i ≤ length all → Passes there (span_moved f cut) (f i) c op' → (op : Op) × Passes here cut i c op × (op' ≡ assembled offsets op)
   passes_here cut i c op' part l p =
       let w = p.stands.within in
       let end : i < cut.end = before all code offsets made i cut.end l w.end in
       let k : i < length all = let q = part.inside in omega arith in
       let o = op_here all code offsets made i k in
       let same : op' ≡ assembled offsets o.0 = reads_once there.layout (f i) op' (assembled offsets o.0) p.stands.is (stands i o.0 o.1) in
-      let p' = subst (λ (x : Op). Passes there (moved f cut) (f i) c x) same p in (
+      let p' = subst (λ (x : Op). Passes there (span_moved f cut) (f i) c x) same p in (
         o.0,
         record {
           stands = record {
@@ -324,7 +324,7 @@ module _ (s : Setting) (all : List Op) (switches : List (List ℕ)) (code offset
       )
 
   -- a typing by index is one by address
-  pub typed_there : (cut : Span) (m : ℕ) → cut.end ≤ length all → HasTyping here cut m → HasTyping there (moved f cut) m
+  pub typed_there : (cut : Span) (m : ℕ) → cut.end ≤ length all → HasTyping here cut m → HasTyping there (span_moved f cut) m
   typed_there cut m part (typing, h) =
       let n = length all in
       let at_entry = h.met cut.entry nothing h.entry in (
@@ -335,7 +335,7 @@ module _ (s : Setting) (all : List Op) (switches : List (List ℕ)) (code offset
           met = λ b c e. (
               let k = carried_from f typing n b c e in
               let w = h.met k.0 c k.3 in
-              (assembled offsets w.0, subst (λ (x : ℕ). Passes there (moved f cut) x c (assembled offsets w.0)) k.2 (passes_there cut k.0 c w.0 part w.1))
+              (assembled offsets w.0, subst (λ (x : ℕ). Passes there (span_moved f cut) x c (assembled offsets w.0)) k.2 (passes_there cut k.0 c w.0 part w.1))
               );
           closed = λ b c op' d t e r ed. (
               let k = carried_from f typing n b c e in
@@ -362,7 +362,7 @@ module _ (s : Setting) (all : List Op) (switches : List (List ℕ)) (code offset
   back_from typing i c e = elim (pick_cases (cases_lt i (length all)) (typing (f i)) None (Some c) e) [ inl h ↦ h | inr h ↦ absurd (none-some c h.1) ]
 
   -- a typing by address is one by index
-  pub typed_here : (cut : Span) (m : ℕ) → IsCut (length all) cut → HasTyping there (moved f cut) m → HasTyping here cut m
+  pub typed_here : (cut : Span) (m : ℕ) → IsCut (length all) cut → HasTyping there (span_moved f cut) m → HasTyping here cut m
   typed_here cut m part (typing, h) =
       let at_entry = h.met (f cut.entry) nothing h.entry in
       let first : cut.entry < length all = let l = before all code offsets made cut.entry cut.end (let p = part.ordered in let q = part.inside in omega arith)
@@ -389,39 +389,39 @@ module _ (s : Setting) (all : List Op) (switches : List (List ℕ)) (code offset
       )
 
   -- what is reached by index is reached by address
-  pub reached_there : (cut : Span) → cut.end ≤ length all → (i : ℕ) (c : Counts) → Reached here cut i c → Reached there (moved f cut) (f i) c
+  pub reached_there : (cut : Span) → cut.end ≤ length all → (i : ℕ) (c : Counts) → Reached here cut i c → Reached there (span_moved f cut) (f i) c
   reached_there cut part i c begin = begin
   reached_there cut part j d (onward {at} {c} {op} r p e) =
       onward (reached_there cut part at c r) (passes_there cut at c op part p) (edge_there at op c j d p.stands.is e)
 
   -- and the other way
-  pub reached_here : (cut : Span) → IsCut (length all) cut → (b : ℕ) (c : Counts) → Reached there (moved f cut) b c → (i : ℕ) × (i ≤ length all) × (f i ≡ b) × Reached here cut i c
+  pub reached_here : (cut : Span) → IsCut (length all) cut → (b : ℕ) (c : Counts) → Reached there (span_moved f cut) b c → (i : ℕ) × (i ≤ length all) × (f i ≡ b) × Reached here cut i c
   reached_here cut part b c begin = (cut.entry, (let p = part.ordered in let q = part.inside in omega arith), refl, begin)
   reached_here cut part b d (onward {at} {c} {op} r p e) =
       let k = reached_here cut part at c r in
-      let o = passes_here cut k.0 c op part k.1 (subst (λ (x : ℕ). Passes there (moved f cut) x c op) (sym k.2) p) in
+      let o = passes_here cut k.0 c op part k.1 (subst (λ (x : ℕ). Passes there (span_moved f cut) x c op) (sym k.2) p) in
       let ed = subst (λ (x : ℕ). Edge there (assembled offsets o.0) x c b d) (sym k.2) (subst (λ (q : Op). Edge there q at c b d) o.2 e) in
       let j = edge_here k.0 o.0 c b d o.1.stands.is ed in
       (j.0, edge_bounded k.0 o.0 c j.0 d o.1.stands.is j.2, j.1, onward k.3 o.1 j.2)
 
   -- so the greatest counts are the same
-  pub deepest_here : (cut : Span) (n : ℕ) → IsCut (length all) cut → IsDeepest there (moved f cut) n → IsDeepest here cut n
+  pub deepest_here : (cut : Span) (n : ℕ) → IsCut (length all) cut → IsDeepest there (span_moved f cut) n → IsDeepest here cut n
   deepest_here cut n part d = record {
     most = λ i c r. d.most (f i) c (reached_there cut part.inside i c r);
     attained = (let a = d.attained in let h = reached_here cut part a.0 a.1.0 a.1.1 in (h.0, (a.1.0, h.3, a.1.2)));
   }
 
-  pub deepest_there : (cut : Span) (n : ℕ) → IsCut (length all) cut → IsDeepest here cut n → IsDeepest there (moved f cut) n
+  pub deepest_there : (cut : Span) (n : ℕ) → IsCut (length all) cut → IsDeepest here cut n → IsDeepest there (span_moved f cut) n
   deepest_there cut n part d = record {
     most = λ b c r. (let h = reached_here cut part b c r in d.most h.0 c h.3);
     attained = (let a = d.attained in (f a.0, (a.1.0, reached_there cut part.inside a.0 a.1.0 a.1.1, a.1.2)));
   }
 
   -- a cut with a typing is a chunk that lies well
-  pub framed_there : (bytecode : Bytecode) (cut : Span) (m : ℕ) → bytecode.bytes ≡ code → IsCut (length all) cut → HasTyping here cut m → IsFramed bytecode (moved f cut)
+  pub framed_there : (bytecode : Bytecode) (cut : Span) (m : ℕ) → bytecode.bytes ≡ code → IsCut (length all) cut → HasTyping here cut m → IsFramed bytecode (span_moved f cut)
   framed_there bytecode cut m same part (typing, h) =
       let w = (h.met cut.entry nothing h.entry).1.stands.within in
-      subst (λ (bs : List ℕ). IsFramed (record bytecode { bytes = bs }) (moved f cut)) (sym same) (record {
+      subst (λ (bs : List ℕ). IsFramed (record bytecode { bytes = bs }) (span_moved f cut)) (sym same) (record {
         ordered = rises_to all code offsets made cut.entry cut.end part.ordered part.inside;
         inside = (let r = rises_to all code offsets made cut.end (length all) part.inside (omega arith) in let e = offset_end all code offsets made in omega arith);
         entry = start_there all code offsets made cut.entry w.place;

@@ -17,13 +17,13 @@ abbrev pub LeadWithin : ℕ → List (List ℕ) → Type 0
 LeadWithin n switches = All (All (λ target. target ≤ n)) switches
 
 -- the operations by index, with the indices to which each switch leads
-abbrev pub listed : Setting → List Op → List (List ℕ) → Code
-listed s ops switches = record { setting = s; layout = Listed ops switches }
+abbrev pub code_by_index : Setting → List Op → List (List ℕ) → Code
+code_by_index s ops switches = record { setting = s; layout = Listed ops switches }
 
 -- the code with each index to which a switch leads mapped to an address
 abbrev pub placed : Setting → (ℕ → ℕ) → List ℕ → List (List ℕ) → Code
 placed s f code switches = record { setting = s; layout = Coded code (map (map f) switches) }
 
 -- a chunk of indices, at the addresses that they have
-abbrev pub moved : (ℕ → ℕ) → Span → Span
-moved f cut = record { entry = f cut.entry; end = f cut.end; max_stack = cut.max_stack }
+abbrev pub span_moved : (ℕ → ℕ) → Span → Span
+span_moved f cut = record { entry = f cut.entry; end = f cut.end; max_stack = cut.max_stack }

@@ -1,7 +1,7 @@
 -- Operations in their setting.
 use Rattle.std.specs.Prelude.{ℕ, List, map}
 use Rattle.grain_base.specs.declared.caps.Caps.{Caps}
-use Rattle.grain_pools.specs.Dispatch.{arms, targets}
+use Rattle.grain_pools.specs.Dispatch.{arms, arm_targets}
 use Rattle.grain_pools.specs.declared.switch.Switch.{Switch}
 use Rattle.grain_rules.specs.Layout.{Layout, Coded}
 use Rattle.grain_rules.specs.Setting.{Setting, setting}
@@ -23,7 +23,7 @@ coded b = record { setting = b.setting; layout = Coded b.bytes b.switches }
 
 -- where a switch may lead: each case, each range, the default
 abbrev pub switch_targets : Switch → List ℕ
-switch_targets s = targets (arms s)
+switch_targets s = arm_targets (arms s)
 
 abbrev pub bytecode : Caps → Pools → List ℕ → Bytecode
 bytecode caps pools bytes = record { setting = setting caps pools; bytes = bytes; switches = map switch_targets pools.switches.now }

@@ -42,11 +42,11 @@ pub record HavePassed (pools : Pools) (chains switches : List ℕ) : Type 0 wher
   pub switches_pass : CasesPass pools switches
 
 -- what a refusal calls an index with this bound
-abbrev pub word_of : Bound → List ℕ
-word_of (bounds.Pool pool) = entry_name pool
-word_of bounds.Operands = codes "operand"
+abbrev pub bound_word : Bound → List ℕ
+bound_word (bounds.Pool pool) = entry_name pool
+bound_word bounds.Operands = codes "operand"
 
 -- what a refusal calls the index, and the index
 abbrev pub refused : {T : Type 0} → Result T BadIndex → Option (List ℕ × ℕ)
 refused (Ok x) = None
-refused (Err bad) = Some (word_of bad.bound, bad.index)
+refused (Err bad) = Some (bound_word bad.bound, bad.index)

@@ -12,7 +12,7 @@ ghost use Rattle.grain_code.specs.declared.field.Pool.{Pool};
 ghost use Rattle.grain_rules.specs.Accepted.{AreIndexed};
 ghost use Rattle.grain_rules.specs.Flaw.{CodeFlaw};
 ghost use Rattle.grain_rules.specs.FirstOut.{CasesPass, ChainsPass, HavePassed, alone, first_out};
-ghost use Rattle.grain_rules.specs.FirstOut.{receiver_fields, refused, word_of};
+ghost use Rattle.grain_rules.specs.FirstOut.{receiver_fields, refused, bound_word};
 ghost use Rattle.grain_rules.specs.Indices.{Indexed, IsOut, cases_of, chain_tests, entry_name, field_tests, operand_tests, root_fields, size, step_fields, step_tests, tail_fields, tests_of};
 ghost use Rattle.grain_rules.specs.Setting.{Setting, case_consts, setting};
 
@@ -58,7 +58,7 @@ fn entry_name(pool: Pool) -> &'static str
 
 /// What a refusal calls an index with this bound.
 fn word_of(bound: Bound) -> &'static str
-    ensures { result.now ≡ word_of bound }
+    ensures { result.now ≡ bound_word bound }
 {
     match bound {
         Bound::Pool(pool) => entry_name(pool),
@@ -369,7 +369,7 @@ fn check_op<const N: usize>(
     ensures passed { HavePassed pools.now passed.new.chains passed.new.switches }
     ensures ok { OnOk result (Indexed (alone pools.now) op.now) }
     ensures err { IfErr result
-        (λ bad. IsOut (alone pools.now) op.now (word_of bad.bound) bad.index) }
+        (λ bad. IsOut (alone pools.now) op.now (bound_word bad.bound) bad.index) }
 {
     check_fields(pools, &mut passed.chains, op)?;
     match bad_constant_of(pools, &mut passed.switches, op) {

@@ -7,7 +7,7 @@ ghost use Rattle.std.specs.List.{Contains};
 ghost use Rattle.grain_base.specs.Content.{Content};
 ghost use Rattle.grain_code.specs.Assembly.{CanAssemble, IsAssembly};
 ghost use Rattle.grain_pools.specs.Chain.{TakesOperand};
-ghost use Rattle.grain_pools.specs.Dispatch.{Arms, dispatched, targets};
+ghost use Rattle.grain_pools.specs.Dispatch.{Arms, dispatched, arm_targets};
 ghost use Rattle.grain_code.specs.Span.{Span, body};
 ghost use Rattle.grain_code.specs.Split.{AreInstructions};
 ghost use Rattle.grain_pools.specs.declared.chain.Chain.{Chain};
@@ -16,7 +16,7 @@ ghost use Rattle.grain_code.specs.declared.op.Op.{Op};
 ghost use Rattle.grain_code.specs.declared.op.Op.TheVariants as ops;
 ghost use Rattle.grain_rules.specs.Code.{Bytecode, Code, coded};
 ghost use Rattle.grain_rules.specs.Accepted.{ChunkPasses, Input, IsAccepted};
-ghost use Rattle.grain_rules.specs.ByIndex.{IsCut, LeadWithin, listed, moved, placed};
+ghost use Rattle.grain_rules.specs.ByIndex.{IsCut, LeadWithin, code_by_index, span_moved, placed};
 ghost use Rattle.grain_rules.specs.Counts.{Counts};
 ghost use Rattle.grain_rules.specs.Effects.{Edge, after_jump};
 ghost use Rattle.grain_rules.specs.Depths.{IsDepthTyping, depths_of};
@@ -86,7 +86,7 @@ pub fn switches_lead_inside()
         → IsTyping (coded code) chunk m typing
         → (x : Machine) → IsOnKeptRun (coded code) chunk x
         → (w : ℕ) → Finds (coded code) chunk x (ops.Switch w)
-        → (arms : Arms) (subject : Content) → get_or code.switches w [] ≡ targets arms
+        → (arms : Arms) (subject : Content) → get_or code.switches w [] ≡ arm_targets arms
         → IsInChunk (coded code) chunk (dispatched arms subject)
         × ((c : Counts) × (typing (dispatched arms subject) ≡ Some c)) }
 {}
@@ -115,28 +115,28 @@ pub fn indices_are_addresses()
     ensures typed { (s : Setting) (all : List Op) (switches : List (List ℕ)) (code offsets : List ℕ)
         → IsAssembly all code offsets → CanAssemble all → LeadWithin (length all) switches
         → (cut : Span) (m : ℕ) → IsCut (length all) cut
-        → HasTyping (listed s all switches) cut m
+        → HasTyping (code_by_index s all switches) cut m
         ↔ HasTyping (placed s (slice_index offsets) code switches)
-        (moved (slice_index offsets) cut) m }
+        (span_moved (slice_index offsets) cut) m }
     ensures reached { (s : Setting) (all : List Op) (switches : List (List ℕ))
         (code offsets : List ℕ)
         → IsAssembly all code offsets → CanAssemble all → LeadWithin (length all) switches
         → (cut : Span) (i : ℕ) (c : Counts) → IsCut (length all) cut → i ≤ length all
-        → Reached (listed s all switches) cut i c
+        → Reached (code_by_index s all switches) cut i c
         ↔ Reached (placed s (slice_index offsets) code switches)
-        (moved (slice_index offsets) cut) (slice_index offsets i) c }
+        (span_moved (slice_index offsets) cut) (slice_index offsets i) c }
     ensures nowhere { (s : Setting) (all : List Op) (switches : List (List ℕ))
         (code offsets : List ℕ)
         → IsAssembly all code offsets → CanAssemble all → LeadWithin (length all) switches
         → (cut : Span) (b : ℕ) (c : Counts) → IsCut (length all) cut
         → Reached (placed s (slice_index offsets) code switches)
-        (moved (slice_index offsets) cut) b c
+        (span_moved (slice_index offsets) cut) b c
         → (i : ℕ) × (i ≤ length all) × (slice_index offsets i ≡ b) }
     ensures deepest { (s : Setting) (all : List Op) (switches : List (List ℕ))
         (code offsets : List ℕ)
         → IsAssembly all code offsets → CanAssemble all → LeadWithin (length all) switches
         → (cut : Span) (n : ℕ) → IsCut (length all) cut
-        → IsDeepest (listed s all switches) cut n
+        → IsDeepest (code_by_index s all switches) cut n
         ↔ IsDeepest (placed s (slice_index offsets) code switches)
-        (moved (slice_index offsets) cut) n }
+        (span_moved (slice_index offsets) cut) n }
 {}

@@ -6,7 +6,7 @@ use Rattle.std.proofs.lemmas.Bool.{cases_eq, cases_lt}
 use Rattle.std.proofs.lemmas.Bool.Decides.{nat_tests}
 use Rattle.std.proofs.lemmas.Grind.{common_steps}
 use Rattle.std.proofs.lemmas.List.{get_or_append_left, get_or_past, get_or_push, get_or_read, get_or-set_same, get_or-set_other, length-set, length_push}
-use Rattle.grain_verify.specs.Lists.{AreFirsts, Grows, IsShared, IsSharing, base_cmp, first_on, firsts_of, found_in, found_with, list_in, no_node, node_cmp, size}
+use Rattle.grain_verify.specs.Lists.{AreFirsts, Grows, IsShared, IsSharing, base_cmp, first_on, firsts_of, found_in, found_with, list_in, no_node, node_cmp, list_count}
 use Rattle.grain_verify.specs.declared.lists.Base as kept
 use Rattle.grain_verify.specs.declared.lists.Lists.{Lists}
 use Rattle.grain_verify.specs.declared.lists.Node.{Node}
@@ -166,7 +166,7 @@ some_first zero some = absurd (some refl)
 some_first (suc k) some = (k, refl)
 
 -- what the lists are once a node has come to them that wasn't found
-module _ (old new : Lists) (x : Node) (shared : IsShared old) (on : x.parent ≤ size old) (items : new.nodes.items ≡ old.nodes.items ++ x ∷ []) where
+module _ (old new : Lists) (x : Node) (shared : IsShared old) (on : x.parent ≤ list_count old) (items : new.nodes.items ≡ old.nodes.items ++ x ∷ []) where
   abbrev before : Node → Option ℕ
   before = get node_cmp old.others
 
@@ -177,13 +177,13 @@ module _ (old new : Lists) (x : Node) (shared : IsShared old) (on : x.parent ≤
   abbrev IsNoted : List ℕ → (Node → Option ℕ) → Type 0
   IsNoted firsts elsewhere =
       AreFirsts (old.nodes.items ++ x ∷ []) firsts elsewhere
-      × ((q : Node) → found_in (old.nodes.items ++ x ∷ []) firsts elsewhere q ≡ cond (is_eq (node_cmp x q)) (Some (size old + 1)) (found_in old.nodes.items (firsts_of old) before q))
+      × ((q : Node) → found_in (old.nodes.items ++ x ∷ []) firsts elsewhere q ≡ cond (is_eq (node_cmp x q)) (Some (list_count old + 1)) (found_in old.nodes.items (firsts_of old) before q))
 
   grows_by : found_in old.nodes.items (firsts_of old) before x ≡ None → IsNoted (firsts_of new) after → Grows old new
   grows_by fresh noted =
       let find : List Node → Node → Option ℕ = λ ns. found_in ns (firsts_of new) after in
       let sharing = sharing_push old.nodes.items (found_in old.nodes.items (firsts_of old) before) (find (old.nodes.items ++ x ∷ [])) x shared.sharing fresh on noted.1 in
-      let more : size new ≡ size old + 1 = ap (λ (ns : List Node). length ns) items ∙ length_push old.nodes.items x in
+      let more : list_count new ≡ list_count old + 1 = ap (λ (ns : List Node). length ns) items ∙ length_push old.nodes.items x in
       record {
         shared = record {
           firsts = subst (λ (ns : List Node). AreFirsts ns (firsts_of new) after) (sym items) noted.0;
@@ -195,18 +195,18 @@ module _ (old new : Lists) (x : Node) (shared : IsShared old) (on : x.parent ≤
       }
 
   -- it is the first on top of its parent
-  pub grows_first : first_on (firsts_of old) x.parent ≡ 0 → (firsts_of new) ≡ set ((firsts_of old) ++ 0 ∷ []) x.parent (size old + 1) → new.others ≡ old.others → Grows old new
+  pub grows_first : first_on (firsts_of old) x.parent ≡ 0 → (firsts_of new) ≡ set ((firsts_of old) ++ 0 ∷ []) x.parent (list_count old + 1) → new.others ≡ old.others → Grows old new
   grows_first none firsts others =
       let ns = old.nodes.items in
       let fs = firsts_of old in
       let are = shared.firsts in
-      let known : IsNoted (set (fs ++ 0 ∷ []) x.parent (size old + 1)) before = (first_added ns fs before x are on none, first_noted ns fs before x are on none) in
+      let known : IsNoted (set (fs ++ 0 ∷ []) x.parent (list_count old + 1)) before = (first_added ns fs before x are on none, first_noted ns fs before x are on none) in
       let same : after ≡ before = ap (get node_cmp) others in
-      grows_by (first_fresh ns fs before x are on none) (subst (λ (gs : List ℕ). IsNoted gs after) (sym firsts) (subst (IsNoted (set (fs ++ 0 ∷ []) x.parent (size old + 1))) (sym same) known))
+      grows_by (first_fresh ns fs before x are on none) (subst (λ (gs : List ℕ). IsNoted gs after) (sym firsts) (subst (IsNoted (set (fs ++ 0 ∷ []) x.parent (list_count old + 1))) (sym same) known))
 
   -- another lies there first, and the map has it now
   pub grows_other : (k : ℕ) → first_on (firsts_of old) x.parent ≡ suc k → is_eq (base_cmp (get_or old.nodes.items k no_node).base x.base) ≡ false → before x ≡ None
-      → (firsts_of new) ≡ (firsts_of old) ++ 0 ∷ [] → ((q : Node) → after q ≡ cond (is_eq (node_cmp x q)) (Some (size old + 1)) (before q)) → Grows old new
+      → (firsts_of new) ≡ (firsts_of old) ++ 0 ∷ [] → ((q : Node) → after q ≡ cond (is_eq (node_cmp x q)) (Some (list_count old + 1)) (before q)) → Grows old new
   grows_other k first unlike none firsts noted =
       let ns = old.nodes.items in
       let fs = firsts_of old in

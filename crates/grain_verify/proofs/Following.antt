@@ -4,11 +4,11 @@ use Rattle.std.specs.List.{All}
 use Rattle.std.proofs.lemmas.List.{append-nil}
 use Rattle.std.proofs.lemmas.List.Elements.{All-nil}
 use Rattle.grain_code.specs.Span.{Span}
-use Rattle.grain_verify.specs.Arrivals.{IsPlaced, IsStartIn, Pushes, RefusesSwitch, RefusesTargetOf, Sends, all_underway, underway, view}
+use Rattle.grain_verify.specs.Arrivals.{IsAtOrdinal, IsStartIn, Pushes, RefusesSwitch, RefusesTargetOf, Sends, all_underway, underway, view}
 use Rattle.grain_rules.specs.Counts.{Counts}
 use Rattle.grain_rules.specs.FlowFields.{bases_for, targets_for}
 use Rattle.grain_verify.specs.FlowView.{IsFollowed, IsMetBy, RefusesFlow, falls_to, flow, jumped, next_to}
-use Rattle.grain_verify.specs.Lists.{list_of, size}
+use Rattle.grain_verify.specs.Lists.{list_of, list_count}
 use Rattle.grain_verify.specs.declared.flow.Flow.{Flow}
 use Rattle.grain_rules.specs.declared.error.VerifyError.{VerifyError}
 use Rattle.grain_verify.specs.declared.lists.Lists.{Lists}
@@ -28,13 +28,13 @@ goes_on work here next width s fallen is same = ap (λ (a : Arrival). work ++ a 
 
 -- a flow is followed, where the armed handlers have this list then
 module _ (starts : List ℕ) (chunk : Span) (switches : List (List ℕ)) (left : ℕ) (here : Arrival) (width : ℕ) (old new : Lists) (sent : List (Option State)) (work : List Arrival)
-    (way is : Flow) (target : ℕ) (same : way ≡ is) (list : ℕ) (there : list ≤ size new) (bases : list_of new list ≡ bases_for (flow is target) (view old here.state)) where
+    (way is : Flow) (target : ℕ) (same : way ≡ is) (list : ℕ) (there : list ≤ list_count new) (bases : list_of new list ≡ bases_for (flow is target) (view old here.state)) where
   abbrev OnWay : List Arrival → List Arrival → Type 0
   OnWay pushed on_way = on_way ≡ pushed ++ falls_to (flow is target) left list here width
 
   pub followed : (new_sent : List (Option State)) (pushed on_way : List Arrival)
       → Sends starts chunk switches (flow is target) (jumped (flow is target) left list here.state) sent new_sent (map underway work) (map underway pushed)
-      → (All (IsPlaced starts chunk) work → All (IsPlaced starts chunk) pushed) → OnWay pushed on_way
+      → (All (IsAtOrdinal starts chunk) work → All (IsAtOrdinal starts chunk) pushed) → OnWay pushed on_way
       → IsFollowed starts chunk switches (flow way target) left here width old new sent new_sent work on_way
   followed new_sent pushed on_way sends placed all =
       subst (λ (w : Flow). IsFollowed starts chunk switches (flow w target) left here width old new sent new_sent work on_way) (sym same)

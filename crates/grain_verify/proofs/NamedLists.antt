@@ -11,7 +11,7 @@ use Rattle.grain_rules.specs.Code.{Bytecode}
 use Rattle.grain_rules.specs.Counts.{Base, Counts}
 use Rattle.grain_rules.specs.Flow as flows
 use Rattle.grain_verify.specs.FlowView.{fallen, jumped}
-use Rattle.grain_verify.specs.Lists.{Grows, IsShared, size}
+use Rattle.grain_verify.specs.Lists.{Grows, IsShared, list_count}
 use Rattle.grain_verify.specs.Progress.{NameLists, NamesList, Walking}
 use Rattle.grain_verify.specs.States.{no_state as none}
 use Rattle.grain_verify.specs.declared.lists.Lists.{Lists}
@@ -56,11 +56,11 @@ underway_named lists xs named = All-map (λ (u : Underway). NamesList lists u.st
 pub sent_named : (lists : Lists) (s : State) (ts : List ℕ) → NamesList lists s → All (λ (u : Underway). NamesList lists u.state) (all_underway s ts)
 sent_named lists s ts named = All-map (λ (u : Underway). NamesList lists u.state) (λ (t : ℕ). record { at = t; state = s }) ts (λ k d l. named)
 
-pub jumped_named : (lists : Lists) (f : flows.Flow) (left list : ℕ) (s : State) → list ≤ size lists → NamesList lists s → NamesList lists (jumped f left list s)
+pub jumped_named : (lists : Lists) (f : flows.Flow) (left list : ℕ) (s : State) → list ≤ list_count lists → NamesList lists s → NamesList lists (jumped f left list s)
 jumped_named lists (flows.PushesHandler target) left list s l named = l
 jumped_named lists f left list s l named = named
 
-pub fallen_named : (lists : Lists) (f : flows.Flow) (left list : ℕ) (s : State) → list ≤ size lists → NamesList lists s → NamesList lists (fallen f left list s)
+pub fallen_named : (lists : Lists) (f : flows.Flow) (left list : ℕ) (s : State) → list ≤ list_count lists → NamesList lists s → NamesList lists (fallen f left list s)
 fallen_named lists (flows.PushesHandler target) left list s l named = l
 fallen_named lists flows.PopsHandler left list s l named = l
 fallen_named lists f left list s l named = named

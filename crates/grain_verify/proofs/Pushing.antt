@@ -8,7 +8,7 @@ use Rattle.grain_pools.specs.Dispatch.{arms, listed}
 use Rattle.grain_pools.specs.declared.switch.Switch.{Switch}
 use Rattle.grain_pools.specs.declared.switch.SwitchRange.{SwitchRange}
 use Rattle.grain_rules.specs.Code.{switch_targets}
-use Rattle.grain_verify.specs.Arrivals.{IsPlaced, IsStartIn, Pushes, RefusesTargetOf, Underway, all_underway, case_targets, range_targets, underway}
+use Rattle.grain_verify.specs.Arrivals.{IsAtOrdinal, IsStartIn, Pushes, RefusesTargetOf, Underway, all_underway, case_targets, range_targets, underway}
 use Rattle.grain_rules.specs.declared.error.VerifyError.{VerifyError}
 use Rattle.grain_verify.specs.declared.state.Arrival.{Arrival}
 use Rattle.grain_verify.specs.declared.state.State.{State}
@@ -16,11 +16,11 @@ use Rattle.grain_rules.proofs.Splits.{in_head}
 
 -- an arrival pushed
 pub pushed_one : (starts : List ℕ) (chunk : Span) (work : List Arrival) (a : Arrival) (t : ℕ) (s : State)
-    → underway a ≡ record { at = t; state = s } → IsStartIn starts chunk t → IsPlaced starts chunk a → Pushes starts chunk s (t ∷ []) work (work ++ a ∷ [])
+    → underway a ≡ record { at = t; state = s } → IsStartIn starts chunk t → IsAtOrdinal starts chunk a → Pushes starts chunk s (t ∷ []) work (work ++ a ∷ [])
 pushed_one starts chunk work a t s arrives inside placed = record {
   starts_in = All-cons (IsStartIn starts chunk) t [] inside (All-nil (IsStartIn starts chunk));
   added = map_push underway work a ∙ ap (λ (u : Underway). map underway work ++ u ∷ []) arrives;
-  placed = λ all. All-push (IsPlaced starts chunk) work a all placed;
+  placed = λ all. All-push (IsAtOrdinal starts chunk) work a all placed;
 }
 
 -- the state is pushed to some of these targets, in their order, and the others are left

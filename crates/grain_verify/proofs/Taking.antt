@@ -10,7 +10,7 @@ use Rattle.grain_rules.specs.Code.{coded}
 use Rattle.grain_rules.specs.Flaw.{ChunkFlaw, FallsOff}
 use Rattle.grain_rules.specs.Typing.{IsInChunk, Reached}
 use Rattle.grain_rules.specs.declared.error.VerifyError.TheVariants.{DepthConflict}
-use Rattle.grain_verify.specs.Arrivals.{Coming, IsPlaced, coming, sent_by, view}
+use Rattle.grain_verify.specs.Arrivals.{Coming, IsAtOrdinal, coming, sent_by, view}
 use Rattle.grain_verify.specs.Meter.{starts_within}
 use Rattle.grain_verify.specs.Progress.{IsWalking, NamesList, Walking, Walks, visits_in}
 use Rattle.grain_verify.specs.Walk.{IsReady, bytecode_of}
@@ -43,13 +43,13 @@ module _ {p : Prepared} {chunk : Span} {lists : Lists} {t : Traversal} {deepest 
   taken_named = (both (λ (b : Arrival). NamesList lists b.state) w.known.waiting).1
 
   pub taken_place : a.at < chunk.end → slice_get p.starts.starts a.ordinal ≡ Some a.at
-  taken_place = (both (IsPlaced p.starts.starts chunk) w.placed).1
+  taken_place = (both (IsAtOrdinal p.starts.starts chunk) w.placed).1
 
   pub left_named : All (λ (b : Arrival). NamesList lists b.state) rest
   left_named = (both (λ (b : Arrival). NamesList lists b.state) w.known.waiting).0
 
-  pub left_placed : All (IsPlaced p.starts.starts chunk) rest
-  left_placed = (both (IsPlaced p.starts.starts chunk) w.placed).0
+  pub left_placed : All (IsAtOrdinal p.starts.starts chunk) rest
+  left_placed = (both (IsAtOrdinal p.starts.starts chunk) w.placed).0
 
   pub taken_known : a.at < chunk.end → a.ordinal < length t.states
   taken_known l = let k = slice_get_within p.starts.starts a.ordinal a.at (taken_place l) in let e = w.fits.states in omega arith

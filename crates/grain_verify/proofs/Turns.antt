@@ -9,7 +9,7 @@ use Rattle.grain_code.specs.Span.{Span}
 use Rattle.grain_code.specs.Split.{StandsAt}
 use Rattle.grain_code.specs.declared.op.Op.{Op}
 use Rattle.grain_rules.specs.Accepted.{IsFramed}
-use Rattle.grain_verify.specs.Arrivals.{Coming, IsPlaced, IsStartIn, RefusesSwitch, Sends, all_to, coming, falling, sent_by, underway, view}
+use Rattle.grain_verify.specs.Arrivals.{Coming, IsAtOrdinal, IsStartIn, RefusesSwitch, Sends, all_to, coming, falling, sent_by, underway, view}
 use Rattle.grain_rules.specs.Code.{coded}
 use Rattle.grain_rules.specs.Counts.{Counts}
 use Rattle.grain_rules.specs.Capabilities.{Allows}
@@ -21,7 +21,7 @@ use Rattle.grain_verify.specs.Operands.{stack_effect}
 use Rattle.grain_rules.specs.FlowFields.{bases_for, fall_for, falls_for, jump_for, targets_for}
 use Rattle.grain_rules.specs.Flaw.{ChunkFlaw}
 use Rattle.grain_verify.specs.Graph.{Pending}
-use Rattle.grain_verify.specs.Lists.{Grows, list_of, size}
+use Rattle.grain_verify.specs.Lists.{Grows, list_of, list_count}
 use Rattle.grain_verify.specs.Progress.{HaltsAt, IsWalking, KnowsLists, NameLists, NamesList, Walking, visits_in}
 use Rattle.grain_rules.specs.Sinking.{Stays}
 use Rattle.grain_rules.specs.Typing.{IsInChunk, Passes, onward}
@@ -48,7 +48,7 @@ use Rattle.grain_verify.proofs.Walking.{JumpsTo, pending_reached, sent_before, w
 module _ (p : Prepared) (chunk : Span) (t new : Traversal) (here : Arrival) (deepest : ℕ) (op : Op) (pushed falls_on : List Arrival) (ready : IsReady p)
     (framed : IsFramed (bytecode_of p) chunk) (old lists : Lists) (grows : Grows old lists) (h : HaltsAt p chunk old t here deepest)
     (passes : Passes (coded (bytecode_of p)) chunk here.at (view lists here.state) op) (falls : map (coming lists) falls_on ≡ falling (bytecode_of p) op here.at (view lists here.state))
-    (states : new.states ≡ t.states) (long : length new.sent ≡ length t.sent) (placed : All (IsPlaced p.starts.starts chunk) (pushed ++ falls_on))
+    (states : new.states ≡ t.states) (long : length new.sent ≡ length t.sent) (placed : All (IsAtOrdinal p.starts.starts chunk) (pushed ++ falls_on))
     (sent_named : NameLists lists new.sent) (named : All (λ (a : Arrival). NamesList lists a.state) (pushed ++ falls_on)) where
   marked : new.states ≡ set h.before here.ordinal (Some here.state)
   marked = states ∙ h.marked
@@ -130,7 +130,7 @@ module _ (p : Prepared) (chunk : Span) (t new : Traversal) (here : Arrival) (dee
 
 -- what falls through is placed
 pub falls_placed : (p : Prepared) (chunk : Span) (here : Arrival) (op : Op) (s : State) → IsReady p → IsFramed (bytecode_of p) chunk
-    → slice_get p.starts.starts here.ordinal ≡ Some here.at → StandsAt p.code.now here.at op → IsPlaced p.starts.starts chunk (next_to here (width_of op) s)
+    → slice_get p.starts.starts here.ordinal ≡ Some here.at → StandsAt p.code.now here.at op → IsAtOrdinal p.starts.starts chunk (next_to here (width_of op) s)
 falls_placed p chunk here op s ready framed place stands l = elim (next_ordinal p.code.now p.starts.starts ready.starts here.ordinal here.at op place stands) [
   | inl e ↦ subst (λ k. slice_get p.starts.starts k ≡ Some (here.at + width_of op)) (sym (add-one here.ordinal)) e
   | inr end ↦ absurd (let f = framed.inside in omega arith)
@@ -150,16 +150,16 @@ one_more P false xs a p all = subst (All P) (sym (append-nil xs)) all
 -- is followed.
 module _ (p : Prepared) (chunk : Span) (t new : Traversal) (here : Arrival) (deepest : ℕ) (op : Op) (width : ℕ) (ready : IsReady p) (framed : IsFramed (bytecode_of p) chunk)
     (old lists : Lists) (grows : Grows old lists) (h : HaltsAt p chunk old t here deepest) (stands : StandsAt p.code.now here.at op) (wide : width ≡ width_of op) where
-  next_placed : (s : State) → IsPlaced p.starts.starts chunk (next_to here width s)
+  next_placed : (s : State) → IsAtOrdinal p.starts.starts chunk (next_to here width s)
   next_placed s =
-      subst (λ n. IsPlaced p.starts.starts chunk (next_to here n s)) (sym wide)
+      subst (λ n. IsAtOrdinal p.starts.starts chunk (next_to here n s)) (sym wide)
       (falls_placed p chunk here op s ready framed (taken_place _ _ h.is h.within) stands)
 
   visited_here : (caps needs takes gives list : ℕ) (f : Flow) (pushed : List Arrival) → caps ≡ caps_of (bytecode_of p).setting op
       → (needs, takes, gives) ≡ stack_effect (bytecode_of p).setting op → f ≡ flow_of op → Allows (bytecode_of p).setting.caps caps → needs ≤ here.state.operands
-      → IsMetBy f (view lists here.state) → Stays (bytecode_of p).setting op (view lists here.state) → list ≤ size lists → list_of lists list ≡ bases_for f (view lists here.state)
+      → IsMetBy f (view lists here.state) → Stays (bytecode_of p).setting op (view lists here.state) → list ≤ list_count lists → list_of lists list ≡ bases_for f (view lists here.state)
       → Sends p.starts.starts chunk (bytecode_of p).switches f (jumped f (here.state.operands - takes + gives) list here.state) t.sent new.sent (map underway t.work.items) (map underway pushed)
-      → new.states ≡ t.states → length new.sent ≡ length t.sent → (All (IsPlaced p.starts.starts chunk) t.work.items → All (IsPlaced p.starts.starts chunk) pushed)
+      → new.states ≡ t.states → length new.sent ≡ length t.sent → (All (IsAtOrdinal p.starts.starts chunk) t.work.items → All (IsAtOrdinal p.starts.starts chunk) pushed)
       → IsWalking p chunk lists new (pushed ++ falls_to f (here.state.operands - takes + gives) list here width) deepest
   visited_here caps needs takes gives list f pushed asked known same allowed there met stays in_lists bases sends states long placed =
       let code = bytecode_of p in
@@ -182,7 +182,7 @@ module _ (p : Prepared) (chunk : Span) (t new : Traversal) (here : Arrival) (dee
       let work_named = sends_named lists p.starts.starts chunk code.switches f sent_state t.sent new.sent t.work.items pushed jump_named
       (arrivals_named_more old lists grows t.work.items (left_named _ _ h.is)) sends in
       turned p chunk t new here deepest op pushed (falls_to f left list here width) ready framed old lists grows h passes goes states long
-      (one_more (IsPlaced p.starts.starts chunk) (falls_for f) pushed (next_to here width next_state) (next_placed next_state) (placed (left_placed _ _ h.is)))
+      (one_more (IsAtOrdinal p.starts.starts chunk) (falls_for f) pushed (next_to here width next_state) (next_placed next_state) (placed (left_placed _ _ h.is)))
       (switches_named lists p.starts.starts chunk code.switches f sent_state t.sent new.sent t.work.items pushed jump_named (all_named_more old lists grows t.sent h.is.known.sent) sends)
       (one_more (λ (a : Arrival). NamesList lists a.state) (falls_for f) pushed (next_to here width next_state) (fallen_named lists f left list here.state in_lists named) work_named)
       sent_state sent_is

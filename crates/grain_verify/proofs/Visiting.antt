@@ -7,11 +7,11 @@ use Rattle.std.proofs.lemmas.List.Elements.{All-nil, All-push}
 use Rattle.grain_code.specs.InstructionTable.{width_of}
 use Rattle.grain_code.specs.Span.{Span}
 use Rattle.grain_rules.specs.Accepted.{IsFramed}
-use Rattle.grain_verify.specs.Arrivals.{IsPlaced, IsStartIn, coming, sent_by, underway, view}
+use Rattle.grain_verify.specs.Arrivals.{IsAtOrdinal, IsStartIn, coming, sent_by, underway, view}
 use Rattle.grain_rules.specs.Counts.{nothing}
 use Rattle.grain_rules.specs.Flow.{Falls}
 use Rattle.grain_verify.specs.FlowView.{IsFollowed, next_to}
-use Rattle.grain_verify.specs.Lists.{IsShared, size}
+use Rattle.grain_verify.specs.Lists.{IsShared, list_count}
 use Rattle.grain_verify.specs.Plain.{IsPlainStep}
 use Rattle.grain_verify.specs.Progress.{HaltsAt, IsWalking, NameLists, NamesList, Walking, visits_in}
 use Rattle.grain_rules.specs.Typing.{HasTyping, IsDeepest, IsReachedCount}
@@ -63,12 +63,12 @@ walk_ended {p} {chunk} {lists} {t} {stack} {rest} {deepest} off empty w =
 
 -- the walk begins at the chunk's entry
 pub walking_begun : (p : Prepared) (chunk : Span) (lists : Lists) (t : Traversal) (entry ordinal n m : ℕ) → IsFramed (bytecode_of p) chunk → chunk.entry < chunk.end
-    → entry ≡ chunk.entry → slice_get p.starts.starts ordinal ≡ Some chunk.entry → t.states ≡ replicate n none → t.sent ≡ replicate m none → IsShared lists → size lists ≡ 0
+    → entry ≡ chunk.entry → slice_get p.starts.starts ordinal ≡ Some chunk.entry → t.states ≡ replicate n none → t.sent ≡ replicate m none → IsShared lists → list_count lists ≡ 0
     → t.work.items ≡ [] → n ≡ length p.starts.starts → m ≡ length p.pools.now.switches.now
     → IsWalking p chunk lists t (t.work.items ++ record { at = entry; ordinal = ordinal; state = record { operands = 0; iterators = 0; list = 0 } } ∷ []) 0
 walking_begun p chunk lists t entry ordinal n m framed holds named place states sent shared no_lists work long switches =
     let a : Arrival = record { at = entry; ordinal = ordinal; state = record { operands = 0; iterators = 0; list = 0 } } in
-    let P = IsPlaced p.starts.starts chunk in
+    let P = IsAtOrdinal p.starts.starts chunk in
     let N : Arrival → Type 0 = λ b. NamesList lists b.state in
     let alone : t.work.items ++ a ∷ [] ≡ a ∷ [] = ap (λ (xs : List Arrival). xs ++ a ∷ []) work in
     record {

@@ -56,8 +56,8 @@ pub record IsStartIn (starts : List ℕ) (chunk : Span) (at : ℕ) : Type 0 wher
   pub start : Contains starts at
 
 -- an arrival in the chunk is at the start of its ordinal
-abbrev pub IsPlaced : List ℕ → Span → Arrival → Type 0
-IsPlaced starts chunk a = a.at < chunk.end → slice_get starts a.ordinal ≡ Some a.at
+abbrev pub IsAtOrdinal : List ℕ → Span → Arrival → Type 0
+IsAtOrdinal starts chunk a = a.at < chunk.end → slice_get starts a.ordinal ≡ Some a.at
 
 -- how a target is refused that is none
 abbrev pub RefusesTarget : List ℕ → Span → ℕ → ℕ → VerifyError → Type 0
@@ -73,7 +73,7 @@ RefusesTargetOf starts chunk at ts e = (e ≡ errors.OutOfMemory) ⊎ ((t : ℕ)
 pub record Pushes (starts : List ℕ) (chunk : Span) (after : State) (ts : List ℕ) (old new : List Arrival) : Type 0 where
   pub starts_in : All (IsStartIn starts chunk) ts
   pub added : map underway new ≡ map underway old ++ all_underway after ts
-  pub placed : All (IsPlaced starts chunk) old → All (IsPlaced starts chunk) new
+  pub placed : All (IsAtOrdinal starts chunk) old → All (IsAtOrdinal starts chunk) new
 
 -- the states that were sent to the targets of switches, as counts
 abbrev pub sent_by : Lists → List (Option State) → List (Option Counts)

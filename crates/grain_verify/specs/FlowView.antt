@@ -2,11 +2,11 @@
 use Rattle.std.specs.Prelude.{◌≡◌, ⊤, ◌⊎◌, ℕ, ◌+◌, ◌-◌, ◌<◌, ◌≤◌, List, [], ◌∷◌, ◌++◌, Option, cond, length, map}
 use Rattle.std.specs.List.{All}
 use Rattle.grain_code.specs.Span.{Span}
-use Rattle.grain_verify.specs.Arrivals.{IsPlaced, RefusesSwitch, RefusesTargetOf, Sends, underway, view}
+use Rattle.grain_verify.specs.Arrivals.{IsAtOrdinal, RefusesSwitch, RefusesTargetOf, Sends, underway, view}
 use Rattle.grain_rules.specs.Counts.{Counts}
 use Rattle.grain_rules.specs.Flow as flows
 use Rattle.grain_rules.specs.FlowFields.{bases_for, falls_for, handlers_for, iterators_for, targets_for}
-use Rattle.grain_verify.specs.Lists.{list_of, size}
+use Rattle.grain_verify.specs.Lists.{list_of, list_count}
 use Rattle.grain_verify.specs.declared.flow.Flow.{Flow}
 use Rattle.grain_verify.specs.declared.flow.Flow.TheVariants as ways
 use Rattle.grain_rules.specs.declared.error.VerifyError.{VerifyError}
@@ -92,11 +92,11 @@ falls_to f left list here width = cond (falls_for f) (next_to here width (fallen
 pub record IsFollowed (starts : List ℕ) (chunk : Span) (switches : List (List ℕ)) (f : flows.Flow) (left : ℕ) (here : Arrival) (width : ℕ) (old new : Lists)
     (sent new_sent : List (Option State)) (work on_way : List Arrival) : Type 0 where
   pub list : ℕ
-  pub there : list ≤ size new
+  pub there : list ≤ list_count new
   pub bases : list_of new list ≡ bases_for f (view old here.state)
   pub pushed : List Arrival
   pub sends : Sends starts chunk switches f (jumped f left list here.state) sent new_sent (map underway work) (map underway pushed)
-  pub placed : All (IsPlaced starts chunk) work → All (IsPlaced starts chunk) pushed
+  pub placed : All (IsAtOrdinal starts chunk) work → All (IsAtOrdinal starts chunk) pushed
   pub all : on_way ≡ pushed ++ falls_to f left list here width
 
 -- how a flow is refused: it lacks an iterator or a handler, or a target refuses it, or its switch does

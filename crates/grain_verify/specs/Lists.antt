@@ -36,8 +36,8 @@ abbrev pub list_of : Lists → ℕ → List Base
 list_of lists n = list_in lists.nodes.items n
 
 -- how many lists there are besides the empty one
-abbrev pub size : Lists → ℕ
-size lists = length lists.nodes.items
+abbrev pub list_count : Lists → ℕ
+list_count lists = length lists.nodes.items
 
 -- by the number of a list that of the first list made on top of it, or 0
 abbrev pub firsts_of : Lists → List ℕ
@@ -75,6 +75,6 @@ pub record IsShared (lists : Lists) : Type 0 where
 -- At most one list comes to them, and each number still names the same one.
 pub record Grows (old new : Lists) : Type 0 where
   pub shared : IsShared new
-  pub more : size old ≤ size new
-  pub few : size new ≤ size old + 1
-  pub kept : (n : ℕ) → n ≤ size old → list_of new n ≡ list_of old n
+  pub more : list_count old ≤ list_count new
+  pub few : list_count new ≤ list_count old + 1
+  pub kept : (n : ℕ) → n ≤ list_count old → list_of new n ≡ list_of old n

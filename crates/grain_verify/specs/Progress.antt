@@ -4,7 +4,7 @@ use Rattle.std.specs.List.{All, Contains, count_by}
 use Rattle.std.specs.Option.{is_some}
 use Rattle.grain_code.specs.Span.{Span}
 use Rattle.grain_code.specs.declared.op.Op.{Op}
-use Rattle.grain_verify.specs.Arrivals.{Coming, IsPlaced, coming, sent_by, view}
+use Rattle.grain_verify.specs.Arrivals.{Coming, IsAtOrdinal, coming, sent_by, view}
 use Rattle.grain_rules.specs.Accepted.{IsFramed}
 use Rattle.grain_rules.specs.Code.{Bytecode, coded}
 use Rattle.grain_rules.specs.Counts.{Counts, nothing}
@@ -12,7 +12,7 @@ use Rattle.grain_rules.specs.Effects.{Edge, after_jump, targets}
 use Rattle.grain_rules.specs.Flow.{Switches}
 use Rattle.grain_rules.specs.Rows.{flow_of}
 use Rattle.grain_verify.specs.Graph.{IsSearch, Path}
-use Rattle.grain_verify.specs.Lists.{IsShared, size}
+use Rattle.grain_verify.specs.Lists.{IsShared, list_count}
 use Rattle.grain_verify.specs.Meter.{AreReached, HasCounted, starts_within}
 use Rattle.grain_rules.specs.Typing.{IsInChunk, IsReachedCount, Passes}
 use Rattle.grain_verify.specs.Walk.{bytecode_of}
@@ -75,7 +75,7 @@ pub record Walking (code : Bytecode) (chunk : Span) (starts : List ℕ) (lists :
 
 -- a state names a list that there is
 abbrev pub NamesList : Lists → State → Type 0
-NamesList lists s = s.list ≤ size lists
+NamesList lists s = s.list ≤ list_count lists
 
 -- so does each of these
 abbrev pub NameLists : Lists → List (Option State) → Type 0
@@ -92,12 +92,12 @@ pub record KnowsLists (lists : Lists) (t : Traversal) (arrivals : List Arrival) 
   pub states : NameLists lists t.states
   pub sent : NameLists lists t.sent
   pub waiting : All (λ (a : Arrival). NamesList lists a.state) arrivals
-  pub few : size lists ≤ visits_in t.states
+  pub few : list_count lists ≤ visits_in t.states
 
 -- the same, in the variables of the walk
 pub record IsWalking (p : Prepared) (chunk : Span) (lists : Lists) (t : Traversal) (arrivals : List Arrival) (deepest : ℕ) : Type 0 where
   pub fits : Fits p t
-  pub placed : All (IsPlaced p.starts.starts chunk) arrivals
+  pub placed : All (IsAtOrdinal p.starts.starts chunk) arrivals
   pub known : KnowsLists lists t arrivals
   pub walking : Walking (bytecode_of p) chunk p.starts.starts lists t.states (sent_by lists t.sent) (map (coming lists) arrivals) deepest
 

@@ -1,7 +1,7 @@
 //! Pushing where an instruction may lead.
 ghost use Rattle.std.specs.Prelude.{◌≡◌, ◌<◌, ◌∷◌, ◌⊎◌, [], Some, get_or, length, map, slice_get, IfErr, IfNone, IfOk, IfSome, OnOk};
 ghost use Rattle.std.specs.List.{All};
-ghost use Rattle.grain_verify.specs.Arrivals.{IsPlaced, IsStartIn, Pushes, RefusesSwitch, RefusesTarget};
+ghost use Rattle.grain_verify.specs.Arrivals.{IsAtOrdinal, IsStartIn, Pushes, RefusesSwitch, RefusesTarget};
 ghost use Rattle.grain_verify.specs.Arrivals.{RefusesTargetOf, Sends, underway};
 ghost use Rattle.grain_rules.specs.Code.{switch_targets};
 ghost use Rattle.grain_rules.specs.Flow as flows;
@@ -46,7 +46,7 @@ pub(crate) fn arrival_at(
 ) -> Result<Arrival, VerifyError>
     ensures arrives { IfOk result (λ a. underway a ≡ record { at = target; state = after }) }
     ensures inside { OnOk result (IsStartIn starts.now.starts chunk.now target) }
-    ensures placed { IfOk result (IsPlaced starts.now.starts chunk.now) }
+    ensures placed { IfOk result (IsAtOrdinal starts.now.starts chunk.now) }
     ensures err { IfErr result (λ e.
         RefusesTargetOf starts.now.starts chunk.now at (target ∷ []) e) }
 {
@@ -139,8 +139,8 @@ pub(crate) fn push_table(
         (map switch_targets switches.now) (flows.Switches index) after
         sent.old sent.new (map underway work.old.items) (map underway work.new.items)) }
     ensures long { OnOk result (length sent.new ≡ length sent.old) }
-    ensures placed { All (IsPlaced starts.now.starts chunk.now) work.old.items
-        → OnOk result (All (IsPlaced starts.now.starts chunk.now) work.new.items) }
+    ensures placed { All (IsAtOrdinal starts.now.starts chunk.now) work.old.items
+        → OnOk result (All (IsAtOrdinal starts.now.starts chunk.now) work.new.items) }
     ensures err { IfErr result (λ e.
         RefusesTargetOf starts.now.starts chunk.now at
         (get_or (map switch_targets switches.now) index []) e

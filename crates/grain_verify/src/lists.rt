@@ -2,7 +2,7 @@
 ghost use Rattle.std.specs.Prelude.{◌≡◌, ◌+◌, ◌<◌, ◌≤◌, ◌^◌, ◌++◌, ◌∷◌, [], IfOk, OnOk, Some, length, slice_set};
 ghost use Rattle.std.specs.BTreeMap.{get, Updates};
 ghost use Rattle.grain_rules.specs.Counts.{last_base, without_last};
-ghost use Rattle.grain_verify.specs.Lists.{Grows, IsShared, as_base, first_on, firsts_of, list_of, node_cmp, size};
+ghost use Rattle.grain_verify.specs.Lists.{Grows, IsShared, as_base, first_on, firsts_of, list_of, node_cmp, list_count};
 
 use std::alloc::{AllocError, Global};
 use std::collections::BTreeMap;
@@ -42,7 +42,7 @@ impl Lists {
     /// No list but the empty one. It takes no memory.
     pub(crate) fn new(alloc: Global) -> Lists
         ensures shared { IsShared result }
-        ensures size { size result ≡ 0 }
+        ensures size { list_count result ≡ 0 }
     {
         Lists {
             nodes: Vec::new(alloc),
@@ -57,7 +57,7 @@ impl Lists {
     pub(crate) fn clear(&mut self)
         requires { IsShared self.old }
         ensures shared { IsShared self.new }
-        ensures size { size self.new ≡ 0 }
+        ensures size { list_count self.new ≡ 0 }
     {
         self.nodes.clear();
         self.first = 0;
@@ -72,10 +72,10 @@ impl Lists {
     #[inline(never)]
     pub(crate) fn with_base(&mut self, list: u32, base: Base) -> Result<u32, AllocError>
         requires shared { IsShared self.old }
-        requires list { list ≤ size self.old }
-        requires room { size self.old + 1 < 2 ^ 32 }
+        requires list { list ≤ list_count self.old }
+        requires room { list_count self.old + 1 < 2 ^ 32 }
         ensures grows { OnOk result (Grows self.old self.new) }
-        ensures list { IfOk result (λ n. (n ≤ size self.new)
+        ensures list { IfOk result (λ n. (n ≤ list_count self.new)
             × (list_of self.new n ≡ as_base base ∷ list_of self.old list)) }
     {
         let node = Node { parent: list, base };
@@ -125,11 +125,11 @@ impl Lists {
 
     /// Adds a node, and answers the number of its list, on which none lies yet.
     fn add(&mut self, node: Node) -> Result<u32, AllocError>
-        requires { size self.old + 1 < 2 ^ 32 }
+        requires { list_count self.old + 1 < 2 ^ 32 }
         ensures nodes { OnOk result (self.new.nodes.items ≡ self.old.nodes.items ++ node ∷ []) }
         ensures firsts { OnOk result (firsts_of self.new ≡ firsts_of self.old ++ 0 ∷ []) }
         ensures others { self.new.others ≡ self.old.others }
-        ensures number { IfOk result (λ n. n ≡ size self.old + 1) }
+        ensures number { IfOk result (λ n. n ≡ list_count self.old + 1) }
     {
         self.nodes.push(node)?;
         self.firsts.push(0)?;
@@ -140,8 +140,8 @@ impl Lists {
     #[inline(always)]
     pub(crate) fn without_last(&self, list: u32) -> u32
         requires shared { IsShared self.now }
-        requires list { list ≤ size self.now }
-        ensures within { result ≤ size self.now }
+        requires list { list ≤ list_count self.now }
+        ensures within { result ≤ list_count self.now }
         ensures list { list_of self.now result ≡ without_last (list_of self.now list) }
     {
         if list == 0 {
@@ -154,7 +154,7 @@ impl Lists {
     #[inline(always)]
     pub(crate) fn last_base(&self, list: u32) -> Base
         requires shared { IsShared self.now }
-        requires list { list ≤ size self.now }
+        requires list { list ≤ list_count self.now }
         ensures { as_base result ≡ last_base (list_of self.now list) }
     {
         if list == 0 {

@@ -5,7 +5,7 @@ ghost use Rattle.grain_code.specs.declared.op.Op.{Op};
 ghost use Rattle.grain_verify.specs.Arrivals.{view};
 ghost use Rattle.grain_rules.specs.Counts.{last_base};
 ghost use Rattle.grain_verify.specs.FlowView.{IsMetBy, IsShort, flow};
-ghost use Rattle.grain_verify.specs.Lists.{IsShared, as_base, size};
+ghost use Rattle.grain_verify.specs.Lists.{IsShared, as_base, list_count};
 ghost use Rattle.grain_rules.specs.Setting.{Setting};
 ghost use Rattle.grain_rules.specs.Sinking.{ReachesUpTo, Stays, untouched};
 ghost use Rattle.grain_verify.specs.Operands.{stack_effect};
@@ -57,7 +57,7 @@ pub(crate) fn check_stays(
 ) -> Result<(), VerifyError>
     requires known { (op : Op) × Instr (instruction.now.tag ∷ instruction.now.fields.now) op }
     requires shared { IsShared lists.now }
-    requires list { here.state.list ≤ size lists.now }
+    requires list { here.state.list ≤ list_count lists.now }
     requires operands { effect.needs ≤ here.state.operands }
     ensures stays { (s : Setting) (op : Op)
         → Instr (instruction.now.tag ∷ instruction.now.fields.now) op

@@ -2,7 +2,7 @@
 ghost use Rattle.std.specs.Prelude.{◌≡◌, ◌≢◌, ◌+◌, ◌-◌, ◌<◌, ◌≤◌, ◌^◌, IfErr, IfOk, IsTrue, OnOk};
 ghost use Rattle.grain_verify.specs.Arrivals.{view};
 ghost use Rattle.grain_rules.specs.Counts.{armed, last_base, without_last};
-ghost use Rattle.grain_verify.specs.Lists.{Grows, IsShared, list_of, size};
+ghost use Rattle.grain_verify.specs.Lists.{Grows, IsShared, list_of, list_count};
 ghost use Rattle.grain_verify.specs.Plain.{IsFloor};
 ghost use Rattle.grain_rules.specs.Sinking.{ReachesUpTo};
 
@@ -115,11 +115,11 @@ impl State {
     #[inline(always)]
     pub(crate) fn with_handler(self, lists: &mut Lists) -> Result<State, AllocError>
         requires shared { IsShared lists.old }
-        requires list { self.list ≤ size lists.old }
-        requires room { size lists.old + 1 < 2 ^ 32 }
+        requires list { self.list ≤ list_count lists.old }
+        requires room { list_count lists.old + 1 < 2 ^ 32 }
         ensures grows { OnOk result (Grows lists.old lists.new) }
         ensures same { IfOk result (λ s. s ≡ record self { list = s.list }) }
-        ensures list { IfOk result (λ s. (s.list ≤ size lists.new)
+        ensures list { IfOk result (λ s. (s.list ≤ list_count lists.new)
             × (list_of lists.new s.list ≡ armed (view lists.old self))) }
     {
         let base = Base {
@@ -137,9 +137,9 @@ impl State {
     #[inline(always)]
     pub(crate) fn without_handler(self, at: u32, lists: &Lists) -> Result<State, VerifyError>
         requires shared { IsShared lists.now }
-        requires list { self.list ≤ size lists.now }
+        requires list { self.list ≤ list_count lists.now }
         ensures same { IfOk result (λ s. (0 < self.list) × (s ≡ record self { list = s.list })) }
-        ensures list { IfOk result (λ s. (s.list ≤ size lists.now)
+        ensures list { IfOk result (λ s. (s.list ≤ list_count lists.now)
             × (list_of lists.now s.list ≡ without_last (list_of lists.now self.list))) }
         ensures err { IfErr result (λ e. (e ≡ VerifyError.HandlerUnderflow at)
             × (self.list ≡ 0)) }
@@ -158,7 +158,7 @@ impl State {
     #[inline(always)]
     pub(crate) fn floor(self, lists: &Lists) -> u64
         requires shared { IsShared lists.now }
-        requires list { self.list ≤ size lists.now }
+        requires list { self.list ≤ list_count lists.now }
         ensures small { result ≤ 2 ^ 32 }
         ensures floor { IsFloor lists.now self result }
     {

@@ -12,7 +12,7 @@ ghost use Rattle.grain_rules.specs.Capabilities.{Allows};
 ghost use Rattle.grain_rules.specs.Code.{coded};
 ghost use Rattle.grain_rules.specs.Rows.{caps_of, needs};
 ghost use Rattle.grain_verify.specs.FlowView.{IsFollowed, IsMetBy, RefusesFlow, flow};
-ghost use Rattle.grain_verify.specs.Lists.{Grows, IsShared, size};
+ghost use Rattle.grain_verify.specs.Lists.{Grows, IsShared, list_count};
 ghost use Rattle.grain_verify.specs.Meter.{starts_within};
 ghost use Rattle.grain_verify.specs.Plain.{GoesOn, IsFloor};
 ghost use Rattle.grain_verify.specs.Progress.{Fits, HaltsAt, IsWalking, visits_in, weight};
@@ -169,8 +169,8 @@ impl Prepared<'_> {
         requires room { here.at + width < 2 ^ 32 }
         requires ordinal_room { here.ordinal + 1 < 2 ^ 64 }
         requires shared { IsShared lists.old }
-        requires list { here.state.list ≤ size lists.old }
-        requires lists_room { size lists.old + 1 < 2 ^ 32 }
+        requires list { here.state.list ≤ list_count lists.old }
+        requires lists_room { list_count lists.old + 1 < 2 ^ 32 }
         ensures met { OnOk result
             (IsMetBy (flow effect.flow effect.target) (view lists.old here.state)) }
         ensures grows { OnOk result (Grows lists.old lists.new) }

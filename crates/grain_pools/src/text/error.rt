@@ -38,9 +38,9 @@ impl<T: Drop> From<AllocFailed<T>> for DisassembleError {
 
 impl fmt::Display for DisassembleError {
     ghost use Rattle.std.specs.Prelude.{Some};
-    ghost use Rattle.grain_pools.specs.LookedUp.{text_of};
+    ghost use Rattle.grain_pools.specs.LookedUp.{disassemble_error_text};
 
-    ghost output = { λ error. Some (text_of error) };
+    ghost output = { λ error. Some (disassemble_error_text error) };
 
     fn fmt<W: fmt::Write>(&self, f: &mut fmt::Formatter<W>) -> fmt::Result {
         match self {

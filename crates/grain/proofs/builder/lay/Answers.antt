@@ -3,7 +3,7 @@ use Rattle.std.specs.List.{All}
 use Rattle.std.proofs.Math.ListN.{get_or-map}
 use Rattle.std.proofs.lemmas.List.{length-map}
 use Rattle.std.proofs.lemmas.Result.{err_from_is_err_and}
-use Rattle.grain_pools.specs.Dispatch.{Fits, IsFirstPast, arms}
+use Rattle.grain_pools.specs.Dispatch.{AreWithin, IsFirstPast, arms}
 use Rattle.grain_pools.specs.declared.error.AssembleError.{AssembleError}
 use Rattle.grain_pools.specs.declared.switch.Switch.{Switch}
 use Rattle.grain.specs.Build.{BuildFlaw, draft, of_assemble, span_of}
@@ -52,7 +52,7 @@ place-main-requires-clause-inside c =
 pub returns-clause-lays : goal.returns-clause-lays
 returns-clause-lays c =
     let count = ap (λ (xs : List ℕ). length xs) c.deref.ensures.value ∙ offset_count c.args.ops.now c.in_ok-code.code.items c.in_ok-code.offsets.items c.in_ok-code.ensures.assembly in
-    let fits = subst (All (λ (s : Switch). Fits (length c.deref.result.now) (arms s))) c.deref_mut.ensures.value c.in_ok-resolve_switch_targets.ensures.fits in
+    let fits = subst (All (λ (s : Switch). AreWithin (length c.deref.result.now) (arms s))) c.deref_mut.ensures.value c.in_ok-resolve_switch_targets.ensures.fits in
     record {
       cuts = c.requires.inside;
       ops = c.in_ok-code.ensures.only;

@@ -4,7 +4,7 @@ use Rattle.std.proofs.lemmas.Iterator.{YieldsList-from_slice, YieldsList-from_zi
 use Rattle.std.proofs.lemmas.Iterator.Adapters.{YieldsList-from_vec}
 use Rattle.std.proofs.lemmas.Iterator.Consumers.{YieldsList-end, YieldsList-turn}
 use Rattle.grain.specs.Build.{span_of}
-use Rattle.grain_rules.specs.ByIndex.{moved}
+use Rattle.grain_rules.specs.ByIndex.{span_moved}
 use Rattle.grain.proofs.Laying.{cut_there, cuts_listed, heads_listed}
 use Rattle.grain.proofs.builder.place_functions.Goals as goal
 
@@ -28,7 +28,7 @@ pub returns-clause-chunks : goal.returns-clause-chunks
 returns-clause-chunks c =
     let heads = c.args.heads.items in
     let cuts = c.args.cuts.now in
-    let place = moved (slice_index c.args.offsets.now) in
+    let place = span_moved (slice_index c.args.offsets.now) in
     c.loop-head.invariant.chunks
     ∙ cuts_listed heads cuts c.requires.count (λ cut. place (span_of cut)) c.loop-head.yielded
     (YieldsList-end (YieldsList-from_zip (YieldsList-from_vec heads (cc) (cc)) (YieldsList-from_slice cuts (cc))) c.loop-head.yielded c.loop-head.head-iterator c.loop-head.yielded_by

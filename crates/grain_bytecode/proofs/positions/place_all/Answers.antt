@@ -16,7 +16,8 @@ pub loop-at-preserved : goal.loop-at-preserved
 loop-at-preserved c =
     let one : c.from-matched.result ≡ cond c.place.result 1 0 = search rules in
     let placed = place_of_table _ _ _ _ _ _ _ _ _ c.loop-at.invariant.1 c.entry_from-next.ensures c.place.ensures in
-    let walked = walked_more c.args.table.now c.args.code.now c.loop-at.at c.loop-at.matched _ _ _ c.place.result c.loop-at.invariant.0 c.loop-at-test.true c.place.auto.positions placed c.in-Some.ensures.found c.in-Some.ensures.fits in
+    let walked = walked_more c.args.table.now c.args.code.now c.loop-at.at c.loop-at.matched _ _ _ c.place.result c.loop-at.invariant.0 c.loop-at-test.true c.place.auto.positions placed
+    c.in-Some.ensures.found c.in-Some.ensures.fits in
     rw one (walked, abreast_on _ c.loop-at.at _ _ _ (omega arith) (abreast_from _ _ _ _ _ _ c.loop-at.invariant.1 c.entry_from-next.ensures))
 
 pub returns : goal.returns

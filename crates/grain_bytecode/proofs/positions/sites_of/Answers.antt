@@ -2,7 +2,7 @@ use Rattle.std.proofs.Common.{◌≡◌, ◌≤◌, ◌^◌, ◌∙◌, ◌∷�
 use Rattle.std.proofs.lemmas.List.{take_all}
 use Rattle.grain_base.specs.AddressTable.{Entry}
 use Rattle.grain_base.specs.Place.{place_of, line_of, column_of}
-use Rattle.grain_bytecode.specs.Positions.{entries_of}
+use Rattle.grain_bytecode.specs.Positions.{entries_at_places}
 use Rattle.grain_bytecode.proofs.Entering.{with_line, without_line, too_high, fits_or_not}
 use Rattle.grain_bytecode.proofs.positions.sites_of.Goals as goal
 
@@ -15,7 +15,7 @@ overflow_cast-at c =
     let list = c.args.positions.now in
     let at = c.loop-at.at in
     let some = subst (λ p. Some c.in-Some.line ≡ line_of p) c.index-positions-at.is c.in-Some.ensures.value in
-    let low : ¬ (2 ^ 32 ≤ at) = λ high. fits_or_not (entries_of (Some (map place_of list))) c.requires (too_high list at c.index-positions-at.result c.in-Some.line (omega arith) some high) in
+    let low : ¬ (2 ^ 32 ≤ at) = λ high. fits_or_not (entries_at_places (Some (map place_of list))) c.requires (too_high list at c.index-positions-at.result c.in-Some.line (omega arith) some high) in
     omega (arith, low)
 
 pub loop-at-preserved : goal.loop-at-preserved
@@ -30,7 +30,7 @@ loop-at-preserved c =
     let same : pushed ≡ due = ap (λ n. (at, record { line = line; column = n })) column in
     let all = with_line list at item line (omega arith) (subst (λ p. Some line ≡ line_of p) c.index-positions-at.is c.in-Some.ensures.value) in
     c.in_ok-push.ensures.items ∙ ap (λ items. items ++ pushed ∷ []) c.loop-at.invariant
-    ∙ ap (λ e. entries_of (Some (map place_of (take at list))) ++ e ∷ []) same ∙ sym all
+    ∙ ap (λ e. entries_at_places (Some (map place_of (take at list))) ++ e ∷ []) same ∙ sym all
 
 pub returns : goal.returns
-returns c = c.loop-at.invariant ∙ ap (λ list. entries_of (Some (map place_of list))) (take_all c.loop-at.at c.args.positions.now (omega arith))
+returns c = c.loop-at.invariant ∙ ap (λ list. entries_at_places (Some (map place_of list))) (take_all c.loop-at.at c.args.positions.now (omega arith))

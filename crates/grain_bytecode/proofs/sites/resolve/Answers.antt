@@ -17,7 +17,8 @@ slots-init c =
     ([], slots_none _ c.in-Ok.count c.u32.new.at (begins_at _ _ _ _ c.in-Ok.ensures.found fits) c.in-Ok.ensures.found.0)
 
 pub returns-in_default-next_slot : goal.returns-in_default-next_slot
-returns-in_default-next_slot c = nothing_recorded c.args.stream.now c.args.slot _ refl (λ site. broken_before _ _ c.slots._turn c.args.slot c.slots.at _ _ site c.slots.invariant.1 (omega arith) c.in_default-next_slot.ensures.err)
+returns-in_default-next_slot c =
+    nothing_recorded c.args.stream.now c.args.slot _ refl (λ site. broken_before _ _ c.slots._turn c.args.slot c.slots.at _ _ site c.slots.invariant.1 (omega arith) c.in_default-next_slot.ensures.err)
 
 pub slots-preserved : goal.slots-preserved
 slots-preserved c =

@@ -4,7 +4,7 @@ use Rattle.std.proofs.lemmas.List.{map-set, get_or-map, length-map}
 use Rattle.std.proofs.lemmas.List.Edits.{map_over_more}
 use Rattle.std.proofs.lemmas.List.Elements.{AllWithin-more, at_read}
 use Rattle.grain_pools.specs.declared.switch.Switch.{Switch}
-use Rattle.grain_pools.specs.Dispatch.{Arms, arms, targets, first_past, resolved, Fits}
+use Rattle.grain_pools.specs.Dispatch.{Arms, arms, arm_targets, first_past, resolved, AreWithin}
 use Rattle.grain_pools.proofs.Past.{past_none, past_some}
 use Rattle.grain_pools.proofs.switch.resolve_switch_targets.Goals as goal
 
@@ -14,8 +14,8 @@ loop-table-preserved c =
     let i = c.loop-table.table in
     let item = c.switch-item.result in
     let inside : i < length c.args.switches.now = omega arith in
-    let fits : Fits n (arms item) = past_none n (targets (arms item)) (search rules) in
-    AllWithin-more (λ s. Fits n (arms s)) c.args.switches.now 0 i c.loop-table.invariant (at_read c.args.switches.now (λ s. Fits n (arms s)) i item inside c.switch-item.is fits)
+    let fits : AreWithin n (arms item) = past_none n (arm_targets (arms item)) (search rules) in
+    AllWithin-more (λ s. AreWithin n (arms s)) c.args.switches.now 0 i c.loop-table.invariant (at_read c.args.switches.now (λ s. AreWithin n (arms s)) i item inside c.switch-item.is fits)
 
 pub returns-in-Some-clause-err : goal.returns-in-Some-clause-err
 returns-in-Some-clause-err c =
@@ -24,9 +24,9 @@ returns-in-Some-clause-err c =
     let n = length c.args.offsets.now in
     let item = c.switch-item.result in
     let inside : i < length c.args.switches.now = omega arith in
-    let is : first_past n (targets (arms item)) ≡ Some t = search rules in
-    let found : Contains (targets (arms item)) t × (n ≤ t) = past_some n t (targets (arms item)) is in
-    (refl, (i, t, refl, record { before = c.loop-table.invariant; inside = inside; here = at_read c.args.switches.now (λ s. Contains (targets (arms s)) t) i item inside c.switch-item.is found.0; past = found.1 }))
+    let is : first_past n (arm_targets (arms item)) ≡ Some t = search rules in
+    let found : Contains (arm_targets (arms item)) t × (n ≤ t) = past_some n t (arm_targets (arms item)) is in
+    (refl, (i, t, refl, record { before = c.loop-table.invariant; inside = inside; here = at_read c.args.switches.now (λ s. Contains (arm_targets (arms s)) t) i item inside c.switch-item.is found.0; past = found.1 }))
 
 pub loop-switch-preserved : goal.loop-switch-preserved
 loop-switch-preserved c =

@@ -1,6 +1,6 @@
 use Rattle.std.proofs.Common.{ℕ, subst}
 use Rattle.std.specs.Prelude.{slice_index}
-use Rattle.grain_rules.specs.ByIndex.{listed}
+use Rattle.grain_rules.specs.ByIndex.{code_by_index}
 use Rattle.grain_rules.specs.Typing.{Reached}
 use Rattle.grain_rules.proofs.Offsets.{apart}
 use Rattle.grain_rules.proofs.Transport.{deepest_here, deepest_there, reached_here, reached_there, typed_here, typed_there}
@@ -15,7 +15,7 @@ returns-clause-reached h s all switches code offsets made can fit cut i c part l
   reached_there s all switches code offsets made can fit cut part.inside i c,
   λ r. (
       let k = reached_here s all switches code offsets made can fit cut part (slice_index offsets i) c r in
-      subst (λ (j : ℕ). Reached (listed s all switches) cut j c) (apart all code offsets made k.0 i k.1 l k.2) k.3
+      subst (λ (j : ℕ). Reached (code_by_index s all switches) cut j c) (apart all code offsets made k.0 i k.1 l k.2) k.3
       ),
 )
 

@@ -10,7 +10,7 @@ use Rattle.grain_pools.specs.declared.chain.Chain.{Chain}
 use Rattle.grain_bytecode.specs.declared.positions.TableError.TheVariants as table_error
 use Rattle.grain_bytecode.proofs.Streams.{one_stream}
 use Rattle.grain.specs.Program.{Program}
-use Rattle.grain.specs.Sidecars.{SidecarFlaw, Reads}
+use Rattle.grain.specs.Sidecars.{SidecarFlaw, ReadsPlaces}
 use Rattle.grain.specs.Slots.{drawn}
 use Rattle.grain.proofs.Attaching.{equal_counts, one_count, only_memory, places_listed, reads_of}
 use Rattle.grain.proofs.Drawing.{drawn_all}
@@ -84,7 +84,7 @@ returns-clause-attached c =
     record {
       slots = sites.items;
       belongs = record {
-        reads = subst (Reads old s) (places_listed c.in_ok-positions.positions) reads;
+        reads = subst (ReadsPlaces old s) (places_listed c.in_ok-positions.positions) reads;
         stream = subst (λ bytes. Stream bytes sites.items) c.deref-3.ensures.value c.in_ok-sites.ensures.ok;
         counted = counted;
       };

@@ -12,7 +12,8 @@ overflow_cast-len-in-loop-name c =
     let i = c.loop-name.name-index in
     let ns = c.args.names.now in
     let inside : i < length ns = omega arith in
-    let bytes : c.extend_from_slice.new.self.items ≡ concat (texts (take i ns)) ++ (slice_index_or ns i no_name).now = rw (c.as_bytes.ensures.value, c.loop-name.invariant.blob_is) at c.in_ok-extend_from_slice.ensures.items in
+    let bytes : c.extend_from_slice.new.self.items ≡ concat (texts (take i ns)) ++ (slice_index_or ns i no_name).now = rw (c.as_bytes.ensures.value, c.loop-name.invariant.blob_is) at
+    c.in_ok-extend_from_slice.ensures.items in
     omega (arith, ap length bytes, length-append (concat (texts (take i ns))) (slice_index_or ns i no_name).now, front_more ns i no_name inside, front_texts_le ns (i + 1), c.in-Some.ensures.some)
 
 pub loop-name-preserved : goal.loop-name-preserved
