@@ -1,6 +1,6 @@
 """The instruction table of docs/FORMAT.md beside the definitions, cell by cell.
 
-A row is made from `form` (crates/grain_code/specs/InstructionTable.antt), `row` (crates/grain_rules/specs/Rows.antt), the
+A row is made from `encoding` (crates/grain_code/specs/InstructionTable.antt), `row` (crates/grain_rules/specs/Rows.antt), the
 constants of crates/grain_code/src/tag.rt and the fields of `Op` (crates/grain_code/src/op.rt). What is written there in
 another form than these files have now isn't read, and then said to differ.
 """
@@ -10,8 +10,8 @@ import re
 TOP = pathlib.Path(__file__).resolve().parent.parent
 HEADER = ["Tag", "Constant", "Fields", "Width", "`Op`", "Operands", "Asks", "Flow", "Quiet"]
 LETTERS = {
-    "constant": "c", "name": "n", "operator": "t", "op_assignment": "o", "fragment": "f", "chain": "h", "switch": "w",
-    "syntax_site": "y", "Slot": "s", "Count": "a", "Target": "j",
+    "Index Constants": "c", "Index Names": "n", "Index Operators": "t", "Index OpAssignments": "o", "Index Fragments": "f",
+    "Index Chains": "h", "Index Switches": "w", "Index SyntaxSites": "y", "Slot": "s", "Count": "a", "Target": "j",
 }
 SIZES = {"a": 1, "j": 4}
 FLOWS = {
@@ -82,7 +82,7 @@ def op_cell(name, arguments, fields):
 
 
 def written(argument, letters):
-    """An argument of `form`'s pattern: a letter, a word, or `any` where it isn't written."""
+    """An argument of `encoding`'s pattern: a letter, a word, or `any` where it isn't written."""
     parts = argument.replace("receiver.", "").split(" ", 1)
     if argument in letters:
         return letters[argument]
@@ -107,8 +107,8 @@ def asked(text):
 
 def cells(names, fields, rules, text, body):
     name, arguments = pattern(text)
-    tag, list_ = re.fullmatch(r"\(0x(\w+), (.*)\)", body).groups()
-    items = [item.split(" ") for item in list_.split(" ∷ ")[:-1]]
+    tag, list_, unwritten = re.fullmatch(r"\(0x(\w+), (\[\]|.*? ∷ \[\]), (.*)\)", body).groups()
+    items = [item.rsplit(" ", 1) for item in list_.split(" ∷ ")[:-1]]
     letters = {variable: LETTERS[kind] for kind, variable in items}
     kinds = [LETTERS[kind] for kind, _ in items]
     [(rule, does)] = [(rule, does) for rule, does in rules if matches(pattern(rule), (name, arguments))]
@@ -118,6 +118,8 @@ def cells(names, fields, rules, text, body):
         own.setdefault(mine, letters.get(theirs, theirs))
     counts = [number(count, own) for count in (needs, takes, gives)]
     op = [written(argument, letters) for argument in arguments]
+    decoded = dict(re.findall(r"\((\w+), (\w+)\)", unwritten))
+    op = [decoded.get(argument, said) for argument, said in zip(arguments, op)]
     width = 1 + sum(SIZES.get(kind, 2) for kind in kinds)
     return [
         tag, names.get(int(tag, 16), ""), " ".join(kinds), str(width), op_cell(name, op, fields[name]),
@@ -131,7 +133,7 @@ def table():
     names = {int(value, 16): name for name, value in re.findall(r"pub const (\w+): u8 = 0x(\w+);", text)}
     fields = op_fields()
     rules = list(clauses("grain_rules/specs/Rows.antt", "row"))
-    made = [cells(names, fields, rules, text, body) for text, body in clauses("grain_code/specs/InstructionTable.antt", "form")]
+    made = [cells(names, fields, rules, text, body) for text, body in clauses("grain_code/specs/InstructionTable.antt", "encoding")]
     return sorted(made)
 
 

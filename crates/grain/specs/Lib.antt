@@ -57,3 +57,4 @@ pub use Rattle.grain_rules.specs.Texts
 pub use Rattle.grain_rules.specs.Typing
 pub use Rattle.grain_rules.specs.Verdict
 pub use Rattle.grain_verify.specs.Meter
+pub use Rattle.grain_verify.specs.Refusals

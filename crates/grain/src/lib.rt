@@ -25,10 +25,11 @@ pub use grain_bytecode::{
     AssembleError, AssignOp, BadTable, Chain, ChainPositions, Chunk, DisassembleError, Disassembly,
     Field, Function, Head as InstructionHead, Instruction, Lookups, Names, Op, Pool, Positions,
     Receiver, Root, Starts, Step, StepFlags, Strings, StringsError, StripError, Switch,
-    SwitchRange, TableError, Tail, assemble, count_instructions, decode, disassemble, names,
-    resolve_switch_targets, site_to_position, sites, tag, u16_at, u32_at, width,
+    SwitchRange, TableError, TagFlow, TagRow, Tail, assemble, count_instructions, decode,
+    disassemble, names, resolve_switch_targets, site_to_position, sites, tag, tag_row, u16_at,
+    u32_at, width,
 };
 pub use grain_rules::{Pools, VerifyError, constant_caps};
-pub use grain_verify::{Meter, is_quiet, verify, verify_metered};
+pub use grain_verify::{Meter, Refusal, is_quiet, verify, verify_metered, verify_placed};
 pub use program::{Parts, Program};
 pub use sidecar::Sidecar;

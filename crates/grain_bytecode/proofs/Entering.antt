@@ -85,7 +85,8 @@ any_high at [] i d line inside some high = absurd (omega arith)
 any_high at (p ∷ list) zero d line inside some high = rw (somewhere p line some) (0, (at, record { line = line; column = unwrap_or (column_of p) 0 }), omega arith, refl, omega arith)
 any_high at (p ∷ list) (suc i) d line inside some high = any_more (entry_of (at, place_of p)) (entries_from (at + 1) list) (any_high (at + 1) list i d line (omega arith) some (omega arith))
 
-pub too_high : (list : List Position) (i : ℕ) (d : Position) (line : ℕ) → i < length list → Some line ≡ line_of (get_or list i d) → 2 ^ 32 ≤ i → Any (λ entry. 2 ^ 32 ≤ entry.0) (entries_at_places (Some (map place_of list)))
+pub too_high : (list : List Position) (i : ℕ) (d : Position) (line : ℕ) → i < length list → Some line ≡ line_of (get_or list i d) → 2 ^ 32 ≤ i
+    → Any (λ entry. 2 ^ 32 ≤ entry.0) (entries_at_places (Some (map place_of list)))
 too_high list i d line inside some high = any_high 0 list i d line inside some (omega arith)
 
 -- no address both fits and doesn't

@@ -229,7 +229,8 @@ pub one_stream : (bytes : List ℕ) (slots other : List (Option Site)) → Strea
 one_stream bytes slots other a b = let e = sym (stream_answer bytes slots a) ∙ stream_answer bytes other b in cc
 
 -- Numbers that can't be read, where a slot's would have to be.
-pub unrecorded : (stream : List ℕ) (numbers left : List ℕ) (error : NumberError) (slot : ℕ) (site : Site) → BeginsNumbers stream numbers left → length numbers < 2 * slot + 3 → U32Flaw left error → Records stream slot site → ⊥
+pub unrecorded : (stream : List ℕ) (numbers left : List ℕ) (error : NumberError) (slot : ℕ) (site : Site) → BeginsNumbers stream numbers left → length numbers < 2 * slot + 3 → U32Flaw left error
+    → Records stream slot site → ⊥
 unrecorded stream numbers left error slot site read few flaw records =
     let all = records.count ∷ records.before ++ site.line ∷ site.column ∷ [] in
     let long : length all ≡ 2 * slot + 3 = omega (arith, length-append records.before (site.line ∷ site.column ∷ []), records.place) in
@@ -243,7 +244,8 @@ behind_first : (m n : ℕ) (ms ns : List ℕ) → m ∷ ms ≡ n ∷ ns → ms �
 behind_first m n ms ns e = cc
 
 -- the slots before it were read
-pub recorded : (stream : List ℕ) (count slot at after line column : ℕ) (sites : List (Option Site)) → Slots stream count slot at sites → slot < count → BeginsNumbers (drop at stream) (line ∷ column ∷ []) (drop after stream)
+pub recorded : (stream : List ℕ) (count slot at after line column : ℕ) (sites : List (Option Site)) → Slots stream count slot at sites → slot < count
+    → BeginsNumbers (drop at stream) (line ∷ column ∷ []) (drop after stream)
     → (site : Site) → (site_of line column ≡ Some site) ↔ Records stream slot site
 recorded stream count slot at after line column sites slots inside read site = (there, back) where
   all : BeginsNumbers stream (count ∷ slots.numbers ++ line ∷ column ∷ []) (drop after stream)

@@ -1,13 +1,14 @@
 -- Canonical forms, and operations whose targets are mapped.
 use Rattle.std.proofs.Common.{◌≡◌, ℕ, ◌+◌, true, false, List, Some, None, [], ◌∷◌, map, refl, sym, ap, ◌∙◌}
 use Rattle.std.specs.Prelude.{sum_by, slice_index}
+use Rattle.std.specs.List.{AllByRecursion}
 use Rattle.std.proofs.lemmas.List.Sums.{sum_by-cons}
 use Rattle.grain_code.specs.declared.op.Op.{Op}
 use Rattle.grain_code.specs.declared.op.Op.TheVariants as ops
 use Rattle.grain_code.specs.declared.op.Receiver.TheVariants as receiver
 use Rattle.grain_code.specs.declared.field.Field.{Field}
 use Rattle.grain_code.specs.declared.field.Field.TheVariants.{Target}
-use Rattle.grain_code.specs.InstructionTable.{size_of, form, canon, width_of}
+use Rattle.grain_code.specs.InstructionTable.{IsDecoded, encoding, size_of, form, canon, width_of}
 use Rattle.grain_code.specs.Fields.{moved}
 use Rattle.grain_code.specs.Assembly.{retarget, assembled}
 
@@ -18,6 +19,58 @@ canon_twice (ops.CallFnPtr a false capture None) = refl
 canon_twice (ops.DeclareLocal n false is_global) = refl
 canon_twice (ops.DeclareLocal n true is_global) = refl
 canon_twice op = refl
+
+-- flags that aren't written have in a canonical form the values with which they are decoded
+pub canon_decoded : (op : Op) → AllByRecursion IsDecoded (encoding (canon op)).2
+canon_decoded (ops.Call n a None capture) = (refl, tt)
+canon_decoded (ops.Call n a (Some t) capture) = (refl, tt)
+canon_decoded (ops.CallRef n a (receiver.Local s) capture) = (refl, tt)
+canon_decoded (ops.CallRef n a (receiver.Named s) capture) = (refl, tt)
+canon_decoded (ops.CallRef n a receiver.This capture) = (refl, tt)
+canon_decoded (ops.CallFnPtr a is_method capture (Some (receiver.Local s))) = (refl, (refl, tt))
+canon_decoded (ops.CallFnPtr a is_method capture (Some (receiver.Named s))) = (refl, (refl, tt))
+canon_decoded (ops.CallFnPtr a is_method capture (Some receiver.This)) = (refl, (refl, tt))
+canon_decoded (ops.CallFnPtr a true capture None) = (refl, tt)
+canon_decoded (ops.DeclareLocal n false is_global) = (refl, tt)
+canon_decoded (ops.Bool false) = tt
+canon_decoded (ops.Bool true) = tt
+canon_decoded (ops.StoreLocal s false) = tt
+canon_decoded (ops.StoreLocal s true) = tt
+canon_decoded (ops.AssignLocal s n None) = tt
+canon_decoded (ops.AssignLocal s n (Some o)) = tt
+canon_decoded (ops.DeclareLocal n true false) = tt
+canon_decoded (ops.DeclareLocal n true true) = tt
+canon_decoded (ops.EvalAst f false) = tt
+canon_decoded (ops.EvalAst f true) = tt
+canon_decoded (ops.AssignNamed n None) = tt
+canon_decoded (ops.AssignNamed n (Some o)) = tt
+canon_decoded (ops.IterNext j None) = tt
+canon_decoded (ops.IterNext j (Some s)) = tt
+canon_decoded (ops.PushHandler j None) = tt
+canon_decoded (ops.PushHandler j (Some n)) = tt
+canon_decoded (ops.CallFnPtr a false false None) = tt
+canon_decoded (ops.CallFnPtr a false true None) = tt
+canon_decoded (ops.CheckSize s false) = tt
+canon_decoded (ops.CheckSize s true) = tt
+canon_decoded (ops.AssignThis None) = tt
+canon_decoded (ops.AssignThis (Some o)) = tt
+canon_decoded op = tt
+
+-- and where they have, the operation is its own canonical form
+pub canon_same : (op : Op) → AllByRecursion IsDecoded (encoding op).2 → canon op ≡ op
+canon_same (ops.Call n a None capture) h = ap (ops.Call n a None) (sym h.0)
+canon_same (ops.Call n a (Some t) capture) h = ap (ops.Call n a (Some t)) (sym h.0)
+canon_same (ops.CallRef n a (receiver.Local s) capture) h = ap (ops.CallRef n a (receiver.Local s)) (sym h.0)
+canon_same (ops.CallRef n a (receiver.Named s) capture) h = ap (ops.CallRef n a (receiver.Named s)) (sym h.0)
+canon_same (ops.CallRef n a receiver.This capture) h = ap (ops.CallRef n a receiver.This) (sym h.0)
+canon_same (ops.CallFnPtr a is_method capture (Some (receiver.Local s))) h = λ i. ops.CallFnPtr a (sym h.0 i) (sym h.1.0 i) (Some (receiver.Local s))
+canon_same (ops.CallFnPtr a is_method capture (Some (receiver.Named s))) h = λ i. ops.CallFnPtr a (sym h.0 i) (sym h.1.0 i) (Some (receiver.Named s))
+canon_same (ops.CallFnPtr a is_method capture (Some receiver.This)) h = λ i. ops.CallFnPtr a (sym h.0 i) (sym h.1.0 i) (Some receiver.This)
+canon_same (ops.CallFnPtr a true capture None) h = λ i. ops.CallFnPtr a true (sym h.0 i) None
+canon_same (ops.DeclareLocal n false is_global) h = ap (ops.DeclareLocal n false) (sym h.0)
+canon_same (ops.CallFnPtr a false capture None) h = refl
+canon_same (ops.DeclareLocal n true is_global) h = refl
+canon_same op h = refl
 
 -- the canonical form is written alike
 pub form_canon : (op : Op) → form (canon op) ≡ form op

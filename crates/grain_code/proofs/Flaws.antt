@@ -7,9 +7,11 @@ use Rattle.grain_code.specs.declared.op.Op.{Op}
 use Rattle.grain_code.specs.declared.op.Op.TheVariants as ops
 use Rattle.grain_code.specs.declared.op.Receiver.TheVariants as receiver
 use Rattle.grain_code.specs.declared.field.Field.{Field}
+use Rattle.grain_code.specs.declared.field.Field.TheVariants.{Index}
+use Rattle.grain_code.specs.declared.field.Pool.TheVariants.{Names}
 use Rattle.grain_pools.specs.declared.error.AssembleError.{AssembleError}
 use Rattle.grain_pools.specs.declared.error.AssembleError.TheVariants.{PoolTooLarge, JumpOutOfRange, SwitchTargetOutOfRange, ChunkTooLarge, OutOfMemory}
-use Rattle.grain_code.specs.InstructionTable.{form, name}
+use Rattle.grain_code.specs.InstructionTable.{form}
 use Rattle.grain_code.specs.Fields.{receiver_name}
 use Rattle.grain_code.specs.Assembly.{IsWritable, AreWritable, EachWritable, HasShortCode, CanAssemble, Accuses, AccusesFirst, AccusesFirstOf, IsAssemblyFlaw, tested}
 
@@ -33,21 +35,21 @@ first_at n at i fields d inside passed error flaw = record {
 -- the first flaw of the fields is that of those that are tested, where the name of the receiver can be written
 pub first_tested : (n at : ℕ) (op : Op) → IfSome (receiver_name op) (λ x. x ≤ 65535) → (error : AssembleError) → AccusesFirst n at (form op).1 error → AccusesFirst n at (tested op) error
 first_tested n at op receiver_passed error first = behind (receiver_name op) receiver_passed where
-  behind : (receiver : Option ℕ) → IfSome receiver (λ x. x ≤ 65535) → AccusesFirst n at (map name (option_to_list receiver) ++ (form op).1) error
+  behind : (receiver : Option ℕ) → IfSome receiver (λ x. x ≤ 65535) → AccusesFirst n at (map (Index Names) (option_to_list receiver) ++ (form op).1) error
   behind None passed = first
   behind (Some x) passed = record {
-    earlier = name x ∷ first.earlier;
+    earlier = Index Names x ∷ first.earlier;
     bad = first.bad;
     later = first.later;
-    order = ap (λ fields. name x ∷ fields) first.order;
+    order = ap (λ fields. Index Names x ∷ fields) first.order;
     passed = (passed, first.passed);
     fails = first.fails;
     named = first.named;
   }
 
 -- of a call through a name that name is tested first
-pub tested_through : (op : Op) (v : ℕ) → receiver_name op ≡ Some v → (rest : List Field) × (tested op ≡ name v ∷ rest)
-tested_through op v e = ((form op).1, ap (λ (receiver : Option ℕ). map name (option_to_list receiver) ++ (form op).1) e)
+pub tested_through : (op : Op) (v : ℕ) → receiver_name op ≡ Some v → (rest : List Field) × (tested op ≡ Index Names v ∷ rest)
+tested_through op v e = ((form op).1, ap (λ (receiver : Option ℕ). map (Index Names) (option_to_list receiver) ++ (form op).1) e)
 
 -- what can't be written is a flaw of no operations that can be assembled
 fields_pass : (n at : ℕ) (fields : List Field) (error : AssembleError) → AreWritable n fields → AccusesFirst n at fields error → ⊥

@@ -12,7 +12,7 @@ use Rattle.grain_code.specs.InstructionTable.{FieldFits, bytes_of, form, spellin
 use Rattle.grain_code.specs.Split.{Begins, IsInstruction, AreInstructions, starts_from, Split, StandsAt}
 use Rattle.grain_code.specs.Assembly.{retarget, assembled, offsets_from, IsAssembly}
 use Rattle.grain_code.proofs.Instructions.{spelling_width, begins_spelling}
-use Rattle.grain_code.proofs.Canonical.{canon_twice, form_canon, width_assembled}
+use Rattle.grain_code.proofs.Canonical.{canon_decoded, form_canon, width_assembled}
 use Rattle.grain_code.proofs.Splits.{each_more}
 
 -- the offsets are the starts of what is assembled, and the end
@@ -73,7 +73,7 @@ pub one_more_written : (offsets code front_code : List ℕ) (front : List Op) (o
 one_more_written offsets code front_code front op are fit e =
     let made = assembled offsets op in
     let same = form_canon (retarget (slice_index offsets) op) in
-    let is : IsInstruction made = record { canonical = canon_twice (retarget (slice_index offsets) op); fit = subst (λ (p : ℕ × List Field). AllByRecursion FieldFits p.1) (sym same) fit; spelled = refl } in
+    let is : IsInstruction made = record { unwritten = canon_decoded (retarget (slice_index offsets) op); fit = subst (λ (p : ℕ × List Field). AllByRecursion FieldFits p.1) (sym same) fit; spelled = refl } in
     rw (map-append (assembled offsets) front (op ∷ [])) (record {
       each = each_more (map (assembled offsets) front) made are.each is;
       whole = e ∙ ap (λ b. b ++ spelling (retarget (slice_index offsets) op)) are.whole

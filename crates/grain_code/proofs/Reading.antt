@@ -14,6 +14,7 @@ use Rattle.grain_code.specs.declared.field.Field.{Field}
 use Rattle.grain_code.specs.declared.field.Field.TheVariants.{Index, Slot, Count, Target}
 use Rattle.grain_code.specs.InstructionTable.{bytes_of, FieldFits, form, canon, spelling, Instr}
 use Rattle.grain_code.proofs.Rows.{Letter, index, slot, count, target, field, letter_of, value_of, letter_size, fields, Row, row_of, values_of, IsRowOf, again}
+use Rattle.grain_code.proofs.Canonical.{canon_same}
 
 -- every element is a byte
 abbrev pub IsBytes : List ℕ → Type 0
@@ -126,8 +127,8 @@ read_again op rest fits =
 -- no instruction begins another
 pub one_instruction : (a b x y : List ℕ) (op other : Op) → Instr a op → Instr b other → a ++ x ≡ b ++ y → (a ≡ b) × (op ≡ other)
 one_instruction a b x y op other h h' e =
-    let here : read (a ++ x) ≡ Some op = ap (λ s. read (s ++ x)) h.spelled ∙ read_again op x h.fit ∙ ap Some h.canonical in
-    let there : read (b ++ y) ≡ Some other = ap (λ s. read (s ++ y)) h'.spelled ∙ read_again other y h'.fit ∙ ap Some h'.canonical in
+    let here : read (a ++ x) ≡ Some op = ap (λ s. read (s ++ x)) h.spelled ∙ read_again op x h.fit ∙ ap Some (canon_same op h.unwritten) in
+    let there : read (b ++ y) ≡ Some other = ap (λ s. read (s ++ y)) h'.spelled ∙ read_again other y h'.fit ∙ ap Some (canon_same other h'.unwritten) in
     let same : op ≡ other = let both : Some op ≡ Some other = sym here ∙ ap read e ∙ there in cc in
     (h.spelled ∙ ap spelling same ∙ sym h'.spelled, same)
 

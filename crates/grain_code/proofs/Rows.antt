@@ -11,7 +11,8 @@ use Rattle.grain_code.specs.declared.field.Field.{Field}
 use Rattle.grain_code.specs.declared.field.Field.TheVariants.{Index, Slot, Count, Target}
 use Rattle.grain_code.specs.declared.field.Pool.{Pool}
 use Rattle.grain_code.specs.declared.field.Pool.TheVariants.{Constants, Names, Operators, OpAssignments, Fragments, Chains, Switches, SyntaxSites}
-use Rattle.grain_code.specs.declared.tag_widths.TheConstants.{WIDTHS}
+use Rattle.grain_code.specs.declared.tag_table.TagRow.{TagRow}
+use Rattle.grain_code.specs.declared.tag_table.TheConstants.{TAG_ROWS}
 use Rattle.grain_code.specs.InstructionTable.{form, canon, size_of}
 
 -- a field without its value
@@ -194,6 +195,6 @@ row_width r = sum_by letter_size r.letters + 1
 abbrev pub tag_width : ℕ → ℕ
 tag_width tag = option_map_or row_width (row_of tag) 0
 
--- the table of widths
-pub widths : WIDTHS ≡ map tag_width (range_with_len 0 256)
+-- the widths in the table of tags
+pub widths : map (λ (r : TagRow). r.width) TAG_ROWS ≡ map tag_width (range_with_len 0 256)
 widths = refl

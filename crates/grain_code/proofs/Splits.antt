@@ -12,7 +12,7 @@ use Rattle.grain_code.proofs.Instructions.{begins_none_nil, begins_spelling}
 use Rattle.grain_code.proofs.Reading.{one_instruction}
 
 pub instr_is : (bytes : List ℕ) (op : Op) → Instr bytes op → IsInstruction op
-instr_is bytes op h = record { canonical = h.canonical; fit = h.fit; spelled = refl }
+instr_is bytes op h = record { unwritten = h.unwritten; fit = h.fit; spelled = refl }
 
 pub each_more : (ops : List Op) (op : Op) → AllByRecursion IsInstruction ops → IsInstruction op → AllByRecursion IsInstruction (ops ++ op ∷ [])
 each_more [] op all here = (here, tt)

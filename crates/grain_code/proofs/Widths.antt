@@ -1,7 +1,7 @@
 -- The width of a tag is that of each instruction with it, and as many bytes behind a tag are an instruction.
-use Rattle.std.proofs.Common.{◌≡◌, ◌≢◌, ℕ, zero, suc, ◌+◌, ◌-◌, ◌<◌, ◌≤◌, ◌⊎◌, inl, inr, List, [], ◌∷◌, length, take, drop, get_or, map, Option, Some, None, refl, sym, ap, ◌∙◌, arith, add-one, drop-cons}
+use Rattle.std.proofs.Common.{◌≡◌, ◌≢◌, ℕ, zero, suc, ◌+◌, ◌-◌, ◌<◌, ◌≤◌, ◌⊎◌, inl, inr, List, [], ◌∷◌, length, take, drop, get_or, map, Option, Some, None, refl, sym, ap, subst, ◌∙◌, arith, add-one, drop-cons}
 use Rattle.std.specs.Prelude.{sum_by, replicate}
-use Rattle.std.specs.List.{Contains}
+use Rattle.std.specs.List.{AllByRecursion, Contains, flat_map}
 use Rattle.std.specs.Option.{option_map_or}
 use Rattle.std.proofs.lemmas.Bool.{eqb-true}
 use Rattle.std.proofs.lemmas.List.{get_or-map, length-take, length-drop, length-replicate}
@@ -11,9 +11,11 @@ use Rattle.std.proofs.lemmas.Map.Views.{Contains-from_lookup}
 use Rattle.grain_code.specs.declared.op.Op.{Op}
 use Rattle.grain_code.specs.declared.field.Field.{Field}
 use Rattle.grain_code.specs.declared.field.Field.TheVariants.{Index, Slot, Count, Target}
-use Rattle.grain_code.specs.declared.tag_widths.TheConstants.{WIDTHS}
-use Rattle.grain_code.specs.InstructionTable.{size_of, form, canon, spelling, width_of, Instr}
+use Rattle.grain_code.specs.declared.tag_table.TagRow.{TagRow}
+use Rattle.grain_code.specs.declared.tag_table.TheConstants.{TAG_ROWS}
+use Rattle.grain_code.specs.InstructionTable.{FieldFits, IsDecoded, bytes_of, encoding, size_of, form, canon, spelling, width_of, Instr}
 use Rattle.grain_code.specs.Split.{StandsAt, NoneStandsAt}
+use Rattle.grain_code.proofs.Canonical.{canon_decoded}
 use Rattle.grain_code.proofs.Rows.{letter_of, letter_size, fields, Row, rows, row_of, IsRowOf, again, written, canonical, row_width, tag_width, widths}
 use Rattle.grain_code.proofs.Instructions.{instr_width, instr_along, begins_fits}
 use Rattle.grain_code.proofs.Reading.{IsBytes, bytes_taken, bytes_dropped, values, spelled_all, found_row}
@@ -33,8 +35,13 @@ width_is op =
     let row = found_row (row_of (form op).0) (IsRowOf op) (again op) in
     ap (λ o. option_map_or row_width o 0) row.1 ∙ ap (λ letters. sum_by letter_size letters + 1) row.2.0 ∙ ap (λ n. n + 1) (letter_sizes (form op).1)
 
-pub table_is : (tag : ℕ) → tag < 256 → get_or WIDTHS tag 0 ≡ tag_width tag
-table_is tag small = ap (λ xs. get_or xs tag 0) widths ∙ get_or-map-range_with_len tag_width 0 256 tag tag 0 small (omega arith)
+table_is : (tag : ℕ) (d : TagRow) → tag < 256 → (get_or TAG_ROWS tag d).width ≡ tag_width tag
+table_is tag d small =
+    sym (get_or-map (λ (r : TagRow). r.width) TAG_ROWS tag d 0 small) ∙ ap (λ xs. get_or xs tag 0) widths ∙ get_or-map-range_with_len tag_width 0 256 tag tag 0 small (omega arith)
+
+-- a row of the table has the width of its tag
+pub row_is : (tag : ℕ) (r : TagRow) → tag < 256 → ((d : TagRow) → r ≡ get_or TAG_ROWS tag d) → r.width ≡ tag_width tag
+row_is tag r small is = ap (λ (row : TagRow). row.width) (is r) ∙ table_is tag r small
 
 -- what two functions alike on a list give of its elements
 alike : {X Y : Type 0} (f g : X → Y) (xs : List X) (x : X) → map f xs ≡ map g xs → Contains xs x → f x ≡ g x
@@ -59,9 +66,9 @@ is_instruction tag operands all wide =
     let form_is : form (row.0.op v) ≡ (tag, fields row.0.letters v) = alike (λ (e : ℕ × Row). form (e.1.op v)) (λ e. (e.0, fields e.1.letters v)) rows (tag, row.0) (written v) at in (
       row.0.op v,
       record {
-        canonical = alike (λ (e : ℕ × Row). canon (e.1.op v)) (λ e. e.1.op v) rows (tag, row.0) (canonical v) at;
-        fit = rw form_is there.1;
-        spelled = rw form_is (ap (λ xs. tag ∷ xs) there.0);
+        unwritten = subst (λ (o : Op). AllByRecursion IsDecoded (encoding o).2) (alike (λ (e : ℕ × Row). canon (e.1.op v)) (λ e. e.1.op v) rows (tag, row.0) (canonical v) at) (canon_decoded (row.0.op v));
+        fit = subst (λ (p : ℕ × List Field). AllByRecursion FieldFits p.1) (sym form_is) there.1;
+        spelled = ap (λ xs. tag ∷ xs) there.0 ∙ ap (λ (p : ℕ × List Field). p.0 ∷ flat_map bytes_of p.1) (sym form_is);
       },
     )
 
@@ -94,13 +101,13 @@ stands_of code at n op inside long is =
     (instr_along (tag ∷ take n rest) (take (width_of op) (drop at code)) op bytes is, wide)
 
 -- an instruction as wide as its tag says stands at an address
-pub stands_at : (code : List ℕ) (at w : ℕ) → IsBytes code → at < length code → get_or WIDTHS (get_or code at 0) 0 ≡ w → 0 < w → w ≤ length code - at → (op : Op) × StandsAt code at op × (w ≡ width_of op)
+pub stands_at : (code : List ℕ) (at w : ℕ) → IsBytes code → at < length code → w ≡ tag_width (get_or code at 0) → 0 < w → w ≤ length code - at → (op : Op) × StandsAt code at op × (w ≡ width_of op)
 stands_at code at zero all inside e some fits = absurd (omega arith)
 stands_at code at (suc n) all inside e some fits =
     let tag = get_or code at 0 in
     let rest = drop (suc at) code in
     let long : length (take n rest) ≡ n = omega (arith, length-take n rest, length-drop (suc at) code) in
-    let is = is_instruction tag (take n rest) (bytes_taken n rest (bytes_dropped (suc at) code all)) (sym (table_is tag (all at)) ∙ e ∙ omega arith) in
+    let is = is_instruction tag (take n rest) (bytes_taken n rest (bytes_dropped (suc at) code all)) (sym e ∙ omega arith) in
     let there = stands_of code at n is.0 inside long is.1 in
     (is.0, there.0, there.1)
 
@@ -113,8 +120,8 @@ tag_is code at op inside h =
     cc
 
 -- none stands at an address whose byte is no tag, or from which on there are too few bytes
-pub none_at : (code : List ℕ) (at : ℕ) → IsBytes code → at < length code → (get_or WIDTHS (get_or code at 0) 0 ≡ 0) ⊎ (length code - at < get_or WIDTHS (get_or code at 0) 0) → NoneStandsAt code at
+pub none_at : (code : List ℕ) (at : ℕ) → IsBytes code → at < length code → (tag_width (get_or code at 0) ≡ 0) ⊎ (length code - at < tag_width (get_or code at 0)) → NoneStandsAt code at
 none_at code at all inside why op h =
-    let wide : get_or WIDTHS (get_or code at 0) 0 ≡ width_of op = table_is _ (all at) ∙ ap tag_width (tag_is code at op inside h) ∙ width_is op in
+    let wide : tag_width (get_or code at 0) ≡ width_of op = ap tag_width (tag_is code at op inside h) ∙ width_is op in
     let fits = begins_fits (drop at code) op h in
     elim why [ inl none ↦ absurd (omega arith) | inr short ↦ absurd (omega (arith, length-drop at code)) ]

@@ -11,7 +11,7 @@ use Rattle.grain_code.specs.declared.field.Pool.{Pool}
 use Rattle.grain_code.specs.declared.field.Pool.TheVariants.{Constants, Names, Operators, OpAssignments, Fragments, Chains, Switches, SyntaxSites}
 use Rattle.grain_pools.specs.declared.error.AssembleError.{AssembleError}
 use Rattle.grain_pools.specs.declared.error.AssembleError.TheVariants as errors
-use Rattle.grain_code.specs.InstructionTable.{form, canon, width_of, name}
+use Rattle.grain_code.specs.InstructionTable.{form, canon, width_of}
 use Rattle.grain_code.specs.Split.{AreInstructions}
 
 -- the operation with its jump target mapped
@@ -142,7 +142,7 @@ pub record AccusesFirst (n at : ℕ) (fields : List Field) (error : AssembleErro
 -- the fields in the order in which they are tested: first the name through which a call reaches its receiver, if it does,
 -- and then each in its order
 abbrev pub tested : Op → List Field
-tested op = map name (option_to_list (receiver_name op)) ++ (form op).1
+tested op = map (Index Names) (option_to_list (receiver_name op)) ++ (form op).1
 
 -- the error names the first field, operation by operation, that can't be written
 pub record AccusesFirstOf (ops : List Op) (error : AssembleError) : Type 0 where

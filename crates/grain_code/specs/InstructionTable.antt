@@ -1,5 +1,5 @@
 -- The instruction table: of each operation its tag and its fields, in the order in which they are written.
-use Rattle.std.specs.Prelude.{ℕ, ◌≡◌, ◌<◌, ◌^◌, ◌+◌, sum_by, true, false, List, [], ◌∷◌, Some, None}
+use Rattle.std.specs.Prelude.{ℕ, ◌≡◌, ◌<◌, ◌^◌, ◌+◌, sum_by, Bool, true, false, List, [], ◌∷◌, Some, None}
 use Rattle.std.specs.Int.{w16, w32, to_le_bytes}
 use Rattle.std.specs.List.{flat_map, AllByRecursion}
 use Rattle.grain_code.specs.declared.op.Op.{Op}
@@ -30,106 +30,90 @@ FieldFits (Slot x) = x < 2 ^ 16
 FieldFits (Count x) = x < 2 ^ 8
 FieldFits (Target x) = x < 2 ^ 32
 
-abbrev pub constant : ℕ → Field
-constant = Index Constants
+-- The tag, the fields, and the flags that aren't written, each with the value with which it is decoded.
+abbrev pub encoding : Op → ℕ × List Field × List (Bool × Bool)
+encoding (ops.Const c) = (0x01, Index Constants c ∷ [], [])
+encoding ops.Unit = (0x02, [], [])
+encoding (ops.Bool false) = (0x03, [], [])
+encoding (ops.Bool true) = (0x04, [], [])
+encoding (ops.LoadLocal s) = (0x05, Slot s ∷ [], [])
+encoding (ops.StoreLocal s false) = (0x06, Slot s ∷ [], [])
+encoding (ops.AssignLocal s n None) = (0x07, Slot s ∷ Index Names n ∷ [], [])
+encoding (ops.AssignLocal s n (Some o)) = (0x08, Slot s ∷ Index Names n ∷ Index OpAssignments o ∷ [], [])
+encoding (ops.DeclareLocal n false is_global) = (0x09, Index Names n ∷ [], (is_global, false) ∷ [])
+encoding (ops.DeclareLocal n true false) = (0x0a, Index Names n ∷ [], [])
+encoding ops.Pop = (0x0b, [], [])
+encoding (ops.Jump j) = (0x0c, Target j ∷ [], [])
+encoding (ops.JumpIfTrue j) = (0x0d, Target j ∷ [], [])
+encoding (ops.JumpIfFalse j) = (0x0e, Target j ∷ [], [])
+encoding (ops.Call n a None capture) = (0x0f, Index Names n ∷ Count a ∷ [], (capture, false) ∷ [])
+encoding (ops.Call n a (Some t) capture) = (0x10, Index Names n ∷ Count a ∷ Index Operators t ∷ [], (capture, false) ∷ [])
+encoding (ops.UnwindTo s) = (0x11, Slot s ∷ [], [])
+encoding ops.Tick = (0x12, [], [])
+encoding ops.Return = (0x13, [], [])
+encoding (ops.EvalAst f true) = (0x14, Index Fragments f ∷ [], [])
+encoding (ops.EvalAst f false) = (0x15, Index Fragments f ∷ [], [])
+encoding (ops.Chain h) = (0x16, Index Chains h ∷ [], [])
+encoding (ops.MakeArray s) = (0x17, Slot s ∷ [], [])
+encoding (ops.Switch w) = (0x18, Index Switches w ∷ [], [])
+encoding (ops.LoadNamed n) = (0x19, Index Names n ∷ [], [])
+encoding (ops.AssignNamed n None) = (0x1a, Index Names n ∷ [], [])
+encoding (ops.AssignNamed n (Some o)) = (0x1b, Index Names n ∷ Index OpAssignments o ∷ [], [])
+encoding ops.Throw = (0x1c, [], [])
+encoding ops.IterInit = (0x1d, [], [])
+encoding (ops.IterNext j None) = (0x1e, Target j ∷ [], [])
+encoding ops.IterDrop = (0x1f, [], [])
+encoding (ops.StoreShared s) = (0x20, Slot s ∷ [], [])
+encoding (ops.IterNext j (Some s)) = (0x21, Target j ∷ Slot s ∷ [], [])
+encoding ops.PopHandler = (0x22, [], [])
+encoding (ops.PushHandler j None) = (0x23, Target j ∷ [], [])
+encoding (ops.PushHandler j (Some n)) = (0x24, Target j ∷ Index Names n ∷ [], [])
+encoding ops.InterpolateStart = (0x25, [], [])
+encoding ops.InterpolateAppend = (0x26, [], [])
+encoding ops.InterpolateEnd = (0x27, [], [])
+encoding ops.MakeFnPtr = (0x28, [], [])
+encoding (ops.Curry a) = (0x29, Count a ∷ [], [])
+encoding (ops.CallFnPtr a false false None) = (0x2a, Count a ∷ [], [])
+encoding (ops.CallFnPtr a true capture None) = (0x2b, Count a ∷ [], (capture, false) ∷ [])
+encoding (ops.Share s) = (0x2c, Slot s ∷ [], [])
+encoding (ops.ShareNamed n) = (0x2d, Index Names n ∷ [], [])
+encoding (ops.LoadShared s) = (0x2e, Slot s ∷ [], [])
+encoding (ops.MakeClosure n) = (0x2f, Index Names n ∷ [], [])
+encoding ops.IsShared = (0x30, [], [])
+encoding ops.Checkpoint = (0x31, [], [])
+encoding (ops.CheckSize s false) = (0x32, Slot s ∷ [], [])
+encoding (ops.CheckSize s true) = (0x33, Slot s ∷ [], [])
+encoding (ops.MakeMap s) = (0x34, Slot s ∷ [], [])
+encoding (ops.CallRef n a (receiver.Local s) capture) = (0x35, Index Names n ∷ Count a ∷ Slot s ∷ [], (capture, false) ∷ [])
+encoding (ops.Rotate a) = (0x36, Count a ∷ [], [])
+encoding (ops.CallRef n a (receiver.Named n') capture) = (0x37, Index Names n ∷ Count a ∷ Index Names n' ∷ [], (capture, false) ∷ [])
+encoding (ops.LoadSharedNamed n) = (0x38, Index Names n ∷ [], [])
+encoding ops.LoadThis = (0x39, [], [])
+encoding ops.LoadThisShared = (0x3a, [], [])
+encoding ops.RequireThis = (0x3b, [], [])
+encoding (ops.AssignThis None) = (0x3c, [], [])
+encoding (ops.AssignThis (Some o)) = (0x3d, Index OpAssignments o ∷ [], [])
+encoding (ops.CallRef n a receiver.This capture) = (0x3e, Index Names n ∷ Count a ∷ [], (capture, false) ∷ [])
+encoding (ops.CallFnPtr a is_method capture (Some (receiver.Local s))) = (0x3f, Count a ∷ Slot s ∷ [], (is_method, true) ∷ (capture, false) ∷ [])
+encoding (ops.CallFnPtr a is_method capture (Some (receiver.Named n))) = (0x40, Count a ∷ Index Names n ∷ [], (is_method, true) ∷ (capture, false) ∷ [])
+encoding (ops.CallFnPtr a is_method capture (Some receiver.This)) = (0x41, Count a ∷ [], (is_method, true) ∷ (capture, false) ∷ [])
+encoding (ops.SkipIfNotUnit j) = (0x42, Target j ∷ [], [])
+encoding (ops.Statement s) = (0x47, Slot s ∷ [], [])
+encoding (ops.StoreLocal s true) = (0x48, Slot s ∷ [], [])
+encoding (ops.CallFnPtr a false true None) = (0x49, Count a ∷ [], [])
+encoding (ops.CustomSyntax y) = (0x4a, Index SyntaxSites y ∷ [], [])
+encoding (ops.DeclareLocal n true true) = (0x4b, Index Names n ∷ [], [])
+encoding (ops.ExportLocal s n) = (0x4d, Slot s ∷ Index Names n ∷ [], [])
+encoding (ops.ExportNamed n n') = (0x4e, Index Names n ∷ Index Names n' ∷ [], [])
+encoding (ops.Import n) = (0x4f, Index Names n ∷ [], [])
 
-abbrev pub name : ℕ → Field
-name = Index Names
-
-abbrev pub operator : ℕ → Field
-operator = Index Operators
-
-abbrev pub op_assignment : ℕ → Field
-op_assignment = Index OpAssignments
-
-abbrev pub fragment : ℕ → Field
-fragment = Index Fragments
-
-abbrev pub chain : ℕ → Field
-chain = Index Chains
-
-abbrev pub switch : ℕ → Field
-switch = Index Switches
-
-abbrev pub syntax_site : ℕ → Field
-syntax_site = Index SyntaxSites
-
--- The tag and the fields. What isn't canonical is written as its canonical form is.
+-- the tag and the fields, which are what is written
 abbrev pub form : Op → ℕ × List Field
-form (ops.Const c) = (0x01, constant c ∷ [])
-form ops.Unit = (0x02, [])
-form (ops.Bool false) = (0x03, [])
-form (ops.Bool true) = (0x04, [])
-form (ops.LoadLocal s) = (0x05, Slot s ∷ [])
-form (ops.StoreLocal s false) = (0x06, Slot s ∷ [])
-form (ops.AssignLocal s n None) = (0x07, Slot s ∷ name n ∷ [])
-form (ops.AssignLocal s n (Some o)) = (0x08, Slot s ∷ name n ∷ op_assignment o ∷ [])
-form (ops.DeclareLocal n false is_global) = (0x09, name n ∷ [])
-form (ops.DeclareLocal n true false) = (0x0a, name n ∷ [])
-form ops.Pop = (0x0b, [])
-form (ops.Jump j) = (0x0c, Target j ∷ [])
-form (ops.JumpIfTrue j) = (0x0d, Target j ∷ [])
-form (ops.JumpIfFalse j) = (0x0e, Target j ∷ [])
-form (ops.Call n a None capture) = (0x0f, name n ∷ Count a ∷ [])
-form (ops.Call n a (Some t) capture) = (0x10, name n ∷ Count a ∷ operator t ∷ [])
-form (ops.UnwindTo s) = (0x11, Slot s ∷ [])
-form ops.Tick = (0x12, [])
-form ops.Return = (0x13, [])
-form (ops.EvalAst f true) = (0x14, fragment f ∷ [])
-form (ops.EvalAst f false) = (0x15, fragment f ∷ [])
-form (ops.Chain h) = (0x16, chain h ∷ [])
-form (ops.MakeArray s) = (0x17, Slot s ∷ [])
-form (ops.Switch w) = (0x18, switch w ∷ [])
-form (ops.LoadNamed n) = (0x19, name n ∷ [])
-form (ops.AssignNamed n None) = (0x1a, name n ∷ [])
-form (ops.AssignNamed n (Some o)) = (0x1b, name n ∷ op_assignment o ∷ [])
-form ops.Throw = (0x1c, [])
-form ops.IterInit = (0x1d, [])
-form (ops.IterNext j None) = (0x1e, Target j ∷ [])
-form ops.IterDrop = (0x1f, [])
-form (ops.StoreShared s) = (0x20, Slot s ∷ [])
-form (ops.IterNext j (Some s)) = (0x21, Target j ∷ Slot s ∷ [])
-form ops.PopHandler = (0x22, [])
-form (ops.PushHandler j None) = (0x23, Target j ∷ [])
-form (ops.PushHandler j (Some n)) = (0x24, Target j ∷ name n ∷ [])
-form ops.InterpolateStart = (0x25, [])
-form ops.InterpolateAppend = (0x26, [])
-form ops.InterpolateEnd = (0x27, [])
-form ops.MakeFnPtr = (0x28, [])
-form (ops.Curry a) = (0x29, Count a ∷ [])
-form (ops.CallFnPtr a false false None) = (0x2a, Count a ∷ [])
-form (ops.CallFnPtr a true capture None) = (0x2b, Count a ∷ [])
-form (ops.Share s) = (0x2c, Slot s ∷ [])
-form (ops.ShareNamed n) = (0x2d, name n ∷ [])
-form (ops.LoadShared s) = (0x2e, Slot s ∷ [])
-form (ops.MakeClosure n) = (0x2f, name n ∷ [])
-form ops.IsShared = (0x30, [])
-form ops.Checkpoint = (0x31, [])
-form (ops.CheckSize s false) = (0x32, Slot s ∷ [])
-form (ops.CheckSize s true) = (0x33, Slot s ∷ [])
-form (ops.MakeMap s) = (0x34, Slot s ∷ [])
-form (ops.CallRef n a (receiver.Local s) capture) = (0x35, name n ∷ Count a ∷ Slot s ∷ [])
-form (ops.Rotate a) = (0x36, Count a ∷ [])
-form (ops.CallRef n a (receiver.Named n') capture) = (0x37, name n ∷ Count a ∷ name n' ∷ [])
-form (ops.LoadSharedNamed n) = (0x38, name n ∷ [])
-form ops.LoadThis = (0x39, [])
-form ops.LoadThisShared = (0x3a, [])
-form ops.RequireThis = (0x3b, [])
-form (ops.AssignThis None) = (0x3c, [])
-form (ops.AssignThis (Some o)) = (0x3d, op_assignment o ∷ [])
-form (ops.CallRef n a receiver.This capture) = (0x3e, name n ∷ Count a ∷ [])
-form (ops.CallFnPtr a is_method capture (Some (receiver.Local s))) = (0x3f, Count a ∷ Slot s ∷ [])
-form (ops.CallFnPtr a is_method capture (Some (receiver.Named n))) = (0x40, Count a ∷ name n ∷ [])
-form (ops.CallFnPtr a is_method capture (Some receiver.This)) = (0x41, Count a ∷ [])
-form (ops.SkipIfNotUnit j) = (0x42, Target j ∷ [])
-form (ops.Statement s) = (0x47, Slot s ∷ [])
-form (ops.StoreLocal s true) = (0x48, Slot s ∷ [])
-form (ops.CallFnPtr a false true None) = (0x49, Count a ∷ [])
-form (ops.CustomSyntax y) = (0x4a, syntax_site y ∷ [])
-form (ops.DeclareLocal n true true) = (0x4b, name n ∷ [])
-form (ops.ExportLocal s n) = (0x4d, Slot s ∷ name n ∷ [])
-form (ops.ExportNamed n n') = (0x4e, name n ∷ name n' ∷ [])
-form (ops.Import n) = (0x4f, name n ∷ [])
+form op = ((encoding op).0, (encoding op).1)
+
+-- a flag that isn't written has the value with which it is decoded
+abbrev pub IsDecoded : Bool × Bool → Type 0
+IsDecoded flag = flag.0 ≡ flag.1
 
 -- The canonical form: the operation that is decoded where this one was written.
 abbrev pub canon : Op → Op
@@ -202,6 +186,6 @@ width_of op = sum_by size_of (form op).1 + 1
 
 -- The bytes are this instruction.
 pub record Instr (bytes : List ℕ) (op : Op) : Type 0 where
-  pub canonical : canon op ≡ op
+  pub unwritten : AllByRecursion IsDecoded (encoding op).2
   pub fit : AllByRecursion FieldFits (form op).1
   pub spelled : bytes ≡ spelling op

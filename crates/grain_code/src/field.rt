@@ -7,7 +7,7 @@ ghost use Rattle.grain_code.specs.InstructionTable.{form, width_of};
 
 use crate::op::{Op, Receiver};
 use crate::tag;
-use crate::tag_widths::WIDTHS;
+use crate::tag_table::tag_row;
 
 /// The pools of a program that an index can go into.
 #[derive(Clone, Copy, Debug, PartialEq, Eq)]
@@ -88,7 +88,7 @@ pub(crate) fn width_of(op: &Op) -> u32
     ensures { result ≡ width_of op.now }
 {
     let (tag, _fields) = layout(op);
-    u32::from(WIDTHS[tag as usize])
+    u32::from(tag_row(tag).width)
 }
 
 /// The tag of an operation and its fields: the instruction table (docs/FORMAT.md, "Instructions").

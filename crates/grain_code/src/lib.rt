@@ -17,6 +17,7 @@ mod instruction;
 mod op;
 mod starts;
 pub mod tag;
+mod tag_table;
 mod tag_widths;
 mod text;
 
@@ -29,4 +30,5 @@ pub use function::Function;
 pub use instruction::Instruction;
 pub use op::{Op, Receiver};
 pub use starts::Starts;
+pub use tag_table::{TagFlow, TagRow, tag_row};
 pub use tag_widths::{Head, width};

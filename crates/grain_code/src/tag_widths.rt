@@ -5,17 +5,7 @@ ghost use Rattle.grain_code.specs.InstructionTable.{form, width_of};
 ghost use Rattle.grain_code.specs.Split.{StandsAt, NoneStandsAt};
 ghost use Rattle.grain_code.specs.declared.op.Op.{Op};
 
-/// How many bytes the instruction of each tag takes, or 0 where the tag is none (docs/FORMAT.md, "Instructions").
-pub(crate) static WIDTHS: [u8; 256] = [
-    0, 3, 1, 1, 1, 3, 3, 5, 7, 3, 3, 1, 5, 5, 5, 4, 6, 3, 1, 1, 3, 3, 3, 3, 3, 3, 3, 5, 1, 1, 5, 1,
-    3, 7, 1, 5, 7, 1, 1, 1, 1, 2, 2, 2, 3, 3, 3, 3, 1, 1, 3, 3, 3, 6, 2, 6, 3, 1, 1, 1, 1, 3, 4, 4,
-    4, 2, 5, 0, 0, 0, 0, 3, 3, 2, 3, 3, 0, 5, 5, 3, 0, 0, 0, 0, 0, 0, 0, 0, 0, 0, 0, 0, 0, 0, 0, 0,
-    0, 0, 0, 0, 0, 0, 0, 0, 0, 0, 0, 0, 0, 0, 0, 0, 0, 0, 0, 0, 0, 0, 0, 0, 0, 0, 0, 0, 0, 0, 0, 0,
-    0, 0, 0, 0, 0, 0, 0, 0, 0, 0, 0, 0, 0, 0, 0, 0, 0, 0, 0, 0, 0, 0, 0, 0, 0, 0, 0, 0, 0, 0, 0, 0,
-    0, 0, 0, 0, 0, 0, 0, 0, 0, 0, 0, 0, 0, 0, 0, 0, 0, 0, 0, 0, 0, 0, 0, 0, 0, 0, 0, 0, 0, 0, 0, 0,
-    0, 0, 0, 0, 0, 0, 0, 0, 0, 0, 0, 0, 0, 0, 0, 0, 0, 0, 0, 0, 0, 0, 0, 0, 0, 0, 0, 0, 0, 0, 0, 0,
-    0, 0, 0, 0, 0, 0, 0, 0, 0, 0, 0, 0, 0, 0, 0, 0, 0, 0, 0, 0, 0, 0, 0, 0, 0, 0, 0, 0, 0, 0, 0, 0,
-];
+use crate::tag_table::tag_row;
 
 /// What the first byte of an instruction tells: its tag, and how many bytes instructions with that tag take
 /// (docs/FORMAT.md, "Instructions").
@@ -45,7 +35,7 @@ impl Head {
             return None;
         }
         let tag = code[at];
-        let width = WIDTHS[tag as usize];
+        let width = tag_row(tag).width;
         Some(Head { tag, width })
     }
 }
@@ -63,7 +53,7 @@ pub fn width(code: &[u8], at: usize) -> Option<usize>
     if at >= code.len() {
         return None;
     }
-    let width = WIDTHS[code[at] as usize] as usize;
+    let width = tag_row(code[at]).width as usize;
     if width == 0 || at + width > code.len() {
         return None;
     }

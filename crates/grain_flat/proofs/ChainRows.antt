@@ -10,7 +10,6 @@ use Rattle.grain.specs.CapBits.{THIS, INDEXING, METHOD, PROPERTY}
 use Rattle.grain.specs.Capabilities.{chain_caps, joined, root_caps, step_caps}
 use Rattle.grain.specs.Chain.{assigns, consumed, roots_on_stack}
 use Rattle.grain.specs.Indices.{Test, chain_tests, field_tests, operand_test, root_fields, step_tests, tail_fields}
-use Rattle.grain.specs.InstructionTable.{name, op_assignment}
 use Rattle.grain.specs.Setting.{Setting}
 use Rattle.grain_bytecode.specs.declared.Chain.{Chain}
 use Rattle.grain_bytecode.specs.declared.Root.{Root}
@@ -20,6 +19,8 @@ use Rattle.grain_bytecode.specs.declared.Step.TheVariants as steps
 use Rattle.grain_bytecode.specs.declared.Tail.{Tail}
 use Rattle.grain_bytecode.specs.declared.Tail.TheVariants as tails
 use Rattle.grain_bytecode.specs.declared.Field.{Field}
+use Rattle.grain_bytecode.specs.declared.Field.TheVariants.{Index}
+use Rattle.grain_bytecode.specs.declared.Pool.TheVariants.{Names, OpAssignments}
 use Rattle.grain_flat.specs.declared.records.CChain.{CChain}
 use Rattle.grain_flat.specs.declared.records.CStep.{CStep}
 use Rattle.grain_flat.specs.Flat.{chain_row, root_row, step_row, step_rows, tail_row}
@@ -48,7 +49,7 @@ root_asks (roots.This pos) = refl
 root_asks roots.Temporary = refl
 
 abbrev pub root_names : ℕ × ℕ → List Field
-root_names row = if nat_lt row.0 2 then name row.1 ∷ [] else []
+root_names row = if nat_lt row.0 2 then Index Names row.1 ∷ [] else []
 
 root_indices : (r : Root) → root_fields r ≡ root_names (root_row r)
 root_indices (roots.Local slot n) = refl
@@ -63,7 +64,7 @@ tail_assigns (tails.Assign None) = refl
 tail_assigns (tails.Assign (Some op)) = refl
 
 abbrev pub tail_names : ℕ × ℕ → List Field
-tail_names row = if row.0 == 2 then op_assignment row.1 ∷ [] else []
+tail_names row = if row.0 == 2 then Index OpAssignments row.1 ∷ [] else []
 
 tail_indices : (t : Tail) → tail_fields t ≡ tail_names (tail_row t)
 tail_indices tails.Read = refl
@@ -80,7 +81,7 @@ step_asks (steps.Property n getter setter flags pos) = refl
 step_asks (steps.Method n argc operand flags pos) = refl
 
 abbrev pub step_names : CStep → List Field
-step_names row = if row.kind == 0 then [] else if row.kind == 1 then name row.name ∷ name row.getter ∷ name row.setter ∷ [] else name row.name ∷ []
+step_names row = if row.kind == 0 then [] else if row.kind == 1 then Index Names row.name ∷ Index Names row.getter ∷ Index Names row.setter ∷ [] else Index Names row.name ∷ []
 
 abbrev pub last_of : CStep → Option ℕ
 last_of row =

@@ -1,17 +1,14 @@
 mod Alike
 mod AlikeFlaws
-mod Before
 mod CaseRows
 mod ChainRows
 mod FlatAlike
 mod FlatIndices
 mod FlatVerdicts
 mod Flatness
-mod Fronts
 mod Keys
 mod Members
 mod Pieces
-mod Singles
 mod StepRows
 mod SwitchRows
 mod Texts

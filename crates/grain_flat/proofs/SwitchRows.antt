@@ -34,7 +34,8 @@ same_arms (t ∷ ts) (u ∷ us) (p ∷ ps) (q ∷ qs) rows cases a b ranges =
     let long : length p ≡ length q = sym (length_permutation p (case_rows t) a.0) ∙ counted ∙ length_permutation q (case_rows u) b.0 in
     let own = apart p (flat_map (λ p. p) ps) q (flat_map (λ p. p) qs) long (sym (flat_map-cons (λ p. p) p ps) ∙ cases ∙ flat_map-cons (λ p. p) q qs) in
     let far : length (arm_range_targets t) ≡ length (arm_range_targets u) = ap (λ (r : CSwitch). r.ranges) row in
-    let reach = apart (arm_range_targets t) (flat_map arm_range_targets ts) (arm_range_targets u) (flat_map arm_range_targets us) far (sym (flat_map-cons arm_range_targets t ts) ∙ ranges ∙ flat_map-cons arm_range_targets u us) in (
+    let same = sym (flat_map-cons arm_range_targets t ts) ∙ ranges ∙ flat_map-cons arm_range_targets u us in
+    let reach = apart (arm_range_targets t) (flat_map arm_range_targets ts) (arm_range_targets u) (flat_map arm_range_targets us) far same in (
       record {
         cases = λ x has. Contains-permutation q (case_rows u) x b.0 (subst (λ (piece : List CCase). Contains piece x) own.0 (Contains-permutation (case_rows t) p x (IsPermutation-sym p (case_rows t) a.0) has));
         ranges = reach.0;

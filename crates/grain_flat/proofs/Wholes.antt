@@ -6,7 +6,7 @@ use Rattle.grain.specs.Accepted.{AllowsConst, AreIndexed, AreDeepest, AreSafe, A
 use Rattle.grain.specs.Code.{coded}
 use Rattle.grain.specs.ConstCaps.{const_caps}
 use Rattle.grain.specs.Dispatch.{Arms, arm_targets}
-use Rattle.grain.specs.Flaw.{CodeFlaw, ConstantAsks, Flaw, IsFirstFlaw, IsFlawOfChunks, PassesTo, bad_index, of_chunk, of_code, of_constant, of_functions, undecodable}
+use Rattle.grain.specs.Flaw.{CodeFlaw, ConstantAsks, Flaw, FlawAt, IsFirstFlaw, IsFlawOfChunks, PassesTo, bad_index, of_chunk, of_code, of_constant, of_functions, undecodable}
 use Rattle.grain.specs.Setting.{Setting}
 use Rattle.grain.specs.Span.{Span}
 use Rattle.grain.specs.Meter.{AreReached}
@@ -18,7 +18,7 @@ use Rattle.grain_base.specs.declared.value.Dynamic.{Dynamic}
 use Rattle.grain_base.specs.declared.value.Dynamic.TheVariants as values
 use Rattle.grain_bytecode.specs.declared.Chain.{Chain}
 use Rattle.grain_bytecode.specs.declared.Function.{Function}
-use Rattle.grain_flat.specs.Answers.{FlawAt, Refuses}
+use Rattle.grain_flat.specs.Answers.{Refuses}
 use Rattle.grain_flat.specs.Flat.{Rest, Whole, asked_row, rest_input}
 use Rattle.grain_flat.specs.Asking.{IsFirstRefusedRow, RowPasses}
 use Rattle.grain_flat.specs.Judging.{AreSome, judged}

@@ -3,7 +3,7 @@ use Rattle.std.specs.Prelude.{◌≡◌, ◌≢◌, ◌⊎◌, ⊤, ℕ, ◌<◌
 use Rattle.std.specs.List.{All}
 use Rattle.std.specs.Str.{bytes_eq}
 use Rattle.grain.specs.Accepted.{AreDeepest, AreSafe, AreTyped, Input, IsAccepted}
-use Rattle.grain.specs.Flaw.{Flaw, IsFlawOfChunks}
+use Rattle.grain.specs.Flaw.{FlawAt}
 use Rattle.grain.specs.Meter.{AreReached}
 use Rattle.grain.specs.Span.{Span}
 use Rattle.grain.specs.declared.VerifyError.{VerifyError}
@@ -30,11 +30,6 @@ pub record Accepts (caps : ℕ) (bytes : List ℕ) (chunks : List Span) (p : CPo
 -- so many places are reached by all chunks, each for itself
 abbrev pub Looks : ℕ → List ℕ → List Span → CPools → ℕ → Type 0
 Looks caps bytes chunks p n = (rest : Rest p) → AreReached (rest_input caps bytes chunks p rest).code chunks n
-
--- the flaw is one of the chunk at this place, or of what is tested before the chunks
-abbrev pub FlawAt : Input → Option ℕ → VerifyError → Type 0
-FlawAt i None e = Flaw i e × (IsFlawOfChunks i e → ⊥)
-FlawAt i (Some place) e = (flaw : IsFlawOfChunks i e) × (flaw.chunk.place ≡ place)
 
 -- what the first row asks that isn't all there
 pub record AsksMissing (caps : ℕ) (p : CPools) (place : Option ℕ) (e : VerifyError) : Type 0 where

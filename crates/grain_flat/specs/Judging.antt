@@ -1,16 +1,15 @@
 -- What the parts of `grain_verify` promise each other.
-use Rattle.std.specs.Prelude.{◌≡◌, ⊤, ℕ, ◌<◌, IfErr, IfOk, List, [], length, map, Result, Vec}
-use Rattle.std.specs.List.{AllWithin, HoldsAt}
+use Rattle.std.specs.Prelude.{◌≡◌, ⊤, ℕ, IfErr, IfOk, List, [], length, map, Result, Vec}
 use Rattle.std.specs.declared.alloc.Global.{Global}
-use Rattle.grain.specs.Accepted.{AreDeepest, AreSafe, AreTyped, ChunkPasses, Input, IsAccepted, input}
-use Rattle.grain.specs.Code.{Bytecode, bytecode}
+use Rattle.grain.specs.Accepted.{AreDeepest, AreSafe, AreTyped, Input, IsAccepted, input}
 use Rattle.grain.specs.Dispatch.{Arms, arms}
+use Rattle.grain.specs.Flaw.{FlawAt}
 use Rattle.grain.specs.Meter.{AreReached, HasCounted}
 use Rattle.grain.specs.Names.{names_in}
 use Rattle.grain.specs.Span.{Span}
 use Rattle.grain_bytecode.specs.declared.Chain.{Chain}
 use Rattle.grain_bytecode.specs.declared.Function.{Function}
-use Rattle.grain_flat.specs.Answers.{Accepts, FlawAt, Looks, Refuses}
+use Rattle.grain_flat.specs.Answers.{Accepts, Looks, Refuses}
 use Rattle.grain_flat.specs.Flat.{AreChains, AreSwitches, code_with}
 use Rattle.grain_flat.specs.declared.build.Made.{Made}
 use Rattle.grain_flat.specs.declared.judge.Judge.{Judge}
@@ -18,19 +17,9 @@ use Rattle.grain_flat.specs.declared.judge.Stop.{Stop}
 use Rattle.grain_flat.specs.declared.judge.Stop.TheVariants as stops
 use Rattle.grain_flat.specs.declared.records.CPools.{CPools}
 
--- the code that is judged
-abbrev pub code_of : Judge → Bytecode
-code_of j = bytecode j.caps j.pools.now j.code.now
-
 -- what is judged with these chunks, without constants
 abbrev pub judged_input : Judge → List Span → Input
 judged_input j chunks = input j.caps [] j.code.now j.functions.now chunks j.pools.now
-
--- the chunk at this place is the first that doesn't pass
-pub record IsFirstRefused (code : Bytecode) (chunks : List Span) (place : ℕ) : Type 0 where
-  pub inside : place < length chunks
-  pub earlier : AllWithin (ChunkPasses code) chunks 0 place
-  pub refused : HoldsAt (λ chunk. ChunkPasses code chunk → ⊥) chunks place
 
 -- what is verified without constants, which are tested by their rows
 abbrev pub judged : ℕ → List ℕ → List Span → CPools → List Function → List Chain → List Arms → Input

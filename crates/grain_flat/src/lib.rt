@@ -20,7 +20,7 @@ mod verdicts;
 
 pub use fields::fields_of;
 pub use flat::is_flat;
-pub use judge::{Refusal, Stop};
+pub use judge::Stop;
 pub use records::{
     CCase, CChain, CChunk, CConstant, CFault, CField, CInstruction, CPools, CStep, CSwitch,
 };

@@ -8,9 +8,9 @@ ghost use Rattle.grain_flat.specs.declared.judge.Stop.{Stop};
 
 use crate::asking::first_refused;
 use crate::build::{Made, make};
-use crate::judge::{Judge, Refusal, Stop};
+use crate::judge::{Judge, Stop};
 use crate::records::{CChunk, CPools};
-use grain::{Caps, Chunk, FnAccess, Function, Meter, Pools, VerifyError};
+use grain::{Caps, Chunk, FnAccess, Function, Meter, Pools, Refusal, VerifyError};
 use std::alloc::{AllocError, Global};
 
 /// The chunks as they are verified.

@@ -23,9 +23,9 @@ use Rattle.grain_rules.specs.Effects.{Edge, Meets, after_fall, after_jump, falls
 use Rattle.grain_rules.specs.Flow as flows
 use Rattle.grain_rules.specs.Flow.{Flow}
 use Rattle.grain_rules.specs.Layout.{Reads}
-use Rattle.grain_rules.specs.Setting.{Setting}
+use Rattle.grain_rules.specs.Setting.{Setting, unset}
 use Rattle.grain_rules.specs.Sinking.{ReachesUpTo, Stays, untouched}
-use Rattle.grain_rules.specs.Rows.{Row, caps_of, flow_of, is_quiet, needs, row, takes, unset}
+use Rattle.grain_rules.specs.Rows.{Row, caps_of, flow_of, is_quiet, needs, row, takes}
 use Rattle.grain_rules.specs.FlowFields.{fall_for, falls_for, handlers_for, iterators_for, jump_for, targets_for}
 use Rattle.grain_rules.specs.Typing.{HasTyping, IsDeepest, Passes, Reached, StandsIn, begin, onward}
 use Rattle.grain_rules.proofs.Offsets.{apart, ascends, before, next_there, not_after, offset_end, op_here, rises_to, same_or_below, start_there}

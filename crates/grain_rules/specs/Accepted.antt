@@ -15,7 +15,7 @@ use Rattle.grain_rules.specs.ConstCaps.{const_caps}
 use Rattle.grain_rules.specs.Indices.{Indexed}
 use Rattle.grain_rules.specs.Layout.{IsStart, IsBoundary}
 use Rattle.grain_rules.specs.Setting.{Setting}
-use Rattle.grain_rules.specs.Machine.{Machine, Finds, IsKeptRun, IsOnKeptRun, IsRunKeptAtQuiet}
+use Rattle.grain_rules.specs.Machine.{Machine, Finds, IsKeptRun, IsOnKeptRun, IsRun, MovesKeptAtQuiet}
 use Rattle.grain_rules.specs.Typing.{HasTyping, IsDeepest}
 use Rattle.grain_rules.specs.declared.pools.Pools.{Pools}
 
@@ -85,7 +85,7 @@ pub record IsSafe (code : Bytecode) (chunk : Span) (n : ℕ) : Type 0 where
   pub finds : (m : Machine) → IsOnKeptRun (coded code) chunk m → (op : Op) × Finds (coded code) chunk m op × Allows code.setting.caps (caps_of code.setting op)
   pub most : (m : Machine) → IsOnKeptRun (coded code) chunk m → m.operands ≤ n
   pub attained : (m : Machine) × IsOnKeptRun (coded code) chunk m × (m.operands ≡ n)
-  pub kept : (m : Machine) (earlier : List Machine) → IsRunKeptAtQuiet (coded code) chunk m earlier → IsKeptRun (coded code) chunk m earlier
+  pub kept : (m : Machine) (earlier : List Machine) → IsRun (MovesKeptAtQuiet (coded code) chunk) chunk m earlier → IsKeptRun (coded code) chunk m earlier
 
 abbrev pub AreSafe : Input → List ℕ → Type 0
 AreSafe i numbers = AllZip (IsSafe i.code) i.chunks numbers

@@ -4,7 +4,7 @@ use Rattle.grain_base.specs.declared.caps.Caps.{Caps}
 use Rattle.grain_pools.specs.Dispatch.{arms, arm_targets}
 use Rattle.grain_pools.specs.declared.switch.Switch.{Switch}
 use Rattle.grain_rules.specs.Layout.{Layout, Coded}
-use Rattle.grain_rules.specs.Setting.{Setting, setting}
+use Rattle.grain_rules.specs.Setting.{Setting, pools_with}
 use Rattle.grain_rules.specs.declared.pools.Pools.{Pools}
 
 -- operations where they stand, and what they are judged against
@@ -26,4 +26,4 @@ abbrev pub switch_targets : Switch → List ℕ
 switch_targets s = arm_targets (arms s)
 
 abbrev pub bytecode : Caps → Pools → List ℕ → Bytecode
-bytecode caps pools bytes = record { setting = setting caps pools; bytes = bytes; switches = map switch_targets pools.switches.now }
+bytecode caps pools bytes = record { setting = pools_with caps.0 pools; bytes = bytes; switches = map switch_targets pools.switches.now }

@@ -1,9 +1,10 @@
 -- The first of some indices that is out of bounds.
 use Rattle.std.specs.Prelude.{◌≡◌, ℕ, List, [], ◌∷◌, Option, Some, None, Result, Ok, Err, cond, nat_lt, map, get_or, codes}
 use Rattle.grain_code.specs.declared.field.Field.{Field}
+use Rattle.grain_code.specs.declared.field.Field.TheVariants.{Index}
+use Rattle.grain_code.specs.declared.field.Pool.TheVariants.{Names}
 use Rattle.grain_code.specs.declared.op.Receiver.{Receiver}
 use Rattle.grain_code.specs.declared.op.Receiver.TheVariants as receiver
-use Rattle.grain_code.specs.InstructionTable.{name}
 use Rattle.grain_pools.specs.Dispatch.{first_past}
 use Rattle.grain_rules.specs.Indices.{Test, chain_tests, entry_name}
 use Rattle.grain_rules.specs.Setting.{Setting, case_consts, pools_with}
@@ -24,7 +25,7 @@ first_out (t ∷ ts) = cond (nat_lt t.index t.bound) (first_out ts) (Some (t.wha
 
 -- the name that a receiver has
 abbrev pub receiver_fields : Receiver → List Field
-receiver_fields (receiver.Named n) = name n ∷ []
+receiver_fields (receiver.Named n) = Index Names n ∷ []
 receiver_fields (receiver.Local slot) = []
 receiver_fields receiver.This = []
 

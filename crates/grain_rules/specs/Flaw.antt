@@ -1,5 +1,5 @@
 -- What each refusal says of what was verified.
-use Rattle.std.specs.Prelude.{◌≡◌, ◌≢◌, ◌⊎◌, ℕ, ◌+◌, ◌<◌, ◌≤◌, true, List, [], length, take, Some}
+use Rattle.std.specs.Prelude.{◌≡◌, ◌≢◌, ◌⊎◌, ℕ, ◌+◌, ◌<◌, ◌≤◌, true, List, [], length, take, Option, None, Some}
 use Rattle.std.specs.Borrow.{Bor}
 use Rattle.std.specs.List.{AllWithin, Contains, HoldsAt}
 use Rattle.grain_base.specs.CapBits.{FUNCTION, missing}
@@ -146,3 +146,8 @@ pub data Flaw (i : Input) : VerifyError → Type 0 where
   of_code : {e : VerifyError} → ConstantsPass i → CodeFlaw i.code.setting i.code.bytes e → Flaw i e
   of_functions : {artifact absent : Caps} → artifact.0 ≡ i.code.setting.caps → FunctionsAsk i absent.0 → Flaw i (errors.MissingCaps artifact absent 0)
   of_chunk : {e : VerifyError} → IsFlawOfChunks i e → Flaw i e
+
+-- the flaw is one of the chunk at this place, or of what is tested before the chunks
+abbrev pub FlawAt : Input → Option ℕ → VerifyError → Type 0
+FlawAt i None e = Flaw i e × (IsFlawOfChunks i e → ⊥)
+FlawAt i (Some place) e = (flaw : IsFlawOfChunks i e) × (flaw.chunk.place ≡ place)

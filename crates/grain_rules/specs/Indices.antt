@@ -3,7 +3,7 @@ use Rattle.std.specs.Prelude.{◌≡◌, ⊤, ◌⊎◌, ◌≤◌, ◌<◌, ℕ
 use Rattle.std.specs.List.{AllByRecursion, Contains, flat_map}
 use Rattle.std.specs.Option.{option_to_list}
 use Rattle.grain_pools.specs.Chain.{last_operand}
-use Rattle.grain_code.specs.InstructionTable.{form, name, op_assignment}
+use Rattle.grain_code.specs.InstructionTable.{form}
 use Rattle.grain_code.specs.declared.op.Op.{Op}
 use Rattle.grain_code.specs.declared.field.Field.{Field}
 use Rattle.grain_code.specs.declared.field.Field.TheVariants.{Index, Slot, Count, Target}
@@ -16,29 +16,33 @@ use Rattle.grain_pools.specs.declared.chain.Step.{Step}
 use Rattle.grain_pools.specs.declared.chain.Step.TheVariants as steps
 use Rattle.grain_pools.specs.declared.chain.Tail.{Tail}
 use Rattle.grain_pools.specs.declared.chain.Tail.TheVariants as tails
-use Rattle.grain_rules.specs.Setting.{Setting}
+use Rattle.grain_rules.specs.Setting.{Setting, unset}
+
+-- What an index into a pool leads to: what a refusal calls it, how many entries there are, and what entries have inside them:
+-- chains, or the constants of the cases of switches.
+pub record PoolRow : Type 0 where
+  pub word : List ℕ
+  pub size : ℕ
+  pub chains : List Chain
+  pub cases : List (List ℕ)
+
+abbrev pub pool_row : Setting → Pool → PoolRow
+pool_row s Constants = record { word = codes "constant"; size = s.consts; chains = []; cases = [] }
+pool_row s Names = record { word = codes "name"; size = length s.names; chains = []; cases = [] }
+pool_row s Operators = record { word = codes "operator"; size = s.tokens; chains = []; cases = [] }
+pool_row s OpAssignments = record { word = codes "op-assignment"; size = s.assign_ops; chains = []; cases = [] }
+pool_row s Fragments = record { word = codes "fragment"; size = s.residuals; chains = []; cases = [] }
+pool_row s Chains = record { word = codes "chain"; size = length s.chains; chains = s.chains; cases = [] }
+pool_row s Switches = record { word = codes "switch"; size = length s.cases; chains = []; cases = s.cases }
+pool_row s SyntaxSites = record { word = codes "custom syntax site"; size = 0; chains = []; cases = [] }
 
 -- how many a pool has
 abbrev pub size : Setting → Pool → ℕ
-size s Constants = s.consts
-size s Names = length s.names
-size s Operators = s.tokens
-size s OpAssignments = s.assign_ops
-size s Fragments = s.residuals
-size s Chains = length s.chains
-size s Switches = length s.cases
-size s SyntaxSites = 0
+size s pool = (pool_row s pool).size
 
--- what a refusal calls an index of the pool
+-- what a refusal calls an index of the pool, whatever the pools hold
 abbrev pub entry_name : Pool → List ℕ
-entry_name Constants = codes "constant"
-entry_name Names = codes "name"
-entry_name Operators = codes "operator"
-entry_name OpAssignments = codes "op-assignment"
-entry_name Fragments = codes "fragment"
-entry_name Chains = codes "chain"
-entry_name Switches = codes "switch"
-entry_name SyntaxSites = codes "custom syntax site"
+entry_name pool = (pool_row unset pool).word
 
 -- an index into a pool is below its size
 abbrev pub IsBounded : Setting → Field → Type 0
@@ -75,19 +79,19 @@ abbrev pub operand_tests : ℕ → Step → List Test
 operand_tests operands step = map (operand_test operands) (option_to_list (last_operand step))
 
 abbrev pub root_fields : Root → List Field
-root_fields (roots.Local slot n) = name n ∷ []
-root_fields (roots.Named n pos) = name n ∷ []
+root_fields (roots.Local slot n) = Index Names n ∷ []
+root_fields (roots.Named n pos) = Index Names n ∷ []
 root_fields (roots.This pos) = []
 root_fields roots.Temporary = []
 
 abbrev pub step_fields : Step → List Field
 step_fields (steps.Index operand flags pos bracket) = []
-step_fields (steps.Property n getter setter flags pos) = name n ∷ name getter ∷ name setter ∷ []
-step_fields (steps.Method n argc operand flags pos) = name n ∷ []
+step_fields (steps.Property n getter setter flags pos) = Index Names n ∷ Index Names getter ∷ Index Names setter ∷ []
+step_fields (steps.Method n argc operand flags pos) = Index Names n ∷ []
 
 abbrev pub tail_fields : Tail → List Field
 tail_fields tails.Read = []
-tail_fields (tails.Assign op) = map op_assignment (option_to_list op)
+tail_fields (tails.Assign op) = map (Index OpAssignments) (option_to_list op)
 
 -- the indices inside a chain, in the order in which they are tested
 abbrev pub chain_fields : Chain → List Field
@@ -104,16 +108,9 @@ chain_tests s c =
     ++ flat_map (step_tests s c.operands) c.steps.items
     ++ field_tests s (tail_fields c.tail)
 
--- what is inside what an index names, where this is inside a chain: a chain has some; past the chains there is none
+-- what is inside what an index names, where this is inside a chain; past the chains there is none
 abbrev pub inner : {X : Type 0} → (Chain → List X) → Setting → Pool → ℕ → List X
-inner f s Constants x = []
-inner f s Names x = []
-inner f s Operators x = []
-inner f s OpAssignments x = []
-inner f s Fragments x = []
-inner f s Chains x = get_or (map f s.chains) x []
-inner f s Switches x = []
-inner f s SyntaxSites x = []
+inner f s pool x = get_or (map f (pool_row s pool).chains) x []
 
 -- the same of what some fields name, in order
 abbrev pub all_inner : {X : Type 0} → (Chain → List X) → Setting → List Field → List X
@@ -131,16 +128,9 @@ fields_of s op = (form op).1 ++ all_inner chain_fields s (form op).1
 abbrev pub tests_of : Setting → Op → List Test
 tests_of s op = field_tests s (form op).1 ++ all_inner (chain_tests s) s (form op).1
 
--- the constants of the cases of what an index names: a switch has some; past the switches there are none
+-- the constants of the cases of what an index names; past the switches there are none
 abbrev pub case_constants : Setting → Pool → ℕ → List ℕ
-case_constants s Constants x = []
-case_constants s Names x = []
-case_constants s Operators x = []
-case_constants s OpAssignments x = []
-case_constants s Fragments x = []
-case_constants s Chains x = []
-case_constants s Switches x = get_or s.cases x []
-case_constants s SyntaxSites x = []
+case_constants s pool x = get_or (pool_row s pool).cases x []
 
 -- those of what some fields name
 abbrev pub all_case_constants : Setting → List Field → List ℕ

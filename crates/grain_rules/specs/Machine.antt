@@ -68,7 +68,7 @@ pub record Steps (code : Code) (chunk : Span) (m n : Machine) : Type 0 where
   pub edge : Flows code op m.address (counts m) n.address counted
   pub operands : n.operands ≡ counted.operands
   pub iterators : n.iterators ≡ counted.iterators
-  pub handlers : n.handlers ≡ handlers_after op m
+  pub handlers : n.handlers ≡ handlers_behind (flow_of op) m
 
 -- the innermost handler that isn't spent, and those outside it
 abbrev pub innermost : List Handler → Option (Handler × List Handler)

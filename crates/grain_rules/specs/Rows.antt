@@ -1,5 +1,5 @@
 -- What each operation does: a row for each, in the order of the instruction table of docs/FORMAT.md.
-use Rattle.std.specs.Prelude.{ℕ, ◌+◌, ◌-◌, ◌*◌, Bool, true, false, List, [], map, get_or}
+use Rattle.std.specs.Prelude.{ℕ, ◌+◌, ◌-◌, ◌*◌, Bool, true, false, map, get_or}
 use Rattle.std.specs.Int.RustNames.{bit_or}
 use Rattle.grain_base.specs.CapBits.{ARRAY, MAP, FN_PTR, CURRYING, SHARING, THIS, EXPORT, IMPORT, CUSTOM_SYNTAX}
 use Rattle.grain_pools.specs.Chain.{consumed}
@@ -8,7 +8,7 @@ use Rattle.grain_code.specs.declared.op.Op.TheVariants as ops
 use Rattle.grain_code.specs.declared.op.Receiver.TheVariants as receiver
 use Rattle.grain_rules.specs.Capabilities.{chain_caps, module_of}
 use Rattle.grain_rules.specs.Flow.{Flow, Falls, Ends, Jumps, Branches, Switches, BeginsIterator, AdvancesIterator, EndsIterator, PushesHandler, PopsHandler}
-use Rattle.grain_rules.specs.Setting.{Setting}
+use Rattle.grain_rules.specs.Setting.{Setting, unset}
 
 -- How many operands there have to be, how many are taken and how many are given; what is asked of the host; how the operation is
 -- left; and whether it is quiet, so that it alone may find or leave less than stood when the last handler was armed.
@@ -94,10 +94,7 @@ gives s op = (row s op).gives
 abbrev pub caps_of : Setting → Op → ℕ
 caps_of s op = (row s op).asks
 
--- no pools and no capabilities: how an operation is left, and whether it is quiet, depends on neither
-abbrev pub unset : Setting
-unset = record { caps = 0; consts = 0; names = []; tokens = 0; assign_ops = 0; residuals = 0; chains = []; cases = [] }
-
+-- how an operation is left, and whether it is quiet, depends on no pools and no capabilities
 abbrev pub flow_of : Op → Flow
 flow_of op = (row unset op).flow
 

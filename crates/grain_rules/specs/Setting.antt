@@ -1,5 +1,5 @@
 -- What code is judged against: the capabilities of the host, and the pools that its instructions point into.
-use Rattle.std.specs.Prelude.{ℕ, List, map}
+use Rattle.std.specs.Prelude.{ℕ, List, [], map}
 use Rattle.grain_base.specs.declared.caps.Caps.{Caps}
 use Rattle.grain_pools.specs.declared.chain.Chain.{Chain}
 use Rattle.grain_pools.specs.declared.switch.Switch.{Switch}
@@ -17,6 +17,10 @@ pub record Setting : Type 0 where
   pub chains : List Chain
   -- of each switch, the constant of each case
   pub cases : List (List ℕ)
+
+-- no pools and no capabilities
+abbrev pub unset : Setting
+unset = record { caps = 0; consts = 0; names = []; tokens = 0; assign_ops = 0; residuals = 0; chains = []; cases = [] }
 
 -- the constant of each case
 abbrev pub case_consts : Switch → List ℕ

@@ -1,8 +1,11 @@
 -- What a call answers that verifies.
 use Rattle.std.specs.Prelude.{◌≡◌, ◌⊎◌, ℕ, IfErr, IfOk, OnOk, Result, Vec}
+use Rattle.std.specs.List.{AllZip}
 use Rattle.std.specs.declared.alloc.Global.{Global}
-use Rattle.grain_rules.specs.Accepted.{AreDeepest, AreSafe, AreTyped, CodePasses, ConstantsPass, FunctionsPass, Input, IsAccepted}
+use Rattle.grain_rules.specs.Accepted.{CodePasses, ConstantsPass, FunctionsPass, Input, IsAccepted, IsSafe}
+use Rattle.grain_rules.specs.Code.{coded}
 use Rattle.grain_rules.specs.Flaw.{Flaw}
+use Rattle.grain_rules.specs.Typing.{HasTyping, IsDeepest}
 use Rattle.grain_rules.specs.declared.error.VerifyError.{VerifyError}
 use Rattle.grain_rules.specs.declared.error.VerifyError.TheVariants.{OutOfMemory}
 
@@ -17,12 +20,12 @@ pub record IsVerdict (i : Input) (result : Result (Vec ℕ Global) VerifyError) 
   -- what is accepted is accepted input
   pub accepted : OnOk result (IsAccepted i)
   -- its chunks have typings within its numbers
-  pub typed : IfOk result (λ numbers. AreTyped i numbers.items)
+  pub typed : IfOk result (λ numbers. AllZip (HasTyping (coded i.code)) i.chunks numbers.items)
   -- its numbers are the greatest operand counts that are reached, chunk by chunk
-  pub deepest : IfOk result (λ numbers. AreDeepest i numbers.items)
+  pub deepest : IfOk result (λ numbers. AllZip (IsDeepest (coded i.code)) i.chunks numbers.items)
   -- no state of a kept run lacks anything or has more operands than its chunk's number, some state has as many, and a run
   -- is kept where its faults at quiet operations are
-  pub safe : IfOk result (λ numbers. AreSafe i numbers.items)
+  pub safe : IfOk result (λ numbers. AllZip (IsSafe i.code) i.chunks numbers.items)
   -- accepted input is accepted, want of memory aside
   pub accepts : IsAccepted i → IfErr result (λ e. e ≡ OutOfMemory)
   -- each refusal but want of memory names a flaw of the input

@@ -1,5 +1,5 @@
 -- From one chunk to the next.
-use Rattle.std.proofs.Common.{◌≡◌, ℕ, ◌+◌, ◌<◌, List, [], ◌∷◌, ◌++◌, length, get_or, take, sym, subst, ◌∙◌}
+use Rattle.std.proofs.Common.{◌≡◌, ◌≢◌, ◌⊎◌, inl, inr, None, Some, ℕ, ◌+◌, ◌<◌, List, [], ◌∷◌, ◌++◌, length, get_or, take, sym, subst, ◌∙◌}
 use Rattle.std.specs.List.{All, AllWithin, AllZip, HoldsAt}
 use Rattle.std.proofs.lemmas.List.{get_or_default, take_more}
 use Rattle.std.proofs.lemmas.List.Elements.{AllWithin-more}
@@ -8,6 +8,9 @@ use Rattle.grain_rules.specs.Accepted.{ChunkPasses}
 use Rattle.grain_rules.specs.Code.{Bytecode}
 use Rattle.grain_rules.specs.Flaw.{ChunkFlaw, IsFirstFlaw}
 use Rattle.grain_rules.specs.declared.error.VerifyError.{VerifyError}
+use Rattle.grain_rules.specs.declared.error.VerifyError.TheVariants.{OutOfMemory}
+use Rattle.grain_verify.specs.Refusals.{IsChunkRefusal}
+use Rattle.grain_verify.specs.declared.refusal.Refusal.{Refusal}
 
 -- what holds of the chunk at a place, which was read there
 holds_at : {X : Type 0} (P : X → Type 0) (xs : List X) (i : ℕ) (x : X) → i < length xs → x ≡ get_or xs i x → P x → HoldsAt P xs i
@@ -20,9 +23,18 @@ passes_more code chunks i x l e before h = AllWithin-more (ChunkPasses code) chu
 pub passes_there : (code : Bytecode) (chunks : List Span) (i : ℕ) (x : Span) → i < length chunks → x ≡ get_or chunks i x → All (ChunkPasses code) chunks → ChunkPasses code x
 passes_there code chunks i x l e all = subst (ChunkPasses code) (sym e) (all i x l)
 
-pub first_flaw : (code : Bytecode) (chunks : List Span) (i : ℕ) (x : Span) (e : VerifyError) → i < length chunks → x ≡ get_or chunks i x → AllWithin (ChunkPasses code) chunks 0 i
-    → ChunkFlaw code x e → IsFirstFlaw code chunks e
-first_flaw code chunks i x e l is before h = record { place = i; inside = l; earlier = before; here = holds_at (λ (chunk : Span). ChunkFlaw code chunk e) chunks i x l is h }
+-- a refusal of the chunk at a place, each before which passes
+pub refused_at : (code : Bytecode) (chunks : List Span) (i : ℕ) (x : Span) (e : VerifyError) (r : Refusal) → i < length chunks → x ≡ get_or chunks i x → AllWithin (ChunkPasses code) chunks 0 i
+    → r.error ≡ e → (e ≢ OutOfMemory → r.place ≡ Some i) → (e ≡ OutOfMemory → r.place ≡ None) → (e ≡ OutOfMemory) ⊎ ChunkFlaw code x e → IsChunkRefusal code chunks r
+refused_at code chunks i x e r l is before same place memory (inl m) = inl (record { error = same ∙ m; place = memory m })
+refused_at code chunks i x e r l is before same place memory (inr h) =
+    let flaw : IsFirstFlaw code chunks r.error = record {
+      place = i;
+      inside = l;
+      earlier = before;
+      here = holds_at (λ (chunk : Span). ChunkFlaw code chunk r.error) chunks i x l is (subst (ChunkFlaw code x) (sym same) h);
+    } in
+    inr (flaw, place (λ m. subst (ChunkFlaw code x) m h))
 
 zip_push : {A B : Type 0} (R : A → B → Type 0) (xs : List A) (ys : List B) (x : A) (y : B) → AllZip R xs ys → R x y → AllZip R (xs ++ x ∷ []) (ys ++ y ∷ [])
 zip_push R [] [] x y h r = (r, tt)

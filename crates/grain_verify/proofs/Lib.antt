@@ -11,6 +11,7 @@ pub mod NamedLists
 pub mod Numbering
 pub mod Ordinals
 pub mod Places
+pub mod Placing
 pub mod Pushing
 mod Quietness
 pub mod Refusing

@@ -13,6 +13,8 @@ use Rattle.grain_verify.specs.Meter.{IsMetered, starts_within}
 use Rattle.grain_verify.specs.Progress.{AreCounted, AreMeteredChunks, IsMeteredChunk}
 use Rattle.grain_rules.specs.Typing.{IsReachedCount}
 use Rattle.grain_rules.specs.declared.error.VerifyError.{VerifyError}
+use Rattle.grain_verify.specs.Refusals.{without_place}
+use Rattle.grain_verify.specs.declared.refusal.Refusal.{Refusal}
 use Rattle.grain_verify.proofs.Chunks.{number_more}
 use Rattle.grain_verify.proofs.Ticks.{counted_both, counted_nothing}
 
@@ -36,8 +38,8 @@ module _ (code : Bytecode) (starts : List ℕ) (chunks : List Span) (i : ℕ) (x
   }
 
   -- a chunk was refused
-  pub counted_refused : {A : Type 0} (e : VerifyError) → IsMeteredChunk {A = ℕ} code starts x mid new (Err e) → (r : Result A VerifyError) → r ≡ Err e → AreMeteredChunks code starts chunks old new r
-  counted_refused e m r same = rw same (record {
+  pub counted_refused : {A E : Type 0} (e : VerifyError) → IsMeteredChunk {A = ℕ} code starts x mid new (Err e) → (refusal : E) → AreMeteredChunks {A = A} code starts chunks old new (Err refusal)
+  counted_refused e m refusal = record {
     visits = before.visits + m.visits;
     within =
         let a = before.within in
@@ -47,21 +49,21 @@ module _ (code : Bytecode) (starts : List ℕ) (chunks : List Span) (i : ℕ) (x
         omega arith;
     counted = counted_both old mid new before.visits m.visits before.counted m.counted;
     reached = tt;
-  })
+  }
 
 -- all were walked
-pub counted_all : {A : Type 0} (code : Bytecode) (starts : List ℕ) (chunks : List Span) (i old new : ℕ) (numbers : A) → length chunks ≤ i → AreCounted code starts (take i chunks) old new
-    → AreMeteredChunks {A = A} code starts chunks old new (Ok numbers)
+pub counted_all : {A E : Type 0} (code : Bytecode) (starts : List ℕ) (chunks : List Span) (i old new : ℕ) (numbers : A) → length chunks ≤ i → AreCounted code starts (take i chunks) old new
+    → AreMeteredChunks {A = A} {E = E} code starts chunks old new (Ok numbers)
 counted_all code starts chunks i old new numbers past before =
     let all = take_all i chunks past in
     let c = subst (λ (cs : List Span). AreCounted code starts cs old new) all before in
     record { visits = c.visits; within = c.within; counted = c.counted; reached = c.reached }
 
 -- what was counted of the chunks was counted of the whole
-pub metered_chunks : (i : Input) (old new : ℕ) (result : Result (Vec ℕ Global) VerifyError) → (starts : List ℕ) → Split i.code.bytes starts
-    → AreMeteredChunks i.code starts i.chunks old new result → IsMetered i old new result
-metered_chunks i old new (Ok numbers) starts split m = record { accepted = (m.visits, m.reached, m.counted); refused = tt }
-metered_chunks i old new (Err e) starts split m = record {
+pub metered_placed : (i : Input) (old new : ℕ) (result : Result (Vec ℕ Global) Refusal) → (starts : List ℕ) → Split i.code.bytes starts
+    → AreMeteredChunks i.code starts i.chunks old new result → IsMetered i old new (without_place result)
+metered_placed i old new (Ok numbers) starts split m = record { accepted = (m.visits, m.reached, m.counted); refused = tt }
+metered_placed i old new (Err r) starts split m = record {
   accepted = tt;
   refused = (
     m.visits,

@@ -7,8 +7,9 @@ pub mod Operands
 pub mod Plain
 pub mod SinkingView
 pub mod States
-pub mod TagEffects
+pub mod TagRows
 pub mod PoolCaps
 pub mod Progress
+pub mod Refusals
 pub mod Visits
 pub mod Walk

@@ -132,7 +132,7 @@ pub record AreCounted (code : Bytecode) (starts : List ℕ) (chunks : List Span)
   pub reached : AreReached code chunks visits
 
 -- what it has counted of chunks, of which one may be refused
-pub record AreMeteredChunks {A : Type 0} (code : Bytecode) (starts : List ℕ) (chunks : List Span) (old new : ℕ) (result : Result A VerifyError) : Type 0 where
+pub record AreMeteredChunks {A E : Type 0} (code : Bytecode) (starts : List ℕ) (chunks : List Span) (old new : ℕ) (result : Result A E) : Type 0 where
   pub visits : ℕ
   pub within : visits ≤ sum_by (starts_within starts) chunks
   pub counted : HasCounted old new visits

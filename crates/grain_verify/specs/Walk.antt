@@ -10,7 +10,7 @@ use Rattle.grain_rules.specs.Capabilities.{Allows}
 use Rattle.grain_rules.specs.Code.{Bytecode, bytecode}
 use Rattle.grain_verify.specs.PoolCaps.{AreAsked}
 use Rattle.grain_rules.specs.Sinking.{Stays}
-use Rattle.grain_verify.specs.TagEffects.{IsEffectIn}
+use Rattle.grain_verify.specs.TagRows.{IsEffectIn}
 use Rattle.grain_verify.specs.declared.effects.Effect.{Effect}
 use Rattle.grain_verify.specs.declared.lists.Lists.{Lists}
 use Rattle.grain_verify.specs.declared.state.Arrival.{Arrival}

@@ -6,14 +6,40 @@ ghost use Rattle.grain_code.specs.declared.field.Field.{Field};
 ghost use Rattle.grain_code.specs.declared.field.Field.TheVariants.{Target};
 ghost use Rattle.grain_code.specs.declared.op.Op.{Op};
 ghost use Rattle.grain_verify.specs.Plain.{IsFloor, IsPlainStep};
-ghost use Rattle.grain_verify.specs.TagEffects.{IsEffectOf, IsRowOf, told_flow};
+ghost use Rattle.grain_verify.specs.TagRows.{IsEffectOf, IsRowOf, tag_flow};
 ghost use Rattle.grain_verify.specs.declared.lists.Lists.{Lists};
 
 use crate::effects::Effect;
 use crate::flow::Flow;
 use crate::state::{Arrival, State};
-use crate::tag_effects::{TagEffect, ToldFlow};
-use grain_bytecode::{Head, Instruction};
+use grain_bytecode::{Head, Instruction, TagFlow, TagRow, tag_row};
+
+/// What the table of tags tells of the instructions with a tag.
+#[inline(always)]
+pub(crate) fn row_of(tag: u8) -> &'static TagRow
+    ensures { IsRowOf result.now tag }
+{
+    tag_row(tag)
+}
+
+/// The flow that a row tells, if it does.
+#[inline(always)]
+fn tag_flow(flow: TagFlow) -> Option<Flow>
+    ensures { result ≡ tag_flow flow }
+{
+    match flow {
+        TagFlow::Untold => None,
+        TagFlow::Falls => Some(Flow::Falls),
+        TagFlow::Ends => Some(Flow::Ends),
+        TagFlow::Jumps => Some(Flow::Jumps),
+        TagFlow::Branches => Some(Flow::Branches),
+        TagFlow::BeginsIterator => Some(Flow::BeginsIterator),
+        TagFlow::AdvancesIterator => Some(Flow::AdvancesIterator),
+        TagFlow::EndsIterator => Some(Flow::EndsIterator),
+        TagFlow::PushesHandler => Some(Flow::PushesHandler),
+        TagFlow::PopsHandler => Some(Flow::PopsHandler),
+    }
+}
 
 /// The target with which the fields of an instruction begin.
 #[inline(always)]
@@ -27,42 +53,42 @@ fn first_target(fields: &[u8]) -> u32
 
 /// What an instruction does of which the table of tags says this, and that it is left by this flow.
 #[inline(always)]
-pub(crate) fn effect_told(instruction: &Instruction<'_>, told: &TagEffect, way: Flow) -> Effect
+pub(crate) fn effect_by_row(instruction: &Instruction<'_>, row: &TagRow, flow: Flow) -> Effect
     requires known { (op : Op) × Instr (instruction.now.tag ∷ instruction.now.fields.now) op }
-    requires row { IsRowOf told.now instruction.now.tag }
-    requires way { told_flow told.now.flow ≡ Some way }
+    requires row { IsRowOf row.now instruction.now.tag }
+    requires flow { tag_flow row.now.flow ≡ Some flow }
     ensures does { (op : Op) → Instr (instruction.now.tag ∷ instruction.now.fields.now) op
         → IsEffectOf result op }
-    ensures needs { result.needs ≡ told.now.needs }
-    ensures takes { result.takes ≡ told.now.takes }
+    ensures needs { result.needs ≡ row.now.needs }
+    ensures takes { result.takes ≡ row.now.takes }
     ensures asks { result.asks.0 ≡ 0 }
-    ensures flow { result.flow ≡ way }
+    ensures flow { result.flow ≡ flow }
 {
-    let target = if way.has_target() {
+    let target = if flow.has_target() {
         first_target(instruction.fields)
     } else {
         0
     };
-    Effect::of_tag(told, way, target)
+    Effect::of_tag(row, flow, target)
 }
 
 /// What an instruction does, where its tag and its target tell.
 #[inline(always)]
-pub(crate) fn effect_by_tag(instruction: &Instruction<'_>, told: &TagEffect) -> Option<Effect>
+pub(crate) fn effect_by_tag(instruction: &Instruction<'_>, row: &TagRow) -> Option<Effect>
     requires known { (op : Op) × Instr (instruction.now.tag ∷ instruction.now.fields.now) op }
-    requires row { IsRowOf told.now instruction.now.tag }
+    requires row { IsRowOf row.now instruction.now.tag }
     ensures { IfSome result (λ e. (op : Op)
         → Instr (instruction.now.tag ∷ instruction.now.fields.now) op → IsEffectOf e op) }
 {
-    let way = told.flow.flow()?;
-    Some(effect_told(instruction, told, way))
+    let flow = tag_flow(row.flow)?;
+    Some(effect_by_row(instruction, row, flow))
 }
 
 /// What falls through a plain instruction, which does no more than its tag tells, where it finds the operands that it needs
 /// above the floor.
 #[inline(always)]
-pub(crate) fn plain_next(told: &TagEffect, head: Head, here: Arrival, floor: u64) -> Option<Arrival>
-    requires row { IsRowOf told.now head.tag }
+pub(crate) fn plain_next(row: &TagRow, head: Head, here: Arrival, floor: u64) -> Option<Arrival>
+    requires row { IsRowOf row.now head.tag }
     requires room { here.at + head.width < 2 ^ 32 }
     requires operands_room { here.state.operands + 1 < 2 ^ 32 }
     requires ordinal_room { here.ordinal + 1 < 2 ^ 64 }
@@ -73,9 +99,9 @@ pub(crate) fn plain_next(told: &TagEffect, head: Head, here: Arrival, floor: u64
         → IsPlainStep code lists here next) }
 {
     let state = here.state;
-    match told.flow {
-        ToldFlow::Falls if floor + u64::from(told.needs) <= u64::from(state.operands) => {
-            let left = state.operands - u32::from(told.takes) + u32::from(told.gives);
+    match row.flow {
+        TagFlow::Falls if floor + u64::from(row.needs) <= u64::from(state.operands) => {
+            let left = state.operands - u32::from(row.takes) + u32::from(row.gives);
             let after = State {
                 operands: left,
                 ..state

@@ -9,9 +9,8 @@ ghost use Rattle.grain_rules.specs.Setting.{Setting};
 
 use crate::flow::Flow;
 use crate::pool_caps::PoolCaps;
-use crate::tag_effects::TagEffect;
 use grain_base::{Caps, Flags};
-use grain_bytecode::{Chain, Op, Receiver};
+use grain_bytecode::{Chain, Op, Receiver, TagRow};
 
 /// What an operation does: what it asks of the host, how many operands it needs, how many of them it takes, how many it
 /// gives, its flow, and where that leads: the target of a jump or a handler, the exit of an iterator, the index of a switch.
@@ -139,21 +138,21 @@ impl Effect {
 
     /// What instructions with a tag do, with this flow and target.
     #[inline(always)]
-    pub(crate) fn of_tag(told: &TagEffect, flow: Flow, target: u32) -> Effect
-        requires there { told.now.takes ≤ told.now.needs }
-        requires by_one { told.now.gives ≤ told.now.takes + 1 }
+    pub(crate) fn of_tag(row: &TagRow, flow: Flow, target: u32) -> Effect
+        requires there { row.now.takes ≤ row.now.needs }
+        requires by_one { row.now.gives ≤ row.now.takes + 1 }
         ensures asks { result.asks.0 ≡ 0 }
-        ensures needs { result.needs ≡ told.now.needs }
-        ensures takes { result.takes ≡ told.now.takes }
-        ensures gives { result.gives ≡ told.now.gives }
+        ensures needs { result.needs ≡ row.now.needs }
+        ensures takes { result.takes ≡ row.now.takes }
+        ensures gives { result.gives ≡ row.now.gives }
         ensures flow { result.flow ≡ flow }
         ensures target { result.target ≡ target }
     {
         Effect {
             asks: Caps::empty(),
-            needs: u32::from(told.needs),
-            takes: u32::from(told.takes),
-            gives: u32::from(told.gives),
+            needs: u32::from(row.needs),
+            takes: u32::from(row.takes),
+            gives: u32::from(row.gives),
             flow,
             target,
         }

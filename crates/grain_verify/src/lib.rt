@@ -12,13 +12,14 @@ mod flow;
 mod lists;
 mod meter;
 mod pool_caps;
+mod refusal;
 mod sinking;
 mod state;
 mod states;
-mod tag_effects;
 mod verifier;
 mod walk;
 
 pub use meter::Meter;
+pub use refusal::Refusal;
 pub use sinking::is_quiet;
-pub use verifier::{verify, verify_metered};
+pub use verifier::{verify, verify_metered, verify_placed};

@@ -15,32 +15,8 @@ ghost use Rattle.grain_verify.specs.SinkingView.{RefusesSinking};
 use crate::effects::Effect;
 use crate::lists::{Base, Lists};
 use crate::state::{Arrival, State};
-use grain_bytecode::Instruction;
+use grain_bytecode::{Instruction, tag_row};
 use grain_rules::VerifyError;
-
-/// Whether the instructions with each tag are quiet (docs/FORMAT.md, "Instructions").
-static QUIET: [bool; 256] = [
-    false, false, true, true, true, false, false, false, false, false, false, true, false, false,
-    false, false, false, true, false, true, false, false, false, false, false, false, false, false,
-    false, false, false, true, false, false, true, false, false, false, false, false, false, false,
-    false, false, false, false, false, false, false, false, false, false, false, false, true,
-    false, false, false, false, false, false, false, false, false, false, false, false, false,
-    false, false, false, false, false, false, false, false, false, false, false, false, false,
-    false, false, false, false, false, false, false, false, false, false, false, false, false,
-    false, false, false, false, false, false, false, false, false, false, false, false, false,
-    false, false, false, false, false, false, false, false, false, false, false, false, false,
-    false, false, false, false, false, false, false, false, false, false, false, false, false,
-    false, false, false, false, false, false, false, false, false, false, false, false, false,
-    false, false, false, false, false, false, false, false, false, false, false, false, false,
-    false, false, false, false, false, false, false, false, false, false, false, false, false,
-    false, false, false, false, false, false, false, false, false, false, false, false, false,
-    false, false, false, false, false, false, false, false, false, false, false, false, false,
-    false, false, false, false, false, false, false, false, false, false, false, false, false,
-    false, false, false, false, false, false, false, false, false, false, false, false, false,
-    false, false, false, false, false, false, false, false, false, false, false, false, false,
-    false, false, false, false, false, false, false, false, false, false, false, false, false,
-    false, false, false, false, false, false,
-];
 
 /// Whether the instruction is quiet, or else leaves what stood when the last handler was armed. Where it faults, that handler's
 /// code runs on what it left, and would find fewer operands or iterators than were tested there.
@@ -125,5 +101,5 @@ fn check_sinking(tag: u8, at: u32, left: Base, last: Base) -> Result<(), VerifyE
 pub fn is_quiet(tag: u8) -> bool
     ensures { (op : Op) → (form op).0 ≡ tag → result ≡ is_quiet op }
 {
-    QUIET[tag as usize]
+    tag_row(tag).is_quiet
 }

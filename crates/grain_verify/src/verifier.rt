@@ -1,14 +1,14 @@
 //! The verifier.
-ghost use Rattle.std.specs.Prelude.{◌≡◌, ◌⊎◌, ℕ, IfErr, IfOk, List, OnOk};
+ghost use Rattle.std.specs.Prelude.{◌≡◌, ℕ, IfErr, IfOk, List, OnOk};
 ghost use Rattle.std.specs.List.{All, AllZip};
 ghost use Rattle.grain_code.specs.Span.{Span};
 ghost use Rattle.grain_code.specs.Split.{Split};
-ghost use Rattle.grain_rules.specs.Accepted.{ChunkPasses, IsAccepted, input};
-ghost use Rattle.grain_rules.specs.Accepted.{AreIndexed};
+ghost use Rattle.grain_rules.specs.Accepted.{AreIndexed, ChunkPasses, input};
 ghost use Rattle.grain_rules.specs.Code.{bytecode, coded};
-ghost use Rattle.grain_rules.specs.Flaw.{Flaw, IsFirstFlaw};
+ghost use Rattle.grain_rules.specs.Flaw.{Flaw};
 ghost use Rattle.grain_verify.specs.Meter.{IsMetered};
 ghost use Rattle.grain_verify.specs.Progress.{AreMeteredChunks};
+ghost use Rattle.grain_verify.specs.Refusals.{IsChunkRefusal, IsPlacedRefusal, without_place};
 ghost use Rattle.grain_rules.specs.Setting.{setting};
 ghost use Rattle.grain_rules.specs.Typing.{HasTyping, IsDeepest};
 ghost use Rattle.grain_rules.specs.Verdict.{IsVerdict, ReachesChunks};
@@ -18,6 +18,7 @@ use crate::chunk::verify_chunk;
 use crate::lists::Lists;
 use crate::meter::Meter;
 use crate::pool_caps::PoolCaps;
+use crate::refusal::Refusal;
 use crate::walk::{Prepared, Traversal};
 use grain_base::{Caps, Dynamic};
 use grain_bytecode::{Chunk, Function, Starts};
@@ -39,7 +40,7 @@ fn check_before_chunks(
     ensures ok { (chunks : List Span) → OnOk result
         (ReachesChunks (input caps consts.now code.now functions.now chunks pools.now)) }
     ensures refused { (chunks : List Span)
-        → IsAccepted (input caps consts.now code.now functions.now chunks pools.now)
+        → ReachesChunks (input caps consts.now code.now functions.now chunks pools.now)
         → IfErr result (λ _. ⊥) }
     ensures flaws { (chunks : List Span) → IfErr result (λ e. Flaw
         (input caps consts.now code.now functions.now chunks pools.now) e) }
@@ -55,7 +56,7 @@ fn walk_chunks(
     prepared: &Prepared<'_>,
     chunks: &[Chunk],
     meter: &mut Meter,
-) -> Result<Vec<u16>, VerifyError>
+) -> Result<Vec<u16>, Refusal>
     requires { IsReady prepared.now }
     ensures passes { OnOk result (All (ChunkPasses (bytecode_of prepared.now)) chunks.now) }
     ensures typed { IfOk result (λ v. AllZip (HasTyping (coded (bytecode_of prepared.now)))
@@ -63,9 +64,8 @@ fn walk_chunks(
     ensures deepest { IfOk result (λ v. AllZip (IsDeepest (coded (bytecode_of prepared.now)))
         chunks.now v.items) }
     ensures accepts { All (ChunkPasses (bytecode_of prepared.now)) chunks.now
-        → IfErr result (λ e. e ≡ VerifyError.OutOfMemory) }
-    ensures flaws { IfErr result (λ e. (e ≡ VerifyError.OutOfMemory)
-        ⊎ IsFirstFlaw (bytecode_of prepared.now) chunks.now e) }
+        → IfErr result (λ r. r.error ≡ VerifyError.OutOfMemory) }
+    ensures flaws { IfErr result (IsChunkRefusal (bytecode_of prepared.now) chunks.now) }
     ensures metered { AreMeteredChunks (bytecode_of prepared.now) prepared.now.starts.starts
         chunks.now meter.old meter.new result }
 {
@@ -73,9 +73,11 @@ fn walk_chunks(
     let mut traversal = Traversal::new(alloc, prepared.starts.count(), switches)?;
     let mut lists = Lists::new(alloc);
     let mut deepest = Vec::with_capacity(alloc, chunks.len())?;
-    for chunk in chunks {
-        let needed = verify_chunk(prepared, chunk, &mut lists, &mut traversal, meter)?;
-        deepest.push_reserved(needed);
+    for (place, chunk) in chunks.iter().enumerate() {
+        match verify_chunk(prepared, chunk, &mut lists, &mut traversal, meter) {
+            Ok(needed) => deepest.push_reserved(needed),
+            Err(error) => return Err(Refusal::of_chunk(place, error)),
+        }
     }
     Ok(deepest)
 }
@@ -88,7 +90,7 @@ fn verify_chunks(
     pools: &Pools<'_>,
     chunks: &[Chunk],
     meter: &mut Meter,
-) -> Result<Vec<u16>, VerifyError>
+) -> Result<Vec<u16>, Refusal>
     requires { AreIndexed (setting caps pools.now) code.now }
     ensures passes { OnOk result (All (ChunkPasses (bytecode caps pools.now code.now)) chunks.now) }
     ensures typed { IfOk result (λ v. AllZip (HasTyping (coded (bytecode caps pools.now code.now)))
@@ -96,9 +98,8 @@ fn verify_chunks(
     ensures deepest { IfOk result (λ v.
         AllZip (IsDeepest (coded (bytecode caps pools.now code.now))) chunks.now v.items) }
     ensures accepts { All (ChunkPasses (bytecode caps pools.now code.now)) chunks.now
-        → IfErr result (λ e. e ≡ VerifyError.OutOfMemory) }
-    ensures flaws { IfErr result (λ e. (e ≡ VerifyError.OutOfMemory)
-        ⊎ IsFirstFlaw (bytecode caps pools.now code.now) chunks.now e) }
+        → IfErr result (λ r. r.error ≡ VerifyError.OutOfMemory) }
+    ensures flaws { IfErr result (IsChunkRefusal (bytecode caps pools.now code.now) chunks.now) }
     ensures metered { (starts : List ℕ) → Split code.now starts → AreMeteredChunks
         (bytecode caps pools.now code.now) starts chunks.now meter.old meter.new result }
 {
@@ -178,6 +179,40 @@ pub fn verify_metered(
         (input caps consts.now code.now functions.now chunks.now pools.now)
         meter.old meter.new result }
 {
-    check_before_chunks(caps, consts, code, functions, pools)?;
-    verify_chunks(alloc, caps, code, pools, chunks, meter)
+    match verify_placed(alloc, caps, consts, code, functions, chunks, pools, meter) {
+        Ok(deepest) => Ok(deepest),
+        Err(refusal) => Err(refusal.error),
+    }
+}
+
+/// Verifies as [`verify_metered`] does, and says of a refusal which chunk is refused. One walk finds both.
+///
+/// # Errors
+/// Those of [`verify`], each with the place of the chunk that it is of, all before which pass; without a place where it is
+/// of no chunk.
+pub fn verify_placed(
+    alloc: Global,
+    caps: Caps,
+    consts: &[Dynamic],
+    code: &[u8],
+    functions: &[Function],
+    chunks: &[Chunk],
+    pools: &Pools<'_>,
+    meter: &mut Meter,
+) -> Result<Vec<u16>, Refusal>
+    ensures verdict { IsVerdict
+        (input caps consts.now code.now functions.now chunks.now pools.now)
+        (without_place result) }
+    ensures placed { IfErr result (IsPlacedRefusal
+        (input caps consts.now code.now functions.now chunks.now pools.now)) }
+    ensures memory { IfErr result (λ r. r.error ≡ VerifyError.OutOfMemory → ReachesChunks
+        (input caps consts.now code.now functions.now chunks.now pools.now)) }
+    ensures metered { IsMetered
+        (input caps consts.now code.now functions.now chunks.now pools.now)
+        meter.old meter.new (without_place result) }
+{
+    match check_before_chunks(caps, consts, code, functions, pools) {
+        Ok(()) => verify_chunks(alloc, caps, code, pools, chunks, meter),
+        Err(error) => Err(Refusal::of_whole(error)),
+    }
 }

@@ -1,5 +1,5 @@
 //! The walk over one chunk: [`Prepared::walk`] takes arrivals from the worklist, [`Prepared::walk_from`] goes on from each,
-//! instruction after instruction, and [`Prepared::visit`] or [`Prepared::visit_told`] does one of them.
+//! instruction after instruction, and [`Prepared::visit`] or [`Prepared::visit_by_tag`] does one of them.
 ghost use Rattle.std.specs.Prelude.{◌≡◌, ℕ, ◌+◌, ◌-◌, ◌≤◌, ◌<◌, ◌^◌, ◌++◌, ◌∷◌, ◌⊎◌, [], None, Some};
 ghost use Rattle.std.specs.Prelude.{get_or, length, replicate, slice_get, IfErr, IfNone, IfOk, IfSome, OnOk};
 ghost use Rattle.std.specs.Option.{option_to_list};
@@ -16,13 +16,13 @@ ghost use Rattle.grain_verify.specs.Lists.{Grows, IsShared, list_count};
 ghost use Rattle.grain_verify.specs.Meter.{starts_within};
 ghost use Rattle.grain_verify.specs.Plain.{GoesOn, IsFloor};
 ghost use Rattle.grain_verify.specs.Progress.{Fits, HaltsAt, IsWalking, visits_in, weight};
-ghost use Rattle.grain_verify.specs.TagEffects.{IsEffectIn, IsRowOf, told_flow};
+ghost use Rattle.grain_verify.specs.TagRows.{IsEffectIn, IsRowOf, tag_flow};
 ghost use Rattle.grain_rules.specs.Typing.{HasTyping, IsDeepest, IsInChunk, IsReachedCount};
 ghost use Rattle.grain_verify.specs.Visits.{CarriesFloor, IsMarked, IsVisited, RefusesChunk};
 ghost use Rattle.grain_verify.specs.Walk.{HasHead, IsPassing, IsReady, bytecode_of};
 ghost use Rattle.grain_verify.specs.declared.lists.Lists.{Lists};
 
-use crate::by_tag::{effect_by_tag, effect_told, plain_next};
+use crate::by_tag::{effect_by_row, effect_by_tag, plain_next, row_of};
 use crate::edges::{arrival_at, push_table, push_target};
 use crate::effects::Effect;
 use crate::flow::Flow;
@@ -31,9 +31,8 @@ use crate::pool_caps::PoolCaps;
 use crate::sinking::check_stays;
 use crate::state::{Arrival, State, check_same};
 use crate::states::States;
-use crate::tag_effects::{TagEffect, ToldFlow, tag_effect};
 use grain_base::{Caps, Flags};
-use grain_bytecode::{Chunk, Head, Instruction, Starts};
+use grain_bytecode::{Chunk, Head, Instruction, Starts, TagFlow, TagRow};
 use grain_rules::{Pools, VerifyError, missing};
 use std::alloc::{AllocError, Global};
 
@@ -236,13 +235,13 @@ impl Prepared<'_> {
 
     /// What an instruction does. It is decoded where its tag and its target don't tell, since decoding takes longer.
     #[inline(always)]
-    fn effect_of(&self, instruction: &Instruction<'_>, told: &TagEffect) -> Effect
-        requires row { IsRowOf told.now instruction.now.tag }
+    fn effect_of(&self, instruction: &Instruction<'_>, row: &TagRow) -> Effect
+        requires row { IsRowOf row.now instruction.now.tag }
         requires known { (op : Op) × Instr (instruction.now.tag ∷ instruction.now.fields.now) op }
         ensures { (op : Op) → Instr (instruction.now.tag ∷ instruction.now.fields.now) op
             → IsEffectIn self.now.pools.now.chains.now self.now.asked result op }
     {
-        if let Some(effect) = effect_by_tag(instruction, told) {
+        if let Some(effect) = effect_by_tag(instruction, row) {
             return effect;
         }
         let Some(op) = instruction.op() else {
@@ -253,7 +252,7 @@ impl Prepared<'_> {
 
     /// Follows the flow of an instruction that has all that it asks and needs but maybe an iterator or a handler. It answers
     /// the next arrival, if there is one that isn't on the worklist. It is cut from [`Prepared::visit`] and
-    /// [`Prepared::visit_told`] for the prover alone, which is told here once why the walk stays right.
+    /// [`Prepared::visit_by_tag`] for the prover alone, which is told here once why the walk stays right.
     ///
     /// # Errors
     /// Those of [`Prepared::follow`].
@@ -290,19 +289,19 @@ impl Prepared<'_> {
         chunk: &Chunk,
         here: Arrival,
         head: Head,
-        told: &TagEffect,
+        row: &TagRow,
         lists: &mut Lists,
         traversal: &mut Traversal,
     ) -> Result<Option<Arrival>, VerifyError>
         requires marked { IsMarked self.now chunk.now lists.old traversal.old here }
         requires headed { HasHead self.now.code.now here.at head }
-        requires row { IsRowOf told.now head.tag }
+        requires row { IsRowOf row.now head.tag }
         ensures visited { IfOk result (λ next. IsVisited self.now chunk.now lists.old lists.new
             traversal.old traversal.new here (option_to_list next)) }
         ensures err { IfErr result (RefusesChunk (bytecode_of self.now) chunk.now) }
     {
         let instruction = instruction_at(self.code, here.at as usize, head);
-        let effect = self.effect_of(&instruction, told);
+        let effect = self.effect_of(&instruction, row);
         self.check_needs(effect, here.at, here.state)?;
         check_stays(&instruction, effect, here, lists)?;
         self.follow_passing(chunk, here, &instruction, effect, lists, traversal)
@@ -315,31 +314,31 @@ impl Prepared<'_> {
     /// # Errors
     /// Those of [`Prepared::follow`].
     #[inline(always)]
-    fn visit_told(
+    fn visit_by_tag(
         &self,
         chunk: &Chunk,
         here: Arrival,
         head: Head,
-        told: &TagEffect,
-        way: Flow,
+        row: &TagRow,
+        flow: Flow,
         lists: &mut Lists,
         traversal: &mut Traversal,
     ) -> Result<Arrival, VerifyError>
         requires marked { IsMarked self.now chunk.now lists.old traversal.old here }
         requires headed { HasHead self.now.code.now here.at head }
-        requires row { IsRowOf told.now head.tag }
-        requires way { told_flow told.now.flow ≡ Some way }
-        requires goes_on { GoesOn way }
+        requires row { IsRowOf row.now head.tag }
+        requires flow { tag_flow row.now.flow ≡ Some flow }
+        requires goes_on { GoesOn flow }
         requires above { (floor : ℕ) × IsFloor lists.old here.state floor
-            × (floor + told.now.needs ≤ here.state.operands) }
+            × (floor + row.now.needs ≤ here.state.operands) }
         ensures visited { IfOk result (λ next. IsVisited self.now chunk.now lists.old lists.new
             traversal.old traversal.new here (next ∷ [])) }
         ensures floor { IfOk result (λ next.
-            CarriesFloor way lists.old lists.new here.state next.state) }
+            CarriesFloor flow lists.old lists.new here.state next.state) }
         ensures err { IfErr result (RefusesChunk (bytecode_of self.now) chunk.now) }
     {
         let instruction = instruction_at(self.code, here.at as usize, head);
-        let effect = effect_told(&instruction, told, way);
+        let effect = effect_by_row(&instruction, row, flow);
         match self.follow_passing(chunk, here, &instruction, effect, lists, traversal)? {
             Some(next) => Ok(next),
             None => unreachable!(),
@@ -433,33 +432,33 @@ impl Prepared<'_> {
                 return check_same(here.at, before, here.state);
             }
             self.mark(chunk, here, lists, traversal, visits, deepest);
-            let told = tag_effect(head.tag);
-            if let Some(next) = plain_next(told, head, here, floor) {
+            let row = row_of(head.tag);
+            if let Some(next) = plain_next(row, head, here, floor) {
                 here = next;
                 continue;
             }
-            let above = floor + u64::from(told.needs) <= u64::from(here.state.operands);
-            match told.flow {
-                ToldFlow::Jumps if above => {
-                    let way = Flow::Jumps;
-                    here = self.visit_told(chunk, here, head, told, way, lists, traversal)?;
+            let above = floor + u64::from(row.needs) <= u64::from(here.state.operands);
+            match row.flow {
+                TagFlow::Jumps if above => {
+                    let flow = Flow::Jumps;
+                    here = self.visit_by_tag(chunk, here, head, row, flow, lists, traversal)?;
                 }
-                ToldFlow::Branches if above => {
-                    let way = Flow::Branches;
-                    here = self.visit_told(chunk, here, head, told, way, lists, traversal)?;
+                TagFlow::Branches if above => {
+                    let flow = Flow::Branches;
+                    here = self.visit_by_tag(chunk, here, head, row, flow, lists, traversal)?;
                 }
-                ToldFlow::PushesHandler if above => {
-                    let way = Flow::PushesHandler;
-                    here = self.visit_told(chunk, here, head, told, way, lists, traversal)?;
+                TagFlow::PushesHandler if above => {
+                    let flow = Flow::PushesHandler;
+                    here = self.visit_by_tag(chunk, here, head, row, flow, lists, traversal)?;
                     floor = here.state.floor_armed();
                 }
-                ToldFlow::PopsHandler if above => {
-                    let way = Flow::PopsHandler;
-                    here = self.visit_told(chunk, here, head, told, way, lists, traversal)?;
+                TagFlow::PopsHandler if above => {
+                    let flow = Flow::PopsHandler;
+                    here = self.visit_by_tag(chunk, here, head, row, flow, lists, traversal)?;
                     floor = here.state.floor(lists);
                 }
                 _ => {
-                    let Some(next) = self.visit(chunk, here, head, told, lists, traversal)? else {
+                    let Some(next) = self.visit(chunk, here, head, row, lists, traversal)? else {
                         return Ok(());
                     };
                     here = next;

@@ -1,6 +1,7 @@
 use Rattle.std.proofs.Common.{[], sym}
 use Rattle.std.proofs.lemmas.Result.{err_from_is_err_and}
-use Rattle.grain_code.specs.InstructionTable.{name}
+use Rattle.grain_code.specs.declared.field.Field.TheVariants.{Index}
+use Rattle.grain_code.specs.declared.field.Pool.TheVariants.{Names}
 use Rattle.grain_code.proofs.Flaws.{tested_through}
 use Rattle.grain_code.proofs.assembler.check_receiver.Goals as goal
 
@@ -10,7 +11,7 @@ returns-in_err-check_index c n at =
     let first = tested_through c.args.op.now c.in-Some.variable (sym c.in-Some.ensures) in
     rw (p.1, p.2) (record {
       earlier = [];
-      bad = name c.in-Some.variable;
+      bad = Index Names c.in-Some.variable;
       later = first.0;
       order = first.1;
       passed = tt;

@@ -2,4 +2,4 @@ use Rattle.grain_verify.proofs.Quietness.{quiet_by}
 use Rattle.grain_verify.proofs.sinking.is_quiet.Goals as goal
 
 pub returns : goal.returns
-returns c op is = quiet_by c.args.tag _ op is
+returns c op is = quiet_by c.args.tag c.tag_row.result.now op c.tag_row.ensures is

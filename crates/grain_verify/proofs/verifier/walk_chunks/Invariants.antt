@@ -9,14 +9,14 @@ use Rattle.grain_verify.specs.Walk.{bytecode_of}
 use Rattle.grain_rules.specs.Typing.{HasTyping, IsDeepest}
 use Rattle.grain_verify.proofs.verifier.walk_chunks.Given as goal
 
-abbrev pub invariant-loop-chunk : goal.invariant-loop-chunk
-invariant-loop-chunk l = record {
+abbrev pub invariant-loop-place : goal.invariant-loop-place
+invariant-loop-place l = record {
   fits : Fits l.prepared l.traversal;
   shared : IsShared l.lists;
-  counted : AreCounted (bytecode_of l.prepared) l.prepared.starts.starts (take l.chunk-index l.chunks) l.initial.meter l.meter;
-  one_each : vec_len l.deepest ≡ l.chunk-index;
+  counted : AreCounted (bytecode_of l.prepared) l.prepared.starts.starts (take l.place l.chunks) l.initial.meter l.meter;
+  one_each : vec_len l.deepest ≡ l.place;
   reserved : length l.chunks ≤ vec_capacity l.deepest;
-  passes : AllWithin (ChunkPasses (bytecode_of l.prepared)) l.chunks 0 l.chunk-index;
-  typed : AllZip (HasTyping (coded (bytecode_of l.prepared))) (take l.chunk-index l.chunks) l.deepest.items;
-  deepest : AllZip (IsDeepest (coded (bytecode_of l.prepared))) (take l.chunk-index l.chunks) l.deepest.items;
+  passes : AllWithin (ChunkPasses (bytecode_of l.prepared)) l.chunks 0 l.place;
+  typed : AllZip (HasTyping (coded (bytecode_of l.prepared))) (take l.place l.chunks) l.deepest.items;
+  deepest : AllZip (IsDeepest (coded (bytecode_of l.prepared))) (take l.place l.chunks) l.deepest.items;
 }

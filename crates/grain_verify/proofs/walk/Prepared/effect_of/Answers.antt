@@ -1,7 +1,7 @@
 use Rattle.std.proofs.Common.{◌∷◌, subst}
 use Rattle.grain_code.specs.declared.op.Op.{Op}
 use Rattle.grain_code.proofs.Reading.{same_instruction}
-use Rattle.grain_verify.specs.TagEffects.{IsEffectIn}
+use Rattle.grain_verify.specs.TagRows.{IsEffectIn}
 use Rattle.grain_verify.proofs.walk.Prepared.effect_of.Goals as goal
 
 pub returns : goal.returns

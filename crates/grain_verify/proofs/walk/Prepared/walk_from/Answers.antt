@@ -77,8 +77,8 @@ others-preserved-in-Some-plain_next c =
       lighter = (let less = lighter_still self c.others.traversal marked marked (length marked.work.items + 1) _ done.more done.long done.work refl (omega arith) c.others.invariant.lighter in omega (arith, less));
     }
 
-pub visit_told-requires-clause-above : goal.visit_told-requires-clause-above
-visit_told-requires-clause-above c = (c.others.floor, c.others.invariant.floor, omega (arith, c.from.ensures, c.from-in-Some.ensures, c.if-above.true))
+pub visit_by_tag-requires-clause-above : goal.visit_by_tag-requires-clause-above
+visit_by_tag-requires-clause-above c = (c.others.floor, c.others.invariant.floor, omega (arith, c.from.ensures, c.from-in-Some.ensures, c.if-above.true))
 
 pub others-preserved-then-above : goal.others-preserved-then-above
 others-preserved-then-above c =
@@ -92,8 +92,8 @@ others-preserved-then-above c =
       lighter = lighter_visited _ _ _ _ c.others.traversal c.mark.new.traversal _ _ _ _ done.more done.long done.work told.visited c.others.invariant.lighter;
     }
 
-pub visit_told-requires-in-Branches-clause-above : goal.visit_told-requires-in-Branches-clause-above
-visit_told-requires-in-Branches-clause-above c = (c.others.floor, c.others.invariant.floor, omega (arith, c.from.ensures, c.from-in-Some.ensures, c.if-above-2.true))
+pub visit_by_tag-requires-in-Branches-clause-above : goal.visit_by_tag-requires-in-Branches-clause-above
+visit_by_tag-requires-in-Branches-clause-above c = (c.others.floor, c.others.invariant.floor, omega (arith, c.from.ensures, c.from-in-Some.ensures, c.if-above-2.true))
 
 pub others-preserved-then-above-2 : goal.others-preserved-then-above-2
 others-preserved-then-above-2 c =
@@ -107,8 +107,8 @@ others-preserved-then-above-2 c =
       lighter = lighter_visited _ _ _ _ c.others.traversal c.mark.new.traversal _ _ _ _ done.more done.long done.work told.visited c.others.invariant.lighter;
     }
 
-pub visit_told-requires-in-PushesHandler-clause-above : goal.visit_told-requires-in-PushesHandler-clause-above
-visit_told-requires-in-PushesHandler-clause-above c = (c.others.floor, c.others.invariant.floor, omega (arith, c.from.ensures, c.from-in-Some.ensures, c.if-above-3.true))
+pub visit_by_tag-requires-in-PushesHandler-clause-above : goal.visit_by_tag-requires-in-PushesHandler-clause-above
+visit_by_tag-requires-in-PushesHandler-clause-above c = (c.others.floor, c.others.invariant.floor, omega (arith, c.from.ensures, c.from-in-Some.ensures, c.if-above-3.true))
 
 pub others-preserved-then-above-3 : goal.others-preserved-then-above-3
 others-preserved-then-above-3 c =
@@ -123,8 +123,8 @@ others-preserved-then-above-3 c =
       lighter = lighter_visited _ _ _ _ c.others.traversal c.mark.new.traversal _ _ _ _ done.more done.long done.work told.visited c.others.invariant.lighter;
     }
 
-pub visit_told-requires-in-PopsHandler-clause-above : goal.visit_told-requires-in-PopsHandler-clause-above
-visit_told-requires-in-PopsHandler-clause-above c = (c.others.floor, c.others.invariant.floor, omega (arith, c.from.ensures, c.from-in-Some.ensures, c.if-above-4.true))
+pub visit_by_tag-requires-in-PopsHandler-clause-above : goal.visit_by_tag-requires-in-PopsHandler-clause-above
+visit_by_tag-requires-in-PopsHandler-clause-above c = (c.others.floor, c.others.invariant.floor, omega (arith, c.from.ensures, c.from-in-Some.ensures, c.if-above-4.true))
 
 pub floor-floor-requires-in-PopsHandler-clause-shared : goal.floor-floor-requires-in-PopsHandler-clause-shared
 floor-floor-requires-in-PopsHandler-clause-shared c = (c.in_ok-here-in-PopsHandler.ensures.visited.walking c.mark.new.deepest c.mark.ensures.halts).known.shared

@@ -15,9 +15,9 @@ use Rattle.grain_verify.specs.declared.pool_caps.PoolCaps.{PoolCaps}
 use Rattle.grain_verify.specs.declared.effects.Effect.{Effect}
 use Rattle.grain_verify.specs.declared.flow.Flow.{Flow}
 use Rattle.grain_verify.specs.declared.flow.Flow.TheVariants as ways
-use Rattle.grain_verify.specs.declared.tag_effects.TagEffect.{TagEffect}
-use Rattle.grain_verify.specs.declared.tag_effects.ToldFlow.{ToldFlow}
-use Rattle.grain_verify.specs.declared.tag_effects.ToldFlow.TheVariants as told
+use Rattle.grain_code.specs.declared.tag_table.TagRow.{TagRow}
+use Rattle.grain_code.specs.declared.tag_table.TagFlow.{TagFlow}
+use Rattle.grain_code.specs.declared.tag_table.TagFlow.TheVariants as told
 
 -- its needs, what it takes and what it gives are these whatever the pools hold, and it asks nothing of the host
 pub record IsFixed (op : Op) (effect : ℕ × ℕ × ℕ) : Type 0 where
@@ -42,24 +42,24 @@ TellsFlow (Some ways.PushesHandler) e op = IsFixed op e × FlowsTo op flows.Push
 TellsFlow (Some ways.PopsHandler) e op = IsFixed op e × (flow_of op ≡ flows.PopsHandler)
 
 -- the flow that a row of the table of tags tells, if it does
-abbrev pub told_flow : ToldFlow → Option Flow
-told_flow told.Untold = None
-told_flow told.Falls = Some ways.Falls
-told_flow told.Ends = Some ways.Ends
-told_flow told.Jumps = Some ways.Jumps
-told_flow told.Branches = Some ways.Branches
-told_flow told.BeginsIterator = Some ways.BeginsIterator
-told_flow told.AdvancesIterator = Some ways.AdvancesIterator
-told_flow told.EndsIterator = Some ways.EndsIterator
-told_flow told.PushesHandler = Some ways.PushesHandler
-told_flow told.PopsHandler = Some ways.PopsHandler
+abbrev pub tag_flow : TagFlow → Option Flow
+tag_flow told.Untold = None
+tag_flow told.Falls = Some ways.Falls
+tag_flow told.Ends = Some ways.Ends
+tag_flow told.Jumps = Some ways.Jumps
+tag_flow told.Branches = Some ways.Branches
+tag_flow told.BeginsIterator = Some ways.BeginsIterator
+tag_flow told.AdvancesIterator = Some ways.AdvancesIterator
+tag_flow told.EndsIterator = Some ways.EndsIterator
+tag_flow told.PushesHandler = Some ways.PushesHandler
+tag_flow told.PopsHandler = Some ways.PopsHandler
 
 -- what a tag tells is what the operation does
-abbrev pub Tells : TagEffect → Op → Type 0
-Tells row op = TellsFlow (told_flow row.flow) (row.needs, row.takes, row.gives) op
+abbrev pub Tells : TagRow → Op → Type 0
+Tells row op = TellsFlow (tag_flow row.flow) (row.needs, row.takes, row.gives) op
 
 -- it is what the table says of this tag
-pub record IsRowOf (row : TagEffect) (tag : ℕ) : Type 0 where
+pub record IsRowOf (row : TagRow) (tag : ℕ) : Type 0 where
   pub tells : (op : Op) → (form op).0 ≡ tag → Tells row op
   pub there : row.takes ≤ row.needs
   pub by_one : row.gives ≤ row.takes + 1

@@ -13,7 +13,7 @@ use Rattle.grain_verify.specs.declared.flow.Flow.{Flow}
 use Rattle.grain_verify.specs.declared.state.Arrival.{Arrival}
 use Rattle.grain_verify.proofs.Flows.{goes_freely, nothing_missing}
 use Rattle.grain_verify.proofs.Staying.{untouched_known}
-use Rattle.grain_verify.proofs.walk.Prepared.visit_told.Goals as goal
+use Rattle.grain_verify.proofs.walk.Prepared.visit_by_tag.Goals as goal
 
 pub follow_passing-requires-clause-passing : goal.follow_passing-requires-clause-passing
 follow_passing-requires-clause-passing c =
@@ -22,15 +22,15 @@ follow_passing-requires-clause-passing c =
     let i = c.instruction_at-instruction.result in
     let op = c.instruction_at-instruction.ensures.found.0 in
     let is = c.instruction_at-instruction.ensures.found.2 in
-    let told = c.args.told.now in
-    let does = c.effect_told-effect.result in
-    let e = c.effect_told-effect.ensures in
+    let row = c.args.row.now in
+    let does = c.effect_by_row-effect.result in
+    let e = c.effect_by_row-effect.ensures in
     let known = e.does op is in
     let (floor, is_floor, above) = c.requires.above in
     let counts = view c.args.lists.now here.state in
-    let needed : iterators_for (flow does.flow does.target) ≡ 0 = ap (λ w. iterators_for (flow w does.target)) e.flow ∙ goes_freely c.args.way does.target c.requires.goes_on in
+    let needed : iterators_for (flow does.flow does.target) ≡ 0 = ap (λ w. iterators_for (flow w does.target)) e.flow ∙ goes_freely c.args.flow does.target c.requires.goes_on in
     let left : Base = record { operands = counts.operands - does.takes; iterators = counts.iterators - iterators_for (flow does.flow does.target) } in
-    let reaches = is_floor (here.state.operands - told.takes) (omega arith) (omega (arith, above, c.requires.row.there)) in
+    let reaches = is_floor (here.state.operands - row.takes) (omega arith) (omega (arith, above, c.requires.row.there)) in
     record {
       op = op;
       stands = c.instruction_at-instruction.ensures.found.1;
@@ -45,7 +45,7 @@ follow_passing-requires-clause-passing c =
 
 pub unreachable-requires : goal.unreachable-requires
 unreachable-requires c =
-    let goes = c.in_ok-next.ensures.goes_on (subst GoesOn (sym c.effect_told-effect.ensures.flow) c.requires.goes_on) in
+    let goes = c.in_ok-next.ensures.goes_on (subst GoesOn (sym c.effect_by_row-effect.ensures.flow) c.requires.goes_on) in
     subst (λ (o : Option Arrival). IfNone o ⊥) c.in-None.is goes
 
 pub returns-clause-visited : goal.returns-clause-visited
@@ -56,5 +56,5 @@ returns-clause-visited c =
 pub returns-clause-floor : goal.returns-clause-floor
 returns-clause-floor c =
     let carries : Flow → Arrival → Type 0 = λ w a. CarriesFloor w c.args.lists.now c.follow_passing.new.lists c.args.here.state a.state in
-    let known = subst (λ (o : Option Arrival). IfSome o (carries c.effect_told-effect.result.flow)) c.in-Some.is c.in_ok-next.ensures.floor in
-    subst (λ (w : Flow). carries w c.in-Some.next) c.effect_told-effect.ensures.flow known
+    let known = subst (λ (o : Option Arrival). IfSome o (carries c.effect_by_row-effect.result.flow)) c.in-Some.is c.in_ok-next.ensures.floor in
+    subst (λ (w : Flow). carries w c.in-Some.next) c.effect_by_row-effect.ensures.flow known
