@@ -21,11 +21,13 @@ related : {A B : Type 0} (R : A → B → Type 0) (xs : List A) (ys : List B) (k
 related R xs ys k x y h ex ey = rw (ex, ey) at (AllZip-left R xs ys h k)
 
 -- a chunk with its number is runnable
-pub runnable : (a : Numbered) (k : ℕ) (chunk : Span) (room : ℕ) → IsNumbered a → slice_get (chunks_of a.program) k ≡ Some chunk → slice_get a.numbers k ≡ Some room → IsRunnable (record { program = a.program; chunk = chunk; room = room })
+pub runnable : (a : Numbered) (k : ℕ) (chunk : Span) (room : ℕ) → IsNumbered a → slice_get (chunks_of a.program) k ≡ Some chunk
+    → slice_get a.numbers k ≡ Some room → IsRunnable (record { program = a.program; chunk = chunk; room = room })
 runnable a k chunk room h ec er = record { typed = related (HasTyping (program_code a.program)) (chunks_of a.program) a.numbers k chunk room h.typed ec er; finds = h.finds }
 
 -- the chunk of a function stands behind the main chunk
-pub function_chunk : (p : Program) (functions : List Function) (index : ℕ) (d : Function) → functions ≡ p.functions → index < length p.functions → slice_get (chunks_of p) (index + 1) ≡ Some (get_or functions index d).chunk
+pub function_chunk : (p : Program) (functions : List Function) (index : ℕ) (d : Function) → functions ≡ p.functions → index < length p.functions
+    → slice_get (chunks_of p) (index + 1) ≡ Some (get_or functions index d).chunk
 function_chunk p functions index d e inside =
     rw (add-one, e) (slice_get-map (λ (f : Function). f.chunk) p.functions index ∙ ap (option_map (λ (f : Function). f.chunk)) (slice_get-get_or p.functions index d inside))
 

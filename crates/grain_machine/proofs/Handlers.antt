@@ -11,5 +11,6 @@ last_first rest h = ap (map handler_of) (reverse-append rest (h ∷ []))
 pub innermost_is : (h : Handler) (hs : List Handler) → h.spent ≡ false → innermost (h ∷ hs) ≡ Some (h, hs)
 innermost_is h hs e = ap (λ (b : Bool). cond b (innermost hs) (Some (h, hs))) e
 
-pub same_machine : (a a' x x' y y' : ℕ) (hs hs' : List Handler) → a ≡ a' → x ≡ x' → y ≡ y' → hs ≡ hs' → (let m : Machine = record { address = a; operands = x; iterators = y; handlers = hs } in m) ≡ (record { address = a'; operands = x'; iterators = y'; handlers = hs' })
+pub same_machine : (a a' x x' y y' : ℕ) (hs hs' : List Handler) → a ≡ a' → x ≡ x' → y ≡ y' → hs ≡ hs'
+    → (let m : Machine = record { address = a; operands = x; iterators = y; handlers = hs } in m) ≡ (record { address = a'; operands = x'; iterators = y'; handlers = hs' })
 same_machine a a' x x' y y' hs hs' ea ex ey eh = λ i. record { address = ea i; operands = ex i; iterators = ey i; handlers = eh i }

@@ -42,15 +42,27 @@ abbrev pub stood : ℕ → ℕ → ℕ → List Handler → ℕ → State
 stood address operands iterators handlers room = record { machine = record { address = address; operands = operands; iterators = iterators; handlers = handlers }; room = room }
 
 -- an operation that falls through
-pub goes_on : (r : Runs) (s : State) (op : Op) (behind x y : ℕ) (hs : List Handler) → IsAt r s op behind → falls_through op ≡ true → x ≡ (after_fall (setting_of r.program) op (counts s.machine)).operands → y ≡ (after_fall (setting_of r.program) op (counts s.machine)).iterators → hs ≡ handlers_after op s.machine → MakesMove r s (stood behind x y hs s.room)
-goes_on r s op behind x y hs at falls ex ey eh = (inl (record { op = op; counted = after_fall (setting_of r.program) op (counts s.machine); finds = at.finds; edge = inr (falls, at.next, refl); operands = ex; iterators = ey; handlers = eh }), refl)
+pub goes_on : (r : Runs) (s : State) (op : Op) (behind x y : ℕ) (hs : List Handler) → IsAt r s op behind → falls_through op ≡ true
+    → x ≡ (after_fall (setting_of r.program) op (counts s.machine)).operands → y ≡ (after_fall (setting_of r.program) op (counts s.machine)).iterators
+    → hs ≡ handlers_after op s.machine → MakesMove r s (stood behind x y hs s.room)
+goes_on r s op behind x y hs at falls ex ey eh =
+    let counted = after_fall (setting_of r.program) op (counts s.machine) in
+    (inl (record { op = op; counted = counted; finds = at.finds; edge = inr (falls, at.next, refl); operands = ex; iterators = ey; handlers = eh }), refl)
 
 -- an operation that jumps
-pub goes_to : (r : Runs) (s : State) (op : Op) (behind target x y : ℕ) (hs : List Handler) → IsAt r s op behind → jumps_for (flow_of op) ≡ true → Contains (targets (switches (program_code r.program).layout) op) target → x ≡ (after_jump (setting_of r.program) op (counts s.machine)).operands → y ≡ (after_jump (setting_of r.program) op (counts s.machine)).iterators → hs ≡ handlers_after op s.machine → MakesMove r s (stood target x y hs s.room)
-goes_to r s op behind target x y hs at jumps among ex ey eh = (inl (record { op = op; counted = after_jump (setting_of r.program) op (counts s.machine); finds = at.finds; edge = inl (jumps, (among, refl)); operands = ex; iterators = ey; handlers = eh }), refl)
+pub goes_to : (r : Runs) (s : State) (op : Op) (behind target x y : ℕ) (hs : List Handler) → IsAt r s op behind → jumps_for (flow_of op) ≡ true
+    → Contains (targets (switches (program_code r.program).layout) op) target → x ≡ (after_jump (setting_of r.program) op (counts s.machine)).operands
+    → y ≡ (after_jump (setting_of r.program) op (counts s.machine)).iterators → hs ≡ handlers_after op s.machine
+    → MakesMove r s (stood target x y hs s.room)
+goes_to r s op behind target x y hs at jumps among ex ey eh =
+    let counted = after_jump (setting_of r.program) op (counts s.machine) in
+    (inl (record { op = op; counted = counted; finds = at.finds; edge = inl (jumps, (among, refl)); operands = ex; iterators = ey; handlers = eh }), refl)
 
 -- a fault that finds the stacks as they are then
-pub goes_back : (r : Runs) (s x t : State) (op : Op) (behind : ℕ) → IsRunnable r → IsAt r s op behind → is_quiet op ≡ false → x.machine.handlers ≡ s.machine.handlers → s.machine.operands - takes (setting_of r.program) op ≤ x.machine.operands → x.machine.operands ≤ s.machine.operands → x.machine.iterators ≡ s.machine.iterators → x.room ≡ s.room → Lands x.machine t.machine → t.room ≡ x.room → MakesMove r s t
+pub goes_back : (r : Runs) (s x t : State) (op : Op) (behind : ℕ) → IsRunnable r → IsAt r s op behind → is_quiet op ≡ false
+    → x.machine.handlers ≡ s.machine.handlers → s.machine.operands - takes (setting_of r.program) op ≤ x.machine.operands
+    → x.machine.operands ≤ s.machine.operands → x.machine.iterators ≡ s.machine.iterators → x.room ≡ s.room → Lands x.machine t.machine
+    → t.room ≡ x.room → MakesMove r s t
 goes_back r s x t op behind runs at sounds eh low high ei er lands et =
     let fault : Catches (program_code r.program) r.chunk s.machine t.machine = record {
       op = op;
@@ -92,7 +104,8 @@ room_on r s op behind at falls =
     room_for r s (stood behind c.operands c.iterators (handlers_after op s.machine) s.room) at.runs at.ready (goes_on r s op behind c.operands c.iterators (handlers_after op s.machine) at falls refl refl refl)
 
 -- what a plain operation leaves
-plain_after : (r : Runs) (s : State) (op : Op) (needs' takes' gives' : ℕ) → IsForHost (setting_of r.program) op needs' takes' gives' → after_fall (setting_of r.program) op (counts s.machine) ≡ record (counts s.machine) { operands = s.machine.operands - takes' + gives' }
+plain_after : (r : Runs) (s : State) (op : Op) (needs' takes' gives' : ℕ) → IsForHost (setting_of r.program) op needs' takes' gives'
+    → after_fall (setting_of r.program) op (counts s.machine) ≡ record (counts s.machine) { operands = s.machine.operands - takes' + gives' }
 plain_after r s op needs' takes' gives' plain =
     ap (λ (f : Flow). fall_for f (operands_after (setting_of r.program) op s.machine.operands) (counts s.machine)) plain.falls
     ∙ (λ i. record (counts s.machine) { operands = s.machine.operands - plain.takes_so i + plain.gives_so i })
@@ -100,16 +113,21 @@ plain_after r s op needs' takes' gives' plain =
 plain_handlers : (m : Machine) (op : Op) → flow_of op ≡ flows.Falls → m.handlers ≡ handlers_after op m
 plain_handlers m op e = ap (λ (f : Flow). handlers_behind f m) (sym e)
 
-pub plain_on : (r : Runs) (s : State) (op : Op) (behind needs' takes' gives' x : ℕ) → IsAt r s op behind → IsForHost (setting_of r.program) op needs' takes' gives' → x ≡ s.machine.operands - takes' + gives' → MakesMove r s (stood behind x s.machine.iterators s.machine.handlers s.room)
+pub plain_on : (r : Runs) (s : State) (op : Op) (behind needs' takes' gives' x : ℕ) → IsAt r s op behind
+    → IsForHost (setting_of r.program) op needs' takes' gives' → x ≡ s.machine.operands - takes' + gives'
+    → MakesMove r s (stood behind x s.machine.iterators s.machine.handlers s.room)
 plain_on r s op behind needs' takes' gives' x at plain e =
     let c = plain_after r s op needs' takes' gives' plain in
-    goes_on r s op behind x s.machine.iterators s.machine.handlers at (ap falls_for plain.falls) (e ∙ ap (λ (d : Counts). d.operands) (sym c)) (ap (λ (d : Counts). d.iterators) (sym c)) (plain_handlers s.machine op plain.falls)
+    goes_on r s op behind x s.machine.iterators s.machine.handlers at
+        (ap falls_for plain.falls) (e ∙ ap (λ (d : Counts). d.operands) (sym c)) (ap (λ (d : Counts). d.iterators) (sym c)) (plain_handlers s.machine op plain.falls)
 
-pub plain_room : (r : Runs) (s : State) (op : Op) (behind needs' takes' gives' : ℕ) → IsAt r s op behind → IsForHost (setting_of r.program) op needs' takes' gives' → s.machine.operands - takes' + gives' ≤ s.room
+pub plain_room : (r : Runs) (s : State) (op : Op) (behind needs' takes' gives' : ℕ) → IsAt r s op behind
+    → IsForHost (setting_of r.program) op needs' takes' gives' → s.machine.operands - takes' + gives' ≤ s.room
 plain_room r s op behind needs' takes' gives' at plain = room_for r s _ at.runs at.ready (plain_on r s op behind needs' takes' gives' (s.machine.operands - takes' + gives') at plain refl)
 
 -- a fault at a plain operation, which finds the stacks whole
-pub plain_back : (r : Runs) (s x t : State) (op : Op) (behind needs' takes' gives' : ℕ) → IsAt r s op behind → IsForHost (setting_of r.program) op needs' takes' gives' → x ≡ s → Lands x.machine t.machine → t.room ≡ x.room → MakesMove r s t
+pub plain_back : (r : Runs) (s x t : State) (op : Op) (behind needs' takes' gives' : ℕ) → IsAt r s op behind
+    → IsForHost (setting_of r.program) op needs' takes' gives' → x ≡ s → Lands x.machine t.machine → t.room ≡ x.room → MakesMove r s t
 plain_back r s x t op behind needs' takes' gives' at plain e lands room =
     let o : x.machine.operands ≡ s.machine.operands = ap (λ (y : State). y.machine.operands) e in
     goes_back r s x t op behind at.runs at plain.sounds (ap (λ (y : State). y.machine.handlers) e) (omega arith) (omega arith) (ap (λ (y : State). y.machine.iterators) e) (ap (λ (y : State). y.room) e) lands room
@@ -121,7 +139,9 @@ whole_back r s x t op behind at sounds e lands room =
     goes_back r s x t op behind at.runs at sounds (ap (λ (y : State). y.machine.handlers) e) (omega arith) (omega arith) (ap (λ (y : State). y.machine.iterators) e) (ap (λ (y : State). y.room) e) lands room
 
 -- a fault at an operation that has taken its one operand
-pub popped_back : (r : Runs) (s x t : State) (op : Op) (behind : ℕ) → IsAt r s op behind → is_quiet op ≡ false → takes (setting_of r.program) op ≡ 1 → x ≡ record s { machine = record s.machine { operands = s.machine.operands - 1 } } → Lands x.machine t.machine → t.room ≡ x.room → MakesMove r s t
+pub popped_back : (r : Runs) (s x t : State) (op : Op) (behind : ℕ) → IsAt r s op behind → is_quiet op ≡ false → takes (setting_of r.program) op ≡ 1
+    → x ≡ record s { machine = record s.machine { operands = s.machine.operands - 1 } } → Lands x.machine t.machine → t.room ≡ x.room
+    → MakesMove r s t
 popped_back r s x t op behind at sounds one e lands room =
     let o : x.machine.operands ≡ s.machine.operands - 1 = ap (λ (y : State). y.machine.operands) e in
     goes_back r s x t op behind at.runs at sounds (ap (λ (y : State). y.machine.handlers) e) (omega arith) (omega arith) (ap (λ (y : State). y.machine.iterators) e) (ap (λ (y : State). y.room) e) lands room

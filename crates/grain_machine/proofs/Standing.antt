@@ -21,7 +21,8 @@ use Rattle.grain_machine.specs.Asked.{program_code}
 use Rattle.grain_machine.specs.State.{IsAt, IsUnderWay, IsRunnable, Runs, State}
 
 -- what stands at a start is among the instructions that the code is
-standing_among : (code : List ℕ) (at : ℕ) (ops : List Op) (a : ℕ) (op : Op) → at ≤ length code → AreInstructions (drop at code) ops → Contains (starts_from at ops) a → StandsAt code a op → Contains ops op
+standing_among : (code : List ℕ) (at : ℕ) (ops : List Op) (a : ℕ) (op : Op) → at ≤ length code → AreInstructions (drop at code) ops
+    → Contains (starts_from at ops) a → StandsAt code a op → Contains ops op
 standing_among code at [] a op inside are c h = absurd (in_nil a c)
 standing_among code at (o ∷ ops) a op inside are c h =
     let cut : drop at code ≡ spelling o ++ flat_map spelling ops = are.whole ∙ flat_map-cons spelling o ops in
@@ -56,5 +57,7 @@ is_at r s op behind runs ready stands e =
       ready = ready;
       finds = record { stands = p.stands; meets = p.meets };
       next = e;
-      asked = record { met = record { state = s.machine; on_run = ready.0; here = refl; finds = record { stands = p.stands; meets = p.meets } }; allowed = p.allowed; found = found_here r.program s.machine.address op runs.finds p.stands.within.place stands; operands = refl };
+      asked = record {
+        met = record { state = s.machine; on_run = ready.0; here = refl; finds = record { stands = p.stands; meets = p.meets } };
+        allowed = p.allowed; found = found_here r.program s.machine.address op runs.finds p.stands.within.place stands; operands = refl };
     }

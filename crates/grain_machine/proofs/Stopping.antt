@@ -33,7 +33,8 @@ may_end r s hows.OutOfFuel e f = absurd f
 may_end r s hows.OutOfMemory e f = absurd f
 
 -- a fault may end the run where what stands isn't quiet; it finds the handlers that stood there
-pub raised : {T V F : Type 0} (r : Runs) (s x : State) (op : Op) (behind : ℕ) (result : Result T (How V F)) → IsAt r s op behind → is_quiet op ≡ false → handlers_of x ≡ handlers_of s → IfErr result (IsFault x.machine) → IfErr result (MayEnd (program_code r.program) s.machine)
+pub raised : {T V F : Type 0} (r : Runs) (s x : State) (op : Op) (behind : ℕ) (result : Result T (How V F)) → IsAt r s op behind → is_quiet op ≡ false
+    → handlers_of x ≡ handlers_of s → IfErr result (IsFault x.machine) → IfErr result (MayEnd (program_code r.program) s.machine)
 raised r s x op behind (Ok v) at e k f = tt
 raised r s x op behind (Err h) at e k f = may_end r s h (sounds_here r s op behind at e) (same_fault x.machine s.machine h k f)
 
@@ -45,7 +46,8 @@ ends_after code fuel moves m (hows.Uncatchable x) l e = (l, e.0, e.1)
 ends_after code fuel moves m hows.OutOfFuel l e = absurd e
 ends_after code fuel moves m hows.OutOfMemory l e = (l, e)
 
-pub ended : {V F : Type 0} (r : Runs) (s : State) (fuel at : ℕ) (how : How V F) (way : IsUnderWay r s) → at ≡ s.machine.address → length way.0.0 < fuel → MayEnd (program_code r.program) s.machine how → IsEnded r fuel at how
+pub ended : {V F : Type 0} (r : Runs) (s : State) (fuel at : ℕ) (how : How V F) (way : IsUnderWay r s) → at ≡ s.machine.address
+    → length way.0.0 < fuel → MayEnd (program_code r.program) s.machine how → IsEnded r fuel at how
 ended r s fuel at how way e l ends = record { state = s.machine; earlier = way.0.0; run = way.0.1; here = sym e; ends = ends_after (program_code r.program) fuel (length way.0.0) s.machine how l ends }
 
 pub spent : {V F : Type 0} (r : Runs) (s : State) (fuel at : ℕ) (way : IsUnderWay r s) → at ≡ s.machine.address → length way.0.0 ≡ fuel → IsEnded {V = V} {F = F} r fuel at hows.OutOfFuel

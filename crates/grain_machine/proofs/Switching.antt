@@ -23,5 +23,6 @@ switch_within p index found =
     found_within p.switches index (slice_get p.switches index) refl h
 
 -- where it leads is where the code says that it leads
-pub among_targets : (switches : List Switch) (index target : ℕ) (d : Switch) → index < length switches → Contains (switch_targets (get_or switches index d)) target → Contains (get_or (map switch_targets switches) index []) target
+pub among_targets : (switches : List Switch) (index target : ℕ) (d : Switch) → index < length switches
+    → Contains (switch_targets (get_or switches index d)) target → Contains (get_or (map switch_targets switches) index []) target
 among_targets switches index target d inside h = subst (λ (xs : List ℕ). Contains xs target) (sym (get_or-map switch_targets switches index d [] inside)) h

@@ -1,5 +1,6 @@
 //! Programs that are accepted, and their chunks.
-ghost use Rattle.std.specs.Prelude.{◌≡◌, ◌+◌, ◌<◌, IfErr, IfOk, OnOk, Some, length, slice_get};
+ghost use Rattle.std.specs.Prelude.{◌≡◌, ◌+◌, ◌<◌, IfErr, IfOk, OnOk, Some, length};
+ghost use Rattle.std.specs.Prelude.{slice_get};
 ghost use Rattle.grain_rules.specs.Accepted.{IsAccepted};
 ghost use Rattle.grain.specs.Program.{chunks_of, input_of};
 
@@ -25,7 +26,8 @@ impl<'a> Model for Accepted<'a> {
 
     ghost view = { λ a. record { program = a.program.now; numbers = a.numbers.items } };
 
-    ghost invariant = { λ a. IsNumbered (record { program = a.program.now; numbers = a.numbers.items }) };
+    ghost invariant = { λ a. IsNumbered
+        (record { program = a.program.now; numbers = a.numbers.items }) };
 }
 
 /// A chunk of a program that is accepted, which can be run in place.
@@ -48,7 +50,8 @@ impl<'a> Model for Runnable<'a> {
 
     ghost view = { λ r. record { program = r.program.now; chunk = r.chunk; room = r.room } };
 
-    ghost invariant = { λ r. IsRunnable (record { program = r.program.now; chunk = r.chunk; room = r.room }) };
+    ghost invariant = { λ r. IsRunnable
+        (record { program = r.program.now; chunk = r.chunk; room = r.room }) };
 }
 
 /// The program, where it is accepted.

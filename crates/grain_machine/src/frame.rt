@@ -6,7 +6,8 @@ ghost use Rattle.grain_rules.specs.Machine.{innermost};
 ghost use Rattle.grain_rules.specs.Rows.{gives};
 ghost use Rattle.grain.specs.Program.{setting_of};
 ghost use Rattle.grain_machine.specs.Asked.{IsAsked};
-ghost use Rattle.grain_machine.specs.State.{Lands, state_at, state_with_handlers, state_with_iterators, state_with_operands};
+ghost use Rattle.grain_machine.specs.State.{Lands, state_at, state_with_handlers};
+ghost use Rattle.grain_machine.specs.State.{state_with_iterators, state_with_operands};
 
 use crate::host::{Host, Request};
 use std::alloc::{AllocError, Global};
@@ -151,8 +152,8 @@ impl<V: Drop, I: Drop> Frame<V, I> {
     ) -> Result<(), H::Fault>
         requires there { takes ≤ self.old.machine.operands }
         requires room { self.old.machine.operands - takes < self.old.room }
-        requires asked { IsAsked request.now.program.now request.now.chunk request.now.at request.now.op.now
-            takes }
+        requires asked { IsAsked request.now.program.now request.now.chunk request.now.at
+            request.now.op.now takes }
         requires gives { gives (setting_of request.now.program.now) request.now.op.now ≡ 1 }
         ensures ok { OnOk result (self.new ≡ state_with_operands
             (self.old.machine.operands - takes + 1) self.old) }
@@ -187,8 +188,8 @@ impl<V: Drop, I: Drop> Frame<V, I> {
     ) -> Result<(), H::Fault>
         requires there { needs ≤ self.old.machine.operands }
         requires within { takes ≤ needs }
-        requires asked { IsAsked request.now.program.now request.now.chunk request.now.at request.now.op.now
-            needs }
+        requires asked { IsAsked request.now.program.now request.now.chunk request.now.at
+            request.now.op.now needs }
         requires gives { gives (setting_of request.now.program.now) request.now.op.now ≡ 0 }
         ensures ok { OnOk result (self.new ≡ state_with_operands
             (self.old.machine.operands - takes) self.old) }

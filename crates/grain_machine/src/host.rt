@@ -51,8 +51,8 @@ pub trait Host {
         request: &Request<'_>,
         operands: &mut [Self::Value],
     ) -> Result<Self::Value, Self::Fault>
-        requires asked { IsAsked request.now.program.now request.now.chunk request.now.at request.now.op.now
-            (length operands.old) }
+        requires asked { IsAsked request.now.program.now request.now.chunk request.now.at
+            request.now.op.now (length operands.old) }
         requires gives { gives (setting_of request.now.program.now) request.now.op.now ≡ 1 };
 
     /// Does an operation that gives no value. The machine drops what is left of the operands that it takes.
@@ -64,8 +64,8 @@ pub trait Host {
         request: &Request<'_>,
         operands: &mut [Self::Value],
     ) -> Result<(), Self::Fault>
-        requires asked { IsAsked request.now.program.now request.now.chunk request.now.at request.now.op.now
-            (length operands.old) }
+        requires asked { IsAsked request.now.program.now request.now.chunk request.now.at
+            request.now.op.now (length operands.old) }
         requires gives { gives (setting_of request.now.program.now) request.now.op.now ≡ 0 };
 
     /// Whether a condition holds.

@@ -8,19 +8,30 @@ use Rattle.grain_machine.proofs.accepted.Runnable.advance.Goals as goal
 
 pub push-requires : goal.push-requires
 push-requires g c =
-    rw c.advance.ensures (let h : c.args.frame.now.machine.operands + 1 ≤ c.args.frame.now.room = room_on c.args.self.now c.args.frame.now (ops.IterNext c.args.exit c.args.counter) c.args.next c.requires refl in omega arith)
+    let r = c.args.self.now in
+    let s = c.args.frame.now in
+    rw c.advance.ensures (let h : s.machine.operands + 1 ≤ s.room = room_on r s (ops.IterNext c.args.exit c.args.counter) c.args.next c.requires refl in omega arith)
 
 pub returns-in-Ok-Some-clause-goes : goal.returns-in-Ok-Some-clause-goes
 returns-in-Ok-Some-clause-goes g c =
-    rw (c.go.ensures, c.push.ensures, c.advance.ensures) (goes_on c.args.self.now c.args.frame.now (ops.IterNext c.args.exit c.args.counter) c.args.next (c.args.frame.now.machine.operands + 1) (c.args.frame.now.machine.iterators) (c.args.frame.now.machine.handlers) c.requires refl (omega arith) (omega arith) refl)
+    let r = c.args.self.now in
+    let s = c.args.frame.now in
+    rw (c.go.ensures, c.push.ensures, c.advance.ensures)
+        (goes_on r s (ops.IterNext c.args.exit c.args.counter) c.args.next (s.machine.operands + 1) s.machine.iterators s.machine.handlers c.requires refl (omega arith) (omega arith) refl)
 
 pub returns-in-Ok-None-clause-goes : goal.returns-in-Ok-None-clause-goes
 returns-in-Ok-None-clause-goes g c =
-    rw (c.go-in-Ok-None.ensures, c.end.ensures, c.advance.ensures) (goes_to c.args.self.now c.args.frame.now (ops.IterNext c.args.exit c.args.counter) c.args.next (c.args.exit) (c.args.frame.now.machine.operands) (c.args.frame.now.machine.iterators - 1) (c.args.frame.now.machine.handlers) c.requires refl (in_head _ []) (omega arith) (omega arith) refl)
+    let r = c.args.self.now in
+    let s = c.args.frame.now in
+    rw (c.go-in-Ok-None.ensures, c.end.ensures, c.advance.ensures)
+        (goes_to r s (ops.IterNext c.args.exit c.args.counter) c.args.next c.args.exit s.machine.operands (s.machine.iterators - 1) s.machine.handlers c.requires refl (in_head _ []) (omega arith) (omega arith) refl)
 
 pub returns-in-Err-clause-goes : goal.returns-in-Err-clause-goes
 returns-in-Err-clause-goes g c =
-    on_ok_weaker c.raise.result (λ l. whole_back c.args.self.now c.args.frame.now c.advance.new.self c.raise.new.frame (ops.IterNext c.args.exit c.args.counter) c.args.next c.requires refl c.advance.ensures l c.raise.ensures.room) c.raise.ensures.lands
+    let r = c.args.self.now in
+    let s = c.args.frame.now in
+    on_ok_weaker c.raise.result
+        (λ l. whole_back r s c.advance.new.self c.raise.new.frame (ops.IterNext c.args.exit c.args.counter) c.args.next c.requires refl c.advance.ensures l c.raise.ensures.room) c.raise.ensures.lands
 
 pub returns-in-Err-clause-ends : goal.returns-in-Err-clause-ends
 returns-in-Err-clause-ends g c =

@@ -7,11 +7,16 @@ use Rattle.grain_machine.proofs.accepted.Runnable.begin.Goals as goal
 
 pub returns-in-Ok-begin-clause-goes : goal.returns-in-Ok-begin-clause-goes
 returns-in-Ok-begin-clause-goes g c =
-    rw (c.go.ensures, c.in-Ok-begin.ensures, c.pop-value.ensures) (goes_on c.args.self.now c.args.frame.now (ops.IterInit) c.args.next (c.args.frame.now.machine.operands - 1) (c.args.frame.now.machine.iterators + 1) (c.args.frame.now.machine.handlers) c.requires refl (omega arith) (omega arith) refl)
+    let r = c.args.self.now in
+    let s = c.args.frame.now in
+    rw (c.go.ensures, c.in-Ok-begin.ensures, c.pop-value.ensures)
+        (goes_on r s ops.IterInit c.args.next (s.machine.operands - 1) (s.machine.iterators + 1) s.machine.handlers c.requires refl (omega arith) (omega arith) refl)
 
 pub returns-in-Err-clause-goes : goal.returns-in-Err-clause-goes
 returns-in-Err-clause-goes g c =
-    on_ok_weaker c.raise.result (λ l. popped_back c.args.self.now c.args.frame.now c.pop-value.new.self c.raise.new.frame (ops.IterInit) c.args.next c.requires refl refl c.pop-value.ensures l c.raise.ensures.room) c.raise.ensures.lands
+    let r = c.args.self.now in
+    let s = c.args.frame.now in
+    on_ok_weaker c.raise.result (λ l. popped_back r s c.pop-value.new.self c.raise.new.frame ops.IterInit c.args.next c.requires refl refl c.pop-value.ensures l c.raise.ensures.room) c.raise.ensures.lands
 
 pub returns-in-Err-clause-ends : goal.returns-in-Err-clause-ends
 returns-in-Err-clause-ends g c =

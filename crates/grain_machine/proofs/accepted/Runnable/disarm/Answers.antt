@@ -6,4 +6,6 @@ use Rattle.grain_machine.proofs.accepted.Runnable.disarm.Goals as goal
 
 pub returns : goal.returns
 returns g c =
-    rw (c.go.ensures, c.disarm.ensures) (goes_on c.args.self.now c.args.frame.now (ops.PopHandler) c.args.next (c.args.frame.now.machine.operands) (c.args.frame.now.machine.iterators) (without_last c.args.frame.now.machine.handlers) c.requires refl (omega arith) (omega arith) refl)
+    let r = c.args.self.now in
+    let s = c.args.frame.now in
+    rw (c.go.ensures, c.disarm.ensures) (goes_on r s ops.PopHandler c.args.next s.machine.operands s.machine.iterators (without_last s.machine.handlers) c.requires refl (omega arith) (omega arith) refl)

@@ -6,15 +6,22 @@ use Rattle.grain_machine.proofs.accepted.Runnable.give.Goals as goal
 
 pub give-requires-clause-room : goal.give-requires-clause-room
 give-requires-clause-room g c =
-    let h : c.args.frame.now.machine.operands - c.args.takes + 1 ≤ c.args.frame.now.room = plain_room c.args.self.now c.args.frame.now c.args.op.now c.args.next c.args.takes c.args.takes 1 c.requires.at c.requires.plain in omega arith
+    let r = c.args.self.now in
+    let s = c.args.frame.now in
+    let h : s.machine.operands - c.args.takes + 1 ≤ s.room = plain_room r s c.args.op.now c.args.next c.args.takes c.args.takes 1 c.requires.at c.requires.plain in omega arith
 
 pub returns-in-Ok-clause-goes : goal.returns-in-Ok-clause-goes
 returns-in-Ok-clause-goes g c =
-    rw (c.go.ensures, c.in-Ok.ensures.ok) (plain_on c.args.self.now c.args.frame.now c.args.op.now c.args.next c.args.takes c.args.takes 1 (c.args.frame.now.machine.operands - c.args.takes + 1) c.requires.at c.requires.plain refl)
+    let r = c.args.self.now in
+    let s = c.args.frame.now in
+    rw (c.go.ensures, c.in-Ok.ensures.ok) (plain_on r s c.args.op.now c.args.next c.args.takes c.args.takes 1 (s.machine.operands - c.args.takes + 1) c.requires.at c.requires.plain refl)
 
 pub returns-in-Err-clause-goes : goal.returns-in-Err-clause-goes
 returns-in-Err-clause-goes g c =
-    on_ok_weaker c.raise.result (λ l. plain_back c.args.self.now c.args.frame.now c.give.new.self c.raise.new.frame c.args.op.now c.args.next c.args.takes c.args.takes 1 c.requires.at c.requires.plain c.in-Err.ensures.err l c.raise.ensures.room) c.raise.ensures.lands
+    let r = c.args.self.now in
+    let s = c.args.frame.now in
+    on_ok_weaker c.raise.result
+        (λ l. plain_back r s c.give.new.self c.raise.new.frame c.args.op.now c.args.next c.args.takes c.args.takes 1 c.requires.at c.requires.plain c.in-Err.ensures.err l c.raise.ensures.room) c.raise.ensures.lands
 
 pub returns-in-Err-clause-ends : goal.returns-in-Err-clause-ends
 returns-in-Err-clause-ends g c =

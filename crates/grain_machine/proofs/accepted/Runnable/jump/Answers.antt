@@ -6,4 +6,6 @@ use Rattle.grain_machine.proofs.accepted.Runnable.jump.Goals as goal
 
 pub returns : goal.returns
 returns g c =
-    rw c.go.ensures (goes_to c.args.self.now c.args.frame.now (ops.Jump c.args.target) c.args.next (c.args.target) (c.args.frame.now.machine.operands) (c.args.frame.now.machine.iterators) (c.args.frame.now.machine.handlers) c.requires refl (in_head _ []) (omega arith) (omega arith) refl)
+    let r = c.args.self.now in
+    let s = c.args.frame.now in
+    rw c.go.ensures (goes_to r s (ops.Jump c.args.target) c.args.next c.args.target s.machine.operands s.machine.iterators s.machine.handlers c.requires refl (in_head _ []) (omega arith) (omega arith) refl)

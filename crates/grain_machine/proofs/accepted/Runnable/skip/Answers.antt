@@ -6,8 +6,13 @@ use Rattle.grain_machine.proofs.accepted.Runnable.skip.Goals as goal
 
 pub returns-then-is_unit : goal.returns-then-is_unit
 returns-then-is_unit g c =
-    rw c.go.ensures (goes_on c.args.self.now c.args.frame.now (ops.SkipIfNotUnit c.args.target) c.args.next (c.args.frame.now.machine.operands) (c.args.frame.now.machine.iterators) (c.args.frame.now.machine.handlers) c.requires refl (omega arith) (omega arith) refl)
+    let r = c.args.self.now in
+    let s = c.args.frame.now in
+    rw c.go.ensures (goes_on r s (ops.SkipIfNotUnit c.args.target) c.args.next (s.machine.operands) (s.machine.iterators) (s.machine.handlers) c.requires refl (omega arith) (omega arith) refl)
 
 pub returns-else-is_unit : goal.returns-else-is_unit
 returns-else-is_unit g c =
-    rw c.go-else-is_unit.ensures (goes_to c.args.self.now c.args.frame.now (ops.SkipIfNotUnit c.args.target) c.args.next (c.args.target) (c.args.frame.now.machine.operands) (c.args.frame.now.machine.iterators) (c.args.frame.now.machine.handlers) c.requires refl (in_head _ []) (omega arith) (omega arith) refl)
+    let r = c.args.self.now in
+    let s = c.args.frame.now in
+    rw c.go-else-is_unit.ensures
+        (goes_to r s (ops.SkipIfNotUnit c.args.target) c.args.next c.args.target s.machine.operands s.machine.iterators s.machine.handlers c.requires refl (in_head _ []) (omega arith) (omega arith) refl)

@@ -17,15 +17,20 @@ bounds-switches-index g c =
 
 pub returns-in-Ok-clause-goes : goal.returns-in-Ok-clause-goes
 returns-in-Ok-clause-goes g c =
+    let r = c.args.self.now in
+    let s = c.args.frame.now in
     let d = c.index-switches-index.result in
     let all = c.switches.ensures ∙ ap (λ (x : Runs). x.program.switches) c.self.view_is in
     let at = subst (λ (xs : List Switch). d ≡ get_or xs c.args.index d) all c.index-switches-index.is in
-    let among = among_targets c.args.self.now.program.switches c.args.index c.in-Ok.target d (switch_within c.args.self.now.program c.args.index c.requires.asked.found) (subst (λ (w : Switch). Contains (switch_targets w) c.in-Ok.target) at c.in-Ok.ensures) in
-    rw c.go.ensures (goes_to c.args.self.now c.args.frame.now (ops.Switch c.args.index) c.args.next c.in-Ok.target (c.args.frame.now.machine.operands) (c.args.frame.now.machine.iterators) (c.args.frame.now.machine.handlers) c.requires refl among (omega arith) (omega arith) refl)
+    let among = among_targets r.program.switches c.args.index c.in-Ok.target d
+        (switch_within r.program c.args.index c.requires.asked.found) (subst (λ (w : Switch). Contains (switch_targets w) c.in-Ok.target) at c.in-Ok.ensures) in
+    rw c.go.ensures (goes_to r s (ops.Switch c.args.index) c.args.next c.in-Ok.target s.machine.operands s.machine.iterators s.machine.handlers c.requires refl among (omega arith) (omega arith) refl)
 
 pub returns-in-Err-clause-goes : goal.returns-in-Err-clause-goes
 returns-in-Err-clause-goes g c =
-    on_ok_weaker c.raise.result (λ l. whole_back c.args.self.now c.args.frame.now c.args.frame.now c.raise.new.frame (ops.Switch c.args.index) c.args.next c.requires refl refl l c.raise.ensures.room) c.raise.ensures.lands
+    let r = c.args.self.now in
+    let s = c.args.frame.now in
+    on_ok_weaker c.raise.result (λ l. whole_back r s s c.raise.new.frame (ops.Switch c.args.index) c.args.next c.requires refl refl l c.raise.ensures.room) c.raise.ensures.lands
 
 pub returns-in-Err-clause-ends : goal.returns-in-Err-clause-ends
 returns-in-Err-clause-ends g c =

@@ -7,7 +7,9 @@ use Rattle.grain_machine.proofs.accepted.Runnable.throw.Goals as goal
 
 pub returns-clause-goes : goal.returns-clause-goes
 returns-clause-goes g c =
-    on_ok_weaker c.raise.result (λ l. popped_back c.args.self.now c.args.frame.now c.pop-value.new.self c.raise.new.frame (ops.Throw) c.args.next c.requires refl refl c.pop-value.ensures l c.raise.ensures.room) c.raise.ensures.lands
+    let r = c.args.self.now in
+    let s = c.args.frame.now in
+    on_ok_weaker c.raise.result (λ l. popped_back r s c.pop-value.new.self c.raise.new.frame ops.Throw c.args.next c.requires refl refl c.pop-value.ensures l c.raise.ensures.room) c.raise.ensures.lands
 
 pub returns-clause-ends : goal.returns-clause-ends
 returns-clause-ends g c =

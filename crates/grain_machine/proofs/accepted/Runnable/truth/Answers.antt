@@ -9,4 +9,6 @@ push-requires g c =
 
 pub returns : goal.returns
 returns g c =
-    rw (c.go.ensures, c.push.ensures) (goes_on c.args.self.now c.args.frame.now (ops.Bool c.args.value) c.args.next (c.args.frame.now.machine.operands + 1) (c.args.frame.now.machine.iterators) (c.args.frame.now.machine.handlers) c.requires refl (omega arith) (omega arith) refl)
+    let r = c.args.self.now in
+    let s = c.args.frame.now in
+    rw (c.go.ensures, c.push.ensures) (goes_on r s (ops.Bool c.args.value) c.args.next (s.machine.operands + 1) s.machine.iterators s.machine.handlers c.requires refl (omega arith) (omega arith) refl)

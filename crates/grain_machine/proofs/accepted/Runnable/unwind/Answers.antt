@@ -5,4 +5,6 @@ use Rattle.grain_machine.proofs.accepted.Runnable.unwind.Goals as goal
 
 pub returns : goal.returns
 returns g c =
-    rw c.go.ensures (goes_on c.args.self.now c.args.frame.now (ops.UnwindTo c.args.depth) c.args.next (c.args.frame.now.machine.operands) (c.args.frame.now.machine.iterators) (c.args.frame.now.machine.handlers) c.requires refl (omega arith) (omega arith) refl)
+    let r = c.args.self.now in
+    let s = c.args.frame.now in
+    rw c.go.ensures (goes_on r s (ops.UnwindTo c.args.depth) c.args.next (s.machine.operands) (s.machine.iterators) (s.machine.handlers) c.requires refl (omega arith) (omega arith) refl)
