@@ -1,0 +1,29 @@
+-- What the host is asked for.
+use Rattle.std.specs.Prelude.{◌≡◌, ℕ}
+use Rattle.grain_code.specs.Span.{Span}
+use Rattle.grain_code.specs.declared.op.Op.{Op}
+use Rattle.grain_rules.specs.Capabilities.{Allows}
+use Rattle.grain_rules.specs.Code.{Code, coded}
+use Rattle.grain_rules.specs.Machine.{Finds, IsOnKeptRun, Machine}
+use Rattle.grain_rules.specs.Rows.{caps_of, needs}
+use Rattle.grain.specs.Lookups.{AreFound}
+use Rattle.grain.specs.Program.{Program, input_of, setting_of}
+
+-- the code of a program
+abbrev pub program_code : Program → Code
+program_code p = coded (input_of p).code
+
+-- a kept run of the chunk is at this address, and finds the operation there, with all that it needs of the stacks
+pub record IsMet (p : Program) (chunk : Span) (at : ℕ) (op : Op) : Type 0 where
+  pub state : Machine
+  pub on_run : IsOnKeptRun (program_code p) chunk state
+  pub here : state.address ≡ at
+  pub finds : Finds (program_code p) chunk state op
+
+-- A kept run of the chunk meets the operation at this address, its capabilities are there, its indices are found, and it is
+-- given just the operands that it needs.
+pub record IsAsked (p : Program) (chunk : Span) (at : ℕ) (op : Op) (n : ℕ) : Type 0 where
+  pub met : IsMet p chunk at op
+  pub allowed : Allows p.caps.0 (caps_of (setting_of p) op)
+  pub found : AreFound p op
+  pub operands : n ≡ needs (setting_of p) op

@@ -1,0 +1,98 @@
+//! Programs that are accepted, and their chunks.
+ghost use Rattle.std.specs.Prelude.{◌≡◌, ◌+◌, ◌<◌, IfErr, IfOk, OnOk, Some, length};
+ghost use Rattle.std.specs.Prelude.{slice_get};
+ghost use Rattle.grain_rules.specs.Accepted.{IsAccepted};
+ghost use Rattle.grain.specs.Program.{chunks_of, input_of};
+
+use grain::{Chunk, Program, VerifyError};
+use std::marker::Model;
+
+/// A program that is accepted.
+#[derive(Drop)]
+pub struct Accepted<'a> {
+    program: &'a Program,
+    numbers: Vec<u16>,
+}
+
+impl<'a> Model for Accepted<'a> {
+    ghost use Rattle.std.specs.Coded.{codes};
+    ghost use Rattle.grain_base.specs.contracts.value.Dynamic as value;
+    ghost use Rattle.grain_pools.specs.contracts.switch.Switch as switch;
+    ghost use Rattle.grain_machine.specs.State.{IsNumbered, Numbered};
+
+    ghost Value = { Numbered };
+
+    ghost coded = { Prim.hlevel (codes, value.the_row.coded, switch.the_row.coded) };
+
+    ghost view = { λ a. record { program = a.program.now; numbers = a.numbers.items } };
+
+    ghost invariant = { λ a. IsNumbered
+        (record { program = a.program.now; numbers = a.numbers.items }) };
+}
+
+/// A chunk of a program that is accepted, which can be run in place.
+#[derive(Drop)]
+pub struct Runnable<'a> {
+    pub(crate) program: &'a Program,
+    pub(crate) chunk: Chunk,
+    pub(crate) room: u16,
+}
+
+impl<'a> Model for Runnable<'a> {
+    ghost use Rattle.std.specs.Coded.{codes};
+    ghost use Rattle.grain_base.specs.contracts.value.Dynamic as value;
+    ghost use Rattle.grain_pools.specs.contracts.switch.Switch as switch;
+    ghost use Rattle.grain_machine.specs.State.{IsRunnable, Runs};
+
+    ghost Value = { Runs };
+
+    ghost coded = { Prim.hlevel (codes, value.the_row.coded, switch.the_row.coded) };
+
+    ghost view = { λ r. record { program = r.program.now; chunk = r.chunk; room = r.room } };
+
+    ghost invariant = { λ r. IsRunnable
+        (record { program = r.program.now; chunk = r.chunk; room = r.room }) };
+}
+
+/// The program, where it is accepted.
+///
+/// # Errors
+/// As [`Program::verify`].
+pub fn accept(program: &Program) -> Result<Accepted<'_>, VerifyError>
+    ensures program { IfOk result (λ a. a.program ≡ program.now) }
+    ensures accepted { OnOk result (IsAccepted (input_of program.now)) }
+    ensures accepts { IsAccepted (input_of program.now)
+        → IfErr result (λ e. e ≡ VerifyError.OutOfMemory) }
+{
+    let numbers = program.verify()?;
+    Ok(Accepted { program, numbers })
+}
+
+impl<'a> Accepted<'a> {
+    /// The chunk of the top level.
+    pub fn main(&self) -> Runnable<'a>
+        ensures program { result.program ≡ self.now.program }
+        ensures chunk { result.chunk ≡ self.now.program.main }
+        ensures room { slice_get self.now.numbers 0 ≡ Some result.room }
+    {
+        Runnable {
+            program: self.program,
+            chunk: self.program.main(),
+            room: self.numbers[0],
+        }
+    }
+
+    /// The chunk of the function at an index.
+    pub fn function(&self, index: usize) -> Runnable<'a>
+        requires { index < length self.now.program.functions }
+        ensures program { result.program ≡ self.now.program }
+        ensures chunk { slice_get (chunks_of self.now.program) (index + 1) ≡ Some result.chunk }
+        ensures room { slice_get self.now.numbers (index + 1) ≡ Some result.room }
+    {
+        Runnable {
+            program: self.program,
+            chunk: self.program.functions()[index].chunk,
+            room: self.numbers[index + 1],
+        }
+    }
+}

@@ -1,0 +1,284 @@
+//! The stacks of a run, and its address.
+ghost use Rattle.std.specs.Prelude.{◌≡◌, ◌↔◌, ◌+◌, ◌-◌, ◌<◌, ◌≤◌, [], ◌∷◌, IfOk, IsSome, OnOk, OnErr};
+ghost use Rattle.std.specs.Prelude.{MatchOption, None, false, length};
+ghost use Rattle.grain_rules.specs.Counts.{without_last};
+ghost use Rattle.grain_rules.specs.Machine.{innermost};
+ghost use Rattle.grain_rules.specs.Rows.{gives};
+ghost use Rattle.grain.specs.Program.{setting_of};
+ghost use Rattle.grain_machine.specs.Asked.{IsAsked};
+ghost use Rattle.grain_machine.specs.State.{Lands, state_at, state_with_handlers};
+ghost use Rattle.grain_machine.specs.State.{state_with_iterators, state_with_operands};
+
+use crate::host::{Host, Request};
+use std::alloc::{AllocError, Global};
+use std::marker::Model;
+
+/// A handler that is armed.
+#[derive(Clone, Copy)]
+pub(crate) struct Armed {
+    target: u32,
+    /// How many operands stood when it was armed.
+    operands: usize,
+    /// How many iterators stood when it was armed.
+    iterators: usize,
+    /// Whether it has caught.
+    spent: bool,
+    /// The index of the name that the fault is bound to, if it is.
+    name: Option<u32>,
+}
+
+/// Where a run stands.
+///
+/// Contracts see a `State`: the machine as `grain` defines it, which counts operands, and the room.
+#[derive(Drop)]
+pub(crate) struct Frame<V, I> {
+    at: usize,
+    operands: Vec<V>,
+    iterators: Vec<I>,
+    handlers: Vec<Armed>,
+}
+
+impl<V, I> Model for Frame<V, I> {
+    ghost use Rattle.std.specs.Prelude.{vec_len, vec_capacity};
+    ghost use Rattle.grain_machine.specs.State.{State, innermost_first};
+
+    ghost Value = { State };
+
+    ghost view = { λ f. record {
+      machine = record {
+        address = f.at;
+        operands = vec_len f.operands;
+        iterators = vec_len f.iterators;
+        handlers = innermost_first f.handlers.items;
+      };
+      room = vec_capacity f.operands;
+    } };
+}
+
+impl<V: Drop, I: Drop> Frame<V, I> {
+    /// A run begins at the entry, with room for so many operands.
+    pub(crate) fn new(alloc: Global, entry: u32, room: u16) -> Result<Frame<V, I>, AllocError>
+        ensures machine { IfOk result (λ frame. frame.machine
+            ≡ record { address = entry; operands = 0; iterators = 0; handlers = [] }) }
+        ensures room { IfOk result (λ frame. room ≤ frame.room) }
+    {
+        Ok(Frame {
+            at: entry as usize,
+            operands: Vec::with_capacity(alloc, room as usize)?,
+            iterators: Vec::new(alloc),
+            handlers: Vec::new(alloc),
+        })
+    }
+
+    /// Where it stands.
+    #[inline(always)]
+    pub(crate) fn at(&self) -> usize
+        ensures { result ≡ self.now.machine.address }
+    {
+        self.at
+    }
+
+    /// Goes there.
+    #[inline(always)]
+    pub(crate) fn go(&mut self, at: usize)
+        ensures { self.new ≡ state_at at self.old }
+    {
+        self.at = at;
+    }
+
+    /// Pushes an operand.
+    #[inline(always)]
+    pub(crate) fn push(&mut self, value: V)
+        requires { self.old.machine.operands < self.old.room }
+        ensures { self.new ≡ state_with_operands
+            (self.old.machine.operands + 1) self.old }
+    {
+        self.operands.push_reserved(value);
+    }
+
+    /// Pops an operand.
+    #[inline(always)]
+    pub(crate) fn pop(&mut self) -> V
+        requires { 0 < self.old.machine.operands }
+        ensures { self.new ≡ state_with_operands
+            (self.old.machine.operands - 1) self.old }
+    {
+        self.operands.swap_remove(self.operands.len() - 1)
+    }
+
+    /// Pops an operand, and asks the host whether it holds.
+    #[inline(always)]
+    pub(crate) fn condition<H: Host<Value = V>>(&mut self, host: &mut H) -> Result<bool, H::Fault>
+        requires { 0 < self.old.machine.operands }
+        ensures { self.new ≡ state_with_operands
+            (self.old.machine.operands - 1) self.old }
+    {
+        let condition = self.pop();
+        host.is_true(&condition)
+    }
+
+    /// The top of the operand stack.
+    #[inline(always)]
+    pub(crate) fn top(&self) -> &V
+        requires { 0 < self.now.machine.operands }
+    {
+        &self.operands[self.operands.len() - 1]
+    }
+
+    /// The top of the operand stack, if there is one.
+    pub(crate) fn result(&mut self) -> Option<V>
+        ensures { IsSome result ↔ (0 < self.old.machine.operands) }
+    {
+        self.operands.pop()
+    }
+
+    /// Moves the top of the operand stack below so many others.
+    #[inline(always)]
+    pub(crate) fn rotate(&mut self, depth: usize)
+        requires { depth < self.old.machine.operands }
+        ensures { self.new ≡ self.old }
+    {
+        let base = self.operands.len() - 1 - depth;
+        self.operands[base..].rotate_right(1);
+    }
+
+    /// Has the host do an operation that takes so many operands and gives a value.
+    #[inline(always)]
+    pub(crate) fn give<H: Host<Value = V>>(
+        &mut self,
+        host: &mut H,
+        request: &Request<'_>,
+        takes: usize,
+    ) -> Result<(), H::Fault>
+        requires there { takes ≤ self.old.machine.operands }
+        requires room { self.old.machine.operands - takes < self.old.room }
+        requires asked { IsAsked request.now.program.now request.now.chunk request.now.at
+            request.now.op.now takes }
+        requires gives { gives (setting_of request.now.program.now) request.now.op.now ≡ 1 }
+        ensures ok { OnOk result (self.new ≡ state_with_operands
+            (self.old.machine.operands - takes + 1) self.old) }
+        ensures err { OnErr result (self.new ≡ self.old) }
+    {
+        let base = self.operands.len() - takes;
+        let value = host.give(request, &mut self.operands[base..])?;
+        self.replace(takes, value);
+        Ok(())
+    }
+
+    /// Puts a value in the place of so many operands.
+    #[inline(always)]
+    pub(crate) fn replace(&mut self, takes: usize, value: V)
+        requires there { takes ≤ self.old.machine.operands }
+        requires room { self.old.machine.operands - takes < self.old.room }
+        ensures { self.new ≡ state_with_operands
+            (self.old.machine.operands - takes + 1) self.old }
+    {
+        self.operands.truncate(self.operands.len() - takes);
+        self.operands.push_reserved(value);
+    }
+
+    /// Has the host do an operation that is shown so many operands, takes so many of them and gives no value.
+    #[inline(always)]
+    pub(crate) fn take<H: Host<Value = V>>(
+        &mut self,
+        host: &mut H,
+        request: &Request<'_>,
+        needs: usize,
+        takes: usize,
+    ) -> Result<(), H::Fault>
+        requires there { needs ≤ self.old.machine.operands }
+        requires within { takes ≤ needs }
+        requires asked { IsAsked request.now.program.now request.now.chunk request.now.at
+            request.now.op.now needs }
+        requires gives { gives (setting_of request.now.program.now) request.now.op.now ≡ 0 }
+        ensures ok { OnOk result (self.new ≡ state_with_operands
+            (self.old.machine.operands - takes) self.old) }
+        ensures err { OnErr result (self.new ≡ self.old) }
+    {
+        let len = self.operands.len();
+        host.take(request, &mut self.operands[len - needs..])?;
+        self.operands.truncate(len - takes);
+        Ok(())
+    }
+
+    /// Begins an iterator.
+    pub(crate) fn begin(&mut self, iterator: I) -> Result<(), AllocError>
+        ensures { OnOk result (self.new ≡ state_with_iterators
+            (self.old.machine.iterators + 1) self.old) }
+    {
+        self.iterators.push(iterator)?;
+        Ok(())
+    }
+
+    /// The next item of the innermost iterator.
+    #[inline(always)]
+    pub(crate) fn advance<H: Host<Value = V, Iterator = I>>(
+        &mut self,
+        host: &mut H,
+        counter: Option<u16>,
+    ) -> Result<Option<V>, H::Fault>
+        requires { 0 < self.old.machine.iterators }
+        ensures { self.new ≡ self.old }
+    {
+        let last = self.iterators.len() - 1;
+        host.advance(&mut self.iterators[last], counter)
+    }
+
+    /// Ends the innermost iterator.
+    pub(crate) fn end(&mut self)
+        requires { 0 < self.old.machine.iterators }
+        ensures { self.new ≡ state_with_iterators
+            (self.old.machine.iterators - 1) self.old }
+    {
+        let _ = self.iterators.pop();
+    }
+
+    /// Arms a handler.
+    pub(crate) fn arm(&mut self, target: u32, name: Option<u32>) -> Result<(), AllocError>
+        ensures { OnOk result (self.new ≡ state_with_handlers (record {
+          target = target;
+          operands = self.old.machine.operands;
+          iterators = self.old.machine.iterators;
+          spent = false;
+        } ∷ self.old.machine.handlers) self.old) }
+    {
+        self.handlers.push(Armed {
+            target,
+            operands: self.operands.len(),
+            iterators: self.iterators.len(),
+            spent: false,
+            name,
+        })?;
+        Ok(())
+    }
+
+    /// Disarms the innermost handler.
+    pub(crate) fn disarm(&mut self)
+        requires { 0 < length self.old.machine.handlers }
+        ensures { self.new ≡ state_with_handlers
+            (without_last self.old.machine.handlers) self.old }
+    {
+        let _ = self.handlers.pop();
+    }
+
+    /// Goes where the innermost handler catches that isn't spent, and answers the name that it binds the fault to.
+    pub(crate) fn catch(&mut self) -> Option<Option<u32>>
+        ensures caught { MatchOption result (innermost self.old.machine.handlers ≡ None)
+            (λ _. Lands self.old.machine self.new.machine) }
+        ensures room { self.new.room ≡ self.old.room }
+    {
+        while let Some(handler) = self.handlers.pop() {
+            if !handler.spent {
+                self.at = handler.target as usize;
+                self.operands.truncate(handler.operands);
+                self.iterators.truncate(handler.iterators);
+                self.handlers.push_reserved(Armed {
+                    spent: true,
+                    ..handler
+                });
+                return Some(handler.name);
+            }
+        }
+        None
+    }
+}

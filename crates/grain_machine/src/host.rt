@@ -1,0 +1,118 @@
+//! What the machine asks of its host.
+ghost use Rattle.std.specs.Prelude.{◌≡◌, IfOk, length};
+ghost use Rattle.std.specs.List.{Contains};
+ghost use Rattle.grain_rules.specs.Code.{switch_targets};
+ghost use Rattle.grain_rules.specs.Rows.{gives};
+ghost use Rattle.grain.specs.Program.{setting_of};
+ghost use Rattle.grain_machine.specs.Asked.{IsAsked};
+
+use grain::{Chunk, Dynamic, Op, Program, Switch};
+
+/// What a host is asked to do: an operation, where a run meets it.
+#[derive(Clone, Copy)]
+pub struct Request<'a> {
+    /// The program, which is accepted.
+    pub program: &'a Program,
+    /// The chunk that is run.
+    pub chunk: Chunk,
+    /// The address of the operation.
+    pub at: usize,
+    /// The operation.
+    pub op: &'a Op,
+}
+
+/// It knows values, iterators and faults, and does what operations do with them.
+///
+/// Each operation that it is asked for is one that a run of the chunk meets at its address. The program has its
+/// capabilities, and finds its indices; and the host is given just the operands that it needs, the topmost last.
+pub trait Host {
+    /// A value of the script.
+    type Value: Drop;
+    /// A walk over the items of a value.
+    type Iterator: Drop;
+    /// Why an operation fails.
+    type Fault: Drop;
+
+    /// The unit value.
+    fn unit(&mut self) -> Self::Value;
+
+    /// A truth value.
+    fn boolean(&mut self, value: bool) -> Self::Value;
+
+    /// Drops local variables down to so many.
+    fn unwind_to(&mut self, depth: u16);
+
+    /// Does an operation that takes its operands and gives a value. The machine drops what is left of them.
+    ///
+    /// # Errors
+    /// Why it fails.
+    fn give(
+        &mut self,
+        request: &Request<'_>,
+        operands: &mut [Self::Value],
+    ) -> Result<Self::Value, Self::Fault>
+        requires asked { IsAsked request.now.program.now request.now.chunk request.now.at
+            request.now.op.now (length operands.old) }
+        requires gives { gives (setting_of request.now.program.now) request.now.op.now ≡ 1 };
+
+    /// Does an operation that gives no value. The machine drops what is left of the operands that it takes.
+    ///
+    /// # Errors
+    /// Why it fails.
+    fn take(
+        &mut self,
+        request: &Request<'_>,
+        operands: &mut [Self::Value],
+    ) -> Result<(), Self::Fault>
+        requires asked { IsAsked request.now.program.now request.now.chunk request.now.at
+            request.now.op.now (length operands.old) }
+        requires gives { gives (setting_of request.now.program.now) request.now.op.now ≡ 0 };
+
+    /// Whether a condition holds.
+    ///
+    /// # Errors
+    /// Why it is none.
+    fn is_true(&mut self, value: &Self::Value) -> Result<bool, Self::Fault>;
+
+    /// Whether a value is unit.
+    fn is_unit(&mut self, value: &Self::Value) -> bool;
+
+    /// Where the switch leads with this subject.
+    ///
+    /// # Errors
+    /// Why it leads nowhere.
+    fn dispatch(&mut self, switch: &Switch, subject: &Self::Value) -> Result<u32, Self::Fault>
+        ensures { IfOk result (λ target. Contains (switch_targets switch.now) target) };
+
+    /// Begins to go over a value.
+    ///
+    /// # Errors
+    /// Why it can't be gone over.
+    fn begin(&mut self, value: Self::Value) -> Result<Self::Iterator, Self::Fault>;
+
+    /// The next item, or `None` past the last. Where a slot counts the items, it is the host that counts there.
+    ///
+    /// # Errors
+    /// Why there is none.
+    fn advance(
+        &mut self,
+        iterator: &mut Self::Iterator,
+        counter: Option<u16>,
+    ) -> Result<Option<Self::Value>, Self::Fault>;
+
+    /// The fault that a value is when it is thrown.
+    fn thrown(&mut self, value: Self::Value) -> Self::Fault;
+
+    /// Binds a fault that a handler caught to the name at the index, if it has one.
+    ///
+    /// # Errors
+    /// The fault, where it isn't one to be caught: then it ends the run.
+    fn caught(&mut self, fault: Self::Fault, name: Option<u32>) -> Result<(), Self::Fault>;
+}
+
+/// Where the switch leads with this subject, for a host whose values have a [`Dynamic`] to show.
+pub fn dispatch(switch: &Switch, subject: &Dynamic) -> u32
+    ensures { Contains (switch_targets switch.now) result }
+{
+    switch.dispatch(subject)
+}

@@ -1,0 +1,492 @@
+//! One operation at a time.
+ghost use Rattle.std.specs.Prelude.{◌≡◌, ◌≤◌, IfErr, IfOk, OnErr, OnOk};
+ghost use Rattle.grain_code.specs.declared.op.Op.{Op};
+ghost use Rattle.grain_machine.specs.Act.{IsForHost};
+ghost use Rattle.grain.specs.Program.{setting_of};
+ghost use Rattle.grain_machine.specs.Ends.{IsEnded, IsFault, MayEnd};
+ghost use Rattle.grain_machine.specs.Asked.{program_code};
+ghost use Rattle.grain_machine.specs.State.{MakesMove, IsAt, IsUnderWay, Lands};
+
+use crate::accepted::Runnable;
+use crate::act::Act;
+use crate::frame::Frame;
+use crate::host::{Host, Request};
+use grain::{Instruction, Op};
+use std::alloc::{AllocError, Global};
+
+/// How a run ends.
+#[derive(Drop)]
+pub enum How<V, F> {
+    /// It came to `Return`, with this on top of the operand stack.
+    Returned(Option<V>),
+    /// A fault came, and no handler is armed that hasn't caught.
+    Faulted(F),
+    /// A fault came that a handler would catch, and that the host doesn't let be caught.
+    Uncatchable(F),
+    /// It has made as many moves as it may.
+    OutOfFuel,
+    /// An iterator or a handler more wants memory that isn't there.
+    OutOfMemory,
+}
+
+/// Where a run ended, and how.
+#[derive(Drop)]
+pub struct Ending<V, F> {
+    /// The address of the operation that ended it, or of the one that would have come next.
+    pub at: usize,
+    /// How it ended.
+    pub how: How<V, F>,
+}
+
+impl<'a> Runnable<'a> {
+    /// Runs the chunk from its entry, for so many moves at most: operations that are done, and faults that are caught.
+    ///
+    /// Room for all operands that any run has is taken here; iterators and handlers take theirs as they come.
+    ///
+    /// # Errors
+    /// There is no room for the operands; the host was asked for nothing.
+    pub fn run<H: Host>(
+        &self,
+        alloc: Global,
+        host: &mut H,
+        fuel: u64,
+    ) -> Result<Ending<H::Value, H::Fault>, AllocError>
+        // It has gone through a kept run, which ends so.
+        ensures ended { IfOk result (λ ending. IsEnded self.now fuel ending.at ending.how) }
+
+        // Without room for its operands no run begins.
+        ensures unasked { OnErr result (host.new ≡ host.old) }
+    {
+        let mut frame = Frame::new(alloc, self.chunk.entry(), self.room)?;
+        'moves: for _turn in 0..fuel {
+            let at = frame.at();
+            match self.step(&mut frame, host) {
+                Ok(()) => {}
+                Err(how) => return Ok(Ending { at, how }),
+            }
+        }
+        Ok(Ending {
+            at: frame.at(),
+            how: How::OutOfFuel,
+        })
+    }
+
+    /// The operation that stands where the run is, and the address behind it.
+    #[inline(always)]
+    fn read<V: Drop, I: Drop>(&self, frame: &Frame<V, I>) -> (Op, usize)
+        requires { IsUnderWay self.now frame.now }
+        ensures { IsAt self.now frame.now result.0 result.1 }
+    {
+        let at = frame.at();
+        let Some(instruction) = Instruction::at(self.program.code(), at) else {
+            unreachable!()
+        };
+        let Some(op) = instruction.op() else {
+            unreachable!()
+        };
+        (op, at + instruction.width())
+    }
+
+    /// What the host is asked to do with an operation where the run is.
+    #[inline(always)]
+    fn request<'b, V: Drop, I: Drop>(&'b self, frame: &Frame<V, I>, op: &'b Op) -> Request<'b>
+        ensures program { result.program.now ≡ self.now.program }
+        ensures chunk { result.chunk ≡ self.now.chunk }
+        ensures at { result.at ≡ frame.now.machine.address }
+        ensures op { result.op.now ≡ op.now }
+    {
+        let here = frame.at();
+        Request {
+            program: self.program,
+            chunk: self.chunk,
+            at: here,
+            op,
+        }
+    }
+
+    /// Does the operation that stands where the run is.
+    #[inline(always)]
+    pub(crate) fn step<H: Host>(
+        &self,
+        frame: &mut Frame<H::Value, H::Iterator>,
+        host: &mut H,
+    ) -> Result<(), How<H::Value, H::Fault>>
+        requires { IsUnderWay self.now frame.old }
+        ensures goes { OnOk result (MakesMove self.now frame.old frame.new) }
+        ensures ends { IfErr result (MayEnd (program_code self.now.program) frame.old.machine) }
+    {
+        let (op, next) = self.read(frame);
+        match Act::of(&op, self.program) {
+            Act::Gives { takes } => self.give(frame, host, &op, next, takes),
+            Act::Takes { needs, takes } => self.take(frame, host, &op, next, needs, takes),
+            Act::Unit => {
+                let value = host.unit();
+                self.unit(frame, next, value);
+                Ok(())
+            }
+            Act::Truth { value } => {
+                let truth = host.boolean(value);
+                self.truth(frame, next, value, truth);
+                Ok(())
+            }
+            Act::Pop => {
+                self.pop(frame, next);
+                Ok(())
+            }
+            Act::Rotate { depth } => {
+                self.rotate(frame, next, depth);
+                Ok(())
+            }
+            Act::Unwind { depth } => {
+                host.unwind_to(depth);
+                self.unwind(frame, next, depth);
+                Ok(())
+            }
+            Act::Jump { target } => {
+                self.jump(frame, next, target);
+                Ok(())
+            }
+            Act::JumpIf { target, when: true } => self.jump_if_true(frame, host, next, target),
+            Act::JumpIf {
+                target,
+                when: false,
+            } => self.jump_if_false(frame, host, next, target),
+            Act::Skip { target } => {
+                self.skip(frame, host, next, target);
+                Ok(())
+            }
+            Act::Switch { index } => self.switch(frame, host, next, index),
+            Act::Return => Err(How::Returned(frame.result())),
+            Act::Throw => self.throw(frame, host, next),
+            Act::Begin => self.begin(frame, host, next),
+            Act::Advance { exit, counter } => self.advance(frame, host, next, exit, counter),
+            Act::End => {
+                self.end(frame, next);
+                Ok(())
+            }
+            Act::Arm { target, name } => self.arm(frame, next, target, name),
+            Act::Disarm => {
+                self.disarm(frame, next);
+                Ok(())
+            }
+        }
+    }
+
+    #[inline(always)]
+    fn give<H: Host>(
+        &self,
+        frame: &mut Frame<H::Value, H::Iterator>,
+        host: &mut H,
+        op: &Op,
+        next: usize,
+        takes: usize,
+    ) -> Result<(), How<H::Value, H::Fault>>
+        requires at { IsAt self.now frame.old op.now next }
+        requires plain { IsForHost (setting_of self.now.program) op.now takes takes 1 }
+        ensures goes { OnOk result (MakesMove self.now frame.old frame.new) }
+        ensures ends { IfErr result (MayEnd (program_code self.now.program) frame.old.machine) }
+    {
+        let request = self.request(frame, op);
+        match frame.give(host, &request, takes) {
+            Ok(()) => {
+                frame.go(next);
+                Ok(())
+            }
+            Err(fault) => raise(frame, host, fault),
+        }
+    }
+
+    #[inline(always)]
+    fn take<H: Host>(
+        &self,
+        frame: &mut Frame<H::Value, H::Iterator>,
+        host: &mut H,
+        op: &Op,
+        next: usize,
+        needs: usize,
+        takes: usize,
+    ) -> Result<(), How<H::Value, H::Fault>>
+        requires at { IsAt self.now frame.old op.now next }
+        requires plain { IsForHost (setting_of self.now.program) op.now needs takes 0 }
+        requires within { takes ≤ needs }
+        ensures goes { OnOk result (MakesMove self.now frame.old frame.new) }
+        ensures ends { IfErr result (MayEnd (program_code self.now.program) frame.old.machine) }
+    {
+        let request = self.request(frame, op);
+        match frame.take(host, &request, needs, takes) {
+            Ok(()) => {
+                frame.go(next);
+                Ok(())
+            }
+            Err(fault) => raise(frame, host, fault),
+        }
+    }
+
+    #[inline(always)]
+    fn unit<V: Drop, I: Drop>(&self, frame: &mut Frame<V, I>, next: usize, unit: V)
+        requires { IsAt self.now frame.old Op.Unit next }
+        ensures { MakesMove self.now frame.old frame.new }
+    {
+        frame.push(unit);
+        frame.go(next);
+    }
+
+    #[inline(always)]
+    fn truth<V: Drop, I: Drop>(&self, frame: &mut Frame<V, I>, next: usize, value: bool, truth: V)
+        requires { IsAt self.now frame.old (Op.Bool value) next }
+        ensures { MakesMove self.now frame.old frame.new }
+    {
+        frame.push(truth);
+        frame.go(next);
+    }
+
+    #[inline(always)]
+    fn pop<V: Drop, I: Drop>(&self, frame: &mut Frame<V, I>, next: usize)
+        requires { IsAt self.now frame.old Op.Pop next }
+        ensures { MakesMove self.now frame.old frame.new }
+    {
+        let _ = frame.pop();
+        frame.go(next);
+    }
+
+    #[inline(always)]
+    fn rotate<V: Drop, I: Drop>(&self, frame: &mut Frame<V, I>, next: usize, depth: usize)
+        requires { IsAt self.now frame.old (Op.Rotate depth) next }
+        ensures { MakesMove self.now frame.old frame.new }
+    {
+        frame.rotate(depth);
+        frame.go(next);
+    }
+
+    #[inline(always)]
+    fn unwind<V: Drop, I: Drop>(&self, frame: &mut Frame<V, I>, next: usize, depth: u16)
+        requires { IsAt self.now frame.old (Op.UnwindTo depth) next }
+        ensures { MakesMove self.now frame.old frame.new }
+    {
+        frame.go(next);
+    }
+
+    #[inline(always)]
+    fn jump<V: Drop, I: Drop>(&self, frame: &mut Frame<V, I>, next: usize, target: u32)
+        requires { IsAt self.now frame.old (Op.Jump target) next }
+        ensures { MakesMove self.now frame.old frame.new }
+    {
+        frame.go(target as usize);
+    }
+
+    #[inline(always)]
+    fn jump_if_true<H: Host>(
+        &self,
+        frame: &mut Frame<H::Value, H::Iterator>,
+        host: &mut H,
+        next: usize,
+        target: u32,
+    ) -> Result<(), How<H::Value, H::Fault>>
+        requires { IsAt self.now frame.old (Op.JumpIfTrue target) next }
+        ensures goes { OnOk result (MakesMove self.now frame.old frame.new) }
+        ensures ends { IfErr result (MayEnd (program_code self.now.program) frame.old.machine) }
+    {
+        match frame.condition(host) {
+            Ok(true) => {
+                frame.go(target as usize);
+                Ok(())
+            }
+            Ok(false) => {
+                frame.go(next);
+                Ok(())
+            }
+            Err(fault) => raise(frame, host, fault),
+        }
+    }
+
+    #[inline(always)]
+    fn jump_if_false<H: Host>(
+        &self,
+        frame: &mut Frame<H::Value, H::Iterator>,
+        host: &mut H,
+        next: usize,
+        target: u32,
+    ) -> Result<(), How<H::Value, H::Fault>>
+        requires { IsAt self.now frame.old (Op.JumpIfFalse target) next }
+        ensures goes { OnOk result (MakesMove self.now frame.old frame.new) }
+        ensures ends { IfErr result (MayEnd (program_code self.now.program) frame.old.machine) }
+    {
+        match frame.condition(host) {
+            Ok(false) => {
+                frame.go(target as usize);
+                Ok(())
+            }
+            Ok(true) => {
+                frame.go(next);
+                Ok(())
+            }
+            Err(fault) => raise(frame, host, fault),
+        }
+    }
+
+    #[inline(always)]
+    fn skip<H: Host>(
+        &self,
+        frame: &mut Frame<H::Value, H::Iterator>,
+        host: &mut H,
+        next: usize,
+        target: u32,
+    )
+        requires { IsAt self.now frame.old (Op.SkipIfNotUnit target) next }
+        ensures { MakesMove self.now frame.old frame.new }
+    {
+        if host.is_unit(frame.top()) {
+            frame.go(next);
+        } else {
+            frame.go(target as usize);
+        }
+    }
+
+    #[inline(always)]
+    fn switch<H: Host>(
+        &self,
+        frame: &mut Frame<H::Value, H::Iterator>,
+        host: &mut H,
+        next: usize,
+        index: u32,
+    ) -> Result<(), How<H::Value, H::Fault>>
+        requires { IsAt self.now frame.old (Op.Switch index) next }
+        ensures goes { OnOk result (MakesMove self.now frame.old frame.new) }
+        ensures ends { IfErr result (MayEnd (program_code self.now.program) frame.old.machine) }
+    {
+        let switch = &self.program.switches()[index as usize];
+        match host.dispatch(switch, frame.top()) {
+            Ok(target) => {
+                frame.go(target as usize);
+                Ok(())
+            }
+            Err(fault) => raise(frame, host, fault),
+        }
+    }
+
+    #[inline(always)]
+    fn throw<H: Host>(
+        &self,
+        frame: &mut Frame<H::Value, H::Iterator>,
+        host: &mut H,
+        next: usize,
+    ) -> Result<(), How<H::Value, H::Fault>>
+        requires { IsAt self.now frame.old Op.Throw next }
+        ensures goes { OnOk result (MakesMove self.now frame.old frame.new) }
+        ensures ends { IfErr result (MayEnd (program_code self.now.program) frame.old.machine) }
+    {
+        let value = frame.pop();
+        let fault = host.thrown(value);
+        raise(frame, host, fault)
+    }
+
+    #[inline(always)]
+    fn begin<H: Host>(
+        &self,
+        frame: &mut Frame<H::Value, H::Iterator>,
+        host: &mut H,
+        next: usize,
+    ) -> Result<(), How<H::Value, H::Fault>>
+        requires { IsAt self.now frame.old Op.IterInit next }
+        ensures goes { OnOk result (MakesMove self.now frame.old frame.new) }
+        ensures ends { IfErr result (MayEnd (program_code self.now.program) frame.old.machine) }
+    {
+        let value = frame.pop();
+        match host.begin(value) {
+            Ok(iterator) => match frame.begin(iterator) {
+                Ok(()) => {
+                    frame.go(next);
+                    Ok(())
+                }
+                Err(_) => Err(How::OutOfMemory),
+            },
+            Err(fault) => raise(frame, host, fault),
+        }
+    }
+
+    #[inline(always)]
+    fn advance<H: Host>(
+        &self,
+        frame: &mut Frame<H::Value, H::Iterator>,
+        host: &mut H,
+        next: usize,
+        exit: u32,
+        counter: Option<u16>,
+    ) -> Result<(), How<H::Value, H::Fault>>
+        requires { IsAt self.now frame.old (Op.IterNext exit counter) next }
+        ensures goes { OnOk result (MakesMove self.now frame.old frame.new) }
+        ensures ends { IfErr result (MayEnd (program_code self.now.program) frame.old.machine) }
+    {
+        match frame.advance(host, counter) {
+            Ok(Some(item)) => {
+                frame.push(item);
+                frame.go(next);
+                Ok(())
+            }
+            Ok(None) => {
+                frame.end();
+                frame.go(exit as usize);
+                Ok(())
+            }
+            Err(fault) => raise(frame, host, fault),
+        }
+    }
+
+    #[inline(always)]
+    fn end<V: Drop, I: Drop>(&self, frame: &mut Frame<V, I>, next: usize)
+        requires { IsAt self.now frame.old Op.IterDrop next }
+        ensures { MakesMove self.now frame.old frame.new }
+    {
+        frame.end();
+        frame.go(next);
+    }
+
+    #[inline(always)]
+    fn arm<V: Drop, I: Drop, F: Drop>(
+        &self,
+        frame: &mut Frame<V, I>,
+        next: usize,
+        target: u32,
+        name: Option<u32>,
+    ) -> Result<(), How<V, F>>
+        requires { IsAt self.now frame.old (Op.PushHandler target name) next }
+        ensures goes { OnOk result (MakesMove self.now frame.old frame.new) }
+        ensures ends { IfErr result (MayEnd (program_code self.now.program) frame.old.machine) }
+    {
+        match frame.arm(target, name) {
+            Ok(()) => {
+                frame.go(next);
+                Ok(())
+            }
+            Err(_) => Err(How::OutOfMemory),
+        }
+    }
+
+    #[inline(always)]
+    fn disarm<V: Drop, I: Drop>(&self, frame: &mut Frame<V, I>, next: usize)
+        requires { IsAt self.now frame.old Op.PopHandler next }
+        ensures { MakesMove self.now frame.old frame.new }
+    {
+        frame.disarm();
+        frame.go(next);
+    }
+}
+
+/// Raises a fault: the innermost handler catches it that isn't spent, or it ends the run.
+fn raise<H: Host>(
+    frame: &mut Frame<H::Value, H::Iterator>,
+    host: &mut H,
+    fault: H::Fault,
+) -> Result<(), How<H::Value, H::Fault>>
+    ensures lands { OnOk result (Lands frame.old.machine frame.new.machine) }
+    ensures room { frame.new.room ≡ frame.old.room }
+    ensures fault { IfErr result (IsFault frame.old.machine) }
+{
+    match frame.catch() {
+        Some(name) => match host.caught(fault, name) {
+            Ok(()) => Ok(()),
+            Err(fault) => Err(How::Uncatchable(fault)),
+        },
+        None => Err(How::Faulted(fault)),
+    }
+}
