@@ -1,0 +1,63 @@
+//! Whether rows are a stack typing of a chunk.
+ghost use Rattle.std.specs.Prelude.{IfErr, OnOk};
+ghost use Rattle.grain_rules.specs.Accepted.{ChunkPasses};
+ghost use Rattle.grain_rules.specs.Code.{bytecode};
+ghost use Rattle.grain_explain.specs.Certificate.{IsCertificate, RowsFlaw};
+
+use crate::claim::Claim;
+use crate::edge::OnEdge;
+use crate::error::TypingError;
+use crate::row::Row;
+use grain_base::Caps;
+use grain_bytecode::{Chunk, count_instructions};
+use grain_rules::Pools;
+
+/// Whether rows are a stack typing of a chunk within the operands that it declares.
+///
+/// The rows are those of the addresses that the typing covers, in ascending order. The answer is yes exactly where the chunk
+/// lies in the code and ends at a boundary of instructions, and the rows are a typing of it: the entry has a row with nothing
+/// on the stacks; each row is at an instruction of the chunk, which finds there what it asks and needs and doesn't sink
+/// below the last handler; and each edge leads to a row with the very counts of the edge. So it is yes of a chunk of
+/// accepted code with the rows that a compiler or a verifier ships, and no of all else. Whether constants, indices and
+/// functions pass is for other tests.
+///
+/// It reads the code once and the rows once, looks for the row of each edge among them by halves, and takes no memory. An
+/// instruction that names a name or a chain costs by its length, and one with a switch by the number of its arms.
+///
+/// # Errors
+/// What is wrong with the rows, and of which of them.
+pub fn check_typing(
+    caps: Caps,
+    code: &[u8],
+    chunk: &Chunk,
+    pools: &Pools<'_>,
+    rows: &[Row],
+) -> Result<(), TypingError>
+    ensures yes { OnOk result
+        (IsCertificate (bytecode caps pools.now code.now) chunk.now rows.now) }
+    ensures passes { OnOk result (ChunkPasses (bytecode caps pools.now code.now) chunk.now) }
+    ensures no { IsCertificate (bytecode caps pools.now code.now) chunk.now rows.now
+        → IfErr result (λ _. ⊥) }
+    ensures flaw { IfErr result (RowsFlaw (bytecode caps pools.now code.now) chunk.now rows.now) }
+{
+    let claim = Claim {
+        caps,
+        code,
+        chunk,
+        pools,
+        rows,
+    };
+    if let Err(at) = count_instructions(code) {
+        return Err(TypingError::Undecodable { at });
+    }
+    let end = chunk.end();
+    if end as usize > code.len() || chunk.entry() > end {
+        return Err(TypingError::ChunkOutOfRange);
+    }
+    claim.check_ascending()?;
+    claim.check_places()?;
+    if !claim.has_row(chunk.entry() as usize, &OnEdge::nothing()) {
+        return Err(TypingError::BadEntry);
+    }
+    claim.check_rows()
+}

@@ -1,0 +1,143 @@
+//! Rows with the chunk of which they are to be a typing.
+ghost use Rattle.std.specs.Prelude.{◌≡◌, ◌≤◌, ◌<◌, ◌↔◌, ℕ, List, Some, slice_get, length};
+ghost use Rattle.std.specs.Prelude.{IfErr, OnOk, IsTrue};
+ghost use Rattle.grain_code.specs.Split.{Split};
+ghost use Rattle.grain_rules.specs.Layout.{IsBoundary};
+ghost use Rattle.grain_explain.specs.Claimed.{ArePlaced, AreSound, HasRow, IsSound};
+ghost use Rattle.grain_explain.specs.Claimed.{RefusesRows, lack_named};
+ghost use Rattle.grain_explain.specs.RowView.{AreAscending};
+
+use crate::edge::OnEdge;
+use crate::error::TypingError;
+use crate::frame::boundary_from;
+use crate::needs::{Lack, check_needs};
+use crate::row::Row;
+use grain_base::Caps;
+use grain_bytecode::{Chunk, decode, width};
+use grain_rules::Pools;
+
+/// Rows that somebody hands in, and the chunk of which they are to be a typing.
+#[derive(Clone, Copy)]
+pub(crate) struct Claim<'a> {
+    pub(crate) caps: Caps,
+    pub(crate) code: &'a [u8],
+    pub(crate) chunk: &'a Chunk,
+    pub(crate) pools: &'a Pools<'a>,
+    pub(crate) rows: &'a [Row],
+}
+
+impl Claim<'_> {
+    /// Tests that each row is above the one before it.
+    ///
+    /// # Errors
+    /// `NotAscending`, of the first that isn't.
+    pub(crate) fn check_ascending(&self) -> Result<(), TypingError>
+        ensures ok { OnOk result (AreAscending self.now.rows.now) }
+        ensures err { IfErr result (RefusesRows self.now) }
+    {
+        for row in 1..self.rows.len() {
+            if self.rows[row].at <= self.rows[row - 1].at {
+                return Err(TypingError::NotAscending { row });
+            }
+        }
+        Ok(())
+    }
+
+    /// Tests that each row is at a start of the chunk, and that the chunk ends at a boundary.
+    ///
+    /// # Errors
+    /// `OutsideChunk` and `NoStart`, of the first row that isn't at one; `EndsInside`.
+    pub(crate) fn check_places(&self) -> Result<(), TypingError>
+        requires whole { (starts : List ℕ) × Split self.now.code.now starts }
+        requires inside { self.now.chunk.now.end ≤ length self.now.code.now }
+        requires ascending { AreAscending self.now.rows.now }
+        ensures placed { OnOk result (ArePlaced self.now) }
+        ensures ends { OnOk result (IsBoundary self.now.code.now self.now.chunk.now.end) }
+        ensures err { IfErr result (RefusesRows self.now) }
+    {
+        let mut boundary = 0;
+        for (row, here) in self.rows.iter().enumerate() {
+            if here.at < self.chunk.entry() || here.at >= self.chunk.end() {
+                return Err(TypingError::OutsideChunk { row });
+            }
+            boundary = boundary_from(self.code, boundary, here.at as usize);
+            if boundary != here.at as usize {
+                return Err(TypingError::NoStart { row });
+            }
+        }
+        let end = self.chunk.end() as usize;
+        if boundary_from(self.code, boundary, end) != end {
+            return Err(TypingError::EndsInside);
+        }
+        Ok(())
+    }
+
+    /// Whether the row at an address, if there is one, has the counts of an edge.
+    pub(crate) fn has_row(&self, at: usize, edge: &OnEdge<'_>) -> bool
+        requires { AreAscending self.now.rows.now }
+        ensures { IsTrue result ↔ HasRow self.now edge.now at }
+    {
+        match self.rows.binary_search_by_key(&at, |row| row.at as usize) {
+            Ok(place) => edge.is_at(&self.rows[place]),
+            Err(_) => false,
+        }
+    }
+
+    /// Tests that the instruction of a row finds what it asks and needs, and that its edges lead to rows with their counts.
+    ///
+    /// # Errors
+    /// The first test that fails, by its name.
+    pub(crate) fn check_row(&self, number: usize, row: &Row) -> Result<(), TypingError>
+        requires ascending { AreAscending self.now.rows.now }
+        requires placed { ArePlaced self.now }
+        requires here { slice_get self.now.rows.now number ≡ Some row.now }
+        ensures sound { OnOk result (IsSound self.now row.now) }
+        ensures err { IfErr result (RefusesRows self.now) }
+    {
+        if row.operands > u32::from(self.chunk.max_stack()) {
+            return Err(TypingError::TooDeep { row: number });
+        }
+        let at = row.at as usize;
+        let Some(op) = decode(self.code, at) else {
+            return Err(TypingError::NoStart { row: number });
+        };
+        let Some(width) = width(self.code, at) else {
+            return Err(TypingError::NoStart { row: number });
+        };
+        match check_needs(self.caps, self.pools, &op, row) {
+            Ok(effect) => self.check_edges(number, row, &effect, at + width),
+            Err(lack) => Err(TypingError::of_row(number, lack)),
+        }
+    }
+
+    /// Tests all rows.
+    ///
+    /// # Errors
+    /// That of the first row that is refused.
+    pub(crate) fn check_rows(&self) -> Result<(), TypingError>
+        requires ascending { AreAscending self.now.rows.now }
+        requires placed { ArePlaced self.now }
+        ensures sound { OnOk result (AreSound self.now) }
+        ensures err { IfErr result (RefusesRows self.now) }
+    {
+        for (number, row) in self.rows.iter().enumerate() {
+            self.check_row(number, row)?;
+        }
+        Ok(())
+    }
+}
+
+impl TypingError {
+    /// What the instruction of a row lacks.
+    fn of_row(row: usize, lack: Lack) -> TypingError
+        ensures { result ≡ lack_named row lack }
+    {
+        match lack {
+            Lack::Capabilities(missing) => TypingError::MissingCaps { row, missing },
+            Lack::Operands(need) => TypingError::Underflow { row, need },
+            Lack::Iterators => TypingError::IteratorUnderflow { row },
+            Lack::Handlers => TypingError::HandlerUnderflow { row },
+            Lack::Reserve(need, have) => TypingError::SinksBelowHandler { row, need, have },
+        }
+    }
+}

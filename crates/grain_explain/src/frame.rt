@@ -1,0 +1,24 @@
+//! Boundaries of whole instructions.
+ghost use Rattle.std.specs.Prelude.{◌≡◌, ◌≤◌, ℕ, List};
+ghost use Rattle.grain_code.specs.Split.{Split};
+ghost use Rattle.grain_rules.specs.Layout.{IsBoundary};
+
+use grain_bytecode::width;
+
+/// The first boundary of whole instructions that isn't below an address, from a boundary on; where there is none, the
+/// end of the code.
+pub(crate) fn boundary_from(code: &[u8], from: usize, at: usize) -> usize
+    requires whole { (starts : List ℕ) × Split code.now starts }
+    requires here { IsBoundary code.now from }
+    ensures boundary { IsBoundary code.now result }
+    ensures found { IsBoundary code.now at → from ≤ at → result ≡ at }
+{
+    let mut here = from;
+    while here < at {
+        let Some(width) = width(code, here) else {
+            return here;
+        };
+        here += width;
+    }
+    here
+}

@@ -1,0 +1,21 @@
+//! Why a chunk of Rhai Grain bytecode is accepted or refused, as rows that anybody can check.
+//!
+//! A stack typing says of each instruction that a run may come to what stands there: how many operands and iterators,
+//! and the bases of the armed handlers. [`check_typing`] says whether rows that somebody hands in are such a typing, without
+//! a walk and without memory. What a typing is is defined in `grain_rules`.
+#![tactic(auto)]
+
+mod asks;
+mod certificate;
+mod claim;
+mod edge;
+mod effect;
+mod error;
+mod frame;
+mod needs;
+mod row;
+mod targets;
+
+pub use certificate::check_typing;
+pub use error::TypingError;
+pub use row::{Base, Row};

@@ -1,0 +1,145 @@
+//! What an operation finds lacking.
+ghost use Rattle.std.specs.Prelude.{◌≡◌, IfErr, IfOk, OnOk};
+ghost use Rattle.grain_rules.specs.Counts.{last_base};
+ghost use Rattle.grain_rules.specs.FlowFields.{falls_for, handlers_for, iterators_for};
+ghost use Rattle.grain_rules.specs.Setting.{setting};
+ghost use Rattle.grain_rules.specs.Sinking.{ReachesUpTo};
+ghost use Rattle.grain_explain.specs.EffectView.{flow_view};
+ghost use Rattle.grain_explain.specs.Lacking.{Does, HasAll, IsReserve, FindsLacking};
+ghost use Rattle.grain_explain.specs.RowView.{counts_of};
+
+use crate::effect::{Effect, Flow, is_quiet};
+use crate::row::{Base, Row};
+use grain_base::{Caps, Flags};
+use grain_bytecode::Op;
+use grain_rules::{Pools, missing};
+
+/// What an operation finds lacking.
+#[derive(Clone, Copy, Debug, PartialEq, Eq)]
+pub(crate) enum Lack {
+    /// These capabilities.
+    Capabilities(Caps),
+    /// Operands, of which it needs so many.
+    Operands(u32),
+    /// The iterator that it needs.
+    Iterators,
+    /// The handler that it disarms.
+    Handlers,
+    /// It isn't quiet, and leaves too little of what stood when the last handler was armed: so many operands, or where there
+    /// are enough, so many iterators, and so many are left.
+    Reserve(u32, u32),
+}
+
+impl Flow {
+    /// How many iterators there have to be.
+    fn iterators_needed(self) -> u32
+        ensures { result ≡ iterators_for (flow_view self) }
+    {
+        match self {
+            Flow::AdvancesIterator(_) | Flow::EndsIterator => 1,
+            Flow::Falls
+            | Flow::Ends
+            | Flow::Jumps(_)
+            | Flow::Branches(_)
+            | Flow::Switches(_)
+            | Flow::BeginsIterator
+            | Flow::PushesHandler(_)
+            | Flow::PopsHandler => 0,
+        }
+    }
+
+    /// Whether it may go on to the next operation.
+    pub(crate) fn falls(self) -> bool
+        ensures { result ≡ falls_for (flow_view self) }
+    {
+        match self {
+            Flow::Ends | Flow::Jumps(_) | Flow::Switches(_) => false,
+            Flow::Falls
+            | Flow::Branches(_)
+            | Flow::BeginsIterator
+            | Flow::AdvancesIterator(_)
+            | Flow::EndsIterator
+            | Flow::PushesHandler(_)
+            | Flow::PopsHandler => true,
+        }
+    }
+
+    /// How many handlers have to be armed.
+    fn handlers_needed(self) -> usize
+        ensures { result ≡ handlers_for (flow_view self) }
+    {
+        match self {
+            Flow::PopsHandler => 1,
+            Flow::Falls
+            | Flow::Ends
+            | Flow::Jumps(_)
+            | Flow::Branches(_)
+            | Flow::Switches(_)
+            | Flow::BeginsIterator
+            | Flow::AdvancesIterator(_)
+            | Flow::EndsIterator
+            | Flow::PushesHandler(_) => 0,
+        }
+    }
+}
+
+/// What an operation does, where it finds all that it asks and needs in a row.
+///
+/// # Errors
+/// What it finds lacking first.
+pub(crate) fn check_needs(caps: Caps, pools: &Pools<'_>, op: &Op, row: &Row) -> Result<Effect, Lack>
+    ensures has { OnOk result (HasAll (setting caps pools.now) op.now (counts_of row.now)) }
+    ensures does { IfOk result (Does (setting caps pools.now) op.now) }
+    ensures lacks { IfErr result
+        (FindsLacking (setting caps pools.now) op.now (counts_of row.now)) }
+{
+    let effect = Effect::of(op, pools);
+    let absent = missing(caps, effect.asks);
+    if !absent.is_empty() {
+        return Err(Lack::Capabilities(absent));
+    }
+    if row.operands < effect.needs {
+        return Err(Lack::Operands(effect.needs));
+    }
+    if row.iterators < effect.flow.iterators_needed() {
+        return Err(Lack::Iterators);
+    }
+    if row.bases.len() < effect.flow.handlers_needed() {
+        return Err(Lack::Handlers);
+    }
+    if !is_quiet(op) {
+        let left = Base::new(
+            row.operands.saturating_sub(effect.takes),
+            row.iterators.saturating_sub(effect.flow.iterators_needed()),
+        );
+        check_reserve(last_base(&row.bases), left)?;
+    }
+    Ok(effect)
+}
+
+/// The base of the handler that was armed last; where none is armed, that of empty stacks.
+fn last_base(bases: &[Base]) -> Base
+    ensures { result ≡ last_base bases.now }
+{
+    match bases {
+        [] => Base::new(0, 0),
+        [last, ..] => *last,
+    }
+}
+
+/// Whether stacks reach up to a base.
+///
+/// # Errors
+/// The operands that they lack, or where there are enough, the iterators.
+fn check_reserve(base: Base, left: Base) -> Result<(), Lack>
+    ensures ok { OnOk result (ReachesUpTo base left) }
+    ensures err { IfErr result (IsReserve base left) }
+{
+    if left.operands() < base.operands() {
+        return Err(Lack::Reserve(base.operands(), left.operands()));
+    }
+    if left.iterators() < base.iterators() {
+        return Err(Lack::Reserve(base.iterators(), left.iterators()));
+    }
+    Ok(())
+}
