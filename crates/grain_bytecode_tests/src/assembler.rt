@@ -1,6 +1,6 @@
 //! Operations written and read again.
 
-use crate::samples::both_texts;
+use crate::samples::{assert_same, both_texts};
 use grain_bytecode::{
     AssembleError, Op, Receiver, assemble, count_instructions, decode, disassemble,
 };
@@ -16,17 +16,18 @@ fn bytes_of(alloc: Global, ops: &[Op]) -> Result<Vec<u8>, AssembleError> {
 fn writes_operations(rt: HostRuntime) -> Result<(), Fail> {
     let ops = [Op::Const(0), Op::Unit, Op::Pop, Op::Return, Op::Jump(3)];
     let (code, offsets) = assemble(rt.alloc(), &ops)?;
-    assert_eq!(rt;
+    assert_same(
+        &rt,
         code.as_slice(),
-        [0x01u8, 0, 0, 0x02, 0x0b, 0x13, 0x0c, 5, 0, 0, 0].as_slice()
+        [0x01u8, 0, 0, 0x02, 0x0b, 0x13, 0x0c, 5, 0, 0, 0].as_slice(),
     );
-    assert_eq!(rt; offsets.as_slice(), [0u32, 3, 4, 5, 6, 11].as_slice());
+    assert_same(&rt, offsets.as_slice(), [0u32, 3, 4, 5, 6, 11].as_slice());
     let (code, offsets) = assemble(rt.alloc(), &[Op::Unit, Op::Jump(2)])?;
-    assert_eq!(rt; code.as_slice(), [0x02u8, 0x0c, 6, 0, 0, 0].as_slice());
-    assert_eq!(rt; offsets.as_slice(), [0u32, 1, 6].as_slice());
+    assert_same(&rt, code.as_slice(), [0x02u8, 0x0c, 6, 0, 0, 0].as_slice());
+    assert_same(&rt, offsets.as_slice(), [0u32, 1, 6].as_slice());
     let (code, offsets) = assemble(rt.alloc(), &[])?;
     assert!(rt; code.is_empty());
-    assert_eq!(rt; offsets.as_slice(), [0u32].as_slice());
+    assert_same(&rt, offsets.as_slice(), [0u32].as_slice());
     Ok(())
 }
 
@@ -43,24 +44,24 @@ fn call_fn_ptr(is_method: bool, capture_parent_scope: bool, receiver: Option<Rec
 fn writes_canonical_forms(rt: HostRuntime) -> Result<(), Fail> {
     let local = Some(Receiver::Local(4));
     let code = bytes_of(rt.alloc(), &[call_fn_ptr(false, true, local)])?;
-    assert_eq!(rt; code.as_slice(), [0x3fu8, 1, 4, 0].as_slice());
-    assert_eq!(rt; decode(&code, 0), Some(call_fn_ptr(true, false, local)));
+    assert_same(&rt, code.as_slice(), [0x3fu8, 1, 4, 0].as_slice());
+    assert_same(&rt, decode(&code, 0), Some(call_fn_ptr(true, false, local)));
     let code = bytes_of(rt.alloc(), &[call_fn_ptr(true, true, None)])?;
-    assert_eq!(rt; code.as_slice(), [0x2bu8, 1].as_slice());
-    assert_eq!(rt; decode(&code, 0), Some(call_fn_ptr(true, false, None)));
+    assert_same(&rt, code.as_slice(), [0x2bu8, 1].as_slice());
+    assert_same(&rt, decode(&code, 0), Some(call_fn_ptr(true, false, None)));
     let global = Op::DeclareLocal {
         name: 8,
         is_const: false,
         is_global: true,
     };
     let code = bytes_of(rt.alloc(), &[global])?;
-    assert_eq!(rt; code.as_slice(), [0x09u8, 8, 0].as_slice());
+    assert_same(&rt, code.as_slice(), [0x09u8, 8, 0].as_slice());
     let local = Op::DeclareLocal {
         name: 8,
         is_const: false,
         is_global: false,
     };
-    assert_eq!(rt; decode(&code, 0), Some(local));
+    assert_same(&rt, decode(&code, 0), Some(local));
     Ok(())
 }
 
@@ -110,23 +111,27 @@ fn refuses_indices(rt: HostRuntime) {
         ),
     ];
     for (op, refusal) in refusals {
-        assert_eq!(rt; bytes_of(rt.alloc(), &[op]).err(), Some(refusal));
+        assert_same(&rt, bytes_of(rt.alloc(), &[op]).err(), Some(refusal));
     }
 }
 
 #[test]
 fn takes_the_greatest_index_and_the_end(rt: HostRuntime) -> Result<(), Fail> {
     let code = bytes_of(rt.alloc(), &[Op::Const(65535)])?;
-    assert_eq!(rt; code.as_slice(), [0x01u8, 0xff, 0xff].as_slice());
+    assert_same(&rt, code.as_slice(), [0x01u8, 0xff, 0xff].as_slice());
     let code = bytes_of(rt.alloc(), &[Op::Jump(1)])?;
-    assert_eq!(rt; code.as_slice(), [0x0cu8, 5, 0, 0, 0].as_slice());
+    assert_same(&rt, code.as_slice(), [0x0cu8, 5, 0, 0, 0].as_slice());
     let far = AssembleError::JumpOutOfRange { at: 0, target: 2 };
-    assert_eq!(rt; bytes_of(rt.alloc(), &[Op::Jump(2)]).err(), Some(far));
+    assert_same(&rt, bytes_of(rt.alloc(), &[Op::Jump(2)]).err(), Some(far));
     let alone = AssembleError::JumpOutOfRange { at: 0, target: 99 };
-    assert_eq!(rt; bytes_of(rt.alloc(), &[Op::Jump(99)]).err(), Some(alone));
+    assert_same(
+        &rt,
+        bytes_of(rt.alloc(), &[Op::Jump(99)]).err(),
+        Some(alone),
+    );
     let wild = AssembleError::JumpOutOfRange { at: 1, target: 99 };
     let ops = [Op::Unit, Op::JumpIfTrue { target: 99 }];
-    assert_eq!(rt; bytes_of(rt.alloc(), &ops).err(), Some(wild.clone()?));
+    assert_same(&rt, bytes_of(rt.alloc(), &ops).err(), Some(wild.clone()?));
     Ok(())
 }
 
@@ -302,8 +307,8 @@ fn each_operation_is_read_again(rt: HostRuntime) -> Result<(), Fail> {
     for op in each_instruction().iter().chain(each_jump().iter()) {
         let ops = [op.clone()?];
         let code = bytes_of(rt.alloc(), &ops)?;
-        assert_eq!(rt; decode(&code, 0).as_ref(), Some(op));
-        assert_eq!(rt; disassemble(&code).count(), 1);
+        assert_same(&rt, decode(&code, 0).as_ref(), Some(op));
+        assert_same(&rt, disassemble(&code).count(), 1);
     }
     Ok(())
 }
@@ -319,11 +324,11 @@ fn long_code_is_written_and_read(rt: HostRuntime) -> Result<(), Fail> {
         })?;
     }
     let (code, offsets) = assemble(rt.alloc(), &ops)?;
-    assert_eq!(rt; (code.len(), offsets.len()), (48_000, 12_001));
-    assert_eq!(rt; offsets.last(), Some(&48_000));
-    assert_eq!(rt; count_instructions(&code), Ok(12_000));
-    assert_eq!(rt; disassemble(&code).count(), 12_000);
-    assert_eq!(rt; decode(&code, 47_995), Some(Op::Jump(47_995)));
+    assert_same(&rt, (code.len(), offsets.len()), (48_000, 12_001));
+    assert_same(&rt, offsets.last(), Some(&48_000));
+    assert_same(&rt, count_instructions(&code), Ok(12_000));
+    assert_same(&rt, disassemble(&code).count(), 12_000);
+    assert_same(&rt, decode(&code, 47_995), Some(Op::Jump(47_995)));
     Ok(())
 }
 
@@ -353,7 +358,7 @@ fn errors_are_printed(rt: HostRuntime) -> Result<(), Fail> {
     ];
     for (error, wanted) in rows {
         let text = both_texts(rt.alloc(), &error)?;
-        assert_eq!(rt; text.as_str(), wanted);
+        assert_same(&rt, text.as_str(), wanted);
     }
     Ok(())
 }

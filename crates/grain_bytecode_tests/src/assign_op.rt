@@ -1,3 +1,4 @@
+use crate::samples::assert_same;
 use grain_base::Token;
 use grain_bytecode::AssignOp;
 use std::test::Fail;
@@ -18,9 +19,10 @@ fn op_assignments_are_compared_and_printed(rt: HostRuntime) -> Result<(), Fail> 
     };
     assert_ne!(rt; plus, minus);
     let text = format!(in rt.alloc(); "{plus:?}")?;
-    assert_eq!(rt;
+    assert_same(
+        &rt,
         text.as_str(),
-        "AssignOp { op_assign: PlusAssign, op_assign_name: 1, op: Plus, op_name: 2 }"
+        "AssignOp { op_assign: PlusAssign, op_assign_name: 1, op: Plus, op_name: 2 }",
     );
     Ok(())
 }

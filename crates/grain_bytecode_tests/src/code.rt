@@ -1,15 +1,16 @@
+use crate::samples::assert_same;
 use grain_bytecode::{Op, Receiver, decode, disassemble, u16_at, u32_at, width};
 use std::test::Fail;
 
 #[test]
 fn numbers(rt: HostRuntime) {
     let bytes = [1u8, 2, 3, 4, 5];
-    assert_eq!(rt; u16_at(&bytes, 3), Some(0x0504));
-    assert_eq!(rt; u16_at(&bytes, 4), None);
-    assert_eq!(rt; u16_at(&bytes, usize::MAX), None);
-    assert_eq!(rt; u32_at(&bytes, 1), Some(0x0504_0302));
-    assert_eq!(rt; u32_at(&bytes, 2), None);
-    assert_eq!(rt; u32_at(&bytes, usize::MAX), None);
+    assert_same(&rt, u16_at(&bytes, 3), Some(0x0504));
+    assert_same(&rt, u16_at(&bytes, 4), None);
+    assert_same(&rt, u16_at(&bytes, usize::MAX), None);
+    assert_same(&rt, u32_at(&bytes, 1), Some(0x0504_0302));
+    assert_same(&rt, u32_at(&bytes, 2), None);
+    assert_same(&rt, u32_at(&bytes, usize::MAX), None);
 }
 
 #[test]
@@ -22,47 +23,53 @@ fn nothing_stands_there(rt: HostRuntime) {
         (&[0x02], usize::MAX),
     ];
     for (code, at) in cases {
-        assert_eq!(rt; width(code, at), None);
-        assert_eq!(rt; decode(code, at), None);
+        assert_same(&rt, width(code, at), None);
+        assert_same(&rt, decode(code, at), None);
     }
 }
 
 #[test]
 fn decodes_in_place(rt: HostRuntime) {
     let code = [0x02, 0x37, 1, 0, 2, 3, 1, 0x13];
-    assert_eq!(rt; width(&code, 1), Some(6));
-    assert_eq!(rt;
+    assert_same(&rt, width(&code, 1), Some(6));
+    assert_same(
+        &rt,
         decode(&code, 1),
         Some(Op::CallRef {
             name: 1,
             argc: 2,
             receiver: Receiver::Named(259),
             capture_parent_scope: false,
-        })
+        }),
     );
-    assert_eq!(rt; decode(&code, 7), Some(Op::Return));
+    assert_same(&rt, decode(&code, 7), Some(Op::Return));
 }
 
 #[test]
 fn disassembles(rt: HostRuntime) -> Result<(), Fail> {
     assert!(rt; disassemble(&[0xff; 32]).next().is_none());
     let items: Vec<(usize, Op)> = disassemble(&[0x02, 0x0b, 0xff, 0x02]).collect(rt.alloc())?;
-    assert_eq!(rt; items.as_slice(), [(0, Op::Unit), (1, Op::Pop)].as_slice());
+    assert_same(
+        &rt,
+        items.as_slice(),
+        [(0, Op::Unit), (1, Op::Pop)].as_slice(),
+    );
     Ok(())
 }
 
 #[test]
 fn copies_of_an_operation_are_equal(rt: HostRuntime) -> Result<(), Fail> {
     let op = Op::Jump(7);
-    assert_eq!(rt; op.clone()?, op);
+    assert_same(&rt, &op.clone()?, &op);
     assert_ne!(rt; op, Op::Jump(8));
-    assert_eq!(rt; format!(in rt.alloc(); "{op:?}")?.as_str(), "Jump(7)");
+    assert_same(&rt, format!(in rt.alloc(); "{op:?}")?.as_str(), "Jump(7)");
     let receiver = Receiver::Local(4);
     let copy = receiver;
-    assert_eq!(rt; copy, receiver);
-    assert_eq!(rt;
+    assert_same(&rt, copy, receiver);
+    assert_same(
+        &rt,
         format!(in rt.alloc(); "{receiver:?}")?.as_str(),
-        "Local(4)"
+        "Local(4)",
     );
     Ok(())
 }

@@ -1,5 +1,6 @@
 //! Tables and streams of which one bit was changed, and bytes that are neither.
 
+use crate::samples::assert_same;
 use grain_base::pos::{self, Site};
 use grain_bytecode::sites::{self, StreamError};
 use std::process::Abort;
@@ -69,14 +70,14 @@ fn each_change_of_one_bit_is_answered(rt: HostRuntime) {
         streams: 1,
         slots: 328,
     };
-    assert_eq!(rt; said_of_changes(&rt, TABLE), of_table);
+    assert_same(&rt, said_of_changes(&rt, TABLE), of_table);
     let of_stream = Said {
         tables: 0,
         sites: 134,
         streams: 56,
         slots: 271,
     };
-    assert_eq!(rt; said_of_changes(&rt, STREAM), of_stream);
+    assert_same(&rt, said_of_changes(&rt, STREAM), of_stream);
 }
 
 #[test]
@@ -88,10 +89,10 @@ fn bytes_that_begin_with_no_count_have_nothing(rt: HostRuntime) {
         (&[0x80; 12], pos::Error::Overflow, StreamError::Overflow),
     ];
     for (bytes, of_table, of_stream) in rows {
-        assert_eq!(rt; pos::check(bytes), Err(of_table));
-        assert_eq!(rt; sites::check(bytes), Err(of_stream));
+        assert_same(&rt, pos::check(bytes), Err(of_table));
+        assert_same(&rt, sites::check(bytes), Err(of_stream));
         let mut said = Said::default();
         said.ask(&rt, bytes);
-        assert_eq!(rt; said, Said::default());
+        assert_same(&rt, said, Said::default());
     }
 }

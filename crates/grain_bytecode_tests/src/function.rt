@@ -1,3 +1,4 @@
+use crate::samples::assert_same;
 use grain_base::FnAccess;
 use grain_bytecode::{Chunk, Function};
 use std::test::Fail;
@@ -14,9 +15,10 @@ fn functions_are_printed(rt: HostRuntime) -> Result<(), Fail> {
     let text = format!(in rt.alloc(); "{function:?}")?;
     let fields = "name: 0, params: [1], access: Public, this_type: None";
     let chunk = "chunk: Chunk { entry: 0, end: 2, max_stack: 1 }";
-    assert_eq!(rt;
+    assert_same(
+        &rt,
         text,
-        format!(in rt.alloc(); "Function {{ {fields}, {chunk} }}")?
+        format!(in rt.alloc(); "Function {{ {fields}, {chunk} }}")?,
     );
     Ok(())
 }

@@ -1,7 +1,7 @@
 //! Each growth refused in turn, by `bench/growths.py`. A call answers want of memory by its own name, and made again it
 //! answers as if nothing had been refused.
 
-use crate::samples::{both_texts, chain, told};
+use crate::samples::{assert_same, both_texts, chain, told};
 use grain_base::Position;
 use grain_base::pos::Site;
 use grain_bytecode::sites::{self, StreamError};
@@ -21,11 +21,12 @@ fn assemble_growth_fails(rt: HostRuntime) -> Result<(), Fail> {
         answer = assemble(rt.alloc(), &ops);
     }
     let (code, offsets) = answer.expect(&rt, "memory");
-    assert_eq!(rt;
+    assert_same(
+        &rt,
         code.as_slice(),
-        [0x01, 0, 0, 0x02, 0x0b, 0x13, 0x0c, 5, 0, 0, 0].as_slice()
+        [0x01, 0, 0, 0x02, 0x0b, 0x13, 0x0c, 5, 0, 0, 0].as_slice(),
     );
-    assert_eq!(rt; offsets.as_slice(), [0, 3, 4, 5, 6, 11].as_slice());
+    assert_same(&rt, offsets.as_slice(), [0, 3, 4, 5, 6, 11].as_slice());
     told(rt.alloc(), refused)
 }
 
@@ -38,8 +39,8 @@ fn starts_of_growth_fails(rt: HostRuntime) -> Result<(), Fail> {
         answer = Starts::of(rt.alloc(), &code);
     }
     let starts = answer.expect(&rt, "memory");
-    assert_eq!(rt; (starts.end(), starts.count()), (5, 3));
-    assert_eq!(rt; [starts.ordinal(2), starts.ordinal(4)], [None, Some(2)]);
+    assert_same(&rt, (starts.end(), starts.count()), (5, 3));
+    assert_same(&rt, [starts.ordinal(2), starts.ordinal(4)], [None, Some(2)]);
     told(rt.alloc(), refused)
 }
 
@@ -52,8 +53,8 @@ fn strings_new_growth_fails(rt: HostRuntime) -> Result<(), Fail> {
         answer = Strings::new(rt.alloc(), &texts);
     }
     let names = answer.expect(&rt, "memory");
-    assert_eq!(rt; names.blob(), b"alphabgamma".as_slice());
-    assert_eq!(rt; names.starts(), [0, 5, 6, 6, 11].as_slice());
+    assert_same(&rt, names.blob(), b"alphabgamma".as_slice());
+    assert_same(&rt, names.starts(), [0, 5, 6, 6, 11].as_slice());
     told(rt.alloc(), refused)
 }
 
@@ -67,7 +68,11 @@ fn strings_borrowed_growth_fails(rt: HostRuntime) -> Result<(), Fail> {
         answer = Strings::borrowed(rt.alloc(), blob, starts.to_vec(rt.alloc())?);
     }
     let names = answer.expect(&rt, "memory");
-    assert_eq!(rt; (names.blob(), names.starts()), (blob, starts.as_slice()));
+    assert_same(
+        &rt,
+        (names.blob(), names.starts()),
+        (blob, starts.as_slice()),
+    );
     told(rt.alloc(), refused)
 }
 
@@ -79,7 +84,7 @@ fn qualify_growth_fails(rt: HostRuntime) -> Result<(), Fail> {
         answer = names::qualify(rt.alloc(), "a", "b");
     }
     let name = answer.expect(&rt, "memory");
-    assert_eq!(rt; name.as_str(), "a::b");
+    assert_same(&rt, name.as_str(), "a::b");
     told(rt.alloc(), refused)
 }
 
@@ -98,7 +103,7 @@ fn to_table_growth_fails(rt: HostRuntime) -> Result<(), Fail> {
         answer = positions.to_table(rt.alloc());
     }
     let table = answer.expect(&rt, "memory");
-    assert_eq!(rt; table.as_slice(), [2, 1, 1, 5, 2, 3, 0].as_slice());
+    assert_same(&rt, table.as_slice(), [2, 1, 1, 5, 2, 3, 0].as_slice());
     told(rt.alloc(), refused)
 }
 
@@ -113,9 +118,10 @@ fn from_table_growth_fails(rt: HostRuntime) -> Result<(), Fail> {
     }
     let positions = answer.expect(&rt, "memory");
     let places = [positions.get(0), positions.get(1), positions.get(3)];
-    assert_eq!(rt;
+    assert_same(
+        &rt,
         places,
-        [Position::NONE, Position::new(1, 5), Position::new(3, 0)]
+        [Position::NONE, Position::new(1, 5), Position::new(3, 0)],
     );
     told(rt.alloc(), refused)
 }
@@ -134,7 +140,7 @@ fn refused_table_growth_fails(rt: HostRuntime) -> Result<(), Fail> {
     if refused {
         answer = Positions::from_table(rt.alloc(), &table, &[2]).err();
     }
-    assert_eq!(rt; answer, Some(past));
+    assert_same(&rt, answer, Some(past));
     told(rt.alloc(), refused)
 }
 
@@ -149,7 +155,7 @@ fn sites_encode_growth_fails(rt: HostRuntime) -> Result<(), Fail> {
         answer = sites::encode(rt.alloc(), &chains);
     }
     let stream = answer.expect(&rt, "memory");
-    assert_eq!(rt; stream.as_slice(), STREAM);
+    assert_same(&rt, stream.as_slice(), STREAM);
     told(rt.alloc(), refused)
 }
 
@@ -162,7 +168,7 @@ fn sites_decode_growth_fails(rt: HostRuntime) -> Result<(), Fail> {
     }
     let sites = answer.expect(&rt, "memory");
     let found = [(1, 1), (1, 3), (1, 2), (1, 6)].map(|(line, column)| Some(Site { line, column }));
-    assert_eq!(rt; sites.as_slice(), found.as_slice());
+    assert_same(&rt, sites.as_slice(), found.as_slice());
     told(rt.alloc(), refused)
 }
 

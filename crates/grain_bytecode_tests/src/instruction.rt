@@ -1,3 +1,4 @@
+use crate::samples::assert_same;
 use grain_bytecode::{Head, Instruction, Op};
 use std::test::Fail;
 
@@ -8,39 +9,42 @@ fn a_jump_is_found_and_decoded(rt: HostRuntime) -> Result<(), Fail> {
         assert!(rt; false, "a jump stands at 0");
         return Ok(());
     };
-    assert_eq!(rt; jump.tag, 0x0c);
-    assert_eq!(rt; jump.width(), 5);
-    assert_eq!(rt; jump.target(), Some(6));
-    assert_eq!(rt; jump.op(), Some(Op::Jump(6)));
+    assert_same(&rt, jump.tag, 0x0c);
+    assert_same(&rt, jump.width(), 5);
+    assert_same(&rt, jump.target(), Some(6));
+    assert_same(&rt, jump.op(), Some(Op::Jump(6)));
     Ok(())
 }
 
 #[test]
 fn a_first_byte_tells_tag_and_width(rt: HostRuntime) -> Result<(), Fail> {
     let code = [0x02, 0x0c, 0x06, 0xff];
-    assert_eq!(rt;
+    assert_same(
+        &rt,
         Head::at(&code, 0),
         Some(Head {
             tag: 0x02,
-            width: 1
-        })
+            width: 1,
+        }),
     );
-    assert_eq!(rt;
+    assert_same(
+        &rt,
         Head::at(&code, 1),
         Some(Head {
             tag: 0x0c,
-            width: 5
-        })
+            width: 5,
+        }),
     );
-    assert_eq!(rt;
+    assert_same(
+        &rt,
         Head::at(&code, 3),
         Some(Head {
             tag: 0xff,
-            width: 0
-        })
+            width: 0,
+        }),
     );
-    assert_eq!(rt; Head::at(&code, 4), None);
-    assert_eq!(rt; Head::at(&code, usize::MAX), None);
+    assert_same(&rt, Head::at(&code, 4), None);
+    assert_same(&rt, Head::at(&code, usize::MAX), None);
     Ok(())
 }
 
@@ -54,7 +58,7 @@ fn nothing_stands_past_the_end_or_where_bytes_lack(rt: HostRuntime) -> Result<()
         tag: 0xff,
         fields: &[],
     };
-    assert_eq!(rt; none.op(), None);
-    assert_eq!(rt; none.target(), None);
+    assert_same(&rt, none.op(), None);
+    assert_same(&rt, none.target(), None);
     Ok(())
 }

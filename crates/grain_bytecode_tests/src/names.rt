@@ -1,9 +1,10 @@
+use crate::samples::assert_same;
 use grain_bytecode::names::{qualify, split_qualified};
 use std::test::Fail;
 
 #[test]
 fn names_are_qualified_and_split(rt: HostRuntime) -> Result<(), Fail> {
-    assert_eq!(rt; qualify(rt.alloc(), "a", "b")?.as_str(), "a::b");
+    assert_same(&rt, qualify(rt.alloc(), "a", "b")?.as_str(), "a::b");
     let rows = [
         ("a::b::c", Some(("a::b", "c"))),
         ("a:::b", Some(("a:", "b"))),

@@ -1,4 +1,4 @@
-use crate::samples::both_texts;
+use crate::samples::{assert_same, both_texts};
 use grain_base::pos::Site;
 use grain_base::{Position, pos};
 use grain_bytecode::sites::StreamError;
@@ -61,7 +61,7 @@ fn tables_are_read(rt: HostRuntime) -> Result<(), Fail> {
         ),
     ];
     for (table, code, wanted) in rows {
-        assert_eq!(rt; read(rt.alloc(), table, code)?.as_str(), wanted);
+        assert_same(&rt, read(rt.alloc(), table, code)?.as_str(), wanted);
     }
     Ok(())
 }
@@ -76,17 +76,18 @@ fn tables_are_written(rt: HostRuntime) -> Result<(), Fail> {
     ]?;
     let positions = Positions::dense(list);
     let table = positions.to_table(rt.alloc())?;
-    assert_eq!(rt; table.as_slice(), [2, 1, 1, 5, 2, 3, 0].as_slice());
+    assert_same(&rt, table.as_slice(), [2, 1, 1, 5, 2, 3, 0].as_slice());
     let places = [positions.get(1), positions.get(2), positions.get(9999)];
-    assert_eq!(rt;
+    assert_same(
+        &rt,
         places,
-        [Position::new(1, 5), Position::NONE, Position::NONE]
+        [Position::new(1, 5), Position::NONE, Position::NONE],
     );
     assert!(rt; !positions.is_stripped());
     let none = Positions::dense(vec![in rt.alloc(); Position::NONE; 8]?);
     assert!(rt; none.is_stripped());
-    assert_eq!(rt; none.get(0), Position::NONE);
-    assert_eq!(rt; none.to_table(rt.alloc())?.as_slice(), [0].as_slice());
+    assert_same(&rt, none.get(0), Position::NONE);
+    assert_same(&rt, none.to_table(rt.alloc())?.as_slice(), [0].as_slice());
     Ok(())
 }
 
@@ -101,12 +102,13 @@ fn long_tables_are_written_and_read(rt: HostRuntime) -> Result<(), Fail> {
         })?;
     }
     let table = Positions::dense(list).to_table(rt.alloc())?;
-    assert_eq!(rt; pos::count(&table), Ok(1500));
+    assert_same(&rt, pos::count(&table), Ok(1500));
     let code = vec![in rt.alloc(); 0x02u8; 12_000]?;
     let positions = Positions::from_table(rt.alloc(), &table, &code).unwrap_or(Positions::Stripped);
-    assert_eq!(rt;
+    assert_same(
+        &rt,
         [positions.get(0), positions.get(1), positions.get(11_992)],
-        [Position::new(1, 1), Position::NONE, Position::new(1500, 1)]
+        [Position::new(1, 1), Position::NONE, Position::new(1500, 1)],
     );
     Ok(())
 }
@@ -115,16 +117,17 @@ fn long_tables_are_written_and_read(rt: HostRuntime) -> Result<(), Fail> {
 fn a_table_may_have_each_start(rt: HostRuntime) -> Result<(), Fail> {
     let list = vec![in rt.alloc(); Position::new(1, 1); 1_000]?;
     let table = Positions::dense(list).to_table(rt.alloc())?;
-    assert_eq!(rt;
+    assert_same(
+        &rt,
         (pos::check(&table), pos::count(&table)),
-        (Ok(()), Ok(1_000))
+        (Ok(()), Ok(1_000)),
     );
     let code = vec![in rt.alloc(); 0x02u8; 1_000]?;
     let positions = Positions::from_table(rt.alloc(), &table, &code).unwrap_or(Positions::Stripped);
     for at in 0..1_000 {
-        assert_eq!(rt; positions.get(at), Position::new(1, 1));
+        assert_same(&rt, positions.get(at), Position::new(1, 1));
     }
-    assert_eq!(rt; positions.get(1_000), Position::NONE);
+    assert_same(&rt, positions.get(1_000), Position::NONE);
     Ok(())
 }
 
@@ -138,7 +141,7 @@ fn sites_are_positions(rt: HostRuntime) {
         ((1, 65536), Position::NONE),
     ];
     for ((line, column), position) in rows {
-        assert_eq!(rt; site_to_position(Site { line, column }), position);
+        assert_same(&rt, site_to_position(Site { line, column }), position);
     }
 }
 
@@ -175,7 +178,7 @@ fn errors_are_printed(rt: HostRuntime) -> Result<(), Fail> {
         (TableError::OutOfMemory, "out of memory"),
     ];
     for (error, wanted) in rows {
-        assert_eq!(rt; error.to_string(rt.alloc())?.as_str(), wanted);
+        assert_same(&rt, error.to_string(rt.alloc())?.as_str(), wanted);
     }
     let unwritten = [
         (
@@ -186,7 +189,7 @@ fn errors_are_printed(rt: HostRuntime) -> Result<(), Fail> {
     ];
     for (error, wanted) in unwritten {
         let text = both_texts(rt.alloc(), &error)?;
-        assert_eq!(rt; text.as_str(), wanted);
+        assert_same(&rt, text.as_str(), wanted);
     }
     Ok(())
 }

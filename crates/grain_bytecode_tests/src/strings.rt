@@ -1,4 +1,4 @@
-use crate::samples::both_texts;
+use crate::samples::{assert_same, both_texts};
 use grain_bytecode::{BadTable, Strings, StringsError};
 use std::alloc::{AllocError, Global};
 use std::test::Fail;
@@ -15,15 +15,17 @@ fn names_are_read(rt: HostRuntime) -> Result<(), Fail> {
         [names.get(2), names.get(3), names.get(4)],
         [Some(""), Some("gamma"), None]
     );
-    assert_eq!(rt; names.starts(), [0, 5, 6, 6, 11].as_slice());
-    assert_eq!(rt;
+    assert_same(&rt, names.starts(), [0, 5, 6, 6, 11].as_slice());
+    assert_same(
+        &rt,
         (names.len(), names.is_empty(), names.iter().count()),
-        (4, false, 4)
+        (4, false, 4),
     );
     let again = Strings::borrowed(alloc, names.blob(), names.starts().to_vec(alloc)?)?;
-    assert_eq!(rt;
+    assert_same(
+        &rt,
         format!(in alloc; "{again:?}")?.as_str(),
-        "Strings { blob: [97, 108, 112, 104, 97, 98, 103, 97, 109, 109, 97], starts: [0, 5, 6, 6, 11] }"
+        "Strings { blob: [97, 108, 112, 104, 97, 98, 103, 97, 109, 109, 97], starts: [0, 5, 6, 6, 11] }",
     );
     Ok(())
 }
@@ -41,7 +43,7 @@ fn tables_are_cut_by_their_starts(rt: HostRuntime) -> Result<(), Fail> {
         [Some("one"), Some("two"), Some("three")]
     );
     assert!(rt; Strings::borrowed(alloc, &[], vec![in alloc; 0]?)?.is_empty());
-    assert_eq!(rt; Strings::new(alloc, &[])?.starts(), [0].as_slice());
+    assert_same(&rt, Strings::new(alloc, &[])?.starts(), [0].as_slice());
     Ok(())
 }
 
@@ -65,7 +67,7 @@ fn bad_tables_are_refused(rt: HostRuntime) -> Result<(), Fail> {
         (b"abcd".as_slice(), &[0], BadTable::TrailingBytes),
     ];
     for (blob, starts, flaw) in rows {
-        assert_eq!(rt; refusal(rt.alloc(), blob, starts)?, Some(flaw.clone()?));
+        assert_same(&rt, refusal(rt.alloc(), blob, starts)?, Some(flaw.clone()?));
     }
     Ok(())
 }
@@ -93,7 +95,7 @@ fn errors_are_printed(rt: HostRuntime) -> Result<(), Fail> {
     ];
     for (error, wanted) in rows {
         let text = both_texts(rt.alloc(), &error)?;
-        assert_eq!(rt; text.as_str(), wanted);
+        assert_same(&rt, text.as_str(), wanted);
     }
     let rows = [
         (
@@ -104,7 +106,7 @@ fn errors_are_printed(rt: HostRuntime) -> Result<(), Fail> {
     ];
     for (error, wanted) in rows {
         let text = both_texts(rt.alloc(), &error)?;
-        assert_eq!(rt; text.as_str(), wanted);
+        assert_same(&rt, text.as_str(), wanted);
     }
     Ok(())
 }

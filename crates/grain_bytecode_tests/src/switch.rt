@@ -1,3 +1,4 @@
+use crate::samples::assert_same;
 use grain_base::{Dynamic, HostValue};
 use grain_bytecode::{AssembleError, Switch, SwitchRange, resolve_switch_targets};
 use std::alloc::Global;
@@ -52,7 +53,7 @@ fn cases_come_before_ranges(rt: HostRuntime) -> Result<(), Fail> {
         type_name: String::from_str(alloc, "Timer")?,
         id: 1,
     };
-    assert_eq!(rt; table.dispatch(&Dynamic::Host(host)), 99);
+    assert_same(&rt, table.dispatch(&Dynamic::Host(host)), 99);
     Ok(())
 }
 
@@ -72,7 +73,7 @@ fn cases_of_any_kind(rt: HostRuntime) -> Result<(), Fail> {
         (Dynamic::Bool(true), 30),
     ]?;
     for (subject, target) in rows {
-        assert_eq!(rt; table.dispatch(&subject), target);
+        assert_same(&rt, table.dispatch(&subject), target);
     }
     Ok(())
 }
@@ -91,11 +92,12 @@ fn ends_of_ranges(rt: HostRuntime) -> Result<(), Fail> {
     assert!(rt; range.contains(&Dynamic::Int(i64::MAX)));
     range.from = 0;
     range.to = 2;
-    assert_eq!(rt; range, range.clone()?);
+    assert_same(&rt, &range, &range.clone()?);
     let text = format!(in rt.alloc(); "{range:?}")?;
-    assert_eq!(rt;
+    assert_same(
+        &rt,
         text.as_str(),
-        "SwitchRange { from: 0, to: 2, inclusive: true, target: 1 }"
+        "SwitchRange { from: 0, to: 2, inclusive: true, target: 1 }",
     );
     Ok(())
 }
@@ -109,11 +111,15 @@ fn targets_become_offsets(rt: HostRuntime) -> Result<(), Fail> {
         table: 1,
         target: 5,
     };
-    assert_eq!(rt; resolve_switch_targets(&mut tables, &offsets), Err(flaw));
-    assert_eq!(rt; (tables[0].default, tables[1].default), (1, 5));
+    assert_same(
+        &rt,
+        resolve_switch_targets(&mut tables, &offsets),
+        Err(flaw),
+    );
+    assert_same(&rt, (tables[0].default, tables[1].default), (1, 5));
     tables[1].default = 2;
-    assert_eq!(rt; resolve_switch_targets(&mut tables, &offsets), Ok(()));
-    assert_eq!(rt; (tables[0].default, tables[1].default), (3, 4));
+    assert_same(&rt, resolve_switch_targets(&mut tables, &offsets), Ok(()));
+    assert_same(&rt, (tables[0].default, tables[1].default), (3, 4));
 
     let mut tables = [table(alloc)?];
     let mut offsets = [0; 100];
@@ -121,9 +127,9 @@ fn targets_become_offsets(rt: HostRuntime) -> Result<(), Fail> {
     offsets[20] = 2;
     offsets[30] = 3;
     offsets[99] = 4;
-    assert_eq!(rt; resolve_switch_targets(&mut tables, &offsets), Ok(()));
+    assert_same(&rt, resolve_switch_targets(&mut tables, &offsets), Ok(()));
     for (subject, target) in [(1, 1), (7, 2), (8, 3), (11, 4)] {
-        assert_eq!(rt; tables[0].dispatch(&Dynamic::Int(subject)), target);
+        assert_same(&rt, tables[0].dispatch(&Dynamic::Int(subject)), target);
     }
     Ok(())
 }

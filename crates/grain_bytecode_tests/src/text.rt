@@ -1,4 +1,4 @@
-use crate::samples::both_texts;
+use crate::samples::{assert_same, both_texts};
 use grain_base::{Dynamic, Flags, FnAccess, Position};
 use grain_bytecode::{
     Chain, Chunk, DisassembleError, Function, Op, Receiver, Root, Step, StepFlags, Tail,
@@ -43,7 +43,7 @@ fn operations_name_what_they_lead_to(rt: HostRuntime) -> Result<(), Fail> {
         ),
     ];
     for (op, wanted) in rows {
-        assert_eq!(rt; text(rt.alloc(), &op)?.as_str(), wanted);
+        assert_same(&rt, text(rt.alloc(), &op)?.as_str(), wanted);
     }
     Ok(())
 }
@@ -70,7 +70,7 @@ fn assignments_name_their_operators(rt: HostRuntime) -> Result<(), Fail> {
         ),
     ];
     for (op, wanted) in rows {
-        assert_eq!(rt; text(rt.alloc(), &op)?.as_str(), wanted);
+        assert_same(&rt, text(rt.alloc(), &op)?.as_str(), wanted);
     }
     Ok(())
 }
@@ -110,7 +110,7 @@ fn calls_name_their_functions(rt: HostRuntime) -> Result<(), Fail> {
         ),
     ];
     for (op, wanted) in rows {
-        assert_eq!(rt; text(rt.alloc(), &op)?.as_str(), wanted);
+        assert_same(&rt, text(rt.alloc(), &op)?.as_str(), wanted);
     }
     Ok(())
 }
@@ -133,7 +133,7 @@ fn declarations_say_how(rt: HostRuntime) -> Result<(), Fail> {
             is_const,
             is_global,
         };
-        assert_eq!(rt; text(rt.alloc(), &op)?.as_str(), wanted);
+        assert_same(&rt, text(rt.alloc(), &op)?.as_str(), wanted);
     }
     Ok(())
 }
@@ -141,18 +141,21 @@ fn declarations_say_how(rt: HostRuntime) -> Result<(), Fail> {
 #[test]
 fn switches_and_chains_are_written_out(rt: HostRuntime) -> Result<(), Fail> {
     let alloc = rt.alloc();
-    assert_eq!(rt;
+    assert_same(
+        &rt,
         text(alloc, &Op::Switch(0))?.as_str(),
-        "Switch(0) { case 1 => 10, range 5..8 => 20, range 8..=10 => 30, default => 99 }"
+        "Switch(0) { case 1 => 10, range 5..8 => 20, range 8..=10 => 30, default => 99 }",
     );
-    assert_eq!(rt;
+    assert_same(
+        &rt,
         text(alloc, &Op::Chain(0))?.as_str(),
-        "Chain(0, 1 total operands): Named { name: 0, pos: 1:1 } x [0] .y "
+        "Chain(0, 1 total operands): Named { name: 0, pos: 1:1 } x [0] .y ",
     );
     let pools = with_names(alloc, &["a", "b"])?;
-    assert_eq!(rt;
+    assert_same(
+        &rt,
         chain(alloc)?.disassemble(alloc, &pools)?.as_str(),
-        "Named { name: 0, pos: 1:1 } a [0] .b "
+        "Named { name: 0, pos: 1:1 } a [0] .b ",
     );
     Ok(())
 }
@@ -185,9 +188,9 @@ fn roots_and_tails(rt: HostRuntime) -> Result<(), Fail> {
     ];
     for (root, op, wanted) in rows {
         let chain = bare(alloc, root, Tail::Assign { op });
-        assert_eq!(rt; chain.disassemble(alloc, &pools)?.as_str(), wanted);
+        assert_same(&rt, chain.disassemble(alloc, &pools)?.as_str(), wanted);
     }
-    assert_eq!(rt; Tail::Read.disassemble(alloc, &pools)?.as_str(), "");
+    assert_same(&rt, Tail::Read.disassemble(alloc, &pools)?.as_str(), "");
     Ok(())
 }
 
@@ -214,13 +217,14 @@ fn steps_may_end_early(rt: HostRuntime) -> Result<(), Fail> {
     let alloc = rt.alloc();
     let pools = sample(alloc)?;
     let (index, method) = steps(StepFlags::SKIP_IF_UNIT, 3);
-    assert_eq!(rt; index.disassemble(alloc, &pools)?.as_str(), "?[4]");
-    assert_eq!(rt;
+    assert_same(&rt, index.disassemble(alloc, &pools)?.as_str(), "?[4]");
+    assert_same(
+        &rt,
         method.disassemble(alloc, &pools)?.as_str(),
-        ".?x(3 args from 5)"
+        ".?x(3 args from 5)",
     );
     let (_, method) = steps(StepFlags::empty(), 0);
-    assert_eq!(rt; method.disassemble(alloc, &pools)?.as_str(), ".x()");
+    assert_same(&rt, method.disassemble(alloc, &pools)?.as_str(), ".x()");
     Ok(())
 }
 
@@ -240,11 +244,15 @@ fn functions_have_parameters(rt: HostRuntime) -> Result<(), Fail> {
     let alloc = rt.alloc();
     let pools = sample(alloc)?;
     let plain = function(alloc, None, &[])?;
-    assert_eq!(rt; plain.disassemble(alloc, &pools)?.as_str(), "y()");
+    assert_same(&rt, plain.disassemble(alloc, &pools)?.as_str(), "y()");
     let typed = function(alloc, Some(0), &[0, 1])?;
-    assert_eq!(rt; typed.disassemble(alloc, &pools)?.as_str(), "x!y(x, y)");
+    assert_same(&rt, typed.disassemble(alloc, &pools)?.as_str(), "x!y(x, y)");
     let unnamed = function(alloc, Some(0), &[0, 8])?;
-    assert_eq!(rt; unnamed.disassemble(alloc, &pools), Err(missing("name", 8)));
+    assert_same(
+        &rt,
+        unnamed.disassemble(alloc, &pools),
+        Err(missing("name", 8)),
+    );
     Ok(())
 }
 
@@ -253,18 +261,20 @@ fn cases_go_by_their_targets(rt: HostRuntime) -> Result<(), Fail> {
     let alloc = rt.alloc();
     let pools = sample(alloc)?;
     let mut table = switch(alloc, 8)?;
-    assert_eq!(rt;
+    assert_same(
+        &rt,
         table.disassemble(alloc, &pools),
-        Err(missing("constant", 8))
+        Err(missing("constant", 8)),
     );
     table = switch(alloc, 0)?;
     if let Some(cases) = &mut table.cases {
         let _ = cases.insert(Dynamic::Bool(true), (10, 1))?;
         let _ = cases.insert(Dynamic::Unit, (2, 1))?;
     }
-    assert_eq!(rt;
+    assert_same(
+        &rt,
         table.disassemble(alloc, &pools)?.as_str(),
-        "{ case 1 => 2, case 5 => 10, case 1 => 10, range 5..8 => 20, range 8..=10 => 30, default => 99 }"
+        "{ case 1 => 2, case 5 => 10, case 1 => 10, range 5..8 => 20, range 8..=10 => 30, default => 99 }",
     );
     for range in &table.ranges {
         assert!(rt; range.disassemble(alloc)?.as_str().starts_with("range "));
@@ -297,11 +307,15 @@ fn what_is_missing_is_named(rt: HostRuntime) -> Result<(), Fail> {
         (Op::CustomSyntax(3), "custom syntax site", 3),
     ];
     for (op, what, index) in rows {
-        assert_eq!(rt; op.disassemble(alloc, &pools), Err(missing(what, index)));
+        assert_same(
+            &rt,
+            op.disassemble(alloc, &pools),
+            Err(missing(what, index)),
+        );
     }
     let nameless = with_names(alloc, &[])?;
     let name = Op::LoadNamed(3).disassemble(alloc, &nameless);
-    assert_eq!(rt; name, Err(missing("name", 3)));
+    assert_same(&rt, name, Err(missing("name", 3)));
     Ok(())
 }
 
@@ -309,14 +323,16 @@ fn what_is_missing_is_named(rt: HostRuntime) -> Result<(), Fail> {
 fn errors_print_themselves(rt: HostRuntime) -> Result<(), Fail> {
     let alloc = rt.alloc();
     let error = missing("name", 3);
-    assert_eq!(rt; error.clone()?, error);
-    assert_eq!(rt;
+    assert_same(&rt, &error.clone()?, &error);
+    assert_same(
+        &rt,
         both_texts(alloc, &error)?.as_str(),
-        "Missing { what: \"name\", index: 3 }: disassembly needs name 3, which isn't there"
+        "Missing { what: \"name\", index: 3 }: disassembly needs name 3, which isn't there",
     );
-    assert_eq!(rt;
+    assert_same(
+        &rt,
         both_texts(alloc, &DisassembleError::OutOfMemory)?.as_str(),
-        "OutOfMemory: out of memory"
+        "OutOfMemory: out of memory",
     );
     Ok(())
 }

@@ -1,7 +1,7 @@
 //! Code of which one bit was changed.
 
-use crate::samples::{parts, program};
-use grain::{Meter, VerifyError, verify, verify_metered};
+use crate::samples::{assert_same, parts, program};
+use grain::{Meter, Program, VerifyError, verify, verify_metered};
 use std::alloc::Global;
 use std::test::Fail;
 
@@ -15,22 +15,27 @@ const CODE: [u8; 11] = [
 /// What is answered by a call that verifies.
 type Answer = Result<Vec<u16>, VerifyError>;
 
+/// What `verify` answers of the program.
+fn by_verify(alloc: Global, program: &Program) -> Answer {
+    let (caps, code) = (program.caps(), program.code());
+    let (chunks, pools) = ([program.main()], program.pools());
+    verify(alloc, caps, &[], code, &[], &chunks, &pools)
+}
+
+/// What `verify_metered` answers of the program.
+fn by_meter(alloc: Global, program: &Program) -> Answer {
+    let (caps, code) = (program.caps(), program.code());
+    let (chunks, pools) = ([program.main()], program.pools());
+    let mut meter = Meter::new();
+    verify_metered(alloc, caps, &[], code, &[], &chunks, &pools, &mut meter)
+}
+
 /// What each call that verifies answers of the code as one chunk that declares 8. Every such call has a line here.
 fn answers(alloc: Global, code: &[u8]) -> Result<Vec<Answer>, Fail> {
     let program = program(alloc, code, 8, parts(alloc, &[])?)?;
-    let (caps, chunks, pools) = (program.caps(), [program.main()], program.pools());
     let all = vec![in alloc;
-        verify(alloc, caps, &[], code, &[], &chunks, &pools),
-        verify_metered(
-            alloc,
-            caps,
-            &[],
-            code,
-            &[],
-            &chunks,
-            &pools,
-            &mut Meter::new()
-        ),
+        by_verify(alloc, &program),
+        by_meter(alloc, &program),
         program.verify(),
     ]?;
     Ok(all)
@@ -54,14 +59,18 @@ fn each_change_of_one_bit_is_answered_alike(rt: HostRuntime) -> Result<(), Fail>
             code[place] = CODE[place];
         }
     }
-    assert_eq!(rt; accepted.as_slice(), [1, 1, 1, 1, 2, 2, 1, 1].as_slice());
+    assert_same(
+        &rt,
+        accepted.as_slice(),
+        [1, 1, 1, 1, 2, 2, 1, 1].as_slice(),
+    );
     Ok(())
 }
 
 #[test]
 fn unchanged_code_is_accepted(rt: HostRuntime) -> Result<(), Fail> {
     for answer in answers(rt.alloc(), &CODE)? {
-        assert_eq!(rt; answer, Ok(vec![in rt.alloc(); 1]?));
+        assert_same(&rt, answer, Ok(vec![in rt.alloc(); 1]?));
     }
     Ok(())
 }

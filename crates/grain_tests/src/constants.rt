@@ -1,3 +1,4 @@
+use crate::samples::assert_same;
 use grain::{
     Caps, Chunk, Dynamic, Flags, FnPtr, Pools, Strings, VerifyError, constant_caps, verify,
 };
@@ -26,27 +27,42 @@ fn blob(alloc: Global) -> Result<Dynamic, AllocError> {
     Ok(Dynamic::Blob(vec![in alloc; 1]?))
 }
 
+fn shared(alloc: Global, value: Dynamic) -> Result<Dynamic, AllocError> {
+    Ok(Dynamic::Shared(Box::new(alloc, value)?))
+}
+
+#[test]
+fn constants_need_what_they_are(rt: HostRuntime) -> Result<(), Fail> {
+    let alloc = rt.alloc();
+    let needed = [
+        constant_caps(&Dynamic::Range(1, 2)),
+        constant_caps(&array_of(alloc, Dynamic::Unit)?),
+        constant_caps(&blob(alloc)?),
+        constant_caps(&map_of(alloc, Dynamic::Unit)?),
+        constant_caps(&pointer_with(alloc, Dynamic::Unit)?),
+    ];
+    let wanted = [
+        Some(Caps::empty()),
+        Some(Caps::ARRAY),
+        Some(Caps::BLOB),
+        Some(Caps::MAP),
+        Some(Caps::FN_PTR),
+    ];
+    assert_same(&rt, needed, wanted);
+    Ok(())
+}
+
 #[test]
 fn constants_need_what_their_parts_need(rt: HostRuntime) -> Result<(), Fail> {
     let alloc = rt.alloc();
-    let shared = Dynamic::Shared(Box::new(alloc, Dynamic::Int(1))?);
-    let nested = array_of(alloc, array_of(alloc, blob(alloc)?)?)?;
-    let cases = vec![in alloc;
-        (Dynamic::Range(1, 2), Some(Caps::empty())),
-        (array_of(alloc, Dynamic::Unit)?, Some(Caps::ARRAY)),
-        (array_of(alloc, shared)?, None),
-        (blob(alloc)?, Some(Caps::BLOB)),
-        (map_of(alloc, Dynamic::Unit)?, Some(Caps::MAP)),
-        (pointer_with(alloc, Dynamic::Unit)?, Some(Caps::FN_PTR)),
-        (nested, Some(Caps::ARRAY.union(Caps::BLOB))),
-        (
-            map_of(alloc, pointer_with(alloc, blob(alloc)?)?)?,
-            Some(Caps::MAP.union(Caps::FN_PTR).union(Caps::BLOB))
-        ),
-    ]?;
-    for (value, needed) in &cases {
-        assert_eq!(rt; constant_caps(value), *needed);
-    }
+    let needed = [
+        constant_caps(&array_of(alloc, shared(alloc, Dynamic::Int(1))?)?),
+        constant_caps(&array_of(alloc, array_of(alloc, blob(alloc)?)?)?),
+        constant_caps(&map_of(alloc, pointer_with(alloc, blob(alloc)?)?)?),
+    ];
+    let of_arrays = Caps::ARRAY.union(Caps::BLOB);
+    let of_map = Caps::MAP.union(Caps::FN_PTR).union(Caps::BLOB);
+    assert_same(&rt, needed, [None, Some(of_arrays), Some(of_map)]);
     Ok(())
 }
 
@@ -74,14 +90,29 @@ fn said(
 fn the_first_constant_that_lacks_is_named(rt: HostRuntime) -> Result<(), Fail> {
     let alloc = rt.alloc();
     let consts = vec![in alloc; blob(alloc)?, array_of(alloc, blob(alloc)?)?]?;
-    assert_eq!(rt; said(alloc, Caps::all(), &consts)?, Ok(vec![in alloc; 1]?));
-    assert_eq!(rt;
-        said(alloc, Caps::BLOB, &consts)?,
-        Err(VerifyError::MissingCaps {
-            artifact: Caps::BLOB,
-            missing: Caps::ARRAY.union(Caps::BLOB),
-            at: 0,
-        })
-    );
+    let accepted = Ok(vec![in alloc; 1]?);
+    assert_same(&rt, said(alloc, Caps::all(), &consts)?, accepted);
+    let missing = VerifyError::MissingCaps {
+        artifact: Caps::BLOB,
+        missing: Caps::ARRAY.union(Caps::BLOB),
+        at: 0,
+    };
+    assert_same(&rt, said(alloc, Caps::BLOB, &consts)?, Err(missing));
+    Ok(())
+}
+
+#[test]
+fn constants_ask_capabilities(rt: HostRuntime) -> Result<(), Fail> {
+    let alloc = rt.alloc();
+    let plain = [array_of(alloc, Dynamic::Unit)?];
+    let missing = VerifyError::MissingCaps {
+        artifact: Caps::empty(),
+        missing: Caps::ARRAY,
+        at: 0,
+    };
+    assert_same(&rt, said(alloc, Caps::empty(), &plain)?, Err(missing));
+    let open = [array_of(alloc, shared(alloc, Dynamic::Int(1))?)?];
+    let accepted = Ok(vec![in alloc; 1]?);
+    assert_same(&rt, said(alloc, Caps::empty(), &open)?, accepted);
     Ok(())
 }

@@ -1,3 +1,4 @@
+use crate::samples::assert_same;
 use grain::{Caps, Flags, VerifyError};
 use std::test::Fail;
 
@@ -33,7 +34,7 @@ fn refusals_print_as_verdict_lines_have_them(rt: HostRuntime) -> Result<(), Fail
         (VerifyError::OutOfMemory, "out of memory"),
     ] {
         let shown = format!(in alloc; "{error}")?;
-        assert_eq!(rt; shown.as_str(), text);
+        assert_same(&rt, shown.as_str(), text);
     }
     Ok(())
 }
@@ -46,9 +47,10 @@ fn refusals_have_debug_texts(rt: HostRuntime) -> Result<(), Fail> {
         declared: 2,
     };
     let shown = format!(in alloc; "{error:?}")?;
-    assert_eq!(rt;
+    assert_same(
+        &rt,
         shown.as_str(),
-        "StackExceedsDeclared { needed: 3, declared: 2 }"
+        "StackExceedsDeclared { needed: 3, declared: 2 }",
     );
     Ok(())
 }

@@ -1,11 +1,11 @@
 //! Each growth refused in turn, by `bench/growths.py`. A call answers want of memory by its own name, with what it was lent
 //! as it was, and made again it answers as if nothing had been refused.
 
-use crate::samples::{function, parts, told};
+use crate::samples::{assert_same, function, parts, strip, told};
 use grain::{
     BuildError, Caps, Chain, Chunk, Cut, Flags, FnAccess, Head, Meter, Op, Pools, Position,
-    Positions, Program, Root, Strings, StripError, TableError, Tail, VerifyError, build, verify,
-    verify_metered,
+    Positions, Program, Root, Sidecar, Strings, StripError, TableError, Tail, VerifyError, build,
+    verify, verify_metered,
 };
 use std::alloc::{AllocError, Global};
 use std::test::Fail;
@@ -34,17 +34,22 @@ fn pools(names: &Strings) -> Pools<'_> {
     }
 }
 
+/// What `verify` answers of `TRY` as the only chunk.
+fn of_try(alloc: Global, names: &Strings) -> Result<Vec<u16>, VerifyError> {
+    let (pools, chunks) = (pools(names), [Chunk::new(0, 11, 8)]);
+    verify(alloc, Caps::all(), &[], &TRY, &[], &chunks, &pools)
+}
+
 #[test]
 fn verify_growth_fails(rt: HostRuntime) -> Result<(), Fail> {
     let names = Strings::new(rt.alloc(), &["a"])?;
-    let (caps, pools, chunks) = (Caps::all(), pools(&names), [Chunk::new(0, 11, 8)]);
-    let mut answer = verify(rt.alloc(), caps, &[], &TRY, &[], &chunks, &pools);
+    let mut answer = of_try(rt.alloc(), &names);
     let refused = answer == Err(VerifyError::OutOfMemory);
     if refused {
-        answer = verify(rt.alloc(), caps, &[], &TRY, &[], &chunks, &pools);
+        answer = of_try(rt.alloc(), &names);
     }
     let numbers = answer.expect(&rt, "memory");
-    assert_eq!(rt; numbers.as_slice(), [1].as_slice());
+    assert_same(&rt, numbers.as_slice(), [1].as_slice());
     told(rt.alloc(), refused)
 }
 
@@ -54,20 +59,17 @@ fn verify_flaw_growth_fails(rt: HostRuntime) -> Result<(), Fail> {
     let names = Strings::new(rt.alloc(), &[])?;
     let (caps, pools, chunks) = (Caps::all(), pools(&names), [Chunk::new(0, 2, 8)]);
     let answer = verify(rt.alloc(), caps, &[], &[0x01, 0x00], &[], &chunks, &pools);
-    assert_eq!(rt; answer, Err(VerifyError::Undecodable { at: 0 }));
+    assert_same(&rt, answer, Err(VerifyError::Undecodable { at: 0 }));
     told(rt.alloc(), false)
 }
 
-/// The meter has counted no more than the starts of both chunks.
-#[test]
-fn verify_metered_growth_fails(rt: HostRuntime) -> Result<(), Fail> {
-    let names = Strings::new(rt.alloc(), &[])?;
-    let pools = pools(&names);
+/// What `verify_metered` answers of `BRANCHES` as two chunks, and how many it counted.
+fn of_branches(alloc: Global, names: &Strings) -> (Result<Vec<u16>, VerifyError>, u128) {
+    let (caps, pools) = (Caps::all(), pools(names));
     let chunks = [Chunk::new(0, 38, 8), Chunk::new(0, 38, 8)];
-    let caps = Caps::all();
     let mut meter = Meter::new();
-    let mut answer = verify_metered(
-        rt.alloc(),
+    let answer = verify_metered(
+        alloc,
         caps,
         &[],
         &BRANCHES,
@@ -76,24 +78,22 @@ fn verify_metered_growth_fails(rt: HostRuntime) -> Result<(), Fail> {
         &pools,
         &mut meter,
     );
+    (answer, meter.count())
+}
+
+/// The meter has counted no more than the starts of both chunks.
+#[test]
+fn verify_metered_growth_fails(rt: HostRuntime) -> Result<(), Fail> {
+    let names = Strings::new(rt.alloc(), &[])?;
+    let (mut answer, mut count) = of_branches(rt.alloc(), &names);
     let refused = answer == Err(VerifyError::OutOfMemory);
     if refused {
-        assert!(rt; meter.count() <= 28, "{}", meter.count());
-        meter = Meter::new();
-        answer = verify_metered(
-            rt.alloc(),
-            caps,
-            &[],
-            &BRANCHES,
-            &[],
-            &chunks,
-            &pools,
-            &mut meter,
-        );
+        assert!(rt; count <= 28, "{count}");
+        (answer, count) = of_branches(rt.alloc(), &names);
     }
     let numbers = answer.expect(&rt, "memory");
-    assert_eq!(rt; numbers.as_slice(), [1, 1].as_slice());
-    assert_eq!(rt; meter.count(), 28);
+    assert_same(&rt, numbers.as_slice(), [1, 1].as_slice());
+    assert_same(&rt, count, 28);
     told(rt.alloc(), refused)
 }
 
@@ -113,31 +113,40 @@ fn declared(program: &Program) -> (u16, Option<u16>) {
     (main.max_stack(), function.map(|f| f.chunk.max_stack()))
 }
 
+/// [`Program::verify`]. As below, what it ensures isn't said, so that the prover needn't carry it through the test.
+fn verified(program: &Program) -> Result<Vec<u16>, VerifyError> {
+    program.verify()
+}
+
 #[test]
 fn program_verify_growth_fails(rt: HostRuntime) -> Result<(), Fail> {
     let program = stacking(rt.alloc())?;
-    let mut answer = program.verify();
+    let mut answer = verified(&program);
     let refused = answer == Err(VerifyError::OutOfMemory);
     if refused {
-        answer = program.verify();
+        answer = verified(&program);
     }
     let numbers = answer.expect(&rt, "memory");
-    assert_eq!(rt; numbers.as_slice(), [2, 2].as_slice());
+    assert_same(&rt, numbers.as_slice(), [2, 2].as_slice());
     told(rt.alloc(), refused)
+}
+
+/// [`Program::tighten_stack`].
+fn tightened(program: &mut Program) -> Result<(), VerifyError> {
+    program.tighten_stack()
 }
 
 #[test]
 fn tighten_stack_growth_fails(rt: HostRuntime) -> Result<(), Fail> {
     let mut program = stacking(rt.alloc())?;
-    let answer = program.tighten_stack();
+    let mut answer = tightened(&mut program);
     let refused = answer == Err(VerifyError::OutOfMemory);
     if refused {
-        assert_eq!(rt; declared(&program), (8, Some(8)));
-        assert_eq!(rt; program.tighten_stack(), Ok(()));
-    } else {
-        assert_eq!(rt; answer, Ok(()));
+        assert_same(&rt, declared(&program), (8, Some(8)));
+        answer = tightened(&mut program);
     }
-    assert_eq!(rt; declared(&program), (2, Some(2)));
+    assert_same(&rt, answer, Ok(()));
+    assert_same(&rt, declared(&program), (2, Some(2)));
     told(rt.alloc(), refused)
 }
 
@@ -197,53 +206,78 @@ const TABLE: &[u8] = &[2, 1, 1, 5, 1, 3, 0];
 
 const STREAM: &[u8] = &[2, 7, 1, 8, 1];
 
+/// The table and the stream that were written, or whether memory was wanted and not given.
+fn bytes(answer: Result<Sidecar, StripError>) -> Result<(Vec<u8>, Vec<u8>), bool> {
+    match answer {
+        Ok(sidecar) => {
+            let Sidecar {
+                debug_id: _,
+                positions,
+                chains,
+            } = sidecar;
+            Ok((positions, chains))
+        }
+        Err(refusal) => Err(matches!(refusal, StripError::OutOfMemory)),
+    }
+}
+
+/// [`Program::sidecar`].
+fn written(program: &Program) -> Result<(Vec<u8>, Vec<u8>), bool> {
+    bytes(program.sidecar())
+}
+
 #[test]
 fn sidecar_growth_fails(rt: HostRuntime) -> Result<(), Fail> {
     let program = placed(rt.alloc())?;
-    let mut answer = program.sidecar();
-    let refused = matches!(answer, Err(StripError::OutOfMemory));
+    let mut answer = written(&program);
+    let refused = answer == Err(true);
     if refused {
-        answer = program.sidecar();
+        answer = written(&program);
     }
-    let Ok(written) = answer else {
-        return Err(Fail::new("a sidecar was refused"));
-    };
-    assert_eq!(rt; written.positions.as_slice(), TABLE);
-    assert_eq!(rt; written.chains.as_slice(), STREAM);
+    let (table, stream) = answer.expect(&rt, "memory");
+    assert_same(&rt, table.as_slice(), TABLE);
+    assert_same(&rt, stream.as_slice(), STREAM);
     told(rt.alloc(), refused)
+}
+
+/// [`Program::strip_positions`].
+fn stripped(program: &mut Program) -> Result<(Vec<u8>, Vec<u8>), bool> {
+    bytes(program.strip_positions())
 }
 
 #[test]
 fn strip_positions_growth_fails(rt: HostRuntime) -> Result<(), Fail> {
     let mut program = placed(rt.alloc())?;
-    let mut answer = program.strip_positions();
-    let refused = matches!(answer, Err(StripError::OutOfMemory));
+    let mut answer = stripped(&mut program);
+    let refused = answer == Err(true);
     if refused {
-        assert_eq!(rt; places(&program), whole());
-        answer = program.strip_positions();
+        assert_same(&rt, places(&program), whole());
+        answer = stripped(&mut program);
     }
-    let Ok(written) = answer else {
-        return Err(Fail::new("positions weren't stripped"));
-    };
-    assert_eq!(rt; written.positions.as_slice(), TABLE);
-    assert_eq!(rt; written.chains.as_slice(), STREAM);
-    assert_eq!(rt; places(&program), [Position::NONE; 5]);
+    let (table, stream) = answer.expect(&rt, "memory");
+    assert_same(&rt, table.as_slice(), TABLE);
+    assert_same(&rt, stream.as_slice(), STREAM);
+    assert_same(&rt, places(&program), [Position::NONE; 5]);
     told(rt.alloc(), refused)
+}
+
+/// [`Program::attach_positions`].
+fn attached(program: &mut Program, sidecar: &Sidecar) -> Result<(), TableError> {
+    program.attach_positions(sidecar)
 }
 
 #[test]
 fn attach_positions_growth_fails(rt: HostRuntime) -> Result<(), Fail> {
     let mut program = placed(rt.alloc())?;
-    let sidecar = program.strip_positions()?;
-    let answer = program.attach_positions(&sidecar);
+    let sidecar = strip(&mut program)?;
+    let mut answer = attached(&mut program, &sidecar);
     let refused = answer == Err(TableError::OutOfMemory);
     if refused {
-        assert_eq!(rt; places(&program), [Position::NONE; 5]);
-        assert_eq!(rt; program.attach_positions(&sidecar), Ok(()));
-    } else {
-        assert_eq!(rt; answer, Ok(()));
+        assert_same(&rt, places(&program), [Position::NONE; 5]);
+        answer = attached(&mut program, &sidecar);
     }
-    assert_eq!(rt; places(&program), whole());
+    assert_same(&rt, answer, Ok(()));
+    assert_same(&rt, places(&program), whole());
     told(rt.alloc(), refused)
 }
 
@@ -278,11 +312,11 @@ fn build_growth_fails(rt: HostRuntime) -> Result<(), Fail> {
         answer = built(rt.alloc())?;
     }
     let (program, numbers) = answer.expect(&rt, "memory");
-    assert_eq!(rt; numbers.as_slice(), [1, 1].as_slice());
-    assert_eq!(rt; program.code(), [0x02, 0x13, 0x02, 0x13].as_slice());
-    assert_eq!(rt; program.main(), Chunk::new(0, 2, 8));
-    let function = program.function_named("f", 0);
-    assert_eq!(rt; function.map(|f| f.chunk), Some(Chunk::new(2, 4, 8)));
+    assert_same(&rt, numbers.as_slice(), [1, 1].as_slice());
+    assert_same(&rt, program.code(), [0x02, 0x13, 0x02, 0x13].as_slice());
+    assert_same(&rt, program.main(), Chunk::new(0, 2, 8));
+    let function = program.function_named("f", 0).map(|f| f.chunk);
+    assert_same(&rt, function, Some(Chunk::new(2, 4, 8)));
     told(rt.alloc(), refused)
 }
 
@@ -299,6 +333,6 @@ fn error_texts_growth_fails(rt: HostRuntime) -> Result<(), Fail> {
         answer = error.to_string(rt.alloc());
     }
     let text = answer.expect(&rt, "memory");
-    assert_eq!(rt; text.as_str(), "depth-conflict at=7 expected=1 found=0");
+    assert_same(&rt, text.as_str(), "depth-conflict at=7 expected=1 found=0");
     told(rt.alloc(), refused)
 }

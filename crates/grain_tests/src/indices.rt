@@ -1,3 +1,4 @@
+use crate::samples::assert_same;
 use grain::{
     Caps, Chain, Chunk, Flags, Pools, Position, Root, Step, StepFlags, Strings, Tail, VerifyError,
     verify,
@@ -66,7 +67,7 @@ fn steps_within_the_operands_are_accepted(rt: HostRuntime) -> Result<(), Fail> {
         (one.as_slice(), method(0, 0, 65535), 0, 1),
     ]? {
         match said(alloc, code, step, operands)? {
-            Ok(numbers) => assert_eq!(rt; numbers.as_slice(), [deepest].as_slice()),
+            Ok(numbers) => assert_same(&rt, numbers.as_slice(), [deepest].as_slice()),
             Err(e) => assert!(rt; false, "{e:?}"),
         }
     }
@@ -92,7 +93,11 @@ fn steps_past_the_operands_are_refused(rt: HostRuntime) -> Result<(), Fail> {
         (one.as_slice(), method(3, 2, 1), 0, 1, "name", 3),
     ]? {
         let refused = said(alloc, code, step, operands)?.err();
-        assert_eq!(rt; refused, Some(VerifyError::BadIndex { at, what, index }));
+        assert_same(
+            &rt,
+            refused,
+            Some(VerifyError::BadIndex { at, what, index }),
+        );
     }
     Ok(())
 }

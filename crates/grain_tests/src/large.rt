@@ -1,7 +1,7 @@
 //! Pools whose entries are large, and are named by many instructions; and values, code and positions that are long or
 //! deep. What each of these costs is in docs/COSTS.md.
 
-use crate::samples::{parts, program};
+use crate::samples::{assert_same, attach, parts, program, strip};
 use grain::{
     Caps, Chain, Chunk, Dynamic, Flags, Op, Parts, Position, Positions, Program, Root, Step,
     StepFlags, Strings, Switch, Tail, VerifyError, assemble, constant_caps,
@@ -55,24 +55,28 @@ fn wide_switch(alloc: Global, default: u32) -> Result<Switch, AllocError> {
     })
 }
 
+/// What is answered of that code with the switch, whose default leads there.
+fn said_of_switch(alloc: Global, code: &[u8], default: u32) -> Result<String, Fail> {
+    let mut parts = parts(alloc, &[])?;
+    parts.consts.push(Dynamic::Unit)?;
+    parts.switches.push(wide_switch(alloc, default)?)?;
+    said(alloc, Caps::all(), code.to_vec(alloc)?, parts)
+}
+
 #[test]
 fn one_switch_is_named_by_all(rt: HostRuntime) -> Result<(), Fail> {
-    let alloc = rt.alloc();
-    let mut ops = vec![in alloc; Op::Unit]?;
+    let mut ops = vec![in rt.alloc(); Op::Unit]?;
     for _ in 0..MANY {
         ops.push(Op::Switch(0))?;
     }
-    let code = code_of(alloc, ops)?;
+    let code = code_of(rt.alloc(), ops)?;
     for (default, wanted) in [
         (1 + 3 * MANY, "Ok([2])"),
         (2, "Err(JumpIntoAnInstruction { at: 1, target: 2 })"),
         (0, "Err(DepthConflict { at: 0, expected: 0, found: 1 })"),
     ] {
-        let mut parts = parts(alloc, &[])?;
-        parts.consts.push(Dynamic::Unit)?;
-        parts.switches = vec![in alloc; wide_switch(alloc, default)?]?;
-        let answer = said(alloc, Caps::all(), code.to_vec(alloc)?, parts)?;
-        assert_eq!(rt; answer.as_str(), wanted);
+        let answer = said_of_switch(rt.alloc(), &code, default)?;
+        assert_same(&rt, answer.as_str(), wanted);
     }
     Ok(())
 }
@@ -87,21 +91,27 @@ fn repeated(alloc: Global, op: Op) -> Result<Vec<Op>, Fail> {
     Ok(ops)
 }
 
-#[test]
-fn one_long_name_is_named_by_all(rt: HostRuntime) -> Result<(), Fail> {
-    let alloc = rt.alloc();
+/// A variable in a module in a module, and so on.
+fn long_name(alloc: Global) -> Result<String, Fail> {
     let mut name = String::new(alloc);
     for _ in 0..MANY {
         name.push_str("module::")?;
     }
     name.push_str("variable")?;
+    Ok(name)
+}
+
+#[test]
+fn one_long_name_is_named_by_all(rt: HostRuntime) -> Result<(), Fail> {
+    let alloc = rt.alloc();
+    let name = long_name(alloc)?;
     let code = code_of(alloc, repeated(alloc, Op::LoadNamed(0))?)?;
     let without = Caps::all().difference(Caps::MODULE);
     let refusal = lacks(alloc, 0, without, Caps::MODULE)?;
     for (caps, wanted) in [(Caps::all(), "Ok([1])"), (without, refusal.as_str())] {
         let parts = parts(alloc, &[name.as_str()])?;
         let answer = said(alloc, caps, code.to_vec(alloc)?, parts)?;
-        assert_eq!(rt; answer.as_str(), wanted);
+        assert_same(&rt, answer.as_str(), wanted);
     }
     Ok(())
 }
@@ -126,30 +136,31 @@ fn long_chain(alloc: Global, last: u32) -> Result<Chain, AllocError> {
     })
 }
 
+/// What is answered of that code with the chain, whose last property has this name.
+fn said_of_chain(alloc: Global, caps: Caps, code: &[u8], last: u32) -> Result<String, Fail> {
+    let mut parts = parts(alloc, &["p"])?;
+    parts.chains.push(long_chain(alloc, last)?)?;
+    said(alloc, caps, code.to_vec(alloc)?, parts)
+}
+
 #[test]
 fn one_long_chain_is_named_by_all(rt: HostRuntime) -> Result<(), Fail> {
-    let alloc = rt.alloc();
-    let mut ops = vec![in alloc; Op::Unit]?;
+    let mut ops = vec![in rt.alloc(); Op::Unit]?;
     for _ in 0..MANY {
         ops.push(Op::Chain(0))?;
     }
     ops.push(Op::Pop)?;
-    let code = code_of(alloc, ops)?;
+    let code = code_of(rt.alloc(), ops)?;
     let without = Caps::all().difference(Caps::PROPERTY);
-    let refusal = lacks(alloc, 1, without, Caps::PROPERTY)?;
+    let refusal = lacks(rt.alloc(), 1, without, Caps::PROPERTY)?;
+    let past = "Err(BadIndex { at: 1, what: \"name\", index: 1 })";
     for (caps, last, wanted) in [
         (Caps::all(), 0, "Ok([1])"),
         (without, 0, refusal.as_str()),
-        (
-            Caps::all(),
-            1,
-            "Err(BadIndex { at: 1, what: \"name\", index: 1 })",
-        ),
+        (Caps::all(), 1, past),
     ] {
-        let mut parts = parts(alloc, &["p"])?;
-        parts.chains = vec![in alloc; long_chain(alloc, last)?]?;
-        let answer = said(alloc, caps, code.to_vec(alloc)?, parts)?;
-        assert_eq!(rt; answer.as_str(), wanted);
+        let answer = said_of_chain(rt.alloc(), caps, &code, last)?;
+        assert_same(&rt, answer.as_str(), wanted);
     }
     Ok(())
 }
@@ -175,44 +186,69 @@ fn hash_of(value: &Dynamic) -> u64 {
 }
 
 #[test]
-fn values_are_deep(rt: HostRuntime) -> Result<(), Fail> {
+fn deep_values_are_compared(rt: HostRuntime) -> Result<(), Fail> {
     let alloc = rt.alloc();
     let (plain, marked) = (deep(alloc, 1, false)?, deep(alloc, 1, true)?);
-    assert!(rt; plain == marked && marked == plain);
-    assert_eq!(rt; hash_of(&plain), hash_of(&marked));
-    assert!(rt; plain != deep(alloc, 2, true)?);
-    assert!(rt; plain.is_hashable() && marked.is_hashable());
-    assert_eq!(rt; constant_caps(&plain), Some(Caps::ARRAY));
-    assert_eq!(rt; constant_caps(&marked), None);
-
-    let mut cases = HashMap::new(alloc);
-    let _ = cases.insert(deep(alloc, 1, false)?, (10, 0))?;
-    let switch = Switch {
-        cases: Some(cases),
-        ranges: Vec::new(alloc),
-        default: 99,
-    };
-    assert_eq!(rt; switch.dispatch(&marked), 10);
-    assert_eq!(rt; switch.dispatch(&deep(alloc, 2, false)?), 99);
+    let other = deep(alloc, 2, true)?;
+    let equal = (plain == marked, marked == plain, plain == other);
+    assert_same(&rt, equal, (true, true, false));
+    assert_same(&rt, hash_of(&plain), hash_of(&marked));
     Ok(())
 }
 
 #[test]
-fn handlers_are_deep(rt: HostRuntime) -> Result<(), Fail> {
+fn deep_values_are_constants(rt: HostRuntime) -> Result<(), Fail> {
+    let (plain, marked) = (deep(rt.alloc(), 1, false)?, deep(rt.alloc(), 1, true)?);
+    assert_same(
+        &rt,
+        (plain.is_hashable(), marked.is_hashable()),
+        (true, true),
+    );
+    let needed = (constant_caps(&plain), constant_caps(&marked));
+    assert_same(&rt, needed, (Some(Caps::ARRAY), None));
+    Ok(())
+}
+
+/// A switch to 10 where the subject is that value, and else to 99.
+fn switch_on(alloc: Global, value: Dynamic) -> Result<Switch, Fail> {
+    let mut cases = HashMap::new(alloc);
+    let _ = cases.insert(value, (10, 0))?;
+    Ok(Switch {
+        cases: Some(cases),
+        ranges: Vec::new(alloc),
+        default: 99,
+    })
+}
+
+#[test]
+fn deep_values_are_cases(rt: HostRuntime) -> Result<(), Fail> {
     let alloc = rt.alloc();
-    // Handler k is caught where the rest after k handlers were armed is popped.
+    let switch = switch_on(alloc, deep(alloc, 1, false)?)?;
+    assert_same(&rt, switch.dispatch(&deep(alloc, 1, true)?), 10);
+    assert_same(&rt, switch.dispatch(&deep(alloc, 2, false)?), 99);
+    Ok(())
+}
+
+/// So many handlers, of which number k is caught where the rest after k handlers were armed is popped.
+pub(crate) fn handlers(alloc: Global, count: u32) -> Result<Vec<Op>, Fail> {
     let mut ops = Vec::new(alloc);
-    for handler in 0..MANY {
+    for later in (0..count).rev() {
         ops.push(Op::PushHandler {
-            target: 2 * MANY - 1 - handler,
+            target: count.saturating_add(later),
             catch_var: None,
         })?;
     }
-    for _ in 0..MANY {
+    for _ in 0..count {
         ops.push(Op::PopHandler)?;
     }
-    let accepted = said(alloc, Caps::all(), code_of(alloc, ops)?, parts(alloc, &[])?)?;
-    assert_eq!(rt; accepted.as_str(), "Ok([1])");
+    Ok(ops)
+}
+
+#[test]
+fn handlers_are_deep(rt: HostRuntime) -> Result<(), Fail> {
+    let code = code_of(rt.alloc(), handlers(rt.alloc(), MANY)?)?;
+    let accepted = said(rt.alloc(), Caps::all(), code, parts(rt.alloc(), &[])?)?;
+    assert_same(&rt, accepted.as_str(), "Ok([1])");
     Ok(())
 }
 
@@ -238,21 +274,22 @@ fn placed(alloc: Global) -> Result<Program, Fail> {
     Ok(program(alloc, &code, 8, parts)?)
 }
 
+/// The position of the instruction at this address, and whether the chain of this number begins there.
+fn place(program: &Program, at: usize, pos: Position) -> (Position, bool) {
+    let chain = program.chains().get(at);
+    let is_there = chain.is_some_and(|chain| chain.root == Root::This { pos });
+    (program.position(at), is_there)
+}
+
 #[test]
 fn many_positions_are_stripped_and_attached(rt: HostRuntime) -> Result<(), Fail> {
-    let alloc = rt.alloc();
-    let mut program = placed(alloc)?;
-    let sidecar = program.strip_positions()?;
+    let mut program = placed(rt.alloc())?;
+    let sidecar = strip(&mut program)?;
     assert!(rt; program.positions().is_stripped());
-    assert!(rt; program.attach_positions(&sidecar).is_ok());
+    attach(&mut program, &sidecar)?;
     for (at, line) in [(0, 1), (150, 151), (299, 300)] {
-        assert_eq!(rt; program.position(at), Position::new(line, 1));
-        let pos = Position::new(line, 2);
-        let chain = program.chains().get(at);
-        assert_eq!(rt;
-            chain.map(|chain| chain.root == Root::This { pos }),
-            Some(true)
-        );
+        let found = place(&program, at, Position::new(line, 2));
+        assert_same(&rt, found, (Position::new(line, 1), true));
     }
     Ok(())
 }

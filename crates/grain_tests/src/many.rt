@@ -1,16 +1,16 @@
 //! More than 65,535 of what is counted: chunks, cuts, handlers. And a switch of many ranges.
 
-use crate::large::{code_of, said};
-use crate::samples::{parts, program};
+use crate::large::{code_of, handlers, said};
+use crate::samples::{assert_same, parts, program, verified};
 use grain::{
     Caps, Chunk, Cut, Dynamic, Flags, FnAccess, Head, Op, Pools, Strings, Switch, SwitchRange,
     build, verify,
 };
+use std::alloc::Global;
 use std::test::Fail;
 
-#[test]
-fn ranges_are_many(rt: HostRuntime) -> Result<(), Fail> {
-    let alloc = rt.alloc();
+/// A switch of 1001 ranges of one integer each, from 0 on, of which only the last leads to 6, as what is in none of them.
+fn ranges(alloc: Global) -> Result<Switch, Fail> {
     let mut ranges = Vec::new(alloc);
     for first in 0..1001i64 {
         ranges.push(SwitchRange {
@@ -20,26 +20,33 @@ fn ranges_are_many(rt: HostRuntime) -> Result<(), Fail> {
             target: if first == 1000 { 6 } else { 4 },
         })?;
     }
-    let switch = Switch {
+    Ok(Switch {
         cases: None,
         ranges,
         default: 6,
-    };
-    assert_eq!(rt; switch.dispatch(&Dynamic::Int(999)), 4);
-    assert_eq!(rt; switch.dispatch(&Dynamic::Int(1000)), 6);
-    assert_eq!(rt; switch.dispatch(&Dynamic::Int(1001)), 6);
+    })
+}
 
-    let mut parts = parts(alloc, &[])?;
-    parts.switches = vec![in alloc; switch]?;
-    let code = [0x02, 0x18, 0x00, 0x00, 0x02, 0x13, 0x02, 0x13];
-    let numbers = program(alloc, &code, 8, parts)?.verify();
-    assert_eq!(rt; format!(in alloc; "{numbers:?}")?.as_str(), "Ok([2])");
+#[test]
+fn ranges_are_many(rt: HostRuntime) -> Result<(), Fail> {
+    let switch = ranges(rt.alloc())?;
+    let targets = [999, 1000, 1001].map(|subject| switch.dispatch(&Dynamic::Int(subject)));
+    assert_same(&rt, targets, [4, 6, 6]);
     Ok(())
 }
 
 #[test]
-fn chunks_are_many(rt: HostRuntime) -> Result<(), Fail> {
-    let alloc = rt.alloc();
+fn many_ranges_are_verified(rt: HostRuntime) -> Result<(), Fail> {
+    let mut parts = parts(rt.alloc(), &[])?;
+    parts.switches.push(ranges(rt.alloc())?)?;
+    let code = [0x02, 0x18, 0x00, 0x00, 0x02, 0x13, 0x02, 0x13];
+    let program = program(rt.alloc(), &code, 8, parts)?;
+    assert_same(&rt, verified(rt.alloc(), &program)?.as_str(), "Ok([2])");
+    Ok(())
+}
+
+/// What is said of a unit and a return as these chunks: how many numbers there are, and the last.
+fn said_of_chunks(alloc: Global, chunks: &[Chunk]) -> Result<(usize, Option<u16>), Fail> {
     let names = Strings::new(alloc, &[])?;
     let pools = Pools {
         consts: 0,
@@ -50,37 +57,35 @@ fn chunks_are_many(rt: HostRuntime) -> Result<(), Fail> {
         chains: &[],
         switches: &[],
     };
-    let mut chunks = Vec::new(alloc);
-    for _ in 0..65_537 {
-        chunks.push(Chunk::new(0, 2, 1))?;
-    }
-    let code = [0x02, 0x13];
-    match verify(alloc, Caps::all(), &[], &code, &[], &chunks, &pools) {
-        Ok(numbers) => {
-            assert_eq!(rt; numbers.len(), 65_537);
-            assert_eq!(rt; numbers.last().copied(), Some(1));
-        }
-        Err(refusal) => assert!(rt; false, "{refusal:?}"),
-    }
-    Ok(())
+    let numbers = verify(alloc, Caps::all(), &[], &[0x02, 0x13], &[], chunks, &pools)?;
+    Ok((numbers.len(), numbers.last().copied()))
 }
 
 #[test]
-fn cuts_are_many(rt: HostRuntime) -> Result<(), Fail> {
-    let alloc = rt.alloc();
-    let cut = Cut {
+fn chunks_are_many(rt: HostRuntime) -> Result<(), Fail> {
+    let mut chunks = Vec::new(rt.alloc());
+    for _ in 0..65_537 {
+        chunks.push(Chunk::new(0, 2, 1))?;
+    }
+    let said = said_of_chunks(rt.alloc(), &chunks)?;
+    assert_same(&rt, said, (65_537, Some(1)));
+    Ok(())
+}
+
+fn cut() -> Cut {
+    Cut {
         first: 0,
         end: 2,
         max_stack: 1,
-    };
-    let mut cuts = vec![in alloc; cut]?;
+    }
+}
+
+/// The top level and so many functions, each of them all of a unit and a return.
+fn cuts(alloc: Global, functions: usize) -> Result<(Vec<Cut>, Vec<Head>), Fail> {
+    let mut cuts = vec![in alloc; cut()]?;
     let mut heads = Vec::new(alloc);
-    for _ in 0..65_536 {
-        cuts.push(Cut {
-            first: 0,
-            end: 2,
-            max_stack: 1,
-        })?;
+    for _ in 0..functions {
+        cuts.push(cut())?;
         heads.push(Head {
             name: 0,
             params: Vec::new(alloc),
@@ -88,14 +93,24 @@ fn cuts_are_many(rt: HostRuntime) -> Result<(), Fail> {
             this_type: None,
         })?;
     }
+    Ok((cuts, heads))
+}
+
+/// How many numbers are answered for these cuts.
+fn built(alloc: Global, cuts: &[Cut], heads: Vec<Head>) -> Result<Option<usize>, Fail> {
     let ops = [Op::Unit, Op::Return];
     let parts = parts(alloc, &["f"])?;
-    let built = if cuts.len() == heads.len() + 1 {
-        build(alloc, Caps::all(), &ops, &cuts, heads, parts).ok()
-    } else {
-        None
-    };
-    assert_eq!(rt; built.map(|built| built.1.len()), Some(65_537));
+    if cuts.len() != heads.len() + 1 {
+        return Ok(None);
+    }
+    let (_, numbers) = build(alloc, Caps::all(), &ops, cuts, heads, parts)?;
+    Ok(Some(numbers.len()))
+}
+
+#[test]
+fn cuts_are_many(rt: HostRuntime) -> Result<(), Fail> {
+    let (cuts, heads) = cuts(rt.alloc(), 65_536)?;
+    assert_same(&rt, built(rt.alloc(), &cuts, heads)?, Some(65_537));
     Ok(())
 }
 
@@ -104,19 +119,8 @@ const HANDLERS: u32 = 70_000;
 
 #[test]
 fn handlers_are_many(rt: HostRuntime) -> Result<(), Fail> {
-    let alloc = rt.alloc();
-    // Handler k is caught where the rest after k handlers were armed is popped.
-    let mut ops = Vec::new(alloc);
-    for handler in 0..HANDLERS {
-        ops.push(Op::PushHandler {
-            target: 2 * HANDLERS - 1 - handler,
-            catch_var: None,
-        })?;
-    }
-    for _ in 0..HANDLERS {
-        ops.push(Op::PopHandler)?;
-    }
-    let accepted = said(alloc, Caps::all(), code_of(alloc, ops)?, parts(alloc, &[])?)?;
-    assert_eq!(rt; accepted.as_str(), "Ok([1])");
+    let code = code_of(rt.alloc(), handlers(rt.alloc(), HANDLERS)?)?;
+    let accepted = said(rt.alloc(), Caps::all(), code, parts(rt.alloc(), &[])?)?;
+    assert_same(&rt, accepted.as_str(), "Ok([1])");
     Ok(())
 }

@@ -1,7 +1,7 @@
-use crate::samples::{function, parts};
+use crate::samples::{assert_same, attach, function, parts, strip, tighten, verified};
 use grain::{
-    Caps, Chain, Chunk, Dynamic, Flags, Lookups, Position, Positions, Program, Root, Step,
-    StepFlags, Tail, Token,
+    Caps, Chain, Chunk, Dynamic, Flags, Function, Lookups, Position, Positions, Program, Root,
+    Step, StepFlags, Tail, Token,
 };
 use std::alloc::Global;
 use std::test::Fail;
@@ -77,104 +77,140 @@ fn compiled(alloc: Global) -> Result<Program, Fail> {
     ))
 }
 
-// What the verifier answers, as it is printed.
-fn verified(program: &Program, alloc: Global) -> Result<String, Fail> {
-    Ok(format!(in alloc; "{:?}", program.verify())?)
+#[test]
+fn programs_are_verified(rt: HostRuntime) -> Result<(), Fail> {
+    let program = compiled(rt.alloc())?;
+
+    // No run of the top level stacks more than one operand, and none of the first function more than two.
+    let numbers = verified(rt.alloc(), &program)?;
+    assert_same(&rt, numbers.as_str(), "Ok([1, 2, 1])");
+    assert_same(&rt, program.max_stack(), 8);
+    Ok(())
 }
 
 #[test]
-fn programs_are_verified_and_tightened(rt: HostRuntime) -> Result<(), Fail> {
-    let alloc = rt.alloc();
-    let mut program = compiled(alloc)?;
+fn programs_are_tightened(rt: HostRuntime) -> Result<(), Fail> {
+    let mut program = compiled(rt.alloc())?;
 
-    // No run of the top level stacks more than one operand, and none of the first function more than two.
-    assert_eq!(rt; verified(&program, alloc)?.as_str(), "Ok([1, 2, 1])");
-    assert_eq!(rt; program.max_stack(), 8);
-
-    // So that is what they have to declare.
-    assert!(rt; program.tighten_stack().is_ok());
-    assert_eq!(rt; program.main().max_stack(), 1);
-    assert_eq!(rt; program.max_stack(), 2);
-    assert_eq!(rt; verified(&program, alloc)?.as_str(), "Ok([1, 2, 1])");
+    // What runs reach is what has to be declared.
+    tighten(&mut program)?;
+    assert_same(&rt, program.main().max_stack(), 1);
+    assert_same(&rt, program.max_stack(), 2);
+    let numbers = verified(rt.alloc(), &program)?;
+    assert_same(&rt, numbers.as_str(), "Ok([1, 2, 1])");
     Ok(())
+}
+
+// Where a function begins that was found.
+fn entry(function: Option<&Function>) -> Option<u32> {
+    function.map(|function| function.chunk.entry())
 }
 
 #[test]
 fn functions_and_entries_are_found(rt: HostRuntime) -> Result<(), Fail> {
-    let alloc = rt.alloc();
-    let program = compiled(alloc)?;
+    let program = compiled(rt.alloc())?;
 
     // A host calls functions by name, and a method by the type of its receiver.
-    let double = program.function_named("double", 1);
-    assert_eq!(rt; double.map(|f| f.chunk.entry()), Some(11));
-    let method = program.method(0, 0, "i64");
-    assert_eq!(rt; method.map(|f| f.chunk.entry()), Some(24));
+    assert_same(&rt, entry(program.function_named("double", 1)), Some(11));
+    assert_same(&rt, entry(program.method(0, 0, "i64")), Some(24));
 
     // A machine looks up what indices lead to.
-    assert_eq!(rt; program.name(3), Some("len"));
-    assert_eq!(rt; program.token(0), Some(&Token::Plus));
-    assert!(rt; program.chain(0).is_some() && program.chain(1).is_none());
+    assert_same(&rt, program.name(3), Some("len"));
+    assert_same(&rt, program.token(0), Some(&Token::Plus));
+    let chains = (program.chain(0).is_some(), program.chain(1).is_some());
+    assert_same(&rt, chains, (true, false));
     Ok(())
+}
+
+// The position of the call, and that of the property.
+fn places(program: &Program) -> (Position, Option<Position>) {
+    let chain = program.chains().first().map(|chain| chain.positions());
+    (program.position(3), chain.and_then(|mut it| it.next()))
 }
 
 #[test]
 fn positions_go_apart_and_come_back(rt: HostRuntime) -> Result<(), Fail> {
-    let alloc = rt.alloc();
-    let mut program = compiled(alloc)?;
+    let mut program = compiled(rt.alloc())?;
 
     // Positions are shipped apart. What runs is the same.
-    let sidecar = program.strip_positions()?;
-    assert_eq!(rt; sidecar.positions.as_slice(), [1, 3, 1, 1].as_slice());
-    assert_eq!(rt; sidecar.chains.as_slice(), [1, 1, 11].as_slice());
-    assert!(rt; program.position(3).is_none());
-    assert_eq!(rt; verified(&program, alloc)?.as_str(), "Ok([1, 2, 1])");
+    let sidecar = strip(&mut program)?;
+    assert_same(&rt, sidecar.positions.as_slice(), [1, 3, 1, 1].as_slice());
+    assert_same(&rt, sidecar.chains.as_slice(), [1, 1, 11].as_slice());
+    assert_same(&rt, places(&program).0, Position::NONE);
+    let numbers = verified(rt.alloc(), &program)?;
+    assert_same(&rt, numbers.as_str(), "Ok([1, 2, 1])");
 
     // Whoever looks into a crash gives them back.
-    assert!(rt; program.attach_positions(&sidecar).is_ok());
-    assert_eq!(rt; program.position(3), Position::new(1, 1));
-    let places = program.chains().first().map(|chain| chain.positions());
-    assert_eq!(rt;
-        places.and_then(|mut it| it.next()),
-        Some(Position::new(1, 11))
-    );
+    attach(&mut program, &sidecar)?;
+    let wanted = (Position::new(1, 1), Some(Position::new(1, 11)));
+    assert_same(&rt, places(&program), wanted);
     Ok(())
+}
+
+// How many bytes, functions, constants, names, operators, chains, op-assignments, switches and fragments there are.
+fn counts(program: &Program) -> [usize; 9] {
+    [
+        program.code().len(),
+        program.functions().len(),
+        program.consts().len(),
+        program.names().len(),
+        program.tokens().len(),
+        program.pools().chains.len(),
+        program.assign_ops().len(),
+        program.switches().len(),
+        program.residual_count() as usize,
+    ]
 }
 
 #[test]
 fn programs_tell_what_they_have(rt: HostRuntime) -> Result<(), Fail> {
-    let alloc = rt.alloc();
-    let mut program = compiled(alloc)?;
-    assert_eq!(rt; program.code().len(), 26);
-    assert_eq!(rt; program.functions().len(), program.num_functions());
-    assert_eq!(rt; program.debug_id(), 7);
-    assert_eq!(rt; program.residual_count(), 0);
-    assert_eq!(rt; program.consts().len() + program.tokens().len(), 2);
-    assert_eq!(rt; program.names().len(), 6);
-    assert_eq!(rt; program.assign_ops().len() + program.switches().len(), 0);
-    assert_eq!(rt; program.pools().chains.len(), 1);
-    assert!(rt; !program.positions().is_stripped());
-    assert!(rt; program.caps().contains(Caps::THIS) && !program.makes_fn_pointers());
-    assert_eq!(rt; program.source(), None);
-    let source = String::from_str(alloc, "sums.rhai")?;
-    assert_eq!(rt; program.set_source(source).source(), Some("sums.rhai"));
+    let program = compiled(rt.alloc())?;
+    assert_same(&rt, counts(&program), [26, 2, 1, 6, 1, 1, 0, 0, 0]);
+    assert_same(&rt, program.num_functions(), 2);
+    assert_same(&rt, program.debug_id(), 7);
+    let holds = (
+        program.positions().is_stripped(),
+        program.caps().contains(Caps::THIS),
+        program.makes_fn_pointers(),
+    );
+    assert_same(&rt, holds, (false, true, false));
     Ok(())
 }
 
 #[test]
-fn programs_are_printed_by_their_counts(rt: HostRuntime) -> Result<(), Fail> {
-    let alloc = rt.alloc();
-    let mut program = compiled(alloc)?;
-    let _ = program.set_source(String::from_str(alloc, "sums.rhai")?);
-    let counts = "bytes: 26, max_stack: 8, consts: 1, names: 6, residuals: 0, compiled_fns: 2";
-    assert_eq!(rt;
-        format!(in alloc; "{program:?}")?,
-        format!(in alloc; "Program {{ source: Some(\"sums.rhai\"), {counts}, positions: true }}")?
-    );
+fn programs_have_sources(rt: HostRuntime) -> Result<(), Fail> {
+    let mut program = compiled(rt.alloc())?;
+    assert_same(&rt, program.source(), None);
+    let source = String::from_str(rt.alloc(), "sums.rhai")?;
+    assert_same(&rt, program.set_source(source).source(), Some("sums.rhai"));
+    Ok(())
+}
 
-    // What is printed is what the top level declares, though a function declares more.
-    assert!(rt; program.tighten_stack().is_ok());
-    assert_eq!(rt; program.max_stack(), 2);
-    assert!(rt; format!(in alloc; "{program:?}")?.contains("max_stack: 1,"));
+// The program as it is printed.
+fn shown(alloc: Global, program: &Program) -> Result<String, Fail> {
+    Ok(format!(in alloc; "{program:?}")?)
+}
+
+#[test]
+fn programs_are_printed_by_their_counts(rt: HostRuntime) -> Result<(), Fail> {
+    let mut program = compiled(rt.alloc())?;
+    let _ = program.set_source(String::from_str(rt.alloc(), "sums.rhai")?);
+    let text = shown(rt.alloc(), &program)?;
+    assert_same(
+        &rt,
+        text.as_str(),
+        "Program { source: Some(\"sums.rhai\"), bytes: 26, max_stack: 8, consts: 1, names: 6, residuals: 0, compiled_fns: 2, positions: true }",
+    );
+    Ok(())
+}
+
+// What is printed is what the top level declares, though a function declares more.
+#[test]
+fn programs_are_printed_by_their_top_level(rt: HostRuntime) -> Result<(), Fail> {
+    let mut program = compiled(rt.alloc())?;
+    tighten(&mut program)?;
+    assert_same(&rt, program.max_stack(), 2);
+    assert!(rt; shown(rt.alloc(), &program)?.contains("max_stack: 1,"));
     Ok(())
 }
 

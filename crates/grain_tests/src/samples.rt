@@ -1,8 +1,17 @@
 //! Programs for tests.
 
-use grain::{Caps, Chunk, Flags, FnAccess, Function, Parts, Position, Positions, Program, Strings};
+use grain::{
+    Caps, Chunk, Flags, FnAccess, Function, Parts, Position, Positions, Program, Sidecar, Strings,
+};
 use std::alloc::{AllocError, Global};
+use std::fmt::Debug;
+use std::process::Abort;
 use std::test::Fail;
+
+/// Asserts that both are the same. `assert_eq!` in its place costs the prover five times as much.
+pub(crate) fn assert_same<T: PartialEq + Debug + Drop>(rt: &impl Abort, found: T, wanted: T) {
+    assert_eq!(rt; found, wanted);
+}
 
 /// Number 7, with these names and nothing else.
 pub(crate) fn parts(alloc: Global, names: &[&str]) -> Result<Parts, Fail> {
@@ -48,6 +57,28 @@ pub(crate) fn function(
         this_type,
         chunk,
     })
+}
+
+// What these four ensure isn't said, so that the prover needn't carry it through the rest of a test.
+
+/// [`Program::strip_positions`] where it has to succeed.
+pub(crate) fn strip(program: &mut Program) -> Result<Sidecar, Fail> {
+    Ok(program.strip_positions()?)
+}
+
+/// [`Program::attach_positions`] where it has to succeed.
+pub(crate) fn attach(program: &mut Program, sidecar: &Sidecar) -> Result<(), Fail> {
+    Ok(program.attach_positions(sidecar)?)
+}
+
+/// [`Program::tighten_stack`] where it has to succeed.
+pub(crate) fn tighten(program: &mut Program) -> Result<(), Fail> {
+    Ok(program.tighten_stack()?)
+}
+
+/// What [`Program::verify`] answers, as it is printed.
+pub(crate) fn verified(alloc: Global, program: &Program) -> Result<String, Fail> {
+    Ok(format!(in alloc; "{:?}", program.verify())?)
 }
 
 /// Two units and a return, where the second stands at 1:5 and the return in line 3.

@@ -1,4 +1,4 @@
-use crate::samples::{parts, program};
+use crate::samples::{assert_same, parts, program, tighten, verified};
 use grain::{Caps, Chunk, Dynamic, Flags, Program, VerifyError};
 use std::alloc::Global;
 use std::test::Fail;
@@ -6,31 +6,33 @@ use std::test::Fail;
 // Two units are pushed and popped, and then one is returned.
 const CODE: &[u8] = &[0x02, 0x02, 0x0b, 0x0b, 0x02, 0x13];
 
-fn said(alloc: Global, answer: Result<Vec<u16>, VerifyError>) -> Result<String, Fail> {
-    Ok(format!(in alloc; "{answer:?}")?)
-}
-
 #[test]
 fn chunks_declare_their_numbers(rt: HostRuntime) -> Result<(), Fail> {
-    let alloc = rt.alloc();
-    let mut program = program(alloc, CODE, 8, parts(alloc, &[])?)?;
-    assert!(rt; program.tighten_stack().is_ok());
-    assert_eq!(rt; program.max_stack(), 2);
-    assert_eq!(rt; said(alloc, program.verify())?.as_str(), "Ok([2])");
+    let mut program = program(rt.alloc(), CODE, 8, parts(rt.alloc(), &[])?)?;
+    tighten(&mut program)?;
+    assert_same(&rt, program.max_stack(), 2);
+    assert_same(&rt, verified(rt.alloc(), &program)?.as_str(), "Ok([2])");
     Ok(())
+}
+
+// How a program is refused that declares 1, by both calls, and what it declares afterwards.
+fn refused(alloc: Global) -> Result<(Option<VerifyError>, Option<VerifyError>, u16), Fail> {
+    let mut program = program(alloc, CODE, 1, parts(alloc, &[])?)?;
+    let by_verify = program.verify().err();
+    let by_tighten = program.tighten_stack().err();
+    Ok((by_verify, by_tighten, program.max_stack()))
+}
+
+fn exceeds() -> Option<VerifyError> {
+    Some(VerifyError::StackExceedsDeclared {
+        needed: 2,
+        declared: 1,
+    })
 }
 
 #[test]
 fn refused_programs_keep_what_they_declare(rt: HostRuntime) -> Result<(), Fail> {
-    let alloc = rt.alloc();
-    let mut program = program(alloc, CODE, 1, parts(alloc, &[])?)?;
-    let exceeds = VerifyError::StackExceedsDeclared {
-        needed: 2,
-        declared: 1,
-    };
-    assert_eq!(rt; program.verify().err().as_ref(), Some(&exceeds));
-    assert_eq!(rt; program.tighten_stack().err(), Some(exceeds));
-    assert_eq!(rt; program.max_stack(), 1);
+    assert_same(&rt, refused(rt.alloc())?, (exceeds(), exceeds(), 1));
     Ok(())
 }
 
@@ -42,20 +44,20 @@ fn with_array(alloc: Global, value: Dynamic) -> Result<String, Fail> {
     let code = [0x02, 0x13].to_vec(alloc)?;
     let main = Chunk::new(0, 2, 8);
     let program = Program::new(alloc, Caps::empty(), code, main, Vec::new(alloc), parts);
-    said(alloc, program.verify())
+    verified(alloc, &program)
 }
 
 #[test]
 fn constants_ask_capabilities(rt: HostRuntime) -> Result<(), Fail> {
-    let alloc = rt.alloc();
-    let missing = VerifyError::MissingCaps {
+    let said = with_array(rt.alloc(), Dynamic::Unit)?;
+    let missing: Result<(), VerifyError> = Err(VerifyError::MissingCaps {
         artifact: Caps::empty(),
         missing: Caps::ARRAY,
         at: 0,
-    };
-    let refused = said(alloc, Err(missing))?;
-    assert_eq!(rt; with_array(alloc, Dynamic::Unit)?, refused);
-    let shared = Dynamic::Shared(Box::new(alloc, Dynamic::Int(1))?);
-    assert_eq!(rt; with_array(alloc, shared)?.as_str(), "Ok([1])");
+    });
+    let text = format!(in rt.alloc(); "{missing:?}")?;
+    assert_same(&rt, said, text);
+    let shared = Dynamic::Shared(Box::new(rt.alloc(), Dynamic::Int(1))?);
+    assert_same(&rt, with_array(rt.alloc(), shared)?.as_str(), "Ok([1])");
     Ok(())
 }

@@ -1,3 +1,4 @@
+use crate::samples::assert_same;
 use grain::{
     Caps, Chain, Chunk, Dynamic, Flags, Pools, Position, Root, Step, StepFlags, Strings, Switch,
     Tail, VerifyError, verify,
@@ -40,30 +41,28 @@ fn switch(alloc: Global, target: u32, default: u32) -> Result<Switch, AllocError
     })
 }
 
+/// What is said of a unit and this switch, behind which a unit and a return stand at 4 and at 6.
+fn said_of_switch(
+    alloc: Global,
+    target: u32,
+    default: u32,
+) -> Result<Result<Vec<u16>, VerifyError>, Fail> {
+    let code = [0x02, 0x18, 0x00, 0x00, 0x02, 0x13, 0x02, 0x13];
+    let switches = [switch(alloc, target, default)?];
+    said(alloc, &code, &[], &[], &switches)
+}
+
 #[test]
 fn switches_lead_to_starts_of_the_chunk(rt: HostRuntime) -> Result<(), Fail> {
-    let alloc = rt.alloc();
-    let code = [0x02, 0x18, 0x00, 0x00, 0x02, 0x13, 0x02, 0x13];
-    let good = vec![in alloc; switch(alloc, 4, 6)?]?;
-    match said(alloc, &code, &[], &[], &good)? {
-        Ok(numbers) => assert_eq!(rt; numbers.as_slice(), [2].as_slice()),
-        Err(e) => assert!(rt; false, "{e:?}"),
-    }
-    let inside = vec![in alloc; switch(alloc, 2, 6)?]?;
-    let refused = said(alloc, &code, &[], &[], &inside)?.err();
-    assert_eq!(rt;
-        refused,
-        Some(VerifyError::JumpIntoAnInstruction { at: 1, target: 2 })
-    );
-    let outside = vec![in alloc; switch(alloc, 4, 9999)?]?;
-    let refused = said(alloc, &code, &[], &[], &outside)?.err();
-    assert_eq!(rt;
-        refused,
-        Some(VerifyError::JumpOutOfRange {
-            at: 1,
-            target: 9999
-        })
-    );
+    let accepted = Ok(vec![in rt.alloc(); 2]?);
+    assert_same(&rt, said_of_switch(rt.alloc(), 4, 6)?, accepted);
+    let inside = VerifyError::JumpIntoAnInstruction { at: 1, target: 2 };
+    assert_same(&rt, said_of_switch(rt.alloc(), 2, 6)?, Err(inside));
+    let outside = VerifyError::JumpOutOfRange {
+        at: 1,
+        target: 9999,
+    };
+    assert_same(&rt, said_of_switch(rt.alloc(), 4, 9999)?, Err(outside));
     Ok(())
 }
 
@@ -87,113 +86,90 @@ fn method(name: u32) -> Step {
     }
 }
 
-fn chain(alloc: Global, root: Root, step: Option<Step>, tail: Tail) -> Result<Chain, AllocError> {
+/// What is said of this code on a chain of that root, steps and tail, which takes so many operands, with one name.
+fn said_of_chain(
+    alloc: Global,
+    code: &[u8],
+    root: Root,
+    steps: Vec<Step>,
+    tail: Tail,
+    operands: u16,
+) -> Result<Result<Vec<u16>, VerifyError>, Fail> {
+    let chains = [Chain {
+        root,
+        steps,
+        tail,
+        operands,
+    }];
+    said(alloc, code, &["x"], &chains, &[])
+}
+
+/// The same of the chain alone, with at most one step.
+fn refused(alloc: Global, root: Root, step: Option<Step>, tail: Tail) -> Result<VerifyError, Fail> {
     let mut steps = Vec::new(alloc);
     if let Some(step) = step {
         steps.push(step)?;
     }
-    Ok(Chain {
-        root,
-        steps,
-        tail,
-        operands: 0,
-    })
+    let answer = said_of_chain(alloc, &[0x16, 0x00, 0x00, 0x13], root, steps, tail, 0)?;
+    match answer {
+        Ok(_) => Err(Fail::new("the chain was accepted")),
+        Err(refusal) => Ok(refusal),
+    }
 }
 
 #[test]
 fn indices_inside_chains_are_bounded(rt: HostRuntime) -> Result<(), Fail> {
-    let alloc = rt.alloc();
-    let code = [0x16, 0x00, 0x00, 0x13];
     let pos = Position::NONE;
-    let named = chain(alloc, Root::Named { name: 3, pos }, None, Tail::Read)?;
-    let local = chain(alloc, Root::Local { slot: 0, name: 3 }, None, Tail::Read)?;
-    let with_property = chain(alloc, Root::Temporary, Some(property(3)), Tail::Read)?;
-    let with_method = chain(alloc, Root::Temporary, Some(method(3)), Tail::Read)?;
-    for chain in vec![in alloc; named, local, with_property, with_method]? {
-        let refused = said(alloc, &code, &["x"], &vec![in alloc; chain]?, &[])?.err();
-        let wanted = VerifyError::BadIndex {
-            at: 0,
-            what: "name",
-            index: 3,
-        };
-        assert_eq!(rt; refused, Some(wanted));
+    let assigning = Tail::Assign { op: Some(2) };
+    let rows = [
+        (Root::Named { name: 3, pos }, None, Tail::Read, "name", 3),
+        (
+            Root::Local { slot: 0, name: 3 },
+            None,
+            Tail::Read,
+            "name",
+            3,
+        ),
+        (Root::Temporary, Some(property(3)), Tail::Read, "name", 3),
+        (Root::Temporary, Some(method(3)), Tail::Read, "name", 3),
+        (Root::Temporary, None, assigning, "op-assignment", 2),
+    ];
+    for (root, step, tail, what, index) in rows {
+        let wanted = VerifyError::BadIndex { at: 0, what, index };
+        assert_same(&rt, refused(rt.alloc(), root, step, tail)?, wanted);
     }
-    let assigning = chain(alloc, Root::Temporary, None, Tail::Assign { op: Some(2) })?;
-    let refused = said(alloc, &code, &["x"], &vec![in alloc; assigning]?, &[])?.err();
-    let wanted = VerifyError::BadIndex {
-        at: 0,
-        what: "op-assignment",
-        index: 2,
-    };
-    assert_eq!(rt; refused, Some(wanted));
     Ok(())
 }
 
 #[test]
 fn chains_within_bounds_are_accepted(rt: HostRuntime) -> Result<(), Fail> {
-    let alloc = rt.alloc();
     let code = [0x02, 0x02, 0x16, 0x00, 0x00, 0x13];
-    let pos = Position::NONE;
-    let mut reading = chain(
-        alloc,
-        Root::Named { name: 0, pos },
-        Some(property(0)),
-        Tail::Read,
-    )?;
-    reading.steps.push(method(0))?;
-    reading.operands = 2;
-    match said(alloc, &code, &["x"], &vec![in alloc; reading]?, &[])? {
-        Ok(numbers) => assert_eq!(rt; numbers.as_slice(), [2].as_slice()),
-        Err(e) => assert!(rt; false, "{e:?}"),
-    }
+    let root = Root::Named {
+        name: 0,
+        pos: Position::NONE,
+    };
+    let steps = vec![in rt.alloc(); property(0), method(0)]?;
+    let answer = said_of_chain(rt.alloc(), &code, root, steps, Tail::Read, 2)?;
+    assert_same(&rt, answer, Ok(vec![in rt.alloc(); 2]?));
     Ok(())
+}
+
+/// So many branches, each of them to the next, and a return.
+fn branches(alloc: Global, count: u16) -> Result<Vec<u8>, Fail> {
+    let mut code = Vec::new(alloc);
+    for block in 1..=count {
+        code.extend_from_slice(&[0x04, 0x0e])?;
+        code.extend_from_slice(&(8 * u32::from(block)).to_le_bytes())?;
+        code.extend_from_slice(&[0x02, 0x0b])?;
+    }
+    code.push(0x13)?;
+    Ok(code)
 }
 
 #[test]
 fn long_code_with_branches_is_accepted(rt: HostRuntime) -> Result<(), Fail> {
-    let alloc = rt.alloc();
-    let mut code = Vec::new(alloc);
-    for block in 1..=3000u32 {
-        code.extend_from_slice(&[0x04, 0x0e])?;
-        code.extend_from_slice(&(8 * block).to_le_bytes())?;
-        code.extend_from_slice(&[0x02, 0x0b])?;
-    }
-    code.push(0x13)?;
-    match said(alloc, &code, &[], &[], &[])? {
-        Ok(numbers) => assert_eq!(rt; numbers.as_slice(), [1].as_slice()),
-        Err(e) => assert!(rt; false, "{e:?}"),
-    }
-    Ok(())
-}
-
-#[test]
-fn constants_ask_capabilities(rt: HostRuntime) -> Result<(), Fail> {
-    let alloc = rt.alloc();
-    let names = Strings::new(alloc, &[])?;
-    let pools = Pools {
-        consts: 0,
-        names: &names,
-        tokens: 0,
-        assign_ops: 0,
-        residuals: 0,
-        chains: &[],
-        switches: &[],
-    };
-    let chunks = [Chunk::new(0, 2, 8)];
-    let code = [0x02, 0x13];
-    let plain = vec![in alloc; Dynamic::Array(vec![in alloc; Dynamic::Unit]?)]?;
-    let refused = verify(alloc, Caps::empty(), &plain, &code, &[], &chunks, &pools).err();
-    let wanted = VerifyError::MissingCaps {
-        artifact: Caps::empty(),
-        missing: Caps::ARRAY,
-        at: 0,
-    };
-    assert_eq!(rt; refused, Some(wanted));
-    let shared = Dynamic::Shared(Box::new(alloc, Dynamic::Int(1))?);
-    let open = vec![in alloc; Dynamic::Array(vec![in alloc; shared]?)]?;
-    match verify(alloc, Caps::empty(), &open, &code, &[], &chunks, &pools) {
-        Ok(numbers) => assert_eq!(rt; numbers.as_slice(), [1].as_slice()),
-        Err(e) => assert!(rt; false, "{e:?}"),
-    }
+    let code = branches(rt.alloc(), 3000)?;
+    let answer = said(rt.alloc(), &code, &[], &[], &[])?;
+    assert_same(&rt, answer, Ok(vec![in rt.alloc(); 1]?));
     Ok(())
 }

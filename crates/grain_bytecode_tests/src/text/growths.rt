@@ -19,9 +19,10 @@ fn op_text_growth_fails(rt: HostRuntime) -> Result<(), Fail> {
         answer = op.disassemble(rt.alloc(), &pools);
     }
     let text = answer.expect(&rt, "memory");
-    assert_eq!(rt;
+    assert_same(
+        &rt,
         text.as_str(),
-        "DeclareLocal { name: 0, is_const: true, is_global: true } : const x (global)"
+        "DeclareLocal { name: 0, is_const: true, is_global: true } : const x (global)",
     );
     told(rt.alloc(), refused)
 }
@@ -36,7 +37,7 @@ fn missing_text_growth_fails(rt: HostRuntime) -> Result<(), Fail> {
     if refused {
         answer = op.disassemble(rt.alloc(), &pools);
     }
-    assert_eq!(rt; answer, Err(missing("name", 3)));
+    assert_same(&rt, answer, Err(missing("name", 3)));
     told(rt.alloc(), refused)
 }
 
@@ -50,7 +51,7 @@ fn chain_text_growth_fails(rt: HostRuntime) -> Result<(), Fail> {
         answer = chain.disassemble(rt.alloc(), &pools);
     }
     let text = answer.expect(&rt, "memory");
-    assert_eq!(rt; text.as_str(), "Named { name: 0, pos: 1:1 } a [0] .b ");
+    assert_same(&rt, text.as_str(), "Named { name: 0, pos: 1:1 } a [0] .b ");
     told(rt.alloc(), refused)
 }
 
@@ -64,7 +65,7 @@ fn step_text_growth_fails(rt: HostRuntime) -> Result<(), Fail> {
         answer = method.disassemble(rt.alloc(), &pools);
     }
     let text = answer.expect(&rt, "memory");
-    assert_eq!(rt; text.as_str(), ".?x(3 args from 5)");
+    assert_same(&rt, text.as_str(), ".?x(3 args from 5)");
     told(rt.alloc(), refused)
 }
 
@@ -97,7 +98,7 @@ fn assign_op_text_growth_fails(rt: HostRuntime) -> Result<(), Fail> {
         answer = plus.disassemble(rt.alloc(), &pools);
     }
     let text = answer.expect(&rt, "memory");
-    assert_eq!(rt; text.as_str(), "+= (PlusAssign) / + (Plus)");
+    assert_same(&rt, text.as_str(), "+= (PlusAssign) / + (Plus)");
     told(rt.alloc(), refused)
 }
 
@@ -111,9 +112,10 @@ fn switch_text_growth_fails(rt: HostRuntime) -> Result<(), Fail> {
         answer = table.disassemble(rt.alloc(), &pools);
     }
     let text = answer.expect(&rt, "memory");
-    assert_eq!(rt;
+    assert_same(
+        &rt,
         text.as_str(),
-        "{ case 1 => 10, range 5..8 => 20, range 8..=10 => 30, default => 99 }"
+        "{ case 1 => 10, range 5..8 => 20, range 8..=10 => 30, default => 99 }",
     );
     told(rt.alloc(), refused)
 }
@@ -132,7 +134,7 @@ fn switch_range_text_growth_fails(rt: HostRuntime) -> Result<(), Fail> {
         answer = range.disassemble(rt.alloc());
     }
     let text = answer.expect(&rt, "memory");
-    assert_eq!(rt; text.as_str(), "range 8..=10 => 30");
+    assert_same(&rt, text.as_str(), "range 8..=10 => 30");
     told(rt.alloc(), refused)
 }
 
@@ -146,6 +148,6 @@ fn function_text_growth_fails(rt: HostRuntime) -> Result<(), Fail> {
         answer = typed.disassemble(rt.alloc(), &pools);
     }
     let text = answer.expect(&rt, "memory");
-    assert_eq!(rt; text.as_str(), "x!y(x, y)");
+    assert_same(&rt, text.as_str(), "x!y(x, y)");
     told(rt.alloc(), refused)
 }

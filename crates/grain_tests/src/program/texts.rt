@@ -40,9 +40,9 @@ fn programs_are_written_out(rt: HostRuntime) -> Result<(), Fail> {
         "25 none Return",
     ];
     let out = written(rt.alloc(), &program)?;
-    assert_eq!(rt; out.as_str().lines().count(), wanted.len());
+    assert_same(&rt, out.as_str().lines().count(), wanted.len());
     for (line, text) in out.as_str().lines().zip(wanted.iter()) {
-        assert_eq!(rt; line, *text);
+        assert_same(&rt, line, *text);
     }
     Ok(())
 }
