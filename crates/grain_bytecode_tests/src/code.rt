@@ -1,5 +1,7 @@
 use crate::samples::assert_same;
-use grain_bytecode::{Op, Receiver, decode, disassemble, u16_at, u32_at, width};
+use grain_bytecode::{
+    Op, Receiver, TagFlow, TagRow, decode, disassemble, tag, tag_row, u16_at, u32_at, width,
+};
 use std::test::Fail;
 
 #[test]
@@ -72,4 +74,27 @@ fn copies_of_an_operation_are_equal(rt: HostRuntime) -> Result<(), Fail> {
         "Local(4)",
     );
     Ok(())
+}
+
+#[test]
+fn tags_tell(rt: HostRuntime) {
+    let pop = TagRow {
+        tag: tag::POP,
+        width: 1,
+        has_index: false,
+        is_quiet: true,
+        needs: 1,
+        takes: 1,
+        gives: 0,
+        flow: TagFlow::Falls,
+    };
+    assert_same(&rt, *tag_row(tag::POP), pop);
+    assert_same(
+        &rt,
+        tag_row(tag::PUSH_HANDLER_VAR).flow,
+        TagFlow::PushesHandler,
+    );
+    assert_same(&rt, tag_row(tag::CALL).flow, TagFlow::Untold);
+    assert_same(&rt, tag_row(0x43).width, 0);
+    assert_same(&rt, tag_row(0xff).width, 0);
 }

@@ -19,7 +19,7 @@ use Rattle.grain_rules.proofs.Splits.{in_head}
 use Rattle.grain_explain.specs.EffectView.{flow_view}
 use Rattle.grain_explain.specs.Certificate.{RowLacks, StandsInRow}
 use Rattle.grain_explain.specs.Claimed.{AreMatched, IsAstray, MissesOne, RefusesRows, code_claimed, falling_on, jumping, lack_named, targets_of_cases, targets_of_ranges}
-use Rattle.grain_explain.specs.Lacking.{Does}
+use Rattle.grain_explain.specs.Lacking.{DoesTo}
 use Rattle.grain_explain.specs.OnEdges.{left_by}
 use Rattle.grain_explain.specs.RowView.{counts_of, typing_of}
 use Rattle.grain_explain.specs.declared.edge.OnEdge.{OnEdge}
@@ -64,10 +64,10 @@ pub misses_right : (g : Claim) (e : OnEdge) {number : ℕ} {error : TypingError}
 misses_right g e ts us h = (h.0, Contains-append_right ts us h.0 h.1, h.2)
 
 -- what is left of the operands
-pub left_known : (s : Setting) (op : Op) (e : Effect) (n : ℕ) → Does s op e → left_by e n ≡ operands_after s op n
+pub left_known : (s : Setting) (op : Op) (e : Effect) (n : ℕ) → DoesTo s op e → left_by e n ≡ operands_after s op n
 left_known s op e n d = ap (λ (x : ℕ × ℕ × ℕ). n - x.1 + x.2) d.numbers
 
-module _ (s : Setting) (op : Op) (r : Row) (e : Effect) (d : Does s op e) where
+module _ (s : Setting) (op : Op) (r : Row) (e : Effect) (d : DoesTo s op e) where
   pub jumping_known : jumping r e ≡ after_jump s op (counts_of r)
   jumping_known = ap (λ (f : Flow). jump_for f (left_by e r.operands) (counts_of r)) d.flow ∙ ap (λ n. jump_for (flow_of op) n (counts_of r)) (left_known s op e r.operands d)
 
@@ -89,7 +89,7 @@ switch_done P s cases ranges default =
     let middle = targets_of_ranges s.ranges.items in
     All-append P (before ++ middle) (s.default ∷ []) (All-append P before middle cases ranges) (All-cons P s.default [] default (All-nil P))
 
-module _ (g : Claim) (r : Row) (e : Effect) (op : Op) (d : Does (code_claimed g).setting op e) where
+module _ (g : Claim) (r : Row) (e : Effect) (op : Op) (d : DoesTo (code_claimed g).setting op e) where
   targets_known : targets_for (code_claimed g).switches (flow_view e.flow) ≡ targets (code_claimed g).switches op
   targets_known = ap (targets_for (code_claimed g).switches) d.flow
 

@@ -20,7 +20,7 @@ pub record HasAll (s : Setting) (op : Op) (c : Counts) : Type 0 where
   pub stays : Stays s op c
 
 -- this is what the operation does to the stacks, and how it is left
-pub record Does (s : Setting) (op : Op) (e : Effect) : Type 0 where
+pub record DoesTo (s : Setting) (op : Op) (e : Effect) : Type 0 where
   pub numbers : operand_numbers e ≡ (needs s op, takes s op, gives s op)
   pub flow : flow_view e.flow ≡ flow_of op
 

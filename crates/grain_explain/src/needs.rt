@@ -5,7 +5,7 @@ ghost use Rattle.grain_rules.specs.FlowFields.{falls_for, handlers_for, iterator
 ghost use Rattle.grain_rules.specs.Setting.{setting};
 ghost use Rattle.grain_rules.specs.Sinking.{ReachesUpTo};
 ghost use Rattle.grain_explain.specs.EffectView.{flow_view};
-ghost use Rattle.grain_explain.specs.Lacking.{Does, HasAll, IsReserve, FindsLacking};
+ghost use Rattle.grain_explain.specs.Lacking.{DoesTo, HasAll, IsReserve, FindsLacking};
 ghost use Rattle.grain_explain.specs.RowView.{counts_of};
 
 use crate::effect::{Effect, Flow, is_quiet};
@@ -89,7 +89,7 @@ impl Flow {
 /// What it finds lacking first.
 pub(crate) fn check_needs(caps: Caps, pools: &Pools<'_>, op: &Op, row: &Row) -> Result<Effect, Lack>
     ensures has { OnOk result (HasAll (setting caps pools.now) op.now (counts_of row.now)) }
-    ensures does { IfOk result (Does (setting caps pools.now) op.now) }
+    ensures does { IfOk result (DoesTo (setting caps pools.now) op.now) }
     ensures lacks { IfErr result
         (FindsLacking (setting caps pools.now) op.now (counts_of row.now)) }
 {

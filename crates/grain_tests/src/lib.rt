@@ -27,6 +27,8 @@ mod many;
 #[cfg(test)]
 mod meter;
 #[cfg(test)]
+mod placed;
+#[cfg(test)]
 mod program;
 #[cfg(test)]
 mod samples;
