@@ -1,7 +1,8 @@
 //! Programs that are accepted, and their chunks.
-ghost use Rattle.std.specs.Prelude.{◌≡◌, ◌+◌, ◌<◌, IfErr, IfOk, OnOk, Some, length};
+ghost use Rattle.std.specs.Prelude.{◌≡◌, ◌+◌, ◌<◌, ◌⊎◌, IfErr, IfOk, OnOk, Some, length};
 ghost use Rattle.std.specs.Prelude.{slice_get};
-ghost use Rattle.grain_rules.specs.Accepted.{IsAccepted};
+ghost use Rattle.grain_rules.specs.Accepted.{AreSafe, IsAccepted};
+ghost use Rattle.grain_rules.specs.Flaw.{Flaw};
 ghost use Rattle.grain.specs.Program.{chunks_of, input_of};
 
 use grain::{Chunk, Program, VerifyError};
@@ -61,8 +62,11 @@ impl<'a> Model for Runnable<'a> {
 pub fn accept(program: &Program) -> Result<Accepted<'_>, VerifyError>
     ensures program { IfOk result (λ a. a.program ≡ program.now) }
     ensures accepted { OnOk result (IsAccepted (input_of program.now)) }
+    ensures numbers { IfOk result (λ a. AreSafe (input_of program.now) a.numbers) }
     ensures accepts { IsAccepted (input_of program.now)
         → IfErr result (λ e. e ≡ VerifyError.OutOfMemory) }
+    ensures flaws { IfErr result (λ e. (e ≡ VerifyError.OutOfMemory)
+        ⊎ Flaw (input_of program.now) e) }
 {
     let numbers = program.verify()?;
     Ok(Accepted { program, numbers })
