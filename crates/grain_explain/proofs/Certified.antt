@@ -12,7 +12,7 @@ use Rattle.grain_rules.specs.Sinking.{FallsShortOf, ReachesUpTo, untouched}
 use Rattle.grain_rules.specs.Typing.{IsInChunk, Passes}
 use Rattle.grain_rules.proofs.Once.{stands_once}
 use Rattle.grain_explain.specs.Certificate.{IsCertificate, RowLacks, RowsFlaw}
-use Rattle.grain_explain.specs.Claimed.{ArePlaced, AreSound, code_claimed}
+use Rattle.grain_explain.specs.Claimed.{ArePlaced, AreSound, code_claimed, span_claimed}
 use Rattle.grain_explain.specs.Lacking.{FindsLacking}
 use Rattle.grain_explain.specs.RowView.{AreAscending, counts_of, typing_of}
 use Rattle.grain_explain.specs.declared.claim.Claim.{Claim}
@@ -28,6 +28,15 @@ passes_there code chunk at other c d op e f p = subst (λ (x : Counts). Passes (
 
 edge_there : (code : Bytecode) (at other : ℕ) (c d : Counts) (op : Op) (b : ℕ) (x : Counts) → at ≡ other → c ≡ d → Edge (coded code) op other d b x → Edge (coded code) op at c b x
 edge_there code at other c d op b x e f h = subst (λ (y : Counts). Edge (coded code) op at y b x) (sym f) (subst (λ n. Edge (coded code) op n d b x) (sym e) h)
+
+-- what passes does so whatever the chunk declares
+respanned : (code : Bytecode) (chunk : Span) (m at : ℕ) (c : Counts) (op : Op) → Passes (coded code) chunk at c op → Passes (coded code) (record chunk { max_stack = m }) at c op
+respanned code chunk m at c op p = record {
+  stands = record { within = record { entry = p.stands.within.entry; end = p.stands.within.end; place = p.stands.within.place }; is = p.stands.is };
+  meets = p.meets;
+  allowed = p.allowed;
+  stays = p.stays;
+}
 
 -- stacks that reach up to a base don't fall short of it
 pub enough_left : (base stacks : Base) (need have : ℕ) → ReachesUpTo base stacks → FallsShortOf base stacks need have → ⊥
@@ -73,7 +82,7 @@ module _ (code : Bytecode) (chunk : Span) (rows : List Row) (sure : IsCertificat
 
 -- what the tests of the rows find is that they are a typing
 pub certified : (g : Claim) → g.chunk.now.entry ≤ g.chunk.now.end → g.chunk.now.end ≤ length g.code.now → IsBoundary g.code.now g.chunk.now.end → AreAscending g.rows.now → ArePlaced g
-    → typing_of g.rows.now g.chunk.now.entry ≡ Some nothing → AreSound g → IsCertificate (code_claimed g) g.chunk.now g.rows.now
+    → typing_of g.rows.now g.chunk.now.entry ≡ Some nothing → AreSound g → IsCertificate (code_claimed g) (span_claimed g) g.rows.now
 certified g ordered inside end up placed entry sound =
     let first = typed_by g.rows.now g.chunk.now.entry nothing entry in
     let there : IsInChunk (coded (code_claimed g)) g.chunk.now g.chunk.now.entry = subst (IsInChunk (coded (code_claimed g)) g.chunk.now) first.at_is (placed first.place first.row first.is) in
@@ -86,7 +95,7 @@ certified g ordered inside end up placed entry sound =
         met = λ at c e. (
             let h = typed_by g.rows.now at c e in
             let s = sound h.place h.row h.is in
-            (s.op, passes_there (code_claimed g) g.chunk.now h.row.at at (counts_of h.row) c s.op h.at_is h.counts s.passes)
+            (s.op, respanned (code_claimed g) g.chunk.now g.most at c s.op (passes_there (code_claimed g) g.chunk.now h.row.at at (counts_of h.row) c s.op h.at_is h.counts s.passes))
             );
         closed = λ at c op b d e reads edge. (
             let h = typed_by g.rows.now at c e in

@@ -5,3 +5,6 @@ pub mod Certified
 pub mod Bases
 pub mod Laying
 pub mod Halving
+pub mod Sceneries
+pub mod Refused
+pub mod Chunkwise

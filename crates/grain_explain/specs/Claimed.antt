@@ -1,6 +1,7 @@
 -- Rows with the chunk of which they are to be a typing.
 use Rattle.std.specs.Prelude.{◌≡◌, ◌⊎◌, ℕ, ◌≤◌, true, List, Some, map, slice_get}
 use Rattle.std.specs.List.{All, Contains}
+use Rattle.grain_code.specs.Span.{Span}
 use Rattle.grain_code.specs.declared.op.Op.{Op}
 use Rattle.grain_pools.specs.Dispatch.{Case}
 use Rattle.grain_pools.specs.declared.switch.SwitchRange.{SwitchRange}
@@ -26,9 +27,13 @@ use Rattle.grain_explain.specs.declared.row.Row.{Row}
 abbrev pub code_claimed : Claim → Bytecode
 code_claimed g = bytecode g.caps g.pools.now g.code.now
 
+-- the chunk with as many operands as a row may have
+abbrev pub span_claimed : Claim → Span
+span_claimed g = record g.chunk.now { max_stack = g.most }
+
 -- the refusal says what is so of the rows
 abbrev pub RefusesRows : Claim → TypingError → Type 0
-RefusesRows g e = RowsFlaw (code_claimed g) g.chunk.now g.rows.now e
+RefusesRows g e = RowsFlaw (code_claimed g) (span_claimed g) g.rows.now e
 
 -- each row is at a start of the chunk
 abbrev pub ArePlaced : Claim → Type 0
@@ -78,7 +83,7 @@ pub record IsSound (g : Claim) (r : Row) : Type 0 where
   pub op : Op
   pub passes : Passes (coded (code_claimed g)) g.chunk.now r.at (counts_of r) op
   pub closed : (b : ℕ) (d : Counts) → Edge (coded (code_claimed g)) op r.at (counts_of r) b d → typing_of g.rows.now b ≡ Some d
-  pub shallow : r.operands ≤ g.chunk.now.max_stack
+  pub shallow : r.operands ≤ g.most
 
 -- each row is sound
 abbrev pub AreSound : Claim → Type 0

@@ -5,11 +5,10 @@ ghost use Rattle.grain_rules.specs.Code.{bytecode};
 ghost use Rattle.grain_explain.specs.Certificate.{IsCertificate, RowsFlaw};
 
 use crate::claim::Claim;
-use crate::edge::OnEdge;
 use crate::error::TypingError;
 use crate::row::Row;
 use grain_base::Caps;
-use grain_bytecode::{Chunk, count_instructions};
+use grain_bytecode::Chunk;
 use grain_rules::Pools;
 
 /// Whether rows are a stack typing of a chunk within the operands that it declares.
@@ -46,18 +45,7 @@ pub fn check_typing(
         chunk,
         pools,
         rows,
+        most: u32::from(chunk.max_stack()),
     };
-    if let Err(at) = count_instructions(code) {
-        return Err(TypingError::Undecodable { at });
-    }
-    let end = chunk.end();
-    if end as usize > code.len() || chunk.entry() > end {
-        return Err(TypingError::ChunkOutOfRange);
-    }
-    claim.check_ascending()?;
-    claim.check_places()?;
-    if !claim.has_row(chunk.entry() as usize, &OnEdge::nothing()) {
-        return Err(TypingError::BadEntry);
-    }
-    claim.check_rows()
+    claim.check()
 }

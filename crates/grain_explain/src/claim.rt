@@ -4,7 +4,8 @@ ghost use Rattle.std.specs.Prelude.{IfErr, OnOk, IsTrue};
 ghost use Rattle.grain_code.specs.Split.{Split};
 ghost use Rattle.grain_rules.specs.Layout.{IsBoundary};
 ghost use Rattle.grain_explain.specs.Claimed.{ArePlaced, AreSound, HasRow, IsSound};
-ghost use Rattle.grain_explain.specs.Claimed.{RefusesRows, lack_named};
+ghost use Rattle.grain_explain.specs.Certificate.{IsCertificate};
+ghost use Rattle.grain_explain.specs.Claimed.{RefusesRows, code_claimed, lack_named, span_claimed};
 ghost use Rattle.grain_explain.specs.RowView.{AreAscending};
 
 use crate::edge::OnEdge;
@@ -13,7 +14,7 @@ use crate::frame::boundary_from;
 use crate::needs::{Lack, check_needs};
 use crate::row::Row;
 use grain_base::Caps;
-use grain_bytecode::{Chunk, decode, width};
+use grain_bytecode::{Chunk, count_instructions, decode, width};
 use grain_rules::Pools;
 
 /// Rows that somebody hands in, and the chunk of which they are to be a typing.
@@ -24,6 +25,8 @@ pub(crate) struct Claim<'a> {
     pub(crate) chunk: &'a Chunk,
     pub(crate) pools: &'a Pools<'a>,
     pub(crate) rows: &'a [Row],
+    /// How many operands a row may have.
+    pub(crate) most: u32,
 }
 
 impl Claim<'_> {
@@ -31,7 +34,7 @@ impl Claim<'_> {
     ///
     /// # Errors
     /// `NotAscending`, of the first that isn't.
-    pub(crate) fn check_ascending(&self) -> Result<(), TypingError>
+    fn check_ascending(&self) -> Result<(), TypingError>
         ensures ok { OnOk result (AreAscending self.now.rows.now) }
         ensures err { IfErr result (RefusesRows self.now) }
     {
@@ -47,7 +50,7 @@ impl Claim<'_> {
     ///
     /// # Errors
     /// `OutsideChunk` and `NoStart`, of the first row that isn't at one; `EndsInside`.
-    pub(crate) fn check_places(&self) -> Result<(), TypingError>
+    fn check_places(&self) -> Result<(), TypingError>
         requires whole { (starts : List ℕ) × Split self.now.code.now starts }
         requires inside { self.now.chunk.now.end ≤ length self.now.code.now }
         requires ascending { AreAscending self.now.rows.now }
@@ -87,14 +90,14 @@ impl Claim<'_> {
     ///
     /// # Errors
     /// The first test that fails, by its name.
-    pub(crate) fn check_row(&self, number: usize, row: &Row) -> Result<(), TypingError>
+    fn check_row(&self, number: usize, row: &Row) -> Result<(), TypingError>
         requires ascending { AreAscending self.now.rows.now }
         requires placed { ArePlaced self.now }
         requires here { slice_get self.now.rows.now number ≡ Some row.now }
         ensures sound { OnOk result (IsSound self.now row.now) }
         ensures err { IfErr result (RefusesRows self.now) }
     {
-        if row.operands > u32::from(self.chunk.max_stack()) {
+        if row.operands > self.most {
             return Err(TypingError::TooDeep { row: number });
         }
         let at = row.at as usize;
@@ -110,11 +113,35 @@ impl Claim<'_> {
         }
     }
 
+    /// Tests that the chunk is framed, and the rows are a typing of it with no more operands than they may have.
+    ///
+    /// # Errors
+    /// The first test that fails, by its name.
+    pub(crate) fn check(&self) -> Result<(), TypingError>
+        ensures yes { OnOk result
+            (IsCertificate (code_claimed self.now) (span_claimed self.now) self.now.rows.now) }
+        ensures err { IfErr result (RefusesRows self.now) }
+    {
+        if let Err(at) = count_instructions(self.code) {
+            return Err(TypingError::Undecodable { at });
+        }
+        let end = self.chunk.end();
+        if end as usize > self.code.len() || self.chunk.entry() > end {
+            return Err(TypingError::ChunkOutOfRange);
+        }
+        self.check_ascending()?;
+        self.check_places()?;
+        if !self.has_row(self.chunk.entry() as usize, &OnEdge::nothing()) {
+            return Err(TypingError::BadEntry);
+        }
+        self.check_rows()
+    }
+
     /// Tests all rows.
     ///
     /// # Errors
     /// That of the first row that is refused.
-    pub(crate) fn check_rows(&self) -> Result<(), TypingError>
+    fn check_rows(&self) -> Result<(), TypingError>
         requires ascending { AreAscending self.now.rows.now }
         requires placed { ArePlaced self.now }
         ensures sound { OnOk result (AreSound self.now) }

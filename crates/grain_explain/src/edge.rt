@@ -32,6 +32,18 @@ impl<'a> OnEdge<'a> {
         }
     }
 
+    /// The counts of a row.
+    pub(crate) fn at(row: &'a Row) -> OnEdge<'a>
+        ensures { counts_on result ≡ counts_of row.now }
+    {
+        OnEdge {
+            operands: u64::from(row.operands),
+            iterators: u64::from(row.iterators),
+            armed: None,
+            bases: row.bases.as_slice(),
+        }
+    }
+
     /// What is on the edges to the targets of an operation.
     pub(crate) fn to_targets(row: &'a Row, effect: &Effect) -> OnEdge<'a>
         ensures { counts_on result ≡ jump_for (flow_view effect.now.flow)

@@ -5,17 +5,26 @@
 //! a walk and without memory. What a typing is is defined in `grain_rules`.
 #![tactic(auto)]
 
+mod arrival;
 mod asks;
 mod certificate;
 mod claim;
 mod edge;
 mod effect;
 mod error;
+mod explain;
+mod explanation;
 mod frame;
 mod needs;
+mod refusal;
 mod row;
+mod scene;
+mod switches;
 mod targets;
+mod walk;
 
 pub use certificate::check_typing;
 pub use error::TypingError;
+pub use explain::explain_chunks;
+pub use refusal::{ExplainError, ExplainedChunk, Refusal};
 pub use row::{Base, Row};

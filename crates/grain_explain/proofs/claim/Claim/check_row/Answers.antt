@@ -5,8 +5,8 @@ use Rattle.grain_explain.specs.Claimed.{AreMatched, IsAstray, RefusesRows}
 use Rattle.grain_explain.proofs.Matching.{astray_flaw, closed_by, lack_flaw, on_err, on_ok}
 use Rattle.grain_explain.proofs.claim.Claim.check_row.Goals as goal
 
-pub returns-then-row-from-clause-err : goal.returns-then-row-from-clause-err
-returns-then-row-from-clause-err c = (c.args.row.now, c.requires.here, (let l = c.if-row-from.true in let e = c.from.ensures in let f = c.max_stack.ensures in omega arith))
+pub returns-then-row-self-clause-err : goal.returns-then-row-self-clause-err
+returns-then-row-self-clause-err c = (c.args.row.now, c.requires.here, c.if-row-self.true)
 
 pub returns-in_default-clause-err : goal.returns-in_default-clause-err
 returns-in_default-clause-err c = (c.args.row.now, c.requires.here, λ s. (let there = (start_op c.args.self.now.code.now c.args.row.now.at s).1 in c.in_default.ensures.none there.0 there.1))
@@ -17,9 +17,7 @@ returns-in-Ok-clause-sound c =
     let row = c.args.row.now in
     let op = c.in-Some.op in
     let has = c.in-Ok.ensures.has in
-    let low = c.if-row-from.false in
-    let from = c.from.ensures in
-    let most = c.max_stack.ensures in
+    let low = c.if-row-self.false in
     let width = wide claim.code.now row.at c.in-Some-width.width op c.in-Some-width.ensures.found c.in-Some.ensures.found in
     on_ok c.check_edges.result (λ m. record {
       op = op;

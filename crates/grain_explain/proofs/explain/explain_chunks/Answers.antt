@@ -1,0 +1,30 @@
+use Rattle.std.proofs.Common.{ap, refl, sym, subst, List, ◌∙◌}
+use Rattle.std.specs.List.{AllZip}
+use Rattle.std.proofs.lemmas.List.{take_all}
+use Rattle.grain_code.specs.Span.{Span}
+use Rattle.grain_code.specs.Split.{Split, starts_from}
+use Rattle.grain_code.specs.Starts.{Front}
+use Rattle.grain_rules.specs.Code.{bytecode}
+use Rattle.grain_explain.specs.Explaining.{IsExplained}
+use Rattle.grain_explain.proofs.Chunkwise.{all_exact, chunk_more}
+use Rattle.grain_explain.proofs.Sceneries.{not_err}
+use Rattle.grain_explain.proofs.explain.explain_chunks.Goals as goal
+
+pub explain-requires : goal.explain-requires
+explain-requires c =
+    let whole = not_err c.check_code.result (sym c.is_err.ensures.value ∙ c.if-is_err.false) c.check_code.ensures.ok c.args.caps in
+    let split : Split c.args.code.now (starts_from 0 whole.0) = (whole.0, whole.1, refl) in
+    let known = c.in_ok-starts.ensures.whole (starts_from 0 whole.0) split in
+    subst (Split c.args.code.now) (sym (ap (λ (f : Front). f.starts) known)) split
+
+pub loop-chunk-preserved : goal.loop-chunk-preserved
+loop-chunk-preserved c =
+    let R = IsExplained (bytecode c.args.caps c.args.pools.now c.args.code.now) in
+    rw c.in_ok-push.ensures.items
+    (chunk_more R c.args.chunks.now c.loop-chunk.explained.items c.loop-chunk.chunk-index c.chunk-item.result c.in_ok-explain.field-0 c.loop-chunk-test.true c.chunk-item.is c.loop-chunk.invariant c.in_ok-explain.ensures)
+
+pub returns-clause-exact : goal.returns-clause-exact
+returns-clause-exact c =
+    let code = bytecode c.args.caps c.args.pools.now c.args.code.now in
+    let all = subst (λ (chunks : List Span). AllZip (IsExplained code) chunks c.loop-chunk.explained.items) (take_all c.loop-chunk.chunk-index c.args.chunks.now c.loop-chunk-test.false) c.loop-chunk.invariant in
+    all_exact code c.args.chunks.now c.loop-chunk.explained.items all

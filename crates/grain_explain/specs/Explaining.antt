@@ -1,0 +1,38 @@
+-- What explaining answers of a chunk and of a program.
+use Rattle.std.specs.Prelude.{◌≡◌, ◌↔◌, ℕ, List, Option, None, Some, MatchOption}
+use Rattle.std.specs.List.{All, AllZip}
+use Rattle.grain_code.specs.Span.{Span}
+use Rattle.grain_rules.specs.Accepted.{ChunkPasses}
+use Rattle.grain_rules.specs.Code.{Bytecode, coded}
+use Rattle.grain_rules.specs.Counts.{Counts}
+use Rattle.grain_rules.specs.Typing.{Reached}
+use Rattle.grain_explain.specs.Certificate.{IsCertificate}
+use Rattle.grain_explain.specs.RowView.{counts_of, typing_of}
+use Rattle.grain_explain.specs.Ways.{Follows, IsRefusal, first_stop, row_stop}
+use Rattle.grain_explain.specs.declared.refusal.ExplainedChunk.{ExplainedChunk}
+use Rattle.grain_explain.specs.declared.row.Row.{Row}
+
+-- the row's counts are reached at its address
+abbrev pub IsReachedRow : Bytecode → Span → Row → Type 0
+IsReachedRow code chunk r = Reached (coded code) chunk r.at (counts_of r)
+
+-- the row is what the chunk begins with, or an edge leads to it from what is reached at this address
+abbrev pub IsOrigin : Bytecode → Span → Row → Option ℕ → Type 0
+IsOrigin code chunk r origin = MatchOption origin (row_stop r ≡ first_stop chunk)
+    (λ p. (c : Counts) × Reached (coded code) chunk p c × Follows code chunk (p, c) (row_stop r))
+
+-- the rows are a stack typing within the declared stack, and just what is reached
+pub record IsTypedBy (code : Bytecode) (chunk : Span) (rows : List Row) : Type 0 where
+  pub certificate : IsCertificate code chunk rows
+  pub just : (at : ℕ) (c : Counts) → Reached (coded code) chunk at c ↔ (typing_of rows at ≡ Some c)
+
+-- Each row is reached, from where it says; and the rows are a typing and just what is reached, or else the chunk has the flaw
+-- that is named, and its ways show it.
+pub record IsExplained (code : Bytecode) (chunk : Span) (x : ExplainedChunk) : Type 0 where
+  pub reached : All (IsReachedRow code chunk) x.rows.items
+  pub origins : AllZip (IsOrigin code chunk) x.rows.items x.origins.items
+  pub explains : MatchOption x.refusal (IsTypedBy code chunk x.rows.items) (IsRefusal code chunk)
+
+-- it isn't refused exactly where the chunk passes
+abbrev pub IsExact : Bytecode → Span → ExplainedChunk → Type 0
+IsExact code chunk x = (x.refusal ≡ None) ↔ ChunkPasses code chunk

@@ -1,0 +1,234 @@
+//! Why a chunk is accepted or refused.
+ghost use Rattle.std.specs.Prelude.{◌≡◌, ◌≤◌, None, IfOk, IfSome, MatchOption};
+ghost use Rattle.std.specs.List.{All, AllZip};
+ghost use Rattle.grain_rules.specs.Flaw.{ChunkFlaw};
+ghost use Rattle.grain_explain.specs.Explaining.{IsExplained, IsOrigin, IsReachedRow, IsTypedBy};
+ghost use Rattle.grain_explain.specs.Scenes.{AreCome, IsCome, IsReadyScene, IsRefusalAt};
+ghost use Rattle.grain_explain.specs.Scenes.{IsSearching, IsStarted, code_seen};
+ghost use Rattle.grain_explain.specs.Ways.{IsFrameFlaw};
+
+use crate::arrival::Arrival;
+use crate::certificate::check_typing;
+use crate::claim::Claim;
+use crate::error::TypingError;
+use crate::refusal::{ExplainError, ExplainedChunk, Refusal};
+use crate::row::Row;
+use crate::scene::Scene;
+use crate::walk::Search;
+use grain_rules::VerifyError;
+
+/// The rows of what was come to, and where each was come from.
+#[derive(Drop)]
+pub(crate) struct Rows {
+    pub(crate) rows: Vec<Row>,
+    pub(crate) origins: Vec<Option<u32>>,
+}
+
+impl Scene<'_> {
+    /// Explains the chunk.
+    ///
+    /// # Errors
+    /// `OutOfMemory`, `Unfinished`.
+    pub(crate) fn explain(&self) -> Result<ExplainedChunk, ExplainError>
+        requires { IsStarted self.now }
+        ensures { IfOk result (IsExplained (code_seen self.now) self.now.chunk.now) }
+    {
+        if let Err(error) = self.check_frame() {
+            return Ok(self.frame_refused(error));
+        }
+        let mut search = self.begin()?;
+        let found = self.run(&mut search)?;
+        let Rows { rows, origins } = self.rows_of(&search.slots)?;
+        let refusal = match found {
+            Some(refusal) => Some(refusal),
+            None => self.certify(&search.slots, &rows)?,
+        };
+        Ok(ExplainedChunk {
+            rows,
+            origins,
+            refusal,
+        })
+    }
+
+    /// What is said of a chunk whose frame is refused.
+    fn frame_refused(&self, error: VerifyError) -> ExplainedChunk
+        requires flaw { ChunkFlaw (code_seen self.now) self.now.chunk.now error }
+        requires frame { IsFrameFlaw (code_seen self.now) self.now.chunk.now error }
+        ensures { IsExplained (code_seen self.now) self.now.chunk.now result }
+    {
+        ExplainedChunk {
+            rows: Vec::new(self.alloc),
+            origins: Vec::new(self.alloc),
+            refusal: Some(Refusal {
+                error,
+                way: Vec::new(self.alloc),
+                other: Vec::new(self.alloc),
+            }),
+        }
+    }
+
+    /// A walk at the chunk's entry.
+    ///
+    /// # Errors
+    /// `OutOfMemory`.
+    fn begin(&self) -> Result<Search, ExplainError>
+        ensures { IfOk result (IsSearching self.now) }
+    {
+        let mut work = Vec::new(self.alloc);
+        work.push(Arrival {
+            row: Row {
+                at: self.chunk.entry(),
+                operands: 0,
+                iterators: 0,
+                bases: Vec::new(self.alloc),
+            },
+            from: None,
+        })?;
+        let length = (self.chunk.end() as usize).saturating_sub(self.chunk.entry() as usize);
+        Ok(Search {
+            slots: self.free_slots(length)?,
+            work,
+        })
+    }
+
+    /// So many places to which nothing has come.
+    fn free_slots(&self, length: usize) -> Result<Vec<Option<Arrival>>, ExplainError>
+        ensures { IfOk result (λ v. All (λ slot. slot ≡ None) v.items) }
+    {
+        let mut slots = Vec::new(self.alloc);
+        for _ in 0..length {
+            slots.push(None)?;
+        }
+        Ok(slots)
+    }
+
+    /// The rows of what was come to, in the order of their places, each with the address from which it was come to.
+    ///
+    /// # Errors
+    /// `OutOfMemory`, `Unfinished`.
+    fn rows_of(&self, slots: &[Option<Arrival>]) -> Result<Rows, ExplainError>
+        requires { AreCome self.now slots.now }
+        ensures reached { IfOk result
+            (λ x. All (IsReachedRow (code_seen self.now) self.now.chunk.now) x.rows.items) }
+        ensures origins { IfOk result (λ x. AllZip (IsOrigin (code_seen self.now) self.now.chunk.now)
+            x.rows.items x.origins.items) }
+    {
+        let mut rows = Vec::new(self.alloc);
+        let mut origins = Vec::new(self.alloc);
+        for slot in slots {
+            if let Some(arrival) = slot {
+                let origin = self.origin_of(slots, arrival)?;
+                rows.push(arrival.row.copied(self.alloc)?)?;
+                origins.push(origin)?;
+            }
+        }
+        Ok(Rows { rows, origins })
+    }
+
+    /// The address from which an arrival came.
+    ///
+    /// # Errors
+    /// `Unfinished`.
+    fn origin_of(
+        &self,
+        slots: &[Option<Arrival>],
+        arrival: &Arrival,
+    ) -> Result<Option<u32>, ExplainError>
+        requires come { AreCome self.now slots.now }
+        requires arrival { IsCome self.now slots.now arrival.now }
+        ensures { IfOk result
+            (IsOrigin (code_seen self.now) self.now.chunk.now arrival.now.row) }
+    {
+        let Some(place) = arrival.from else {
+            return Ok(None);
+        };
+        match slots.get(place) {
+            Some(Some(before)) => Ok(Some(before.row.at)),
+            _ => Err(ExplainError::Unfinished),
+        }
+    }
+
+    /// Tests that the rows of a walk that met no flaw are a typing, or else too deep.
+    ///
+    /// # Errors
+    /// `OutOfMemory`, `Unfinished`.
+    fn certify(
+        &self,
+        slots: &[Option<Arrival>],
+        rows: &[Row],
+    ) -> Result<Option<Refusal>, ExplainError>
+        requires ready { IsReadyScene self.now }
+        requires come { AreCome self.now slots.now }
+        requires reached { All (IsReachedRow (code_seen self.now) self.now.chunk.now) rows.now }
+        ensures { IfOk result (λ r. MatchOption r
+            (IsTypedBy (code_seen self.now) self.now.chunk.now rows.now) (IsRefusalAt self.now)) }
+    {
+        match check_typing(self.caps, self.code, self.chunk, self.pools, rows) {
+            Ok(()) => Ok(None),
+            Err(TypingError::TooDeep { .. }) => Ok(Some(self.too_deep(slots, rows)?)),
+            Err(_) => Err(ExplainError::Unfinished),
+        }
+    }
+
+    /// The refusal of a chunk that is deeper than it declares.
+    ///
+    /// # Errors
+    /// `OutOfMemory`, `Unfinished`.
+    fn too_deep(&self, slots: &[Option<Arrival>], rows: &[Row]) -> Result<Refusal, ExplainError>
+        requires ready { IsReadyScene self.now }
+        requires come { AreCome self.now slots.now }
+        requires reached { All (IsReachedRow (code_seen self.now) self.now.chunk.now) rows.now }
+        ensures { IfOk result (IsRefusalAt self.now) }
+    {
+        let needed = greatest(rows);
+        let declared = self.chunk.max_stack();
+        let claim = Claim {
+            caps: self.caps,
+            code: self.code,
+            chunk: self.chunk,
+            pools: self.pools,
+            rows,
+            most: u32::MAX,
+        };
+        if needed <= u32::from(declared) || claim.check().is_err() {
+            return Err(ExplainError::Unfinished);
+        }
+        match self.deepest(slots, needed) {
+            Some(here) => {
+                let error = VerifyError::StackExceedsDeclared {
+                    needed: needed as usize,
+                    declared,
+                };
+                self.refuse(slots, here, error)
+            }
+            None => Err(ExplainError::Unfinished),
+        }
+    }
+
+    /// What was come to with so many operands.
+    fn deepest<'a>(&self, slots: &'a [Option<Arrival>], operands: u32) -> Option<&'a Arrival>
+        requires { AreCome self.now slots.now }
+        ensures come { IfSome result (λ a. IsCome self.now slots.now a.now) }
+        ensures deep { IfSome result (λ a. a.now.row.operands ≡ operands) }
+    {
+        for slot in slots {
+            if let Some(arrival) = slot {
+                if arrival.row.operands == operands {
+                    return Some(arrival);
+                }
+            }
+        }
+        None
+    }
+}
+
+/// The greatest number of operands of a row.
+fn greatest(rows: &[Row]) -> u32
+    ensures { All (λ r. r.operands ≤ result) rows.now }
+{
+    let mut most = 0;
+    for row in rows {
+        most = most.max(row.operands);
+    }
+    most
+}
