@@ -9,7 +9,7 @@ use Rattle.grain_rules.specs.Accepted.{ChunkPasses}
 use Rattle.grain_rules.specs.Code.{Bytecode}
 use Rattle.grain_rules.proofs.Exact.{no_flaw}
 use Rattle.grain_explain.specs.Explaining.{IsExact, IsExplained, IsTypedBy}
-use Rattle.grain_explain.specs.Ways.{IsRefusal}
+use Rattle.grain_explain.specs.Ways.{IsShownRefusal}
 use Rattle.grain_explain.specs.declared.refusal.ExplainedChunk.{ExplainedChunk}
 use Rattle.grain_explain.specs.declared.refusal.Refusal.{Refusal}
 use Rattle.grain_explain.specs.declared.row.Row.{Row}
@@ -22,7 +22,7 @@ pub chunk_more : {Y : Type 0} (R : Span → Y → Type 0) (chunks : List Span) (
 chunk_more {Y} R chunks ys i x y l e h r =
     subst (λ (zs : List Span). AllZip R zs (ys ++ y ∷ [])) (sym (take_more chunks i x l)) (zip_push R (take i chunks) ys (get_or chunks i x) y h (subst (λ (z : Span). R z y) e r))
 
-exact_by : (code : Bytecode) (chunk : Span) (rows : List Row) (o : Option Refusal) → MatchOption o (IsTypedBy code chunk rows) (IsRefusal code chunk) → (o ≡ None) ↔ ChunkPasses code chunk
+exact_by : (code : Bytecode) (chunk : Span) (rows : List Row) (o : Option Refusal) → MatchOption o (IsTypedBy code chunk rows) (IsShownRefusal code chunk) → (o ≡ None) ↔ ChunkPasses code chunk
 exact_by code chunk rows None h = (λ e. chunk_passes code chunk rows h.certificate, λ p. refl)
 exact_by code chunk rows (Some r) h = (λ e. absurd (none-some r (sym e)), λ p. absurd (no_flaw code chunk r.error p h.flaw))
 

@@ -8,7 +8,7 @@ use Rattle.grain_rules.specs.Counts.{Counts}
 use Rattle.grain_rules.specs.Typing.{Reached}
 use Rattle.grain_explain.specs.Certificate.{IsCertificate}
 use Rattle.grain_explain.specs.RowView.{counts_of, typing_of}
-use Rattle.grain_explain.specs.Ways.{Follows, IsRefusal, first_stop, row_stop}
+use Rattle.grain_explain.specs.Ways.{Follows, IsShownRefusal, first_stop, row_stop}
 use Rattle.grain_explain.specs.declared.refusal.ExplainedChunk.{ExplainedChunk}
 use Rattle.grain_explain.specs.declared.row.Row.{Row}
 
@@ -31,7 +31,7 @@ pub record IsTypedBy (code : Bytecode) (chunk : Span) (rows : List Row) : Type 0
 pub record IsExplained (code : Bytecode) (chunk : Span) (x : ExplainedChunk) : Type 0 where
   pub reached : All (IsReachedRow code chunk) x.rows.items
   pub origins : AllZip (IsOrigin code chunk) x.rows.items x.origins.items
-  pub explains : MatchOption x.refusal (IsTypedBy code chunk x.rows.items) (IsRefusal code chunk)
+  pub explains : MatchOption x.refusal (IsTypedBy code chunk x.rows.items) (IsShownRefusal code chunk)
 
 -- it isn't refused exactly where the chunk passes
 abbrev pub IsExact : Bytecode → Span → ExplainedChunk → Type 0

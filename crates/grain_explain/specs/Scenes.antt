@@ -13,7 +13,7 @@ use Rattle.grain_rules.specs.declared.error.VerifyError.{VerifyError}
 use Rattle.grain_rules.specs.declared.error.VerifyError.TheVariants as flaws
 use Rattle.grain_explain.specs.Lacking.{Does}
 use Rattle.grain_explain.specs.RowView.{counts_of}
-use Rattle.grain_explain.specs.Ways.{Follows, IsRefusal, arrival_stop, first_stop}
+use Rattle.grain_explain.specs.Ways.{Follows, IsShownRefusal, arrival_stop, first_stop}
 use Rattle.grain_explain.specs.declared.arrival.Arrival.{Arrival}
 use Rattle.grain_explain.specs.declared.needs.Lack.{Lack}
 use Rattle.grain_explain.specs.declared.needs.Lack.TheVariants as lacks
@@ -62,7 +62,7 @@ pub record IsSearching (s : Scene) (x : Search) : Type 0 where
   pub waits : All (IsCome s x.slots.items) x.work.items
 
 abbrev pub IsRefusalAt : Scene → Refusal → Type 0
-IsRefusalAt s r = IsRefusal (code_seen s) s.chunk.now r
+IsRefusalAt s r = IsShownRefusal (code_seen s) s.chunk.now r
 
 -- an instruction that passes is left: this is what it does, and where the next one stands
 pub record IsLeft (s : Scene) (d : Departure) : Type 0 where

@@ -105,6 +105,6 @@ pub data IsWitness (code : Bytecode) (chunk : Span) : List Stop → List Stop �
       → expected ≡ x.1.operands → found ≡ y.1.operands → IsWitness code chunk way other (flaws.DepthConflict at expected found)
 
 -- the refusal names a flaw of the chunk, and its ways show it
-pub record IsRefusal (code : Bytecode) (chunk : Span) (r : Refusal) : Type 0 where
+pub record IsShownRefusal (code : Bytecode) (chunk : Span) (r : Refusal) : Type 0 where
   pub flaw : ChunkFlaw code chunk r.error
   pub witness : IsWitness code chunk (stops_of r.way.items) (stops_of r.other.items) r.error
