@@ -1,5 +1,6 @@
 -- Starts, frames and arrivals.
-use Rattle.std.proofs.Common.{◌≡◌, ◌⊎◌, inl, inr, ℕ, ◌<◌, List, [], length, get_or, Option, Some, None, set, zero, suc, true, false, nat_lt, Result, Ok, Err, OnOk, refl, sym, ap, subst, ◌∙◌, arith, ◌++◌, ◌∷◌}
+use Rattle.std.proofs.Common.{◌≡◌, ◌⊎◌, inl, inr, ℕ, ◌<◌, List, [], length, get_or, Option, Some, None, set, zero, suc, true, false, nat_lt, Result, Ok, Err, OnOk}
+use Rattle.std.proofs.Common.{refl, sym, ap, subst, ◌∙◌, arith, ◌++◌, ◌∷◌}
 use Rattle.std.specs.List.{All, AllZip, Contains}
 use Rattle.std.specs.Result.{is_err}
 use Rattle.std.specs.Prelude.{MatchOption}

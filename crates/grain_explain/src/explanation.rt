@@ -110,7 +110,8 @@ impl Scene<'_> {
         requires { AreCome self.now slots.now }
         ensures reached { IfOk result
             (λ x. All (IsReachedRow (code_seen self.now) self.now.chunk.now) x.rows.items) }
-        ensures origins { IfOk result (λ x. AllZip (IsOrigin (code_seen self.now) self.now.chunk.now)
+        ensures origins { IfOk result (λ x.
+            AllZip (IsOrigin (code_seen self.now) self.now.chunk.now)
             x.rows.items x.origins.items) }
     {
         let mut rows = Vec::new(self.alloc);

@@ -87,7 +87,8 @@ impl Scene<'_> {
     /// `JumpOutOfRange` or `JumpIntoAnInstruction`.
     pub(crate) fn check_target(&self, at: u32, target: u32) -> Result<(), VerifyError>
         requires { IsStarted self.now }
-        ensures inside { OnOk result (IsInChunk (coded (code_seen self.now)) self.now.chunk.now target) }
+        ensures inside { OnOk result
+            (IsInChunk (coded (code_seen self.now)) self.now.chunk.now target) }
         ensures err { IfErr result (MissesTarget self.now at target) }
     {
         let at = at as usize;

@@ -1,12 +1,14 @@
 //! The walk over one chunk: what it comes to, how, and the flaw that it meets.
-ghost use Rattle.std.specs.Prelude.{◌≡◌, ◌<◌, None, Some, get_or, length, IfErr, IfOk, IfSome, OnOk};
+ghost use Rattle.std.specs.Prelude.{◌≡◌, ◌<◌, None, Some, get_or, length};
+ghost use Rattle.std.specs.Prelude.{IfErr, IfOk, IfSome, OnOk};
 ghost use Rattle.std.specs.List.{All};
 ghost use Rattle.grain_rules.specs.Flaw.{ChunkFlaw};
 ghost use Rattle.grain_rules.specs.FlowFields.{targets_for};
 ghost use Rattle.grain_explain.specs.EffectView.{flow_view};
 ghost use Rattle.grain_explain.specs.OnEdges.{counts_on};
 ghost use Rattle.grain_explain.specs.Claimed.{jumping};
-ghost use Rattle.grain_explain.specs.Scenes.{AreCome, IsCome, IsReadyScene, IsRefusalAt, IsSearching};
+ghost use Rattle.grain_explain.specs.Scenes.{AreCome, IsCome, IsReadyScene, IsRefusalAt};
+ghost use Rattle.grain_explain.specs.Scenes.{IsSearching};
 ghost use Rattle.grain_explain.specs.Scenes.{IsLeft, MissesTargetOf, code_seen, error_lacking};
 ghost use Rattle.grain_explain.specs.Ways.{IsWayTo, Shows, arrival_stop, stops_of};
 
@@ -280,7 +282,8 @@ impl Scene<'_> {
         work: &mut Vec<Arrival>,
     ) -> Result<(), ExplainError>
         requires left { IsLeft self.now departure.now }
-        requires edge { counts_on edge.now ≡ jumping departure.now.here.now.row departure.now.effect.now }
+        requires edge { counts_on edge.now
+            ≡ jumping departure.now.here.now.row departure.now.effect.now }
         requires targets { targets.now ≡ targets_for (code_seen self.now).switches
             (flow_view departure.now.effect.now.flow) }
         requires waits { All (IsCome self.now departure.now.slots.now) work.old.items }
@@ -308,7 +311,8 @@ impl Scene<'_> {
     ) -> Result<Refusal, ExplainError>
         requires come { AreCome self.now slots.now }
         requires here { IsCome self.now slots.now here.now }
-        requires shows { Shows (code_seen self.now) self.now.chunk.now (arrival_stop here.now) error }
+        requires shows { Shows (code_seen self.now) self.now.chunk.now
+            (arrival_stop here.now) error }
         requires flaw { ChunkFlaw (code_seen self.now) self.now.chunk.now error }
         ensures { IfOk result (IsRefusalAt self.now) }
     {

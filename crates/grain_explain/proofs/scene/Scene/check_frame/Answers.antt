@@ -33,7 +33,8 @@ returns-then-not-is_start-clause-err c =
     let inside = c.if-end-len.false in
     let ordered = c.if-entry-end.false in
     let unlike = c.if-entry-end-2.false in
-    let none : IsStart c.args.self.now.code.now chunk.entry → ⊥ = λ s. (let t : c.is_start.result ≡ true = c.is_start.ensures.1 (subst (IsStart c.args.self.now.code.now) (sym entry) s) in let f = c.if-not-is_start.true in cc) in
+    let code = c.args.self.now.code.now in
+    let none : IsStart code chunk.entry → ⊥ = λ s. (let t : c.is_start.result ≡ true = c.is_start.ensures.1 (subst (IsStart code) (sym entry) s) in let f = c.if-not-is_start.true in cc) in
     (inl (omega arith, omega arith, entry, inl (c.entry-then-not-is_start.ensures, none)), no_bound (inl (c.entry-then-not-is_start.ensures, none)))
 
 pub returns-then-not-is_boundary-clause-err : goal.returns-then-not-is_boundary-clause-err

@@ -19,9 +19,11 @@ loop-slot-preserved c =
           let come = c.requires c.loop-slot.slot-index w.in-Some.arrival (slot_held c.args.slots.now c.loop-slot.slot-index c.slot-item.result w.in-Some.arrival c.loop-slot-test.true c.slot-item.is w.in-Some.is) in
           record {
             reached = rw (w.rows-is, w.in_ok-push.ensures.items)
-                (All-push (IsReachedRow code chunk) c.loop-slot.rows.items _ c.loop-slot.invariant.reached (reached_along code chunk w.in-Some.arrival.row w.in_ok-copied.field-0 (sym w.in_ok-copied.ensures) come.reached));
+                (All-push (IsReachedRow code chunk) c.loop-slot.rows.items _ c.loop-slot.invariant.reached
+                (reached_along code chunk w.in-Some.arrival.row w.in_ok-copied.field-0 (sym w.in_ok-copied.ensures) come.reached));
             origins = rw (w.rows-is, w.in_ok-push.ensures.items, w.origins-is, w.in_ok-push-2.ensures.items)
-                (zip_push (IsOrigin code chunk) c.loop-slot.rows.items c.loop-slot.origins.items _ _ c.loop-slot.invariant.origins (origin_along code chunk w.in-Some.arrival.row w.in_ok-copied.field-0 _ (sym w.in_ok-copied.ensures) w.in_ok-origin.ensures));
+                (zip_push (IsOrigin code chunk) c.loop-slot.rows.items c.loop-slot.origins.items _ _ c.loop-slot.invariant.origins
+                (origin_along code chunk w.in-Some.arrival.row w.in_ok-copied.field-0 _ (sym w.in_ok-copied.ensures) w.in_ok-origin.ensures));
           }
       | in_default w ↦ rw (w.rows-is, w.origins-is) c.loop-slot.invariant
     ]
