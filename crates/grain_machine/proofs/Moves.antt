@@ -119,7 +119,7 @@ pub plain_on : (r : Runs) (s : State) (op : Op) (behind needs' takes' gives' x :
 plain_on r s op behind needs' takes' gives' x at plain e =
     let c = plain_after r s op needs' takes' gives' plain in
     goes_on r s op behind x s.machine.iterators s.machine.handlers at
-        (ap falls_for plain.falls) (e ∙ ap (λ (d : Counts). d.operands) (sym c)) (ap (λ (d : Counts). d.iterators) (sym c)) (plain_handlers s.machine op plain.falls)
+    (ap falls_for plain.falls) (e ∙ ap (λ (d : Counts). d.operands) (sym c)) (ap (λ (d : Counts). d.iterators) (sym c)) (plain_handlers s.machine op plain.falls)
 
 pub plain_room : (r : Runs) (s : State) (op : Op) (behind needs' takes' gives' : ℕ) → IsAt r s op behind
     → IsForHost (setting_of r.program) op needs' takes' gives' → s.machine.operands - takes' + gives' ≤ s.room

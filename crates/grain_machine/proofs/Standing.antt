@@ -59,5 +59,8 @@ is_at r s op behind runs ready stands e =
       next = e;
       asked = record {
         met = record { state = s.machine; on_run = ready.0; here = refl; finds = record { stands = p.stands; meets = p.meets } };
-        allowed = p.allowed; found = found_here r.program s.machine.address op runs.finds p.stands.within.place stands; operands = refl };
+        allowed = p.allowed;
+        found = found_here r.program s.machine.address op runs.finds p.stands.within.place stands;
+        operands = refl;
+      };
     }

@@ -17,8 +17,8 @@ invariant_of-result c =
     let inside : c.args.index < length c.self.inside.program.now.functions = omega arith in
     let long : c.args.index + 1 < length c.self.inside.numbers.items = omega arith in
     runnable _ (c.args.index + 1) _ c.index.result.now c.self.invariant
-        (function_chunk c.self.inside.program.now c.functions.result.now c.args.index c.index-functions-index.result c.functions.ensures inside)
-        (place_of c.self.inside.numbers.items (c.args.index + 1) c.index.result.now c.index.ensures long)
+    (function_chunk c.self.inside.program.now c.functions.result.now c.args.index c.index-functions-index.result c.functions.ensures inside)
+    (place_of c.self.inside.numbers.items (c.args.index + 1) c.index.result.now c.index.ensures long)
 
 pub returns-clause-chunk : goal.returns-clause-chunk
 returns-clause-chunk c =

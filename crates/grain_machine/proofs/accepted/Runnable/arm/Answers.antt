@@ -10,4 +10,4 @@ returns-in-Ok-clause-goes g c =
     let s = c.args.frame.now in
     let armed : Handler = record { target = c.args.target; operands = s.machine.operands; iterators = s.machine.iterators; spent = false } in
     rw (c.go.ensures, c.in-Ok.ensures)
-        (goes_on r s (ops.PushHandler c.args.target c.args.name) c.args.next s.machine.operands s.machine.iterators (armed ∷ s.machine.handlers) c.requires refl (omega arith) (omega arith) refl)
+    (goes_on r s (ops.PushHandler c.args.target c.args.name) c.args.next s.machine.operands s.machine.iterators (armed ∷ s.machine.handlers) c.requires refl (omega arith) (omega arith) refl)

@@ -10,7 +10,7 @@ returns-in-Ok-begin-clause-goes g c =
     let r = c.args.self.now in
     let s = c.args.frame.now in
     rw (c.go.ensures, c.in-Ok-begin.ensures, c.pop-value.ensures)
-        (goes_on r s ops.IterInit c.args.next (s.machine.operands - 1) (s.machine.iterators + 1) s.machine.handlers c.requires refl (omega arith) (omega arith) refl)
+    (goes_on r s ops.IterInit c.args.next (s.machine.operands - 1) (s.machine.iterators + 1) s.machine.handlers c.requires refl (omega arith) (omega arith) refl)
 
 pub returns-in-Err-clause-goes : goal.returns-in-Err-clause-goes
 returns-in-Err-clause-goes g c =

@@ -17,14 +17,14 @@ returns-in-Ok-false-clause-goes g c =
     let r = c.args.self.now in
     let s = c.args.frame.now in
     rw (c.go-in-Ok-false.ensures, c.condition.ensures)
-        (goes_to r s (ops.JumpIfFalse c.args.target) c.args.next c.args.target (s.machine.operands - 1) s.machine.iterators s.machine.handlers c.requires refl (in_head _ []) (omega arith) (omega arith) refl)
+    (goes_to r s (ops.JumpIfFalse c.args.target) c.args.next c.args.target (s.machine.operands - 1) s.machine.iterators s.machine.handlers c.requires refl (in_head _ []) (omega arith) (omega arith) refl)
 
 pub returns-in-Err-clause-goes : goal.returns-in-Err-clause-goes
 returns-in-Err-clause-goes g c =
     let r = c.args.self.now in
     let s = c.args.frame.now in
     on_ok_weaker c.raise.result
-        (λ l. popped_back r s c.condition.new.self c.raise.new.frame (ops.JumpIfFalse c.args.target) c.args.next c.requires refl refl c.condition.ensures l c.raise.ensures.room) c.raise.ensures.lands
+    (λ l. popped_back r s c.condition.new.self c.raise.new.frame (ops.JumpIfFalse c.args.target) c.args.next c.requires refl refl c.condition.ensures l c.raise.ensures.room) c.raise.ensures.lands
 
 pub returns-in-Err-clause-ends : goal.returns-in-Err-clause-ends
 returns-in-Err-clause-ends g c =

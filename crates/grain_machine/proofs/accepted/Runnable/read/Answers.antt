@@ -30,4 +30,4 @@ returns g c =
     let stands = subst (λ (o : Op). StandsAt c.code.result.now c.at-at.result o) same there.1 in
     let w = instr_width (i.tag ∷ i.fields.now) op is in
     is_at r s op (c.at-at.result + c.width.result) runs c.requires
-        (stands_along c.code.result.now r.program.code c.at-at.result s.machine.address op (sym code) (sym c.at-at.ensures) stands) (omega (arith, c.width.ensures, c.at-at.ensures))
+    (stands_along c.code.result.now r.program.code c.at-at.result s.machine.address op (sym code) (sym c.at-at.ensures) stands) (omega (arith, c.width.ensures, c.at-at.ensures))

@@ -15,4 +15,4 @@ returns-else-is_unit g c =
     let r = c.args.self.now in
     let s = c.args.frame.now in
     rw c.go-else-is_unit.ensures
-        (goes_to r s (ops.SkipIfNotUnit c.args.target) c.args.next c.args.target s.machine.operands s.machine.iterators s.machine.handlers c.requires refl (in_head _ []) (omega arith) (omega arith) refl)
+    (goes_to r s (ops.SkipIfNotUnit c.args.target) c.args.next c.args.target s.machine.operands s.machine.iterators s.machine.handlers c.requires refl (in_head _ []) (omega arith) (omega arith) refl)

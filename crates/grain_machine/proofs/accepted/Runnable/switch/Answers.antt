@@ -23,7 +23,7 @@ returns-in-Ok-clause-goes g c =
     let all = c.switches.ensures ∙ ap (λ (x : Runs). x.program.switches) c.self.view_is in
     let at = subst (λ (xs : List Switch). d ≡ get_or xs c.args.index d) all c.index-switches-index.is in
     let among = among_targets r.program.switches c.args.index c.in-Ok.target d
-        (switch_within r.program c.args.index c.requires.asked.found) (subst (λ (w : Switch). Contains (switch_targets w) c.in-Ok.target) at c.in-Ok.ensures) in
+    (switch_within r.program c.args.index c.requires.asked.found) (subst (λ (w : Switch). Contains (switch_targets w) c.in-Ok.target) at c.in-Ok.ensures) in
     rw c.go.ensures (goes_to r s (ops.Switch c.args.index) c.args.next c.in-Ok.target s.machine.operands s.machine.iterators s.machine.handlers c.requires refl among (omega arith) (omega arith) refl)
 
 pub returns-in-Err-clause-goes : goal.returns-in-Err-clause-goes

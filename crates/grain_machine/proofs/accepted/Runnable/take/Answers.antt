@@ -15,7 +15,7 @@ returns-in-Err-clause-goes g c =
     let r = c.args.self.now in
     let s = c.args.frame.now in
     on_ok_weaker c.raise.result
-        (λ l. plain_back r s c.take.new.self c.raise.new.frame c.args.op.now c.args.next c.args.needs c.args.takes 0 c.requires.at c.requires.plain c.in-Err.ensures.err l c.raise.ensures.room) c.raise.ensures.lands
+    (λ l. plain_back r s c.take.new.self c.raise.new.frame c.args.op.now c.args.next c.args.needs c.args.takes 0 c.requires.at c.requires.plain c.in-Err.ensures.err l c.raise.ensures.room) c.raise.ensures.lands
 
 pub returns-in-Err-clause-ends : goal.returns-in-Err-clause-ends
 returns-in-Err-clause-ends g c =

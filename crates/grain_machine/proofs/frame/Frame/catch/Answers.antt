@@ -11,7 +11,7 @@ returns-then-not-handler-clause-caught g c =
     let rest = innermost_first c.pop.new.self.items in
     let popped : innermost_first c.loop-handler.self-inside.handlers.items ≡ handler_of h ∷ rest = ap innermost_first c.in-Some.ensures.items ∙ last_first c.pop.new.self.items h in
     let pushed : innermost_first c.push_reserved.new.self.items ≡ record (handler_of h) { spent = true } ∷ rest =
-        ap innermost_first c.push_reserved.ensures.items ∙ last_first c.pop.new.self.items (record h { spent = true }) in
+    ap innermost_first c.push_reserved.ensures.items ∙ last_first c.pop.new.self.items (record h { spent = true }) in
     let seen : c.args.self.now.machine.handlers ≡ innermost_first c.self.inside.handlers.items = ap (λ (s : State). s.machine.handlers) (sym c.self.view_is) in
     let operands : vec_len c.loop-handler.self-inside.operands ≡ c.args.self.now.machine.operands = ap vec_len c.loop-handler.invariant.rest ∙ ap (λ (s : State). s.machine.operands) c.self.view_is in
     let iterators : vec_len c.loop-handler.self-inside.iterators ≡ c.args.self.now.machine.iterators = ap vec_len c.loop-handler.invariant.iterators ∙ ap (λ (s : State). s.machine.iterators) c.self.view_is in
