@@ -1,0 +1,5 @@
+//! The tests of `grain_machine`, which call it as a host does: a test that changes has no crate proved again but this one.
+#![tactic(auto)]
+
+#[cfg(test)]
+mod runs;

@@ -1,0 +1,383 @@
+use grain::{Caps, Cut, Dynamic, Flags, Op, Parts, Positions, Program, Strings, Switch, build};
+use grain_machine::{Ending, Host, How, Request, Runnable, accept, dispatch};
+use std::alloc::{AllocError, Global};
+use std::test::Fail;
+
+/// Integers and lists of them, with local variables.
+#[derive(Drop)]
+struct Script {
+    alloc: Global,
+    locals: Vec<i64>,
+    caught: Vec<i64>,
+}
+
+#[derive(Drop)]
+enum Fault {
+    Thrown(Dynamic),
+    Wrong,
+    Stopped,
+    OutOfMemory,
+}
+
+fn number(value: Option<&Dynamic>) -> i64 {
+    match value {
+        Some(Dynamic::Int(x)) => *x,
+        _ => 0,
+    }
+}
+
+impl Host for Script {
+    type Value = Dynamic;
+
+    type Iterator = Vec<i64>;
+
+    type Fault = Fault;
+
+    fn unit(&mut self) -> Dynamic {
+        Dynamic::Unit
+    }
+
+    fn boolean(&mut self, value: bool) -> Dynamic {
+        Dynamic::Bool(value)
+    }
+
+    fn unwind_to(&mut self, depth: u16) {
+        self.locals.truncate(depth as usize);
+    }
+
+    fn give(&mut self, request: &Request<'_>, operands: &mut [Dynamic]) -> Result<Dynamic, Fault> {
+        match request.op {
+            Op::Const(index) => Ok(Dynamic::Int(number(
+                request.program.consts().get(*index as usize),
+            ))),
+            Op::LoadLocal(slot) => match self.locals.get(*slot as usize) {
+                Some(x) => Ok(Dynamic::Int(*x)),
+                None => Err(Fault::Wrong),
+            },
+            // `0` adds, `1` compares, `3` stops the script, anything else divides.
+            Op::Call { name, .. } => {
+                let a = number(operands.get(0));
+                let b = number(operands.get(1));
+                match *name {
+                    0 => Ok(Dynamic::Int(a.wrapping_add(b))),
+                    1 => Ok(Dynamic::Bool(a < b)),
+                    3 => Err(Fault::Stopped),
+                    _ => match a.checked_div(b) {
+                        Some(x) => Ok(Dynamic::Int(x)),
+                        None => Err(Fault::Wrong),
+                    },
+                }
+            }
+            Op::MakeArray(_) => {
+                let mut items = Vec::new(self.alloc);
+                for operand in operands.iter() {
+                    if items.push(Dynamic::Int(number(Some(operand)))).is_err() {
+                        return Err(Fault::OutOfMemory);
+                    }
+                }
+                Ok(Dynamic::Array(items))
+            }
+            _ => Err(Fault::Wrong),
+        }
+    }
+
+    fn take(&mut self, request: &Request<'_>, operands: &mut [Dynamic]) -> Result<(), Fault> {
+        match request.op {
+            Op::DeclareLocal { .. } => match self.locals.push(number(operands.get(0))) {
+                Ok(()) => Ok(()),
+                Err(_) => Err(Fault::OutOfMemory),
+            },
+            Op::AssignLocal { slot, .. } => match self.locals.get_mut(*slot as usize) {
+                Some(local) => {
+                    *local = number(operands.get(0));
+                    Ok(())
+                }
+                None => Err(Fault::Wrong),
+            },
+            Op::Tick => Ok(()),
+            _ => Err(Fault::Wrong),
+        }
+    }
+
+    fn is_true(&mut self, value: &Dynamic) -> Result<bool, Fault> {
+        match value {
+            Dynamic::Bool(value) => Ok(*value),
+            _ => Err(Fault::Wrong),
+        }
+    }
+
+    fn is_unit(&mut self, value: &Dynamic) -> bool {
+        match value {
+            Dynamic::Unit => true,
+            _ => false,
+        }
+    }
+
+    fn dispatch(&mut self, switch: &Switch, subject: &Dynamic) -> Result<u32, Fault> {
+        Ok(dispatch(switch, subject))
+    }
+
+    fn begin(&mut self, value: Dynamic) -> Result<Vec<i64>, Fault> {
+        let Dynamic::Array(items) = value else {
+            return Err(Fault::Wrong);
+        };
+        let mut numbers = Vec::new(self.alloc);
+        for item in items.iter().rev() {
+            if numbers.push(number(Some(item))).is_err() {
+                return Err(Fault::OutOfMemory);
+            }
+        }
+        Ok(numbers)
+    }
+
+    fn advance(
+        &mut self,
+        iterator: &mut Vec<i64>,
+        _: Option<u16>,
+    ) -> Result<Option<Dynamic>, Fault> {
+        Ok(iterator.pop().map(|x| Dynamic::Int(x)))
+    }
+
+    fn thrown(&mut self, value: Dynamic) -> Fault {
+        Fault::Thrown(value)
+    }
+
+    fn caught(&mut self, fault: Fault, _: Option<u32>) -> Result<(), Fault> {
+        let number = match fault {
+            Fault::Thrown(value) => number(Some(&value)),
+            Fault::Wrong => -1,
+            Fault::Stopped => return Err(Fault::Stopped),
+            Fault::OutOfMemory => return Err(Fault::OutOfMemory),
+        };
+        match self.caught.push(number) {
+            Ok(()) => Ok(()),
+            Err(_) => Err(Fault::OutOfMemory),
+        }
+    }
+}
+
+fn local(slot: u16) -> Op {
+    Op::AssignLocal {
+        slot,
+        var_name: 0,
+        op: None,
+    }
+}
+
+fn call(name: u32) -> Op {
+    Op::Call {
+        name,
+        argc: 2,
+        op: None,
+        capture_parent_scope: false,
+    }
+}
+
+fn declare() -> Op {
+    Op::DeclareLocal {
+        name: 0,
+        is_const: false,
+        is_global: false,
+    }
+}
+
+/// The operations as a program, whose constants are 0, 1, 2 and so on.
+fn program(alloc: Global, ops: &[Op]) -> Result<Program, Fail> {
+    let mut consts = Vec::new(alloc);
+    for x in 0..10 {
+        consts.push(Dynamic::Int(x))?;
+    }
+    let parts = Parts {
+        positions: Positions::Stripped,
+        debug_id: 0,
+        residuals: 0,
+        consts,
+        names: Strings::new(alloc, &["+", "<", "/", "stop"])?,
+        tokens: Vec::new(alloc),
+        assign_ops: Vec::new(alloc),
+        chains: Vec::new(alloc),
+        switches: Vec::new(alloc),
+        source: None,
+    };
+    let cut = Cut {
+        first: 0,
+        end: ops.len(),
+        max_stack: 8,
+    };
+    let (program, _) = build(alloc, Caps::all(), ops, &[cut], Vec::new(alloc), parts)?;
+    Ok(program)
+}
+
+/// How a run ended, with the integer that it returned or threw.
+#[derive(Clone, Copy, Debug, PartialEq, Eq)]
+enum Outcome {
+    Returned(i64),
+    Thrown(i64),
+    Wrong,
+    Stopped,
+    OutOfFuel,
+    OutOfMemory,
+}
+
+fn told(how: How<Dynamic, Fault>) -> Outcome {
+    match how {
+        How::Returned(Some(Dynamic::Int(x))) => Outcome::Returned(x),
+        How::Returned(_) => Outcome::Wrong,
+        How::Faulted(Fault::Thrown(Dynamic::Int(x))) => Outcome::Thrown(x),
+        How::Faulted(_) => Outcome::Wrong,
+        How::Uncatchable(_) => Outcome::Stopped,
+        How::OutOfFuel => Outcome::OutOfFuel,
+        How::OutOfMemory => Outcome::OutOfMemory,
+    }
+}
+
+/// How a run of the chunk ends, and where.
+fn ended(
+    main: &Runnable<'_>,
+    alloc: Global,
+    script: &mut Script,
+    fuel: u64,
+) -> Result<(Outcome, usize), AllocError> {
+    let ending = main.run(alloc, script, fuel)?;
+    let at = ending.at;
+    Ok((told(ending.how), at))
+}
+
+/// How a run of the operations ends, where, and what was caught in it.
+fn ran(alloc: Global, ops: &[Op], fuel: u64) -> Result<(Outcome, usize, Vec<i64>), Fail> {
+    let program = program(alloc, ops)?;
+    let accepted = accept(&program)?;
+    let main = accepted.main();
+    let mut script = Script {
+        alloc,
+        locals: Vec::new(alloc),
+        caught: Vec::new(alloc),
+    };
+    let (told, at) = ended(&main, alloc, &mut script, fuel)?;
+    let Script {
+        alloc: _,
+        locals: _,
+        caught,
+    } = script;
+    Ok((told, at, caught))
+}
+
+/// Whether a run of the operations ends so, there, and with this caught.
+fn ends_so(
+    alloc: Global,
+    ops: &[Op],
+    fuel: u64,
+    told: Outcome,
+    at: usize,
+    caught: &[i64],
+) -> Result<bool, Fail> {
+    let ending = ran(alloc, ops, fuel)?;
+    Ok(ending.0 == told && ending.1 == at && ending.2.as_slice() == caught)
+}
+
+#[test]
+fn a_loop_runs_to_its_end(rt: HostRuntime) -> Result<(), Fail> {
+    // sum = 0; for x in [1, 2, 3] { sum = sum + x }; sum
+    let ops = [
+        Op::Const(0),
+        declare(),
+        Op::Const(1),
+        Op::Const(2),
+        Op::Const(3),
+        Op::MakeArray(3),
+        Op::IterInit,
+        Op::IterNext {
+            exit: 12,
+            counter_slot: None,
+        },
+        Op::LoadLocal(0),
+        call(0),
+        local(0),
+        Op::Jump(7),
+        Op::LoadLocal(0),
+        Op::Return,
+    ];
+    let so = ends_so(rt.alloc(), &ops, 1000, Outcome::Returned(6), 44, &[])?;
+    assert!(rt; so);
+    let so = ends_so(rt.alloc(), &ops, 9, Outcome::OutOfFuel, 27, &[])?;
+    assert!(rt; so);
+    Ok(())
+}
+
+#[test]
+fn faults_are_caught_by_the_innermost_handler(rt: HostRuntime) -> Result<(), Fail> {
+    // try { try { 5 / 0 } catch { throw 7 } } catch { 9 }
+    let ops = [
+        Op::PushHandler {
+            target: 9,
+            catch_var: None,
+        },
+        Op::PushHandler {
+            target: 6,
+            catch_var: None,
+        },
+        Op::Const(5),
+        Op::Const(0),
+        call(2),
+        Op::Return,
+        Op::PopHandler,
+        Op::Const(7),
+        Op::Throw,
+        Op::PopHandler,
+        Op::Const(9),
+        Op::Return,
+    ];
+    let so = ends_so(rt.alloc(), &ops, 1000, Outcome::Returned(9), 30, &[-1, 7])?;
+    assert!(rt; so);
+    let so = ends_so(
+        rt.alloc(),
+        &[Op::Const(4), Op::Throw],
+        1000,
+        Outcome::Thrown(4),
+        3,
+        &[],
+    )?;
+    assert!(rt; so);
+    Ok(())
+}
+
+#[test]
+fn a_fault_that_is_not_let_be_caught_ends_the_run(rt: HostRuntime) -> Result<(), Fail> {
+    // try { stop(1, 2) } catch { 9 }
+    let ops = [
+        Op::PushHandler {
+            target: 5,
+            catch_var: None,
+        },
+        Op::Const(1),
+        Op::Const(2),
+        call(3),
+        Op::Return,
+        Op::PopHandler,
+        Op::Const(9),
+        Op::Return,
+    ];
+    let so = ends_so(rt.alloc(), &ops, 1000, Outcome::Stopped, 11, &[])?;
+    assert!(rt; so);
+    Ok(())
+}
+
+#[test]
+fn branches_go_where_the_condition_says(rt: HostRuntime) -> Result<(), Fail> {
+    // if 1 < 2 { 3 } else { 4 }, and with the numbers the other way round
+    let ops = |a: u32, b: u32| [
+        Op::Const(a),
+        Op::Const(b),
+        call(1),
+        Op::JumpIfFalse { target: 6 },
+        Op::Const(3),
+        Op::Return,
+        Op::Const(4),
+        Op::Return,
+    ];
+    let so = ends_so(rt.alloc(), &ops(1, 2), 1000, Outcome::Returned(3), 18, &[])?;
+    assert!(rt; so);
+    let so = ends_so(rt.alloc(), &ops(2, 1), 1000, Outcome::Returned(4), 22, &[])?;
+    assert!(rt; so);
+    Ok(())
+}
