@@ -31,7 +31,12 @@ BEHIND = "no growth of the call is left"
 PREPARING = {"error: AllocError", "error: AllocFailed { .. }", "error: OutOfMemory"}
 
 # The crates whose tests stand in a crate of their own.
-TESTS = {"grain_bytecode": "grain_bytecode_tests", "grain": "grain_tests"}
+TESTS = {
+    "grain_bytecode": "grain_bytecode_tests",
+    "grain": "grain_tests",
+    "grain_explain": "grain_explain_tests",
+    "grain_machine": "grain_machine_tests",
+}
 
 # The call of each test.
 CALLS = {
@@ -75,6 +80,14 @@ CALLS = {
         "attach_positions": "`Program::attach_positions`",
         "build": "`build`",
         "error_texts": "`Display` of `VerifyError`",
+    },
+    "grain_explain": {
+        "explain_chunks": "`explain_chunks`",
+        "explained_flaw": "`explain_chunks`, `FallsOffTheEnd`",
+    },
+    "grain_machine": {
+        "accept": "`accept`",
+        "run": "`Runnable::run` on a try",
     },
     "grain_check": {
         "run": "`run` on `code` lines",

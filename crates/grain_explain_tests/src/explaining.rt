@@ -1,23 +1,11 @@
 //! README's loops, and its code with a handler, explained and checked.
+use crate::samples::no_pools;
 use grain_base::{Caps, Flags};
 use grain_bytecode::{Chunk, Strings};
 use grain_explain::{Row, TypingError, check_typing, explain_chunks};
-use grain_rules::{Pools, VerifyError};
+use grain_rules::VerifyError;
 use std::alloc::{AllocError, Global};
 use std::test::Fail;
-
-/// Pools in which there is nothing.
-fn no_pools(names: &Strings) -> Pools<'_> {
-    Pools {
-        consts: 0,
-        names,
-        tokens: 0,
-        assign_ops: 0,
-        residuals: 0,
-        chains: &[],
-        switches: &[],
-    }
-}
 
 fn row(alloc: Global, at: u32, operands: u32, iterators: u32) -> Row {
     Row {

@@ -3,3 +3,7 @@
 
 #[cfg(test)]
 mod explaining;
+#[cfg(test)]
+mod growths;
+#[cfg(test)]
+mod samples;

@@ -5,14 +5,14 @@ use std::test::Fail;
 
 /// Integers and lists of them, with local variables.
 #[derive(Drop)]
-struct Script {
+pub(crate) struct Script {
     alloc: Global,
     locals: Vec<i64>,
     caught: Vec<i64>,
 }
 
 #[derive(Drop)]
-enum Fault {
+pub(crate) enum Fault {
     Thrown(Dynamic),
     Wrong,
     Stopped,
@@ -182,7 +182,7 @@ fn declare() -> Op {
 }
 
 /// The operations as a program, whose constants are 0, 1, 2 and so on.
-fn program(alloc: Global, ops: &[Op]) -> Result<Program, Fail> {
+pub(crate) fn program(alloc: Global, ops: &[Op]) -> Result<Program, Fail> {
     let mut consts = Vec::new(alloc);
     for x in 0..10 {
         consts.push(Dynamic::Int(x))?;
@@ -210,7 +210,7 @@ fn program(alloc: Global, ops: &[Op]) -> Result<Program, Fail> {
 
 /// How a run ended, with the integer that it returned or threw.
 #[derive(Clone, Copy, Debug, PartialEq, Eq)]
-enum Outcome {
+pub(crate) enum Outcome {
     Returned(i64),
     Thrown(i64),
     Wrong,
@@ -231,8 +231,17 @@ fn told(how: How<Dynamic, Fault>) -> Outcome {
     }
 }
 
+/// A script that has declared nothing.
+pub(crate) fn idle_script(alloc: Global) -> Script {
+    Script {
+        alloc,
+        locals: Vec::new(alloc),
+        caught: Vec::new(alloc),
+    }
+}
+
 /// How a run of the chunk ends, and where.
-fn ended(
+pub(crate) fn ended(
     main: &Runnable<'_>,
     alloc: Global,
     script: &mut Script,
@@ -248,11 +257,7 @@ fn ran(alloc: Global, ops: &[Op], fuel: u64) -> Result<(Outcome, usize, Vec<i64>
     let program = program(alloc, ops)?;
     let accepted = accept(&program)?;
     let main = accepted.main();
-    let mut script = Script {
-        alloc,
-        locals: Vec::new(alloc),
-        caught: Vec::new(alloc),
-    };
+    let mut script = idle_script(alloc);
     let (told, at) = ended(&main, alloc, &mut script, fuel)?;
     let Script {
         alloc: _,
