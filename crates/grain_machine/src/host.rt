@@ -23,8 +23,8 @@ pub struct Request<'a> {
 
 /// It knows values, iterators and faults, and does what operations do with them.
 ///
-/// Each operation that it is asked for is one that a run of the chunk meets at its address. The program has its
-/// capabilities, and finds its indices; and the host is given just the operands that it needs, the topmost last.
+/// Each operation that `give` and `take` are asked for is one that a kept run of the chunk meets at its address. The program
+/// has its capabilities, and finds its indices; and the host is given just the operands that it needs, the topmost last.
 pub trait Host {
     /// A value of the script.
     type Value: Drop;

@@ -1,7 +1,7 @@
 //! The machine that runs chunks of accepted programs in place, over a host that knows values.
 //!
-//! It tests for no operand, iterator, handler, address or index, and its operand stack has its room from the start: what
-//! [`grain::verify`] accepted is why none of it can lack. What it is to lack is defined in the crate `grain_rules`,
+//! Its operand stack has its room from the start, and what it takes of operands, iterators and handlers is proved to be there:
+//! what [`grain::verify`] accepted is why none of it can lack. What it is to lack is defined in the crate `grain_rules`,
 //! `specs/Machine.antt`.
 #![tactic(auto)]
 

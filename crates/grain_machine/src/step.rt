@@ -51,7 +51,7 @@ impl<'a> Runnable<'a> {
         host: &mut H,
         fuel: u64,
     ) -> Result<Ending<H::Value, H::Fault>, AllocError>
-        // It has gone through a kept run, which ends so.
+        // A kept run of the chunk ends so, there and within the fuel.
         ensures ended { IfOk result (λ ending. IsEnded self.now fuel ending.at ending.how) }
 
         // Without room for its operands no run begins.
