@@ -7,7 +7,7 @@ use Rattle.std.proofs.lemmas.List.Elements.{All-map, All-weaker}
 use Rattle.std.proofs.lemmas.Simd.{map-map}
 use Rattle.grain_base.specs.CapBits.{FUNCTION}
 use Rattle.grain_base.specs.declared.caps.Caps.{Caps}
-use Rattle.grain_code.specs.Assembly.{assembled, retarget}
+use Rattle.grain_code.specs.Assembly.{assembled}
 use Rattle.grain_pools.specs.Dispatch as dispatch
 use Rattle.grain_pools.specs.Dispatch.{Arms, Case, arms, offset_at, resolved, resolved_case, resolved_range, arm_targets}
 use Rattle.grain_code.specs.Fields as fields
@@ -19,7 +19,7 @@ use Rattle.grain_code.specs.declared.function.Function.{Function}
 use Rattle.grain_code.specs.declared.op.Op.{Op}
 use Rattle.grain_pools.specs.declared.switch.Switch.{Switch}
 use Rattle.grain_pools.specs.declared.switch.SwitchRange.{SwitchRange}
-use Rattle.grain_code.proofs.Canonical.{form_canon, form_retarget}
+use Rattle.grain_code.proofs.Canonical.{form_decoded}
 use Rattle.grain_code.proofs.Instructions.{begins_none_nil}
 use Rattle.grain_code.proofs.Splits.{one_front}
 use Rattle.grain_rules.specs.Accepted.{AreDeepest, ChunkPasses, ConstantPasses, IsAccepted}
@@ -68,7 +68,7 @@ module _ (s : Setting) (offsets : List ℕ) (op : Op) where
   own = (form op).1
 
   fields_same : (form (assembled offsets op)).1 ≡ map (fields.moved g) own
-  fields_same = ap (λ (p : ℕ × List Field). p.1) (form_canon (retarget g op) ∙ form_retarget g op)
+  fields_same = ap (λ (p : ℕ × List Field). p.1) (form_decoded g op)
 
   tests_same : tests_of s (assembled offsets op) ≡ tests_of s op
   tests_same =

@@ -47,6 +47,7 @@ pub use Rattle.grain_rules.specs.Effects
 pub use Rattle.grain_rules.specs.Flaw
 pub use Rattle.grain_rules.specs.Flow
 pub use Rattle.grain_rules.specs.FlowFields
+pub use Rattle.grain_rules.specs.EffectView
 pub use Rattle.grain_rules.specs.Indices
 pub use Rattle.grain_rules.specs.Layout
 pub use Rattle.grain_rules.specs.Machine

@@ -23,13 +23,13 @@ pub use grain_base::{
 };
 pub use grain_bytecode::{
     AssembleError, AssignOp, BadTable, Chain, ChainPositions, Chunk, DisassembleError, Disassembly,
-    Field, Function, Head as InstructionHead, Instruction, Lookups, Names, Op, Pool, Positions,
-    Receiver, Root, Starts, Step, StepFlags, Strings, StringsError, StripError, Switch,
+    Field, Fields, Function, Head as InstructionHead, Instruction, Lookups, Names, Op, Pool,
+    Positions, Receiver, Root, Starts, Step, StepFlags, Strings, StringsError, StripError, Switch,
     SwitchRange, TableError, TagFlow, TagRow, Tail, assemble, count_instructions, decode,
-    disassemble, names, resolve_switch_targets, site_to_position, sites, tag, tag_row, u16_at,
-    u32_at, width,
+    disassemble, names, resolve_switch_targets, site_to_position, sites, tag, tag_name, tag_row,
+    u16_at, u32_at, width,
 };
-pub use grain_rules::{Pools, VerifyError, constant_caps};
+pub use grain_rules::{Asks, Effect, Flow, Pools, VerifyError, asked_beside, constant_caps};
 pub use grain_verify::{Meter, Refusal, is_quiet, verify, verify_metered, verify_placed};
 pub use program::{Parts, Program};
 pub use sidecar::Sidecar;

@@ -9,13 +9,13 @@ use Rattle.grain_code.specs.declared.op.Op.{Op}
 use Rattle.grain_code.specs.declared.op.Op.TheVariants as ops
 use Rattle.grain_code.specs.declared.field.Field.{Field}
 use Rattle.grain_code.specs.declared.field.Field.TheVariants.{Index, Slot, Count, Target}
-use Rattle.grain_code.specs.InstructionTable.{form, canon, spelling, width_of}
+use Rattle.grain_code.specs.InstructionTable.{decoded, form, spelling, width_of}
 use Rattle.grain_code.specs.Disassembly.{placed_from, IsDisassembly}
 use Rattle.grain_code.specs.Fields.{moved}
-use Rattle.grain_code.specs.Assembly.{retarget, assembled, offsets_from, IsAssembly, IsWritable, AreWritable, EachWritable, CanAssemble, index_of, with_indices}
+use Rattle.grain_code.specs.Assembly.{assembled, offsets_from, IsAssembly, IsWritable, AreWritable, EachWritable, CanAssemble, index_of, with_indices}
 use Rattle.grain_code.proofs.Instructions.{begins_none_nil}
 use Rattle.grain_code.proofs.Splits.{one_front}
-use Rattle.grain_code.proofs.Canonical.{canon_twice, form_canon, form_retarget, width_retarget, width_assembled}
+use Rattle.grain_code.proofs.Canonical.{decoded_twice, form_decoded, width_decoded, width_assembled}
 use Rattle.grain_code.proofs.Placed.{length-offsets_from}
 
 -- the first index at which a value of the list stands
@@ -29,33 +29,26 @@ first_index xs t inside =
     ] in
     (found, eqb-true _ a (passes_at_first p xs 0 found))
 
-retarget_canon : (g : ℕ → ℕ) (op : Op) → retarget g (canon op) ≡ canon (retarget g op)
-retarget_canon g (ops.CallFnPtr a is_method capture (Some from)) = refl
-retarget_canon g (ops.CallFnPtr a true capture None) = refl
-retarget_canon g (ops.CallFnPtr a false capture None) = refl
-retarget_canon g (ops.DeclareLocal n false is_global) = refl
-retarget_canon g (ops.DeclareLocal n true is_global) = refl
-retarget_canon g op = refl
-
-retarget_twice : (g h : ℕ → ℕ) (op : Op) → retarget g (retarget h op) ≡ retarget (λ t. g (h t)) op
-retarget_twice g h (ops.Jump j) = refl
-retarget_twice g h op = refl
-
 -- maps that agree on the targets that can be written map an operation alike
-retarget_alike : (n : ℕ) (g h : ℕ → ℕ) → ((t : ℕ) → t ≤ n → g t ≡ h t) → (op : Op) → AreWritable n (form op).1 → retarget g op ≡ retarget h op
-retarget_alike n g h same (ops.Jump j) all = ap (λ t. ops.Jump t) (same j all.0)
-retarget_alike n g h same (ops.JumpIfTrue j) all = ap (λ t. ops.JumpIfTrue t) (same j all.0)
-retarget_alike n g h same (ops.JumpIfFalse j) all = ap (λ t. ops.JumpIfFalse t) (same j all.0)
-retarget_alike n g h same (ops.SkipIfNotUnit j) all = ap (λ t. ops.SkipIfNotUnit t) (same j all.0)
-retarget_alike n g h same (ops.IterNext j None) all = ap (λ t. ops.IterNext t None) (same j all.0)
-retarget_alike n g h same (ops.IterNext j (Some s)) all = ap (λ t. ops.IterNext t (Some s)) (same j all.0)
-retarget_alike n g h same (ops.PushHandler j None) all = ap (λ t. ops.PushHandler t None) (same j all.0)
-retarget_alike n g h same (ops.PushHandler j (Some v)) all = ap (λ t. ops.PushHandler t (Some v)) (same j all.0)
-retarget_alike n g h same op all = refl
+decoded_alike : (n : ℕ) (g h : ℕ → ℕ) → ((t : ℕ) → t ≤ n → g t ≡ h t) → (op : Op) → AreWritable n (form op).1 → decoded g op ≡ decoded h op
+decoded_alike n g h same (ops.Jump j) all = ap (λ t. ops.Jump t) (same j all.0)
+decoded_alike n g h same (ops.JumpIfTrue j) all = ap (λ t. ops.JumpIfTrue t) (same j all.0)
+decoded_alike n g h same (ops.JumpIfFalse j) all = ap (λ t. ops.JumpIfFalse t) (same j all.0)
+decoded_alike n g h same (ops.SkipIfNotUnit j) all = ap (λ t. ops.SkipIfNotUnit t) (same j all.0)
+decoded_alike n g h same (ops.IterNext j None) all = ap (λ t. ops.IterNext t None) (same j all.0)
+decoded_alike n g h same (ops.IterNext j (Some s)) all = ap (λ t. ops.IterNext t (Some s)) (same j all.0)
+decoded_alike n g h same (ops.PushHandler j None) all = ap (λ t. ops.PushHandler t None) (same j all.0)
+decoded_alike n g h same (ops.PushHandler j (Some v)) all = ap (λ t. ops.PushHandler t (Some v)) (same j all.0)
+decoded_alike n g h same (ops.CallFnPtr a is_method capture (Some from)) all = refl
+decoded_alike n g h same (ops.CallFnPtr a true capture None) all = refl
+decoded_alike n g h same (ops.CallFnPtr a false capture None) all = refl
+decoded_alike n g h same (ops.DeclareLocal v false is_global) all = refl
+decoded_alike n g h same (ops.DeclareLocal v true is_global) all = refl
+decoded_alike n g h same op all = refl
 
 -- an operation as it is assembled, its target mapped back
 abbrev back : List ℕ → Op → Op
-back offsets op = retarget (index_of offsets) (assembled offsets op)
+back offsets op = decoded (index_of offsets) (assembled offsets op)
 
 -- ... is assembled as it was
 assembled_again : (n : ℕ) (offsets : List ℕ) → length offsets ≡ n + 1 → (op : Op) → AreWritable n (form op).1 → assembled offsets (back offsets op) ≡ assembled offsets op
@@ -63,15 +56,14 @@ assembled_again n offsets long op all =
     let f = slice_index offsets in
     let g = index_of offsets in
     let there : (t : ℕ) → t ≤ n → f (g (f t)) ≡ f t = λ t h. (first_index offsets t (omega arith)).1 in
-    ap (λ o. canon (retarget f o)) (retarget_canon g (retarget f op)) ∙ ap canon (retarget_canon f (retarget g (retarget f op))) ∙ canon_twice (retarget f (retarget g (retarget f op)))
-    ∙ ap canon (retarget_twice f g (retarget f op) ∙ retarget_twice (λ t. f (g t)) f op ∙ retarget_alike n (λ t. f (g (f t))) f there op all)
+    decoded_twice f g (decoded f op) ∙ decoded_twice (λ t. f (g t)) f op ∙ decoded_alike n (λ t. f (g (f t))) f there op all
 
 all_again : (n : ℕ) (offsets : List ℕ) → length offsets ≡ n + 1 → (all : List Op) → EachWritable n all → map (assembled offsets) (map (back offsets) all) ≡ map (assembled offsets) all
 all_again n offsets long [] each = refl
 all_again n offsets long (op ∷ all) each = cc (assembled_again n offsets long op each.0, all_again n offsets long all each.1)
 
 width_back : (offsets : List ℕ) (op : Op) → width_of (back offsets op) ≡ width_of op
-width_back offsets op = width_retarget (index_of offsets) (assembled offsets op) ∙ width_assembled offsets op
+width_back offsets op = width_decoded (index_of offsets) (assembled offsets op) ∙ width_assembled offsets op
 
 offsets_again : (offsets : List ℕ) (at : ℕ) (all : List Op) → offsets_from at (map (back offsets) all) ≡ offsets_from at all
 offsets_again offsets at [] = refl
@@ -87,12 +79,12 @@ items_are all code offsets items is d =
     let made = map (assembled offsets) all in
     let e : flat_map spelling d.0 ++ d.1 ≡ flat_map spelling made ++ [] = sym d.4 ∙ is.written.whole ∙ sym (append-nil (flat_map spelling made)) in
     let one = one_front d.0 made d.1 [] d.3 is.written.each d.5 begins_none_nil e in
-    ap (with_indices offsets) d.2 ∙ of_placed 0 d.0 ∙ ap (map (retarget (index_of offsets))) one.0 ∙ of_made all where
-      of_placed : (at : ℕ) (xs : List Op) → with_indices offsets (placed_from at xs) ≡ map (retarget (index_of offsets)) xs
+    ap (with_indices offsets) d.2 ∙ of_placed 0 d.0 ∙ ap (map (decoded (index_of offsets))) one.0 ∙ of_made all where
+      of_placed : (at : ℕ) (xs : List Op) → with_indices offsets (placed_from at xs) ≡ map (decoded (index_of offsets)) xs
       of_placed at [] = refl
-      of_placed at (x ∷ xs) = ap (λ ys. retarget (index_of offsets) x ∷ ys) (of_placed (at + width_of x) xs)
+      of_placed at (x ∷ xs) = ap (λ ys. decoded (index_of offsets) x ∷ ys) (of_placed (at + width_of x) xs)
 
-      of_made : (xs : List Op) → map (retarget (index_of offsets)) (map (assembled offsets) xs) ≡ map (back offsets) xs
+      of_made : (xs : List Op) → map (decoded (index_of offsets)) (map (assembled offsets) xs) ≡ map (back offsets) xs
       of_made [] = refl
       of_made (x ∷ xs) = ap (λ ys. back offsets x ∷ ys) (of_made xs)
 
@@ -126,12 +118,11 @@ each_again n offsets long (op ∷ all) each = (here, each_again n offsets long a
   within : (t : ℕ) → t ≤ n → g t ≤ n
   within t h = let first = (first_index offsets t (omega arith)).0 in omega arith
 
-  same : form (back offsets op) ≡ form (retarget g op)
-  same = ap form (retarget_canon (index_of offsets) (retarget (slice_index offsets) op)) ∙ form_canon (retarget (index_of offsets) (retarget (slice_index offsets) op))
-      ∙ ap form (retarget_twice (index_of offsets) (slice_index offsets) op)
+  same : form (back offsets op) ≡ form (decoded g op)
+  same = ap form (decoded_twice (index_of offsets) (slice_index offsets) op)
 
   here : AreWritable n (form (back offsets op)).1
-  here = subst (λ (p : ℕ × List Field). AreWritable n p.1) (sym (same ∙ form_retarget g op)) (fields_again n g within (form op).1 each.0)
+  here = subst (λ (p : ℕ × List Field). AreWritable n p.1) (sym (same ∙ form_decoded g op)) (fields_again n g within (form op).1 each.0)
 
 pub can_again : (all : List Op) (code offsets : List ℕ) (items : List (ℕ × Op)) → CanAssemble all → IsAssembly all code offsets → IsDisassembly 0 code items → CanAssemble (with_indices offsets items)
 can_again all code offsets items can is d =

@@ -2,9 +2,11 @@
 
 use crate::samples::{assert_same, both_texts};
 use grain_bytecode::{
-    AssembleError, Op, Receiver, assemble, count_instructions, decode, disassemble,
+    AssembleError, Op, Receiver, TagFlow, assemble, count_instructions, decode, disassemble,
+    tag_row,
 };
 use std::alloc::Global;
+use std::process::Abort;
 use std::test::Fail;
 
 fn bytes_of(alloc: Global, ops: &[Op]) -> Result<Vec<u8>, AssembleError> {
@@ -135,181 +137,41 @@ fn takes_the_greatest_index_and_the_end(rt: HostRuntime) -> Result<(), Fail> {
     Ok(())
 }
 
-/// One operation of each tag but the jumps, with small unlike fields.
-fn each_instruction() -> [Op; 66] {
-    let name = 1;
-    let op = Some(2);
-    let slot = 3;
-    let argc = 4;
-    let capture_parent_scope = false;
-    [
-        Op::Const(5),
-        Op::Unit,
-        Op::Bool(false),
-        Op::Bool(true),
-        Op::LoadLocal(slot),
-        Op::StoreLocal {
-            slot,
-            is_const: false,
-        },
-        Op::AssignLocal {
-            slot,
-            var_name: name,
-            op: None,
-        },
-        Op::AssignLocal {
-            slot,
-            var_name: name,
-            op,
-        },
-        Op::DeclareLocal {
-            name,
-            is_const: false,
-            is_global: false,
-        },
-        Op::DeclareLocal {
-            name,
-            is_const: true,
-            is_global: false,
-        },
-        Op::Pop,
-        Op::Call {
-            name,
-            argc,
-            op: None,
-            capture_parent_scope,
-        },
-        Op::Call {
-            name,
-            argc,
-            op,
-            capture_parent_scope,
-        },
-        Op::UnwindTo(slot),
-        Op::Tick,
-        Op::Return,
-        Op::EvalAst {
-            residual: 6,
-            rewind_scope: true,
-        },
-        Op::EvalAst {
-            residual: 6,
-            rewind_scope: false,
-        },
-        Op::Chain(7),
-        Op::MakeArray(slot),
-        Op::Switch(8),
-        Op::LoadNamed(name),
-        Op::AssignNamed { name, op: None },
-        Op::AssignNamed { name, op },
-        Op::Throw,
-        Op::IterInit,
-        Op::IterDrop,
-        Op::StoreShared(slot),
-        Op::PopHandler,
-        Op::InterpolateStart,
-        Op::InterpolateAppend,
-        Op::InterpolateEnd,
-        Op::MakeFnPtr,
-        Op::Curry(argc),
-        call_fn_ptr(false, false, None),
-        call_fn_ptr(true, false, None),
-        Op::Share(slot),
-        Op::ShareNamed(name),
-        Op::LoadShared(slot),
-        Op::MakeClosure(name),
-        Op::IsShared,
-        Op::Checkpoint,
-        Op::CheckSize {
-            index: slot,
-            is_map: false,
-        },
-        Op::CheckSize {
-            index: slot,
-            is_map: true,
-        },
-        Op::MakeMap(slot),
-        Op::CallRef {
-            name,
-            argc,
-            receiver: Receiver::Local(slot),
-            capture_parent_scope,
-        },
-        Op::Rotate(argc),
-        Op::CallRef {
-            name,
-            argc,
-            receiver: Receiver::Named(9),
-            capture_parent_scope,
-        },
-        Op::LoadSharedNamed(name),
-        Op::LoadThis,
-        Op::LoadThisShared,
-        Op::RequireThis,
-        Op::AssignThis { op: None },
-        Op::AssignThis { op },
-        Op::CallRef {
-            name,
-            argc,
-            receiver: Receiver::This,
-            capture_parent_scope,
-        },
-        call_fn_ptr(true, false, Some(Receiver::Local(slot))),
-        call_fn_ptr(true, false, Some(Receiver::Named(9))),
-        call_fn_ptr(true, false, Some(Receiver::This)),
-        Op::Statement { depth: slot },
-        Op::StoreLocal {
-            slot,
-            is_const: true,
-        },
-        call_fn_ptr(false, true, None),
-        Op::CustomSyntax(10),
-        Op::DeclareLocal {
-            name,
-            is_const: true,
-            is_global: true,
-        },
-        Op::ExportLocal { slot, alias: name },
-        Op::ExportNamed { name, alias: 9 },
-        Op::Import { alias: name },
-    ]
+/// The bytes of an instruction with a tag, and more behind them: small unlike fields, and a target that is 0.
+fn sample_bytes(tag: u8) -> [u8; 7] {
+    match tag_row(tag).flow {
+        TagFlow::Jumps | TagFlow::Branches | TagFlow::AdvancesIterator | TagFlow::PushesHandler => [
+            tag, 0, 0, 0, 0, 3, 0,
+        ],
+        TagFlow::Untold
+        | TagFlow::Falls
+        | TagFlow::Ends
+        | TagFlow::BeginsIterator
+        | TagFlow::EndsIterator
+        | TagFlow::PopsHandler => [tag, 1, 0, 2, 0, 3, 0],
+    }
 }
 
-/// One operation of each tag that jumps, to index 0.
-fn each_jump() -> [Op; 8] {
-    let target = 0;
-    [
-        Op::Jump(target),
-        Op::JumpIfTrue { target },
-        Op::JumpIfFalse { target },
-        Op::SkipIfNotUnit { target },
-        Op::IterNext {
-            exit: target,
-            counter_slot: None,
-        },
-        Op::IterNext {
-            exit: target,
-            counter_slot: Some(3),
-        },
-        Op::PushHandler {
-            target,
-            catch_var: None,
-        },
-        Op::PushHandler {
-            target,
-            catch_var: Some(1),
-        },
-    ]
+/// Asserts that the operation that bytes begin with is written as these bytes, and read again alone.
+fn assert_read_again(rt: &impl Abort, alloc: Global, bytes: &[u8], op: Op) -> Result<(), Fail> {
+    let code = bytes_of(alloc, &[op.clone()?])?;
+    assert!(rt; bytes.starts_with(&code));
+    assert_same(rt, decode(&code, 0), Some(op));
+    assert_same(rt, disassemble(&code).count(), 1);
+    Ok(())
 }
 
 #[test]
 fn each_operation_is_read_again(rt: HostRuntime) -> Result<(), Fail> {
-    for op in each_instruction().iter().chain(each_jump().iter()) {
-        let ops = [op.clone()?];
-        let code = bytes_of(rt.alloc(), &ops)?;
-        assert_same(&rt, decode(&code, 0).as_ref(), Some(op));
-        assert_same(&rt, disassemble(&code).count(), 1);
+    let mut tags = 0u32;
+    for tag in 0..=u8::MAX {
+        let bytes = sample_bytes(tag);
+        if let Some(op) = decode(&bytes, 0) {
+            assert_read_again(&rt, rt.alloc(), &bytes, op)?;
+            tags = tags.saturating_add(1);
+        }
     }
+    assert_same(&rt, tags, 74);
     Ok(())
 }
 

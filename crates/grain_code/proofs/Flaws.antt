@@ -1,19 +1,14 @@
 -- The first flaw of what is to be assembled.
-use Rattle.std.proofs.Common.{◌≡◌, ℕ, zero, suc, ◌-◌, ◌<◌, ◌≤◌, ◌^◌, List, [], ◌∷◌, ◌++◌, length, take, drop, get_or, map, Option, None, Some, refl, sym, ap, subst, ◌∙◌, arith, drop-cons}
-use Rattle.std.specs.Prelude.{IfSome}
-use Rattle.std.specs.Option.{option_to_list}
+use Rattle.std.proofs.Common.{◌≡◌, ℕ, zero, suc, ◌-◌, ◌<◌, ◌^◌, List, [], ◌∷◌, ◌++◌, length, take, drop, get_or, append_assoc, refl, sym, ap, subst, ◌∙◌, arith, drop-cons}
+use Rattle.std.specs.Prelude.{true, false, ◌==◌, if◌then◌else◌}
 use Rattle.std.proofs.lemmas.List.{take-append-drop, length-take}
 use Rattle.grain_code.specs.declared.op.Op.{Op}
-use Rattle.grain_code.specs.declared.op.Op.TheVariants as ops
-use Rattle.grain_code.specs.declared.op.Receiver.TheVariants as receiver
 use Rattle.grain_code.specs.declared.field.Field.{Field}
-use Rattle.grain_code.specs.declared.field.Field.TheVariants.{Index}
-use Rattle.grain_code.specs.declared.field.Pool.TheVariants.{Names}
+use Rattle.grain_code.specs.declared.tag.TheConstants.{CALL_NAMED_REF}
 use Rattle.grain_pools.specs.declared.error.AssembleError.{AssembleError}
 use Rattle.grain_pools.specs.declared.error.AssembleError.TheVariants.{PoolTooLarge, JumpOutOfRange, SwitchTargetOutOfRange, ChunkTooLarge, OutOfMemory}
 use Rattle.grain_code.specs.InstructionTable.{form}
-use Rattle.grain_code.specs.Fields.{receiver_name}
-use Rattle.grain_code.specs.Assembly.{IsWritable, AreWritable, EachWritable, HasShortCode, CanAssemble, Accuses, AccusesFirst, AccusesFirstOf, IsAssemblyFlaw, tested}
+use Rattle.grain_code.specs.Assembly.{IsWritable, AreWritable, EachWritable, HasShortCode, CanAssemble, Accuses, AccusesFirst, AccusesFirstOf, IsAssemblyFlaw, named_receiver, tested}
 
 -- a list, cut round one of its elements
 pub cut_round : {X : Type 0} (xs : List X) (i : ℕ) (d : X) → i < length xs → xs ≡ take i xs ++ get_or xs i d ∷ drop (suc i) xs
@@ -32,24 +27,33 @@ first_at n at i fields d inside passed error flaw = record {
   named = flaw.1;
 }
 
--- the first flaw of the fields is that of those that are tested, where the name of the receiver can be written
-pub first_tested : (n at : ℕ) (op : Op) → IfSome (receiver_name op) (λ x. x ≤ 65535) → (error : AssembleError) → AccusesFirst n at (form op).1 error → AccusesFirst n at (tested op) error
-first_tested n at op receiver_passed error first = behind (receiver_name op) receiver_passed where
-  behind : (receiver : Option ℕ) → IfSome receiver (λ x. x ≤ 65535) → AccusesFirst n at (map (Index Names) (option_to_list receiver) ++ (form op).1) error
-  behind None passed = first
-  behind (Some x) passed = record {
-    earlier = Index Names x ∷ first.earlier;
-    bad = first.bad;
-    later = first.later;
-    order = ap (λ fields. Index Names x ∷ fields) first.order;
-    passed = (passed, first.passed);
-    fails = first.fails;
-    named = first.named;
-  }
+-- the first flaw of a front is that of all
+pub in_front : (n at : ℕ) (front rest : List Field) (error : AssembleError) → AccusesFirst n at front error → AccusesFirst n at (front ++ rest) error
+in_front n at front rest error first = record {
+  earlier = first.earlier;
+  bad = first.bad;
+  later = first.later ++ rest;
+  order = ap (λ fields. fields ++ rest) first.order ∙ append_assoc first.earlier (first.bad ∷ first.later) rest;
+  passed = first.passed;
+  fails = first.fails;
+  named = first.named;
+}
 
--- of a call through a name that name is tested first
-pub tested_through : (op : Op) (v : ℕ) → receiver_name op ≡ Some v → (rest : List Field) × (tested op ≡ Index Names v ∷ rest)
-tested_through op v e = ((form op).1, ap (λ (receiver : Option ℕ). map (Index Names) (option_to_list receiver) ++ (form op).1) e)
+writable_append : (n : ℕ) (front rest : List Field) → AreWritable n front → AreWritable n rest → AreWritable n (front ++ rest)
+writable_append n [] rest all others = others
+writable_append n (x ∷ front) rest all others = (all.0, writable_append n front rest all.1 others)
+
+-- where a front can be written the first flaw of the rest is that of all
+pub behind_front : (n at : ℕ) (front rest : List Field) (error : AssembleError) → AreWritable n front → AccusesFirst n at rest error → AccusesFirst n at (front ++ rest) error
+behind_front n at front rest error passed first = record {
+  earlier = front ++ first.earlier;
+  bad = first.bad;
+  later = first.later;
+  order = ap (λ fields. front ++ fields) first.order ∙ sym (append_assoc front first.earlier (first.bad ∷ first.later));
+  passed = writable_append n front first.earlier passed first.passed;
+  fails = first.fails;
+  named = first.named;
+}
 
 -- what can't be written is a flaw of no operations that can be assembled
 fields_pass : (n at : ℕ) (fields : List Field) (error : AssembleError) → AreWritable n fields → AccusesFirst n at fields error → ⊥
@@ -58,9 +62,16 @@ fields_pass n at fields error all first = first.fails (of_each first.earlier fir
   of_each [] bad later all = all.0
   of_each (x ∷ earlier) bad later all = of_each earlier bad later all.1
 
+two_less : (n : ℕ) (fields : List Field) → AreWritable n fields → AreWritable n (drop 2 fields)
+two_less n [] all = tt
+two_less n (x ∷ []) all = tt
+two_less n (x ∷ y ∷ fields) all = all.1.1
+
+receiver_pass : (n tag : ℕ) (fields : List Field) → AreWritable n fields → AreWritable n (named_receiver tag fields)
+receiver_pass n tag fields all = elim (tag == CALL_NAMED_REF) as (λ b. AreWritable n (if b then drop 2 fields else [])) [ true ↦ two_less n fields all | false ↦ tt ]
+
 tested_pass : (n : ℕ) (op : Op) → AreWritable n (form op).1 → AreWritable n (tested op)
-tested_pass n (ops.CallRef f a (receiver.Named v) capture) all = (all.1.1.0, all)
-tested_pass n op all = all
+tested_pass n op all = writable_append n (named_receiver (form op).0 (form op).1) (form op).1 (receiver_pass n (form op).0 (form op).1 all) all
 
 -- an operation of some whose fields can be written is one of them
 pub writable_at : (n : ℕ) (ops : List Op) (i : ℕ) (d : Op) → i < length ops → EachWritable n ops → AreWritable n (form (get_or ops i d)).1

@@ -7,12 +7,11 @@ use Rattle.std.proofs.lemmas.List.Sums.{sum_by-cons}
 use Rattle.std.proofs.lemmas.List.Concat.{flat_map-cons}
 use Rattle.std.proofs.lemmas.Grind.{flat_map-append}
 use Rattle.grain_code.specs.declared.op.Op.{Op}
-use Rattle.grain_code.specs.declared.field.Field.{Field}
-use Rattle.grain_code.specs.InstructionTable.{FieldFits, bytes_of, form, spelling, width_of}
+use Rattle.grain_code.specs.InstructionTable.{FieldFits, form, spelling, width_of}
 use Rattle.grain_code.specs.Split.{Begins, IsInstruction, AreInstructions, starts_from, Split, StandsAt}
-use Rattle.grain_code.specs.Assembly.{retarget, assembled, offsets_from, IsAssembly}
+use Rattle.grain_code.specs.Assembly.{assembled, offsets_from, IsAssembly}
 use Rattle.grain_code.proofs.Instructions.{spelling_width, begins_spelling}
-use Rattle.grain_code.proofs.Canonical.{canon_decoded, form_canon, width_assembled}
+use Rattle.grain_code.proofs.Canonical.{flags_decoded, width_assembled}
 use Rattle.grain_code.proofs.Splits.{each_more}
 
 -- the offsets are the starts of what is assembled, and the end
@@ -68,15 +67,13 @@ length-offsets_from at (op ∷ ops) = ap suc (length-offsets_from (at + width_of
 
 -- one more operation, written behind those before it
 pub one_more_written : (offsets code front_code : List ℕ) (front : List Op) (op : Op) → AreInstructions front_code (map (assembled offsets) front)
-    → AllByRecursion FieldFits (form (retarget (slice_index offsets) op)).1 → code ≡ front_code ++ spelling (retarget (slice_index offsets) op)
+    → AllByRecursion FieldFits (form (assembled offsets op)).1 → code ≡ front_code ++ spelling (assembled offsets op)
     → AreInstructions code (map (assembled offsets) (front ++ op ∷ []))
 one_more_written offsets code front_code front op are fit e =
     let made = assembled offsets op in
-    let same = form_canon (retarget (slice_index offsets) op) in
-    let is : IsInstruction made = record { unwritten = canon_decoded (retarget (slice_index offsets) op); fit = subst (λ (p : ℕ × List Field). AllByRecursion FieldFits p.1) (sym same) fit; spelled = refl } in
+    let is : IsInstruction made = record { unwritten = flags_decoded (slice_index offsets) op; fit = fit; spelled = refl } in
     rw (map-append (assembled offsets) front (op ∷ [])) (record {
       each = each_more (map (assembled offsets) front) made are.each is;
-      whole = e ∙ ap (λ b. b ++ spelling (retarget (slice_index offsets) op)) are.whole
-          ∙ ap (λ (p : ℕ × List Field). flat_map spelling (map (assembled offsets) front) ++ (p.0 ∷ flat_map bytes_of p.1)) (sym same)
+      whole = e ∙ ap (λ b. b ++ spelling made) are.whole
           ∙ ap (λ b. flat_map spelling (map (assembled offsets) front) ++ b) (sym (append-nil (spelling made))) ∙ sym (flat_map-append spelling (map (assembled offsets) front) (made ∷ []));
     })

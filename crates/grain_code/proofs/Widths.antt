@@ -15,7 +15,7 @@ use Rattle.grain_code.specs.declared.tag_table.TagRow.{TagRow}
 use Rattle.grain_code.specs.declared.tag_table.TheConstants.{TAG_ROWS}
 use Rattle.grain_code.specs.InstructionTable.{FieldFits, IsDecoded, bytes_of, encoding, size_of, form, canon, spelling, width_of, Instr}
 use Rattle.grain_code.specs.Split.{StandsAt, NoneStandsAt}
-use Rattle.grain_code.proofs.Canonical.{canon_decoded}
+use Rattle.grain_code.proofs.Canonical.{flags_decoded}
 use Rattle.grain_code.proofs.Rows.{letter_of, letter_size, fields, Row, rows, row_of, IsRowOf, again, written, canonical, row_width, tag_width, widths}
 use Rattle.grain_code.proofs.Instructions.{instr_width, instr_along, begins_fits}
 use Rattle.grain_code.proofs.Reading.{IsBytes, bytes_taken, bytes_dropped, values, spelled_all, found_row}
@@ -66,7 +66,7 @@ is_instruction tag operands all wide =
     let form_is : form (row.0.op v) ≡ (tag, fields row.0.letters v) = alike (λ (e : ℕ × Row). form (e.1.op v)) (λ e. (e.0, fields e.1.letters v)) rows (tag, row.0) (written v) at in (
       row.0.op v,
       record {
-        unwritten = subst (λ (o : Op). AllByRecursion IsDecoded (encoding o).2) (alike (λ (e : ℕ × Row). canon (e.1.op v)) (λ e. e.1.op v) rows (tag, row.0) (canonical v) at) (canon_decoded (row.0.op v));
+        unwritten = subst (λ (o : Op). AllByRecursion IsDecoded (encoding o).2) (alike (λ (e : ℕ × Row). canon (e.1.op v)) (λ e. e.1.op v) rows (tag, row.0) (canonical v) at) (flags_decoded (λ t. t) (row.0.op v));
         fit = subst (λ (p : ℕ × List Field). AllByRecursion FieldFits p.1) (sym form_is) there.1;
         spelled = ap (λ xs. tag ∷ xs) there.0 ∙ ap (λ (p : ℕ × List Field). p.0 ∷ flat_map bytes_of p.1) (sym form_is);
       },

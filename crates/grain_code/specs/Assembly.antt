@@ -1,80 +1,20 @@
 -- Operations written as code.
-use Rattle.std.specs.Prelude.{ℕ, ◌≡◌, ◌+◌, ◌-◌, ◌^◌, ◌<◌, ◌≤◌, ⊤, sum_by, length, map, List, [], ◌∷◌, ◌++◌, slice_index, codes, ◌==◌}
+use Rattle.std.specs.Prelude.{ℕ, ◌≡◌, ◌+◌, ◌-◌, ◌^◌, ◌<◌, ◌≤◌, ⊤, sum_by, length, map, List, [], ◌∷◌, ◌++◌, slice_index, codes, ◌==◌, drop, if◌then◌else◌}
 use Rattle.std.specs.List.{AllByRecursion, position_or_len}
-use Rattle.std.specs.Option.{option_to_list}
-use Rattle.grain_code.specs.Fields.{receiver_name}
 use Rattle.grain_code.specs.declared.op.Op.{Op}
-use Rattle.grain_code.specs.declared.op.Op.TheVariants as ops
 use Rattle.grain_code.specs.declared.field.Field.{Field}
 use Rattle.grain_code.specs.declared.field.Field.TheVariants.{Index, Slot, Count, Target}
 use Rattle.grain_code.specs.declared.field.Pool.{Pool}
 use Rattle.grain_code.specs.declared.field.Pool.TheVariants.{Constants, Names, Operators, OpAssignments, Fragments, Chains, Switches, SyntaxSites}
 use Rattle.grain_pools.specs.declared.error.AssembleError.{AssembleError}
 use Rattle.grain_pools.specs.declared.error.AssembleError.TheVariants as errors
-use Rattle.grain_code.specs.InstructionTable.{form, canon, width_of}
+use Rattle.grain_code.specs.declared.tag.TheConstants.{CALL_NAMED_REF}
+use Rattle.grain_code.specs.InstructionTable.{decoded, form, width_of}
 use Rattle.grain_code.specs.Split.{AreInstructions}
-
--- the operation with its jump target mapped
-abbrev pub retarget : (ℕ → ℕ) → Op → Op
-retarget g (ops.Const c) = ops.Const c
-retarget g ops.Unit = ops.Unit
-retarget g (ops.Bool b) = ops.Bool b
-retarget g (ops.LoadLocal s) = ops.LoadLocal s
-retarget g (ops.ExportLocal s n) = ops.ExportLocal s n
-retarget g (ops.StoreLocal s is_const) = ops.StoreLocal s is_const
-retarget g (ops.LoadNamed n) = ops.LoadNamed n
-retarget g (ops.ExportNamed n n') = ops.ExportNamed n n'
-retarget g (ops.AssignNamed n o) = ops.AssignNamed n o
-retarget g (ops.AssignLocal s n o) = ops.AssignLocal s n o
-retarget g (ops.DeclareLocal n is_const is_global) = ops.DeclareLocal n is_const is_global
-retarget g ops.Pop = ops.Pop
-retarget g (ops.Jump j) = ops.Jump (g j)
-retarget g (ops.JumpIfTrue j) = ops.JumpIfTrue (g j)
-retarget g (ops.JumpIfFalse j) = ops.JumpIfFalse (g j)
-retarget g (ops.SkipIfNotUnit j) = ops.SkipIfNotUnit (g j)
-retarget g (ops.Call n a t capture) = ops.Call n a t capture
-retarget g (ops.CallRef n a from capture) = ops.CallRef n a from capture
-retarget g (ops.Rotate a) = ops.Rotate a
-retarget g (ops.Switch w) = ops.Switch w
-retarget g (ops.Share s) = ops.Share s
-retarget g (ops.ShareNamed n) = ops.ShareNamed n
-retarget g (ops.LoadShared s) = ops.LoadShared s
-retarget g (ops.LoadSharedNamed n) = ops.LoadSharedNamed n
-retarget g (ops.MakeClosure n) = ops.MakeClosure n
-retarget g ops.MakeFnPtr = ops.MakeFnPtr
-retarget g ops.IsShared = ops.IsShared
-retarget g (ops.Curry a) = ops.Curry a
-retarget g (ops.CallFnPtr a is_method capture from) = ops.CallFnPtr a is_method capture from
-retarget g (ops.Chain h) = ops.Chain h
-retarget g (ops.MakeArray s) = ops.MakeArray s
-retarget g (ops.MakeMap s) = ops.MakeMap s
-retarget g (ops.CheckSize s is_map) = ops.CheckSize s is_map
-retarget g ops.InterpolateStart = ops.InterpolateStart
-retarget g ops.InterpolateAppend = ops.InterpolateAppend
-retarget g ops.InterpolateEnd = ops.InterpolateEnd
-retarget g (ops.UnwindTo s) = ops.UnwindTo s
-retarget g ops.Tick = ops.Tick
-retarget g ops.Checkpoint = ops.Checkpoint
-retarget g (ops.Statement s) = ops.Statement s
-retarget g ops.Throw = ops.Throw
-retarget g ops.IterInit = ops.IterInit
-retarget g (ops.IterNext j counter) = ops.IterNext (g j) counter
-retarget g ops.IterDrop = ops.IterDrop
-retarget g (ops.PushHandler j n) = ops.PushHandler (g j) n
-retarget g ops.PopHandler = ops.PopHandler
-retarget g (ops.StoreShared s) = ops.StoreShared s
-retarget g ops.Return = ops.Return
-retarget g ops.LoadThis = ops.LoadThis
-retarget g ops.LoadThisShared = ops.LoadThisShared
-retarget g ops.RequireThis = ops.RequireThis
-retarget g (ops.AssignThis o) = ops.AssignThis o
-retarget g (ops.EvalAst f rewind) = ops.EvalAst f rewind
-retarget g (ops.CustomSyntax y) = ops.CustomSyntax y
-retarget g (ops.Import n) = ops.Import n
 
 -- what is decoded where the operation was written: its canonical form, with its target mapped by the offsets
 abbrev pub assembled : List ℕ → Op → Op
-assembled offsets op = canon (retarget (slice_index offsets) op)
+assembled offsets op = decoded (slice_index offsets) op
 
 -- where operations are written, the first of them at an address, and where they end
 abbrev pub offsets_from : ℕ → List Op → List ℕ
@@ -139,10 +79,14 @@ pub record AccusesFirst (n at : ℕ) (fields : List Field) (error : AssembleErro
   pub fails : IsWritable n bad → ⊥
   pub named : Accuses at bad error
 
+-- of a call through a name that name, which stands behind the function's and the count
+abbrev pub named_receiver : ℕ → List Field → List Field
+named_receiver tag fields = if tag == CALL_NAMED_REF then drop 2 fields else []
+
 -- the fields in the order in which they are tested: first the name through which a call reaches its receiver, if it does,
 -- and then each in its order
 abbrev pub tested : Op → List Field
-tested op = map (Index Names) (option_to_list (receiver_name op)) ++ (form op).1
+tested op = named_receiver (form op).0 (form op).1 ++ (form op).1
 
 -- the error names the first field, operation by operation, that can't be written
 pub record AccusesFirstOf (ops : List Op) (error : AssembleError) : Type 0 where
@@ -167,4 +111,4 @@ index_of offsets at = position_or_len (λ offset. offset == at) offsets
 
 -- disassembled operations, their targets mapped back by the offsets
 abbrev pub with_indices : List ℕ → List (ℕ × Op) → List Op
-with_indices offsets items = map (λ item. retarget (index_of offsets) item.1) items
+with_indices offsets items = map (λ item. decoded (index_of offsets) item.1) items

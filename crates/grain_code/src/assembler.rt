@@ -6,15 +6,16 @@
 ghost use Rattle.std.specs.Prelude.{◌≡◌, ◌+◌, ◌-◌, ◌^◌, ◌<◌, ◌≤◌, ◌⊎◌, ◌++◌, ◌∷◌, [], ℕ, List, Some, slice_get, IfSome, IfOk, IfErr, OnOk, IsOkUnless, MatchResult, length, map, slice_index};
 ghost use Rattle.std.specs.List.{flat_map, AllByRecursion};
 ghost use Rattle.grain_code.specs.InstructionTable.{form, bytes_of, spelling, FieldFits};
-ghost use Rattle.grain_code.specs.Fields.{moved, receiver_name};
+ghost use Rattle.grain_code.specs.Fields.{moved};
 ghost use Rattle.grain_code.specs.Split.{AreInstructions, Split, StandsAt};
-ghost use Rattle.grain_code.specs.Assembly.{retarget, assembled, offsets_from, IsAssembly, CanAssemble, HasShortCode, IsWritable, AreWritable, Accuses, AccusesFirst, AccusesFirstOf, EachWritable, IsAssemblyFlaw, tested};
+ghost use Rattle.grain_code.specs.Assembly.{assembled, offsets_from, IsAssembly, CanAssemble, HasShortCode, IsWritable, AreWritable, Accuses, AccusesFirst, AccusesFirstOf, EachWritable, IsAssemblyFlaw, named_receiver, tested};
 ghost use Rattle.grain_code.specs.declared.op.Op.{Op};
 ghost use Rattle.grain_code.specs.declared.field.Field.TheVariants.{Index};
 ghost use Rattle.grain_pools.specs.declared.error.AssembleError.TheVariants.{ChunkTooLarge, OutOfMemory};
 
 use crate::field::{Field, Pool, layout, width_of};
-use crate::op::{Op, Receiver};
+use crate::op::Op;
+use crate::tag;
 use grain_pools::AssembleError;
 use std::alloc::{AllocError, Global};
 
@@ -58,30 +59,18 @@ fn check_fields(count: usize, at: usize, fields: &[Field]) -> Result<(), Assembl
     Ok(())
 }
 
-/// The index of the name of the variable through which a call reaches its receiver.
-fn receiver_name(op: &Op) -> Option<u32>
-    ensures { result ≡ receiver_name op.now }
+/// Tests the name through which a call reaches its receiver, of an operation that has such a tag.
+fn check_receiver(count: usize, at: usize, tag: u8, fields: &[Field]) -> Result<(), AssembleError>
+    ensures { MatchResult result (λ _. AreWritable count (named_receiver tag fields.now))
+        (AccusesFirst count at (named_receiver tag fields.now)) }
 {
-    let Op::CallRef {
-        receiver: Receiver::Named(variable),
-        ..
-    } = op
-    else {
-        return None;
-    };
-    Some(*variable)
-}
-
-/// Tests the name of the variable through which a call reaches its receiver.
-fn check_receiver(op: &Op) -> Result<(), AssembleError>
-    ensures { (n at : ℕ) → MatchResult result
-        (λ _. IfSome (receiver_name op.now) (λ index. index ≤ 65535))
-        (AccusesFirst n at (tested op.now)) }
-{
-    if let Some(variable) = receiver_name(op) {
-        check_index(Pool::Names, variable)?;
+    if tag != tag::CALL_NAMED_REF {
+        return Ok(());
     }
-    Ok(())
+    match fields {
+        [_, _, receiver @ ..] => check_fields(count, at, receiver),
+        _ => Ok(()),
+    }
 }
 
 /// Tests the operation at an index, of so many in all.
@@ -89,8 +78,8 @@ fn check_op(count: usize, at: usize, op: &Op) -> Result<(), AssembleError>
     ensures { MatchResult result
         (λ _. AreWritable count (form op.now).1) (AccusesFirst count at (tested op.now)) }
 {
-    check_receiver(op)?;
-    let (_tag, fields) = layout(op);
+    let (tag, fields) = layout(op);
+    check_receiver(count, at, tag, fields.as_slice())?;
     check_fields(count, at, fields.as_slice())
 }
 
@@ -163,9 +152,9 @@ fn put(code: &mut Vec<u8>, offsets: &[u32], op: &Op) -> Result<(), AllocError>
     requires some { 0 < length offsets.now }
     requires writable { AreWritable (length offsets.now - 1) (form op.now).1 }
     ensures ok { OnOk result (code.new.items
-        ≡ code.old.items ++ spelling (retarget (slice_index offsets.now) op.now)) }
+        ≡ code.old.items ++ spelling (assembled offsets.now op.now)) }
     ensures fits { OnOk result
-        (AllByRecursion FieldFits (form (retarget (slice_index offsets.now) op.now)).1) }
+        (AllByRecursion FieldFits (form (assembled offsets.now op.now)).1) }
 {
     let (tag, fields) = layout(op);
     put_fields(code, offsets, tag, fields.as_slice())

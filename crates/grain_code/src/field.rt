@@ -62,16 +62,22 @@ pub enum Field {
 }
 
 /// The fields of an instruction, in order.
-#[derive(Clone, Copy)]
-pub(crate) enum Fields {
+#[derive(Clone, Copy, Debug, PartialEq, Eq)]
+pub enum Fields {
+    /// It has none.
     None,
+    /// It has one.
     One([Field; 1]),
+    /// It has two.
     Two([Field; 2]),
+    /// It has three.
     Three([Field; 3]),
 }
 
 impl Fields {
-    pub(crate) fn as_slice(&self) -> &[Field]
+    /// The fields as a list.
+    #[must_use]
+    pub fn as_slice(&self) -> &[Field]
         ensures { result.now ≡ field_list self.now }
     {
         match self {
@@ -80,6 +86,17 @@ impl Fields {
             Fields::Two(fields) => fields,
             Fields::Three(fields) => fields,
         }
+    }
+}
+
+impl Op {
+    /// The fields with which it is written behind its tag (docs/FORMAT.md, "Instructions").
+    #[must_use]
+    pub fn fields(&self) -> Fields
+        ensures { field_list result ≡ (form self.now).1 }
+    {
+        let (_tag, fields) = layout(self);
+        fields
     }
 }
 

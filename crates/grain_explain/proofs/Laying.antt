@@ -1,14 +1,8 @@
 -- Rows by their numbers.
-use Rattle.std.proofs.Common.{◌≡◌, ℕ, zero, suc, ◌+◌, ◌-◌, ◌<◌, inl, inr, List, [], ◌∷◌, Some, None, length, get_or, map, slice_get, refl, sym, ap, subst, ◌∙◌, arith}
+use Rattle.std.proofs.Common.{◌≡◌, ℕ, ◌+◌, ◌-◌, ◌<◌, inl, inr, List, [], ◌∷◌, Some, None, length, get_or, slice_get, refl, sym, ap, subst, ◌∙◌, arith}
 use Rattle.std.proofs.lemmas.Bool.{cases_lt}
-use Rattle.std.proofs.lemmas.Option.{none-some, same_Some, slice_get_read, slice_get_within}
+use Rattle.std.proofs.lemmas.Option.{same_Some, slice_get_read, slice_get_within}
 use Rattle.grain_explain.specs.declared.row.Row.{Row}
-
--- nothing past a list
-pub past_map : {A : Type 0} (f : A → ℕ) (xs : List A) (i : ℕ) → slice_get xs i ≡ None → get_or (map f xs) i 0 ≡ 0
-past_map f [] i e = refl
-past_map f (x ∷ xs) zero e = absurd (none-some x (sym e))
-past_map f (x ∷ xs) (suc i) e = past_map f xs i e
 
 pub row_read : (rows : List Row) (i : ℕ) (r : Row) → i < length rows → r ≡ get_or rows i r → slice_get rows i ≡ Some r
 row_read rows i r l e = slice_get_read rows (length rows) i r refl l e

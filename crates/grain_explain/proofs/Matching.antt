@@ -16,14 +16,14 @@ use Rattle.grain_rules.specs.FlowFields.{fall_for, falls_for, jump_for, targets_
 use Rattle.grain_rules.specs.Rows.{flow_of}
 use Rattle.grain_rules.specs.Setting.{Setting}
 use Rattle.grain_rules.proofs.Splits.{in_head}
-use Rattle.grain_explain.specs.EffectView.{flow_view}
+use Rattle.grain_rules.specs.EffectView.{flow_view}
 use Rattle.grain_explain.specs.Certificate.{RowLacks, StandsInRow}
 use Rattle.grain_explain.specs.Claimed.{AreMatched, IsAstray, MissesOne, RefusesRows, code_claimed, falling_on, jumping, lack_named, targets_of_cases, targets_of_ranges}
 use Rattle.grain_explain.specs.Lacking.{DoesTo}
 use Rattle.grain_explain.specs.OnEdges.{left_by}
 use Rattle.grain_explain.specs.RowView.{counts_of, typing_of}
 use Rattle.grain_explain.specs.declared.edge.OnEdge.{OnEdge}
-use Rattle.grain_explain.specs.declared.effect.Effect.{Effect}
+use Rattle.grain_rules.specs.declared.effect.Effect.{Effect}
 use Rattle.grain_explain.specs.declared.error.TypingError.{TypingError}
 use Rattle.grain_explain.specs.declared.claim.Claim.{Claim}
 use Rattle.grain_explain.specs.declared.needs.Lack.{Lack}

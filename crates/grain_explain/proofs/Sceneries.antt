@@ -18,7 +18,7 @@ use Rattle.grain_rules.specs.FlowFields.{falls_for, targets_for}
 use Rattle.grain_rules.specs.Layout.{IsStart}
 use Rattle.grain_rules.specs.Typing.{Reached, begin, onward}
 use Rattle.grain_explain.specs.Claimed.{falling_on, jumping}
-use Rattle.grain_explain.specs.EffectView.{flow_view}
+use Rattle.grain_rules.specs.EffectView.{flow_view}
 use Rattle.grain_explain.specs.Explaining.{IsOrigin, IsReachedRow}
 use Rattle.grain_explain.specs.RowView.{counts_of}
 use Rattle.grain_explain.specs.Scenes.{AreCome, IsCome, IsLeft, code_seen}

@@ -11,11 +11,11 @@ use Rattle.grain_rules.specs.Effects.{Edge}
 use Rattle.grain_rules.specs.FlowFields.{fall_for, falls_for, jump_for, targets_for}
 use Rattle.grain_rules.specs.Typing.{IsInChunk, Passes}
 use Rattle.grain_explain.specs.Certificate.{RowsFlaw}
-use Rattle.grain_explain.specs.EffectView.{flow_view}
+use Rattle.grain_rules.specs.EffectView.{flow_view}
 use Rattle.grain_explain.specs.OnEdges.{counts_on, left_by}
 use Rattle.grain_explain.specs.RowView.{counts_of, typing_of}
 use Rattle.grain_explain.specs.declared.edge.OnEdge.{OnEdge}
-use Rattle.grain_explain.specs.declared.effect.Effect.{Effect}
+use Rattle.grain_rules.specs.declared.effect.Effect.{Effect}
 use Rattle.grain_explain.specs.declared.error.TypingError.{TypingError}
 use Rattle.grain_explain.specs.declared.error.TypingError.TheVariants as errors
 use Rattle.grain_explain.specs.declared.claim.Claim.{Claim}

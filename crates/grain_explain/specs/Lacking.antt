@@ -8,8 +8,8 @@ use Rattle.grain_rules.specs.Effects.{Meets, handlers_needed, iterators_needed}
 use Rattle.grain_rules.specs.Rows.{caps_of, flow_of, gives, needs, takes}
 use Rattle.grain_rules.specs.Setting.{Setting}
 use Rattle.grain_rules.specs.Sinking.{FallsShortOf, Sinks, Stays}
-use Rattle.grain_explain.specs.EffectView.{flow_view, operand_numbers}
-use Rattle.grain_explain.specs.declared.effect.Effect.{Effect}
+use Rattle.grain_rules.specs.EffectView.{flow_view, operand_numbers}
+use Rattle.grain_rules.specs.declared.effect.Effect.{Effect}
 use Rattle.grain_explain.specs.declared.needs.Lack.{Lack}
 use Rattle.grain_explain.specs.declared.needs.Lack.TheVariants as lacks
 
@@ -24,7 +24,8 @@ pub record DoesTo (s : Setting) (op : Op) (e : Effect) : Type 0 where
   pub numbers : operand_numbers e ≡ (needs s op, takes s op, gives s op)
   pub flow : flow_view e.flow ≡ flow_of op
 
--- the first of these that isn't so; capabilities come first, then operands, the iterator, the handler
+-- what isn't so: capabilities; where these are there, operands, the iterator or the handler; and where it has all these, that it
+-- stays above the base of the last handler
 abbrev pub FindsLacking : Setting → Op → Counts → Lack → Type 0
 FindsLacking s op c (lacks.Capabilities absent) = (absent.0 ≡ missing s.caps (caps_of s op)) × (absent.0 ≢ 0)
 FindsLacking s op c (lacks.Operands need) = Allows s.caps (caps_of s op) × (need ≡ needs s op) × (c.operands < need)

@@ -1,4 +1,3 @@
-pub mod EffectView
 pub mod RowView
 pub mod OnEdges
 pub mod Lacking

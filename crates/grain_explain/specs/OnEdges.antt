@@ -2,7 +2,7 @@
 use Rattle.std.specs.Prelude.{ℕ, ◌+◌, ◌-◌, List, ◌∷◌, Option, None, Some}
 use Rattle.grain_rules.specs.Counts.{Base, Counts}
 use Rattle.grain_explain.specs.declared.edge.OnEdge.{OnEdge}
-use Rattle.grain_explain.specs.declared.effect.Effect.{Effect}
+use Rattle.grain_rules.specs.declared.effect.Effect.{Effect}
 
 -- the bases with that of a handler that has just been armed, if one has been
 abbrev pub with_armed : Option Base → List Base → List Base

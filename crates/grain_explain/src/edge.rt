@@ -2,12 +2,12 @@
 ghost use Rattle.std.specs.Prelude.{◌≡◌, ◌↔◌, IsTrue};
 ghost use Rattle.grain_rules.specs.Counts.{nothing, without_last};
 ghost use Rattle.grain_rules.specs.FlowFields.{fall_for, jump_for};
-ghost use Rattle.grain_explain.specs.EffectView.{flow_view};
+ghost use Rattle.grain_rules.specs.EffectView.{flow_view};
 ghost use Rattle.grain_explain.specs.OnEdges.{counts_on, left_by};
 ghost use Rattle.grain_explain.specs.RowView.{counts_of};
 
-use crate::effect::{Effect, Flow};
 use crate::row::{Base, Row};
+use grain_rules::{Effect, Flow};
 
 /// How many operands and iterators there are on an edge, and which handlers are armed: those of these bases, and another
 /// where one has just been armed.

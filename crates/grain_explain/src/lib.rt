@@ -6,11 +6,9 @@
 #![tactic(auto)]
 
 mod arrival;
-mod asks;
 mod certificate;
 mod claim;
 mod edge;
-mod effect;
 mod error;
 mod explain;
 mod explanation;

@@ -1,18 +1,15 @@
 //! What an operation finds lacking.
 ghost use Rattle.std.specs.Prelude.{◌≡◌, IfErr, IfOk, OnOk};
 ghost use Rattle.grain_rules.specs.Counts.{last_base};
-ghost use Rattle.grain_rules.specs.FlowFields.{falls_for, handlers_for, iterators_for};
 ghost use Rattle.grain_rules.specs.Setting.{setting};
 ghost use Rattle.grain_rules.specs.Sinking.{ReachesUpTo};
-ghost use Rattle.grain_explain.specs.EffectView.{flow_view};
 ghost use Rattle.grain_explain.specs.Lacking.{DoesTo, HasAll, IsReserve, FindsLacking};
 ghost use Rattle.grain_explain.specs.RowView.{counts_of};
 
-use crate::effect::{Effect, Flow, is_quiet};
 use crate::row::{Base, Row};
 use grain_base::{Caps, Flags};
 use grain_bytecode::Op;
-use grain_rules::{Pools, missing};
+use grain_rules::{Effect, Pools, asked_beside, missing};
 
 /// What an operation finds lacking.
 #[derive(Clone, Copy, Debug, PartialEq, Eq)]
@@ -30,59 +27,6 @@ pub(crate) enum Lack {
     Reserve(u32, u32),
 }
 
-impl Flow {
-    /// How many iterators there have to be.
-    fn iterators_needed(self) -> u32
-        ensures { result ≡ iterators_for (flow_view self) }
-    {
-        match self {
-            Flow::AdvancesIterator(_) | Flow::EndsIterator => 1,
-            Flow::Falls
-            | Flow::Ends
-            | Flow::Jumps(_)
-            | Flow::Branches(_)
-            | Flow::Switches(_)
-            | Flow::BeginsIterator
-            | Flow::PushesHandler(_)
-            | Flow::PopsHandler => 0,
-        }
-    }
-
-    /// Whether it may go on to the next operation.
-    pub(crate) fn falls(self) -> bool
-        ensures { result ≡ falls_for (flow_view self) }
-    {
-        match self {
-            Flow::Ends | Flow::Jumps(_) | Flow::Switches(_) => false,
-            Flow::Falls
-            | Flow::Branches(_)
-            | Flow::BeginsIterator
-            | Flow::AdvancesIterator(_)
-            | Flow::EndsIterator
-            | Flow::PushesHandler(_)
-            | Flow::PopsHandler => true,
-        }
-    }
-
-    /// How many handlers have to be armed.
-    fn handlers_needed(self) -> usize
-        ensures { result ≡ handlers_for (flow_view self) }
-    {
-        match self {
-            Flow::PopsHandler => 1,
-            Flow::Falls
-            | Flow::Ends
-            | Flow::Jumps(_)
-            | Flow::Branches(_)
-            | Flow::Switches(_)
-            | Flow::BeginsIterator
-            | Flow::AdvancesIterator(_)
-            | Flow::EndsIterator
-            | Flow::PushesHandler(_) => 0,
-        }
-    }
-}
-
 /// What an operation does, where it finds all that it asks and needs in a row.
 ///
 /// # Errors
@@ -93,8 +37,8 @@ pub(crate) fn check_needs(caps: Caps, pools: &Pools<'_>, op: &Op, row: &Row) -> 
     ensures lacks { IfErr result
         (FindsLacking (setting caps pools.now) op.now (counts_of row.now)) }
 {
-    let effect = Effect::of(op, pools);
-    let absent = missing(caps, effect.asks);
+    let effect = Effect::of(op, pools.chains);
+    let absent = missing(caps, asked_beside(pools, effect.asks));
     if !absent.is_empty() {
         return Err(Lack::Capabilities(absent));
     }
@@ -107,7 +51,7 @@ pub(crate) fn check_needs(caps: Caps, pools: &Pools<'_>, op: &Op, row: &Row) -> 
     if row.bases.len() < effect.flow.handlers_needed() {
         return Err(Lack::Handlers);
     }
-    if !is_quiet(op) {
+    if !effect.quiet {
         let left = Base::new(
             row.operands.saturating_sub(effect.takes),
             row.iterators.saturating_sub(effect.flow.iterators_needed()),

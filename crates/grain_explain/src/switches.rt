@@ -3,13 +3,12 @@ ghost use Rattle.std.specs.Prelude.{◌≡◌, ◌++◌, IfOk, OnOk, map};
 ghost use Rattle.grain_rules.specs.Code.{switch_targets};
 ghost use Rattle.grain_rules.specs.FlowFields.{targets_for};
 ghost use Rattle.grain_explain.specs.Claimed.{targets_of_cases, targets_of_ranges};
-ghost use Rattle.grain_explain.specs.EffectView.{flow_view};
+ghost use Rattle.grain_rules.specs.EffectView.{flow_view};
 
-use crate::effect::Flow;
 use crate::targets::switch_at;
 use grain_base::Dynamic;
 use grain_bytecode::{Switch, SwitchRange};
-use grain_rules::Pools;
+use grain_rules::{Flow, Pools};
 use std::alloc::{AllocError, Global};
 use std::collections::HashMap;
 

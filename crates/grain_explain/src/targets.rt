@@ -3,7 +3,7 @@ ghost use Rattle.std.specs.Prelude.{◌≡◌, [], get_or, map, IfErr, IfNone, I
 ghost use Rattle.std.specs.List.{All};
 ghost use Rattle.grain_rules.specs.Code.{switch_targets};
 ghost use Rattle.grain_rules.specs.FlowFields.{targets_for};
-ghost use Rattle.grain_explain.specs.EffectView.{flow_view};
+ghost use Rattle.grain_rules.specs.EffectView.{flow_view};
 ghost use Rattle.grain_explain.specs.Claimed.{AreMatched, HasRow, IsAstray, IsUnmatched};
 ghost use Rattle.grain_explain.specs.Claimed.{MissesOne, code_claimed};
 ghost use Rattle.grain_explain.specs.Claimed.{targets_of_cases, targets_of_ranges};
@@ -11,11 +11,11 @@ ghost use Rattle.grain_explain.specs.RowView.{AreAscending};
 
 use crate::claim::Claim;
 use crate::edge::OnEdge;
-use crate::effect::{Effect, Flow};
 use crate::error::TypingError;
 use crate::row::Row;
 use grain_base::Dynamic;
 use grain_bytecode::{Switch, SwitchRange};
+use grain_rules::{Effect, Flow};
 use std::collections::HashMap;
 
 impl Claim<'_> {

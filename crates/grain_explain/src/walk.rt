@@ -4,7 +4,7 @@ ghost use Rattle.std.specs.Prelude.{IfErr, IfOk, IfSome, OnOk};
 ghost use Rattle.std.specs.List.{All};
 ghost use Rattle.grain_rules.specs.Flaw.{ChunkFlaw};
 ghost use Rattle.grain_rules.specs.FlowFields.{targets_for};
-ghost use Rattle.grain_explain.specs.EffectView.{flow_view};
+ghost use Rattle.grain_rules.specs.EffectView.{flow_view};
 ghost use Rattle.grain_explain.specs.OnEdges.{counts_on};
 ghost use Rattle.grain_explain.specs.Claimed.{jumping};
 ghost use Rattle.grain_explain.specs.Scenes.{AreCome, IsCome, IsReadyScene, IsRefusalAt};
@@ -14,14 +14,13 @@ ghost use Rattle.grain_explain.specs.Ways.{IsWayTo, Shows, arrival_stop, stops_o
 
 use crate::arrival::Arrival;
 use crate::edge::OnEdge;
-use crate::effect::Effect;
 use crate::needs::{Lack, check_needs};
 use crate::refusal::{ExplainError, Refusal};
 use crate::row::Row;
 use crate::scene::Scene;
 use crate::switches::targets_of;
 use grain_bytecode::{decode, width};
-use grain_rules::VerifyError;
+use grain_rules::{Effect, VerifyError};
 
 /// What a walk has come to, by the distance from the chunk's entry, and what waits.
 #[derive(Drop)]

@@ -1,7 +1,7 @@
--- One entry more that has passed.
+-- What has passed, and one entry more.
 use Rattle.std.proofs.Common.{◌≡◌, ◌⊎◌, ℕ, List, [], map, get_or, None, ap, ◌∙◌, inl, inr}
 use Rattle.grain_pools.specs.Dispatch.{first_past}
-use Rattle.grain_rules.specs.FirstOut.{CasesPass, ChainsPass, alone, first_out}
+use Rattle.grain_rules.specs.FirstOut.{CasesPass, ChainsPass, HavePassed, alone, first_out}
 use Rattle.grain_rules.specs.Indices.{chain_tests}
 use Rattle.grain_rules.specs.Setting.{case_consts}
 use Rattle.grain_rules.specs.Passed.{HasPassed}
@@ -20,3 +20,7 @@ cases_more pools old new index passed more here i has = elim (more i has) [
   | inl before ↦ passed i before
   | inr same ↦ ap (λ n. first_past pools.consts (get_or (map case_consts pools.switches.now) n [])) same ∙ here
 ]
+
+-- what has nothing in it has only what passed
+pub none_passed : (pools : Pools) (chains switches : List ℕ) → ((i : ℕ) → HasPassed chains i → ⊥) → ((i : ℕ) → HasPassed switches i → ⊥) → HavePassed pools chains switches
+none_passed pools chains switches a b = record { chains_pass = λ i has. absurd (a i has); switches_pass = λ i has. absurd (b i has) }

@@ -6,6 +6,7 @@ pub mod Flow
 pub mod FlowFields
 pub mod Capabilities
 pub mod Rows
+pub mod EffectView
 pub mod ConstCaps
 pub mod Effects
 pub mod Sinking

@@ -17,7 +17,7 @@ ghost use Rattle.grain_rules.specs.Indices.{Indexed, IsOut, cases_of, chain_test
 ghost use Rattle.grain_rules.specs.Setting.{Setting, case_consts, setting};
 
 use crate::error::VerifyError;
-use crate::passed::{Passed, WORDS, add_passed, has_passed};
+use crate::passed::{FEW_WORDS, Passed, WORDS, add_passed, has_passed};
 use crate::pools::Pools;
 use crate::unindexed::unindexed_width;
 use grain_base::Dynamic;
@@ -268,42 +268,7 @@ fn check_fields(pools: &Pools<'_>, passed: &mut [u64], op: &Op) -> Result<(), Ba
         Op::Chain(chain) => check_chain_at(pools, passed, *chain),
         Op::Switch(switch) => check(pools, Pool::Switches, *switch),
         Op::CustomSyntax(site) => check(pools, Pool::SyntaxSites, *site),
-        Op::Unit
-        | Op::Bool(_)
-        | Op::LoadLocal(_)
-        | Op::StoreLocal { .. }
-        | Op::Pop
-        | Op::Jump(_)
-        | Op::JumpIfTrue { .. }
-        | Op::JumpIfFalse { .. }
-        | Op::SkipIfNotUnit { .. }
-        | Op::UnwindTo(_)
-        | Op::Tick
-        | Op::Return
-        | Op::MakeArray(_)
-        | Op::MakeMap(_)
-        | Op::CheckSize { .. }
-        | Op::Throw
-        | Op::IterInit
-        | Op::IterNext { .. }
-        | Op::IterDrop
-        | Op::StoreShared(_)
-        | Op::LoadShared(_)
-        | Op::Share(_)
-        | Op::IsShared
-        | Op::PopHandler
-        | Op::InterpolateStart
-        | Op::InterpolateAppend
-        | Op::InterpolateEnd
-        | Op::MakeFnPtr
-        | Op::Curry(_)
-        | Op::CallFnPtr { receiver: None, .. }
-        | Op::Rotate(_)
-        | Op::Checkpoint
-        | Op::LoadThis
-        | Op::LoadThisShared
-        | Op::RequireThis
-        | Op::Statement { .. } => Ok(()),
+        _ => Ok(()),
     }
 }
 
@@ -452,13 +417,16 @@ fn check_instructions<const N: usize>(
 /// # Errors
 /// `Undecodable` and `BadIndex`, of the first instruction that doesn't pass and its first index that is out of bounds.
 /// Of the cases of a switch any such index may be named.
-#[tactic(auto, using(crate::proofs::Indexing::code_any, crate::proofs::Indexing::flaw_any))]
+#[tactic(auto, using(crate::proofs::Indexing::code_any, crate::proofs::Indexing::flaw_any, crate::proofs::Passing::none_passed))]
 pub fn check_code(pools: &Pools<'_>, code: &[u8]) -> Result<(), VerifyError>
     ensures ok { OnOk result ((caps : Caps) → AreIndexed (setting caps pools.now) code.now) }
     ensures err { IfErr result (λ e. (caps : Caps) → CodeFlaw (setting caps pools.now) code.now e) }
 {
-    if pools.chains.is_empty() && pools.switches.is_empty() {
+    let entries = pools.chains.len().max(pools.switches.len());
+    if entries == 0 {
         check_instructions(pools, &mut Passed::<0>::new(), code)
+    } else if entries <= 64 * FEW_WORDS {
+        check_instructions(pools, &mut Passed::<FEW_WORDS>::new(), code)
     } else {
         check_instructions(pools, &mut Passed::<WORDS>::new(), code)
     }

@@ -5,9 +5,12 @@
 //! about these definitions alone. A host uses `grain`, which gives out what is for hosts.
 #![tactic(auto)]
 
+mod asks;
 mod capabilities;
 mod constants;
+mod effect;
 mod error;
+mod flow;
 mod functions;
 mod indices;
 pub mod laws;
@@ -15,9 +18,12 @@ mod passed;
 mod pools;
 mod unindexed;
 
+pub use asks::{Asks, asked_beside, chain_caps, name_caps};
 pub use capabilities::{allows, missing};
 pub use constants::{check_constants, constant_caps};
+pub use effect::Effect;
 pub use error::VerifyError;
+pub use flow::Flow;
 pub use functions::check_functions;
 pub use indices::check_code;
 pub use pools::Pools;

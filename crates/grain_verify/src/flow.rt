@@ -1,7 +1,10 @@
 //! How operations are left.
 ghost use Rattle.std.specs.Prelude.{◌≡◌, ◌↔◌, ℕ, IsTrue};
+ghost use Rattle.grain_rules.specs.EffectView.{flow_view};
 ghost use Rattle.grain_rules.specs.FlowFields.{iterators_for};
 ghost use Rattle.grain_verify.specs.FlowView.{HasTarget, flow};
+
+use grain_rules::Flow as ToldFlow;
 
 /// How an operation is left, and what that does to iterators and handlers. Where it leads is its target.
 #[derive(Clone, Copy, PartialEq, Eq, Debug)]
@@ -29,6 +32,25 @@ pub(crate) enum Flow {
 }
 
 impl Flow {
+    /// How an operation is left, apart from where it leads; of a flow that leads nowhere that is 0.
+    #[inline(always)]
+    pub(crate) fn with_target(told: ToldFlow) -> (Flow, u32)
+        ensures { flow result.0 result.1 ≡ flow_view told }
+    {
+        match told {
+            ToldFlow::Falls => (Flow::Falls, 0),
+            ToldFlow::Ends => (Flow::Ends, 0),
+            ToldFlow::Jumps(target) => (Flow::Jumps, target),
+            ToldFlow::Branches(target) => (Flow::Branches, target),
+            ToldFlow::Switches(index) => (Flow::Switches, index),
+            ToldFlow::BeginsIterator => (Flow::BeginsIterator, 0),
+            ToldFlow::AdvancesIterator(exit) => (Flow::AdvancesIterator, exit),
+            ToldFlow::EndsIterator => (Flow::EndsIterator, 0),
+            ToldFlow::PushesHandler(target) => (Flow::PushesHandler, target),
+            ToldFlow::PopsHandler => (Flow::PopsHandler, 0),
+        }
+    }
+
     /// How many iterators there have to be.
     #[inline(always)]
     pub(crate) fn iterators_needed(self) -> u32

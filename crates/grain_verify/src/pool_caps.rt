@@ -1,14 +1,14 @@
 //! What names and chains ask, computed once.
 ghost use Rattle.std.specs.Prelude.{◌≡◌, IfOk, get_or, map};
 ghost use Rattle.grain_base.specs.declared.caps.Caps.{Caps};
-ghost use Rattle.grain_rules.specs.Capabilities.{chain_caps, module_of, name_caps, root_caps, step_caps};
+ghost use Rattle.grain_rules.specs.Capabilities.{chain_caps, name_caps};
+ghost use Rattle.grain_rules.specs.EffectView.{asked_in};
 ghost use Rattle.grain_rules.specs.Setting.{Setting, setting};
 ghost use Rattle.grain_verify.specs.PoolCaps.{AreAsked, numbers};
 
 use grain_base::{Caps, Flags};
-use grain_bytecode::names::split_qualified;
-use grain_bytecode::{Chain, Root, Step, Strings};
-use grain_rules::Pools;
+use grain_bytecode::{Chain, Strings};
+use grain_rules::{Asks, Pools, chain_caps, name_caps};
 use std::alloc::{AllocError, Global};
 
 /// What each name and each chain of the pools asks.
@@ -31,21 +31,18 @@ impl PoolCaps {
         })
     }
 
-    /// What an instruction asks that names the variable or the function of an index.
+    /// What an operation asks.
     #[inline(always)]
-    pub(crate) fn of_name(&self, index: u32) -> Caps
-        ensures { (s : Setting) → AreAsked s self.now → result.0 ≡ module_of s index }
+    pub(crate) fn of(&self, asks: Asks) -> Caps
+        ensures { (s : Setting) → AreAsked s self.now → result.0 ≡ asked_in s asks }
     {
-        caps_at(&self.names, index)
-    }
-
-    /// What the chain of an index asks.
-    #[inline(always)]
-    pub(crate) fn of_chain(&self, index: u32) -> Caps
-        ensures { (s : Setting) → AreAsked s self.now
-            → result.0 ≡ get_or (map chain_caps s.chains) index 0 }
-    {
-        caps_at(&self.chains, index)
+        match asks {
+            Asks::Nothing => Caps::empty(),
+            Asks::These(caps) => caps,
+            Asks::Name(name) => caps_at(&self.names, name),
+            Asks::NameOnThis(name) => Caps::THIS.union(caps_at(&self.names, name)),
+            Asks::Chain(chain) => caps_at(&self.chains, chain),
+        }
     }
 }
 
@@ -77,44 +74,4 @@ fn all_chain_caps(alloc: Global, chains: &[Chain]) -> Result<Vec<Caps>, AllocErr
         all.push(chain_caps(chain))?;
     }
     Ok(all)
-}
-
-/// What naming a variable or a function so asks: a qualified name is one of a module.
-fn name_caps(name: &str) -> Caps
-    ensures { result.0 ≡ name_caps name.now }
-{
-    match split_qualified(name) {
-        Some(_) => Caps::MODULE,
-        None => Caps::empty(),
-    }
-}
-
-/// What a chain asks: what its root and each of its steps do.
-fn chain_caps(chain: &Chain) -> Caps
-    ensures { result.0 ≡ chain_caps chain.now }
-{
-    let mut all = root_caps(&chain.root);
-    for step in &chain.steps {
-        all = all.union(step_caps(step));
-    }
-    all
-}
-
-fn root_caps(root: &Root) -> Caps
-    ensures { result.0 ≡ root_caps root.now }
-{
-    match root {
-        Root::This { .. } => Caps::THIS,
-        Root::Local { .. } | Root::Named { .. } | Root::Temporary => Caps::empty(),
-    }
-}
-
-fn step_caps(step: &Step) -> Caps
-    ensures { result.0 ≡ step_caps step.now }
-{
-    match step {
-        Step::Index { .. } => Caps::INDEXING,
-        Step::Property { .. } => Caps::PROPERTY,
-        Step::Method { .. } => Caps::METHOD,
-    }
 }

@@ -98,45 +98,7 @@ fn write_op<L: Lookups>(out: &mut String, lookups: &L, op: &Op) -> Result<(), Di
             what: "custom syntax site",
             index: *index,
         }),
-        Op::Unit
-        | Op::Bool(_)
-        | Op::LoadLocal(_)
-        | Op::StoreLocal { .. }
-        | Op::Pop
-        | Op::Jump(_)
-        | Op::JumpIfTrue { .. }
-        | Op::JumpIfFalse { .. }
-        | Op::SkipIfNotUnit { .. }
-        | Op::Rotate(_)
-        | Op::Share(_)
-        | Op::LoadShared(_)
-        | Op::MakeFnPtr
-        | Op::IsShared
-        | Op::Curry(_)
-        | Op::CallFnPtr { .. }
-        | Op::MakeArray(_)
-        | Op::MakeMap(_)
-        | Op::CheckSize { .. }
-        | Op::InterpolateStart
-        | Op::InterpolateAppend
-        | Op::InterpolateEnd
-        | Op::UnwindTo(_)
-        | Op::Tick
-        | Op::Checkpoint
-        | Op::Statement { .. }
-        | Op::Throw
-        | Op::IterInit
-        | Op::IterNext { .. }
-        | Op::IterDrop
-        | Op::PushHandler { .. }
-        | Op::PopHandler
-        | Op::StoreShared(_)
-        | Op::Return
-        | Op::LoadThis
-        | Op::LoadThisShared
-        | Op::RequireThis
-        | Op::AssignThis { op: None }
-        | Op::EvalAst { .. } => {
+        _ => {
             write!(out, "{op:?}")?;
             Ok(())
         }

@@ -1,0 +1,100 @@
+//! What operations, names and chains ask of the host.
+ghost use Rattle.std.specs.Prelude.{◌≡◌, ℕ, get_or, map};
+ghost use Rattle.grain_rules.specs.Capabilities.{chain_caps, name_caps, root_caps, step_caps};
+ghost use Rattle.grain_rules.specs.EffectView.{asked_in};
+ghost use Rattle.grain_rules.specs.Setting.{pools_with};
+
+use crate::pools::Pools;
+use grain_base::{Caps, Flags};
+use grain_bytecode::names::split_qualified;
+use grain_bytecode::{Chain, Root, Step, Strings};
+
+/// What an operation asks of the host. What a name or a chain asks is told by the pools that it stands in.
+#[derive(Clone, Copy, Debug, PartialEq, Eq)]
+pub enum Asks {
+    /// Nothing.
+    Nothing,
+    /// These capabilities.
+    These(Caps),
+    /// What the name of an index asks.
+    Name(u32),
+    /// `THIS`, and what the name of an index asks.
+    NameOnThis(u32),
+    /// What the chain of an index asks.
+    Chain(u32),
+}
+
+/// What naming a variable or a function so asks: a qualified name is one of a module.
+#[must_use]
+pub fn name_caps(name: &str) -> Caps
+    ensures { result.0 ≡ name_caps name.now }
+{
+    match split_qualified(name) {
+        Some(_) => Caps::MODULE,
+        None => Caps::empty(),
+    }
+}
+
+/// What a chain asks: what its root and each of its steps do. It goes through the steps.
+#[must_use]
+pub fn chain_caps(chain: &Chain) -> Caps
+    ensures { result.0 ≡ chain_caps chain.now }
+{
+    let mut all = root_caps(&chain.root);
+    for step in &chain.steps {
+        all = all.union(step_caps(step));
+    }
+    all
+}
+
+fn root_caps(root: &Root) -> Caps
+    ensures { result.0 ≡ root_caps root.now }
+{
+    match root {
+        Root::This { .. } => Caps::THIS,
+        Root::Local { .. } | Root::Named { .. } | Root::Temporary => Caps::empty(),
+    }
+}
+
+fn step_caps(step: &Step) -> Caps
+    ensures { result.0 ≡ step_caps step.now }
+{
+    match step {
+        Step::Index { .. } => Caps::INDEXING,
+        Step::Property { .. } => Caps::PROPERTY,
+        Step::Method { .. } => Caps::METHOD,
+    }
+}
+
+/// What an operation asks that stands beside these pools; an index past a pool asks nothing. It goes through the name or the
+/// chain.
+#[must_use]
+pub fn asked_beside(pools: &Pools<'_>, asks: Asks) -> Caps
+    ensures { (caps : ℕ) → result.0 ≡ asked_in (pools_with caps pools.now) asks }
+{
+    match asks {
+        Asks::Nothing => Caps::empty(),
+        Asks::These(caps) => caps,
+        Asks::Name(name) => asked_by_name(pools.names, name),
+        Asks::NameOnThis(name) => Caps::THIS.union(asked_by_name(pools.names, name)),
+        Asks::Chain(chain) => asked_by_chain(pools.chains, chain),
+    }
+}
+
+fn asked_by_name(names: &Strings, index: u32) -> Caps
+    ensures { result.0 ≡ get_or (map name_caps names.now) index 0 }
+{
+    match names.get(index) {
+        Some(name) => name_caps(name),
+        None => Caps::empty(),
+    }
+}
+
+fn asked_by_chain(chains: &[Chain], index: u32) -> Caps
+    ensures { result.0 ≡ get_or (map chain_caps chains.now) index 0 }
+{
+    match chains.get(index as usize) {
+        Some(chain) => chain_caps(chain),
+        None => Caps::empty(),
+    }
+}
