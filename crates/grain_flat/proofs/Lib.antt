@@ -6,10 +6,15 @@ mod FlatAlike
 mod FlatIndices
 mod FlatVerdicts
 mod Flatness
+mod HexDigits
 mod Keys
+mod Listed
+mod ListedEntries
 mod Members
 mod Pieces
+pub mod Redeclared
 mod StepRows
 mod SwitchRows
 mod Texts
 mod Wholes
+mod Words
