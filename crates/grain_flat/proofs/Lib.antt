@@ -17,4 +17,3 @@ mod StepRows
 mod SwitchRows
 mod Texts
 mod Wholes
-mod Words

@@ -10,7 +10,7 @@ use Rattle.grain.specs.Tightened.{undeclared_chunk}
 use Rattle.grain.specs.Typing.{HasTyping, Passes}
 use Rattle.grain_bytecode.specs.declared.Op.{Op}
 use Rattle.grain_flat.specs.Answers.{Accepts}
-use Rattle.grain_flat.specs.Flat.{Rest, Whole, flat_input, rest_input}
+use Rattle.grain_flat.specs.Flat.{flat_input, rest_input}
 use Rattle.grain_flat.specs.Tightening.{AreDeclaring, Tightens, declared}
 use Rattle.grain_flat.specs.declared.records.CPools.{CPools}
 

@@ -1,5 +1,5 @@
 -- The text of an instruction: what it is called, and its fields in order.
-use Rattle.std.specs.Prelude.{ℕ, Bool, true, false, List, [], ◌∷◌, ◌++◌, Some, None, codes, decimal, ◌==◌, if◌then◌else◌}
+use Rattle.std.specs.Prelude.{ℕ, true, false, List, [], ◌∷◌, ◌++◌, Some, None, codes, decimal, ◌==◌, if◌then◌else◌}
 use Rattle.std.specs.List.{flat_map}
 use Rattle.grain_bytecode.specs.declared.Op.{Op}
 use Rattle.grain_bytecode.specs.declared.Op.TheVariants as ops

@@ -1,5 +1,5 @@
 -- Lists as they are written into room that a caller has.
-use Rattle.std.specs.Prelude.{◌≡◌, ℕ, List, ◌++◌, drop, length, map, take, Option, Some, None}
+use Rattle.std.specs.Prelude.{List, ◌++◌, drop, length, take, Option, Some, None}
 use Rattle.grain.specs.AddressTable.{Entry}
 use Rattle.grain_base.specs.declared.pos.Site.{Site}
 use Rattle.grain_flat.specs.declared.records.CEntry.{CEntry}
