@@ -1,4 +1,5 @@
-/* Verifies code with names, a chain and a switch, prints the numbers of its chunks, and prints a refusal as text. */
+/* Verifies code with names, a chain and a switch, prints the numbers of its chunks and a refusal as text; has chunks declare
+ * their numbers; and prints the code, instruction by instruction, with the places of an address table and a stream. */
 #include "grain.h"
 
 #include <stdio.h>
@@ -68,9 +69,50 @@ static uint32_t verify(uint16_t caps, const grain_pools *given) {
     return answer;
 }
 
+/* Has each chunk declare its number. */
+static bool tighten(const grain_pools *given) {
+    grain_chunk own[] = {{0, 8, 9}, {8, 13, 9}};
+    grain_fault fault = {0};
+    uint64_t looked = 0;
+    if (grain_tighten(0x7fff, code, sizeof code, own, LENGTH(own), given, &fault, &looked) != GRAIN_ACCEPTED)
+        return false;
+    printf("declared %u %u\n", own[0].max_stack, own[1].max_stack);
+    return true;
+}
+
+/* Prints the instructions of the first chunk, each with its line and column. */
+static bool list_code(void) {
+    static const uint8_t table[] = {3, 0, 1, 5, 1, 1, 7, 3, 2, 1};
+    grain_entry entries[LENGTH(table) / 3];
+    size_t count = 0;
+    if (grain_table_entries(table, sizeof table, entries, LENGTH(entries), &count) != GRAIN_WRITTEN)
+        return false;
+    for (size_t i = 0; i < count; i++) {
+        uint8_t text[128];
+        size_t size = 0;
+        if (grain_instruction_text(code, sizeof code, entries[i].address, text, sizeof text, &size) != GRAIN_WRITTEN)
+            return false;
+        printf("%u:%u %.*s\n", entries[i].line, entries[i].column, (int)size, (const char *)text);
+    }
+    return true;
+}
+
+/* Prints the sites of a stream of two slots, of which the second has none. */
+static bool list_sites(void) {
+    static const uint8_t stream[] = {2, 1, 7, 0, 0};
+    grain_place sites[LENGTH(stream) / 2];
+    size_t count = 0;
+    if (grain_stream_sites(stream, sizeof stream, sites, LENGTH(sites), &count) != GRAIN_WRITTEN)
+        return false;
+    for (size_t i = 0; i < count; i++)
+        printf("slot %zu: %u:%u\n", i, sites[i].line, sites[i].column);
+    return true;
+}
+
 int main(void) {
     grain_pools good = pools();
     bool as_wanted = verify(0x7fff, &good) == GRAIN_ACCEPTED;
+    as_wanted = tighten(&good) && list_code() && list_sites() && as_wanted;
 
     /* The host lacks the capability of properties, which the second chunk asks. */
     as_wanted = verify(0x7dff, &good) == GRAIN_REFUSED && as_wanted;

@@ -3,6 +3,7 @@
 
 #include <stdio.h>
 #include <stdlib.h>
+#include <string.h>
 
 #define LENGTH(list) (sizeof(list) / sizeof *(list))
 
@@ -52,9 +53,8 @@ static bool is_same(const grain_fault *fault, uint64_t value) {
            fault->second == value;
 }
 
-/* The answer on these chunks, or -1 where what isn't to be written was, or memory is left. */
-static long verify(const grain_chunk *chunks, size_t many) {
-    const grain_pools pools = {
+static grain_pools pools(void) {
+    return (grain_pools){
         .constants = constants, .constants_len = LENGTH(constants),
         .names = names, .names_len = LENGTH(names),
         .starts = starts, .starts_len = LENGTH(starts),
@@ -65,11 +65,16 @@ static long verify(const grain_chunk *chunks, size_t many) {
         .cases = cases, .cases_len = LENGTH(cases),
         .ranges = ranges, .ranges_len = LENGTH(ranges),
     };
+}
+
+/* The answer on these chunks, or -1 where what isn't to be written was, or memory is left. */
+static long verify(const grain_chunk *chunks, size_t many) {
+    const grain_pools given = pools();
     uint16_t numbers[4] = {777, 777, 777, 777};
     grain_fault fault = {777, 777, 777, 777, 777};
     uint64_t looked = 777;
     uint32_t answer =
-        grain_verify(0x7fff, code, sizeof code, chunks, many, &pools, numbers, LENGTH(numbers), &fault, &looked);
+        grain_verify(0x7fff, code, sizeof code, chunks, many, &given, numbers, LENGTH(numbers), &fault, &looked);
     for (size_t i = answer == GRAIN_ACCEPTED ? many : 0; i < LENGTH(numbers); i++)
         if (numbers[i] != 777)
             return -1;
@@ -78,16 +83,38 @@ static long verify(const grain_chunk *chunks, size_t many) {
     return answer;
 }
 
-static long print(const grain_chunk *chunks, size_t many) {
-    (void)chunks;
-    (void)many;
-    const grain_fault fault = {GRAIN_FAULT_UNDERFLOW, 0, 1, 2, 3};
-    uint8_t text[64] = {0};
-    size_t size = 777;
-    uint32_t answer = grain_fault_text(&fault, text, sizeof text, &size);
-    if ((answer == GRAIN_WRITTEN) == (size == 777) || (answer != GRAIN_WRITTEN && text[0] != 0) || live != 0)
+/* The same where each chunk is to declare its number. */
+static long tighten(const grain_chunk *chunks, size_t many) {
+    const grain_pools given = pools();
+    grain_chunk own[4];
+    memcpy(own, chunks, many * sizeof *own);
+    grain_fault fault = {777, 777, 777, 777, 777};
+    uint64_t looked = 777;
+    uint32_t answer = grain_tighten(0x7fff, code, sizeof code, own, many, &given, &fault, &looked);
+    if ((answer != GRAIN_ACCEPTED) != (memcmp(own, chunks, many * sizeof *own) == 0))
+        return -1;
+    if ((answer == GRAIN_REFUSED) == is_same(&fault, 777) || (answer == GRAIN_ACCEPTED) == (looked == 777) || live != 0)
         return -1;
     return answer;
+}
+
+/* What takes no memory answers where none is to be had. */
+static bool needs_none(void) {
+    const grain_fault fault = {GRAIN_FAULT_UNDERFLOW, 0, 1, 2, 3};
+    static const uint8_t table[] = {1, 0, 1, 5};
+    static const uint8_t stream[] = {1, 1, 7};
+    uint8_t text[64];
+    size_t size = 0;
+    grain_entry entry;
+    grain_place place;
+    left = 0;
+    bool well = grain_fault_text(&fault, text, sizeof text, &size) == GRAIN_WRITTEN;
+    well = grain_instruction_text(code, sizeof code, 1, text, sizeof text, &size) == GRAIN_WRITTEN && well;
+    well = grain_table_entries(table, sizeof table, &entry, 1, &size) == GRAIN_WRITTEN && well;
+    well = grain_stream_sites(stream, sizeof stream, &place, 1, &size) == GRAIN_WRITTEN && well;
+    left = -1;
+    printf("texts and lists: no memory%s\n", well ? "" : ": WRONG");
+    return well;
 }
 
 /* Runs the call with 0, 1, 2 .. allocations until none fails. */
@@ -111,10 +138,12 @@ static bool each_fails(const char *what, long (*call)(const grain_chunk *, size_
 }
 
 int main(void) {
-    const grain_chunk good[] = {{0, 8, 2}, {8, 13, 1}};
+    const grain_chunk good[] = {{0, 8, 3}, {8, 13, 1}};
     const grain_chunk bad[] = {{0, 8, 2}, {8, 13, 1}, {0, 8, 0}};
     bool well = each_fails("accepted", verify, good, LENGTH(good), GRAIN_ACCEPTED);
     well = each_fails("refused", verify, bad, LENGTH(bad), GRAIN_REFUSED) && well;
-    well = each_fails("text", print, good, 0, GRAIN_WRITTEN) && well;
+    well = each_fails("tightened", tighten, good, LENGTH(good), GRAIN_ACCEPTED) && well;
+    well = each_fails("not tightened", tighten, bad, LENGTH(bad), GRAIN_REFUSED) && well;
+    well = needs_none() && well;
     return well ? 0 : 1;
 }

@@ -7,7 +7,8 @@
  * - A pointer that stands before a length points to as many items, which are set; a list that is only written to, too.
  * - What is written overlaps nothing else that the call is given, and no other thread reads or writes it meanwhile.
  *   What is only read may overlap, and many calls may read it at once.
- * - The library allocates by malloc, realloc and free of the C library, and frees all that it took before it returns.
+ * - The library allocates by malloc, realloc and free of the C library, and frees all that it took before it returns; of
+ *   its calls only grain_verify and grain_tighten do.
  *   The three have to be of one allocator, and to align a block to each power of two up to 16 that divides its size.
  *   So it isn't called from a signal handler, nor from the forked child of a process of many threads.
  * - A call takes up to 22 KiB of the stack of its thread.
@@ -124,14 +125,16 @@ extern "C" {
 /* The number of this interface. grain_interface() answers that of the library: where they differ, don't call it. */
 #define GRAIN_INTERFACE 1
 
-/* What grain_verify and grain_fault_text answer. */
-#define GRAIN_ACCEPTED 0      /* all is accepted, and the numbers of the chunks are written */
-#define GRAIN_REFUSED 1       /* it is refused, and why is written */
-#define GRAIN_SHORT 2         /* there are fewer numbers than chunks, or less room than the text has bytes */
-#define GRAIN_OUT_OF_MEMORY 3 /* memory was wanted */
-#define GRAIN_NOT_FLAT 4      /* no pools have this flat form */
-#define GRAIN_WRITTEN 0       /* the text is written */
-#define GRAIN_NO_REFUSAL 1    /* the record tells no refusal */
+/* What calls answer that verify or write. */
+#define GRAIN_ACCEPTED 0       /* all is accepted, and the numbers of the chunks are written */
+#define GRAIN_REFUSED 1        /* it is refused, and why is written */
+#define GRAIN_SHORT 2          /* there are fewer numbers than chunks, or less room than there are bytes or items */
+#define GRAIN_OUT_OF_MEMORY 3  /* memory was wanted */
+#define GRAIN_NOT_FLAT 4       /* no pools have this flat form */
+#define GRAIN_WRITTEN 0        /* the text or the list is written */
+#define GRAIN_NO_REFUSAL 1     /* the record tells no refusal */
+#define GRAIN_NO_INSTRUCTION 1 /* no instruction stands at the address */
+#define GRAIN_NO_STREAM 1      /* the bytes are no stream */
 
 /* Why a program is refused: the kind of a grain_fault. What `first` and `second` are is said beside; 0 where nothing is. */
 #define GRAIN_FAULT_MISSING_CAPS 1             /* first: the capabilities that aren't there, or of a constant all that it
@@ -312,6 +315,22 @@ GRAIN_ASSERT(sizeof(grain_instruction_row) == 28 && offsetof(grain_instruction_r
                  offsetof(grain_instruction_row, fields) == 4,
              "grain_instruction_row");
 
+/* An entry of an address table: the address of an instruction, its line, or 0 where that isn't known, and its column. */
+typedef struct {
+    uint32_t address;
+    uint32_t line;
+    uint32_t column;
+} grain_entry;
+GRAIN_ASSERT(sizeof(grain_entry) == 12 && offsetof(grain_entry, line) == 4 && offsetof(grain_entry, column) == 8,
+             "grain_entry");
+
+/* A place in a source text: a line, or 0 where there is none, and a column. */
+typedef struct {
+    uint32_t line;
+    uint32_t column;
+} grain_place;
+GRAIN_ASSERT(sizeof(grain_place) == 8 && offsetof(grain_place, column) == 4, "grain_place");
+
 /* Verifies a program: its code, its chunks, and what it has beside them. GRAIN_ACCEPTED: the number of each chunk is
  * written, the greatest operand count that any run of it reaches, and the other numbers stay; and *looked, how many
  * places the chunks reach, each for itself, which is what their walks have visited. GRAIN_REFUSED: why is written. Else
@@ -326,9 +345,15 @@ uint32_t grain_verify(uint16_t caps, const uint8_t *code, size_t code_len, const
                       const grain_pools *pools, uint16_t *numbers, size_t numbers_len, grain_fault *fault,
                       uint64_t *looked);
 
+/* Verifies a program as grain_verify does, and has each chunk declare its number. GRAIN_ACCEPTED: each max_stack is the
+ * chunk's number, with which the program is accepted again, all else of the chunks stays, and *looked is written.
+ * GRAIN_REFUSED: why is written. Else nothing is. That pools are flat is tested first. */
+uint32_t grain_tighten(uint16_t caps, const uint8_t *code, size_t code_len, grain_chunk *chunks, size_t chunks_len,
+                       const grain_pools *pools, grain_fault *fault, uint64_t *looked);
+
 /* The text of a refusal, in ASCII and without a 0 at its end. GRAIN_WRITTEN: it stands in front of the room, and how
- * many bytes it has in *size. GRAIN_SHORT: the latter alone is written. GRAIN_NO_REFUSAL, GRAIN_OUT_OF_MEMORY: nothing
- * is. No text is longer than 128 bytes. */
+ * many bytes it has in *size. GRAIN_SHORT: the latter alone is written. GRAIN_NO_REFUSAL: nothing is. No text is longer
+ * than 128 bytes. It takes no memory, so that GRAIN_OUT_OF_MEMORY isn't answered any more. */
 uint32_t grain_fault_text(const grain_fault *fault, uint8_t *text, size_t text_len, size_t *size);
 
 /* Whether instructions that begin with this byte are quiet (above, at grain_verify). Of a byte with which none begins nothing
@@ -344,17 +369,35 @@ bool grain_count_instructions(const uint8_t *code, size_t code_len, size_t *coun
 /* The instruction at an address; false, and nothing is written, where none stands there. */
 bool grain_instruction(const uint8_t *code, size_t code_len, size_t at, grain_instruction_row *instruction);
 
+/* The text of the instruction at an address, in ASCII and without a 0 at its end: what it is called (the name of its
+ * GRAIN_TAG) and its fields in order, with a space before each, as CALL 3 2. GRAIN_WRITTEN: it stands in front of the
+ * room, and how many bytes it has in *size. GRAIN_SHORT: the latter alone is written. GRAIN_NO_INSTRUCTION: nothing is.
+ * No text is longer than 128 bytes. */
+uint32_t grain_instruction_text(const uint8_t *code, size_t code_len, size_t at, uint8_t *text, size_t text_len,
+                                size_t *size);
+
 /* The line and the column of an address in an address table; false, and nothing is written, where there are none. */
 bool grain_site(const uint8_t *table, size_t table_len, uint32_t address, uint32_t *line, uint32_t *column);
 
 /* Whether bytes are an address table: GRAIN_SOUND, or what is wrong first and *named. */
 uint32_t grain_check_table(const uint8_t *table, size_t table_len, uint64_t *named);
 
+/* The entries of an address table in order, in one pass: those in front of the first damage (grain_check_table says whether
+ * there is some). They stand in front of the list, as many as it has places for, and how many there are in *count.
+ * GRAIN_WRITTEN: the list has a place for each. GRAIN_SHORT: it has fewer. An entry takes 3 bytes of the table or more. */
+uint32_t grain_table_entries(const uint8_t *table, size_t table_len, grain_entry *entries, size_t entries_len,
+                             size_t *count);
+
 /* The line and the column that a stream records for a slot; false, and nothing is written, where it records none. */
 bool grain_stream_site(const uint8_t *stream, size_t stream_len, uint32_t slot, uint32_t *line, uint32_t *column);
 
 /* Whether bytes are a stream: GRAIN_SOUND, or what is wrong first and *named. */
 uint32_t grain_check_stream(const uint8_t *stream, size_t stream_len, uint64_t *named);
+
+/* The sites of a stream, slot by slot: they stand in front of the list, as many as it has places for, and how many slots
+ * there are in *count. GRAIN_WRITTEN: the list has a place for each. GRAIN_SHORT: it has fewer. GRAIN_NO_STREAM: the bytes
+ * are none, and nothing is written. A slot takes 2 bytes of the stream or more. */
+uint32_t grain_stream_sites(const uint8_t *stream, size_t stream_len, grain_place *sites, size_t sites_len, size_t *count);
 
 #ifdef __cplusplus
 }

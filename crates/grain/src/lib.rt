@@ -26,8 +26,8 @@ pub use grain_bytecode::{
     Field, Fields, Function, Head as InstructionHead, Instruction, Lookups, Names, Op, Pool,
     Positions, Receiver, Root, Starts, Step, StepFlags, Strings, StringsError, StripError, Switch,
     SwitchRange, TableError, TagFlow, TagRow, Tail, assemble, count_instructions, decode,
-    disassemble, names, resolve_switch_targets, site_to_position, sites, tag, tag_name, tag_row,
-    u16_at, u32_at, width,
+    disassemble, names, resolve_switch_targets, site_to_position, sites, tag, tag_row, u16_at,
+    u32_at, width,
 };
 pub use grain_rules::{Asks, Effect, Flow, Pools, VerifyError, asked_beside, constant_caps};
 pub use grain_verify::{Meter, Refusal, is_quiet, verify, verify_metered, verify_placed};

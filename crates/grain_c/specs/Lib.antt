@@ -1,3 +1,4 @@
 pub mod Flaws
+pub mod Written
 
 -- what the parts of an export promise each other

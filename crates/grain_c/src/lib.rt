@@ -12,8 +12,10 @@ mod tables;
 #[cfg(test)]
 mod tests;
 mod text;
+mod tighten;
 mod verify;
 
 pub use grain_flat::{
-    CCase, CChain, CChunk, CConstant, CFault, CField, CInstruction, CPools, CStep, CSwitch,
+    CCase, CChain, CChunk, CConstant, CEntry, CFault, CField, CInstruction, CPlace, CPools, CStep,
+    CSwitch,
 };

@@ -1,5 +1,5 @@
 //! Address tables, and streams of the positions of chains.
-ghost use Rattle.std.specs.Prelude.{◌≡◌, ◌≢◌, ◌↔◌, List, Option, Some, None, cond};
+ghost use Rattle.std.specs.Prelude.{◌≡◌, ◌≢◌, ◌↔◌, List, Option, Some, None, cond, length, map};
 ghost use Rattle.std.specs.Bool.{OnFalse, OnTrue};
 ghost use Rattle.grain.specs.AddressTable.{Entry, FirstFlaw, LongestFront, Table, site_at};
 ghost use Rattle.grain.specs.ChainStream.{Records, Stream, StreamFlaw};
@@ -7,11 +7,15 @@ ghost use Rattle.grain_base.specs.declared.pos.Error.{Error as TableError};
 ghost use Rattle.grain_base.specs.declared.pos.Site.{Site};
 ghost use Rattle.grain_bytecode.specs.declared.sites.StreamError.{StreamError};
 ghost use Rattle.grain_c.specs.Flaws.{stream_flaw, table_flaw};
+ghost use Rattle.grain_c.specs.Written.{HadRoom};
+ghost use Rattle.grain_flat.specs.Listing.{entry_row, listed, place_row};
 
+use crate::answers::{NO_STREAM, SHORT, WRITTEN};
 use crate::flaws::{OUT_OF_ORDER, OVERFLOW, SOUND, TRAILING_BYTES, TRUNCATED};
 use grain::pos::Error as TableError;
 use grain::sites::StreamError;
 use grain::{pos, sites};
+use grain_flat::{CEntry, CPlace, list_entries, list_sites};
 
 /// A flaw of an address table, and the address or the count that it names, or 0.
 fn table_flaw(error: TableError) -> (u32, u64)
@@ -113,4 +117,50 @@ pub extern "C" fn grain_check_stream(stream: &[u8], named: &mut u64) -> u32
             flaw
         }
     }
+}
+
+/// Whether a list of so many items had room.
+fn had_room(count: usize, room: usize) -> u32
+    ensures { HadRoom count room result }
+{
+    if count <= room { WRITTEN } else { SHORT }
+}
+
+/// The entries of an address table in order, those in front of the first damage, in one pass: they stand in front of the list,
+/// as many as it has places for, and how many there are is written.
+///
+/// 0 where the list has a place for each, 2 where it has fewer.
+#[unsafe(no_mangle)]
+pub extern "C" fn grain_table_entries(
+    table: &[u8],
+    entries: &mut [CEntry],
+    count: &mut usize,
+) -> u32
+    ensures entries { (front : List Entry) × LongestFront table.now front
+        × (count.new ≡ length front)
+        × (entries.new ≡ listed (map entry_row front) entries.old) }
+    ensures room { HadRoom count.new (length entries.old) result }
+{
+    *count = list_entries(table, entries);
+    had_room(*count, entries.len())
+}
+
+/// The sites of a stream, slot by slot, of which line 0 says that there is none: they stand in front of the list, as many as it
+/// has places for, and how many there are is written.
+///
+/// 0 where the list has a place for each, 2 where it has fewer; 1 where the bytes are no stream, and then nothing is written.
+#[unsafe(no_mangle)]
+pub extern "C" fn grain_stream_sites(stream: &[u8], sites: &mut [CPlace], count: &mut usize) -> u32
+    ensures sites { result ≢ NO_STREAM → (slots : List (Option Site)) × Stream stream.now slots
+        × (count.new ≡ length slots) × (sites.new ≡ listed (map place_row slots) sites.old) }
+    ensures room { result ≢ NO_STREAM → HadRoom count.new (length sites.old) result }
+    ensures no_stream { (result ≡ NO_STREAM)
+        ↔ ((slots : List (Option Site)) → Stream stream.now slots → ⊥) }
+    ensures kept { result ≡ NO_STREAM → (sites.new ≡ sites.old) × (count.new ≡ count.old) }
+{
+    let Some(slots) = list_sites(stream, sites) else {
+        return NO_STREAM;
+    };
+    *count = slots;
+    had_room(slots, sites.len())
 }

@@ -1,15 +1,22 @@
 //! Each export on its happy path, and rows of refusals.
-use crate::answers::{ACCEPTED, NO_REFUSAL, NOT_FLAT, REFUSED, SHORT, WRITTEN};
+use crate::answers::{
+    ACCEPTED, NO_INSTRUCTION, NO_REFUSAL, NO_STREAM, NOT_FLAT, REFUSED, SHORT, WRITTEN,
+};
 use crate::code::{grain_count_instructions, grain_instruction};
 use crate::flaws::{OUT_OF_ORDER, SOUND, TRAILING_BYTES, TRUNCATED};
-use crate::tables::{grain_check_stream, grain_check_table, grain_site, grain_stream_site};
-use crate::text::grain_fault_text;
+use crate::tables::{
+    grain_check_stream, grain_check_table, grain_site, grain_stream_site, grain_stream_sites,
+    grain_table_entries,
+};
+use crate::text::{grain_fault_text, grain_instruction_text};
+use crate::tighten::grain_tighten;
 use crate::verify::grain_verify;
 use grain_flat::faults::{BAD_INDEX, MISSING_CAPS, NO_CHUNK, UNDERFLOW};
 use grain_flat::kinds::{COUNT, NAME, NOTHING};
 use grain_flat::shapes::{INDEX, PROPERTY, READ, TEMPORARY};
 use grain_flat::{
-    CCase, CChain, CChunk, CConstant, CFault, CField, CInstruction, CPools, CStep, CSwitch,
+    CCase, CChain, CChunk, CConstant, CEntry, CFault, CField, CInstruction, CPlace, CPools, CStep,
+    CSwitch,
 };
 use std::process::Abort;
 use std::test::Fail;
@@ -300,12 +307,108 @@ fn texts_are_written(rt: HostRuntime) {
         first: 7,
         second: u64::from(NAME),
     };
-    let answer = grain_fault_text(rt.alloc(), &fault, &mut text, &mut size);
+    let answer = grain_fault_text(&fault, &mut text, &mut size);
     assert_eq!(rt; (answer, size), (WRITTEN, 32));
     assert!(rt; text.starts_with(b"bad-index at=3 index=7 what=name"));
     let mut short = [77; 31];
-    let answer = grain_fault_text(rt.alloc(), &fault, &mut short, &mut size);
+    let answer = grain_fault_text(&fault, &mut short, &mut size);
     assert_eq!(rt; answer, SHORT);
-    let answer = grain_fault_text(rt.alloc(), &UNWRITTEN, &mut text, &mut size);
+    let answer = grain_fault_text(&UNWRITTEN, &mut text, &mut size);
     assert_eq!(rt; answer, NO_REFUSAL);
+}
+
+#[test]
+fn instructions_are_written(rt: HostRuntime) {
+    let code = [0x02, 0x37, 0x01, 0x00, 0x02, 0x03, 0x00, 0x01, 0xff, 0xff];
+    let (mut text, mut size) = ([77; 64], 77);
+    let answer = grain_instruction_text(&code, 1, &mut text, &mut size);
+    assert_eq!(rt; (answer, size), (WRITTEN, 20));
+    assert!(rt; text.starts_with(b"CALL_NAMED_REF 1 2 3M"));
+    let answer = grain_instruction_text(&code, 0, &mut text, &mut size);
+    assert_eq!(rt; (answer, size), (WRITTEN, 4));
+    assert!(rt; text.starts_with(b"UNIT"));
+    let mut short = [77; 15];
+    let answer = grain_instruction_text(&code, 7, &mut short, &mut size);
+    assert_eq!(rt; (answer, size, short[0]), (SHORT, 16, 77));
+    let answer = grain_instruction_text(&code, 10, &mut text, &mut size);
+    assert_eq!(rt; (answer, size), (NO_INSTRUCTION, 16));
+}
+
+#[test]
+fn entries_are_listed(rt: HostRuntime) {
+    let table = [
+        0x04, 0x00, 0x01, 0x05, 0x03, 0x01, 0x0b, 0x25, 0x07, 0x02, 0x01, 0x09, 0x00,
+    ];
+    let none = CEntry {
+        address: 77,
+        line: 77,
+        column: 77,
+    };
+    let (mut entries, mut count) = ([none; 5], 77);
+    let answer = grain_table_entries(&table, &mut entries, &mut count);
+    assert_eq!(rt; (answer, count), (WRITTEN, 4));
+    let [first, _, _, last, behind] = entries;
+    assert_eq!(rt; (first.address, first.line, first.column), (0, 1, 5));
+    assert_eq!(rt; (last.address, last.line, last.column), (41, 9, 0));
+    assert_eq!(rt; behind.address, 77);
+    let mut few = [none; 1];
+    let answer = grain_table_entries(&table, &mut few, &mut count);
+    assert_eq!(rt; (answer, count, few[0].column), (SHORT, 4, 5));
+}
+
+#[test]
+fn sites_are_listed(rt: HostRuntime) {
+    let stream = [0x04, 0x01, 0x01, 0x00, 0x03, 0x01, 0x02, 0x01, 0x06];
+    let none = CPlace {
+        line: 77,
+        column: 77,
+    };
+    let (mut sites, mut count) = ([none; 5], 77);
+    let answer = grain_stream_sites(&stream[..8], &mut sites, &mut count);
+    assert_eq!(rt; (answer, count, sites[0].line), (NO_STREAM, 77, 77));
+    let answer = grain_stream_sites(&stream, &mut sites, &mut count);
+    assert_eq!(rt; (answer, count), (WRITTEN, 4));
+    let [first, second, _, last, behind] = sites;
+    assert_eq!(rt; (first.line, first.column), (1, 1));
+    assert_eq!(rt; (second.line, second.column), (0, 0));
+    assert_eq!(rt; (last.line, last.column), (1, 6));
+    assert_eq!(rt; behind.line, 77);
+    let mut few = [none; 1];
+    let answer = grain_stream_sites(&stream, &mut few, &mut count);
+    assert_eq!(rt; (answer, count, few[0].line), (SHORT, 4, 1));
+}
+
+#[test]
+fn chunks_are_tightened(rt: HostRuntime) {
+    let code = [0x02, 0x18, 0x00, 0x00, 0x02, 0x13, 0x02, 0x13];
+    let (mut chunks, mut fault, mut looked) = ([whole(&code)], UNWRITTEN, 77);
+    let answer = grain_tighten(
+        rt.alloc(),
+        ALL,
+        &code,
+        &mut chunks,
+        &pools(),
+        &mut fault,
+        &mut looked,
+    );
+    assert_eq!(rt; (answer, fault.kind, looked), (ACCEPTED, 77, 6));
+    assert_eq!(rt;
+        (chunks[0].entry, chunks[0].end, chunks[0].max_stack),
+        (0, 8, 2)
+    );
+    chunks[0].max_stack = 1;
+    let answer = grain_tighten(
+        rt.alloc(),
+        ALL,
+        &code,
+        &mut chunks,
+        &pools(),
+        &mut fault,
+        &mut looked,
+    );
+    assert_eq!(rt;
+        (answer, fault.kind, fault.first, looked),
+        (REFUSED, 10, 2, 6)
+    );
+    assert_eq!(rt; chunks[0].max_stack, 1);
 }

@@ -1,13 +1,16 @@
-//! Refusals as texts.
-ghost use Rattle.std.specs.Prelude.{◌≡◌, ◌≢◌, ◌<◌, ◌≤◌, ◌↔◌, ◌++◌, IfNone, IfOk, IfSome, ℕ, List, drop, length, string_bytes};
+//! Refusals and instructions as texts, without memory.
+ghost use Rattle.std.specs.Prelude.{◌≡◌, ◌≢◌, ◌<◌, ◌≤◌, ◌↔◌, ◌++◌, IfNone, IfSome, ℕ, List, drop, length};
+ghost use Rattle.grain.specs.Split.{NoneStandsAt, StandsAt};
 ghost use Rattle.grain.specs.Texts.{verify_error_text};
 ghost use Rattle.grain.specs.declared.VerifyError.{VerifyError};
+ghost use Rattle.grain_bytecode.specs.declared.Op.{Op};
+ghost use Rattle.grain_c.specs.Written.{IsWritten};
 ghost use Rattle.grain_flat.specs.Answers.{TellsRefusal, word_kind};
+ghost use Rattle.grain_flat.specs.InstructionTexts.{instruction_text};
 ghost use Rattle.grain_flat.specs.declared.kinds.TheConstants.{NOTHING};
 
-use crate::answers::{NO_REFUSAL, OUT_OF_MEMORY, SHORT, WRITTEN};
-use grain::{Caps, Flags, VerifyError};
-use grain_flat::CFault;
+use crate::answers::{NO_INSTRUCTION, NO_REFUSAL, SHORT, WRITTEN};
+use grain::{Caps, Flags, VerifyError, decode};
 use grain_flat::faults::{
     BAD_INDEX, CHUNK_OUT_OF_RANGE, DEPTH_CONFLICT, FALLS_OFF_THE_END, HANDLER_UNDERFLOW,
     ITERATOR_UNDERFLOW, JUMP_INTO_AN_INSTRUCTION, JUMP_OUT_OF_RANGE, MISSING_CAPS,
@@ -16,7 +19,7 @@ use grain_flat::faults::{
 use grain_flat::kinds::{
     CHAIN, CONSTANT, FRAGMENT, NAME, OP_ASSIGNMENT, OPERAND, OPERATOR, SWITCH, SYNTAX_SITE,
 };
-use std::alloc::{AllocError, Global};
+use grain_flat::{CFault, instruction_text, refusal_text};
 
 /// What a refusal calls an index of this kind, if it is one that a refusal names.
 fn word_of(kind: u32) -> Option<&'static str>
@@ -99,13 +102,6 @@ fn error_of(fault: &CFault) -> Option<VerifyError>
     }
 }
 
-/// The text of a refusal.
-fn text_of(alloc: Global, error: &VerifyError) -> Result<String, AllocError>
-    ensures { IfOk result (λ s. string_bytes s ≡ verify_error_text error.now) }
-{
-    format!(in alloc; "{error}")
-}
-
 /// Writes bytes in front of the room, and leaves the rest of it.
 fn put(room: &mut [u8], bytes: &[u8])
     requires { length bytes.now ≤ length room.old }
@@ -114,42 +110,60 @@ fn put(room: &mut [u8], bytes: &[u8])
     room[..bytes.len()].copy_from_slice(bytes);
 }
 
-/// The text of a refusal, in ASCII, as the line program has it behind `refused`.
+/// Writes how many bytes a text has, and the text in front of the room, if that has as many.
+fn put_text(room: &mut [u8], size: &mut usize, text: &[u8]) -> u32
+    ensures { IsWritten text.now room.old result room.new size.new }
+{
+    *size = text.len();
+    if room.len() < text.len() {
+        return SHORT;
+    }
+    put(room, text);
+    WRITTEN
+}
+
+/// The text of a refusal, in ASCII, as the line program has it behind `refused`. It takes no memory.
 ///
 /// 0 where it is written, and how many bytes it has; 1 where the record tells no refusal; 2 where the text is longer than
-/// the room, and then only how many bytes it has is written; 3 where memory was wanted.
+/// the room, and then only how many bytes it has is written. No text is longer than 128 bytes.
 #[unsafe(no_mangle)]
-pub extern "C" fn grain_fault_text(
-    alloc: Global,
-    fault: &CFault,
-    text: &mut [u8],
-    size: &mut usize,
-) -> u32
-    ensures written { result ≡ WRITTEN → (e : VerifyError) × TellsRefusal fault.now e
-        × (size.new ≡ length (verify_error_text e))
-        × (text.new ≡ verify_error_text e ++ drop (length (verify_error_text e)) text.old) }
-    ensures short { result ≡ SHORT → (e : VerifyError) × TellsRefusal fault.now e
-        × (size.new ≡ length (verify_error_text e))
-        × (length text.old < length (verify_error_text e)) }
+pub extern "C" fn grain_fault_text(fault: &CFault, text: &mut [u8], size: &mut usize) -> u32
+    ensures told { result ≢ NO_REFUSAL → (e : VerifyError) × TellsRefusal fault.now e
+        × IsWritten (verify_error_text e) text.old result text.new size.new }
     ensures no_refusal { (result ≡ NO_REFUSAL) ↔ ((e : VerifyError) → TellsRefusal fault.now e → ⊥) }
-    ensures answers { result ≤ 3 }
 
     // What isn't written stays as it was.
-    ensures text_kept { result ≢ WRITTEN → text.new ≡ text.old }
-    ensures size_kept { (result ≡ NO_REFUSAL → size.new ≡ size.old)
-        × (result ≡ OUT_OF_MEMORY → size.new ≡ size.old) }
+    ensures kept { result ≡ NO_REFUSAL → (text.new ≡ text.old) × (size.new ≡ size.old) }
+    ensures short { result ≢ NO_REFUSAL → size.new ≤ 128 }
 {
     let Some(error) = error_of(fault) else {
         return NO_REFUSAL;
     };
-    let Ok(written) = text_of(alloc, &error) else {
-        return OUT_OF_MEMORY;
+    put_text(text, size, refusal_text(&error).as_slice())
+}
+
+/// The text of the instruction at an address, in ASCII: what it is called, and its fields in order, as `CALL 3 2`. It takes no
+/// memory.
+///
+/// 0 where it is written, and how many bytes it has; 1 where no instruction stands there; 2 where the text is longer than the
+/// room, and then only how many bytes it has is written. No text is longer than 128 bytes.
+#[unsafe(no_mangle)]
+pub extern "C" fn grain_instruction_text(
+    code: &[u8],
+    at: usize,
+    text: &mut [u8],
+    size: &mut usize,
+) -> u32
+    ensures told { result ≢ NO_INSTRUCTION → (op : Op) × StandsAt code.now at op
+        × IsWritten (instruction_text op) text.old result text.new size.new }
+    ensures no_instruction { result ≡ NO_INSTRUCTION → NoneStandsAt code.now at }
+
+    // What isn't written stays as it was.
+    ensures kept { result ≡ NO_INSTRUCTION → (text.new ≡ text.old) × (size.new ≡ size.old) }
+    ensures short { result ≢ NO_INSTRUCTION → size.new ≤ 128 }
+{
+    let Some(op) = decode(code, at) else {
+        return NO_INSTRUCTION;
     };
-    let bytes = written.as_bytes();
-    *size = bytes.len();
-    if text.len() < bytes.len() {
-        return SHORT;
-    }
-    put(text, bytes);
-    WRITTEN
+    put_text(text, size, instruction_text(&op).as_slice())
 }

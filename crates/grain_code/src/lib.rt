@@ -30,5 +30,5 @@ pub use function::Function;
 pub use instruction::Instruction;
 pub use op::{Op, Receiver};
 pub use starts::Starts;
-pub use tag_table::{TagFlow, TagRow, tag_name, tag_row};
+pub use tag_table::{TagFlow, TagRow, tag_row};
 pub use tag_widths::{Head, width};

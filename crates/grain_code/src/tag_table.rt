@@ -1,5 +1,5 @@
 //! What tags tell of instructions: a row for each.
-ghost use Rattle.std.specs.Prelude.{◌≡◌, ◌≤◌, IfSome, get_or, length};
+ghost use Rattle.std.specs.Prelude.{◌≡◌, get_or};
 ghost use Rattle.grain_code.specs.declared.tag_table.TheConstants.{TAG_ROWS};
 
 use crate::tag;
@@ -59,102 +59,8 @@ const QUIET: bool = true;
 
 const LOUD: bool = false;
 
-/// The table of tags, which it hands to a macro, behind what that is given first. It has a row for each byte from 0 on, ended by
-/// a semicolon: the tag by its name, with width, index, quiet, needs, takes, gives and flow; or nothing, where no instruction
-/// begins with the byte. Behind the last row none does.
-macro_rules! with_tags {
-    ($made:ident $given:tt) => {
-        $made! {
-            $given
-            ;
-            LOAD_CONST:            3 INDEX    LOUD  0 0 1 Falls;
-            UNIT:                  1 NO_INDEX QUIET 0 0 1 Falls;
-            FALSE:                 1 NO_INDEX QUIET 0 0 1 Falls;
-            TRUE:                  1 NO_INDEX QUIET 0 0 1 Falls;
-            LOAD_LOCAL:            3 NO_INDEX LOUD  0 0 1 Falls;
-            STORE_LOCAL:           3 NO_INDEX LOUD  1 1 0 Falls;
-            ASSIGN_LOCAL:          5 INDEX    LOUD  1 1 0 Falls;
-            ASSIGN_LOCAL_OP:       7 INDEX    LOUD  1 1 0 Falls;
-            DECLARE_LOCAL:         3 INDEX    LOUD  1 1 0 Falls;
-            DECLARE_CONST:         3 INDEX    LOUD  1 1 0 Falls;
-            POP:                   1 NO_INDEX QUIET 1 1 0 Falls;
-            JUMP:                  5 NO_INDEX LOUD  0 0 0 Jumps;
-            JUMP_IF_TRUE:          5 NO_INDEX LOUD  1 1 0 Branches;
-            JUMP_IF_FALSE:         5 NO_INDEX LOUD  1 1 0 Branches;
-            CALL:                  4 INDEX    LOUD  0 0 0 Untold;
-            CALL_OP:               6 INDEX    LOUD  0 0 0 Untold;
-            UNWIND_TO:             3 NO_INDEX QUIET 0 0 0 Falls;
-            TICK:                  1 NO_INDEX LOUD  0 0 0 Falls;
-            RETURN:                1 NO_INDEX QUIET 0 0 0 Ends;
-            EVAL_AST:              3 INDEX    LOUD  0 0 1 Falls;
-            EVAL_AST_KEEP:         3 INDEX    LOUD  0 0 1 Falls;
-            CHAIN:                 3 INDEX    LOUD  0 0 0 Untold;
-            MAKE_ARRAY:            3 NO_INDEX LOUD  0 0 0 Untold;
-            SWITCH:                3 INDEX    LOUD  0 0 0 Untold;
-            LOAD_NAMED:            3 INDEX    LOUD  0 0 0 Untold;
-            ASSIGN_NAMED:          3 INDEX    LOUD  1 1 0 Falls;
-            ASSIGN_NAMED_OP:       5 INDEX    LOUD  1 1 0 Falls;
-            THROW:                 1 NO_INDEX LOUD  1 1 0 Ends;
-            ITER_INIT:             1 NO_INDEX LOUD  1 1 0 BeginsIterator;
-            ITER_NEXT:             5 NO_INDEX LOUD  0 0 0 AdvancesIterator;
-            ITER_DROP:             1 NO_INDEX QUIET 0 0 0 EndsIterator;
-            STORE_SHARED:          3 NO_INDEX LOUD  1 1 0 Falls;
-            ITER_NEXT_INDEXED:     7 NO_INDEX LOUD  0 0 0 AdvancesIterator;
-            POP_HANDLER:           1 NO_INDEX QUIET 0 0 0 PopsHandler;
-            PUSH_HANDLER:          5 NO_INDEX LOUD  0 0 0 PushesHandler;
-            PUSH_HANDLER_VAR:      7 INDEX    LOUD  0 0 0 PushesHandler;
-            INTERPOLATE_START:     1 NO_INDEX LOUD  0 0 1 Falls;
-            INTERPOLATE_APPEND:    1 NO_INDEX LOUD  2 1 0 Falls;
-            INTERPOLATE_END:       1 NO_INDEX LOUD  1 1 1 Falls;
-            MAKE_FN_PTR:           1 NO_INDEX LOUD  0 0 0 Untold;
-            CURRY:                 2 NO_INDEX LOUD  0 0 0 Untold;
-            CALL_FN_PTR:           2 NO_INDEX LOUD  0 0 0 Untold;
-            CALL_FN_PTR_METHOD:    2 NO_INDEX LOUD  0 0 0 Untold;
-            SHARE:                 3 NO_INDEX LOUD  0 0 0 Untold;
-            SHARE_NAMED:           3 INDEX    LOUD  0 0 0 Untold;
-            LOAD_SHARED:           3 NO_INDEX LOUD  0 0 1 Falls;
-            MAKE_CLOSURE:          3 INDEX    LOUD  0 0 0 Untold;
-            IS_SHARED:             1 NO_INDEX LOUD  0 0 0 Untold;
-            CHECKPOINT:            1 NO_INDEX LOUD  0 0 0 Falls;
-            CHECK_ARRAY_SIZE:      3 NO_INDEX LOUD  1 1 1 Falls;
-            CHECK_MAP_SIZE:        3 NO_INDEX LOUD  1 1 1 Falls;
-            MAKE_MAP:              3 NO_INDEX LOUD  0 0 0 Untold;
-            CALL_LOCAL_REF:        6 INDEX    LOUD  0 0 0 Untold;
-            ROTATE:                2 NO_INDEX QUIET 0 0 0 Untold;
-            CALL_NAMED_REF:        6 INDEX    LOUD  0 0 0 Untold;
-            LOAD_SHARED_NAMED:     3 INDEX    LOUD  0 0 1 Falls;
-            LOAD_THIS:             1 NO_INDEX LOUD  0 0 0 Untold;
-            LOAD_THIS_SHARED:      1 NO_INDEX LOUD  0 0 0 Untold;
-            REQUIRE_THIS:          1 NO_INDEX LOUD  0 0 0 Untold;
-            ASSIGN_THIS:           1 NO_INDEX LOUD  0 0 0 Untold;
-            ASSIGN_THIS_OP:        3 INDEX    LOUD  0 0 0 Untold;
-            CALL_THIS_REF:         4 INDEX    LOUD  0 0 0 Untold;
-            CALL_FN_PTR_ON_LOCAL:  4 NO_INDEX LOUD  0 0 0 Untold;
-            CALL_FN_PTR_ON_NAMED:  4 INDEX    LOUD  0 0 0 Untold;
-            CALL_FN_PTR_ON_THIS:   2 NO_INDEX LOUD  0 0 0 Untold;
-            SKIP_IF_NOT_UNIT:      5 NO_INDEX LOUD  1 0 0 Branches;
-            ;
-            ;
-            ;
-            ;
-            STATEMENT:             3 NO_INDEX LOUD  0 0 0 Falls;
-            STORE_CONST:           3 NO_INDEX LOUD  1 1 0 Falls;
-            CALL_FN_PTR_CAPTURE:   2 NO_INDEX LOUD  0 0 0 Untold;
-            CUSTOM_SYNTAX:         3 INDEX    LOUD  0 0 0 Untold;
-            DECLARE_GLOBAL_CONST:  3 INDEX    LOUD  1 1 0 Falls;
-            ;
-            EXPORT_LOCAL:          5 INDEX    LOUD  0 0 0 Untold;
-            EXPORT_NAMED:          5 INDEX    LOUD  0 0 0 Untold;
-            IMPORT:                3 INDEX    LOUD  0 0 0 Untold;
-        }
-    };
-}
-
-/// A row, or [`NONE`].
+/// The row of a tag, by its name: width, index, quiet, needs, takes, gives, flow.
 macro_rules! row {
-    () => {
-        NONE
-    };
     ($tag:ident: $width:literal $has_index:ident $is_quiet:ident $needs:literal $takes:literal $gives:literal $flow:ident) => {
         TagRow {
             tag: tag::$tag,
@@ -169,7 +75,7 @@ macro_rules! row {
     };
 }
 
-/// All rows, and [`NONE`] for each byte behind them.
+/// These rows, and [`NONE`] for each byte behind them.
 macro_rules! rows {
     (@four [$($row:expr,)*] $($rest:expr,)*) => {
         rows!(@sixteen [$($row,)*] $($rest,)* $($rest,)* $($rest,)* $($rest,)*)
@@ -177,18 +83,8 @@ macro_rules! rows {
     (@sixteen [$($row:expr,)*] $($rest:expr,)*) => {
         [$($row,)* $($rest,)* $($rest,)* $($rest,)* $($rest,)*]
     };
-    (() $($($tag:ident: $width:literal $has_index:ident $is_quiet:ident $needs:literal $takes:literal $gives:literal $flow:ident)?;)*) => {
-        rows!(@four [$(row!($($tag: $width $has_index $is_quiet $needs $takes $gives $flow)?),)*] NONE, NONE, NONE, NONE, NONE, NONE, NONE, NONE, NONE, NONE, NONE,)
-    };
-}
-
-/// The name of a tag, by a match.
-macro_rules! name {
-    (($sought:ident) $($($tag:ident: $width:literal $has_index:ident $is_quiet:ident $needs:literal $takes:literal $gives:literal $flow:ident)?;)*) => {
-        match $sought {
-            $($(tag::$tag => Some(stringify!($tag)),)?)*
-            _ => None,
-        }
+    ($($row:expr,)*) => {
+        rows!(@four [$($row,)*] NONE, NONE, NONE, NONE, NONE, NONE, NONE, NONE, NONE, NONE, NONE,)
     };
 }
 
@@ -205,7 +101,88 @@ const NONE: TagRow = TagRow {
 };
 
 /// The row of each byte.
-pub static TAG_ROWS: [TagRow; 256] = with_tags!(rows());
+pub static TAG_ROWS: [TagRow; 256] = rows![
+    NONE,
+    row!(LOAD_CONST:            3 INDEX    LOUD  0 0 1 Falls),
+    row!(UNIT:                  1 NO_INDEX QUIET 0 0 1 Falls),
+    row!(FALSE:                 1 NO_INDEX QUIET 0 0 1 Falls),
+    row!(TRUE:                  1 NO_INDEX QUIET 0 0 1 Falls),
+    row!(LOAD_LOCAL:            3 NO_INDEX LOUD  0 0 1 Falls),
+    row!(STORE_LOCAL:           3 NO_INDEX LOUD  1 1 0 Falls),
+    row!(ASSIGN_LOCAL:          5 INDEX    LOUD  1 1 0 Falls),
+    row!(ASSIGN_LOCAL_OP:       7 INDEX    LOUD  1 1 0 Falls),
+    row!(DECLARE_LOCAL:         3 INDEX    LOUD  1 1 0 Falls),
+    row!(DECLARE_CONST:         3 INDEX    LOUD  1 1 0 Falls),
+    row!(POP:                   1 NO_INDEX QUIET 1 1 0 Falls),
+    row!(JUMP:                  5 NO_INDEX LOUD  0 0 0 Jumps),
+    row!(JUMP_IF_TRUE:          5 NO_INDEX LOUD  1 1 0 Branches),
+    row!(JUMP_IF_FALSE:         5 NO_INDEX LOUD  1 1 0 Branches),
+    row!(CALL:                  4 INDEX    LOUD  0 0 0 Untold),
+    row!(CALL_OP:               6 INDEX    LOUD  0 0 0 Untold),
+    row!(UNWIND_TO:             3 NO_INDEX QUIET 0 0 0 Falls),
+    row!(TICK:                  1 NO_INDEX LOUD  0 0 0 Falls),
+    row!(RETURN:                1 NO_INDEX QUIET 0 0 0 Ends),
+    row!(EVAL_AST:              3 INDEX    LOUD  0 0 1 Falls),
+    row!(EVAL_AST_KEEP:         3 INDEX    LOUD  0 0 1 Falls),
+    row!(CHAIN:                 3 INDEX    LOUD  0 0 0 Untold),
+    row!(MAKE_ARRAY:            3 NO_INDEX LOUD  0 0 0 Untold),
+    row!(SWITCH:                3 INDEX    LOUD  0 0 0 Untold),
+    row!(LOAD_NAMED:            3 INDEX    LOUD  0 0 0 Untold),
+    row!(ASSIGN_NAMED:          3 INDEX    LOUD  1 1 0 Falls),
+    row!(ASSIGN_NAMED_OP:       5 INDEX    LOUD  1 1 0 Falls),
+    row!(THROW:                 1 NO_INDEX LOUD  1 1 0 Ends),
+    row!(ITER_INIT:             1 NO_INDEX LOUD  1 1 0 BeginsIterator),
+    row!(ITER_NEXT:             5 NO_INDEX LOUD  0 0 0 AdvancesIterator),
+    row!(ITER_DROP:             1 NO_INDEX QUIET 0 0 0 EndsIterator),
+    row!(STORE_SHARED:          3 NO_INDEX LOUD  1 1 0 Falls),
+    row!(ITER_NEXT_INDEXED:     7 NO_INDEX LOUD  0 0 0 AdvancesIterator),
+    row!(POP_HANDLER:           1 NO_INDEX QUIET 0 0 0 PopsHandler),
+    row!(PUSH_HANDLER:          5 NO_INDEX LOUD  0 0 0 PushesHandler),
+    row!(PUSH_HANDLER_VAR:      7 INDEX    LOUD  0 0 0 PushesHandler),
+    row!(INTERPOLATE_START:     1 NO_INDEX LOUD  0 0 1 Falls),
+    row!(INTERPOLATE_APPEND:    1 NO_INDEX LOUD  2 1 0 Falls),
+    row!(INTERPOLATE_END:       1 NO_INDEX LOUD  1 1 1 Falls),
+    row!(MAKE_FN_PTR:           1 NO_INDEX LOUD  0 0 0 Untold),
+    row!(CURRY:                 2 NO_INDEX LOUD  0 0 0 Untold),
+    row!(CALL_FN_PTR:           2 NO_INDEX LOUD  0 0 0 Untold),
+    row!(CALL_FN_PTR_METHOD:    2 NO_INDEX LOUD  0 0 0 Untold),
+    row!(SHARE:                 3 NO_INDEX LOUD  0 0 0 Untold),
+    row!(SHARE_NAMED:           3 INDEX    LOUD  0 0 0 Untold),
+    row!(LOAD_SHARED:           3 NO_INDEX LOUD  0 0 1 Falls),
+    row!(MAKE_CLOSURE:          3 INDEX    LOUD  0 0 0 Untold),
+    row!(IS_SHARED:             1 NO_INDEX LOUD  0 0 0 Untold),
+    row!(CHECKPOINT:            1 NO_INDEX LOUD  0 0 0 Falls),
+    row!(CHECK_ARRAY_SIZE:      3 NO_INDEX LOUD  1 1 1 Falls),
+    row!(CHECK_MAP_SIZE:        3 NO_INDEX LOUD  1 1 1 Falls),
+    row!(MAKE_MAP:              3 NO_INDEX LOUD  0 0 0 Untold),
+    row!(CALL_LOCAL_REF:        6 INDEX    LOUD  0 0 0 Untold),
+    row!(ROTATE:                2 NO_INDEX QUIET 0 0 0 Untold),
+    row!(CALL_NAMED_REF:        6 INDEX    LOUD  0 0 0 Untold),
+    row!(LOAD_SHARED_NAMED:     3 INDEX    LOUD  0 0 1 Falls),
+    row!(LOAD_THIS:             1 NO_INDEX LOUD  0 0 0 Untold),
+    row!(LOAD_THIS_SHARED:      1 NO_INDEX LOUD  0 0 0 Untold),
+    row!(REQUIRE_THIS:          1 NO_INDEX LOUD  0 0 0 Untold),
+    row!(ASSIGN_THIS:           1 NO_INDEX LOUD  0 0 0 Untold),
+    row!(ASSIGN_THIS_OP:        3 INDEX    LOUD  0 0 0 Untold),
+    row!(CALL_THIS_REF:         4 INDEX    LOUD  0 0 0 Untold),
+    row!(CALL_FN_PTR_ON_LOCAL:  4 NO_INDEX LOUD  0 0 0 Untold),
+    row!(CALL_FN_PTR_ON_NAMED:  4 INDEX    LOUD  0 0 0 Untold),
+    row!(CALL_FN_PTR_ON_THIS:   2 NO_INDEX LOUD  0 0 0 Untold),
+    row!(SKIP_IF_NOT_UNIT:      5 NO_INDEX LOUD  1 0 0 Branches),
+    NONE,
+    NONE,
+    NONE,
+    NONE,
+    row!(STATEMENT:             3 NO_INDEX LOUD  0 0 0 Falls),
+    row!(STORE_CONST:           3 NO_INDEX LOUD  1 1 0 Falls),
+    row!(CALL_FN_PTR_CAPTURE:   2 NO_INDEX LOUD  0 0 0 Untold),
+    row!(CUSTOM_SYNTAX:         3 INDEX    LOUD  0 0 0 Untold),
+    row!(DECLARE_GLOBAL_CONST:  3 INDEX    LOUD  1 1 0 Falls),
+    NONE,
+    row!(EXPORT_LOCAL:          5 INDEX    LOUD  0 0 0 Untold),
+    row!(EXPORT_NAMED:          5 INDEX    LOUD  0 0 0 Untold),
+    row!(IMPORT:                3 INDEX    LOUD  0 0 0 Untold),
+];
 
 /// What a tag tells.
 #[inline(always)]
@@ -214,12 +191,4 @@ pub fn tag_row(tag: u8) -> &'static TagRow
     ensures { (row : TagRow) → result.now ≡ get_or TAG_ROWS tag row }
 {
     &TAG_ROWS[tag as usize]
-}
-
-/// What instructions with a tag are called: its constant in docs/FORMAT.md, "Instructions"; `None` where none begins with it.
-#[must_use]
-pub fn tag_name(tag: u8) -> Option<&'static str>
-    ensures { IfSome result (λ name. length name.now ≤ 20) }
-{
-    with_tags!(name(tag))
 }

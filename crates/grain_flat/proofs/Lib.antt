@@ -2,13 +2,18 @@ mod Alike
 mod AlikeFlaws
 mod CaseRows
 mod ChainRows
+mod FieldSizes
 mod FlatAlike
 mod FlatIndices
 mod FlatVerdicts
 mod Flatness
+mod HexDigits
 mod Keys
+mod Listed
+mod ListedEntries
 mod Members
 mod Pieces
+pub mod Redeclared
 mod StepRows
 mod SwitchRows
 mod Texts

@@ -60,8 +60,8 @@ pub fn fields_of(op: &Op) -> [CField; 3]
 {
     match op.fields() {
         Fields::None => [NO_FIELD, NO_FIELD, NO_FIELD],
-        Fields::One([first]) => [row_of(first), NO_FIELD, NO_FIELD],
-        Fields::Two([first, second]) => [row_of(first), row_of(second), NO_FIELD],
-        Fields::Three([first, second, third]) => [row_of(first), row_of(second), row_of(third)],
+        Fields::One(fields) => [row_of(fields[0]), NO_FIELD, NO_FIELD],
+        Fields::Two(fields) => [row_of(fields[0]), row_of(fields[1]), NO_FIELD],
+        Fields::Three(fields) => [row_of(fields[0]), row_of(fields[1]), row_of(fields[2])],
     }
 }

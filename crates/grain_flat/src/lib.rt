@@ -12,17 +12,27 @@ mod fields;
 mod flat;
 mod judge;
 pub mod kinds;
+mod line;
+mod listing;
+mod mnemonics;
+mod printing;
 mod records;
 mod refusals;
 mod rows;
 pub mod shapes;
+mod tightening;
 mod verdicts;
 
 pub use fields::fields_of;
 pub use flat::is_flat;
 pub use judge::Stop;
+pub use line::Line;
+pub use listing::{list_entries, list_sites};
+pub use printing::{instruction_text, refusal_text};
 pub use records::{
-    CCase, CChain, CChunk, CConstant, CFault, CField, CInstruction, CPools, CStep, CSwitch,
+    CCase, CChain, CChunk, CConstant, CEntry, CFault, CField, CInstruction, CPlace, CPools, CStep,
+    CSwitch,
 };
 pub use refusals::told;
+pub use tightening::declare;
 pub use verdicts::verdict;

@@ -160,3 +160,25 @@ pub struct CFault {
     /// What else the refusal names.
     pub second: u64,
 }
+
+/// An entry of an address table.
+#[repr(C)]
+#[derive(Clone, Copy)]
+pub struct CEntry {
+    /// The address of an instruction.
+    pub address: u32,
+    /// Its line, or 0 where that isn't known.
+    pub line: u32,
+    /// Its column, or 0 for the start of the line.
+    pub column: u32,
+}
+
+/// A place in a source text.
+#[repr(C)]
+#[derive(Clone, Copy)]
+pub struct CPlace {
+    /// The line, or 0 where there is no place.
+    pub line: u32,
+    /// The column, or 0 for the start of the line.
+    pub column: u32,
+}

@@ -1,9 +1,9 @@
 //! Verifies code with a name, a chain and a switch, and prints the numbers of its chunks or why it is refused.
-use grain::{caps, verify, Case, Chunk, Fault, Pools, Root, Step, Tail};
+use grain::{verify, Caps, Case, Chunk, Fault, Pools, Root, Step, Tail};
 
 fn main() -> Result<(), Fault> {
     let pools = Pools::new()
-        .constant(Some(0))
+        .constant(Caps::NONE)
         .name("age")
         .chain(
             Root::Temporary,
@@ -38,8 +38,8 @@ fn main() -> Result<(), Fault> {
             max_stack: 1,
         },
     ];
-    println!("accepted {:?}", verify(caps::ALL, &code, &chunks, &pools)?);
-    match verify(caps::ALL & !caps::PROPERTY, &code, &chunks, &pools) {
+    println!("accepted {:?}", verify(Caps::ALL, &code, &chunks, &pools)?);
+    match verify(Caps::ALL - Caps::PROPERTY, &code, &chunks, &pools) {
         Ok(numbers) => println!("accepted {numbers:?}"),
         Err(fault) => println!("refused {fault}, chunk {:?}", fault.chunk()),
     }

@@ -1,5 +1,8 @@
 //! Why a program isn't accepted.
 use crate::code::Kind;
+use crate::flat::FlatPools;
+use crate::places::{self, ChainPlace};
+use crate::pools::PoolError;
 use crate::raw;
 use std::fmt;
 
@@ -12,6 +15,9 @@ enum Why {
     Refusal(raw::Fault),
     OutOfMemory,
     TooLarge,
+    NotFlat,
+    TooFewNumbers,
+    Unknown(u32),
 }
 
 /// What is wrong. `at` is the address of an instruction.
@@ -126,6 +132,11 @@ pub enum Cause {
     OutOfMemory,
     /// Counts or names don't fit their flat form, whose numbers have 32 bits.
     TooLarge,
+    /// No pools have the flat form that was lent: numbers of steps, cases or ranges don't add up to what is there, or the names
+    /// aren't cut as [`FlatPools::names`] says.
+    NotFlat,
+    /// There are fewer numbers than chunks.
+    TooFewNumbers,
 }
 
 impl Fault {
@@ -137,19 +148,110 @@ impl Fault {
         Fault(Why::OutOfMemory)
     }
 
-    pub(crate) fn too_large() -> Fault {
-        Fault(Why::TooLarge)
+    pub(crate) fn not_flat(pools: &FlatPools<'_>) -> Fault {
+        Fault(if pools.is_built {
+            Why::TooLarge
+        } else {
+            Why::NotFlat
+        })
+    }
+
+    pub(crate) fn too_few_numbers() -> Fault {
+        Fault(Why::TooFewNumbers)
+    }
+
+    pub(crate) fn unknown(answer: u32) -> Fault {
+        Fault(Why::Unknown(answer))
+    }
+
+    fn record(&self) -> Option<&raw::Fault> {
+        match &self.0 {
+            Why::Refusal(fault) => Some(fault),
+            Why::OutOfMemory
+            | Why::TooLarge
+            | Why::NotFlat
+            | Why::TooFewNumbers
+            | Why::Unknown(_) => None,
+        }
     }
 
     /// The place of the chunk that is refused, where one is.
+    ///
+    /// It is none where what isn't a chunk's is refused: a constant, the functions, or the code as a whole with its indices,
+    /// reached or not.
     #[must_use]
     pub fn chunk(&self) -> Option<usize> {
-        match self.0 {
-            Why::Refusal(fault) if fault.chunk != raw::NO_CHUNK => {
-                usize::try_from(fault.chunk).ok()
-            }
-            Why::Refusal(_) | Why::OutOfMemory | Why::TooLarge => None,
-        }
+        let chunk = self.record()?.chunk;
+        usize::try_from(chunk)
+            .ok()
+            .filter(|_| chunk != raw::NO_CHUNK)
+    }
+
+    /// The address that the refusal names: of the instruction that is refused, or where no instruction stands; of
+    /// [`Cause::ChunkOutOfRange`] and of a chunk that begins or ends inside an instruction the chunk's entry.
+    ///
+    /// It is none where the record has no address: of constants and functions, of [`Cause::FallsOffTheEnd`] and of
+    /// [`Cause::StackExceedsDeclared`].
+    #[must_use]
+    pub fn at(&self) -> Option<usize> {
+        let at = match self.cause() {
+            Cause::MissingCaps { at, .. } => self.chunk().map(|_| at)?,
+            Cause::Undecodable { at }
+            | Cause::TrailingBytes { at, .. }
+            | Cause::ChunkOutOfRange { entry: at, .. }
+            | Cause::JumpOutOfRange { at, .. }
+            | Cause::JumpIntoAnInstruction { at, .. }
+            | Cause::DepthConflict { at, .. }
+            | Cause::Underflow { at, .. }
+            | Cause::IteratorUnderflow { at }
+            | Cause::HandlerUnderflow { at }
+            | Cause::SinksBelowHandler { at, .. }
+            | Cause::BadIndex { at, .. } => at,
+            Cause::FallsOffTheEnd
+            | Cause::StackExceedsDeclared { .. }
+            | Cause::Other { .. }
+            | Cause::OutOfMemory
+            | Cause::TooLarge
+            | Cause::NotFlat
+            | Cause::TooFewNumbers => return None,
+        };
+        usize::try_from(at).ok()
+    }
+
+    /// The index of the constant that is refused, where one is: the first that asks what the host lacks.
+    ///
+    /// The record says what it asks, and not which it is; so it is looked for in the pools, which have to be those that were
+    /// verified. Where they are others, so is the answer.
+    #[must_use]
+    pub fn constant<'a>(&self, pools: impl Into<FlatPools<'a>>) -> Option<usize> {
+        places::constant(self, &pools.into())
+    }
+
+    /// The chain that is refused and the part of it that is, where an instruction names a chain with an index out of bounds
+    /// or with a step that asks what the host lacks.
+    ///
+    /// The record says the instruction and what is out of bounds or missing, and not which part has it; so it is looked for
+    /// in the code and the pools, which have to be those that were verified. Where they are others, so is the answer.
+    ///
+    /// ```
+    /// use grain::{verify, Caps, ChainPart, Chunk, Pools, Root, Step, Tail};
+    ///
+    /// let steps = [Step::Index { operand: 0 }, Step::Property { name: 0, getter: 7, setter: 0 }];
+    /// let pools = Pools::new().name("x").chain(Root::Temporary, &steps, Tail::Read, 1);
+    /// let code = [0x02, 0x02, 0x16, 0, 0, 0x13];
+    /// let chunks = [Chunk { entry: 0, end: 6, max_stack: 2 }];
+    /// let fault = verify(Caps::ALL, &code, &chunks, &pools).unwrap_err();
+    /// assert_eq!(fault.to_string(), "bad-index at=2 index=7 what=name");
+    /// let place = fault.chain_place(&code, &pools).unwrap();
+    /// assert_eq!((place.chain, place.part), (0, ChainPart::Step(1)));
+    /// ```
+    #[must_use]
+    pub fn chain_place<'a>(
+        &self,
+        code: &[u8],
+        pools: impl Into<FlatPools<'a>>,
+    ) -> Option<ChainPlace> {
+        places::chain_place(self, code, &pools.into())
     }
 
     /// What is wrong.
@@ -159,7 +261,19 @@ impl Fault {
             Why::Refusal(fault) => cause_of(fault),
             Why::OutOfMemory => Cause::OutOfMemory,
             Why::TooLarge => Cause::TooLarge,
+            Why::NotFlat => Cause::NotFlat,
+            Why::TooFewNumbers => Cause::TooFewNumbers,
+            Why::Unknown(kind) => Cause::Other { kind },
         }
+    }
+}
+
+impl From<PoolError> for Fault {
+    fn from(error: PoolError) -> Fault {
+        Fault(match error {
+            PoolError::OutOfMemory => Why::OutOfMemory,
+            PoolError::TooLarge => Why::TooLarge,
+        })
     }
 }
 
@@ -223,6 +337,9 @@ impl fmt::Display for Fault {
             Why::Refusal(fault) => fault,
             Why::OutOfMemory => return f.write_str("out of memory"),
             Why::TooLarge => return f.write_str("too large for its flat form"),
+            Why::NotFlat => return f.write_str("not flat"),
+            Why::TooFewNumbers => return f.write_str("fewer numbers than chunks"),
+            Why::Unknown(answer) => return write!(f, "refused by answer={answer}"),
         };
         let (mut text, mut size) = ([0; 128], 0);
         // SAFETY: the pointers are those of values that live for the call, and the length is that of `text`.

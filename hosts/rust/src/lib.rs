@@ -13,71 +13,53 @@
 //! sees to it.
 //!
 //! ```
-//! use grain::{caps, verify, Case, Chunk, Pools, Root, Step, Tail};
+//! use grain::{verify, Caps, Case, Chunk, Pools, Root, Step, Tail};
 //!
 //! let pools = Pools::new()
-//!     .constant(Some(0))
+//!     .constant(Caps::NONE)
 //!     .name("len")
 //!     .chain(Root::Temporary, &[Step::Property { name: 0, getter: 0, setter: 0 }], Tail::Read, 0)
 //!     .switch(&[Case { target: 4, constant: 0 }], &[], 6);
 //! let code = [0x02, 0x18, 0, 0, 0x02, 0x13, 0x02, 0x13, 0x02, 0x16, 0, 0, 0x13];
 //! let chunks = [Chunk { entry: 0, end: 8, max_stack: 2 }, Chunk { entry: 8, end: 13, max_stack: 1 }];
-//! let numbers = verify(caps::ALL, &code, &chunks, &pools)?;
+//! let numbers = verify(Caps::ALL, &code, &chunks, &pools)?;
 //! assert_eq!(numbers, [2, 1]);
 //!
-//! let fault = verify(caps::ALL & !caps::PROPERTY, &code, &chunks, &pools).unwrap_err();
+//! let fault = verify(Caps::ALL - Caps::PROPERTY, &code, &chunks, &pools).unwrap_err();
 //! assert_eq!(fault.to_string(), "missing-caps at=9 missing=0200");
-//! assert_eq!(fault.chunk(), Some(1));
+//! assert_eq!((fault.chunk(), fault.at()), (Some(1), Some(9)));
 //! # Ok::<(), grain::Fault>(())
 //! ```
 #![warn(missing_docs)]
 
+mod capabilities;
+pub mod caps;
 mod code;
 mod fault;
+mod flat;
+mod mnemonics;
+mod places;
 mod pools;
+mod program;
 mod raw;
+mod rows;
 mod tables;
 
-pub use code::{count_instructions, instruction, Field, Instruction, Kind};
+pub use capabilities::{Caps, CapsIter, HostCaps, UnknownCap};
+pub use code::{
+    count_instructions, instruction, instructions, Field, Instruction, Instructions, Kind,
+};
 pub use fault::{Cause, Fault};
-pub use pools::{Case, Pools, Root, Step, Tail};
-pub use tables::{check_stream, check_table, site, stream_site, Site, TableFlaw};
-
-/// Capabilities, which a host has and code asks.
-pub mod caps {
-    /// Functions.
-    pub const FUNCTION: u16 = 0x0001;
-    /// Arrays.
-    pub const ARRAY: u16 = 0x0002;
-    /// Blobs.
-    pub const BLOB: u16 = 0x0004;
-    /// Object maps.
-    pub const MAP: u16 = 0x0008;
-    /// Function pointers.
-    pub const FN_PTR: u16 = 0x0010;
-    /// Arguments bound to function pointers.
-    pub const CURRYING: u16 = 0x0020;
-    /// Shared variables.
-    pub const SHARING: u16 = 0x0040;
-    /// The receiver of a function.
-    pub const THIS: u16 = 0x0080;
-    /// Indexing.
-    pub const INDEXING: u16 = 0x0100;
-    /// Properties.
-    pub const PROPERTY: u16 = 0x0200;
-    /// Methods.
-    pub const METHOD: u16 = 0x0400;
-    /// Modules.
-    pub const MODULE: u16 = 0x0800;
-    /// Exports.
-    pub const EXPORT: u16 = 0x1000;
-    /// Imports.
-    pub const IMPORT: u16 = 0x2000;
-    /// Custom syntax.
-    pub const CUSTOM_SYNTAX: u16 = 0x4000;
-    /// All of them.
-    pub const ALL: u16 = 0x7fff;
-}
+pub use flat::FlatPools;
+pub use mnemonics::mnemonic;
+pub use places::{ChainPart, ChainPlace};
+pub use pools::{PoolError, Pools};
+pub use program::{AttachError, Program, Sidecar};
+pub use rows::{Asks, Case, ChainRow, Constant, Root, Step, StepRow, SwitchRow, Tail};
+pub use tables::{
+    check_stream, check_table, site, stream_site, stream_sites, stream_sites_into, table_entries,
+    table_entries_into, Entry, ReadError, Site, TableFlaw,
+};
 
 /// A part of the code that is run by itself.
 #[repr(C)]
@@ -100,15 +82,24 @@ pub fn is_own_library() -> bool {
 
 /// The greatest operand count that any run of each chunk reaches, chunk by chunk.
 ///
-/// `caps` are the capabilities of the host ([`caps`]). What is accepted may be run in place on stacks of as many operands,
-/// by a machine that does as [a host owes](crate#what-a-host-owes): no kept run lacks an operand, an iterator or a
-/// handler, and none leaves the instructions.
+/// `caps` are the capabilities of the host, [`Caps`] or their number ([`caps`]); `pools` are [`&Pools`](Pools) or
+/// [`FlatPools`]. What is accepted may be run in place on stacks of as many operands, by a machine that does as
+/// [a host owes](crate#what-a-host-owes): no kept run lacks an operand, an iterator or a handler, and none leaves the
+/// instructions.
 ///
 /// # Errors
-/// Why the program is refused. Want of memory and pools that are too large for their flat form are faults too, of which
-/// [`Fault::cause`] tells.
-pub fn verify(caps: u16, code: &[u8], chunks: &[Chunk], pools: &Pools) -> Result<Vec<u16>, Fault> {
-    let mut numbers = vec![0; chunks.len()];
+/// Why the program is refused. Want of memory and pools without a flat form are faults too, of which [`Fault::cause`] tells.
+pub fn verify<'a>(
+    caps: impl Into<HostCaps>,
+    code: &[u8],
+    chunks: &[Chunk],
+    pools: impl Into<FlatPools<'a>>,
+) -> Result<Vec<u16>, Fault> {
+    let mut numbers = Vec::new();
+    numbers
+        .try_reserve_exact(chunks.len())
+        .map_err(|_| Fault::out_of_memory())?;
+    numbers.resize(chunks.len(), 0);
     verify_into(caps, code, chunks, pools, &mut numbers)?;
     Ok(numbers)
 }
@@ -117,41 +108,71 @@ pub fn verify(caps: u16, code: &[u8], chunks: &[Chunk], pools: &Pools) -> Result
 /// the chunks reach, each for itself: so many instructions were visited, which bounds what scripts cost their host.
 ///
 /// # Errors
-/// Those of [`verify`], and then nothing is written.
-///
-/// # Panics
-/// Where there are fewer numbers than chunks.
-pub fn verify_into(
-    caps: u16,
+/// Those of [`verify`], and [`Cause::TooFewNumbers`] where there are fewer numbers than chunks; then nothing is written.
+pub fn verify_into<'a>(
+    caps: impl Into<HostCaps>,
     code: &[u8],
     chunks: &[Chunk],
-    pools: &Pools,
+    pools: impl Into<FlatPools<'a>>,
     numbers: &mut [u16],
 ) -> Result<u64, Fault> {
-    assert!(chunks.len() <= numbers.len(), "fewer numbers than chunks");
-    let flat = pools.flat();
+    let pools = pools.into();
     let (mut fault, mut looked) = (raw::Fault::default(), 0);
     // SAFETY: each pointer and length are those of one slice that is borrowed for the call, those that are written to
-    // without another reader; `flat` points into `pools`, which is borrowed too.
+    // without another reader; the record of the pools points into lists that `pools` borrows.
     let answer = unsafe {
         raw::grain_verify(
-            caps,
+            caps.into().bits(),
             code.as_ptr(),
             code.len(),
             chunks.as_ptr(),
             chunks.len(),
-            &flat,
+            &pools.raw(),
             numbers.as_mut_ptr(),
             numbers.len(),
             &mut fault,
             &mut looked,
         )
     };
+    verdict(answer, fault, &pools).map(|()| looked)
+}
+
+/// Verifies as [`verify`] does, has each chunk declare its number, and answers what [`verify_into`] does.
+///
+/// # Errors
+/// Those of [`verify`], and then the chunks are as they were.
+pub fn tighten<'a>(
+    caps: impl Into<HostCaps>,
+    code: &[u8],
+    chunks: &mut [Chunk],
+    pools: impl Into<FlatPools<'a>>,
+) -> Result<u64, Fault> {
+    let pools = pools.into();
+    let (mut fault, mut looked) = (raw::Fault::default(), 0);
+    // SAFETY: as in `verify_into`; the chunks are borrowed without another reader.
+    let answer = unsafe {
+        raw::grain_tighten(
+            caps.into().bits(),
+            code.as_ptr(),
+            code.len(),
+            chunks.as_mut_ptr(),
+            chunks.len(),
+            &pools.raw(),
+            &mut fault,
+            &mut looked,
+        )
+    };
+    verdict(answer, fault, &pools).map(|()| looked)
+}
+
+/// What the library has answered.
+fn verdict(answer: u32, fault: raw::Fault, pools: &FlatPools<'_>) -> Result<(), Fault> {
     match answer {
-        raw::ACCEPTED => Ok(looked),
+        raw::ACCEPTED => Ok(()),
         raw::REFUSED => Err(Fault::refusal(fault)),
+        raw::SHORT => Err(Fault::too_few_numbers()),
         raw::OUT_OF_MEMORY => Err(Fault::out_of_memory()),
-        raw::NOT_FLAT => Err(Fault::too_large()),
-        other => unreachable!("grain_verify answers {other} for a list that is long enough"),
+        raw::NOT_FLAT => Err(Fault::not_flat(pools)),
+        other => Err(Fault::unknown(other)),
     }
 }

@@ -1,102 +1,116 @@
-//! What a program has beside its code and its chunks.
-use crate::raw;
+//! What a program has beside its code and its chunks, built up item by item.
+use crate::flat::FlatPools;
+use crate::rows::{Case, ChainRow, Constant, Root, Step, StepRow, SwitchRow, Tail};
+use std::collections::TryReserveError;
+use std::fmt;
 
-/// Where a chain begins.
+/// Why an item isn't added to pools. They are as they were then.
 #[derive(Clone, Copy, Debug, PartialEq, Eq, Hash)]
-pub enum Root {
-    /// At a local variable.
-    Local {
-        /// The index of its name.
-        name: u32,
-    },
-    /// At a variable that is looked up by its name.
-    Named {
-        /// The index of its name.
-        name: u32,
-    },
-    /// At the receiver of the function.
-    This,
-    /// At a value that lies on the operand stack.
-    Temporary,
+#[non_exhaustive]
+pub enum PoolError {
+    /// Memory was wanted.
+    OutOfMemory,
+    /// A count or a place doesn't fit the flat form, whose numbers have 32 bits.
+    TooLarge,
 }
 
-/// A step of a chain.
-#[derive(Clone, Copy, Debug, PartialEq, Eq, Hash)]
-pub enum Step {
-    /// An index.
-    Index {
-        /// Where it lies among the operands of the chain.
-        operand: u16,
-    },
-    /// A property.
-    Property {
-        /// The index of its name.
-        name: u32,
-        /// The index of the name of the function that reads it.
-        getter: u32,
-        /// The index of the name of the function that writes it.
-        setter: u32,
-    },
-    /// A call of a method.
-    Method {
-        /// The index of its name.
-        name: u32,
-        /// How many arguments it has.
-        argc: u8,
-        /// Where the first of them lies among the operands of the chain.
-        operand: u16,
-    },
+impl fmt::Display for PoolError {
+    fn fmt(&self, f: &mut fmt::Formatter<'_>) -> fmt::Result {
+        f.write_str(match self {
+            PoolError::OutOfMemory => "out of memory",
+            PoolError::TooLarge => "too large for its flat form",
+        })
+    }
 }
 
-/// What a chain does at its end.
-#[derive(Clone, Copy, Debug, PartialEq, Eq, Hash)]
-pub enum Tail {
-    /// It gives the value that it has come to.
-    Read,
-    /// It assigns to what it has come to.
-    Assign,
-    /// It assigns through an op-assignment.
-    AssignThrough {
-        /// The index of the op-assignment.
-        op: u32,
-    },
-}
+impl std::error::Error for PoolError {}
 
-/// A case of a switch.
-#[repr(C)]
-#[derive(Clone, Copy, Debug, PartialEq, Eq, Hash)]
-pub struct Case {
-    /// The address where it leads.
-    pub target: u32,
-    /// The index of its constant.
-    pub constant: u32,
+impl From<TryReserveError> for PoolError {
+    fn from(_: TryReserveError) -> PoolError {
+        PoolError::OutOfMemory
+    }
 }
 
 /// What a program has beside its code and its chunks, as far as verification looks at it.
 ///
-/// It is built up item by item, in the order of their indices.
-#[derive(Clone, Debug, PartialEq, Eq, Hash)]
+/// It is built up item by item, in the order of their indices: by calls that are chained and take memory as a `Vec` does, or
+/// by calls on it where it stands, which answer the index of the item, and an error where memory is wanted. Cleared, it keeps
+/// its memory for the next program.
+///
+/// ```
+/// use grain::{verify, Asks, Caps, Chunk, Pools, Root, Step, Tail};
+///
+/// let mut pools = Pools::new();
+/// for names in [&["len"][..], &["age", "name"]] {
+///     pools.clear();
+///     pools.extend_names(names)?;
+///     pools.extend_constants([Asks::Unknown, Asks::Caps(Caps::ARRAY)])?;
+///     let steps = (0..names.len() as u32).map(|name| Step::Property { name, getter: 0, setter: 0 });
+///     assert_eq!(pools.add_chain(Root::Temporary, steps, Tail::Read, 0)?, 0);
+///     let chunks = [Chunk { entry: 0, end: 5, max_stack: 1 }];
+///     assert_eq!(verify(Caps::ALL, &[0x02, 0x16, 0, 0, 0x13], &chunks, &pools)?, [1]);
+/// }
+/// # Ok::<(), Box<dyn std::error::Error>>(())
+/// ```
+#[derive(Clone, Debug, Default, PartialEq, Eq, Hash)]
 pub struct Pools {
-    constants: Vec<raw::Constant>,
+    constants: Vec<Constant>,
     names: Vec<u8>,
+    /// 0 and then where each name ends; nothing where there is no name.
     starts: Vec<u32>,
     operators: usize,
     op_assignments: usize,
     fragments: usize,
     functions: usize,
-    chains: Vec<raw::Chain>,
-    steps: Vec<raw::Step>,
-    switches: Vec<raw::Switch>,
+    chains: Vec<ChainRow>,
+    steps: Vec<StepRow>,
+    switches: Vec<SwitchRow>,
     cases: Vec<Case>,
     ranges: Vec<u32>,
 }
 
-impl Default for Pools {
-    fn default() -> Pools {
+/// A count as the flat form has it. One that doesn't fit is told apart there: no sum of counts is what is there.
+fn count(length: usize) -> u32 {
+    u32::try_from(length).unwrap_or(u32::MAX)
+}
+
+/// A count that has to fit.
+fn fitting(length: usize) -> Result<u32, PoolError> {
+    u32::try_from(length).map_err(|_| PoolError::TooLarge)
+}
+
+fn push<T>(list: &mut Vec<T>, item: T) -> Result<(), PoolError> {
+    list.try_reserve(1)?;
+    list.push(item);
+    Ok(())
+}
+
+/// Adds items, and says how many they were; adds none where memory is wanted.
+fn extend<T>(list: &mut Vec<T>, items: impl IntoIterator<Item = T>) -> Result<usize, PoolError> {
+    let (before, items) = (list.len(), items.into_iter());
+    let mut added = list
+        .try_reserve(items.size_hint().0)
+        .map_err(PoolError::from);
+    for item in items {
+        added = added.and_then(|()| push(list, item));
+        if added.is_err() {
+            break;
+        }
+    }
+    if added.is_err() {
+        list.truncate(before);
+    }
+    added.map(|()| list.len() - before)
+}
+
+impl Pools {
+    /// Pools with nothing in them. It takes no memory.
+    #[must_use]
+    pub const fn new() -> Pools {
         Pools {
             constants: Vec::new(),
             names: Vec::new(),
-            starts: vec![0],
+            starts: Vec::new(),
             operators: 0,
             op_assignments: 0,
             fragments: 0,
@@ -108,29 +122,26 @@ impl Default for Pools {
             ranges: Vec::new(),
         }
     }
-}
 
-/// A count as the flat form has it. One that doesn't fit is told apart there: no sum of counts is what is there.
-fn count(length: usize) -> u32 {
-    u32::try_from(length).unwrap_or(u32::MAX)
-}
-
-impl Pools {
-    /// Pools with nothing in them.
-    #[must_use]
-    pub fn new() -> Pools {
-        Pools::default()
+    /// Takes all out, and keeps the memory for what comes next.
+    pub fn clear(&mut self) {
+        self.constants.clear();
+        self.names.clear();
+        self.starts.clear();
+        (self.operators, self.op_assignments) = (0, 0);
+        (self.fragments, self.functions) = (0, 0);
+        self.chains.clear();
+        self.steps.clear();
+        self.switches.clear();
+        self.cases.clear();
+        self.ranges.clear();
     }
 
-    /// One more constant, by the capabilities that it asks, those of its parts among them: an array asks
-    /// [`caps::ARRAY`](crate::caps::ARRAY), a blob `BLOB`, an object map `MAP`, a function pointer `FN_PTR`, all others
-    /// none. `None` for a shared value or one of the host, and for what holds one.
+    /// One more constant, by what it [asks](crate::Asks): [`Asks`](crate::Asks), [`Caps`](crate::Caps), or in the older form
+    /// an `Option` of a number, which is `None` for what can't be named.
     #[must_use]
-    pub fn constant(mut self, asked: Option<u16>) -> Pools {
-        self.constants.push(raw::Constant {
-            is_known: u16::from(asked.is_some()),
-            caps: asked.unwrap_or(0),
-        });
+    pub fn constant(mut self, asks: impl Into<Constant>) -> Pools {
+        self.constants.push(asks.into());
         self
     }
 
@@ -138,6 +149,9 @@ impl Pools {
     #[must_use]
     pub fn name(mut self, name: &str) -> Pools {
         self.names.extend_from_slice(name.as_bytes());
+        if self.starts.is_empty() {
+            self.starts.push(0);
+        }
         self.starts.push(count(self.names.len()));
         self
     }
@@ -145,61 +159,44 @@ impl Pools {
     /// So many operators.
     #[must_use]
     pub fn operators(mut self, operators: usize) -> Pools {
-        self.operators = operators;
+        self.set_operators(operators);
         self
     }
 
     /// So many op-assignments.
     #[must_use]
     pub fn op_assignments(mut self, op_assignments: usize) -> Pools {
-        self.op_assignments = op_assignments;
+        self.set_op_assignments(op_assignments);
         self
     }
 
     /// So many fragments of syntax.
     #[must_use]
     pub fn fragments(mut self, fragments: usize) -> Pools {
-        self.fragments = fragments;
+        self.set_fragments(fragments);
         self
     }
 
     /// So many functions.
     #[must_use]
     pub fn functions(mut self, functions: usize) -> Pools {
-        self.functions = functions;
+        self.set_functions(functions);
         self
     }
 
     /// One more chain, whose steps take so many operands.
     #[must_use]
     pub fn chain(mut self, root: Root, steps: &[Step], tail: Tail, operands: u16) -> Pools {
-        let (root, root_name) = match root {
-            Root::Local { name } => (0, name),
-            Root::Named { name } => (1, name),
-            Root::This => (2, 0),
-            Root::Temporary => (3, 0),
-        };
-        let (tail, op) = match tail {
-            Tail::Read => (0, 0),
-            Tail::Assign => (1, 0),
-            Tail::AssignThrough { op } => (2, op),
-        };
-        self.chains.push(raw::Chain {
-            root,
-            root_name,
-            steps: count(steps.len()),
-            tail,
-            op,
-            operands,
-        });
-        self.steps.extend(steps.iter().map(|step| row(*step)));
+        let row = ChainRow::new(root, count(steps.len()), tail, operands);
+        self.chains.push(row);
+        self.steps.extend(steps.iter().copied().map(StepRow::from));
         self
     }
 
     /// One more switch: its cases, where each of its ranges leads, and where all other subjects lead.
     #[must_use]
     pub fn switch(mut self, cases: &[Case], ranges: &[u32], otherwise: u32) -> Pools {
-        self.switches.push(raw::Switch {
+        self.switches.push(SwitchRow {
             cases: count(cases.len()),
             ranges: count(ranges.len()),
             otherwise,
@@ -209,68 +206,158 @@ impl Pools {
         self
     }
 
-    pub(crate) fn flat(&self) -> raw::Pools {
-        raw::Pools {
-            constants: self.constants.as_ptr(),
-            constants_len: self.constants.len(),
-            names: self.names.as_ptr(),
-            names_len: self.names.len(),
-            starts: self.starts.as_ptr(),
-            starts_len: self.starts.len(),
-            operators: self.operators,
-            op_assignments: self.op_assignments,
-            fragments: self.fragments,
-            functions: self.functions,
-            chains: self.chains.as_ptr(),
-            chains_len: self.chains.len(),
-            steps: self.steps.as_ptr(),
-            steps_len: self.steps.len(),
-            switches: self.switches.as_ptr(),
-            switches_len: self.switches.len(),
-            cases: self.cases.as_ptr(),
-            cases_len: self.cases.len(),
-            ranges: self.ranges.as_ptr(),
-            ranges_len: self.ranges.len(),
-        }
+    /// So many operators.
+    pub fn set_operators(&mut self, operators: usize) {
+        self.operators = operators;
     }
-}
 
-fn row(step: Step) -> raw::Step {
-    let none = raw::Step {
-        kind: 0,
-        name: 0,
-        getter: 0,
-        setter: 0,
-        operand: 0,
-        argc: 0,
-    };
-    match step {
-        Step::Index { operand } => raw::Step {
-            kind: 0,
-            operand,
-            ..none
-        },
-        Step::Property {
-            name,
-            getter,
-            setter,
-        } => raw::Step {
-            kind: 1,
-            name,
-            getter,
-            setter,
-            ..none
-        },
-        Step::Method {
-            name,
-            argc,
-            operand,
-        } => raw::Step {
-            kind: 2,
-            name,
-            argc,
-            operand,
-            ..none
-        },
+    /// So many op-assignments.
+    pub fn set_op_assignments(&mut self, op_assignments: usize) {
+        self.op_assignments = op_assignments;
+    }
+
+    /// So many fragments of syntax.
+    pub fn set_fragments(&mut self, fragments: usize) {
+        self.fragments = fragments;
+    }
+
+    /// So many functions.
+    pub fn set_functions(&mut self, functions: usize) {
+        self.functions = functions;
+    }
+
+    /// One more constant, by what it asks, as [`constant`](Pools::constant) takes it; and its index.
+    ///
+    /// # Errors
+    /// Memory is wanted.
+    pub fn add_constant(&mut self, asks: impl Into<Constant>) -> Result<usize, PoolError> {
+        push(&mut self.constants, asks.into())?;
+        Ok(self.constants.len() - 1)
+    }
+
+    /// More constants, by what each asks; and how many they are.
+    ///
+    /// # Errors
+    /// Memory is wanted.
+    pub fn extend_constants<C: Into<Constant>>(
+        &mut self,
+        asks: impl IntoIterator<Item = C>,
+    ) -> Result<usize, PoolError> {
+        extend(&mut self.constants, asks.into_iter().map(Into::into))
+    }
+
+    /// One more name; and its index.
+    ///
+    /// # Errors
+    /// Memory is wanted, or the names are too long.
+    pub fn add_name(&mut self, name: &str) -> Result<usize, PoolError> {
+        let end = self.names.len().checked_add(name.len());
+        let end = fitting(end.ok_or(PoolError::TooLarge)?)?;
+        self.starts.try_reserve(2)?;
+        self.names.try_reserve(name.len())?;
+        if self.starts.is_empty() {
+            self.starts.push(0);
+        }
+        self.starts.push(end);
+        self.names.extend_from_slice(name.as_bytes());
+        Ok(self.starts.len() - 2)
+    }
+
+    /// More names; and how many they are.
+    ///
+    /// # Errors
+    /// Memory is wanted, or the names are too long.
+    pub fn extend_names<N: AsRef<str>>(
+        &mut self,
+        names: impl IntoIterator<Item = N>,
+    ) -> Result<usize, PoolError> {
+        let (starts, bytes) = (self.starts.len(), self.names.len());
+        let mut added = 0;
+        for name in names {
+            if let Err(error) = self.add_name(name.as_ref()) {
+                self.starts.truncate(starts);
+                self.names.truncate(bytes);
+                return Err(error);
+            }
+            added += 1;
+        }
+        Ok(added)
+    }
+
+    /// One more chain, whose steps take so many operands; and its index.
+    ///
+    /// # Errors
+    /// Memory is wanted, or there are too many steps.
+    pub fn add_chain(
+        &mut self,
+        root: Root,
+        steps: impl IntoIterator<Item = Step>,
+        tail: Tail,
+        operands: u16,
+    ) -> Result<usize, PoolError> {
+        let before = self.steps.len();
+        self.chains.try_reserve(1)?;
+        let many = extend(&mut self.steps, steps.into_iter().map(StepRow::from))?;
+        let Ok(many) = fitting(many) else {
+            self.steps.truncate(before);
+            return Err(PoolError::TooLarge);
+        };
+        self.chains.push(ChainRow::new(root, many, tail, operands));
+        Ok(self.chains.len() - 1)
+    }
+
+    /// One more switch, as [`switch`](Pools::switch) takes it; and its index.
+    ///
+    /// # Errors
+    /// Memory is wanted, or there are too many cases or ranges.
+    pub fn add_switch(
+        &mut self,
+        cases: impl IntoIterator<Item = Case>,
+        ranges: impl IntoIterator<Item = u32>,
+        otherwise: u32,
+    ) -> Result<usize, PoolError> {
+        let before = (self.cases.len(), self.ranges.len());
+        let added = self.add_arms(cases, ranges, otherwise);
+        if added.is_err() {
+            self.cases.truncate(before.0);
+            self.ranges.truncate(before.1);
+        }
+        added.map(|()| self.switches.len() - 1)
+    }
+
+    fn add_arms(
+        &mut self,
+        cases: impl IntoIterator<Item = Case>,
+        ranges: impl IntoIterator<Item = u32>,
+        otherwise: u32,
+    ) -> Result<(), PoolError> {
+        let cases = fitting(extend(&mut self.cases, cases)?)?;
+        let ranges = fitting(extend(&mut self.ranges, ranges)?)?;
+        let row = SwitchRow {
+            cases,
+            ranges,
+            otherwise,
+        };
+        push(&mut self.switches, row)
+    }
+
+    /// The lists in their flat form, as they are verified.
+    #[must_use]
+    pub fn flat(&self) -> FlatPools<'_> {
+        let starts: &[u32] = if self.starts.is_empty() {
+            &[0]
+        } else {
+            &self.starts
+        };
+        FlatPools::new()
+            .constants(&self.constants)
+            .names(&self.names, starts)
+            .operators(self.operators)
+            .op_assignments(self.op_assignments)
+            .fragments(self.fragments)
+            .functions(self.functions)
+            .chains(&self.chains, &self.steps)
+            .switches(&self.switches, &self.cases, &self.ranges)
+            .of_builder()
     }
 }

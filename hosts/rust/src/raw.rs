@@ -1,51 +1,18 @@
 //! The library's C functions and records, as `hosts/c/grain.h` has them.
+use crate::rows::{Case, ChainRow, Constant, StepRow, SwitchRow};
+use crate::tables::{Entry, Site};
 use crate::Chunk;
 
 pub(crate) const ACCEPTED: u32 = 0;
 pub(crate) const REFUSED: u32 = 1;
+pub(crate) const SHORT: u32 = 2;
 pub(crate) const OUT_OF_MEMORY: u32 = 3;
 pub(crate) const NOT_FLAT: u32 = 4;
 pub(crate) const WRITTEN: u32 = 0;
+pub(crate) const NO_STREAM: u32 = 1;
 pub(crate) const INTERFACE: u32 = 1;
 
 pub(crate) const NO_CHUNK: u64 = u64::MAX;
-
-#[repr(C)]
-#[derive(Clone, Copy, Debug, PartialEq, Eq, Hash)]
-pub(crate) struct Constant {
-    pub(crate) is_known: u16,
-    pub(crate) caps: u16,
-}
-
-#[repr(C)]
-#[derive(Clone, Copy, Debug, PartialEq, Eq, Hash)]
-pub(crate) struct Chain {
-    pub(crate) root: u32,
-    pub(crate) root_name: u32,
-    pub(crate) steps: u32,
-    pub(crate) tail: u32,
-    pub(crate) op: u32,
-    pub(crate) operands: u16,
-}
-
-#[repr(C)]
-#[derive(Clone, Copy, Debug, PartialEq, Eq, Hash)]
-pub(crate) struct Step {
-    pub(crate) kind: u32,
-    pub(crate) name: u32,
-    pub(crate) getter: u32,
-    pub(crate) setter: u32,
-    pub(crate) operand: u16,
-    pub(crate) argc: u8,
-}
-
-#[repr(C)]
-#[derive(Clone, Copy, Debug, PartialEq, Eq, Hash)]
-pub(crate) struct Switch {
-    pub(crate) cases: u32,
-    pub(crate) ranges: u32,
-    pub(crate) otherwise: u32,
-}
 
 #[repr(C)]
 pub(crate) struct Pools {
@@ -59,13 +26,13 @@ pub(crate) struct Pools {
     pub(crate) op_assignments: usize,
     pub(crate) fragments: usize,
     pub(crate) functions: usize,
-    pub(crate) chains: *const Chain,
+    pub(crate) chains: *const ChainRow,
     pub(crate) chains_len: usize,
-    pub(crate) steps: *const Step,
+    pub(crate) steps: *const StepRow,
     pub(crate) steps_len: usize,
-    pub(crate) switches: *const Switch,
+    pub(crate) switches: *const SwitchRow,
     pub(crate) switches_len: usize,
-    pub(crate) cases: *const crate::Case,
+    pub(crate) cases: *const Case,
     pub(crate) cases_len: usize,
     pub(crate) ranges: *const u32,
     pub(crate) ranges_len: usize,
@@ -98,11 +65,13 @@ pub(crate) struct Instruction {
 
 const _: () = assert!(std::mem::size_of::<Chunk>() == 12);
 const _: () = assert!(std::mem::size_of::<Constant>() == 4);
-const _: () = assert!(std::mem::size_of::<Chain>() == 24);
-const _: () = assert!(std::mem::size_of::<Step>() == 20);
-const _: () = assert!(std::mem::size_of::<Switch>() == 12);
-const _: () = assert!(std::mem::size_of::<crate::Case>() == 8);
+const _: () = assert!(std::mem::size_of::<ChainRow>() == 24);
+const _: () = assert!(std::mem::size_of::<StepRow>() == 20);
+const _: () = assert!(std::mem::size_of::<SwitchRow>() == 12);
+const _: () = assert!(std::mem::size_of::<Case>() == 8);
 const _: () = assert!(std::mem::size_of::<Pools>() == 160);
+const _: () = assert!(std::mem::size_of::<Entry>() == 12);
+const _: () = assert!(std::mem::size_of::<Site>() == 8);
 const _: () = assert!(std::mem::size_of::<Fault>() == 40);
 const _: () = assert!(std::mem::size_of::<Instruction>() == 28);
 
@@ -116,6 +85,16 @@ extern "C" {
         pools: *const Pools,
         numbers: *mut u16,
         numbers_len: usize,
+        fault: *mut Fault,
+        looked: *mut u64,
+    ) -> u32;
+    pub(crate) fn grain_tighten(
+        caps: u16,
+        code: *const u8,
+        code_len: usize,
+        chunks: *mut Chunk,
+        chunks_len: usize,
+        pools: *const Pools,
         fault: *mut Fault,
         looked: *mut u64,
     ) -> u32;
@@ -154,4 +133,26 @@ extern "C" {
         column: *mut u32,
     ) -> bool;
     pub(crate) fn grain_check_stream(stream: *const u8, stream_len: usize, named: *mut u64) -> u32;
+    pub(crate) fn grain_table_entries(
+        table: *const u8,
+        table_len: usize,
+        entries: *mut Entry,
+        entries_len: usize,
+        count: *mut usize,
+    ) -> u32;
+    pub(crate) fn grain_stream_sites(
+        stream: *const u8,
+        stream_len: usize,
+        sites: *mut Site,
+        sites_len: usize,
+        count: *mut usize,
+    ) -> u32;
+    pub(crate) fn grain_instruction_text(
+        code: *const u8,
+        code_len: usize,
+        at: usize,
+        text: *mut u8,
+        text_len: usize,
+        size: *mut usize,
+    ) -> u32;
 }

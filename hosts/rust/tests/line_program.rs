@@ -3,6 +3,7 @@
 //! `hosts/build` names the line program by GRAIN_CHECK, and runs the test that compares with it, which is left out elsewhere.
 mod common;
 
+use common::chance::Chance;
 use common::line_of;
 use grain::{caps, Chunk};
 use std::collections::BTreeSet;
@@ -11,26 +12,6 @@ use std::io::Write as _;
 use std::process::{Command, Stdio};
 
 const PROGRAMS: usize = 100_000;
-
-/// Numbers by chance, the same in each run.
-struct Chance(u64);
-
-impl Chance {
-    fn next(&mut self) -> u64 {
-        self.0 = self.0.wrapping_add(0x9e37_79b9_7f4a_7c15);
-        let mixed = (self.0 ^ (self.0 >> 30)).wrapping_mul(0xbf58_476d_1ce4_e5b9);
-        let mixed = (mixed ^ (mixed >> 27)).wrapping_mul(0x94d0_49bb_1331_11eb);
-        mixed ^ (mixed >> 31)
-    }
-
-    fn below(&mut self, bound: usize) -> usize {
-        (self.next() % bound as u64) as usize
-    }
-
-    fn one_of<T: Copy>(&mut self, list: &[T]) -> T {
-        list[self.below(list.len())]
-    }
-}
 
 /// Instructions without an index, by their bytes; those that end in four zeros name a target.
 const PLAIN: &[&[u8]] = &[

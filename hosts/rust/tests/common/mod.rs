@@ -1,6 +1,10 @@
 //! What the tests share. No test uses all of it.
 #![allow(dead_code)]
 
+pub mod chance;
+pub mod model;
+pub mod programs;
+
 use grain::{verify, Chunk, Pools};
 
 /// The bytes that hexadecimal digits spell.

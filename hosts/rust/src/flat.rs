@@ -1,0 +1,211 @@
+//! Pools in their flat form, lent by the caller.
+use crate::pools::Pools;
+use crate::raw;
+use crate::rows::{Case, ChainRow, Constant, StepRow, SwitchRow};
+
+/// Pools in their flat form: lists of the caller's, which are borrowed and not copied. Whoever has such lists needs no
+/// [`Pools`].
+///
+/// The steps of all chains stand one chain after another, and so do the cases and the ranges of all switches; the numbers in
+/// the rows have to add up to them. Where they don't, or the names aren't cut as [`names`](FlatPools::names) says, no pools
+/// have this form, and the program is refused by [`Cause::NotFlat`](crate::Cause::NotFlat).
+///
+/// ```
+/// use grain::{verify, Caps, Case, ChainRow, Chunk, FlatPools, Root, Step, StepRow, SwitchRow, Tail};
+///
+/// let steps = [StepRow::from(Step::Property { name: 1, getter: 0, setter: 0 })];
+/// let chains = [ChainRow::new(Root::Temporary, 1, Tail::Read, 0)];
+/// let pools = FlatPools::new().names(b"lenage", &[0, 3, 6]).chains(&chains, &steps);
+/// let code = [0x02, 0x16, 0, 0, 0x13];
+/// let chunks = [Chunk { entry: 0, end: 5, max_stack: 1 }];
+/// assert_eq!(verify(Caps::ALL, &code, &chunks, pools), Ok(vec![1]));
+/// ```
+#[derive(Clone, Copy, Debug)]
+pub struct FlatPools<'a> {
+    constants: &'a [Constant],
+    names: &'a [u8],
+    starts: &'a [u32],
+    operators: usize,
+    op_assignments: usize,
+    fragments: usize,
+    functions: usize,
+    chains: &'a [ChainRow],
+    steps: &'a [StepRow],
+    switches: &'a [SwitchRow],
+    cases: &'a [Case],
+    ranges: &'a [u32],
+    pub(crate) is_built: bool,
+}
+
+impl<'a> FlatPools<'a> {
+    /// Pools with nothing in them.
+    #[must_use]
+    pub const fn new() -> FlatPools<'a> {
+        FlatPools {
+            constants: &[],
+            names: &[],
+            starts: &[0],
+            operators: 0,
+            op_assignments: 0,
+            fragments: 0,
+            functions: 0,
+            chains: &[],
+            steps: &[],
+            switches: &[],
+            cases: &[],
+            ranges: &[],
+            is_built: false,
+        }
+    }
+
+    /// With these constants.
+    #[must_use]
+    pub const fn constants(mut self, constants: &'a [Constant]) -> FlatPools<'a> {
+        self.constants = constants;
+        self
+    }
+
+    /// With these names: the bytes of all of them one after another, which are UTF-8, and one start more than there are
+    /// names: 0, and then where each name ends.
+    #[must_use]
+    pub const fn names(mut self, names: &'a [u8], starts: &'a [u32]) -> FlatPools<'a> {
+        self.names = names;
+        self.starts = starts;
+        self
+    }
+
+    /// With so many operators.
+    #[must_use]
+    pub const fn operators(mut self, operators: usize) -> FlatPools<'a> {
+        self.operators = operators;
+        self
+    }
+
+    /// With so many op-assignments.
+    #[must_use]
+    pub const fn op_assignments(mut self, op_assignments: usize) -> FlatPools<'a> {
+        self.op_assignments = op_assignments;
+        self
+    }
+
+    /// With so many fragments of syntax.
+    #[must_use]
+    pub const fn fragments(mut self, fragments: usize) -> FlatPools<'a> {
+        self.fragments = fragments;
+        self
+    }
+
+    /// With so many functions.
+    #[must_use]
+    pub const fn functions(mut self, functions: usize) -> FlatPools<'a> {
+        self.functions = functions;
+        self
+    }
+
+    /// With these chains, and the steps of all of them.
+    #[must_use]
+    pub const fn chains(mut self, chains: &'a [ChainRow], steps: &'a [StepRow]) -> FlatPools<'a> {
+        self.chains = chains;
+        self.steps = steps;
+        self
+    }
+
+    /// With these switches, and the cases and the ranges of all of them. A range is where it leads.
+    #[must_use]
+    pub const fn switches(
+        mut self,
+        switches: &'a [SwitchRow],
+        cases: &'a [Case],
+        ranges: &'a [u32],
+    ) -> FlatPools<'a> {
+        self.switches = switches;
+        self.cases = cases;
+        self.ranges = ranges;
+        self
+    }
+
+    pub(crate) const fn of_builder(mut self) -> FlatPools<'a> {
+        self.is_built = true;
+        self
+    }
+
+    pub(crate) fn raw(&self) -> raw::Pools {
+        raw::Pools {
+            constants: self.constants.as_ptr(),
+            constants_len: self.constants.len(),
+            names: self.names.as_ptr(),
+            names_len: self.names.len(),
+            starts: self.starts.as_ptr(),
+            starts_len: self.starts.len(),
+            operators: self.operators,
+            op_assignments: self.op_assignments,
+            fragments: self.fragments,
+            functions: self.functions,
+            chains: self.chains.as_ptr(),
+            chains_len: self.chains.len(),
+            steps: self.steps.as_ptr(),
+            steps_len: self.steps.len(),
+            switches: self.switches.as_ptr(),
+            switches_len: self.switches.len(),
+            cases: self.cases.as_ptr(),
+            cases_len: self.cases.len(),
+            ranges: self.ranges.as_ptr(),
+            ranges_len: self.ranges.len(),
+        }
+    }
+
+    pub(crate) fn constant_rows(&self) -> &'a [Constant] {
+        self.constants
+    }
+
+    /// How many names there are.
+    pub(crate) fn count_names(&self) -> usize {
+        self.starts.len().saturating_sub(1)
+    }
+
+    /// The chain at an index, and its steps.
+    pub(crate) fn chain(&self, index: usize) -> Option<(ChainRow, &'a [StepRow])> {
+        let chain = *self.chains.get(index)?;
+        let before: usize = self.chains[..index]
+            .iter()
+            .map(|chain| chain.steps() as usize)
+            .sum();
+        let steps = self.steps.get(before..)?.get(..chain.steps() as usize)?;
+        Some((chain, steps))
+    }
+
+    /// All chains, each with its steps, as far as there are steps.
+    pub(crate) fn all_chains(&self) -> impl Iterator<Item = (ChainRow, &'a [StepRow])> {
+        let mut rest = self.steps;
+        self.chains.iter().map_while(move |chain| {
+            let many = chain.steps() as usize;
+            let own = rest.get(..many)?;
+            rest = &rest[many..];
+            Some((*chain, own))
+        })
+    }
+}
+
+impl Default for FlatPools<'_> {
+    fn default() -> Self {
+        FlatPools::new()
+    }
+}
+
+impl<'a> From<&FlatPools<'a>> for FlatPools<'a> {
+    fn from(pools: &FlatPools<'a>) -> FlatPools<'a> {
+        *pools
+    }
+}
+
+impl<'a> From<&'a Pools> for FlatPools<'a> {
+    fn from(pools: &'a Pools) -> FlatPools<'a> {
+        pools.flat()
+    }
+}
+
+impl<'a> From<&'a mut Pools> for FlatPools<'a> {
+    fn from(pools: &'a mut Pools) -> FlatPools<'a> {
+        pools.flat()
+    }
+}

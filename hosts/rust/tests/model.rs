@@ -1,0 +1,123 @@
+//! Programs with pools, made by chance, judged by the library and by a plain model of verification alike.
+mod common;
+
+use common::chance::Chance;
+use common::model::{Model, Table};
+use common::programs::{built, program, Program};
+use grain::{tighten, verify, verify_into, Cause, Fault, Pools};
+use std::collections::BTreeMap;
+
+/// What came of some programs: how many were accepted, and how many refused by each cause.
+#[derive(Default)]
+struct Tally {
+    accepted: usize,
+    refused: BTreeMap<String, usize>,
+}
+
+fn judged(program: &Program, pools: &Pools) -> Result<(Vec<u16>, u64), Fault> {
+    let mut numbers = vec![0; program.chunks.len()];
+    let looked = verify_into(
+        program.caps,
+        &program.code,
+        &program.chunks,
+        pools,
+        &mut numbers,
+    )?;
+    Ok((numbers, looked))
+}
+
+/// The first word of a cause.
+fn word(cause: &Cause) -> String {
+    let text = format!("{cause:?}");
+    text.split([' ', '(']).next().unwrap().to_string()
+}
+
+fn compare(program: &Program, table: &Table, tally: &mut Tally) {
+    let pools = built(&program.pools);
+    let model = Model {
+        table,
+        caps: program.caps,
+        code: &program.code,
+        chunks: &program.chunks,
+        pools: &program.pools,
+    };
+    match (judged(program, &pools), model.verdict()) {
+        (Ok(said), Ok(wanted)) => {
+            assert_eq!(said, wanted, "{program:?}");
+            tighten_well(program, &pools, &said.0);
+            tally.accepted += 1;
+        }
+        (Err(fault), Err((chunk, flaws))) => {
+            assert_eq!(fault.chunk(), chunk, "{program:?}");
+            assert!(
+                flaws.contains(&fault.cause()),
+                "{fault:?} is none of {flaws:?} in {program:?}"
+            );
+            place_well(program, &pools, &fault);
+            *tally.refused.entry(word(&fault.cause())).or_default() += 1;
+        }
+        (said, wanted) => panic!("the library says {said:?}, the model {wanted:?}, of {program:?}"),
+    }
+}
+
+/// Tightened, the chunks declare their numbers, and are accepted with them.
+fn tighten_well(program: &Program, pools: &Pools, numbers: &[u16]) {
+    let mut chunks = program.chunks.clone();
+    tighten(program.caps, &program.code, &mut chunks, pools).unwrap();
+    assert!(chunks
+        .iter()
+        .map(|chunk| chunk.max_stack)
+        .eq(numbers.iter().copied()));
+    let again = verify(program.caps, &program.code, &chunks, pools);
+    assert_eq!(again.as_deref(), Ok(numbers));
+}
+
+/// The constant that is refused is the first that asks what isn't there; and the place in a chain that is refused exists.
+fn place_well(program: &Program, pools: &Pools, fault: &Fault) {
+    let is_refused = |asked: &Option<u16>| asked.is_some_and(|asked| asked & !program.caps != 0);
+    let of_constant = match fault.cause() {
+        Cause::MissingCaps { .. } if fault.chunk().is_none() => {
+            program.pools.constants.iter().position(is_refused)
+        }
+        _ => None,
+    };
+    assert_eq!(fault.constant(pools), of_constant, "{program:?}");
+    if let Some(place) = fault.chain_place(&program.code, pools) {
+        assert!(place.chain < program.pools.chains.len(), "{program:?}");
+        assert_eq!(program.code[fault.at().unwrap()], 0x16, "{program:?}");
+    }
+}
+
+fn compare_many(seed: u64, many: usize) -> Tally {
+    let (table, mut chance) = (Table::read(), Chance(seed));
+    let mut tally = Tally::default();
+    for _ in 0..many {
+        compare(&program(&mut chance, &table), &table, &mut tally);
+    }
+    tally
+}
+
+#[test]
+fn programs_are_judged_as_by_the_model() {
+    let tally = compare_many(7, 600);
+    assert!((150..450).contains(&tally.accepted), "{}", tally.accepted);
+    assert!(tally.refused.len() >= 9, "{:?}", tally.refused);
+}
+
+#[test]
+#[ignore = "takes its time"]
+fn many_programs_are_judged_as_by_the_model() {
+    const MANY: usize = 200_000;
+    let tally = compare_many(1, MANY);
+    println!(
+        "{} of {MANY} were accepted, and the others refused by {:?}",
+        tally.accepted, tally.refused
+    );
+    assert!(
+        (MANY / 4..MANY * 3 / 4).contains(&tally.accepted),
+        "{}",
+        tally.accepted
+    );
+    // All but what is never answered, and what comes of want of memory and of the caller's lists.
+    assert_eq!(tally.refused.len(), 13, "{:?}", tally.refused);
+}

@@ -1,0 +1,360 @@
+//! What the package has around the library's calls.
+mod common;
+
+use common::bytes;
+use grain::{
+    instruction, instructions, mnemonic, stream_sites, stream_sites_into, table_entries,
+    table_entries_into, tighten, verify, verify_into, Asks, AttachError, Caps, Case, Cause,
+    ChainPart, ChainRow, Chunk, Constant, Entry, FlatPools, Kind, Pools, Program, ReadError, Root,
+    Sidecar, Site, Step, StepRow, SwitchRow, TableFlaw, Tail,
+};
+
+const NAMES: &[u8] = b"lenage";
+
+fn whole(code: &[u8]) -> [Chunk; 1] {
+    [Chunk {
+        entry: 0,
+        end: code.len() as u32,
+        max_stack: 8,
+    }]
+}
+
+fn property(name: u32) -> Step {
+    Step::Property {
+        name,
+        getter: 0,
+        setter: 0,
+    }
+}
+
+/// Code on a chain and a switch, and pools for it, in both forms.
+fn sample() -> (Vec<u8>, Pools) {
+    let code = bytes("02160000180000021302 13".replace(' ', "").as_str());
+    let case = Case {
+        target: 7,
+        constant: 1,
+    };
+    let pools = Pools::new()
+        .constant(Asks::Unknown)
+        .constant(Caps::ARRAY)
+        .name("len")
+        .name("age")
+        .chain(Root::Temporary, &[property(1)], Tail::Read, 0)
+        .switch(&[case], &[9], 9);
+    (code, pools)
+}
+
+#[test]
+fn lent_lists_are_verified_as_built_pools() {
+    let (code, pools) = sample();
+    let constants = [Constant::from(Asks::Unknown), Constant::from(Caps::ARRAY)];
+    let chains = [ChainRow::new(Root::Temporary, 1, Tail::Read, 0)];
+    let steps = [StepRow::from(property(1))];
+    let switches = [SwitchRow {
+        cases: 1,
+        ranges: 1,
+        otherwise: 9,
+    }];
+    let cases = [Case {
+        target: 7,
+        constant: 1,
+    }];
+    let lent = FlatPools::new()
+        .constants(&constants)
+        .names(NAMES, &[0, 3, 6])
+        .chains(&chains, &steps)
+        .switches(&switches, &cases, &[9]);
+    let said = verify(Caps::ALL, &code, &whole(&code), &pools);
+    assert_eq!(said, Ok(vec![2]));
+    assert_eq!(verify(Caps::ALL, &code, &whole(&code), lent), said);
+    let by_reference: &FlatPools<'_> = &lent;
+    assert_eq!(verify(Caps::ALL, &code, &whole(&code), by_reference), said);
+    assert_eq!(verify(Caps::ALL, &code, &whole(&code), pools.flat()), said);
+    assert_eq!(
+        (chains[0].root(), chains[0].tail()),
+        (Root::Temporary, Tail::Read)
+    );
+    assert_eq!(Step::from(steps[0]), property(1));
+    let uneven = lent.chains(&chains, &[]);
+    let fault = verify(Caps::ALL, &code, &whole(&code), uneven).unwrap_err();
+    assert_eq!(
+        (fault.cause(), fault.to_string().as_str()),
+        (Cause::NotFlat, "not flat")
+    );
+    assert_eq!((fault.at(), fault.chunk()), (None, None));
+    let cut = lent.names(NAMES, &[0, 3]);
+    let fault = verify(Caps::ALL, &code, &whole(&code), cut).unwrap_err();
+    assert_eq!(fault.cause(), Cause::NotFlat);
+}
+
+#[test]
+fn pools_are_cleared_and_built_again() {
+    let (code, chained) = sample();
+    let mut pools = Pools::new();
+    for _ in 0..3 {
+        pools.clear();
+        assert_eq!(pools, Pools::new());
+        assert_eq!(pools.add_constant(Asks::Unknown), Ok(0));
+        assert_eq!(pools.extend_constants([Some(Caps::ARRAY.bits())]), Ok(1));
+        assert_eq!(pools.add_name("len"), Ok(0));
+        assert_eq!(pools.extend_names(["age"]), Ok(1));
+        assert_eq!(
+            pools.add_chain(Root::Temporary, [property(1)], Tail::Read, 0),
+            Ok(0)
+        );
+        let cases = [Case {
+            target: 7,
+            constant: 1,
+        }];
+        assert_eq!(pools.add_switch(cases, [9], 9), Ok(0));
+        assert_eq!(pools, chained);
+        assert_eq!(
+            verify(Caps::ALL, &code, &whole(&code), &mut pools),
+            Ok(vec![2])
+        );
+    }
+    pools.set_functions(1);
+    let fault = verify(Caps::ALL - Caps::FUNCTION, &code, &whole(&code), &pools).unwrap_err();
+    assert_eq!((fault.constant(&pools), fault.at()), (None, None));
+}
+
+#[test]
+fn a_constant_that_asks_what_cannot_be_named_passes() {
+    let pools = Pools::new()
+        .constant(Asks::Unknown)
+        .constant(Caps::NONE)
+        .constant(Caps::MAP | Caps::BLOB);
+    assert_eq!(verify(Caps::BLOB | Caps::MAP, &[], &[], &pools), Ok(vec![]));
+    let fault = verify(Caps::BLOB, &[], &[], &pools).unwrap_err();
+    assert_eq!(fault.constant(&pools), Some(2));
+    assert_eq!((fault.at(), fault.chunk()), (None, None));
+}
+
+#[test]
+fn the_part_of_a_chain_that_is_refused_is_found() {
+    let part = |root, steps: &[Step], tail, operands, caps: Caps| {
+        let pools = Pools::new()
+            .name("x")
+            .chain(Root::This, &[], Tail::Read, 0)
+            .chain(root, steps, tail, operands);
+        let code = bytes("02020216010013");
+        let fault = verify(caps, &code, &whole(&code), &pools).unwrap_err();
+        assert_eq!(fault.at(), Some(3));
+        fault
+            .chain_place(&code, &pools)
+            .map(|place| (place.chain, place.part))
+    };
+    let method = Step::Method {
+        name: 0,
+        argc: 2,
+        operand: 0,
+    };
+    let index = Step::Index { operand: 0 };
+    let all = Caps::ALL;
+    let named = Root::Named { name: 1 };
+    assert_eq!(
+        part(named, &[index], Tail::Read, 1, all),
+        Some((1, ChainPart::Root))
+    );
+    let steps = [index, property(0), method];
+    assert_eq!(
+        part(Root::This, &steps, Tail::Read, 1, all),
+        Some((1, ChainPart::Step(2)))
+    );
+    let steps = [index, property(3), method];
+    assert_eq!(
+        part(Root::This, &steps, Tail::Read, 2, all),
+        Some((1, ChainPart::Step(1)))
+    );
+    let through = Tail::AssignThrough { op: 0 };
+    assert_eq!(
+        part(Root::This, &[property(0)], through, 0, all),
+        Some((1, ChainPart::Tail))
+    );
+    let steps = [property(0), index, property(0)];
+    let fewer = all - Caps::INDEXING;
+    assert_eq!(
+        part(Root::This, &steps, Tail::Read, 1, fewer),
+        Some((1, ChainPart::Step(1)))
+    );
+    let fewer = all - Caps::THIS;
+    assert_eq!(
+        part(Root::This, &steps, Tail::Read, 1, fewer),
+        Some((1, ChainPart::Root))
+    );
+    // The instruction's own index is out of bounds: no chain is there.
+    let code = bytes("0216000013");
+    let fault = verify(all, &code, &whole(&code), &Pools::new()).unwrap_err();
+    assert_eq!(fault.chain_place(&code, &Pools::new()), None);
+    assert_eq!(
+        fault.cause(),
+        Cause::BadIndex {
+            at: 1,
+            what: Kind::Chain,
+            index: 0
+        }
+    );
+}
+
+#[test]
+fn a_short_list_is_an_error() {
+    let code = bytes("0213");
+    let fault = verify_into(Caps::ALL, &code, &whole(&code), &Pools::new(), &mut []).unwrap_err();
+    assert_eq!(fault.cause(), Cause::TooFewNumbers);
+    assert_eq!(fault.to_string(), "fewer numbers than chunks");
+}
+
+#[test]
+fn each_instruction_prints_as_its_name_and_its_fields() {
+    let mut named = 0;
+    for tag in 0..=u8::MAX {
+        let code = [tag, 1, 2, 3, 4, 5, 6];
+        let found = instruction(&code, 0);
+        assert_eq!(
+            found.map(|found| found.mnemonic()),
+            mnemonic(tag),
+            "{tag:#04x}"
+        );
+        let Some(found) = found else { continue };
+        assert_eq!(found.bytes(), &code[..usize::from(found.width)]);
+        let fields: String = found
+            .fields()
+            .map(|field| format!(" {}", field.value))
+            .collect();
+        assert_eq!(found.to_string(), format!("{}{fields}", found.mnemonic()));
+        named += 1;
+    }
+    assert_eq!(named, 74);
+    let code = bytes("2107000000ffff");
+    assert_eq!(
+        instruction(&code, 0).unwrap().to_string(),
+        "ITER_NEXT_INDEXED 7 65535"
+    );
+    assert_eq!(
+        format!("{:>8}", instruction(&[0x13], 0).unwrap()),
+        "  RETURN"
+    );
+}
+
+#[test]
+fn code_is_gone_through() {
+    let code = bytes("023701000203001300");
+    let mut left = instructions(&code);
+    let seen: Vec<_> = left.by_ref().map(|(at, each)| (at, each.tag)).collect();
+    assert_eq!(seen, [(0, 0x02), (1, 0x37), (7, 0x13)]);
+    assert_eq!((left.at(), left.is_whole(), left.next()), (8, false, None));
+    let mut whole = instructions(&code[..8]);
+    assert_eq!((whole.by_ref().count(), whole.is_whole()), (3, true));
+}
+
+fn entry(address: u32, line: u32, column: u32) -> Entry {
+    Entry {
+        address,
+        site: Site { line, column },
+    }
+}
+
+#[test]
+fn entries_are_listed() {
+    let table = bytes("0400010503010b250702010900");
+    let wanted = [
+        entry(0, 1, 5),
+        entry(3, 1, 11),
+        entry(40, 7, 2),
+        entry(41, 9, 0),
+    ];
+    assert_eq!(table_entries(&table).as_deref(), Ok(&wanted[..]));
+    assert_eq!(table_entries(&table[..6]).as_deref(), Ok(&wanted[..1]));
+    assert_eq!(table_entries(&[]).as_deref(), Ok(&[][..]));
+    let mut few = [Entry::default(); 2];
+    assert_eq!(table_entries_into(&table, &mut few), 4);
+    assert_eq!(few, wanted[..2]);
+}
+
+#[test]
+fn sites_are_listed() {
+    let stream = bytes("040101000301020106");
+    let site = |line, column| Some(Site { line, column });
+    let wanted = [site(1, 1), None, site(1, 2), site(1, 6)];
+    assert_eq!(stream_sites(&stream).as_deref(), Ok(&wanted[..]));
+    let truncated = Err(ReadError::Flaw(TableFlaw::Truncated));
+    assert_eq!(stream_sites(&stream[..8]), truncated);
+    let mut few = [Site::default(); 1];
+    assert_eq!(stream_sites_into(&stream, &mut few), Ok(4));
+    assert_eq!(few[0].known(), site(1, 1));
+    assert_eq!(
+        stream_sites_into(&stream[..8], &mut few),
+        Err(TableFlaw::Truncated)
+    );
+}
+
+#[test]
+fn chunks_are_tightened_or_stay() {
+    let code = bytes("02020b0b0213");
+    let mut chunks = whole(&code);
+    assert_eq!(tighten(Caps::ALL, &code, &mut chunks, &Pools::new()), Ok(6));
+    assert_eq!(chunks[0].max_stack, 2);
+    chunks[0].max_stack = 1;
+    let before = chunks;
+    let fault = tighten(Caps::ALL, &code, &mut chunks, &Pools::new()).unwrap_err();
+    assert_eq!(
+        fault.cause(),
+        Cause::StackExceedsDeclared {
+            needed: 2,
+            declared: 1
+        }
+    );
+    assert_eq!(chunks, before);
+}
+
+#[test]
+fn positions_are_attached_and_taken_off() {
+    let (code, pools) = sample();
+    let mut program = Program::new(code.clone(), whole(&code).to_vec(), pools.clone());
+    let sidecar = |table: &str, stream: &str| Sidecar {
+        table: bytes(table),
+        stream: bytes(stream),
+    };
+    let good = sidecar("02000105010107", "010207");
+    assert_eq!(program.attach_positions(good.clone()), Ok(()));
+    assert_eq!(program.positions(), Some(&good));
+    assert_eq!(program.site(1), Some(Site { line: 1, column: 7 }));
+    assert_eq!(program.chain_site(0), Some(Site { line: 2, column: 7 }));
+    let bad = [
+        (
+            sidecar("0200010501", "010207"),
+            AttachError::Table(TableFlaw::Truncated),
+        ),
+        (
+            sidecar("02000105020107", "010207"),
+            AttachError::NoInstruction { at: 2 },
+        ),
+        (
+            sidecar("02000105400107", "010207"),
+            AttachError::NoInstruction { at: 64 },
+        ),
+        (sidecar("0100000a", "010207"), AttachError::NoLine { at: 0 }),
+        (
+            sidecar("00", "0102"),
+            AttachError::Stream(TableFlaw::Truncated),
+        ),
+        (
+            sidecar("00", "00"),
+            AttachError::ChainCount {
+                slots: 0,
+                positions: 1,
+            },
+        ),
+    ];
+    for (sidecar, wanted) in bad {
+        assert_eq!(program.attach_positions(sidecar), Err(wanted));
+        assert_eq!(program.positions(), Some(&good));
+    }
+    assert_eq!(program.verify(Caps::ALL), Ok(vec![2]));
+    program.tighten(Caps::ALL).unwrap();
+    assert_eq!(program.chunks()[0].max_stack, 2);
+    assert_eq!(program.strip_positions(), Some(good));
+    assert_eq!((program.site(1), program.strip_positions()), (None, None));
+    let (own, _, of, positions) = program.into_parts();
+    assert_eq!((own, of, positions), (code, pools, None));
+}
