@@ -378,37 +378,34 @@ fn sites_are_listed(rt: HostRuntime) {
     assert_eq!(rt; (answer, count, few[0].line), (SHORT, 4, 1));
 }
 
+/// What is answered on code that stacks 2 operands where its chunk declares so many, and the chunk then.
+fn tightened(rt: &(impl Abort + AllocGlobal), declared: u16) -> (u32, CChunk, CFault, u64) {
+    let code = [0x02, 0x18, 0x00, 0x00, 0x02, 0x13, 0x02, 0x13];
+    let chunk = CChunk {
+        entry: 0,
+        end: 8,
+        max_stack: declared,
+    };
+    let (mut chunks, mut fault, mut looked) = ([chunk], UNWRITTEN, 77);
+    let answer = grain_tighten(
+        rt.alloc(),
+        ALL,
+        &code,
+        &mut chunks,
+        &pools(),
+        &mut fault,
+        &mut looked,
+    );
+    let [chunk] = chunks;
+    (answer, chunk, fault, looked)
+}
+
 #[test]
 fn chunks_are_tightened(rt: HostRuntime) {
-    let code = [0x02, 0x18, 0x00, 0x00, 0x02, 0x13, 0x02, 0x13];
-    let (mut chunks, mut fault, mut looked) = ([whole(&code)], UNWRITTEN, 77);
-    let answer = grain_tighten(
-        rt.alloc(),
-        ALL,
-        &code,
-        &mut chunks,
-        &pools(),
-        &mut fault,
-        &mut looked,
-    );
+    let (answer, chunk, fault, looked) = tightened(&rt, 8);
     assert_eq!(rt; (answer, fault.kind, looked), (ACCEPTED, 77, 6));
-    assert_eq!(rt;
-        (chunks[0].entry, chunks[0].end, chunks[0].max_stack),
-        (0, 8, 2)
-    );
-    chunks[0].max_stack = 1;
-    let answer = grain_tighten(
-        rt.alloc(),
-        ALL,
-        &code,
-        &mut chunks,
-        &pools(),
-        &mut fault,
-        &mut looked,
-    );
-    assert_eq!(rt;
-        (answer, fault.kind, fault.first, looked),
-        (REFUSED, 10, 2, 6)
-    );
-    assert_eq!(rt; chunks[0].max_stack, 1);
+    assert_eq!(rt; (chunk.entry, chunk.end, chunk.max_stack), (0, 8, 2));
+    let (answer, chunk, fault, looked) = tightened(&rt, 1);
+    assert_eq!(rt; (answer, fault.kind, looked), (REFUSED, 10, 77));
+    assert_eq!(rt; (fault.first, chunk.max_stack), (2, 1));
 }

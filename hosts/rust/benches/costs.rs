@@ -2,6 +2,7 @@
 //! and what a constant, a name, a chain, a step, a switch, a case and a chunk add to it, in time and in memory.
 use grain::{verify_into, Caps, Case, Chunk, Pools, Root, Step, Tail};
 use std::hint::black_box;
+use std::process::Command;
 use std::time::{Duration, Instant};
 
 /// How many of each a program has.
@@ -176,97 +177,103 @@ fn forget_peak() -> Option<u64> {
     peak()
 }
 
+/// Adds so many of an item to pools and chunks.
+type Add = fn(&mut Pools, &mut Vec<Chunk>, usize);
+
 /// What so many of an item add.
-fn item(what: &str, many: usize, mut add: impl FnMut(&mut Pools, &mut Vec<Chunk>, usize)) {
+fn item(what: &str, many: usize, add: Add) {
     let code = [0x02, 0x13];
     let (mut pools, mut chunks) = (Pools::new(), vec![whole(&code)]);
-    let time = |pools: &Pools, chunks: &[Chunk]| {
-        let mut numbers = vec![0; chunks.len()];
-        least(1, || {
-            verify_into(Caps::ALL, &code, chunks, pools, &mut numbers).expect("accepted");
-        })
-    };
-    let without = time(&pools, &chunks);
     add(&mut pools, &mut chunks, many);
     let mut numbers = vec![0; chunks.len()];
     let before = forget_peak();
     verify_into(Caps::ALL, &code, &chunks, &pools, &mut numbers).expect("accepted");
     let bytes = before.and_then(|before| Some(peak()? - before));
-    let with = time(&pools, &chunks);
+    let mut time = |pools: &Pools, chunks: &[Chunk]| {
+        least(1, || {
+            verify_into(Caps::ALL, &code, chunks, pools, &mut numbers).expect("accepted");
+        })
+    };
+    let (with, without) = (time(&pools, &chunks), time(&Pools::new(), &chunks[..1]));
+    let each = |all: f64| all / many as f64;
     let bytes = bytes.map_or("?".to_string(), |bytes| {
-        format!("{:.1}", bytes as f64 / many as f64)
+        format!("{:.0}", each(bytes as f64))
     });
-    println!(
-        "{what:<24} {:>8.1} {bytes:>8}",
-        (with - without) / many as f64
-    );
+    println!("{what:<24} {:>8.1} {bytes:>8}", each(with - without));
 }
 
-fn items() {
-    const MANY: usize = 65_536;
-    println!("{:<24} {:>8} {:>8}", "one more, unused", "ns", "bytes");
-    item("constant", MANY, |pools, _, many| {
-        pools
-            .extend_constants(std::iter::repeat(Caps::NONE).take(many))
-            .unwrap();
-    });
-    item("empty name", MANY, |pools, _, many| {
-        pools
-            .extend_names(std::iter::repeat("").take(many))
-            .unwrap();
-    });
-    item("name of 8 bytes", MANY, |pools, _, many| {
-        pools
-            .extend_names(std::iter::repeat("function").take(many))
-            .unwrap();
-    });
-    item("chain without steps", MANY, |pools, _, many| {
+const ITEMS: [(&str, Add); 10] = [
+    ("constant", |pools, _, many| {
+        pools.extend_constants(vec![Caps::NONE; many]).unwrap();
+    }),
+    ("empty name", |pools, _, many| {
+        pools.extend_names(vec![""; many]).unwrap();
+    }),
+    ("name of 8 bytes", |pools, _, many| {
+        pools.extend_names(vec!["function"; many]).unwrap();
+    }),
+    ("chain without steps", |pools, _, many| {
         for _ in 0..many {
             pools.add_chain(Root::This, [], Tail::Read, 0).unwrap();
         }
-    });
-    item("step of one chain", MANY, |pools, _, many| {
-        let steps = std::iter::repeat(Step::Index { operand: 0 }).take(many);
+    }),
+    ("step of one chain", |pools, _, many| {
+        let steps = vec![Step::Index { operand: 0 }; many];
         pools.add_chain(Root::This, steps, Tail::Read, 1).unwrap();
-    });
-    item("switch without cases", MANY, |pools, _, many| {
+    }),
+    ("switch without cases", |pools, _, many| {
         for _ in 0..many {
             pools.add_switch([], [], 0).unwrap();
         }
-    });
-    item("switch of one case", MANY, |pools, _, many| {
-        for _ in 0..many {
-            pools
-                .add_switch(
-                    [Case {
-                        target: 0,
-                        constant: 0,
-                    }],
-                    [],
-                    0,
-                )
-                .unwrap();
-        }
-    });
-    item("case of one switch", MANY, |pools, _, many| {
-        let cases = std::iter::repeat(Case {
+    }),
+    ("switch of one case", |pools, _, many| {
+        let case = Case {
             target: 0,
             constant: 0,
-        })
-        .take(many);
+        };
+        for _ in 0..many {
+            pools.add_switch([case], [], 0).unwrap();
+        }
+    }),
+    ("case of one switch", |pools, _, many| {
+        let cases = vec![
+            Case {
+                target: 0,
+                constant: 0
+            };
+            many
+        ];
         pools.add_switch(cases, [], 0).unwrap();
-    });
-    item("range of one switch", MANY, |pools, _, many| {
-        pools
-            .add_switch([], std::iter::repeat(0).take(many), 0)
-            .unwrap();
-    });
-    item("chunk of 2 instructions", MANY, |_, chunks, many| {
+    }),
+    ("range of one switch", |pools, _, many| {
+        pools.add_switch([], vec![0; many], 0).unwrap();
+    }),
+    ("chunk of 2 instructions", |_, chunks, many| {
         chunks.resize(many + 1, chunks[0]);
-    });
+    }),
+];
+
+/// The name under which a process of its own is told which item to measure, so that each finds memory as it was.
+const ITEM: &str = "GRAIN_COSTS_ITEM";
+
+fn items() {
+    println!("{:<24} {:>8} {:>8}", "one more, unused", "ns", "bytes");
+    let own = std::env::current_exe().expect("the path of this program");
+    for place in 0..ITEMS.len() {
+        let ended = Command::new(&own).env(ITEM, place.to_string()).status();
+        assert!(ended.expect("this program runs").success());
+    }
 }
 
 fn main() {
+    const MANY: usize = 65_536;
+    if let Some(place) = std::env::var(ITEM)
+        .ok()
+        .and_then(|place| place.parse::<usize>().ok())
+    {
+        let (what, add) = ITEMS[place];
+        return item(what, MANY, add);
+    }
     println!("nanoseconds a call: the pools at hand; cleared and built again; built anew");
     programs();
     println!();

@@ -4,8 +4,8 @@ use crate::code::{instructions, Instructions};
 use crate::fault::Fault;
 use crate::pools::Pools;
 use crate::rows::{Root, Step};
-use crate::tables::{check_table, site, stream_site, stream_sites_into, table_entries};
-use crate::tables::{Entry, Site, TableFlaw};
+use crate::tables::{check_table, site, stream_site, stream_sites, stream_sites_into};
+use crate::tables::{table_entries, Entry, ReadError, Site, TableFlaw};
 use crate::{tighten, verify, Chunk};
 use std::fmt;
 
@@ -151,6 +151,24 @@ impl Program {
     #[must_use]
     pub fn chain_site(&self, slot: u32) -> Option<Site> {
         stream_site(&self.positions.as_ref()?.stream, slot)
+    }
+
+    /// The entries of its address table in order; none where it has no positions.
+    ///
+    /// # Errors
+    /// Memory is wanted.
+    pub fn entries(&self) -> Result<Vec<Entry>, ReadError> {
+        let positions = self.positions.as_ref();
+        Ok(positions.map_or(Ok(Vec::new()), |own| table_entries(&own.table))?)
+    }
+
+    /// The sites of its chains, slot by slot; none where it has no positions.
+    ///
+    /// # Errors
+    /// Memory is wanted.
+    pub fn chain_sites(&self) -> Result<Vec<Option<Site>>, ReadError> {
+        let positions = self.positions.as_ref();
+        positions.map_or(Ok(Vec::new()), |own| stream_sites(&own.stream))
     }
 
     /// Gives the program these positions in place of those that it has. The library tests that the table and the stream are

@@ -320,6 +320,12 @@ fn positions_are_attached_and_taken_off() {
     assert_eq!(program.positions(), Some(&good));
     assert_eq!(program.site(1), Some(Site { line: 1, column: 7 }));
     assert_eq!(program.chain_site(0), Some(Site { line: 2, column: 7 }));
+    assert_eq!(
+        program.entries().as_deref(),
+        Ok(&[entry(0, 1, 5), entry(1, 1, 7)][..])
+    );
+    let sites = [Some(Site { line: 2, column: 7 })];
+    assert_eq!(program.chain_sites().as_deref(), Ok(&sites[..]));
     let bad = [
         (
             sidecar("0200010501", "010207"),
