@@ -24,7 +24,7 @@ pub struct Explained {
 ///
 /// Where the tests before the chunks pass, each chunk is explained: where it passes by rows that are a stack typing of it and
 /// just what is reached, else by a flaw of it with the way to it. The first chunk that has a flaw is the one that the verdict
-/// names; that its flaw is the very one of the verdict is by the order of both walks, which only tests show. It takes the time of
+/// names; that its flaw is the very one of the verdict is by the order of both walks, which no contract says. It takes the time of
 /// both, and memory as [`explain_chunks`] does.
 ///
 /// # Errors
