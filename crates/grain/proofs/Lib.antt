@@ -5,5 +5,6 @@ pub mod Drawing
 pub mod Firsts
 pub mod Inputs
 pub mod Laying
+pub mod Refusing
 pub mod Restoring
 pub mod Tightening

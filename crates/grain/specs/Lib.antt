@@ -4,6 +4,7 @@ pub mod Lookups
 pub mod Tightened
 pub mod Sidecars
 pub mod Build
+pub mod Explanations
 -- what the parts of calls promise each other
 pub mod Slots
 -- definitions of the crates below, of every call that this crate re-exports
@@ -57,5 +58,10 @@ pub use Rattle.grain_rules.specs.Sinking
 pub use Rattle.grain_rules.specs.Texts
 pub use Rattle.grain_rules.specs.Typing
 pub use Rattle.grain_rules.specs.Verdict
+pub use Rattle.grain_explain.specs.Certificate
+pub use Rattle.grain_explain.specs.Explaining
+pub use Rattle.grain_explain.specs.Lacking
+pub use Rattle.grain_explain.specs.RowView
+pub use Rattle.grain_explain.specs.Ways
 pub use Rattle.grain_verify.specs.Meter
 pub use Rattle.grain_verify.specs.Refusals

@@ -10,6 +10,7 @@
 #![tactic(auto)]
 
 mod builder;
+mod explanation;
 pub mod laws;
 mod lookup;
 mod program;
@@ -18,6 +19,7 @@ mod slots;
 mod tighten;
 
 pub use builder::{BuildError, Cut, Head, build};
+pub use explanation::{Explained, explain};
 pub use grain_base::{
     Caps, Dynamic, Flags, FnAccess, FnPtr, HostValue, Position, Token, pos, varint,
 };
@@ -28,6 +30,10 @@ pub use grain_bytecode::{
     SwitchRange, TableError, TagFlow, TagRow, Tail, assemble, count_instructions, decode,
     disassemble, names, resolve_switch_targets, site_to_position, sites, tag, tag_row, u16_at,
     u32_at, width,
+};
+pub use grain_explain::{
+    Base, ExplainError, ExplainedChunk, Refusal as ExplainedRefusal, Row, TypingError,
+    check_typing, explain_chunks,
 };
 pub use grain_rules::{Asks, Effect, Flow, Pools, VerifyError, asked_beside, constant_caps};
 pub use grain_verify::{Meter, Refusal, is_quiet, verify, verify_metered, verify_placed};

@@ -1,7 +1,3 @@
 pub mod Sending
-pub mod SearchLaws
-pub mod WordLaws
-pub mod FieldLaws
-pub mod LineLaws
 pub mod VerdictLaws
 pub mod RunLaws

@@ -5,15 +5,16 @@ use Rattle.std.proofs.lemmas.Grind.{common_steps}
 use Rattle.std.proofs.KnownBytes.{Appends-nil, Appends-trans, Consumes-nil, Consumes-trans, Consumes-kept}
 use Rattle.std.specs.Io.KnownBytes.{Appends, Consumes, IsAtEnd, Keeps}
 use Rattle.std.proofs.lemmas.List.Elements.{All-nil}
-use Rattle.grain_check.specs.Lines.{AreLines, case_lines, is_case}
-use Rattle.grain_check.specs.Words.{Lacks}
+use Rattle.grain_cases.specs.Lines.{AreLines, case_lines, is_case}
+use Rattle.grain_cases.specs.Words.{Lacks}
 use Rattle.grain_check.specs.Stream.{SendsFront}
-use Rattle.grain_check.specs.Verdict.{IsVerdictText}
-use Rattle.grain_check.specs.Report.{Answers, AnswersBytes, CountsOn, Written, none_written, saturated}
+use Rattle.grain_cases.specs.Verdict.{IsVerdictText}
+use Rattle.grain_check.specs.Report.{Answers, AnswersBytes, Written, none_written}
+use Rattle.grain_cases.specs.Outcome.{CountsOn, saturated}
 use Rattle.grain_check.specs.Driver.{AnswersAll, AnswersComplete, AnswersFirst, AnswersFront, AreReadCases}
-use Rattle.grain_check.specs.declared.report.Summary.{Summary}
-use Rattle.grain_check.proofs.SearchLaws.{Lacks-nil}
-use Rattle.grain_check.proofs.LineLaws.{AreLines-append, cases_in, cases_in-append, case_lines-cut, complete_cases-cut, cut_of}
+use Rattle.grain_cases.specs.declared.outcome.Summary.{Summary}
+use Rattle.grain_cases.proofs.SearchLaws.{Lacks-nil}
+use Rattle.grain_cases.proofs.LineLaws.{AreLines-append, cases_in, cases_in-append, case_lines-cut, complete_cases-cut, cut_of}
 use Rattle.grain_check.proofs.VerdictLaws.{Answers-none, Answers-append, IsVerdictText-none}
 
 -- an input was read whose cases are answered by what was sent and by the text that is yet to be sent

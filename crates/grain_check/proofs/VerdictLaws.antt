@@ -1,5 +1,5 @@
 -- Laws of verdicts, and of the count of cases.
-use Rattle.std.proofs.Common.{◌≡◌, ℕ, length, ◌+◌, zero-add, Bool, true, false, cond, List, [], ◌∷◌, ◌++◌, Some, None, Option, Result, Ok, Err, refl, sym, ap, subst, ◌∙◌, arith, append_assoc, append-nil}
+use Rattle.std.proofs.Common.{◌≡◌, ℕ, length, ◌+◌, zero-add, Bool, true, false, cond, List, [], ◌∷◌, ◌++◌, Some, None, Option, refl, sym, ap, subst, ◌∙◌, arith, append_assoc, append-nil}
 use Rattle.std.specs.Prelude.{is_none, is_some, not, filter, count_by}
 use Rattle.std.specs.List.{AllZip}
 use Rattle.std.specs.Option.{option_map}
@@ -7,36 +7,13 @@ use Rattle.std.proofs.lemmas.Grind.{flat_map-append}
 use Rattle.std.specs.Str.Lines.{strip_carriage_return}
 use Rattle.std.proofs.lemmas.List.{length-append}
 use Rattle.std.proofs.lemmas.List.Sums.{sum_by-append}
-use Rattle.grain.specs.AddressTable.{Entry, LongestFront, site_at}
-use Rattle.grain.specs.Split.{IsCount}
-use Rattle.grain.specs.Site.{Site}
-use Rattle.grain.specs.Accepted.{Input}
-use Rattle.grain.specs.declared.VerifyError.{VerifyError}
-use Rattle.grain_check.specs.Lines.{ended, ended_lines, is_case}
-use Rattle.grain_check.specs.Case.{asked, is_bad, as_asked}
-use Rattle.grain_check.specs.declared.case.Case.{Case}
-use Rattle.grain_check.specs.Verdict.{Adds, IsJudged, VerifyVerdict, accepted_text, refused_text, code_text, site_text, CodeVerdict, SiteVerdict, IsVerdictOn, Verdict, IsVerdictText}
-use Rattle.grain_check.specs.Report.{Answers, CountsOn, Written, saturated}
-use Rattle.grain_check.proofs.LineLaws.{cases_in, cases_in-append}
-
-pub adds_count : (bytes old new : List ℕ) (counted : Result ℕ ℕ) → IsCount bytes counted → new ≡ old ++ code_text counted → Adds (CodeVerdict bytes) old new
-adds_count bytes old new counted count is = record { added = code_text counted; kind = record { counted = counted; count = count; is = refl }; text = is }
-
-pub adds_found : (table old new : List ℕ) (address : ℕ) (entries : List Entry) (found : Option Site) → LongestFront table entries → found ≡ site_at entries address
-    → new ≡ old ++ site_text found → Adds (SiteVerdict table address) old new
-adds_found table old new address entries found front found_is is = record {
-  added = site_text found;
-  kind = record { entries = entries; front = front; is = ap site_text found_is };
-  text = is;
-}
-
-pub adds_accepted : (judged : Input) (numbers old new : List ℕ) → IsJudged judged (Ok numbers) → new ≡ old ++ accepted_text numbers
-    → Adds (VerifyVerdict judged) old new
-adds_accepted judged numbers old new right is = record { added = accepted_text numbers; kind = record { found = Ok numbers; right = right; is = refl }; text = is }
-
-pub adds_refused : (judged : Input) (error : VerifyError) (old new : List ℕ) → IsJudged judged (Err error) → new ≡ old ++ refused_text error
-    → Adds (VerifyVerdict judged) old new
-adds_refused judged error old new right is = record { added = refused_text error; kind = record { found = Err error; right = right; is = refl }; text = is }
+use Rattle.grain_cases.specs.Lines.{ended, ended_lines, is_case}
+use Rattle.grain_cases.specs.Case.{asked, is_bad, as_asked}
+use Rattle.grain_cases.specs.declared.case.Case.{Case}
+use Rattle.grain_cases.specs.Verdict.{Adds, IsVerdictOn, Verdict, IsVerdictText}
+use Rattle.grain_check.specs.Report.{Answers, Written}
+use Rattle.grain_cases.specs.Outcome.{CountsOn, saturated}
+use Rattle.grain_cases.proofs.LineLaws.{cases_in, cases_in-append}
 
 -- a line without a form spells no case
 bad-as_asked : (found : Option Case) (bad : Bool) → is_some found ≡ not bad → bad ≡ is_none (option_map as_asked found)

@@ -4,11 +4,11 @@
 use Rattle.std.specs.Prelude.{◌≡◌, ◌≢◌, ℕ, ◌-◌, ◌^◌, ◌<◌, ◌≤◌, ◌⊎◌, List, ◌++◌, length, Option}
 use Rattle.std.specs.Prelude.{count_by}
 use Rattle.std.specs.Io.KnownBytes.{Appends, Consumes, IsAtEnd}
-use Rattle.grain_check.specs.Lines.{case_lines, complete_cases}
-use Rattle.grain_check.specs.Case.{is_bad}
-use Rattle.grain_check.specs.Verdict.{IsVerdictText}
-use Rattle.grain_check.specs.Report.{saturated}
-use Rattle.grain_check.specs.declared.report.Summary.{Summary}
+use Rattle.grain_cases.specs.Lines.{case_lines, complete_cases}
+use Rattle.grain_cases.specs.Case.{is_bad}
+use Rattle.grain_cases.specs.Verdict.{IsVerdictText}
+use Rattle.grain_cases.specs.Outcome.{saturated}
+use Rattle.grain_cases.specs.declared.outcome.Summary.{Summary}
 
 -- all was read, a verdict text of its cases was written and nothing else, and the summary counts
 -- these cases

@@ -1,10 +1,11 @@
-pub mod Words
-pub mod Fields
-pub mod Case
-pub mod Verdict
-pub mod Lines
 pub mod Report
 pub mod Stream
 pub mod Wrappers
 pub mod Driver
-pub mod Status
+-- definitions of the crate below
+pub use Rattle.grain_cases.specs.Words
+pub use Rattle.grain_cases.specs.Fields
+pub use Rattle.grain_cases.specs.Case
+pub use Rattle.grain_cases.specs.Lines
+pub use Rattle.grain_cases.specs.Verdict
+pub use Rattle.grain_cases.specs.Outcome

@@ -2,18 +2,11 @@
 use Rattle.std.specs.Prelude.{◌≡◌, ℕ, ◌+◌, ◌-◌, ◌^◌, min, length, List, [], ◌++◌, map, filter}
 use Rattle.std.specs.Prelude.{count_by}
 use Rattle.std.specs.Str.Lines.{strip_carriage_return}
-use Rattle.grain_check.specs.Lines.{AreLines, is_case}
-use Rattle.grain_check.specs.Case.{is_bad}
-use Rattle.grain_check.specs.Verdict.{IsVerdictText}
-use Rattle.grain_check.specs.declared.report.Summary.{Summary}
-
--- a number as a count gives it that stays at the greatest value
-abbrev pub saturated : ℕ → ℕ
-saturated number = min number (2 ^ 64 - 1)
-
--- a count grows by so many
-abbrev pub CountsOn : ℕ → ℕ → ℕ → Type 0
-CountsOn old new more = (total : ℕ) → old ≡ saturated total → new ≡ saturated (total + more)
+use Rattle.grain_cases.specs.Lines.{AreLines, is_case}
+use Rattle.grain_cases.specs.Case.{is_bad}
+use Rattle.grain_cases.specs.Verdict.{IsVerdictText}
+use Rattle.grain_cases.specs.Outcome.{CountsOn}
+use Rattle.grain_cases.specs.declared.outcome.Summary.{Summary}
 
 -- a verdict text, and the count of all cases
 pub record Written : Type 0 where

@@ -4,10 +4,10 @@ ghost use Rattle.std.specs.Prelude.{◌≡◌, ◌≢◌, ◌<◌, vec_len, IfOk
 ghost use Rattle.std.specs.Result.{IsErrOf};
 ghost use Rattle.grain_check.specs.Driver.{AnswersAll, AnswersComplete, AnswersFirst};
 ghost use Rattle.grain_check.specs.Driver.{AnswersFront, ReadFailed};
-ghost use Rattle.grain_check.specs.declared.driver.RunError.TheVariants.{OutOfMemory};
 
-use crate::report::{Report, Summary};
+use crate::report::Report;
 use crate::stream::{Sink, Source};
+use grain_cases::{RunError, Summary};
 use std::alloc::{AllocError, Global};
 
 #[cfg(test)]
@@ -15,25 +15,6 @@ mod tests;
 
 /// How many bytes a read asks for at most.
 const BUFFER_LEN: usize = 65536;
-
-/// Why a run stopped before the end.
-#[derive(Clone, Copy, Debug, PartialEq, Eq)]
-pub enum RunError {
-    /// A read failed, or the source gave bytes in 18446744073709551615 reads.
-    Read,
-    /// A write failed or took none of some bytes.
-    Write,
-    /// Memory was refused.
-    OutOfMemory,
-}
-
-impl From<AllocError> for RunError {
-    ghost from_gives = { λ _ e. e ≡ OutOfMemory };
-
-    fn from(_e: AllocError) -> RunError {
-        RunError::OutOfMemory
-    }
-}
 
 /// Room for a read.
 fn room(alloc: Global) -> Result<Vec<u8>, AllocError>

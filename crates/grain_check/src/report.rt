@@ -1,59 +1,18 @@
 //! The verdicts on the lines of an input that comes buffer by buffer, and the count of its cases.
 
 ghost use Rattle.std.specs.Prelude.{◌≡◌, ◌≢◌, [], ◌∷◌, ◌++◌, List, ℕ, filter, OnOk, OnErr};
-ghost use Rattle.std.specs.Prelude.{if◌then◌else◌, string_bytes};
+ghost use Rattle.std.specs.Prelude.{string_bytes};
 ghost use Rattle.std.specs.Io.KnownBytes.{Appends};
 ghost use Rattle.std.specs.Str.Lines.{strip_carriage_return};
 ghost use Rattle.grain_check.specs.Stream.{SendsFront};
-ghost use Rattle.grain_check.specs.Words.{Lacks};
-ghost use Rattle.grain_check.specs.Lines.{is_case};
-ghost use Rattle.grain_check.specs.Report.{Answers, AnswersBytes, CountsOn, Written, none_written};
+ghost use Rattle.grain_cases.specs.Words.{Lacks};
+ghost use Rattle.grain_cases.specs.Lines.{is_case};
+ghost use Rattle.grain_check.specs.Report.{Answers, AnswersBytes, Written, none_written};
 
-use crate::case::case_of;
 use crate::stream::{Failed, Sink, send};
-use crate::verdict::write_verdict;
-use crate::words::split_at_byte;
+use grain_cases::{Summary, case_of, is_case, split_at_byte, without_return, write_verdict};
 use std::alloc::{AllocError, Global};
 use std::marker::Model;
-
-/// How many cases were answered, and how many of these had no form of a case.
-///
-/// A number that reaches the greatest value stays there.
-#[derive(Clone, Copy, Debug, PartialEq, Eq)]
-pub struct Summary {
-    /// The cases that were answered.
-    pub cases: u64,
-    /// Those of them that are answered by `bad case`.
-    pub bad: u64,
-}
-
-impl Summary {
-    /// Counts one more case.
-    fn count(&mut self, is_bad: bool)
-        ensures cases { CountsOn self.old.cases self.new.cases 1 }
-        ensures bad { CountsOn self.old.bad self.new.bad (if is_bad then 1 else 0) }
-    {
-        self.cases = self.cases.saturating_add(1);
-        self.bad = self.bad.saturating_add(u64::from(is_bad));
-    }
-}
-
-/// The line without the carriage return at its end, if one is there.
-pub(crate) fn without_return(line: &[u8]) -> &[u8]
-    ensures { result.now ≡ strip_carriage_return line.now }
-{
-    match line {
-        [front @ .., b'\r'] => front,
-        _ => line,
-    }
-}
-
-/// Whether the line is neither empty nor a comment.
-fn is_case(line: &[u8]) -> bool
-    ensures { result ≡ is_case line.now }
-{
-    !matches!(line, [] | [b'#', ..])
-}
 
 /// The verdicts that haven't been sent yet, and the count of all cases.
 #[derive(Drop)]

@@ -1,9 +1,9 @@
 use Rattle.std.proofs.Common.{◌++◌, ◌∷◌, [], ap, refl, sym, subst, ◌∙◌}
 use Rattle.std.proofs.lemmas.List.Elements.{All-append, All-cons, All-nil}
-use Rattle.grain_check.specs.Lines.{ended_lines}
-use Rattle.grain_check.specs.Words.{Lacks}
-use Rattle.grain_check.proofs.SearchLaws.{Lacks-nil, Lacks-append}
-use Rattle.grain_check.proofs.LineLaws.{ended_lines-more}
+use Rattle.grain_cases.specs.Lines.{ended_lines}
+use Rattle.grain_cases.specs.Words.{Lacks}
+use Rattle.grain_cases.proofs.SearchLaws.{Lacks-nil, Lacks-append}
+use Rattle.grain_cases.proofs.LineLaws.{ended_lines-more}
 use Rattle.grain_check.proofs.VerdictLaws.{Answers-line, Answers-none}
 use Rattle.grain_check.proofs.report.Report.feed.Goals as goal
 

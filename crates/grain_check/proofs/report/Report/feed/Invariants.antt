@@ -1,9 +1,9 @@
 use Rattle.std.proofs.Common.{◌≡◌, ℕ, List, ◌++◌, length}
 use Rattle.std.specs.Prelude.{All}
-use Rattle.grain_check.specs.Lines.{ended_lines}
-use Rattle.grain_check.specs.Words.{Lacks}
+use Rattle.grain_cases.specs.Lines.{ended_lines}
+use Rattle.grain_cases.specs.Words.{Lacks}
 use Rattle.grain_check.specs.Report.{Answers}
-use Rattle.grain_check.proofs.LineLaws.{cases_in}
+use Rattle.grain_cases.proofs.LineLaws.{cases_in}
 use Rattle.grain_check.proofs.report.Report.feed.Given as goal
 
 -- some lines were cut off and answered

@@ -1,5 +1,5 @@
 use Rattle.std.proofs.Common.{◌∷◌, [], filter, string_bytes, sym, subst}
-use Rattle.grain_check.specs.Lines.{is_case}
+use Rattle.grain_cases.specs.Lines.{is_case}
 use Rattle.grain_check.specs.Report.{Answers, Written}
 use Rattle.grain_check.proofs.VerdictLaws.{answers_one}
 use Rattle.grain_check.proofs.report.Verdicts.answer.Goals as goal

@@ -1,0 +1,73 @@
+//! The verdict on a program, with each chunk explained.
+ghost use Rattle.std.specs.Prelude.{IfOk};
+ghost use Rattle.grain_rules.specs.Accepted.{input};
+ghost use Rattle.grain.specs.Explanations.{IsExplanation};
+
+use grain_base::{Caps, Dynamic};
+use grain_bytecode::{Chunk, Function};
+use grain_explain::{ExplainError, ExplainedChunk, explain_chunks};
+use grain_rules::{Pools, VerifyError};
+use grain_verify::{Meter, Refusal, verify_placed};
+use std::alloc::Global;
+
+/// The verdict on a program, and why it is so.
+#[derive(Debug, PartialEq, Eq, Drop)]
+pub struct Explained {
+    /// The greatest operand count that any run of each chunk reaches, or why the program is refused and for which chunk.
+    pub verdict: Result<Vec<u16>, Refusal>,
+    /// Each chunk in order, those behind a refused one too. There are none where a test before the chunks fails.
+    pub chunks: Vec<ExplainedChunk>,
+}
+
+/// Verifies as [`crate::verify_placed`] does, with the same promise of kept runs, and explains each chunk as
+/// [`explain_chunks`] does.
+///
+/// Where the tests before the chunks pass, each chunk is explained: where it passes by rows that are a stack typing of it and
+/// just what is reached, else by a flaw of it with the way to it. The first chunk that has a flaw is the one that the verdict
+/// names; that its flaw is the very one of the verdict is by the order of both walks, which no contract says. It takes the time of
+/// both, and memory as [`explain_chunks`] does.
+///
+/// # Errors
+/// `OutOfMemory` where memory was wanted; `Unfinished` as [`explain_chunks`] says.
+#[tactic(auto, using(crate::proofs::Refusing::placed_explained, crate::proofs::Refusing::accepted_explained))]
+pub fn explain(
+    alloc: Global,
+    caps: Caps,
+    consts: &[Dynamic],
+    code: &[u8],
+    functions: &[Function],
+    chunks: &[Chunk],
+    pools: &Pools<'_>,
+) -> Result<Explained, ExplainError>
+    ensures explained { IfOk result (IsExplanation
+        (input caps consts.now code.now functions.now chunks.now pools.now)) }
+{
+    let mut meter = Meter::new();
+    match verify_placed(
+        alloc, caps, consts, code, functions, chunks, pools, &mut meter,
+    ) {
+        Ok(deepest) => {
+            let chunks = explain_chunks(alloc, caps, code, chunks, pools)?;
+            Ok(Explained {
+                verdict: Ok(deepest),
+                chunks,
+            })
+        }
+        Err(refusal) => match refusal.place {
+            None => match refusal.error {
+                VerifyError::OutOfMemory => Err(ExplainError::OutOfMemory),
+                _ => Ok(Explained {
+                    verdict: Err(refusal),
+                    chunks: Vec::new(alloc),
+                }),
+            },
+            Some(_) => {
+                let chunks = explain_chunks(alloc, caps, code, chunks, pools)?;
+                Ok(Explained {
+                    verdict: Err(refusal),
+                    chunks,
+                })
+            }
+        },
+    }
+}

@@ -1,0 +1,5 @@
+pub mod SearchLaws
+pub mod WordLaws
+pub mod FieldLaws
+pub mod LineLaws
+pub mod VerdictLaws

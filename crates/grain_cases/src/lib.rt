@@ -1,0 +1,18 @@
+//! The lines of the program `grain_check`, and of others that read them: which are cases, what a case asks, and the verdict on it.
+//!
+//! Lines, cases and verdicts are those of docs/FORMAT.md, "Lines, cases and verdicts".
+#![tactic(auto)]
+
+mod case;
+mod fields;
+mod lines;
+mod outcome;
+mod verdict;
+mod words;
+
+pub use case::{Case, case_of};
+pub use fields::{are_hex_digits, caps_of, chunk_of, hex_of, u32_of};
+pub use lines::{is_case, without_return};
+pub use outcome::{RunError, Summary, status};
+pub use verdict::{write_accepted, write_verdict};
+pub use words::{next_word, split_at_byte};
