@@ -88,6 +88,7 @@ CALLS = {
     "grain_machine": {
         "accept": "`accept`",
         "run": "`Runnable::run` on a try",
+        "run_call": "`Runnable::run` on a call, of which two are the host's",
     },
     "grain_check": {
         "run": "`run` on `code` lines",

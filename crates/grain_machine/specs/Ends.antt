@@ -1,14 +1,18 @@
 -- How runs end.
-use Rattle.std.specs.Prelude.{◌≡◌, ◌↔◌, ◌<◌, ◌⊎◌, ℕ, false, List, Option, None, IsSome, length}
+use Rattle.std.specs.Prelude.{◌≡◌, ◌↔◌, ◌<◌, ◌≤◌, ◌⊎◌, ℕ, List, [], ◌∷◌, Option, None, IsSome, length}
+use Rattle.std.specs.List.{All}
 use Rattle.grain_code.specs.declared.op.Op.{Op}
 use Rattle.grain_code.specs.declared.op.Op.TheVariants as ops
 use Rattle.grain_rules.specs.Code.{Code}
 use Rattle.grain_rules.specs.Flow as flows
 use Rattle.grain_rules.specs.Layout.{Reads}
-use Rattle.grain_rules.specs.Machine.{IsKeptRun, Machine, innermost}
-use Rattle.grain_rules.specs.Rows.{flow_of, is_quiet}
+use Rattle.grain_rules.specs.Machine.{IsKeptRun, IsOnKeptRun, Machine, innermost}
+use Rattle.grain_rules.specs.Rows.{flow_of}
+use Rattle.grain.specs.Program.{Program}
 use Rattle.grain_machine.specs.Asked.{program_code}
+use Rattle.grain_machine.specs.Calls.{Activation, CallStack, IsRunOfCalls, Sounds, catcher, outermost_of}
 use Rattle.grain_machine.specs.State.{Runs}
+use Rattle.grain_machine.specs.declared.run.Limits.{Limits}
 use Rattle.grain_machine.specs.declared.step.How.{How}
 use Rattle.grain_machine.specs.declared.step.How.TheVariants as hows
 
@@ -17,19 +21,13 @@ pub record Returns {V : Type 0} (code : Code) (m : Machine) (value : Option V) :
   pub stands : Reads code.layout m.address ops.Return
   pub value_there : IsSome value ↔ (0 < m.operands)
 
--- an operation stands here that isn't quiet
-pub record Sounds (code : Code) (m : Machine) : Type 0 where
-  pub op : Op
-  pub stands : Reads code.layout m.address op
-  pub sounds : is_quiet op ≡ false
-
 -- an operation stands here that begins an iterator or arms a handler
 pub record WantsRoom (code : Code) (m : Machine) : Type 0 where
   pub op : Op
   pub stands : Reads code.layout m.address op
   pub grows : (flow_of op ≡ flows.BeginsIterator) ⊎ ((target : ℕ) × (flow_of op ≡ flows.PushesHandler target))
 
--- An operation may end a run so in this state: `Return` alone returns, no quiet operation faults, all handlers have caught
+-- An operation may end a frame so in this state: `Return` alone returns, no quiet operation faults, all handlers have caught
 -- where a fault finds none, and memory is wanted for iterators and handlers alone.
 abbrev pub MayEnd : {V F : Type 0} → Code → Machine → How V F → Type 0
 MayEnd code m (hows.Returned value) = Returns code m value
@@ -46,18 +44,45 @@ IsFault m (hows.Uncatchable fault) = IsSome (innermost m.handlers)
 IsFault m hows.OutOfFuel = ⊥
 IsFault m hows.OutOfMemory = ⊥
 
--- A run that may make so many moves ends so after so many: at an operation that ends it, or with its fuel spent.
-abbrev pub EndsAfter : {V F : Type 0} → Code → ℕ → ℕ → Machine → How V F → Type 0
-EndsAfter code fuel moves m (hows.Returned value) = (moves < fuel) × Returns code m value
-EndsAfter code fuel moves m (hows.Faulted fault) = (moves < fuel) × Sounds code m × (innermost m.handlers ≡ None)
-EndsAfter code fuel moves m (hows.Uncatchable fault) = (moves < fuel) × Sounds code m × IsSome (innermost m.handlers)
-EndsAfter code fuel moves m hows.OutOfFuel = moves ≡ fuel
-EndsAfter code fuel moves m hows.OutOfMemory = (moves < fuel) × WantsRoom code m
+-- it is a fault, which finds these frames
+abbrev pub IsFaultOf : {V F : Type 0} → List Activation → How V F → Type 0
+IsFaultOf frames (hows.Returned value) = ⊥
+IsFaultOf frames (hows.Faulted fault) = catcher frames ≡ None
+IsFaultOf frames (hows.Uncatchable fault) = IsSome (catcher frames)
+IsFaultOf frames hows.OutOfFuel = ⊥
+IsFaultOf frames hows.OutOfMemory = ⊥
 
--- A kept run of the chunk, with fuel for so many moves, ends so at this address.
-pub record IsEnded {V F : Type 0} (r : Runs) (fuel at : ℕ) (how : How V F) : Type 0 where
-  pub state : Machine
+-- A turn may end a run so: `Return` alone returns, where no frame waits; no quiet operation faults, and all handlers of all
+-- frames have caught where a fault finds none; and memory is wanted for iterators and handlers alone.
+abbrev pub StackEnds : {V F : Type 0} → Program → CallStack → How V F → Type 0
+StackEnds p s (hows.Returned value) = Returns (program_code p) s.top.machine value × (s.callers ≡ [])
+StackEnds p s (hows.Faulted fault) = Sounds (program_code p) s.top.machine × (catcher (s.top ∷ s.callers) ≡ None)
+StackEnds p s (hows.Uncatchable fault) = Sounds (program_code p) s.top.machine × IsSome (catcher (s.top ∷ s.callers))
+StackEnds p s hows.OutOfFuel = ⊥
+StackEnds p s hows.OutOfMemory = WantsRoom (program_code p) s.top.machine
+
+-- A run that may take so many turns ends so after so many: at an operation that ends it, or with its fuel spent.
+abbrev pub EndsAfter : {V F : Type 0} → Program → ℕ → ℕ → CallStack → How V F → Type 0
+EndsAfter p fuel turns s (hows.Returned value) = (turns < fuel) × Returns (program_code p) s.top.machine value × (s.callers ≡ [])
+EndsAfter p fuel turns s (hows.Faulted fault) = (turns < fuel) × Sounds (program_code p) s.top.machine × (catcher (s.top ∷ s.callers) ≡ None)
+EndsAfter p fuel turns s (hows.Uncatchable fault) = (turns < fuel) × Sounds (program_code p) s.top.machine × IsSome (catcher (s.top ∷ s.callers))
+EndsAfter p fuel turns s hows.OutOfFuel = turns ≡ fuel
+EndsAfter p fuel turns s hows.OutOfMemory = (turns < fuel) × WantsRoom (program_code p) s.top.machine
+
+-- The outermost frame of a run is at this address on a kept run of its chunk, which has made no more moves than this.
+pub record IsOutermost (r : Runs) (a : Activation) (turns at : ℕ) : Type 0 where
+  pub chunk : a.chunk ≡ r.chunk
   pub earlier : List Machine
-  pub run : IsKeptRun (program_code r.program) r.chunk state earlier
-  pub here : state.address ≡ at
-  pub ends : EndsAfter (program_code r.program) fuel (length earlier) state how
+  pub run : IsKeptRun (program_code r.program) r.chunk a.machine earlier
+  pub moves : length earlier ≤ turns
+  pub here : a.machine.address ≡ at
+
+-- A run of the chunk within the limits ends so, and stands at this address of the chunk; each frame is on a kept run of its
+-- own chunk.
+pub record IsEnded {V F : Type 0} (r : Runs) (limits : Limits) (at : ℕ) (how : How V F) : Type 0 where
+  pub stack : CallStack
+  pub earlier : List CallStack
+  pub run : IsRunOfCalls r.program limits.depth r.chunk stack earlier
+  pub outermost : IsOutermost r (outermost_of stack) (length earlier) at
+  pub kept : All (λ a. IsOnKeptRun (program_code r.program) a.chunk a.machine) (stack.top ∷ stack.callers)
+  pub ends : EndsAfter r.program limits.fuel (length earlier) stack how

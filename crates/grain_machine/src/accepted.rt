@@ -3,9 +3,13 @@ ghost use Rattle.std.specs.Prelude.{◌≡◌, ◌+◌, ◌<◌, ◌⊎◌, IfEr
 ghost use Rattle.std.specs.Prelude.{slice_get};
 ghost use Rattle.grain_rules.specs.Accepted.{AreSafe, IsAccepted};
 ghost use Rattle.grain_rules.specs.Flaw.{Flaw};
+ghost use Rattle.grain_rules.specs.Machine.{first};
 ghost use Rattle.grain.specs.Program.{chunks_of, input_of};
+ghost use Rattle.grain_machine.specs.State.{IsUnderWay};
 
+use crate::frame::Frame;
 use grain::{Chunk, Program, VerifyError};
+use std::alloc::{AllocError, Global};
 use std::marker::Model;
 
 /// A program that is accepted.
@@ -35,7 +39,10 @@ impl<'a> Model for Accepted<'a> {
 #[derive(Drop)]
 pub struct Runnable<'a> {
     pub(crate) program: &'a Program,
+    /// The number of each chunk of the program.
+    numbers: &'a [u16],
     pub(crate) chunk: Chunk,
+    /// The number of this one.
     pub(crate) room: u16,
 }
 
@@ -43,7 +50,7 @@ impl<'a> Model for Runnable<'a> {
     ghost use Rattle.std.specs.Coded.{codes};
     ghost use Rattle.grain_base.specs.contracts.value.Dynamic as value;
     ghost use Rattle.grain_pools.specs.contracts.switch.Switch as switch;
-    ghost use Rattle.grain_machine.specs.State.{IsRunnable, Runs};
+    ghost use Rattle.grain_machine.specs.State.{IsNumbered, IsRunnable, Runs};
 
     ghost Value = { Runs };
 
@@ -52,7 +59,8 @@ impl<'a> Model for Runnable<'a> {
     ghost view = { λ r. record { program = r.program.now; chunk = r.chunk; room = r.room } };
 
     ghost invariant = { λ r. IsRunnable
-        (record { program = r.program.now; chunk = r.chunk; room = r.room }) };
+        (record { program = r.program.now; chunk = r.chunk; room = r.room })
+        × IsNumbered (record { program = r.program.now; numbers = r.numbers.now }) };
 }
 
 /// The program, where it is accepted.
@@ -74,20 +82,21 @@ pub fn accept(program: &Program) -> Result<Accepted<'_>, VerifyError>
 
 impl<'a> Accepted<'a> {
     /// The chunk of the top level.
-    pub fn main(&self) -> Runnable<'a>
+    pub fn main(&self) -> Runnable<'_>
         ensures program { result.program ≡ self.now.program }
         ensures chunk { result.chunk ≡ self.now.program.main }
         ensures room { slice_get self.now.numbers 0 ≡ Some result.room }
     {
         Runnable {
             program: self.program,
+            numbers: self.numbers.as_slice(),
             chunk: self.program.main(),
             room: self.numbers[0],
         }
     }
 
     /// The chunk of the function at an index.
-    pub fn function(&self, index: usize) -> Runnable<'a>
+    pub fn function(&self, index: usize) -> Runnable<'_>
         requires { index < length self.now.program.functions }
         ensures program { result.program ≡ self.now.program }
         ensures chunk { slice_get (chunks_of self.now.program) (index + 1) ≡ Some result.chunk }
@@ -95,8 +104,48 @@ impl<'a> Accepted<'a> {
     {
         Runnable {
             program: self.program,
+            numbers: self.numbers.as_slice(),
             chunk: self.program.functions()[index].chunk,
             room: self.numbers[index + 1],
         }
+    }
+}
+
+impl<'a> Runnable<'a> {
+    /// The same chunk, once more.
+    pub(crate) fn again(&self) -> Runnable<'a>
+        ensures { result ≡ self.now }
+    {
+        Runnable {
+            program: self.program,
+            numbers: self.numbers,
+            chunk: self.chunk,
+            room: self.room,
+        }
+    }
+
+    /// The chunk of the function at an index, of the same program.
+    pub(crate) fn callee(&self, function: usize) -> Runnable<'a>
+        requires { function < length self.now.program.functions }
+        ensures program { result.program ≡ self.now.program }
+        ensures chunk { slice_get (chunks_of self.now.program) (function + 1) ≡ Some result.chunk }
+    {
+        Runnable {
+            program: self.program,
+            numbers: self.numbers,
+            chunk: self.program.functions()[function].chunk,
+            room: self.numbers[function + 1],
+        }
+    }
+
+    /// A run of it begins.
+    pub(crate) fn first_frame<V: Drop, I: Drop>(
+        &self,
+        alloc: Global,
+    ) -> Result<Frame<V, I>, AllocError>
+        ensures first { IfOk result (λ frame. frame.machine ≡ first self.now.chunk) }
+        ensures ready { IfOk result (IsUnderWay self.now) }
+    {
+        Frame::new(alloc, self.chunk.entry(), self.room)
     }
 }

@@ -6,10 +6,11 @@ ghost use Rattle.grain_rules.specs.Machine.{innermost};
 ghost use Rattle.grain_rules.specs.Rows.{gives};
 ghost use Rattle.grain.specs.Program.{setting_of};
 ghost use Rattle.grain_machine.specs.Asked.{IsAsked};
+ghost use Rattle.grain_machine.specs.Given.{IsGivenHere};
 ghost use Rattle.grain_machine.specs.State.{Lands, state_at, state_with_handlers};
 ghost use Rattle.grain_machine.specs.State.{state_with_iterators, state_with_operands};
 
-use crate::host::{Host, Request};
+use crate::host::{Given, Host, Request};
 use std::alloc::{AllocError, Global};
 use std::marker::Model;
 
@@ -142,27 +143,31 @@ impl<V: Drop, I: Drop> Frame<V, I> {
         self.operands[base..].rotate_right(1);
     }
 
-    /// Has the host do an operation that takes so many operands and gives a value.
+    /// Has the host do an operation that takes so many operands and gives a value, or answers the function that does.
     #[inline(always)]
     pub(crate) fn give<H: Host<Value = V>>(
         &mut self,
         host: &mut H,
         request: &Request<'_>,
         takes: usize,
-    ) -> Result<(), H::Fault>
+    ) -> Result<Option<usize>, H::Fault>
         requires there { takes ≤ self.old.machine.operands }
         requires room { self.old.machine.operands - takes < self.old.room }
         requires asked { IsAsked request.now.program.now request.now.chunk request.now.at
             request.now.op.now takes }
         requires gives { gives (setting_of request.now.program.now) request.now.op.now ≡ 1 }
-        ensures ok { OnOk result (self.new ≡ state_with_operands
-            (self.old.machine.operands - takes + 1) self.old) }
+        ensures ok { IfOk result
+            (IsGivenHere request.now.program.now takes self.old self.new) }
         ensures err { OnErr result (self.new ≡ self.old) }
     {
         let base = self.operands.len() - takes;
-        let value = host.give(request, &mut self.operands[base..])?;
-        self.replace(takes, value);
-        Ok(())
+        match host.give(request, &mut self.operands[base..])? {
+            Given::Value(value) => {
+                self.replace(takes, value);
+                Ok(None)
+            }
+            Given::Call { function } => Ok(Some(function)),
+        }
     }
 
     /// Puts a value in the place of so many operands.

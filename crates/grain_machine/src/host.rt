@@ -5,6 +5,7 @@ ghost use Rattle.grain_rules.specs.Code.{switch_targets};
 ghost use Rattle.grain_rules.specs.Rows.{gives};
 ghost use Rattle.grain.specs.Program.{setting_of};
 ghost use Rattle.grain_machine.specs.Asked.{IsAsked};
+ghost use Rattle.grain_machine.specs.Given.{NamesFunction};
 
 use grain::{Chunk, Dynamic, Op, Program, Switch};
 
@@ -19,6 +20,25 @@ pub struct Request<'a> {
     pub at: usize,
     /// The operation.
     pub op: &'a Op,
+}
+
+/// What a host answers where an operation gives a value.
+#[derive(Drop)]
+pub enum Given<V> {
+    /// The value.
+    Value(V),
+    /// The machine is to run the function of the program at this index, and what that returns is the value. The host has
+    /// taken the arguments out of the operands that it was lent.
+    Call { function: usize },
+}
+
+/// Why a function that the host asks for isn't run.
+#[derive(Clone, Copy, Debug, PartialEq, Eq, Drop)]
+pub enum CallError {
+    /// As many frames wait as may.
+    TooDeep,
+    /// There is no room for its operands, or for the frame that would wait for it.
+    OutOfMemory,
 }
 
 /// It knows values, iterators and faults, and does what operations do with them.
@@ -42,7 +62,8 @@ pub trait Host {
     /// Drops local variables down to so many.
     fn unwind_to(&mut self, depth: u16);
 
-    /// Does an operation that takes its operands and gives a value. The machine drops what is left of them.
+    /// Does an operation that takes its operands and gives a value, or names the function of the program that does. The
+    /// machine drops what is left of the operands.
     ///
     /// # Errors
     /// Why it fails.
@@ -50,10 +71,23 @@ pub trait Host {
         &mut self,
         request: &Request<'_>,
         operands: &mut [Self::Value],
-    ) -> Result<Self::Value, Self::Fault>
+    ) -> Result<Given<Self::Value>, Self::Fault>
         requires asked { IsAsked request.now.program.now request.now.chunk request.now.at
             request.now.op.now (length operands.old) }
-        requires gives { gives (setting_of request.now.program.now) request.now.op.now ≡ 1 };
+        requires gives { gives (setting_of request.now.program.now) request.now.op.now ≡ 1 }
+        ensures { IfOk result (NamesFunction request.now.program.now) };
+
+    /// Is told that the function at this index is run from here on, which it named last.
+    fn entered(&mut self, function: usize) {
+        let _ = function;
+    }
+
+    /// Is told that the function that was entered last, of those that weren't left, is run no more: it returned, a fault left
+    /// it, or the whole run has ended.
+    fn left(&mut self) {}
+
+    /// The fault that it is where the function at this index, which it named last, can't be run.
+    fn refused(&mut self, function: usize, why: CallError) -> Self::Fault;
 
     /// Does an operation that gives no value. The machine drops what is left of the operands that it takes.
     ///

@@ -1,6 +1,7 @@
-//! The machine that runs chunks of accepted programs in place, over a host that knows values.
+//! The machine that runs chunks of accepted programs in place, with the functions that they call, over a host that knows
+//! values.
 //!
-//! Its operand stack has its room from the start, and what it takes of operands, iterators and handlers is proved to be there:
+//! The operand stack of each call has its room from the start, and what it takes of operands, iterators and handlers is proved to be there:
 //! what [`grain::verify`] accepted is why none of it can lack. What it is to lack is defined in the crate `grain_rules`,
 //! `specs/Machine.antt`.
 #![tactic(auto)]
@@ -8,9 +9,12 @@
 mod accepted;
 mod act;
 mod frame;
+mod frames;
 mod host;
+mod run;
 mod step;
 
 pub use accepted::{Accepted, Runnable, accept};
-pub use host::{Host, Request, dispatch};
-pub use step::{Ending, How};
+pub use host::{CallError, Given, Host, Request, dispatch};
+pub use run::{Ending, Limits};
+pub use step::How;

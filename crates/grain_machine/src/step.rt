@@ -1,10 +1,11 @@
 //! One operation at a time.
-ghost use Rattle.std.specs.Prelude.{◌≡◌, ◌≤◌, IfErr, IfOk, OnErr, OnOk};
+ghost use Rattle.std.specs.Prelude.{◌≡◌, ◌≤◌, IfErr, IfOk, OnOk};
 ghost use Rattle.grain_code.specs.declared.op.Op.{Op};
 ghost use Rattle.grain_machine.specs.Act.{IsForHost};
 ghost use Rattle.grain.specs.Program.{setting_of};
-ghost use Rattle.grain_machine.specs.Ends.{IsEnded, IsFault, MayEnd};
+ghost use Rattle.grain_machine.specs.Ends.{IsFault, MayEnd};
 ghost use Rattle.grain_machine.specs.Asked.{program_code};
+ghost use Rattle.grain_machine.specs.Standing.{DoesTurn};
 ghost use Rattle.grain_machine.specs.State.{MakesMove, IsAt, IsUnderWay, Lands};
 
 use crate::accepted::Runnable;
@@ -12,7 +13,6 @@ use crate::act::Act;
 use crate::frame::Frame;
 use crate::host::{Host, Request};
 use grain::{Instruction, Op};
-use std::alloc::{AllocError, Global};
 
 /// How a run ends.
 #[derive(Drop)]
@@ -29,48 +29,20 @@ pub enum How<V, F> {
     OutOfMemory,
 }
 
-/// Where a run ended, and how.
-#[derive(Drop)]
-pub struct Ending<V, F> {
-    /// The address of the operation that ended it, or of the one that would have come next.
-    pub at: usize,
-    /// How it ended.
-    pub how: How<V, F>,
+/// What a frame does next.
+#[derive(Clone, Copy)]
+pub(crate) enum Turn {
+    /// It has made a move.
+    Moved,
+    /// It waits for the function at an index: what that returns takes the place of so many operands, and it goes on there.
+    Calls {
+        function: usize,
+        takes: usize,
+        next: usize,
+    },
 }
 
 impl<'a> Runnable<'a> {
-    /// Runs the chunk from its entry, for so many moves at most: operations that are done, and faults that are caught.
-    ///
-    /// Room for all operands that any run has is taken here; iterators and handlers take theirs as they come.
-    ///
-    /// # Errors
-    /// There is no room for the operands; the host was asked for nothing.
-    pub fn run<H: Host>(
-        &self,
-        alloc: Global,
-        host: &mut H,
-        fuel: u64,
-    ) -> Result<Ending<H::Value, H::Fault>, AllocError>
-        // A kept run of the chunk ends so, there and within the fuel.
-        ensures ended { IfOk result (λ ending. IsEnded self.now fuel ending.at ending.how) }
-
-        // Without room for its operands no run begins.
-        ensures unasked { OnErr result (host.new ≡ host.old) }
-    {
-        let mut frame = Frame::new(alloc, self.chunk.entry(), self.room)?;
-        'moves: for _turn in 0..fuel {
-            let at = frame.at();
-            match self.step(&mut frame, host) {
-                Ok(()) => {}
-                Err(how) => return Ok(Ending { at, how }),
-            }
-        }
-        Ok(Ending {
-            at: frame.at(),
-            how: How::OutOfFuel,
-        })
-    }
-
     /// The operation that stands where the run is, and the address behind it.
     #[inline(always)]
     fn read<V: Drop, I: Drop>(&self, frame: &Frame<V, I>) -> (Op, usize)
@@ -110,66 +82,46 @@ impl<'a> Runnable<'a> {
         &self,
         frame: &mut Frame<H::Value, H::Iterator>,
         host: &mut H,
-    ) -> Result<(), How<H::Value, H::Fault>>
+    ) -> Result<Turn, How<H::Value, H::Fault>>
         requires { IsUnderWay self.now frame.old }
-        ensures goes { OnOk result (MakesMove self.now frame.old frame.new) }
+        ensures goes { IfOk result (DoesTurn self.now frame.old frame.new) }
         ensures ends { IfErr result (MayEnd (program_code self.now.program) frame.old.machine) }
     {
         let (op, next) = self.read(frame);
         match Act::of(&op, self.program) {
-            Act::Gives { takes } => self.give(frame, host, &op, next, takes),
-            Act::Takes { needs, takes } => self.take(frame, host, &op, next, needs, takes),
+            Act::Gives { takes } => return self.give(frame, host, &op, next, takes),
+            Act::Takes { needs, takes } => self.take(frame, host, &op, next, needs, takes)?,
             Act::Unit => {
                 let value = host.unit();
                 self.unit(frame, next, value);
-                Ok(())
             }
             Act::Truth { value } => {
                 let truth = host.boolean(value);
                 self.truth(frame, next, value, truth);
-                Ok(())
             }
-            Act::Pop => {
-                self.pop(frame, next);
-                Ok(())
-            }
-            Act::Rotate { depth } => {
-                self.rotate(frame, next, depth);
-                Ok(())
-            }
+            Act::Pop => self.pop(frame, next),
+            Act::Rotate { depth } => self.rotate(frame, next, depth),
             Act::Unwind { depth } => {
                 host.unwind_to(depth);
                 self.unwind(frame, next, depth);
-                Ok(())
             }
-            Act::Jump { target } => {
-                self.jump(frame, next, target);
-                Ok(())
-            }
-            Act::JumpIf { target, when: true } => self.jump_if_true(frame, host, next, target),
+            Act::Jump { target } => self.jump(frame, next, target),
+            Act::JumpIf { target, when: true } => self.jump_if_true(frame, host, next, target)?,
             Act::JumpIf {
                 target,
                 when: false,
-            } => self.jump_if_false(frame, host, next, target),
-            Act::Skip { target } => {
-                self.skip(frame, host, next, target);
-                Ok(())
-            }
-            Act::Switch { index } => self.switch(frame, host, next, index),
-            Act::Return => Err(How::Returned(frame.result())),
-            Act::Throw => self.throw(frame, host, next),
-            Act::Begin => self.begin(frame, host, next),
-            Act::Advance { exit, counter } => self.advance(frame, host, next, exit, counter),
-            Act::End => {
-                self.end(frame, next);
-                Ok(())
-            }
-            Act::Arm { target, name } => self.arm(frame, next, target, name),
-            Act::Disarm => {
-                self.disarm(frame, next);
-                Ok(())
-            }
+            } => self.jump_if_false(frame, host, next, target)?,
+            Act::Skip { target } => self.skip(frame, host, next, target),
+            Act::Switch { index } => self.switch(frame, host, next, index)?,
+            Act::Return => return Err(How::Returned(frame.result())),
+            Act::Throw => self.throw(frame, host, next)?,
+            Act::Begin => self.begin(frame, host, next)?,
+            Act::Advance { exit, counter } => self.advance(frame, host, next, exit, counter)?,
+            Act::End => self.end(frame, next),
+            Act::Arm { target, name } => self.arm(frame, next, target, name)?,
+            Act::Disarm => self.disarm(frame, next),
         }
+        Ok(Turn::Moved)
     }
 
     #[inline(always)]
@@ -180,19 +132,27 @@ impl<'a> Runnable<'a> {
         op: &Op,
         next: usize,
         takes: usize,
-    ) -> Result<(), How<H::Value, H::Fault>>
+    ) -> Result<Turn, How<H::Value, H::Fault>>
         requires at { IsAt self.now frame.old op.now next }
         requires plain { IsForHost (setting_of self.now.program) op.now takes takes 1 }
-        ensures goes { OnOk result (MakesMove self.now frame.old frame.new) }
+        ensures goes { IfOk result (DoesTurn self.now frame.old frame.new) }
         ensures ends { IfErr result (MayEnd (program_code self.now.program) frame.old.machine) }
     {
         let request = self.request(frame, op);
         match frame.give(host, &request, takes) {
-            Ok(()) => {
+            Ok(None) => {
                 frame.go(next);
-                Ok(())
+                Ok(Turn::Moved)
             }
-            Err(fault) => raise(frame, host, fault),
+            Ok(Some(function)) => Ok(Turn::Calls {
+                function,
+                takes,
+                next,
+            }),
+            Err(fault) => match raise(frame, host, fault) {
+                Ok(()) => Ok(Turn::Moved),
+                Err(how) => Err(how),
+            },
         }
     }
 
@@ -472,7 +432,7 @@ impl<'a> Runnable<'a> {
     }
 }
 
-/// Raises a fault: the innermost handler catches it that isn't spent, or it ends the run.
+/// Raises a fault: the innermost handler catches it that isn't spent, or it leaves the frame.
 fn raise<H: Host>(
     frame: &mut Frame<H::Value, H::Iterator>,
     host: &mut H,

@@ -1,6 +1,7 @@
 //! Each growth refused in turn, by `bench/growths.py`. A call answers want of memory by its own name, and made again it answers
 //! as if nothing had been refused.
 
+use crate::calls::{invoke, with_function};
 use crate::runs::{Outcome, Script, ended, idle_script, program};
 use grain::{Op, Program, VerifyError};
 use grain_machine::{Runnable, accept};
@@ -61,6 +62,29 @@ fn returns_and_wants(main: &Runnable<'_>, alloc: Global, script: &mut Script) ->
 #[test]
 fn run_growth_fails(rt: HostRuntime) -> Result<(), Fail> {
     let program = try_program(rt.alloc())?;
+    let accepted = accept(&program)?;
+    let main = accepted.main();
+    let mut script = idle_script(rt.alloc());
+    let mut answer = returns_and_wants(&main, rt.alloc(), &mut script);
+    let refused = answer.1;
+    if refused {
+        answer = returns_and_wants(&main, rt.alloc(), &mut script);
+    }
+    assert!(rt; answer.0);
+    told(rt.alloc(), refused)
+}
+
+#[test]
+fn run_call_growth_fails(rt: HostRuntime) -> Result<(), Fail> {
+    // f(5), where f(n) is n
+    let ops = [
+        Op::Const(5),
+        invoke(4, 1),
+        Op::Return,
+        Op::LoadLocal(0),
+        Op::Return,
+    ];
+    let program = with_function(rt.alloc(), &ops, 3)?;
     let accepted = accept(&program)?;
     let main = accepted.main();
     let mut script = idle_script(rt.alloc());

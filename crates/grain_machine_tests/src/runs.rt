@@ -1,5 +1,7 @@
-use grain::{Caps, Cut, Dynamic, Flags, Op, Parts, Positions, Program, Strings, Switch, build};
-use grain_machine::{Ending, Host, How, Request, Runnable, accept, dispatch};
+use grain::{
+    Caps, Cut, Dynamic, Flags, Head, Op, Parts, Positions, Program, Strings, Switch, build,
+};
+use grain_machine::{CallError, Given, Host, How, Limits, Request, Runnable, accept, dispatch};
 use std::alloc::{AllocError, Global};
 use std::test::Fail;
 
@@ -8,6 +10,8 @@ use std::test::Fail;
 pub(crate) struct Script {
     alloc: Global,
     locals: Vec<i64>,
+    /// Where the locals of each function begin that is under way.
+    bases: Vec<usize>,
     caught: Vec<i64>,
 }
 
@@ -16,6 +20,7 @@ pub(crate) enum Fault {
     Thrown(Dynamic),
     Wrong,
     Stopped,
+    TooDeep,
     OutOfMemory,
 }
 
@@ -26,31 +31,36 @@ fn number(value: Option<&Dynamic>) -> i64 {
     }
 }
 
-impl Host for Script {
-    type Value = Dynamic;
-
-    type Iterator = Vec<i64>;
-
-    type Fault = Fault;
-
-    fn unit(&mut self) -> Dynamic {
-        Dynamic::Unit
+impl Script {
+    /// The place of a local variable of the function that runs.
+    fn place(&self, slot: u16) -> usize {
+        let base = self.bases.last().copied().unwrap_or(0);
+        base.saturating_add(slot as usize)
     }
 
-    fn boolean(&mut self, value: bool) -> Dynamic {
-        Dynamic::Bool(value)
+    /// How many functions are under way.
+    pub(crate) fn under_way(&self) -> usize {
+        self.bases.len()
     }
 
-    fn unwind_to(&mut self, depth: u16) {
-        self.locals.truncate(depth as usize);
+    /// Begins the locals of a function with its arguments.
+    fn pass(&mut self, arguments: &[Dynamic]) -> Result<(), AllocError> {
+        self.bases.reserve(1)?;
+        let base = self.locals.len();
+        for argument in arguments {
+            self.locals.push(number(Some(argument)))?;
+        }
+        self.bases.push_reserved(base);
+        Ok(())
     }
 
-    fn give(&mut self, request: &Request<'_>, operands: &mut [Dynamic]) -> Result<Dynamic, Fault> {
+    /// What an operation gives that calls no function of the program.
+    fn value(&mut self, request: &Request<'_>, operands: &[Dynamic]) -> Result<Dynamic, Fault> {
         match request.op {
             Op::Const(index) => Ok(Dynamic::Int(number(
                 request.program.consts().get(*index as usize),
             ))),
-            Op::LoadLocal(slot) => match self.locals.get(*slot as usize) {
+            Op::LoadLocal(slot) => match self.locals.get(self.place(*slot)) {
                 Some(x) => Ok(Dynamic::Int(*x)),
                 None => Err(Fault::Wrong),
             },
@@ -80,6 +90,65 @@ impl Host for Script {
             _ => Err(Fault::Wrong),
         }
     }
+}
+
+impl Host for Script {
+    type Value = Dynamic;
+
+    type Iterator = Vec<i64>;
+
+    type Fault = Fault;
+
+    fn unit(&mut self) -> Dynamic {
+        Dynamic::Unit
+    }
+
+    fn boolean(&mut self, value: bool) -> Dynamic {
+        Dynamic::Bool(value)
+    }
+
+    fn unwind_to(&mut self, depth: u16) {
+        let place = self.place(depth);
+        self.locals.truncate(place);
+    }
+
+    fn give(
+        &mut self,
+        request: &Request<'_>,
+        operands: &mut [Dynamic],
+    ) -> Result<Given<Dynamic>, Fault> {
+        // The names from `4` on are those of functions.
+        if let Op::Call { name, .. } = request.op
+            && *name >= 4
+        {
+            let function = *name as usize - 4;
+            if function >= request.program.functions().len() {
+                return Err(Fault::Wrong);
+            }
+            return match self.pass(operands) {
+                Ok(()) => Ok(Given::Call { function }),
+                Err(_) => Err(Fault::OutOfMemory),
+            };
+        }
+        match self.value(request, operands) {
+            Ok(value) => Ok(Given::Value(value)),
+            Err(fault) => Err(fault),
+        }
+    }
+
+    fn left(&mut self) {
+        if let Some(base) = self.bases.pop() {
+            self.locals.truncate(base);
+        }
+    }
+
+    fn refused(&mut self, _: usize, why: CallError) -> Fault {
+        self.left();
+        match why {
+            CallError::TooDeep => Fault::TooDeep,
+            CallError::OutOfMemory => Fault::OutOfMemory,
+        }
+    }
 
     fn take(&mut self, request: &Request<'_>, operands: &mut [Dynamic]) -> Result<(), Fault> {
         match request.op {
@@ -87,13 +156,16 @@ impl Host for Script {
                 Ok(()) => Ok(()),
                 Err(_) => Err(Fault::OutOfMemory),
             },
-            Op::AssignLocal { slot, .. } => match self.locals.get_mut(*slot as usize) {
-                Some(local) => {
-                    *local = number(operands.get(0));
-                    Ok(())
+            Op::AssignLocal { slot, .. } => {
+                let place = self.place(*slot);
+                match self.locals.get_mut(place) {
+                    Some(local) => {
+                        *local = number(operands.get(0));
+                        Ok(())
+                    }
+                    None => Err(Fault::Wrong),
                 }
-                None => Err(Fault::Wrong),
-            },
+            }
             Op::Tick => Ok(()),
             _ => Err(Fault::Wrong),
         }
@@ -147,6 +219,7 @@ impl Host for Script {
             Fault::Thrown(value) => number(Some(&value)),
             Fault::Wrong => -1,
             Fault::Stopped => return Err(Fault::Stopped),
+            Fault::TooDeep => -2,
             Fault::OutOfMemory => return Err(Fault::OutOfMemory),
         };
         match self.caught.push(number) {
@@ -164,7 +237,7 @@ fn local(slot: u16) -> Op {
     }
 }
 
-fn call(name: u32) -> Op {
+pub(crate) fn call(name: u32) -> Op {
     Op::Call {
         name,
         argc: 2,
@@ -173,7 +246,7 @@ fn call(name: u32) -> Op {
     }
 }
 
-fn declare() -> Op {
+pub(crate) fn declare() -> Op {
     Op::DeclareLocal {
         name: 0,
         is_const: false,
@@ -181,8 +254,14 @@ fn declare() -> Op {
     }
 }
 
-/// The operations as a program, whose constants are 0, 1, 2 and so on.
-pub(crate) fn program(alloc: Global, ops: &[Op]) -> Result<Program, Fail> {
+/// A program whose constants are 0, 1, 2 and so on, of these chunks: the top level, and functions.
+pub(crate) fn program_of(
+    alloc: Global,
+    ops: &[Op],
+    cuts: &[Cut],
+    functions: Vec<Head>,
+    switches: Vec<Switch>,
+) -> Result<Program, Fail> {
     let mut consts = Vec::new(alloc);
     for x in 0..10 {
         consts.push(Dynamic::Int(x))?;
@@ -192,20 +271,28 @@ pub(crate) fn program(alloc: Global, ops: &[Op]) -> Result<Program, Fail> {
         debug_id: 0,
         residuals: 0,
         consts,
-        names: Strings::new(alloc, &["+", "<", "/", "stop"])?,
+        names: Strings::new(alloc, &["+", "<", "/", "stop", "f", "g"])?,
         tokens: Vec::new(alloc),
         assign_ops: Vec::new(alloc),
         chains: Vec::new(alloc),
-        switches: Vec::new(alloc),
+        switches,
         source: None,
     };
+    if functions.len() > 9 || cuts.len() != functions.len() + 1 {
+        return Err(Fail::new("a chunk for the top level, and one for each function"));
+    }
+    let (program, _) = build(alloc, Caps::all(), ops, cuts, functions, parts)?;
+    Ok(program)
+}
+
+/// The operations as the top level of a program.
+pub(crate) fn program(alloc: Global, ops: &[Op]) -> Result<Program, Fail> {
     let cut = Cut {
         first: 0,
         end: ops.len(),
         max_stack: 8,
     };
-    let (program, _) = build(alloc, Caps::all(), ops, &[cut], Vec::new(alloc), parts)?;
-    Ok(program)
+    program_of(alloc, ops, &[cut], Vec::new(alloc), Vec::new(alloc))
 }
 
 /// How a run ended, with the integer that it returned or threw.
@@ -215,6 +302,7 @@ pub(crate) enum Outcome {
     Thrown(i64),
     Wrong,
     Stopped,
+    TooDeep,
     OutOfFuel,
     OutOfMemory,
 }
@@ -224,6 +312,8 @@ fn told(how: How<Dynamic, Fault>) -> Outcome {
         How::Returned(Some(Dynamic::Int(x))) => Outcome::Returned(x),
         How::Returned(_) => Outcome::Wrong,
         How::Faulted(Fault::Thrown(Dynamic::Int(x))) => Outcome::Thrown(x),
+        How::Faulted(Fault::TooDeep) => Outcome::TooDeep,
+        How::Faulted(Fault::OutOfMemory) => Outcome::OutOfMemory,
         How::Faulted(_) => Outcome::Wrong,
         How::Uncatchable(_) => Outcome::Stopped,
         How::OutOfFuel => Outcome::OutOfFuel,
@@ -236,6 +326,7 @@ pub(crate) fn idle_script(alloc: Global) -> Script {
     Script {
         alloc,
         locals: Vec::new(alloc),
+        bases: Vec::new(alloc),
         caught: Vec::new(alloc),
     }
 }
@@ -247,7 +338,8 @@ pub(crate) fn ended(
     script: &mut Script,
     fuel: u64,
 ) -> Result<(Outcome, usize), AllocError> {
-    let ending = main.run(alloc, script, fuel)?;
+    let limits = Limits { fuel, depth: 3 };
+    let ending = main.run(alloc, script, limits)?;
     let at = ending.at;
     Ok((told(ending.how), at))
 }
@@ -262,6 +354,7 @@ fn ran(alloc: Global, ops: &[Op], fuel: u64) -> Result<(Outcome, usize, Vec<i64>
     let Script {
         alloc: _,
         locals: _,
+        bases: _,
         caught,
     } = script;
     Ok((told, at, caught))

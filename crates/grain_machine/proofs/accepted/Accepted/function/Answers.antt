@@ -1,5 +1,5 @@
-use Rattle.std.proofs.Common.{◌≡◌, ◌<◌, ◌+◌, ap, ◌∙◌, sym, length, slice_get, vec_len, arith}
-use Rattle.grain_machine.specs.State.{Numbered}
+use Rattle.std.proofs.Common.{◌≡◌, ℕ, ◌<◌, ◌+◌, List, ap, ◌∙◌, sym, subst, length, slice_get, vec_len, arith}
+use Rattle.grain_machine.specs.State.{IsNumbered, Numbered}
 use Rattle.grain_machine.proofs.Chunks.{function_chunk, numbers_long, place_of, runnable}
 use Rattle.grain_machine.proofs.accepted.Accepted.function.Goals as goal
 
@@ -15,10 +15,12 @@ invariant_of-result c =
     let l = numbers_long _ c.self.invariant in
     let e = ap (λ (a : Numbered). length a.program.functions) c.self.view_is in
     let inside : c.args.index < length c.self.inside.program.now.functions = omega arith in
-    let long : c.args.index + 1 < length c.self.inside.numbers.items = omega arith in
-    runnable _ (c.args.index + 1) _ c.index.result.now c.self.invariant
-    (function_chunk c.self.inside.program.now c.functions.result.now c.args.index c.index-functions-index.result c.functions.ensures inside)
-    (place_of c.self.inside.numbers.items (c.args.index + 1) c.index.result.now c.index.ensures long)
+    let long : c.args.index + 1 < length c.self.inside.numbers.items = omega arith in (
+      runnable _ (c.args.index + 1) _ c.index.result.now c.self.invariant
+          (function_chunk c.self.inside.program.now c.functions.result.now c.args.index c.index-functions-index.result c.functions.ensures inside)
+          (place_of c.self.inside.numbers.items (c.args.index + 1) c.index.result.now c.index.ensures long),
+      subst (λ (xs : List ℕ). IsNumbered (record { program = c.self.inside.program.now; numbers = xs })) (sym c.as_slice.ensures.value) c.self.invariant,
+    )
 
 pub returns-clause-chunk : goal.returns-clause-chunk
 returns-clause-chunk c =

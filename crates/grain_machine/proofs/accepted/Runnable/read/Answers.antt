@@ -11,7 +11,7 @@ pub unreachable-requires : goal.unreachable-requires
 unreachable-requires g c =
     let r = c.args.self.now in
     let s = c.args.frame.now in
-    let runs : IsRunnable r = subst IsRunnable c.self.view_is c.self.invariant in
+    let runs : IsRunnable r = subst IsRunnable c.self.view_is c.self.invariant.0 in
     let here = passes_here r s runs c.requires in
     let code = c.code.ensures ∙ ap (λ (x : Runs). x.program.code) c.self.view_is in
     c.in_default.ensures.none here.0 (stands_along r.program.code c.code.result.now s.machine.address c.at-at.result here.0 code c.at-at.ensures here.1.stands.is)
@@ -20,7 +20,7 @@ pub returns : goal.returns
 returns g c =
     let r = c.args.self.now in
     let s = c.args.frame.now in
-    let runs : IsRunnable r = subst IsRunnable c.self.view_is c.self.invariant in
+    let runs : IsRunnable r = subst IsRunnable c.self.view_is c.self.invariant.0 in
     let i = c.in-Some.instruction in
     let there = c.in-Some.ensures.found in
     let is = c.in-Some-op.ensures.found in

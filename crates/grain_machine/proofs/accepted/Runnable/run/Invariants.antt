@@ -1,6 +1,12 @@
-use Rattle.std.proofs.Common.{◌≡◌, length}
-use Rattle.grain_machine.specs.State.{IsUnderWay}
+use Rattle.std.proofs.Common.{◌≡◌, List, length}
+use Rattle.grain_machine.specs.Calls.{CallStack, IsRunOfCalls}
+use Rattle.grain_machine.specs.Standing.{IsStanding, stack_of}
 use Rattle.grain_machine.proofs.accepted.Runnable.run.Given as goal
 
-abbrev pub invariant-moves : goal.invariant-moves
-invariant-moves g l = (way : IsUnderWay l.self l.frame) × (length way.0.0 ≡ l._turn)
+abbrev pub invariant-turns : goal.invariant-turns
+invariant-turns g l = record {
+  earlier : List CallStack;
+  run : IsRunOfCalls l.self.program l.limits.depth l.self.chunk (stack_of l.frames) earlier;
+  long : length earlier ≡ l._turn;
+  standing : IsStanding l.self.program l.frames;
+}

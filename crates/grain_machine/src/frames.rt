@@ -1,0 +1,259 @@
+//! The frames of a run: the one that runs, and those that wait for a function that they called.
+ghost use Rattle.std.specs.Prelude.{◌≡◌, ◌<◌, [], ◌∷◌, ◌++◌, IfErr, IfOk, OnOk};
+ghost use Rattle.std.specs.Prelude.{vec_capacity, vec_len};
+ghost use Rattle.std.specs.List.{All};
+ghost use Rattle.grain_rules.specs.Machine.{first};
+ghost use Rattle.grain_machine.specs.Calls.{IsCaughtBy, IsGivenBack, IsRaised, Turns};
+ghost use Rattle.grain_machine.specs.Calls.{outermost_of};
+ghost use Rattle.grain_machine.specs.Ends.{IsFaultOf, StackEnds};
+ghost use Rattle.grain_machine.specs.Standing.{IsCalling, IsStanding, IsWaiting, MayCallHere};
+ghost use Rattle.grain_machine.specs.Standing.{stack_of, waiting_of};
+ghost use Rattle.grain_machine.specs.declared.step.How.TheVariants as hows;
+
+use crate::accepted::Runnable;
+use crate::frame::Frame;
+use crate::host::{CallError, Host};
+use crate::step::{How, Turn};
+use std::alloc::{AllocError, Global};
+use std::mem;
+
+/// A frame that waits for the function that it called.
+#[derive(Drop)]
+pub(crate) struct Caller<'a, V, I> {
+    body: Runnable<'a>,
+    frame: Frame<V, I>,
+    /// How many operands the value takes the place of.
+    takes: usize,
+    /// The address behind the operation that called.
+    next: usize,
+}
+
+/// The frames of a run.
+#[derive(Drop)]
+pub(crate) struct Frames<'a, V, I> {
+    /// The chunk that runs.
+    body: Runnable<'a>,
+    /// Where it stands.
+    frame: Frame<V, I>,
+    /// The frames that wait, the last that called at the end.
+    callers: Vec<Caller<'a, V, I>>,
+}
+
+impl<'a, V: Drop, I: Drop> Frames<'a, V, I> {
+    /// A run of the chunk begins.
+    pub(crate) fn new(alloc: Global, body: &Runnable<'a>) -> Result<Frames<'a, V, I>, AllocError>
+        ensures standing { IfOk result (IsStanding body.now.program) }
+        ensures first { IfOk result (λ frames. stack_of frames ≡ record {
+          top = record { chunk = body.now.chunk; machine = first body.now.chunk };
+          callers = [];
+        }) }
+    {
+        Ok(Frames {
+            body: body.again(),
+            frame: body.first_frame(alloc)?,
+            callers: Vec::new(alloc),
+        })
+    }
+
+    /// Where the outermost frame stands.
+    #[inline(always)]
+    pub(crate) fn at(&self) -> usize
+        ensures { result ≡ (outermost_of (stack_of self.now)).machine.address }
+    {
+        if self.callers.is_empty() {
+            self.frame.at()
+        } else {
+            self.callers[0].frame.at()
+        }
+    }
+
+    /// The frame on top does the operation where it stands.
+    #[inline(always)]
+    pub(crate) fn turn<H: Host<Value = V, Iterator = I>>(
+        &mut self,
+        alloc: Global,
+        host: &mut H,
+        depth: usize,
+    ) -> Result<(), How<V, H::Fault>>
+        requires { IsStanding self.old.body.program self.old }
+        ensures standing { OnOk result (IsStanding self.old.body.program self.new) }
+        ensures goes { OnOk result
+            (Turns self.old.body.program depth (stack_of self.old) (stack_of self.new)) }
+        ensures ends { IfErr result
+            (StackEnds self.old.body.program (stack_of self.old)) }
+    {
+        match self.body.step(&mut self.frame, host) {
+            Ok(Turn::Moved) => Ok(()),
+            Ok(
+                Turn::Calls {
+                    function,
+                    takes,
+                    next,
+                },
+            ) => self.call(alloc, host, depth, function, takes, next),
+            Err(How::Returned(value)) => self.give_back(host, value),
+            Err(How::Faulted(fault)) => self.unwind(host, fault),
+            Err(How::Uncatchable(fault)) => Err(How::Uncatchable(fault)),
+            Err(How::OutOfFuel) => Err(How::OutOfFuel),
+            Err(How::OutOfMemory) => Err(How::OutOfMemory),
+        }
+    }
+
+    /// Runs the function at an index, where there is room for it.
+    fn call<H: Host<Value = V, Iterator = I>>(
+        &mut self,
+        alloc: Global,
+        host: &mut H,
+        depth: usize,
+        function: usize,
+        takes: usize,
+        next: usize,
+    ) -> Result<(), How<V, H::Fault>>
+        requires standing { IsStanding self.old.body.program self.old }
+        requires calling { IsCalling self.old.body self.old.frame function takes next }
+        ensures standing { OnOk result (IsStanding self.old.body.program self.new) }
+        ensures goes { OnOk result
+            (Turns self.old.body.program depth (stack_of self.old) (stack_of self.new)) }
+        ensures ends { IfErr result
+            (StackEnds self.old.body.program (stack_of self.old)) }
+    {
+        if self.callers.len() >= depth {
+            return self.refuse(host, function, CallError::TooDeep, next);
+        }
+        let body = self.body.callee(function);
+        match body.first_frame(alloc) {
+            Ok(frame) => match self.callers.reserve(1) {
+                Ok(()) => {
+                    self.enter(body, frame, takes, next);
+                    host.entered(function);
+                    Ok(())
+                }
+                Err(_) => self.refuse(host, function, CallError::OutOfMemory, next),
+            },
+            Err(_) => self.refuse(host, function, CallError::OutOfMemory, next),
+        }
+    }
+
+    /// A frame begins on top of the one that runs, which waits for it.
+    fn enter(&mut self, callee: Runnable<'a>, begun: Frame<V, I>, takes: usize, next: usize)
+        requires { vec_len self.old.callers < vec_capacity self.old.callers }
+        ensures runs { self.new.body ≡ callee.entry }
+        ensures stands { self.new.frame ≡ begun }
+        ensures waits { self.new.callers.items ≡ self.old.callers.items ++ (record {
+          body = self.old.body;
+          frame = self.old.frame;
+          takes = takes;
+          next = next;
+        }) ∷ [] }
+    {
+        let waiting = Caller {
+            body: mem::replace(&mut self.body, callee),
+            frame: mem::replace(&mut self.frame, begun),
+            takes,
+            next,
+        };
+        self.callers.push_reserved(waiting);
+    }
+
+    /// Raises the fault that it is where a function can't be run.
+    fn refuse<H: Host<Value = V, Iterator = I>>(
+        &mut self,
+        host: &mut H,
+        function: usize,
+        why: CallError,
+        next: usize,
+    ) -> Result<(), How<V, H::Fault>>
+        requires standing { IsStanding self.old.body.program self.old }
+        requires calling { MayCallHere self.old.body self.old.frame next }
+        ensures standing { OnOk result (IsStanding self.old.body.program self.new) }
+        ensures goes { OnOk result (IsRaised self.old.body.program
+            (stack_of self.old) (stack_of self.new)) }
+        ensures ends { IfErr result
+            (StackEnds self.old.body.program (stack_of self.old)) }
+    {
+        let fault = host.refused(function, why);
+        match self.frame.catch() {
+            Some(name) => match host.caught(fault, name) {
+                Ok(()) => Ok(()),
+                Err(fault) => Err(How::Uncatchable(fault)),
+            },
+            None => self.unwind(host, fault),
+        }
+    }
+
+    /// The last frame that called goes on with what the function returned, if there is one.
+    fn give_back<H: Host<Value = V>>(
+        &mut self,
+        host: &mut H,
+        value: Option<V>,
+    ) -> Result<(), How<V, H::Fault>>
+        requires { All (IsWaiting self.old.body.program) self.old.callers.items }
+        ensures standing { OnOk result (IsStanding self.old.body.program self.new) }
+        ensures goes { OnOk result (IsGivenBack self.old.body.program
+            (waiting_of self.old.callers.items) (stack_of self.new)) }
+        ensures ends { IfErr result (λ how. (how ≡ hows.Returned value)
+            × (waiting_of self.old.callers.items ≡ [])) }
+    {
+        let Some(caller) = self.callers.pop() else {
+            return Err(How::Returned(value));
+        };
+        host.left();
+        let Caller {
+            body,
+            mut frame,
+            takes,
+            next,
+        } = caller;
+        let given = match value {
+            Some(value) => value,
+            None => host.unit(),
+        };
+        frame.replace(takes, given);
+        frame.go(next);
+        self.body = body;
+        self.frame = frame;
+        Ok(())
+    }
+
+    /// The last frame that called and has a handler that hasn't caught catches the fault, or it ends the run.
+    fn unwind<H: Host<Value = V, Iterator = I>>(
+        &mut self,
+        host: &mut H,
+        fault: H::Fault,
+    ) -> Result<(), How<V, H::Fault>>
+        requires { All (IsWaiting self.old.body.program) self.old.callers.items }
+        ensures standing { OnOk result (IsStanding self.old.body.program self.new) }
+        ensures caught { OnOk result (IsCaughtBy self.old.body.program
+            (waiting_of self.old.callers.items) (stack_of self.new)) }
+        ensures ends { IfErr result (IsFaultOf (waiting_of self.old.callers.items)) }
+    {
+        'callers: while let Some(caller) = self.callers.pop() {
+            host.left();
+            let Caller {
+                body,
+                mut frame,
+                takes: _,
+                next: _,
+            } = caller;
+            match frame.catch() {
+                Some(name) => {
+                    self.body = body;
+                    self.frame = frame;
+                    return match host.caught(fault, name) {
+                        Ok(()) => Ok(()),
+                        Err(fault) => Err(How::Uncatchable(fault)),
+                    };
+                }
+                None => {}
+            }
+        }
+        Err(How::Faulted(fault))
+    }
+
+    /// Tells the host that the frames above the outermost one have ended with the run.
+    pub(crate) fn leave<H: Host>(&self, host: &mut H) {
+        for _ in 0..self.callers.len() {
+            host.left();
+        }
+    }
+}
