@@ -17,7 +17,7 @@ ghost use Rattle.grain_rules.specs.Indices.{Indexed, IsOut, cases_of, chain_test
 ghost use Rattle.grain_rules.specs.Setting.{Setting, case_consts, setting};
 
 use crate::error::VerifyError;
-use crate::passed::{FEW_WORDS, Passed, WORDS, add_passed, has_passed};
+use crate::passed::{Passed, WORDS, add_passed, has_passed};
 use crate::pools::Pools;
 use crate::unindexed::unindexed_width;
 use grain_base::Dynamic;
@@ -422,11 +422,8 @@ pub fn check_code(pools: &Pools<'_>, code: &[u8]) -> Result<(), VerifyError>
     ensures ok { OnOk result ((caps : Caps) → AreIndexed (setting caps pools.now) code.now) }
     ensures err { IfErr result (λ e. (caps : Caps) → CodeFlaw (setting caps pools.now) code.now e) }
 {
-    let entries = pools.chains.len().max(pools.switches.len());
-    if entries == 0 {
+    if pools.chains.is_empty() && pools.switches.is_empty() {
         check_instructions(pools, &mut Passed::<0>::new(), code)
-    } else if entries <= 64 * FEW_WORDS {
-        check_instructions(pools, &mut Passed::<FEW_WORDS>::new(), code)
     } else {
         check_instructions(pools, &mut Passed::<WORDS>::new(), code)
     }
