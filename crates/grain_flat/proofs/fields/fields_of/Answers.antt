@@ -14,5 +14,5 @@ pub returns-in-Three-clause-width : goal.returns-in-Three-clause-width
 returns-in-Three-clause-width c =
     let three : length c.in-Three.fields ≡ 3 = search rules in
     let sizes = sizes_of_three c.in-Three.fields _ _ _ c.row_of-in-Three.result c.row_of-in-Three-2.result c.row_of-in-Three-3.result three
-        c.row_of-in-Three.ensures c.row_of-in-Three-2.ensures c.row_of-in-Three-3.ensures in
+    c.row_of-in-Three.ensures c.row_of-in-Three-2.ensures c.row_of-in-Three-3.ensures in
     omega (arith, sizes, ap (sum_by size_of) c.in-Three.ensures)
