@@ -8,7 +8,7 @@ ghost use Rattle.grain_base.specs.declared.pos.Site.{Site};
 ghost use Rattle.grain_bytecode.specs.declared.sites.StreamError.{StreamError};
 ghost use Rattle.grain_c.specs.Flaws.{stream_flaw, table_flaw};
 ghost use Rattle.grain_c.specs.Written.{HadRoom};
-ghost use Rattle.grain_flat.specs.Listing.{entry_row, listed, place_row};
+ghost use Rattle.grain_flat.specs.Listing.{entry_row, filled, place_row};
 
 use crate::answers::{NO_STREAM, SHORT, WRITTEN};
 use crate::flaws::{OUT_OF_ORDER, OVERFLOW, SOUND, TRAILING_BYTES, TRUNCATED};
@@ -138,7 +138,7 @@ pub extern "C" fn grain_table_entries(
 ) -> u32
     ensures entries { (front : List Entry) × LongestFront table.now front
         × (count.new ≡ length front)
-        × (entries.new ≡ listed (map entry_row front) entries.old) }
+        × (entries.new ≡ filled (map entry_row front) entries.old) }
     ensures room { HadRoom count.new (length entries.old) result }
 {
     *count = list_entries(table, entries);
@@ -152,7 +152,7 @@ pub extern "C" fn grain_table_entries(
 #[unsafe(no_mangle)]
 pub extern "C" fn grain_stream_sites(stream: &[u8], sites: &mut [CPlace], count: &mut usize) -> u32
     ensures sites { result ≢ NO_STREAM → (slots : List (Option Site)) × Stream stream.now slots
-        × (count.new ≡ length slots) × (sites.new ≡ listed (map place_row slots) sites.old) }
+        × (count.new ≡ length slots) × (sites.new ≡ filled (map place_row slots) sites.old) }
     ensures room { result ≢ NO_STREAM → HadRoom count.new (length sites.old) result }
     ensures no_stream { (result ≡ NO_STREAM)
         ↔ ((slots : List (Option Site)) → Stream stream.now slots → ⊥) }

@@ -6,8 +6,8 @@ use Rattle.grain_flat.specs.declared.records.CEntry.{CEntry}
 use Rattle.grain_flat.specs.declared.records.CPlace.{CPlace}
 
 -- the room with the items in front, as many as it has places for, and then what it had
-abbrev pub listed : {A : Type 0} → List A → List A → List A
-listed items room = take (length room) items ++ drop (length items) room
+abbrev pub filled : {A : Type 0} → List A → List A → List A
+filled items room = take (length room) items ++ drop (length items) room
 
 -- an entry of an address table as a record
 abbrev pub entry_row : Entry → CEntry

@@ -4,7 +4,7 @@ ghost use Rattle.grain.specs.AddressTable.{Entry, LongestFront};
 ghost use Rattle.grain.specs.ChainStream.{Stream, site_of};
 ghost use Rattle.grain_base.specs.Varint.{BeginsNumbers, U32Flaw};
 ghost use Rattle.grain_base.specs.declared.pos.Site.{Site};
-ghost use Rattle.grain_flat.specs.Listing.{entry_row, listed, place_row};
+ghost use Rattle.grain_flat.specs.Listing.{entry_row, filled, place_row};
 
 use crate::records::{CEntry, CPlace};
 use grain::{pos, sites, varint};
@@ -22,7 +22,7 @@ fn put_at<T: Copy>(room: &mut [T], place: usize, item: T)
 /// places for; and answers how many there are.
 pub fn list_entries(table: &[u8], room: &mut [CEntry]) -> usize
     ensures { (front : List Entry) × LongestFront table.now front × (result ≡ length front)
-        × (room.new ≡ listed (map entry_row front) room.old) }
+        × (room.new ≡ filled (map entry_row front) room.old) }
 {
     let mut count = 0;
     for (address, site) in pos::entries(table) {
@@ -60,7 +60,7 @@ fn next_place(stream: &[u8], at: &mut usize) -> Result<CPlace, varint::Error>
 /// there are, or `None` where the bytes are no stream. It reads the stream twice.
 pub fn list_sites(stream: &[u8], room: &mut [CPlace]) -> Option<usize>
     ensures some { IfSome result (λ count. (slots : List (Option Site)) × Stream stream.now slots
-        × (count ≡ length slots) × (room.new ≡ listed (map place_row slots) room.old)) }
+        × (count ≡ length slots) × (room.new ≡ filled (map place_row slots) room.old)) }
     ensures none { IfNone result ((slots : List (Option Site)) → Stream stream.now slots → ⊥) }
     ensures kept { IfNone result (room.new ≡ room.old) }
 {

@@ -10,7 +10,7 @@ use Rattle.grain_code.specs.Span.{Span}
 use Rattle.grain_rules.specs.Machine.{Handler, IsKeptRun, Machine, Moves, innermost}
 use Rattle.grain.specs.Program.{Program}
 use Rattle.grain_machine.specs.Asked.{program_code}
-use Rattle.grain_machine.specs.Calls.{Activation, CallStack, GoesOn, IsRunOfCalls, Turns, begins, catcher, outermost_from, outermost_of}
+use Rattle.grain_machine.specs.Calls.{Activation, CallStack, MovesOn, IsRunOfCalls, Turns, begins, catcher, outermost_from, outermost_of}
 use Rattle.grain_machine.specs.Standing.{activation_of, waiting_of}
 use Rattle.grain_machine.specs.declared.frames.Caller.{Caller}
 
@@ -58,13 +58,13 @@ outer_caught x (a ∷ outer) caller rest e = by_catcher (innermost a.machine.han
 
 -- the frame stays, or makes a move
 abbrev pub StaysOrGoes : Program → Activation → Activation → Type 0
-StaysOrGoes p a b = (b ≡ a) ⊎ GoesOn p a b
+StaysOrGoes p a b = (b ≡ a) ⊎ MovesOn p a b
 
-outer_goes : (p : Program) (a b : Activation) (callers : List Activation) → GoesOn p a b → StaysOrGoes p (outermost_from a callers) (outermost_from b callers)
+outer_goes : (p : Program) (a b : Activation) (callers : List Activation) → MovesOn p a b → StaysOrGoes p (outermost_from a callers) (outermost_from b callers)
 outer_goes p a b [] goes = inr goes
 outer_goes p a b (c ∷ cs) goes = inl refl
 
-onto : (p : Program) (o a b : Activation) (rest : List Activation) → o ≡ outermost_from a rest → GoesOn p a b → StaysOrGoes p o (outermost_from b rest)
+onto : (p : Program) (o a b : Activation) (rest : List Activation) → o ≡ outermost_from a rest → MovesOn p a b → StaysOrGoes p o (outermost_from b rest)
 onto p o a b rest e goes = subst (λ (x : Activation). StaysOrGoes p x (outermost_from b rest)) (sym e) (outer_goes p a b rest goes)
 
 pub outer_turn : (p : Program) (depth : ℕ) (s t : CallStack) → Turns p depth s t → StaysOrGoes p (outermost_of s) (outermost_of t)

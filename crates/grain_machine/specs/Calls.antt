@@ -52,13 +52,13 @@ pub record MayCall (p : Program) (a : Activation) (taken behind : ℕ) : Type 0 
   pub next : behind ≡ place_behind (program_code p).layout a.machine.address op
 
 -- a frame makes a move of a kept run of its chunk
-pub record GoesOn (p : Program) (a b : Activation) : Type 0 where
+pub record MovesOn (p : Program) (a b : Activation) : Type 0 where
   pub chunk : b.chunk ≡ a.chunk
   pub moves : Moves (program_code p) a.chunk a.machine b.machine
 
 -- the frame on top makes a move, and the others wait
 pub record IsMoved (p : Program) (s t : CallStack) : Type 0 where
-  pub goes : GoesOn p s.top t.top
+  pub goes : MovesOn p s.top t.top
   pub callers : t.callers ≡ s.callers
 
 -- the frame on top calls a function of the program, and waits for it; there are fewer than so many that wait already
@@ -80,14 +80,14 @@ pub record IsGivenBack (p : Program) (callers : List Activation) (t : CallStack)
   pub taken : ℕ
   pub behind : ℕ
   pub may : MayCall p caller taken behind
-  pub goes : GoesOn p caller t.top
+  pub goes : MovesOn p caller t.top
   pub lands : t.top.machine ≡ record caller.machine { address = behind; operands = caller.machine.operands - taken + 1 }
 
 -- a fault lands in the innermost of these frames that has a handler which isn't spent, and those inside it end
 pub record IsCaughtBy (p : Program) (callers : List Activation) (t : CallStack) : Type 0 where
   pub caller : Activation
   pub catches : catcher callers ≡ Some (caller, t.callers)
-  pub goes : GoesOn p caller t.top
+  pub goes : MovesOn p caller t.top
   pub lands : Lands caller.machine t.top.machine
 
 -- the frame on top returns
@@ -96,14 +96,14 @@ pub record IsReturned (p : Program) (s t : CallStack) : Type 0 where
   pub back : IsGivenBack p s.callers t
 
 -- a fault leaves the frame on top, whose handlers have all caught, at an operation that isn't quiet
-pub record IsLeft (p : Program) (s t : CallStack) : Type 0 where
+pub record IsAbandoned (p : Program) (s t : CallStack) : Type 0 where
   pub sounds : Sounds (program_code p) s.top.machine
   pub uncaught : innermost s.top.machine.handlers ≡ None
   pub caught : IsCaughtBy p s.callers t
 
 -- a fault at the frame on top is caught, by a handler of that frame or of one that waits
 abbrev pub IsRaised : Program → CallStack → CallStack → Type 0
-IsRaised p s t = IsMoved p s t ⊎ IsLeft p s t
+IsRaised p s t = IsMoved p s t ⊎ IsAbandoned p s t
 
 -- a turn of a run, whose frames wait up to this depth
 abbrev pub Turns : Program → ℕ → CallStack → CallStack → Type 0

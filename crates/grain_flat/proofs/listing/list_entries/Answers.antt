@@ -4,7 +4,7 @@ use Rattle.grain.specs.AddressTable.{Entry, LongestFront}
 use Rattle.grain_base.proofs.Drained.{all_left, left, left_more, left_none}
 use Rattle.grain_base.proofs.Entries.{front, front_is}
 use Rattle.grain_flat.specs.Listing.{entry_row}
-use Rattle.grain_flat.proofs.Listed.{listed_none, mapped_more}
+use Rattle.grain_flat.proofs.Listed.{filled_none, mapped_more}
 use Rattle.grain_flat.proofs.ListedEntries.{given_more, one_left}
 use Rattle.grain_flat.proofs.listing.list_entries.Goals as goal
 
@@ -12,7 +12,7 @@ pub loop-address-init : goal.loop-address-init
 loop-address-init c =
     let same : c.into_iter-address-iterator.result ≡ c.entries-address-items.result = search rules in
     let all : left c.into_iter-address-iterator.result ≡ front c.args.table.now = ap left same ∙ all_left c.args.table.now _ c.entries-address-items.ensures.gives in
-    (tt, tt, ([], sym all, refl, listed_none c.args.room.now))
+    (tt, tt, ([], sym all, refl, filled_none c.args.room.now))
 
 pub overflow_add-count : goal.overflow_add-count
 overflow_add-count c =

@@ -4,7 +4,7 @@ use Rattle.grain_base.proofs.Numbers.{begins_at}
 use Rattle.grain_bytecode.specs.ChainStream.{site_of}
 use Rattle.grain_bytecode.proofs.Streams.{Slots, flawless, slots_broken, slots_more, slots_none, slots_whole, uncounted, unreadable}
 use Rattle.grain_flat.specs.Listing.{place_row}
-use Rattle.grain_flat.proofs.Listed.{listed_none, mapped_more}
+use Rattle.grain_flat.proofs.Listed.{filled_none, mapped_more}
 use Rattle.grain_flat.proofs.listing.list_sites.Goals as goal
 
 pub returns-in_default-clause-none : goal.returns-in_default-clause-none
@@ -13,7 +13,7 @@ returns-in_default-clause-none c slots is = flawless _ _ (slots, is) (unreadable
 pub slots-init : goal.slots-init
 slots-init c =
     let fits : c.in-Ok.count < 2 ^ 32 = search rules in
-    ([], slots_none _ c.in-Ok.count c.u32.new.at (begins_at _ _ _ _ c.in-Ok.ensures.found fits) c.in-Ok.ensures.found.0, refl, listed_none c.args.room.now)
+    ([], slots_none _ c.in-Ok.count c.u32.new.at (begins_at _ _ _ _ c.in-Ok.ensures.found fits) c.in-Ok.ensures.found.0, refl, filled_none c.args.room.now)
 
 pub returns-in_default-next_place-clause-none : goal.returns-in_default-next_place-clause-none
 returns-in_default-next_place-clause-none c slots is =
