@@ -13,6 +13,8 @@ mod constants;
 #[cfg(test)]
 mod error;
 #[cfg(test)]
+mod explaining;
+#[cfg(test)]
 mod growths;
 #[cfg(test)]
 mod host;
