@@ -50,20 +50,12 @@ const SIZES: [Size; 5] = [
 /// Chains, each on a value and taken off, switches, each on to what follows, and pairs of Unit and Pop; and a Return.
 fn code(size: Size) -> Vec<u8> {
     let (mut code, mut instructions) = (Vec::new(), 1);
-    for chain in 0..size.chains {
+    let chains = (0..size.chains).map(|chain| (0x16, chain));
+    let switches = (0..size.switches).map(|switch| (0x18, switch));
+    for (tag, index) in chains.chain(switches) {
         if instructions + 3 <= size.instructions {
-            code.push(0x02);
-            code.push(0x16);
-            code.extend((chain as u16).to_le_bytes());
-            code.push(0x0b);
-            instructions += 3;
-        }
-    }
-    for switch in 0..size.switches {
-        if instructions + 3 <= size.instructions {
-            code.push(0x02);
-            code.push(0x18);
-            code.extend((switch as u16).to_le_bytes());
+            code.extend([0x02, tag]);
+            code.extend((index as u16).to_le_bytes());
             code.push(0x0b);
             instructions += 3;
         }
