@@ -32,10 +32,12 @@ PREPARING = {"error: AllocError", "error: AllocFailed { .. }", "error: OutOfMemo
 
 # The crates whose tests stand in a crate of their own.
 TESTS = {
+    "grain_base": "grain_base_tests",
     "grain_bytecode": "grain_bytecode_tests",
     "grain": "grain_tests",
     "grain_explain": "grain_explain_tests",
     "grain_machine": "grain_machine_tests",
+    "grain_cases": "grain_cases_tests",
 }
 
 # The call of each test.
@@ -90,7 +92,7 @@ CALLS = {
         "run": "`Runnable::run` on a try",
         "run_call": "`Runnable::run` on a call, of which two are the host's",
     },
-    "grain_check": {
+    "grain_cases": {
         "run": "`run` on `code` lines",
         "run_on_other_lines": "`run` on `site` and `verify` lines",
     },

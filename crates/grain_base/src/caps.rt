@@ -140,6 +140,3 @@ impl Flags for Caps {
         Caps(bits)
     }
 }
-
-#[cfg(test)]
-mod tests;

@@ -17,6 +17,3 @@ pub use caps::Caps;
 pub use position::Position;
 pub use token::Token;
 pub use value::{Dynamic, FnPtr, HostValue};
-
-#[cfg(test)]
-mod tests;

@@ -273,6 +273,3 @@ pub fn encode(alloc: Global, sites: &[(u32, Site)]) -> Result<Vec<u8>, AllocErro
     }
     Ok(table)
 }
-
-#[cfg(test)]
-mod tests;

@@ -96,6 +96,3 @@ impl fmt::Debug for Position {
         fmt::Display::fmt(self, f)
     }
 }
-
-#[cfg(test)]
-mod tests;

@@ -84,6 +84,3 @@ pub enum Token {
     /// An operator that the host has added.
     Custom(String),
 }
-
-#[cfg(test)]
-mod tests;

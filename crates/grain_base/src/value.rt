@@ -366,6 +366,3 @@ fn feed_entries<H: Hasher>(entries: &BTreeMap<String, Dynamic>, state: &mut H)
         feed(value, state);
     }
 }
-
-#[cfg(test)]
-mod tests;

@@ -180,6 +180,3 @@ pub fn put_i64(out: &mut Vec<u8>, value: i64) -> Result<(), AllocError>
         put_u64(out, 2 * value as u64)
     }
 }
-
-#[cfg(test)]
-mod tests;

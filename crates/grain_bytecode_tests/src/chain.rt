@@ -2,15 +2,22 @@ use crate::samples::{assert_same, chain};
 use grain_base::{Flags, Position};
 use grain_bytecode::{Chain, Root, Step, StepFlags, Tail};
 use std::alloc::{AllocError, Global};
+use std::cmp::Ordering;
+use std::fmt::Debug;
 use std::hash::{DefaultHasher, Hash, Hasher};
+use std::process::Abort;
 use std::test::Fail;
+
+/// The debug text of a value.
+fn shown<T: Debug>(alloc: Global, value: &T) -> Result<String, AllocError> {
+    format!(in alloc; "{value:?}")
+}
 
 // The positions, one after another.
 fn text(alloc: Global, chain: &Chain) -> Result<String, AllocError> {
     let mut text = String::new(alloc);
     for position in chain.positions() {
-        text.push_str(position.to_string(alloc)?.as_str())?;
-        text.push(' ')?;
+        write!(text, "{position} ")?;
     }
     Ok(text)
 }
@@ -24,122 +31,186 @@ fn moved(alloc: Global, slot: u32) -> Result<String, AllocError> {
     text(alloc, &chain)
 }
 
+/// The positions of the chain, where that of one slot is replaced.
+fn with_one_moved(slot: u32) -> &'static str {
+    match slot {
+        0 => "4:4 1:3 1:2 1:6 ",
+        1 => "1:1 4:4 1:2 1:6 ",
+        2 => "1:1 1:3 4:4 1:6 ",
+        3 => "1:1 1:3 1:2 4:4 ",
+        _ => "1:1 1:3 1:2 1:6 ",
+    }
+}
+
+#[test]
+fn positions_are_replaced(rt: HostRuntime) -> Result<(), Fail> {
+    for slot in 0..5 {
+        let found = moved(rt.alloc(), slot)?;
+        assert_same(&rt, found.as_str(), with_one_moved(slot));
+    }
+    Ok(())
+}
+
+/// How many slots a chain has by their number and by its positions, where they fit.
+fn slots(chain: &Chain) -> Option<(u32, usize)> {
+    if !chain.slots_fit() {
+        return None;
+    }
+    Some((chain.position_slots(), chain.positions().count()))
+}
+
+/// The slots of the first three steps of a chain, where they fit.
+fn step_slots(chain: &Chain) -> Option<[Option<u32>; 3]> {
+    if !chain.slots_fit() {
+        return None;
+    }
+    Some([chain.step_slot(0), chain.step_slot(1), chain.step_slot(2)])
+}
+
 #[test]
 fn positions_have_slots(rt: HostRuntime) -> Result<(), Fail> {
     let chain = chain(rt.alloc())?;
-    assert!(rt; chain.slots_fit());
-    assert_same(
-        &rt,
-        (chain.position_slots(), chain.positions().count()),
-        (4, 4),
-    );
-    assert_same(
-        &rt,
-        (chain.step_slot(0), chain.step_slot(1), chain.step_slot(2)),
-        (Some(1), Some(3), None),
-    );
-    let text = format!(in rt.alloc(); "{chain:?}")?;
+    assert_same(&rt, slots(&chain), Some((4, 4)));
+    assert_same(&rt, step_slots(&chain), Some([Some(1), Some(3), None]));
+    Ok(())
+}
+
+#[test]
+fn chains_are_printed(rt: HostRuntime) -> Result<(), Fail> {
+    let text = shown(rt.alloc(), &chain(rt.alloc())?)?;
     assert_same(
         &rt,
         text.as_str(),
         "Chain { root: Named { name: 0, pos: 1:1 }, steps: [Index { operand: 0, flags: StepFlags(0), pos: 1:3, bracket: 1:2 }, Property { name: 1, getter: 2, setter: 3, flags: StepFlags(1), pos: 1:6 }], tail: Read, operands: 1 }",
     );
-    let rows = [
-        (0, "4:4 1:3 1:2 1:6 "),
-        (1, "1:1 4:4 1:2 1:6 "),
-        (2, "1:1 1:3 4:4 1:6 "),
-        (3, "1:1 1:3 1:2 4:4 "),
-        (4, "1:1 1:3 1:2 1:6 "),
-    ];
-    for (slot, positions) in rows {
-        assert_same(&rt, moved(rt.alloc(), slot)?.as_str(), positions);
-    }
     Ok(())
+}
+
+/// The chain with an assignment to a temporary value.
+fn assigning(alloc: Global) -> Result<Chain, AllocError> {
+    let mut chain = chain(alloc)?;
+    chain.tail = Tail::Assign { op: Some(2) };
+    chain.root = Root::Temporary;
+    Ok(chain)
+}
+
+/// How many operands a chain takes, and whether it assigns and begins on the stack.
+fn taken(chain: &Chain) -> (usize, bool, bool) {
+    (chain.consumes(), chain.assigns(), chain.roots_on_stack())
 }
 
 #[test]
 fn chains_take_operands(rt: HostRuntime) -> Result<(), Fail> {
-    let alloc = rt.alloc();
-    let mut left = chain(alloc)?;
+    let read = chain(rt.alloc())?;
+    assert_same(&rt, taken(&read), (1, false, false));
+    let assigned = assigning(rt.alloc())?;
+    assert_same(&rt, taken(&assigned), (3, true, true));
+    assert_same(&rt, slots(&assigned), Some((3, 3)));
+    Ok(())
+}
+
+/// Whether a chain is equal to another one, and its steps to their copy.
+fn comparisons(left: &Chain, right: &Chain) -> Result<(bool, bool), AllocError> {
+    Ok((left == right, left.steps.clone()? == left.steps))
+}
+
+#[test]
+fn chains_are_compared(rt: HostRuntime) -> Result<(), Fail> {
+    let left = chain(rt.alloc())?;
+    let right = chain(rt.alloc())?;
+    assert_same(&rt, comparisons(&left, &right)?, (true, true));
+    Ok(())
+}
+
+#[test]
+fn unlike_chains_are_compared(rt: HostRuntime) -> Result<(), Fail> {
+    let left = assigning(rt.alloc())?;
+    let right = chain(rt.alloc())?;
+    assert_same(&rt, comparisons(&left, &right)?, (false, true));
+    Ok(())
+}
+
+/// Asserts that copies of the root and the tail are as they are, and that they and the first step have these texts.
+fn assert_parts(rt: &impl Abort, alloc: Global, chain: &Chain) -> Result<(), Fail> {
+    assert_same(rt, chain.root.clone()?, Root::Temporary);
+    assert_same(rt, chain.tail.clone()?, Tail::Assign { op: Some(2) });
+    let text = shown(alloc, &(&chain.root, &chain.tail, chain.steps.first()))?;
     assert_same(
-        &rt,
-        (left.consumes(), left.assigns(), left.roots_on_stack()),
-        (1, false, false),
-    );
-    assert!(rt; left == chain(alloc)?);
-    assert!(rt; left.steps.clone()? == left.steps);
-    left.tail = Tail::Assign { op: Some(2) };
-    left.root = Root::Temporary;
-    assert_same(
-        &rt,
-        (left.consumes(), left.assigns(), left.roots_on_stack()),
-        (3, true, true),
-    );
-    assert!(rt; left != chain(alloc)?);
-    assert_same(
-        &rt,
-        (left.root.clone()?, left.tail.clone()?),
-        (Root::Temporary, Tail::Assign { op: Some(2) }),
-    );
-    assert!(rt; left.slots_fit());
-    assert_same(&rt, left.position_slots(), 3);
-    let text = format!(in alloc; "{:?} {:?} {:?}", left.root, left.tail, left.steps.first())?;
-    assert_same(
-        &rt,
+        rt,
         text.as_str(),
-        "Temporary Assign { op: Some(2) } Some(Index { operand: 0, flags: StepFlags(0), pos: 1:3, bracket: 1:2 })",
+        "(Temporary, Assign { op: Some(2) }, Some(Index { operand: 0, flags: StepFlags(0), pos: 1:3, bracket: 1:2 }))",
     );
     Ok(())
 }
 
-fn method(argc: u8, operand: u16) -> Step {
-    Step::Method {
+#[test]
+fn parts_are_copied_and_printed(rt: HostRuntime) -> Result<(), Fail> {
+    let chain = assigning(rt.alloc())?;
+    assert_parts(&rt, rt.alloc(), &chain)
+}
+
+/// The last operand of a call of a method.
+fn last_of_method(argc: u8, operand: u16) -> Option<u32> {
+    let method = Step::Method {
         name: 0,
         argc,
         operand,
         flags: StepFlags::empty(),
         pos: Position::NONE,
-    }
+    };
+    method.last_operand()
+}
+
+/// The last operand of a step of the chain.
+fn last_of_step(chain: &Chain, number: usize) -> Option<u32> {
+    chain.steps.get(number)?.last_operand()
 }
 
 #[test]
 fn steps_take_operands(rt: HostRuntime) -> Result<(), Fail> {
     let chain = chain(rt.alloc())?;
-    let last: Vec<Option<u32>> = chain
-        .steps
-        .iter()
-        .map(Step::last_operand)
-        .collect(rt.alloc())?;
-    assert_same(&rt, last.as_slice(), [Some(0), None].as_slice());
-    assert_same(&rt, method(2, 1).last_operand(), Some(2));
-    assert_same(&rt, method(0, 65535).last_operand(), None);
-    assert_same(&rt, method(255, 65535).last_operand(), Some(65789));
+    assert_same(&rt, chain.steps.len(), 2);
+    assert_same(&rt, last_of_step(&chain, 0), Some(0));
+    assert_same(&rt, last_of_step(&chain, 1), None);
+    assert_same(&rt, last_of_method(2, 1), Some(2));
+    assert_same(&rt, last_of_method(0, 65535), None);
+    assert_same(&rt, last_of_method(255, 65535), Some(65789));
     Ok(())
 }
 
 #[test]
-fn flags_are_sets_of_bits(rt: HostRuntime) -> Result<(), Fail> {
+fn flags_are_sets_of_bits(rt: HostRuntime) {
     let skip = StepFlags::SKIP_IF_UNIT;
     let none = StepFlags::default();
     assert_same(&rt, (none, none.bits()), (StepFlags::empty(), 0));
     assert_same(&rt, (skip, skip.bits()), (StepFlags::all(), 1));
-    assert_same(
-        &rt,
-        (StepFlags::from_bits(1), StepFlags::from_bits(2)),
-        (Some(skip.clone()?), None),
-    );
-    assert_same(
-        &rt,
-        (skip.contains(none), none.contains(skip)),
-        (true, false),
-    );
+    assert_same(&rt, StepFlags::from_bits(1), Some(skip));
+    assert_same(&rt, StepFlags::from_bits(2), None);
+    assert_same(&rt, skip.contains(none), true);
+    assert_same(&rt, none.contains(skip), false);
     assert_same(&rt, (none.union(skip), skip.difference(skip)), (skip, none));
-    assert!(rt; none < skip);
-    assert_same(&rt, none.cmp(&skip), std::cmp::Ordering::Less);
+}
+
+#[test]
+fn flags_are_ordered(rt: HostRuntime) -> Result<(), Fail> {
+    let skip = StepFlags::SKIP_IF_UNIT;
+    let none = StepFlags::default();
+    assert_same(&rt, skip.clone()?, skip);
+    assert_same(&rt, none < skip, true);
+    assert_same(&rt, none.cmp(&skip), Ordering::Less);
+    Ok(())
+}
+
+/// The hash of a value.
+fn hash_of<T: Hash>(value: &T) -> u64 {
     let mut state = DefaultHasher::new();
-    skip.hash(&mut state);
+    value.hash(&mut state);
+    state.finish()
+}
+
+#[test]
+fn flags_have_the_hash_of_their_bits(rt: HostRuntime) {
     let mut again = DefaultHasher::new();
     again.write_u8(1);
-    assert_same(&rt, state.finish(), again.finish());
-    Ok(())
+    assert_same(&rt, hash_of(&StepFlags::SKIP_IF_UNIT), again.finish());
 }

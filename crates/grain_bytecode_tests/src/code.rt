@@ -2,6 +2,8 @@ use crate::samples::assert_same;
 use grain_bytecode::{
     Op, Receiver, TagFlow, TagRow, decode, disassemble, tag, tag_row, u16_at, u32_at, width,
 };
+use std::alloc::{AllocError, Global};
+use std::fmt::Debug;
 use std::test::Fail;
 
 #[test]
@@ -47,32 +49,40 @@ fn decodes_in_place(rt: HostRuntime) {
     assert_same(&rt, decode(&code, 7), Some(Op::Return));
 }
 
+/// The operations of code with their addresses.
+fn items(alloc: Global, code: &[u8]) -> Result<Vec<(usize, Op)>, AllocError> {
+    disassemble(code).collect(alloc)
+}
+
 #[test]
 fn disassembles(rt: HostRuntime) -> Result<(), Fail> {
-    assert!(rt; disassemble(&[0xff; 32]).next().is_none());
-    let items: Vec<(usize, Op)> = disassemble(&[0x02, 0x0b, 0xff, 0x02]).collect(rt.alloc())?;
-    assert_same(
-        &rt,
-        items.as_slice(),
-        [(0, Op::Unit), (1, Op::Pop)].as_slice(),
-    );
+    assert_same(&rt, disassemble(&[0xff; 32]).next().is_none(), true);
+    let found = items(rt.alloc(), &[0x02, 0x0b, 0xff, 0x02])?;
+    let wanted = [(0, Op::Unit), (1, Op::Pop)];
+    assert_same(&rt, found.as_slice(), wanted.as_slice());
     Ok(())
+}
+
+/// The debug text of a value.
+fn text<T: Debug>(alloc: Global, value: &T) -> Result<String, AllocError> {
+    format!(in alloc; "{value:?}")
 }
 
 #[test]
 fn copies_of_an_operation_are_equal(rt: HostRuntime) -> Result<(), Fail> {
     let op = Op::Jump(7);
     assert_same(&rt, &op.clone()?, &op);
-    assert_ne!(rt; op, Op::Jump(8));
-    assert_same(&rt, format!(in rt.alloc(); "{op:?}")?.as_str(), "Jump(7)");
+    assert_same(&rt, op == Op::Jump(8), false);
+    assert_same(&rt, text(rt.alloc(), &op)?.as_str(), "Jump(7)");
+    Ok(())
+}
+
+#[test]
+fn copies_of_a_receiver_are_equal(rt: HostRuntime) -> Result<(), Fail> {
     let receiver = Receiver::Local(4);
     let copy = receiver;
     assert_same(&rt, copy, receiver);
-    assert_same(
-        &rt,
-        format!(in rt.alloc(); "{receiver:?}")?.as_str(),
-        "Local(4)",
-    );
+    assert_same(&rt, text(rt.alloc(), &receiver)?.as_str(), "Local(4)");
     Ok(())
 }
 

@@ -36,7 +36,7 @@ impl Said {
         for number in 0..64 {
             let site = pos::resolve(bytes, number);
             let slot = sites::resolve(bytes, number);
-            assert!(rt; has_line(site) && has_line(slot));
+            assert_same(rt, has_line(site) && has_line(slot), true);
             self.sites = self.sites.saturating_add(u32::from(site.is_some()));
             self.slots = self.slots.saturating_add(u32::from(slot.is_some()));
         }
@@ -44,7 +44,10 @@ impl Said {
 }
 
 fn has_line(site: Option<Site>) -> bool {
-    site.is_none_or(|site| site.line != 0)
+    match site {
+        Some(site) => site.line != 0,
+        None => true,
+    }
 }
 
 /// What is said of the bytes with one bit changed, for each bit.
@@ -80,15 +83,20 @@ fn each_change_of_one_bit_is_answered(rt: HostRuntime) {
     assert_same(&rt, said_of_changes(&rt, STREAM), of_stream);
 }
 
+/// Bytes, and their flaws as a table and as a stream.
+fn without_count(number: u32) -> (&'static [u8], pos::Error, StreamError) {
+    match number {
+        0 => (&[], pos::Error::Truncated, StreamError::Truncated),
+        1 => (&[0xff], pos::Error::Truncated, StreamError::Truncated),
+        2 => (&[0xff; 32], pos::Error::Overflow, StreamError::Overflow),
+        _ => (&[0x80; 12], pos::Error::Overflow, StreamError::Overflow),
+    }
+}
+
 #[test]
 fn bytes_that_begin_with_no_count_have_nothing(rt: HostRuntime) {
-    let rows: [(&[u8], pos::Error, StreamError); 4] = [
-        (&[], pos::Error::Truncated, StreamError::Truncated),
-        (&[0xff], pos::Error::Truncated, StreamError::Truncated),
-        (&[0xff; 32], pos::Error::Overflow, StreamError::Overflow),
-        (&[0x80; 12], pos::Error::Overflow, StreamError::Overflow),
-    ];
-    for (bytes, of_table, of_stream) in rows {
+    for number in 0..4 {
+        let (bytes, of_table, of_stream) = without_count(number);
         assert_same(&rt, pos::check(bytes), Err(of_table));
         assert_same(&rt, sites::check(bytes), Err(of_stream));
         let mut said = Said::default();

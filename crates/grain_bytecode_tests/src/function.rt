@@ -1,24 +1,30 @@
 use crate::samples::assert_same;
 use grain_base::FnAccess;
 use grain_bytecode::{Chunk, Function};
+use std::alloc::{AllocError, Global};
 use std::test::Fail;
 
-#[test]
-fn functions_are_printed(rt: HostRuntime) -> Result<(), Fail> {
-    let function = Function {
+fn function(alloc: Global) -> Result<Function, AllocError> {
+    Ok(Function {
         name: 0,
-        params: vec![in rt.alloc(); 1]?,
+        params: vec![in alloc; 1]?,
         access: FnAccess::Public,
         this_type: None,
         chunk: Chunk::new(0, 2, 1),
-    };
-    let text = format!(in rt.alloc(); "{function:?}")?;
-    let fields = "name: 0, params: [1], access: Public, this_type: None";
-    let chunk = "chunk: Chunk { entry: 0, end: 2, max_stack: 1 }";
+    })
+}
+
+fn text(alloc: Global) -> Result<String, AllocError> {
+    let function = function(alloc)?;
+    format!(in alloc; "{function:?}")
+}
+
+#[test]
+fn functions_are_printed(rt: HostRuntime) -> Result<(), Fail> {
     assert_same(
         &rt,
-        text,
-        format!(in rt.alloc(); "Function {{ {fields}, {chunk} }}")?,
+        text(rt.alloc())?.as_str(),
+        "Function { name: 0, params: [1], access: Public, this_type: None, chunk: Chunk { entry: 0, end: 2, max_stack: 1 } }",
     );
     Ok(())
 }

@@ -63,14 +63,26 @@ pub(crate) fn both_texts<E: Debug + Display>(
     format!(in alloc; "{error:?}: {error}")
 }
 
-/// How a test of growths ends: it says which growth failed, one of the call's or the one that is asked for here, behind
-/// them. Where none fails, it is `Ok`.
-pub(crate) fn told(alloc: Global, refused: bool) -> Result<(), Fail> {
+/// Asserts that an error has these texts, one after the other.
+pub(crate) fn assert_texts<E: Debug + Display + Drop>(
+    rt: &impl Abort,
+    alloc: Global,
+    row: (E, &str),
+) -> Result<(), AllocError> {
+    assert_same(rt, both_texts(alloc, &row.0)?.as_str(), row.1);
+    Ok(())
+}
+
+/// How a test of growths ends, whose call was refused memory or not, and was refused it again when it was made again. It
+/// says which growth failed, one of the call's or the one that is asked for here, behind them. Where none fails, it is `Ok`.
+pub(crate) fn told(rt: &impl Abort, alloc: Global, refused: bool, again: bool) -> Result<(), Fail> {
+    assert_same(rt, again, false);
     if refused {
         return Err(Fail::new("a growth of the call was refused"));
     }
     let mut behind = Vec::new(alloc);
-    behind
-        .push(refused)
-        .map_err(|_| Fail::new("no growth of the call is left"))
+    match behind.push(refused) {
+        Ok(()) => Ok(()),
+        Err(_) => Err(Fail::new("no growth of the call is left")),
+    }
 }

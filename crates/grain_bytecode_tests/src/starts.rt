@@ -1,49 +1,66 @@
 use crate::samples::assert_same;
 use grain_bytecode::Starts;
+use std::alloc::{AllocError, Global};
+use std::process::Abort;
 use std::test::Fail;
+
+fn starts_of(alloc: Global, code: &[u8]) -> Result<Starts, AllocError> {
+    Starts::of(alloc, code)
+}
+
+/// Asserts where the instructions end and how many they are.
+fn assert_end(rt: &impl Abort, starts: &Starts, end: usize, count: usize) {
+    assert_same(rt, starts.end(), end);
+    assert_same(rt, starts.count(), count);
+}
+
+/// Asserts the number of the instruction that begins at an address, if one does.
+fn assert_ordinal(rt: &impl Abort, starts: &Starts, at: usize, wanted: Option<usize>) {
+    assert_same(rt, starts.ordinal(at), wanted);
+    assert_same(rt, starts.contains(at), wanted.is_some());
+}
 
 #[test]
 fn the_front_that_splits(rt: HostRuntime) -> Result<(), Fail> {
-    let starts = Starts::of(rt.alloc(), &[0x02, 0x01, 0x00, 0x00, 0x13, 0xff])?;
-    assert_same(&rt, starts.end(), 5);
-    assert_same(&rt, starts.count(), 3);
-    let rows = [
-        (0, Some(0)),
-        (1, Some(1)),
-        (2, None),
-        (4, Some(2)),
-        (5, None),
-        (64, None),
-        (usize::MAX, None),
-    ];
-    for (at, wanted) in rows {
-        assert_same(&rt, starts.ordinal(at), wanted);
-        assert_same(&rt, starts.contains(at), wanted.is_some());
+    let starts = starts_of(rt.alloc(), &[0x02, 0x01, 0x00, 0x00, 0x13, 0xff])?;
+    assert_end(&rt, &starts, 5, 3);
+    for (at, number) in [(0, 0), (1, 1), (4, 2)] {
+        assert_ordinal(&rt, &starts, at, Some(number));
+    }
+    for at in [2, 5, 64, usize::MAX] {
+        assert_ordinal(&rt, &starts, at, None);
     }
     Ok(())
 }
 
+/// The starts of so many operations of one byte, and a return behind them.
+fn starts_of_units(alloc: Global, length: usize) -> Result<Starts, AllocError> {
+    let mut code = vec![in alloc; 0x02; length]?;
+    code.push(0x13)?;
+    starts_of(alloc, &code)
+}
+
+/// Asserts that each address up to the last one is a start, and none behind it.
+fn assert_words(rt: &impl Abort, starts: &Starts, last: usize, end: usize) {
+    assert_end(rt, starts, end, end);
+    for at in [63, 64, last] {
+        assert_same(rt, starts.ordinal(at), Some(at));
+    }
+    assert_same(rt, starts.ordinal(end), None);
+}
+
 #[test]
 fn words_begin_at_each_64th_address(rt: HostRuntime) -> Result<(), Fail> {
-    for last in [64, 65, 128] {
-        let mut code = vec![in rt.alloc(); 0x02; last]?;
-        code.push(0x13)?;
-        let starts = Starts::of(rt.alloc(), &code)?;
-        assert_same(&rt, starts.end(), last + 1);
-        assert_same(&rt, starts.count(), last + 1);
-        for at in [63, 64, last] {
-            assert_same(&rt, starts.ordinal(at), Some(at));
-        }
-        assert_same(&rt, starts.ordinal(last + 1), None);
+    for (last, end) in [(64, 65), (65, 66), (128, 129)] {
+        assert_words(&rt, &starts_of_units(rt.alloc(), last)?, last, end);
     }
     Ok(())
 }
 
 #[test]
 fn no_code(rt: HostRuntime) -> Result<(), Fail> {
-    let starts = Starts::of(rt.alloc(), &[])?;
-    assert_same(&rt, starts.end(), 0);
-    assert_same(&rt, starts.count(), 0);
-    assert!(rt; !starts.contains(0));
+    let starts = starts_of(rt.alloc(), &[])?;
+    assert_end(&rt, &starts, 0, 0);
+    assert_same(&rt, starts.contains(0), false);
     Ok(())
 }

@@ -1,13 +1,21 @@
 use crate::samples::assert_same;
 use grain_base::{Dynamic, HostValue};
 use grain_bytecode::{AssembleError, Switch, SwitchRange, resolve_switch_targets};
-use std::alloc::Global;
+use std::alloc::{AllocError, Global};
 use std::collections::HashMap;
+use std::process::Abort;
 use std::test::Fail;
 
-fn table(alloc: Global) -> Result<Switch, Fail> {
-    let mut cases = HashMap::new(alloc);
-    let _ = cases.insert(Dynamic::Int(1), (10, 0))?;
+/// Cases with their targets and the indices of their constants.
+type Cases = HashMap<Dynamic, (u32, u32)>;
+
+/// A case, beside those that are there.
+fn add(cases: &mut Cases, subject: Dynamic, target: u32, constant: u32) -> Result<(), Fail> {
+    let _ = cases.insert(subject, (target, constant))?;
+    Ok(())
+}
+
+fn ranges(alloc: Global) -> Result<Vec<SwitchRange>, AllocError> {
     let upper = SwitchRange {
         from: 8,
         to: 10,
@@ -20,9 +28,21 @@ fn table(alloc: Global) -> Result<Switch, Fail> {
         inclusive: false,
         target: 20,
     };
+    Ok(vec![in alloc; lower, upper]?)
+}
+
+/// A case of the integer 1.
+fn case(alloc: Global) -> Result<Cases, Fail> {
+    let mut cases = HashMap::new(alloc);
+    add(&mut cases, Dynamic::Int(1), 10, 0)?;
+    Ok(cases)
+}
+
+fn table(alloc: Global) -> Result<Switch, Fail> {
+    let ranges = ranges(alloc)?;
     Ok(Switch {
-        cases: Some(cases),
-        ranges: vec![in alloc; lower, upper]?,
+        cases: Some(case(alloc)?),
+        ranges,
         default: 99,
     })
 }
@@ -35,63 +55,133 @@ fn without_cases(alloc: Global, default: u32) -> Switch {
     }
 }
 
+/// The target of a subject.
+fn target_of(table: &Switch, subject: Dynamic) -> u32 {
+    table.dispatch(&subject)
+}
+
+/// An integer that is marked as shared.
+fn shared(alloc: Global, number: i64) -> Result<Dynamic, AllocError> {
+    Ok(Dynamic::Shared(Box::new(alloc, Dynamic::Int(number))?))
+}
+
+/// Asserts the target of an integer, and that it is the same where that is marked as shared.
+fn assert_target(
+    rt: &impl Abort,
+    alloc: Global,
+    table: &Switch,
+    (subject, target): (i64, u32),
+) -> Result<(), AllocError> {
+    let found = target_of(table, Dynamic::Int(subject));
+    assert_same(rt, (subject, found), (subject, target));
+    let found = target_of(table, shared(alloc, subject)?);
+    assert_same(rt, (subject, found), (subject, target));
+    Ok(())
+}
+
+fn assert_targets(rt: &impl Abort, alloc: Global, table: &Switch) -> Result<(), AllocError> {
+    for row in [(1, 10), (5, 20), (7, 20), (8, 30), (10, 30), (11, 99)] {
+        assert_target(rt, alloc, table, row)?;
+    }
+    Ok(())
+}
+
 #[test]
 fn cases_come_before_ranges(rt: HostRuntime) -> Result<(), Fail> {
-    let alloc = rt.alloc();
-    let table = table(alloc)?;
-    let rows = [(1, 10), (5, 20), (7, 20), (8, 30), (10, 30), (11, 99)];
-    for (subject, target) in rows {
-        let shared = Dynamic::Shared(Box::new(alloc, Dynamic::Int(subject))?);
-        assert_eq!(rt;
-            table.dispatch(&Dynamic::Int(subject)),
-            target,
-            "of {subject}"
-        );
-        assert_eq!(rt; table.dispatch(&shared), target, "of shared {subject}");
+    let table = table(rt.alloc())?;
+    assert_targets(&rt, rt.alloc(), &table)?;
+    Ok(())
+}
+
+fn text(alloc: Global, text: &str) -> Result<Dynamic, AllocError> {
+    Ok(Dynamic::Str(String::from_str(alloc, text)?))
+}
+
+/// A subject of a number.
+fn subject(alloc: Global, number: u32) -> Result<Dynamic, AllocError> {
+    match number {
+        0 => text(alloc, "hello"),
+        1 => Ok(Dynamic::Char('x')),
+        2 => Ok(Dynamic::Bool(true)),
+        3 => text(alloc, "other"),
+        _ => Ok(Dynamic::Host(HostValue {
+            type_name: String::from_str(alloc, "Timer")?,
+            id: 1,
+        })),
     }
-    let host = HostValue {
-        type_name: String::from_str(alloc, "Timer")?,
-        id: 1,
-    };
-    assert_same(&rt, table.dispatch(&Dynamic::Host(host)), 99);
+}
+
+/// The target of the subject of a number.
+fn target_of_kind(alloc: Global, table: &Switch, number: u32) -> Result<u32, AllocError> {
+    Ok(target_of(table, subject(alloc, number)?))
+}
+
+#[test]
+fn a_value_of_the_host_has_no_case(rt: HostRuntime) -> Result<(), Fail> {
+    let table = table(rt.alloc())?;
+    assert_same(&rt, target_of_kind(rt.alloc(), &table, 4)?, 99);
+    Ok(())
+}
+
+/// Adds cases of the first three subjects.
+fn add_kinds(alloc: Global, cases: &mut Cases) -> Result<(), Fail> {
+    for (number, target) in [(0, 10), (1, 20), (2, 30)] {
+        add(cases, subject(alloc, number)?, target, number)?;
+    }
+    Ok(())
+}
+
+/// A switch with cases of the first three subjects.
+fn table_of_kinds(alloc: Global) -> Result<Switch, Fail> {
+    let mut cases = HashMap::new(alloc);
+    add_kinds(alloc, &mut cases)?;
+    Ok(Switch {
+        cases: Some(cases),
+        ranges: Vec::new(alloc),
+        default: 99,
+    })
+}
+
+fn assert_kinds(rt: &impl Abort, alloc: Global, table: &Switch) -> Result<(), AllocError> {
+    for (number, target) in [(0, 10), (1, 20), (2, 30), (3, 99)] {
+        assert_same(rt, target_of_kind(alloc, table, number)?, target);
+    }
     Ok(())
 }
 
 #[test]
 fn cases_of_any_kind(rt: HostRuntime) -> Result<(), Fail> {
-    let alloc = rt.alloc();
-    let mut cases = HashMap::new(alloc);
-    let _ = cases.insert(Dynamic::Str(String::from_str(alloc, "hello")?), (10, 0))?;
-    let _ = cases.insert(Dynamic::Char('x'), (20, 1))?;
-    let _ = cases.insert(Dynamic::Bool(true), (30, 2))?;
-    let mut table = without_cases(alloc, 99);
-    table.cases = Some(cases);
-    let rows = vec![in alloc;
-        (Dynamic::Str(String::from_str(alloc, "hello")?), 10),
-        (Dynamic::Str(String::from_str(alloc, "other")?), 99),
-        (Dynamic::Char('x'), 20),
-        (Dynamic::Bool(true), 30),
-    ]?;
-    for (subject, target) in rows {
-        assert_same(&rt, table.dispatch(&subject), target);
-    }
+    let table = table_of_kinds(rt.alloc())?;
+    assert_kinds(&rt, rt.alloc(), &table)?;
     Ok(())
 }
 
-#[test]
-fn ends_of_ranges(rt: HostRuntime) -> Result<(), Fail> {
-    let mut range = SwitchRange {
+/// Whether all integers from the least up to the greatest contain one.
+fn is_within(inclusive: bool, subject: i64) -> bool {
+    let range = SwitchRange {
         from: i64::MIN,
         to: i64::MAX,
-        inclusive: false,
+        inclusive,
         target: 1,
     };
-    assert!(rt; range.contains(&Dynamic::Int(i64::MIN)));
-    assert!(rt; !range.contains(&Dynamic::Int(i64::MAX)));
-    range.inclusive = true;
-    assert!(rt; range.contains(&Dynamic::Int(i64::MAX)));
-    range.from = 0;
-    range.to = 2;
+    range.contains(&Dynamic::Int(subject))
+}
+
+#[test]
+fn ends_of_ranges(rt: HostRuntime) {
+    assert_same(&rt, is_within(false, i64::MIN), true);
+    assert_same(&rt, is_within(false, i64::MAX), false);
+    assert_same(&rt, is_within(true, i64::MAX), true);
+}
+
+#[test]
+fn ranges_are_copied_and_printed(rt: HostRuntime) -> Result<(), Fail> {
+    let range = SwitchRange {
+        from: 0,
+        to: 2,
+        inclusive: true,
+        target: 1,
+    };
     assert_same(&rt, &range, &range.clone()?);
     let text = format!(in rt.alloc(); "{range:?}")?;
     assert_same(
@@ -102,34 +192,55 @@ fn ends_of_ranges(rt: HostRuntime) -> Result<(), Fail> {
     Ok(())
 }
 
+/// Asserts what comes of two tables with these defaults, and what the defaults are then.
+fn assert_resolved(
+    rt: &impl Abort,
+    alloc: Global,
+    defaults: (u32, u32),
+    wanted: Result<(), AssembleError>,
+    then: (u32, u32),
+) {
+    let mut tables = [
+        without_cases(alloc, defaults.0),
+        without_cases(alloc, defaults.1),
+    ];
+    assert_same(rt, resolve_switch_targets(&mut tables, &[0, 3, 4]), wanted);
+    assert_same(rt, (tables[0].default, tables[1].default), then);
+}
+
 #[test]
-fn targets_become_offsets(rt: HostRuntime) -> Result<(), Fail> {
-    let alloc = rt.alloc();
-    let offsets = [0, 3, 4];
-    let mut tables = [without_cases(alloc, 1), without_cases(alloc, 5)];
+fn targets_become_offsets(rt: HostRuntime) {
     let flaw = AssembleError::SwitchTargetOutOfRange {
         table: 1,
         target: 5,
     };
-    assert_same(
-        &rt,
-        resolve_switch_targets(&mut tables, &offsets),
-        Err(flaw),
-    );
-    assert_same(&rt, (tables[0].default, tables[1].default), (1, 5));
-    tables[1].default = 2;
-    assert_same(&rt, resolve_switch_targets(&mut tables, &offsets), Ok(()));
-    assert_same(&rt, (tables[0].default, tables[1].default), (3, 4));
+    assert_resolved(&rt, rt.alloc(), (1, 5), Err(flaw), (1, 5));
+    assert_resolved(&rt, rt.alloc(), (1, 2), Ok(()), (3, 4));
+}
 
-    let mut tables = [table(alloc)?];
+/// The offsets 1, 2, 3 and 4 for the operations 10, 20, 30 and 99, and 0 for all others.
+fn offsets() -> [u32; 100] {
     let mut offsets = [0; 100];
     offsets[10] = 1;
     offsets[20] = 2;
     offsets[30] = 3;
     offsets[99] = 4;
-    assert_same(&rt, resolve_switch_targets(&mut tables, &offsets), Ok(()));
+    offsets
+}
+
+/// The table, whose targets are offsets.
+fn resolved(rt: &impl Abort, alloc: Global) -> Result<[Switch; 1], Fail> {
+    let mut tables = [table(alloc)?];
+    assert_same(rt, resolve_switch_targets(&mut tables, &offsets()), Ok(()));
+    Ok(tables)
+}
+
+#[test]
+fn targets_of_cases_and_ranges_become_offsets(rt: HostRuntime) -> Result<(), Fail> {
+    let tables = resolved(&rt, rt.alloc())?;
     for (subject, target) in [(1, 1), (7, 2), (8, 3), (11, 4)] {
-        assert_same(&rt, tables[0].dispatch(&Dynamic::Int(subject)), target);
+        let found = target_of(&tables[0], Dynamic::Int(subject));
+        assert_same(&rt, found, target);
     }
     Ok(())
 }

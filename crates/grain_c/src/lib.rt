@@ -9,8 +9,6 @@ mod answers;
 mod code;
 mod flaws;
 mod tables;
-#[cfg(test)]
-mod tests;
 mod text;
 mod tighten;
 mod verify;

@@ -4,3 +4,7 @@ pub mod Case
 pub mod Lines
 pub mod Verdict
 pub mod Outcome
+pub mod Report
+pub mod Stream
+pub mod Wrappers
+pub mod Driver

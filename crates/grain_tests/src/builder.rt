@@ -1,27 +1,9 @@
-use crate::samples::{assert_same, parts};
+use crate::samples::{assert_same, built, cut, heads, parts, with_switch};
 use grain::{
-    BuildError, Caps, Chunk, Cut, Flags, FnAccess, Head, Op, Program, Switch, SwitchRange, build,
+    AssembleError, BuildError, Caps, Chunk, Flags, Op, Program, Switch, SwitchRange, VerifyError,
 };
 use std::alloc::Global;
 use std::test::Fail;
-
-fn cut(first: usize, end: usize) -> Cut {
-    Cut {
-        first,
-        end,
-        max_stack: 8,
-    }
-}
-
-// Function 0 without parameters.
-fn head(alloc: Global) -> Head {
-    Head {
-        name: 0,
-        params: Vec::new(alloc),
-        access: FnAccess::Public,
-        this_type: None,
-    }
-}
 
 // A switch without cases that leads there.
 fn leads(alloc: Global, default: u32) -> Switch {
@@ -32,19 +14,41 @@ fn leads(alloc: Global, default: u32) -> Switch {
     }
 }
 
-// What is answered for operations that are the top level alone, with a switch that leads there.
+// How operations are refused that are the top level alone, with a switch that leads there.
 fn refused(
     alloc: Global,
     ops: &[Op],
     first: usize,
     end: usize,
     default: u32,
-) -> Result<String, Fail> {
-    let mut parts = parts(alloc, &[])?;
-    parts.switches = vec![in alloc; leads(alloc, default)]?;
+) -> Result<Option<BuildError>, Fail> {
+    let parts = with_switch(alloc, leads(alloc, default))?;
     let cuts = [cut(first, end)];
-    let answer = build(alloc, Caps::all(), ops, &cuts, Vec::new(alloc), parts);
-    Ok(format!(in alloc; "{:?}", answer.map(|_| ()))?)
+    Ok(built(alloc, Caps::all(), ops, &cuts, Vec::new(alloc), parts).err())
+}
+
+/// Whether the numbers and the code are those of a unit and a return, twice; the main chunk, and that of the function.
+type Facts = (bool, bool, Chunk, Option<Chunk>);
+
+fn chunks(program: &Program, numbers: &[u16]) -> Facts {
+    let function = match program.function_named("f", 0) {
+        Some(function) => Some(function.chunk),
+        None => None,
+    };
+    (
+        numbers == [1, 1].as_slice(),
+        program.code() == [0x02, 0x13, 0x02, 0x13].as_slice(),
+        program.main(),
+        function,
+    )
+}
+
+// What was built, if anything.
+fn facts(answer: Result<(Program, Vec<u16>), BuildError>) -> Option<Facts> {
+    match answer {
+        Ok((program, numbers)) => Some(chunks(&program, &numbers)),
+        Err(_) => None,
+    }
 }
 
 // What is answered for a unit and a return, twice: the top level, and a function whose body ends there.
@@ -53,26 +57,30 @@ fn with_function(
     end: usize,
 ) -> Result<Result<(Program, Vec<u16>), BuildError>, Fail> {
     let ops = [Op::Unit, Op::Return, Op::Unit, Op::Return];
-    let heads = vec![in alloc; head(alloc)]?;
     let cuts = [cut(0, 2), cut(2, end)];
-    let parts = parts(alloc, &["f"])?;
-    Ok(build(alloc, Caps::FUNCTION, &ops, &cuts, heads, parts))
+    let (heads, parts) = (heads(alloc, 1)?, parts(alloc, &["f"])?);
+    Ok(built(alloc, Caps::FUNCTION, &ops, &cuts, heads, parts))
 }
 
 #[test]
 fn cuts_are_the_top_level_and_functions(rt: HostRuntime) -> Result<(), Fail> {
-    let (program, numbers) = with_function(rt.alloc(), 4)??;
-    assert_same(&rt, numbers.as_slice(), [1, 1].as_slice());
-    assert_same(&rt, program.code(), [0x02, 0x13, 0x02, 0x13].as_slice());
-    assert_same(&rt, program.main(), Chunk::new(0, 2, 8));
-    let function = program.function_named("f", 0).map(|f| f.chunk);
-    assert_same(&rt, function, Some(Chunk::new(2, 4, 8)));
+    let (main, function) = (Chunk::new(0, 2, 8), Chunk::new(2, 4, 8));
+    let found = facts(with_function(rt.alloc(), 4)?);
+    assert_same(&rt, found, Some((true, true, main, Some(function))));
     Ok(())
 }
 
-// A unit, a switch that leads to the end by default and to a pop by its range, the pop, and a jump back to the unit.
-fn looping(alloc: Global) -> Result<(Program, Vec<u16>), Fail> {
-    let ops = [Op::Unit, Op::Switch(0), Op::Pop, Op::Jump(0), Op::Return];
+// Where the first switch leads by default, and by its first range.
+fn targets(program: &Program) -> Option<(u32, Option<u32>)> {
+    let switch = program.switches().first()?;
+    match switch.ranges.first() {
+        Some(range) => Some((switch.default, Some(range.target))),
+        None => Some((switch.default, None)),
+    }
+}
+
+// A switch that leads to operation 4 by default and to 2 by its range.
+fn switch(alloc: Global) -> Result<Switch, Fail> {
     let range = SwitchRange {
         from: 1,
         to: 3,
@@ -81,28 +89,36 @@ fn looping(alloc: Global) -> Result<(Program, Vec<u16>), Fail> {
     };
     let mut switch = leads(alloc, 4);
     switch.ranges.push(range)?;
-    let mut parts = parts(alloc, &[])?;
-    parts.switches.push(switch)?;
-    let cuts = [cut(0, 5)];
-    Ok(build(alloc, Caps::all(), &ops, &cuts, Vec::new(alloc), parts)?)
+    Ok(switch)
 }
 
-// Where the first switch leads by default, and by its first range.
-fn targets(program: &Program) -> Option<(u32, Option<u32>)> {
-    let switch = program.switches().first()?;
+/// Whether the number and the code are those of `looping`, and where its switch leads.
+type Looped = (bool, bool, Option<(u32, Option<u32>)>);
+
+fn looped(answer: Result<(Program, Vec<u16>), BuildError>) -> Option<Looped> {
+    let Ok((program, numbers)) = answer else {
+        return None;
+    };
+    let code = [0x02, 0x18, 0, 0, 0x0b, 0x0c, 0, 0, 0, 0, 0x13];
     Some((
-        switch.default,
-        switch.ranges.first().map(|range| range.target),
+        numbers.as_slice() == [1].as_slice(),
+        program.code() == code.as_slice(),
+        targets(&program),
     ))
+}
+
+// A unit, a switch that leads to the end by default and to a pop by its range, the pop, and a jump back to the unit.
+fn looping(alloc: Global) -> Result<Option<Looped>, Fail> {
+    let ops = [Op::Unit, Op::Switch(0), Op::Pop, Op::Jump(0), Op::Return];
+    let parts = with_switch(alloc, switch(alloc)?)?;
+    let (caps, cuts) = (Caps::all(), [cut(0, 5)]);
+    Ok(looped(built(alloc, caps, &ops, &cuts, Vec::new(alloc), parts)))
 }
 
 #[test]
 fn targets_of_jumps_and_switches_become_addresses(rt: HostRuntime) -> Result<(), Fail> {
-    let (program, numbers) = looping(rt.alloc())?;
-    assert_same(&rt, numbers.as_slice(), [1].as_slice());
-    let code = [0x02, 0x18, 0, 0, 0x0b, 0x0c, 0, 0, 0, 0, 0x13];
-    assert_same(&rt, program.code(), code.as_slice());
-    assert_same(&rt, targets(&program), Some((10, Some(4))));
+    let found = looping(rt.alloc())?;
+    assert_same(&rt, found, Some((true, true, Some((10, Some(4))))));
     Ok(())
 }
 
@@ -114,29 +130,53 @@ fn the_first_flaw_is_named(rt: HostRuntime) -> Result<(), Fail> {
         Op::Unit,
         Op::Return,
     ];
-    let conflict = "Err(Verify(DepthConflict { at: 7, expected: 1, found: 0 }))";
-    assert_same(&rt, refused(rt.alloc(), &ops, 0, 4, 0)?.as_str(), conflict);
+    let conflict = BuildError::Verify(VerifyError::DepthConflict {
+        at: 7,
+        expected: 1,
+        found: 0,
+    });
+    let refusal = refused(rt.alloc(), &ops, 0, 4, 0)?;
+    assert_same(&rt, refusal, Some(conflict));
+    Ok(())
+}
 
+#[test]
+fn a_target_of_a_switch_past_the_end_is_named(rt: HostRuntime) -> Result<(), Fail> {
     let ops = [Op::Unit, Op::Switch(0), Op::Return];
-    let past = "Err(Assemble(SwitchTargetOutOfRange { table: 0, target: 9 }))";
-    assert_same(&rt, refused(rt.alloc(), &ops, 0, 3, 9)?.as_str(), past);
+    let past = AssembleError::SwitchTargetOutOfRange {
+        table: 0,
+        target: 9,
+    };
+    let refusal = refused(rt.alloc(), &ops, 0, 3, 9)?;
+    assert_same(&rt, refusal, Some(BuildError::Assemble(past)));
     Ok(())
 }
 
 #[test]
 fn cuts_are_looked_at_before_jumps(rt: HostRuntime) -> Result<(), Fail> {
-    let ops = [Op::Jump(99)];
-    let cut = "Err(BadCut { index: 0 })";
-    assert_same(&rt, refused(rt.alloc(), &ops, 2, 1, 9)?.as_str(), cut);
-    let jump = "Err(Assemble(JumpOutOfRange { at: 0, target: 99 }))";
-    assert_same(&rt, refused(rt.alloc(), &ops, 0, 1, 9)?.as_str(), jump);
+    let cut = BuildError::BadCut { index: 0 };
+    let refusal = refused(rt.alloc(), &[Op::Jump(99)], 2, 1, 9)?;
+    assert_same(&rt, refusal, Some(cut));
+    Ok(())
+}
+
+#[test]
+fn jumps_are_looked_at_behind_cuts(rt: HostRuntime) -> Result<(), Fail> {
+    let jump = AssembleError::JumpOutOfRange { at: 0, target: 99 };
+    let refusal = refused(rt.alloc(), &[Op::Jump(99)], 0, 1, 9)?;
+    assert_same(&rt, refusal, Some(BuildError::Assemble(jump)));
     Ok(())
 }
 
 #[test]
 fn the_first_bad_cut_is_named(rt: HostRuntime) -> Result<(), Fail> {
-    let answer = with_function(rt.alloc(), 5)?.map(|_| ());
-    assert_same(&rt, answer, Err(BuildError::BadCut { index: 1 }));
+    let refusal = with_function(rt.alloc(), 5)?.err();
+    assert_same(&rt, refusal, Some(BuildError::BadCut { index: 1 }));
+    Ok(())
+}
+
+#[test]
+fn a_bad_cut_has_a_text(rt: HostRuntime) -> Result<(), Fail> {
     let text = format!(in rt.alloc(); "{}", BuildError::BadCut { index: 1 })?;
     assert_same(
         &rt,

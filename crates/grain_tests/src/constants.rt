@@ -1,7 +1,5 @@
-use crate::samples::assert_same;
-use grain::{
-    Caps, Chunk, Dynamic, Flags, FnPtr, Pools, Strings, VerifyError, constant_caps, verify,
-};
+use crate::samples::{Answer, assert_same, of_one_chunk, pools};
+use grain::{Caps, Chunk, Dynamic, Flags, FnPtr, Strings, VerifyError, constant_caps, verify};
 use std::alloc::{AllocError, Global};
 use std::collections::BTreeMap;
 use std::test::Fail;
@@ -31,88 +29,130 @@ fn shared(alloc: Global, value: Dynamic) -> Result<Dynamic, AllocError> {
     Ok(Dynamic::Shared(Box::new(alloc, value)?))
 }
 
+/// A constant without parts of note.
+fn plain(alloc: Global, number: usize) -> Result<Dynamic, AllocError> {
+    match number {
+        0 => Ok(Dynamic::Range(1, 2)),
+        1 => array_of(alloc, Dynamic::Unit),
+        2 => blob(alloc),
+        3 => map_of(alloc, Dynamic::Unit),
+        _ => pointer_with(alloc, Dynamic::Unit),
+    }
+}
+
+/// What it needs.
+fn plain_needs(alloc: Global, number: usize) -> Result<Option<Caps>, AllocError> {
+    Ok(constant_caps(&plain(alloc, number)?))
+}
+
 #[test]
 fn constants_need_what_they_are(rt: HostRuntime) -> Result<(), Fail> {
-    let alloc = rt.alloc();
-    let needed = [
-        constant_caps(&Dynamic::Range(1, 2)),
-        constant_caps(&array_of(alloc, Dynamic::Unit)?),
-        constant_caps(&blob(alloc)?),
-        constant_caps(&map_of(alloc, Dynamic::Unit)?),
-        constant_caps(&pointer_with(alloc, Dynamic::Unit)?),
-    ];
     let wanted = [
-        Some(Caps::empty()),
-        Some(Caps::ARRAY),
-        Some(Caps::BLOB),
-        Some(Caps::MAP),
-        Some(Caps::FN_PTR),
+        Caps::empty(),
+        Caps::ARRAY,
+        Caps::BLOB,
+        Caps::MAP,
+        Caps::FN_PTR,
     ];
-    assert_same(&rt, needed, wanted);
+    for (number, caps) in wanted.into_iter().enumerate() {
+        assert_same(&rt, plain_needs(rt.alloc(), number)?, Some(caps));
+    }
     Ok(())
+}
+
+/// A constant whose parts have needs of their own, or are shared.
+fn nested(alloc: Global, number: usize) -> Result<Dynamic, AllocError> {
+    match number {
+        0 => array_of(alloc, shared(alloc, Dynamic::Int(1))?),
+        1 => array_of(alloc, array_of(alloc, blob(alloc)?)?),
+        _ => map_of(alloc, pointer_with(alloc, blob(alloc)?)?),
+    }
+}
+
+/// What it needs.
+fn nested_needs(alloc: Global, number: usize) -> Result<Option<Caps>, AllocError> {
+    Ok(constant_caps(&nested(alloc, number)?))
 }
 
 #[test]
 fn constants_need_what_their_parts_need(rt: HostRuntime) -> Result<(), Fail> {
-    let alloc = rt.alloc();
-    let needed = [
-        constant_caps(&array_of(alloc, shared(alloc, Dynamic::Int(1))?)?),
-        constant_caps(&array_of(alloc, array_of(alloc, blob(alloc)?)?)?),
-        constant_caps(&map_of(alloc, pointer_with(alloc, blob(alloc)?)?)?),
-    ];
     let of_arrays = Caps::ARRAY.union(Caps::BLOB);
     let of_map = Caps::MAP.union(Caps::FN_PTR).union(Caps::BLOB);
-    assert_same(&rt, needed, [None, Some(of_arrays), Some(of_map)]);
+    let wanted = [None, Some(of_arrays), Some(of_map)];
+    for (number, caps) in wanted.into_iter().enumerate() {
+        assert_same(&rt, nested_needs(rt.alloc(), number)?, caps);
+    }
     Ok(())
 }
 
 /// What is said of a unit and a return beside these constants, where the host has these capabilities.
-fn said(
-    alloc: Global,
-    caps: Caps,
-    consts: &[Dynamic],
-) -> Result<Result<Vec<u16>, VerifyError>, Fail> {
+fn said(alloc: Global, caps: Caps, consts: &[Dynamic]) -> Result<Answer, Fail> {
     let names = Strings::new(alloc, &[])?;
-    let pools = Pools {
-        consts: consts.len(),
-        names: &names,
-        tokens: 0,
-        assign_ops: 0,
-        residuals: 0,
-        chains: &[],
-        switches: &[],
-    };
-    let chunk = Chunk::new(0, 2, 8);
-    Ok(verify(alloc, caps, consts, &[0x02, 0x13], &[], &[chunk], &pools))
+    let mut pools = pools(&names);
+    pools.consts = consts.len();
+    let chunks = [Chunk::new(0, 2, 8)];
+    let answer = verify(alloc, caps, consts, &[0x02, 0x13], &[], &chunks, &pools);
+    Ok(of_one_chunk(answer))
+}
+
+/// A blob, and an array with one.
+fn blobs(alloc: Global) -> Result<[Dynamic; 2], AllocError> {
+    Ok([blob(alloc)?, array_of(alloc, blob(alloc)?)?])
+}
+
+/// What is said of them.
+fn said_of_blobs(alloc: Global, caps: Caps) -> Result<Answer, Fail> {
+    said(alloc, caps, &blobs(alloc)?)
+}
+
+/// The refusal of a constant.
+fn lacks(artifact: Caps, missing: Caps) -> Answer {
+    Err(VerifyError::MissingCaps {
+        artifact,
+        missing,
+        at: 0,
+    })
 }
 
 #[test]
 fn the_first_constant_that_lacks_is_named(rt: HostRuntime) -> Result<(), Fail> {
-    let alloc = rt.alloc();
-    let consts = vec![in alloc; blob(alloc)?, array_of(alloc, blob(alloc)?)?]?;
-    let accepted = Ok(vec![in alloc; 1]?);
-    assert_same(&rt, said(alloc, Caps::all(), &consts)?, accepted);
-    let missing = VerifyError::MissingCaps {
-        artifact: Caps::BLOB,
-        missing: Caps::ARRAY.union(Caps::BLOB),
-        at: 0,
-    };
-    assert_same(&rt, said(alloc, Caps::BLOB, &consts)?, Err(missing));
+    let missing = Caps::ARRAY.union(Caps::BLOB);
+    let answer = said_of_blobs(rt.alloc(), Caps::BLOB)?;
+    assert_same(&rt, answer, lacks(Caps::BLOB, missing));
     Ok(())
 }
 
 #[test]
-fn constants_ask_capabilities(rt: HostRuntime) -> Result<(), Fail> {
-    let alloc = rt.alloc();
-    let plain = [array_of(alloc, Dynamic::Unit)?];
-    let missing = VerifyError::MissingCaps {
-        artifact: Caps::empty(),
-        missing: Caps::ARRAY,
-        at: 0,
+fn constants_that_lack_nothing_are_accepted(rt: HostRuntime) -> Result<(), Fail> {
+    let answer = said_of_blobs(rt.alloc(), Caps::all())?;
+    assert_same(&rt, answer, Ok(Some(1)));
+    Ok(())
+}
+
+/// What is said of an array of a unit, or of a shared value, where the host has no capabilities.
+fn said_of_array(alloc: Global, is_shared: bool) -> Result<Answer, Fail> {
+    let array = if is_shared {
+        nested(alloc, 0)?
+    } else {
+        plain(alloc, 1)?
     };
-    assert_same(&rt, said(alloc, Caps::empty(), &plain)?, Err(missing));
-    let open = [array_of(alloc, shared(alloc, Dynamic::Int(1))?)?];
-    let accepted = Ok(vec![in alloc; 1]?);
-    assert_same(&rt, said(alloc, Caps::empty(), &open)?, accepted);
+    said(alloc, Caps::empty(), &[array])
+}
+
+/// What has to be said of it.
+fn wanted_of_array(is_shared: bool) -> Answer {
+    if is_shared {
+        Ok(Some(1))
+    } else {
+        lacks(Caps::empty(), Caps::ARRAY)
+    }
+}
+
+#[test]
+fn constants_ask_capabilities(rt: HostRuntime) -> Result<(), Fail> {
+    for is_shared in [false, true] {
+        let answer = said_of_array(rt.alloc(), is_shared)?;
+        assert_same(&rt, answer, wanted_of_array(is_shared));
+    }
     Ok(())
 }

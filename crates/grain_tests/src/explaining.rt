@@ -1,9 +1,8 @@
 //! The verdict with each chunk explained.
 
-use crate::samples::assert_same;
-use grain::{Caps, Chunk, ExplainError, Explained, Flags, Pools, Strings, VerifyError, explain};
+use crate::samples::{assert_same, pools};
+use grain::{Caps, Chunk, ExplainError, Explained, Flags, Strings, VerifyError, explain};
 use std::alloc::Global;
-use std::process::Abort;
 use std::test::Fail;
 
 /// What is explained of the code with these chunks and empty pools.
@@ -11,50 +10,40 @@ fn explained(alloc: Global, code: &[u8], chunks: &[Chunk]) -> Result<Explained, 
     let Ok(names) = Strings::new(alloc, &[]) else {
         return Err(ExplainError::OutOfMemory);
     };
-    let pools = Pools {
-        consts: 0,
-        names: &names,
-        tokens: 0,
-        assign_ops: 0,
-        residuals: 0,
-        chains: &[],
-        switches: &[],
-    };
-    explain(alloc, Caps::all(), &[], code, &[], chunks, &pools)
+    explain(alloc, Caps::all(), &[], code, &[], chunks, &pools(&names))
 }
 
-/// The verdict names a flaw of the chunk at this place, and the explanation of that chunk names the very same.
-fn assert_same_flaw(rt: &impl Abort, explained: &Explained, place: usize, flaw: &VerifyError) {
+/// Which chunk the verdict refuses, and the flaw that it names.
+fn refused(explained: &Explained) -> Option<(Option<usize>, &VerifyError)> {
     match &explained.verdict {
-        Ok(_) => panic!(rt; "accepted"),
-        Err(refusal) => {
-            assert!(rt; refusal.place == Some(place));
-            assert!(rt; refusal.error == *flaw);
-        }
-    }
-    match explained.chunks.get(place) {
-        Some(chunk) => match &chunk.refusal {
-            Some(refusal) => assert!(rt; refusal.error == *flaw),
-            None => panic!(rt; "the chunk isn't refused"),
-        },
-        None => panic!(rt; "the chunk isn't explained"),
+        Ok(_) => None,
+        Err(refusal) => Some((refusal.place, &refusal.error)),
     }
 }
+
+/// The flaw that the explanation of the chunk at this place names.
+fn flaw_of_chunk(explained: &Explained, place: usize) -> Option<&VerifyError> {
+    let chunk = explained.chunks.get(place)?;
+    let refusal = chunk.refusal.as_ref()?;
+    Some(&refusal.error)
+}
+
+const CODE: [u8; 16] = [
+    0x02, 0x13, // a chunk that passes
+    0x02, 0x1d, 0x1e, 0x0e, 0, 0, 0, 0x0c, 0x04, 0, 0, 0, 0x02, 0x13, // a loop without its Pop
+];
 
 #[test]
 fn a_refused_chunk_has_the_flaw_of_the_verdict(rt: HostRuntime) -> Result<(), Fail> {
-    let code = [
-        0x02, 0x13, // a chunk that passes
-        0x02, 0x1d, 0x1e, 0x0e, 0, 0, 0, 0x0c, 0x04, 0, 0, 0, 0x02, 0x13, // a loop without its Pop
-    ];
     let chunks = [Chunk::new(0, 2, 8), Chunk::new(2, 16, 8)];
-    let explained = explained(rt.alloc(), &code, &chunks)?;
+    let explained = explained(rt.alloc(), &CODE, &chunks)?;
     let flaw = VerifyError::DepthConflict {
         at: 4,
         expected: 0,
         found: 1,
     };
-    assert_same_flaw(&rt, &explained, 1, &flaw);
+    assert_same(&rt, refused(&explained), Some((Some(1), &flaw)));
+    assert_same(&rt, flaw_of_chunk(&explained, 1), Some(&flaw));
     Ok(())
 }
 

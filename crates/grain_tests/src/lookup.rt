@@ -3,27 +3,32 @@ use grain::{Caps, Chunk, Flags, Function, Lookups, Program};
 use std::alloc::Global;
 use std::test::Fail;
 
-// A program of functions called `f`, each by the type of its receiver and the number of its parameters. The first begins
-// at 0, the next at 1.
-fn of_functions(alloc: Global, declared: &[(Option<u32>, usize)]) -> Result<Program, Fail> {
+// Functions called `f`, each by the type of its receiver and the number of its parameters. The first begins at 0, the next
+// at 1.
+fn functions(alloc: Global, declared: &[(Option<u32>, usize)]) -> Result<Vec<Function>, Fail> {
     let mut functions = Vec::new(alloc);
     for (this_type, argc) in declared {
         let entry = u32::try_from(functions.len()).unwrap_or(u32::MAX);
         let chunk = Chunk::new(entry, 2, 1);
         functions.push(function(alloc, 0, *this_type, *argc, chunk)?)?;
     }
+    Ok(functions)
+}
+
+// A program of these functions.
+fn of_functions(alloc: Global, declared: &[(Option<u32>, usize)]) -> Result<Program, Fail> {
     Ok(Program::new(
         alloc,
         Caps::all(),
         Vec::new(alloc),
         Chunk::new(0, 0, 0),
-        functions,
+        functions(alloc, declared)?,
         parts(alloc, &["f", "i64"])?,
     ))
 }
 
 fn entry(function: Option<&Function>) -> Option<u32> {
-    function.map(|function| function.chunk.entry())
+    Some(function?.chunk.entry())
 }
 
 // Where the method of so many parameters for a receiver of that type begins, the function, and the function by its name.
@@ -35,38 +40,74 @@ fn entries(program: &Program, argc: usize, this_type: &str) -> [Option<u32>; 3] 
     ]
 }
 
+// The same of a program of these functions.
+fn found(
+    alloc: Global,
+    declared: &[(Option<u32>, usize)],
+    argc: usize,
+    this_type: &str,
+) -> Result<[Option<u32>; 3], Fail> {
+    Ok(entries(&of_functions(alloc, declared)?, argc, this_type))
+}
+
 #[test]
 fn functions_differ_by_parameters(rt: HostRuntime) -> Result<(), Fail> {
+    let declared = [(Some(1), 1), (None, 0)];
+    for (argc, wanted) in [(0, [Some(1); 3]), (1, [Some(0), None, None])] {
+        assert_same(&rt, found(rt.alloc(), &declared, argc, "i64")?, wanted);
+    }
+    Ok(())
+}
+
+// The index of the name of the function `f`, and of the function `i64`, without parameters.
+fn name_indices(program: &Program) -> [Option<u32>; 2] {
+    [
+        program.function_name_index("f", 0),
+        program.function_name_index("i64", 0),
+    ]
+}
+
+#[test]
+fn functions_have_the_indices_of_their_names(rt: HostRuntime) -> Result<(), Fail> {
     let program = of_functions(rt.alloc(), &[(Some(1), 1), (None, 0)])?;
-    assert_same(&rt, entries(&program, 0, "i64"), [Some(1); 3]);
-    assert_same(&rt, entries(&program, 1, "i64"), [Some(0), None, None]);
-    assert_same(&rt, program.function_name_index("f", 0), Some(0));
-    assert_same(&rt, program.function_name_index("i64", 0), None);
+    assert_same(&rt, name_indices(&program), [Some(0), None]);
     Ok(())
 }
 
 #[test]
 fn functions_differ_by_receivers(rt: HostRuntime) -> Result<(), Fail> {
-    let both = of_functions(rt.alloc(), &[(Some(1), 0), (None, 0), (None, 0)])?;
-    assert_same(&rt, entries(&both, 0, "i64"), [Some(0), Some(1), Some(1)]);
-    assert_same(&rt, entries(&both, 0, "string"), [Some(1); 3]);
-    let typed = of_functions(rt.alloc(), &[(Some(1), 0)])?;
-    assert_same(&rt, entries(&typed, 0, "i64"), [Some(0), None, None]);
+    let both = [(Some(1), 0), (None, 0), (None, 0)];
+    let rows: [(&[(Option<u32>, usize)], &str, [Option<u32>; 3]); 3] = [
+        (&both, "i64", [Some(0), Some(1), Some(1)]),
+        (&both, "string", [Some(1); 3]),
+        (&both[..1], "i64", [Some(0), None, None]),
+    ];
+    for (declared, this_type, wanted) in rows {
+        assert_same(&rt, found(rt.alloc(), declared, 0, this_type)?, wanted);
+    }
     Ok(())
 }
 
-#[test]
-fn indices_past_the_pools_find_nothing(rt: HostRuntime) -> Result<(), Fail> {
-    let program = of_functions(rt.alloc(), &[])?;
-    assert_same(&rt, program.name(1), Some("i64"));
-    assert_same(&rt, program.name(2), None);
-    let found = [
+// Whether something is found by an index that the pools don't have.
+fn found_past(program: &Program) -> [bool; 5] {
+    [
         program.constant(0).is_some(),
         program.token(0).is_some(),
         program.assign_op(0).is_some(),
         program.chain(0).is_some(),
         program.switch(u32::MAX).is_some(),
-    ];
-    assert_same(&rt, found, [false; 5]);
+    ]
+}
+
+// Whether the last name is found, and one behind it.
+fn found_names(program: &Program) -> [bool; 2] {
+    [program.name(1) == Some("i64"), program.name(2).is_some()]
+}
+
+#[test]
+fn indices_past_the_pools_find_nothing(rt: HostRuntime) -> Result<(), Fail> {
+    let program = of_functions(rt.alloc(), &[])?;
+    assert_same(&rt, found_names(&program), [true, false]);
+    assert_same(&rt, found_past(&program), [false; 5]);
     Ok(())
 }

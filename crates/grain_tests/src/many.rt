@@ -1,12 +1,11 @@
 //! More than 65,535 of what is counted: chunks, cuts, handlers. And a switch of many ranges.
 
-use crate::large::{code_of, handlers, said};
-use crate::samples::{assert_same, parts, program, verified};
+use crate::large::said_of_handlers;
+use crate::samples::{assert_same, built, heads, parts, pools, program, verifies, with_switch};
 use grain::{
-    Caps, Chunk, Cut, Dynamic, Flags, FnAccess, Head, Op, Pools, Strings, Switch, SwitchRange,
-    build, verify,
+    BuildError, Caps, Chunk, Cut, Dynamic, Flags, Op, Program, Strings, Switch, SwitchRange, verify,
 };
-use std::alloc::Global;
+use std::alloc::{AllocError, Global};
 use std::test::Fail;
 
 /// A switch of 1001 ranges of one integer each, from 0 on, of which only the last leads to 6, as what is in none of them.
@@ -27,90 +26,81 @@ fn ranges(alloc: Global) -> Result<Switch, Fail> {
     })
 }
 
+/// Where it leads these subjects.
+fn targets(switch: &Switch) -> [u32; 3] {
+    [
+        switch.dispatch(&Dynamic::Int(999)),
+        switch.dispatch(&Dynamic::Int(1000)),
+        switch.dispatch(&Dynamic::Int(1001)),
+    ]
+}
+
 #[test]
 fn ranges_are_many(rt: HostRuntime) -> Result<(), Fail> {
     let switch = ranges(rt.alloc())?;
-    let targets = [999, 1000, 1001].map(|subject| switch.dispatch(&Dynamic::Int(subject)));
-    assert_same(&rt, targets, [4, 6, 6]);
+    assert_same(&rt, targets(&switch), [4, 6, 6]);
     Ok(())
+}
+
+/// A program with it: a unit, the switch, and a unit and a return at 4 and at 6.
+fn with_ranges(alloc: Global) -> Result<Program, Fail> {
+    let parts = with_switch(alloc, ranges(alloc)?)?;
+    let code = [0x02, 0x18, 0x00, 0x00, 0x02, 0x13, 0x02, 0x13];
+    Ok(program(alloc, &code, 8, parts)?)
 }
 
 #[test]
 fn many_ranges_are_verified(rt: HostRuntime) -> Result<(), Fail> {
-    let mut parts = parts(rt.alloc(), &[])?;
-    parts.switches.push(ranges(rt.alloc())?)?;
-    let code = [0x02, 0x18, 0x00, 0x00, 0x02, 0x13, 0x02, 0x13];
-    let program = program(rt.alloc(), &code, 8, parts)?;
-    assert_same(&rt, verified(rt.alloc(), &program)?.as_str(), "Ok([2])");
+    let program = with_ranges(rt.alloc())?;
+    assert_same(&rt, verifies(&program, &[2]), true);
     Ok(())
+}
+
+/// A unit and a return, so many times.
+fn chunks(alloc: Global, count: usize) -> Result<Vec<Chunk>, AllocError> {
+    vec![in alloc; Chunk::new(0, 2, 1); count]
 }
 
 /// What is said of a unit and a return as these chunks: how many numbers there are, and the last.
 fn said_of_chunks(alloc: Global, chunks: &[Chunk]) -> Result<(usize, Option<u16>), Fail> {
     let names = Strings::new(alloc, &[])?;
-    let pools = Pools {
-        consts: 0,
-        names: &names,
-        tokens: 0,
-        assign_ops: 0,
-        residuals: 0,
-        chains: &[],
-        switches: &[],
-    };
-    let numbers = verify(alloc, Caps::all(), &[], &[0x02, 0x13], &[], chunks, &pools)?;
+    let (caps, pools) = (Caps::all(), pools(&names));
+    let numbers = verify(alloc, caps, &[], &[0x02, 0x13], &[], chunks, &pools)?;
     Ok((numbers.len(), numbers.last().copied()))
 }
 
 #[test]
 fn chunks_are_many(rt: HostRuntime) -> Result<(), Fail> {
-    let mut chunks = Vec::new(rt.alloc());
-    for _ in 0..65_537 {
-        chunks.push(Chunk::new(0, 2, 1))?;
-    }
+    let chunks = chunks(rt.alloc(), 65_537)?;
     let said = said_of_chunks(rt.alloc(), &chunks)?;
     assert_same(&rt, said, (65_537, Some(1)));
     Ok(())
 }
 
-fn cut() -> Cut {
-    Cut {
+/// How many numbers were answered.
+fn count_of(answer: Result<(Program, Vec<u16>), BuildError>) -> Option<usize> {
+    match answer {
+        Ok((_, numbers)) => Some(numbers.len()),
+        Err(_) => None,
+    }
+}
+
+/// How many numbers are answered for so many cuts: the top level and functions, each of them all of a unit and a return.
+fn numbers(alloc: Global, count: usize) -> Result<Option<usize>, Fail> {
+    let cut = Cut {
         first: 0,
         end: 2,
         max_stack: 1,
-    }
-}
-
-/// The top level and so many functions, each of them all of a unit and a return.
-fn cuts(alloc: Global, functions: usize) -> Result<(Vec<Cut>, Vec<Head>), Fail> {
-    let mut cuts = vec![in alloc; cut()]?;
-    let mut heads = Vec::new(alloc);
-    for _ in 0..functions {
-        cuts.push(cut())?;
-        heads.push(Head {
-            name: 0,
-            params: Vec::new(alloc),
-            access: FnAccess::Public,
-            this_type: None,
-        })?;
-    }
-    Ok((cuts, heads))
-}
-
-/// How many numbers are answered for these cuts.
-fn built(alloc: Global, cuts: &[Cut], heads: Vec<Head>) -> Result<Option<usize>, Fail> {
-    let ops = [Op::Unit, Op::Return];
-    let parts = parts(alloc, &["f"])?;
-    if cuts.len() != heads.len() + 1 {
-        return Ok(None);
-    }
-    let (_, numbers) = build(alloc, Caps::all(), &ops, cuts, heads, parts)?;
-    Ok(Some(numbers.len()))
+    };
+    let cuts = vec![in alloc; cut; count]?;
+    let heads = heads(alloc, count.saturating_sub(1))?;
+    let (caps, ops, parts) = (Caps::all(), [Op::Unit, Op::Return], parts(alloc, &["f"])?);
+    Ok(count_of(built(alloc, caps, &ops, &cuts, heads, parts)))
 }
 
 #[test]
 fn cuts_are_many(rt: HostRuntime) -> Result<(), Fail> {
-    let (cuts, heads) = cuts(rt.alloc(), 65_536)?;
-    assert_same(&rt, built(rt.alloc(), &cuts, heads)?, Some(65_537));
+    assert_same(&rt, numbers(rt.alloc(), 65_537)?, Some(65_537));
     Ok(())
 }
 
@@ -119,8 +109,7 @@ const HANDLERS: u32 = 70_000;
 
 #[test]
 fn handlers_are_many(rt: HostRuntime) -> Result<(), Fail> {
-    let code = code_of(rt.alloc(), handlers(rt.alloc(), HANDLERS)?)?;
-    let accepted = said(rt.alloc(), Caps::all(), code, parts(rt.alloc(), &[])?)?;
-    assert_same(&rt, accepted.as_str(), "Ok([1])");
+    let answer = said_of_handlers(rt.alloc(), HANDLERS)?;
+    assert_same(&rt, answer, Ok(Some(1)));
     Ok(())
 }

@@ -1,22 +1,13 @@
-use crate::samples::assert_same;
-use grain::{Caps, Chunk, Flags, Meter, Pools, Refusal, Strings, VerifyError, verify_placed};
+use crate::samples::{assert_same, pools};
+use grain::{Caps, Chunk, Flags, Meter, Refusal, Strings, VerifyError, verify_placed};
 use std::alloc::Global;
 use std::test::Fail;
 
 /// What is said of the code with these chunks and empty pools.
 fn said(alloc: Global, code: &[u8], chunks: &[Chunk]) -> Result<Result<Vec<u16>, Refusal>, Fail> {
     let names = Strings::new(alloc, &[])?;
-    let pools = Pools {
-        consts: 0,
-        names: &names,
-        tokens: 0,
-        assign_ops: 0,
-        residuals: 0,
-        chains: &[],
-        switches: &[],
-    };
     let mut meter = Meter::new();
-    let caps = Caps::all();
+    let (caps, pools) = (Caps::all(), pools(&names));
     Ok(verify_placed(alloc, caps, &[], code, &[], chunks, &pools, &mut meter))
 }
 

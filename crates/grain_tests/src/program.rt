@@ -1,7 +1,7 @@
-use crate::samples::{assert_same, attach, function, parts, strip, tighten, verified};
+use crate::samples::{assert_same, function, parts, strip_and_attach, strips, tightens, verifies};
 use grain::{
-    Caps, Chain, Chunk, Dynamic, Flags, Function, Lookups, Position, Positions, Program, Root,
-    Step, StepFlags, Tail, Token,
+    Caps, Chain, Chunk, Dynamic, Flags, Function, Lookups, Parts, Position, Positions, Program,
+    Root, Step, StepFlags, Tail, Token,
 };
 use std::alloc::Global;
 use std::test::Fail;
@@ -42,39 +42,52 @@ fn length(alloc: Global) -> Result<Chain, Fail> {
     })
 }
 
+// The code is one list of bytes, of which each chunk is a part.
+fn code(alloc: Global) -> Result<Vec<u8>, Fail> {
+    let mut code = MAIN.to_vec(alloc)?;
+    code.extend_from_slice(DOUBLE)?;
+    code.extend_from_slice(DOUBLE_THIS)?;
+    Ok(code)
+}
+
+// The position of the call, which stands at 3.
+fn positions(alloc: Global) -> Result<Positions, Fail> {
+    let mut positions = [Position::NONE; 26];
+    positions[3] = Position::new(1, 1);
+    Ok(Positions::dense(positions.to_vec(alloc)?))
+}
+
+fn functions(alloc: Global) -> Result<Vec<Function>, Fail> {
+    let double = function(alloc, 0, None, 1, Chunk::new(11, 24, 8))?;
+    let double_this = function(alloc, 0, Some(2), 0, Chunk::new(24, 26, 8))?;
+    Ok(vec![in alloc; double, double_this]?)
+}
+
+fn fill(alloc: Global, parts: &mut Parts) -> Result<(), Fail> {
+    parts.positions = positions(alloc)?;
+    parts.consts.push(Dynamic::Int(21))?;
+    parts.tokens.push(Token::Plus)?;
+    parts.chains.push(length(alloc)?)?;
+    Ok(())
+}
+
+fn pools(alloc: Global) -> Result<Parts, Fail> {
+    let names = ["double", "+", "i64", "len", "get$len", "set$len"];
+    let mut parts = parts(alloc, &names)?;
+    fill(alloc, &mut parts)?;
+    Ok(parts)
+}
+
 // What a compiler would hand over of
 //     double(21).len
 //     fn double(x) { x + x }
 //     fn i64.double() { this }
-// if it didn't know how many operands are needed. The code is one list of bytes, of which each chunk is a part.
+// if it didn't know how many operands are needed.
 fn compiled(alloc: Global) -> Result<Program, Fail> {
-    let mut code = MAIN.to_vec(alloc)?;
-    code.extend_from_slice(DOUBLE)?;
-    code.extend_from_slice(DOUBLE_THIS)?;
-
-    let mut positions = vec![in alloc; Position::NONE; code.len()]?;
-    if let Some(call) = positions.get_mut(3) {
-        *call = Position::new(1, 1);
-    }
-
-    let names = ["double", "+", "i64", "len", "get$len", "set$len"];
-    let mut parts = parts(alloc, &names)?;
-    parts.positions = Positions::dense(positions);
-    parts.consts = vec![in alloc; Dynamic::Int(21)]?;
-    parts.tokens = vec![in alloc; Token::Plus]?;
-    parts.chains = vec![in alloc; length(alloc)?]?;
-
-    let double = function(alloc, 0, None, 1, Chunk::new(11, 24, 8))?;
-    let double_this = function(alloc, 0, Some(2), 0, Chunk::new(24, 26, 8))?;
     let caps = Caps::FUNCTION.union(Caps::THIS).union(Caps::PROPERTY);
-    Ok(Program::new(
-        alloc,
-        caps,
-        code,
-        Chunk::new(0, 11, 8),
-        vec![in alloc; double, double_this]?,
-        parts,
-    ))
+    let main = Chunk::new(0, 11, 8);
+    let (code, functions) = (code(alloc)?, functions(alloc)?);
+    Ok(Program::new(alloc, caps, code, main, functions, pools(alloc)?))
 }
 
 #[test]
@@ -82,10 +95,20 @@ fn programs_are_verified(rt: HostRuntime) -> Result<(), Fail> {
     let program = compiled(rt.alloc())?;
 
     // No run of the top level stacks more than one operand, and none of the first function more than two.
-    let numbers = verified(rt.alloc(), &program)?;
-    assert_same(&rt, numbers.as_str(), "Ok([1, 2, 1])");
+    assert_same(&rt, verifies(&program, &[1, 2, 1]), true);
     assert_same(&rt, program.max_stack(), 8);
     Ok(())
+}
+
+// Whether tightening succeeds, what the main chunk then declares and what the most is that a chunk does, and whether the
+// program is verified as before.
+fn tightened(program: &mut Program) -> (bool, u16, u16, bool) {
+    (
+        tightens(program),
+        program.main().max_stack(),
+        program.max_stack(),
+        verifies(program, &[1, 2, 1]),
+    )
 }
 
 #[test]
@@ -93,55 +116,73 @@ fn programs_are_tightened(rt: HostRuntime) -> Result<(), Fail> {
     let mut program = compiled(rt.alloc())?;
 
     // What runs reach is what has to be declared.
-    tighten(&mut program)?;
-    assert_same(&rt, program.main().max_stack(), 1);
-    assert_same(&rt, program.max_stack(), 2);
-    let numbers = verified(rt.alloc(), &program)?;
-    assert_same(&rt, numbers.as_str(), "Ok([1, 2, 1])");
+    assert_same(&rt, tightened(&mut program), (true, 1, 2, true));
     Ok(())
 }
 
 // Where a function begins that was found.
 fn entry(function: Option<&Function>) -> Option<u32> {
-    function.map(|function| function.chunk.entry())
+    Some(function?.chunk.entry())
+}
+
+// A host calls functions by name, and a method by the type of its receiver.
+fn entries(program: &Program) -> [Option<u32>; 2] {
+    [
+        entry(program.function_named("double", 1)),
+        entry(program.method(0, 0, "i64")),
+    ]
+}
+
+// A machine looks up what indices lead to: a name, a token, a chain, and a chain that isn't there.
+fn looked_up(program: &Program) -> [bool; 4] {
+    [
+        program.name(3) == Some("len"),
+        program.token(0) == Some(&Token::Plus),
+        program.chain(0).is_some(),
+        program.chain(1).is_some(),
+    ]
 }
 
 #[test]
 fn functions_and_entries_are_found(rt: HostRuntime) -> Result<(), Fail> {
     let program = compiled(rt.alloc())?;
-
-    // A host calls functions by name, and a method by the type of its receiver.
-    assert_same(&rt, entry(program.function_named("double", 1)), Some(11));
-    assert_same(&rt, entry(program.method(0, 0, "i64")), Some(24));
-
-    // A machine looks up what indices lead to.
-    assert_same(&rt, program.name(3), Some("len"));
-    assert_same(&rt, program.token(0), Some(&Token::Plus));
-    let chains = (program.chain(0).is_some(), program.chain(1).is_some());
-    assert_same(&rt, chains, (true, false));
+    assert_same(&rt, entries(&program), [Some(11), Some(24)]);
+    assert_same(&rt, looked_up(&program), [true, true, true, false]);
     Ok(())
 }
 
 // The position of the call, and that of the property.
 fn places(program: &Program) -> (Position, Option<Position>) {
-    let chain = program.chains().first().map(|chain| chain.positions());
-    (program.position(3), chain.and_then(|mut it| it.next()))
+    let property = match program.chains() {
+        [chain] => chain.positions().next(),
+        _ => None,
+    };
+    (program.position(3), property)
+}
+
+// Positions are shipped apart: whether the right ones come off, where the call then is, and whether what runs is the same.
+fn stripped(program: &mut Program) -> (bool, Position, bool) {
+    (
+        strips(program, &[1, 3, 1, 1], &[1, 1, 11]),
+        program.position(3),
+        verifies(program, &[1, 2, 1]),
+    )
+}
+
+#[test]
+fn positions_go_apart(rt: HostRuntime) -> Result<(), Fail> {
+    let mut program = compiled(rt.alloc())?;
+    let found = stripped(&mut program);
+    assert_same(&rt, found, (true, Position::NONE, true));
+    Ok(())
 }
 
 #[test]
 fn positions_go_apart_and_come_back(rt: HostRuntime) -> Result<(), Fail> {
     let mut program = compiled(rt.alloc())?;
 
-    // Positions are shipped apart. What runs is the same.
-    let sidecar = strip(&mut program)?;
-    assert_same(&rt, sidecar.positions.as_slice(), [1, 3, 1, 1].as_slice());
-    assert_same(&rt, sidecar.chains.as_slice(), [1, 1, 11].as_slice());
-    assert_same(&rt, places(&program).0, Position::NONE);
-    let numbers = verified(rt.alloc(), &program)?;
-    assert_same(&rt, numbers.as_str(), "Ok([1, 2, 1])");
-
     // Whoever looks into a crash gives them back.
-    attach(&mut program, &sidecar)?;
+    assert_same(&rt, strip_and_attach(&mut program), true);
     let wanted = (Position::new(1, 1), Some(Position::new(1, 11)));
     assert_same(&rt, places(&program), wanted);
     Ok(())
@@ -162,27 +203,41 @@ fn counts(program: &Program) -> [usize; 9] {
     ]
 }
 
+// How many functions there are once more, and which program it is.
+fn numbers(program: &Program) -> (usize, u128) {
+    (program.num_functions(), program.debug_id())
+}
+
+// Whether it has no positions, may ask for `this`, and makes function pointers.
+fn holds(program: &Program) -> [bool; 3] {
+    [
+        program.positions().is_stripped(),
+        program.caps().contains(Caps::THIS),
+        program.makes_fn_pointers(),
+    ]
+}
+
 #[test]
 fn programs_tell_what_they_have(rt: HostRuntime) -> Result<(), Fail> {
     let program = compiled(rt.alloc())?;
     assert_same(&rt, counts(&program), [26, 2, 1, 6, 1, 1, 0, 0, 0]);
-    assert_same(&rt, program.num_functions(), 2);
-    assert_same(&rt, program.debug_id(), 7);
-    let holds = (
-        program.positions().is_stripped(),
-        program.caps().contains(Caps::THIS),
-        program.makes_fn_pointers(),
-    );
-    assert_same(&rt, holds, (false, true, false));
+    assert_same(&rt, numbers(&program), (2, 7));
+    assert_same(&rt, holds(&program), [false, true, false]);
     Ok(())
+}
+
+// Whether the source has no name at first, and then this one.
+fn sets_source(program: &mut Program, source: String) -> (bool, bool) {
+    let had_none = program.source().is_none();
+    let has_one = program.set_source(source).source() == Some("sums.rhai");
+    (had_none, has_one)
 }
 
 #[test]
 fn programs_have_sources(rt: HostRuntime) -> Result<(), Fail> {
-    let mut program = compiled(rt.alloc())?;
-    assert_same(&rt, program.source(), None);
     let source = String::from_str(rt.alloc(), "sums.rhai")?;
-    assert_same(&rt, program.set_source(source).source(), Some("sums.rhai"));
+    let mut program = compiled(rt.alloc())?;
+    assert_same(&rt, sets_source(&mut program, source), (true, true));
     Ok(())
 }
 
@@ -191,11 +246,17 @@ fn shown(alloc: Global, program: &Program) -> Result<String, Fail> {
     Ok(format!(in alloc; "{program:?}")?)
 }
 
+// The same once its source is called so.
+fn shown_with_source(alloc: Global) -> Result<String, Fail> {
+    let source = String::from_str(alloc, "sums.rhai")?;
+    let mut program = compiled(alloc)?;
+    let _ = program.set_source(source);
+    shown(alloc, &program)
+}
+
 #[test]
 fn programs_are_printed_by_their_counts(rt: HostRuntime) -> Result<(), Fail> {
-    let mut program = compiled(rt.alloc())?;
-    let _ = program.set_source(String::from_str(rt.alloc(), "sums.rhai")?);
-    let text = shown(rt.alloc(), &program)?;
+    let text = shown_with_source(rt.alloc())?;
     assert_same(
         &rt,
         text.as_str(),
@@ -204,13 +265,20 @@ fn programs_are_printed_by_their_counts(rt: HostRuntime) -> Result<(), Fail> {
     Ok(())
 }
 
-// What is printed is what the top level declares, though a function declares more.
+// What is printed is what the top level declares, though a function declares more: that, and whether it is so once the
+// program is tightened.
+fn shown_tightened(alloc: Global, program: &mut Program) -> Result<(u16, bool), Fail> {
+    let _ = tightens(program);
+    let text = shown(alloc, program)?;
+    let is_of_top = text.as_str().contains("max_stack: 1,");
+    Ok((program.max_stack(), is_of_top))
+}
+
 #[test]
 fn programs_are_printed_by_their_top_level(rt: HostRuntime) -> Result<(), Fail> {
     let mut program = compiled(rt.alloc())?;
-    tighten(&mut program)?;
-    assert_same(&rt, program.max_stack(), 2);
-    assert!(rt; shown(rt.alloc(), &program)?.contains("max_stack: 1,"));
+    let found = shown_tightened(rt.alloc(), &mut program)?;
+    assert_same(&rt, found, (2, true));
     Ok(())
 }
 

@@ -1,7 +1,9 @@
 //! Programs for tests.
 
 use grain::{
-    Caps, Chunk, Flags, FnAccess, Function, Parts, Position, Positions, Program, Sidecar, Strings,
+    BuildError, Caps, Chain, Chunk, Cut, Flags, FnAccess, Function, Head, Op, Parts, Pools,
+    Position, Positions, Program, Sidecar, Strings, StripError, Switch, TableError, VerifyError,
+    build, verify,
 };
 use std::alloc::{AllocError, Global};
 use std::fmt::Debug;
@@ -29,6 +31,20 @@ pub(crate) fn parts(alloc: Global, names: &[&str]) -> Result<Parts, Fail> {
     })
 }
 
+/// Parts with that switch.
+pub(crate) fn with_switch(alloc: Global, switch: Switch) -> Result<Parts, Fail> {
+    let mut parts = parts(alloc, &[])?;
+    parts.switches.push(switch)?;
+    Ok(parts)
+}
+
+/// Parts with that name and that chain.
+pub(crate) fn with_chain(alloc: Global, name: &str, chain: Chain) -> Result<Parts, Fail> {
+    let mut parts = parts(alloc, &[name])?;
+    parts.chains.push(chain)?;
+    Ok(parts)
+}
+
 /// The code as the main chunk, which declares that many operands, without functions and with all capabilities.
 pub(crate) fn program(
     alloc: Global,
@@ -40,6 +56,76 @@ pub(crate) fn program(
     let main = Chunk::new(0, end, declared);
     let code = code.to_vec(alloc)?;
     Ok(Program::new(alloc, Caps::all(), code, main, Vec::new(alloc), parts))
+}
+
+/// Pools with these names and nothing else.
+pub(crate) fn pools(names: &Strings) -> Pools<'_> {
+    Pools {
+        consts: 0,
+        names,
+        tokens: 0,
+        assign_ops: 0,
+        residuals: 0,
+        chains: &[],
+        switches: &[],
+    }
+}
+
+/// What is answered of one chunk: its number, or why it is refused. Where not just one number is answered there is none.
+pub(crate) type Answer = Result<Option<u16>, VerifyError>;
+
+/// What was answered of one chunk.
+pub(crate) fn of_one_chunk(answer: Result<Vec<u16>, VerifyError>) -> Answer {
+    let numbers = answer?;
+    match numbers.as_slice() {
+        [number] => Ok(Some(*number)),
+        _ => Ok(None),
+    }
+}
+
+/// What `verify` answers of the code with these pools, as one chunk that declares 8, all capabilities there.
+pub(crate) fn said(alloc: Global, code: &[u8], pools: &Pools<'_>) -> Answer {
+    let end = u32::try_from(code.len()).unwrap_or(u32::MAX);
+    let chunks = [Chunk::new(0, end, 8)];
+    of_one_chunk(verify(alloc, Caps::all(), &[], code, &[], &chunks, pools))
+}
+
+/// The operations from the first up to the end, which declare that they stack at most 8 operands.
+pub(crate) fn cut(first: usize, end: usize) -> Cut {
+    Cut {
+        first,
+        end,
+        max_stack: 8,
+    }
+}
+
+/// The heads of so many functions, each called by name 0 and without parameters.
+pub(crate) fn heads(alloc: Global, count: usize) -> Result<Vec<Head>, AllocError> {
+    let mut heads = Vec::new(alloc);
+    for _ in 0..count {
+        heads.push(Head {
+            name: 0,
+            params: Vec::new(alloc),
+            access: FnAccess::Public,
+            this_type: None,
+        })?;
+    }
+    Ok(heads)
+}
+
+/// [`build`], where each cut but the first has its head.
+pub(crate) fn built(
+    alloc: Global,
+    caps: Caps,
+    ops: &[Op],
+    cuts: &[Cut],
+    heads: Vec<Head>,
+    parts: Parts,
+) -> Result<(Program, Vec<u16>), BuildError> {
+    if cuts.len() != heads.len() + 1 {
+        return Err(BuildError::BadCut { index: usize::MAX });
+    }
+    build(alloc, caps, ops, cuts, heads, parts)
 }
 
 /// A function of that name and so many parameters, which are called as it is.
@@ -59,26 +145,60 @@ pub(crate) fn function(
     })
 }
 
-// What these four ensure isn't said, so that the prover needn't carry it through the rest of a test.
+// What these ensure isn't said, so that the prover needn't carry it through the rest of a test. A test that has a program
+// costs it some seconds more for each `?` behind that, at which the program would be dropped: so most of them have none.
 
-/// [`Program::strip_positions`] where it has to succeed.
-pub(crate) fn strip(program: &mut Program) -> Result<Sidecar, Fail> {
-    Ok(program.strip_positions()?)
+/// [`Program::strip_positions`].
+pub(crate) fn strip(program: &mut Program) -> Result<Sidecar, StripError> {
+    program.strip_positions()
 }
 
-/// [`Program::attach_positions`] where it has to succeed.
-pub(crate) fn attach(program: &mut Program, sidecar: &Sidecar) -> Result<(), Fail> {
-    Ok(program.attach_positions(sidecar)?)
+/// [`Program::attach_positions`].
+pub(crate) fn attach(program: &mut Program, sidecar: &Sidecar) -> Result<(), TableError> {
+    program.attach_positions(sidecar)
 }
 
-/// [`Program::tighten_stack`] where it has to succeed.
-pub(crate) fn tighten(program: &mut Program) -> Result<(), Fail> {
-    Ok(program.tighten_stack()?)
+/// Strips the program, and gives it back what came off it. Tells whether both succeeded, and nothing was left between.
+pub(crate) fn strip_and_attach(program: &mut Program) -> bool {
+    let Ok(sidecar) = program.strip_positions() else {
+        return false;
+    };
+    let is_bare = program.positions().is_stripped();
+    program.attach_positions(&sidecar).is_ok() && is_bare
 }
 
-/// What [`Program::verify`] answers, as it is printed.
-pub(crate) fn verified(alloc: Global, program: &Program) -> Result<String, Fail> {
-    Ok(format!(in alloc; "{:?}", program.verify())?)
+/// Whether [`Program::tighten_stack`] succeeds.
+pub(crate) fn tightens(program: &mut Program) -> bool {
+    program.tighten_stack().is_ok()
+}
+
+/// Whether [`Program::verify`] answers these numbers.
+pub(crate) fn verifies(program: &Program, numbers: &[u16]) -> bool {
+    match program.verify() {
+        Ok(answer) => answer.as_slice() == numbers,
+        Err(_) => false,
+    }
+}
+
+/// Strips the program. Tells whether this table and this stream came off it.
+pub(crate) fn strips(program: &mut Program, table: &[u8], stream: &[u8]) -> bool {
+    match program.strip_positions() {
+        Ok(sidecar) => is(&sidecar, table, stream),
+        Err(_) => false,
+    }
+}
+
+/// Whether this table and this stream are the program's sidecar.
+pub(crate) fn is_sidecar(program: &Program, table: &[u8], stream: &[u8]) -> bool {
+    match program.sidecar() {
+        Ok(sidecar) => is(&sidecar, table, stream),
+        Err(_) => false,
+    }
+}
+
+/// Whether the sidecar is this table and this stream.
+pub(crate) fn is(sidecar: &Sidecar, table: &[u8], stream: &[u8]) -> bool {
+    sidecar.positions.as_slice() == table && sidecar.chains.as_slice() == stream
 }
 
 /// Two units and a return, where the second stands at 1:5 and the return in line 3.
@@ -96,7 +216,8 @@ pub(crate) fn told(alloc: Global, refused: bool) -> Result<(), Fail> {
         return Err(Fail::new("a growth of the call was refused"));
     }
     let mut behind = Vec::new(alloc);
-    behind
-        .push(refused)
-        .map_err(|_| Fail::new("no growth of the call is left"))
+    match behind.push(refused) {
+        Ok(()) => Ok(()),
+        Err(_) => Err(Fail::new("no growth of the call is left")),
+    }
 }

@@ -1,11 +1,10 @@
-use crate::samples::{assert_same, attach, parts, placed, program, strip};
+use crate::samples::{assert_same, attach, is_sidecar, placed, program, strip, strips, with_chain};
 use grain::sites::StreamError;
 use grain::{
     Chain, Flags, Position, Positions, Program, Root, Sidecar, Step, StepFlags, TableError, Tail,
     pos,
 };
-use std::alloc::Global;
-use std::process::Abort;
+use std::alloc::{AllocError, Global};
 use std::test::Fail;
 
 // The table and the stream of `placed`, and a table that ends too early.
@@ -15,36 +14,13 @@ const CUT_TABLE: &[u8] = &[2, 1, 1, 5];
 
 const STREAM: &[u8] = &[0];
 
-// Asserts that the sidecar is this table and this stream.
-fn assert_bytes(rt: &impl Abort, sidecar: &Sidecar, table: &[u8], stream: &[u8]) {
-    assert_same(rt, sidecar.positions.as_slice(), table);
-    assert_same(rt, sidecar.chains.as_slice(), stream);
-}
-
-// Asserts that this table and this stream are written of the program.
-fn assert_written(
-    rt: &impl Abort,
-    program: &Program,
-    table: &[u8],
-    stream: &[u8],
-) -> Result<(), Fail> {
-    assert_bytes(rt, &program.sidecar()?, table, stream);
-    Ok(())
-}
-
-// Strips the program, and asserts that this table and this stream came off it.
-fn assert_stripped(
-    rt: &impl Abort,
-    program: &mut Program,
-    table: &[u8],
-    stream: &[u8],
-) -> Result<(), Fail> {
-    assert_bytes(rt, &strip(program)?, table, stream);
-    Ok(())
-}
-
 // The sidecar of these bytes, of the program with this number.
-fn sidecar(alloc: Global, debug_id: u128, table: &[u8], stream: &[u8]) -> Result<Sidecar, Fail> {
+fn sidecar(
+    alloc: Global,
+    debug_id: u128,
+    table: &[u8],
+    stream: &[u8],
+) -> Result<Sidecar, AllocError> {
     Ok(Sidecar {
         debug_id,
         positions: table.to_vec(alloc)?,
@@ -52,15 +28,35 @@ fn sidecar(alloc: Global, debug_id: u128, table: &[u8], stream: &[u8]) -> Result
     })
 }
 
-// How the program refuses a sidecar of its own with these bytes.
-fn refused(
-    alloc: Global,
-    program: &mut Program,
-    table: &[u8],
-    stream: &[u8],
-) -> Result<Option<TableError>, Fail> {
-    let other = sidecar(alloc, 7, table, stream)?;
-    Ok(program.attach_positions(&other).err())
+#[test]
+fn sidecars_are_written_and_positions_stay(rt: HostRuntime) -> Result<(), Fail> {
+    let program = placed(rt.alloc())?;
+    assert_same(&rt, is_sidecar(&program, TABLE, STREAM), true);
+    assert_same(&rt, program.position(1), Position::new(1, 5));
+    Ok(())
+}
+
+// Strips `placed` twice. Tells whether the right bytes came off it each time, and whether no positions were left between.
+fn strip_twice(program: &mut Program) -> [bool; 3] {
+    let first = strips(program, TABLE, STREAM);
+    let is_bare = program.positions().is_stripped();
+    [first, is_bare, strips(program, &[0], STREAM)]
+}
+
+#[test]
+fn positions_are_stripped_once(rt: HostRuntime) -> Result<(), Fail> {
+    let mut program = placed(rt.alloc())?;
+    assert_same(&rt, strip_twice(&mut program), [true; 3]);
+    Ok(())
+}
+
+// Strips `placed` twice, and gives it back what came off it first. Tells whether nothing was left to strip the second time.
+fn strip_twice_and_attach(program: &mut Program) -> bool {
+    let Ok(sidecar) = strip(program) else {
+        return false;
+    };
+    let is_bare = strips(program, &[0], STREAM);
+    attach(program, &sidecar).is_ok() && is_bare
 }
 
 // The positions of the three instructions.
@@ -73,48 +69,29 @@ fn places(program: &Program) -> [Position; 3] {
 }
 
 #[test]
-fn sidecars_are_written_and_positions_stay(rt: HostRuntime) -> Result<(), Fail> {
-    let program = placed(rt.alloc())?;
-    assert_written(&rt, &program, TABLE, STREAM)?;
-    assert_same(&rt, program.position(1), Position::new(1, 5));
-    Ok(())
-}
-
-#[test]
-fn positions_are_stripped_once(rt: HostRuntime) -> Result<(), Fail> {
-    let mut program = placed(rt.alloc())?;
-    assert_stripped(&rt, &mut program, TABLE, STREAM)?;
-    assert!(rt; program.positions().is_stripped());
-    assert_stripped(&rt, &mut program, &[0], STREAM)?;
-    Ok(())
-}
-
-#[test]
 fn positions_are_attached(rt: HostRuntime) -> Result<(), Fail> {
     let mut program = placed(rt.alloc())?;
-    let stripped = strip(&mut program)?;
-    assert_stripped(&rt, &mut program, &[0], STREAM)?;
-    attach(&mut program, &stripped)?;
+    assert_same(&rt, strip_twice_and_attach(&mut program), true);
     let wanted = [Position::NONE, Position::new(1, 5), Position::new(3, 0)];
     assert_same(&rt, places(&program), wanted);
     Ok(())
 }
 
 // How `placed` refuses a sidecar, and whether it stays as it was.
+fn refused(program: &mut Program, sidecar: &Sidecar) -> (Option<TableError>, bool) {
+    let refusal = attach(program, sidecar).err();
+    (refusal, is_sidecar(program, TABLE, STREAM))
+}
+
+// The same of a sidecar of these bytes, of the program with this number.
 fn refusal(
     alloc: Global,
     debug_id: u128,
     table: &[u8],
     stream: &[u8],
 ) -> Result<(Option<TableError>, bool), Fail> {
-    let mut program = placed(alloc)?;
-    let other = sidecar(alloc, debug_id, table, stream)?;
-    let refused = program.attach_positions(&other).err();
-    let kept = program.sidecar()?;
-    Ok((
-        refused,
-        kept.positions.as_slice() == TABLE && kept.chains.as_slice() == STREAM,
-    ))
+    let sidecar = sidecar(alloc, debug_id, table, stream)?;
+    Ok(refused(&mut placed(alloc)?, &sidecar))
 }
 
 #[test]
@@ -124,49 +101,55 @@ fn foreign_sidecars_are_refused_first(rt: HostRuntime) -> Result<(), Fail> {
             expected: 8,
             found: 7,
         };
-        let wanted = (Some(foreign), true);
-        assert_same(&rt, refusal(rt.alloc(), 8, table, STREAM)?, wanted);
+        let found = refusal(rt.alloc(), 8, table, STREAM)?;
+        assert_same(&rt, found, (Some(foreign), true));
     }
     Ok(())
+}
+
+// What is wrong with a table.
+fn flaw_of_table(number: usize) -> TableError {
+    match number {
+        0 => TableError::Malformed(pos::Error::Truncated),
+        _ => TableError::PastTheEnd {
+            entries: 2,
+            matched: 1,
+            instructions: 3,
+        },
+    }
 }
 
 #[test]
 fn tables_that_do_not_fit_are_refused(rt: HostRuntime) -> Result<(), Fail> {
-    let past = TableError::PastTheEnd {
-        entries: 2,
-        matched: 1,
-        instructions: 3,
-    };
-    let rows: [(&[u8], TableError); 2] = [
-        (CUT_TABLE, TableError::Malformed(pos::Error::Truncated)),
-        (&[2, 1, 1, 5, 9, 3, 0], past),
-    ];
-    for (table, flaw) in rows {
-        let wanted = (Some(flaw), true);
-        assert_same(&rt, refusal(rt.alloc(), 7, table, STREAM)?, wanted);
+    let tables: [&[u8]; 2] = [CUT_TABLE, &[2, 1, 1, 5, 9, 3, 0]];
+    for (number, table) in tables.into_iter().enumerate() {
+        let found = refusal(rt.alloc(), 7, table, STREAM)?;
+        assert_same(&rt, found, (Some(flaw_of_table(number)), true));
     }
     Ok(())
+}
+
+// What is wrong with a stream.
+fn flaw_of_stream(number: usize) -> TableError {
+    match number {
+        0 => TableError::ChainStream(StreamError::Truncated),
+        1 => TableError::ChainStream(StreamError::TrailingBytes { count: 1 }),
+        _ => TableError::ChainCount { sites: 1, slots: 0 },
+    }
 }
 
 #[test]
 fn streams_that_do_not_fit_are_refused(rt: HostRuntime) -> Result<(), Fail> {
-    let rows: [(&[u8], TableError); 3] = [
-        (&[1, 1], TableError::ChainStream(StreamError::Truncated)),
-        (
-            &[0, 0],
-            TableError::ChainStream(StreamError::TrailingBytes { count: 1 }),
-        ),
-        (&[1, 1, 1], TableError::ChainCount { sites: 1, slots: 0 }),
-    ];
-    for (stream, flaw) in rows {
-        let wanted = (Some(flaw), true);
-        assert_same(&rt, refusal(rt.alloc(), 7, TABLE, stream)?, wanted);
+    let streams: [&[u8]; 3] = [&[1, 1], &[0, 0], &[1, 1, 1]];
+    for (number, stream) in streams.into_iter().enumerate() {
+        let found = refusal(rt.alloc(), 7, TABLE, stream)?;
+        assert_same(&rt, found, (Some(flaw_of_stream(number)), true));
     }
     Ok(())
 }
 
-// `[i]` at 1:3 with its bracket at 1:2, on an `a` without a position.
-fn index(alloc: Global) -> Result<Chain, Fail> {
+// `[i]` at 1:3 with its bracket at 1:2, on an `a` that stands there.
+fn index(alloc: Global, pos: Position) -> Result<Chain, Fail> {
     let index = Step::Index {
         operand: 0,
         flags: StepFlags::empty(),
@@ -174,59 +157,63 @@ fn index(alloc: Global) -> Result<Chain, Fail> {
         bracket: Position::new(1, 2),
     };
     Ok(Chain {
-        root: Root::Named {
-            name: 0,
-            pos: Position::NONE,
-        },
+        root: Root::Named { name: 0, pos },
         steps: vec![in alloc; index]?,
         tail: Tail::Read,
         operands: 1,
     })
 }
 
-// A unit and a return with this chain, without positions in the code.
-fn chained(alloc: Global, chain: Chain) -> Result<Program, Fail> {
-    let mut parts = parts(alloc, &["a"])?;
-    parts.chains.push(chain)?;
+// A unit and a return with `a[i]`, without positions in the code and of `a`.
+fn chained(alloc: Global) -> Result<Program, Fail> {
+    let parts = with_chain(alloc, "a", index(alloc, Position::NONE)?)?;
     Ok(program(alloc, &[0x02, 0x13], 1, parts)?)
 }
 
-// The stream of `index`, and that of the chain without positions.
+// The stream of its chain, and that of the chain without positions.
 const INDEX_STREAM: &[u8] = &[3, 0, 0, 1, 3, 1, 2];
 
 const BLANK_STREAM: &[u8] = &[3, 0, 0, 0, 0, 0, 0];
 
+// Strips it. Tells whether the right bytes came off it, and what is written afterwards is blank.
+fn strip_chain(program: &mut Program) -> [bool; 2] {
+    let came_off = strips(program, &[0], INDEX_STREAM);
+    [came_off, is_sidecar(program, &[0], BLANK_STREAM)]
+}
+
 #[test]
 fn chains_lose_their_positions(rt: HostRuntime) -> Result<(), Fail> {
-    let mut program = chained(rt.alloc(), index(rt.alloc())?)?;
-    assert_stripped(&rt, &mut program, &[0], INDEX_STREAM)?;
-    assert_written(&rt, &program, &[0], BLANK_STREAM)?;
+    let mut program = chained(rt.alloc())?;
+    assert_same(&rt, strip_chain(&mut program), [true; 2]);
     Ok(())
+}
+
+// Strips it, and gives it back what came off it. Tells how a sidecar with too few slots was refused between, and whether the
+// stream is then the whole one.
+fn attach_to_chain(alloc: Global, program: &mut Program) -> (Option<TableError>, bool) {
+    let Ok(short) = sidecar(alloc, 7, &[0], &[2, 0, 0, 1, 3]) else {
+        return (None, false);
+    };
+    let Ok(sidecar) = strip(program) else {
+        return (None, false);
+    };
+    let refused = attach(program, &short).err();
+    let attached = attach(program, &sidecar).is_ok();
+    (refused, attached && is_sidecar(program, &[0], INDEX_STREAM))
 }
 
 #[test]
 fn chains_have_their_positions_back(rt: HostRuntime) -> Result<(), Fail> {
-    let mut program = chained(rt.alloc(), index(rt.alloc())?)?;
-    let sidecar = strip(&mut program)?;
     let few = TableError::ChainCount { sites: 2, slots: 3 };
-    let short = [2, 0, 0, 1, 3];
-    assert_same(
-        &rt,
-        refused(rt.alloc(), &mut program, &[0], &short)?,
-        Some(few),
-    );
-    attach(&mut program, &sidecar)?;
-    assert_written(&rt, &program, &[0], INDEX_STREAM)?;
+    let mut program = chained(rt.alloc())?;
+    let found = attach_to_chain(rt.alloc(), &mut program);
+    assert_same(&rt, found, (Some(few), true));
     Ok(())
 }
 
 // `a[i].b` at 1:1, 1:3 with its bracket at 1:2, and 1:6.
 fn chain(alloc: Global) -> Result<Chain, Fail> {
-    let mut chain = index(alloc)?;
-    chain.root = Root::Named {
-        name: 0,
-        pos: Position::new(1, 1),
-    };
+    let mut chain = index(alloc, Position::new(1, 1))?;
     chain.steps.push(Step::Property {
         name: 0,
         getter: 0,
@@ -238,24 +225,34 @@ fn chain(alloc: Global) -> Result<Chain, Fail> {
 }
 
 // A return at 1:1 with that chain.
-fn with_chain(alloc: Global) -> Result<Program, Fail> {
-    let mut parts = parts(alloc, &["a"])?;
-    parts.positions = Positions::dense([Position::new(1, 1)].to_vec(alloc)?);
-    parts.chains.push(chain(alloc)?)?;
+fn with_both(alloc: Global) -> Result<Program, Fail> {
+    let positions = [Position::new(1, 1)].to_vec(alloc)?;
+    let mut parts = with_chain(alloc, "a", chain(alloc)?)?;
+    parts.positions = Positions::dense(positions);
     Ok(program(alloc, &[0x13], 1, parts)?)
+}
+
+// Whether the table and the stream of `with_both` are written of it.
+fn is_whole(program: &Program) -> bool {
+    is_sidecar(program, &[1, 0, 1, 1], &[4, 1, 1, 1, 3, 1, 2, 1, 6])
+}
+
+// How it refuses a stream with a byte more, and whether it is whole before and afterwards.
+fn refused_longer(alloc: Global, program: &mut Program) -> (Option<TableError>, [bool; 2]) {
+    let stream = [4, 1, 1, 1, 3, 1, 2, 1, 6, 0];
+    let Ok(longer) = sidecar(alloc, 7, &[0], &stream) else {
+        return (None, [false; 2]);
+    };
+    let before = is_whole(program);
+    let refusal = attach(program, &longer).err();
+    (refusal, [before, is_whole(program)])
 }
 
 #[test]
 fn a_byte_behind_the_stream_is_refused(rt: HostRuntime) -> Result<(), Fail> {
-    let table = [1, 0, 1, 1];
-    let stream = [4, 1, 1, 1, 3, 1, 2, 1, 6];
-    let mut program = with_chain(rt.alloc())?;
-    assert_written(&rt, &program, &table, &stream)?;
-
-    let longer = [4, 1, 1, 1, 3, 1, 2, 1, 6, 0];
     let trailing = TableError::ChainStream(StreamError::TrailingBytes { count: 1 });
-    let refused = refused(rt.alloc(), &mut program, &[0], &longer)?;
-    assert_same(&rt, refused, Some(trailing));
-    assert_written(&rt, &program, &table, &stream)?;
+    let mut program = with_both(rt.alloc())?;
+    let found = refused_longer(rt.alloc(), &mut program);
+    assert_same(&rt, found, (Some(trailing), [true; 2]));
     Ok(())
 }

@@ -1,26 +1,30 @@
-use crate::samples::{assert_same, parts, program, tighten, verified};
-use grain::{Caps, Chunk, Dynamic, Flags, Program, VerifyError};
+use crate::samples::{Answer, assert_same, of_one_chunk, parts, program, tightens, verifies};
+use grain::{Caps, Chunk, Dynamic, Flags, Parts, Program, VerifyError};
 use std::alloc::Global;
 use std::test::Fail;
 
 // Two units are pushed and popped, and then one is returned.
 const CODE: &[u8] = &[0x02, 0x02, 0x0b, 0x0b, 0x02, 0x13];
 
+// The program that declares so much.
+fn declaring(alloc: Global, declared: u16) -> Result<Program, Fail> {
+    Ok(program(alloc, CODE, declared, parts(alloc, &[])?)?)
+}
+
 #[test]
 fn chunks_declare_their_numbers(rt: HostRuntime) -> Result<(), Fail> {
-    let mut program = program(rt.alloc(), CODE, 8, parts(rt.alloc(), &[])?)?;
-    tighten(&mut program)?;
+    let mut program = declaring(rt.alloc(), 8)?;
+    assert_same(&rt, tightens(&mut program), true);
     assert_same(&rt, program.max_stack(), 2);
-    assert_same(&rt, verified(rt.alloc(), &program)?.as_str(), "Ok([2])");
+    assert_same(&rt, verifies(&program, &[2]), true);
     Ok(())
 }
 
-// How a program is refused that declares 1, by both calls, and what it declares afterwards.
-fn refused(alloc: Global) -> Result<(Option<VerifyError>, Option<VerifyError>, u16), Fail> {
-    let mut program = program(alloc, CODE, 1, parts(alloc, &[])?)?;
+// How a program is refused, by both calls, and what it declares afterwards.
+fn refused(program: &mut Program) -> (Option<VerifyError>, Option<VerifyError>, u16) {
     let by_verify = program.verify().err();
     let by_tighten = program.tighten_stack().err();
-    Ok((by_verify, by_tighten, program.max_stack()))
+    (by_verify, by_tighten, program.max_stack())
 }
 
 fn exceeds() -> Option<VerifyError> {
@@ -32,32 +36,50 @@ fn exceeds() -> Option<VerifyError> {
 
 #[test]
 fn refused_programs_keep_what_they_declare(rt: HostRuntime) -> Result<(), Fail> {
-    assert_same(&rt, refused(rt.alloc())?, (exceeds(), exceeds(), 1));
+    let mut program = declaring(rt.alloc(), 1)?;
+    assert_same(&rt, refused(&mut program), (exceeds(), exceeds(), 1));
     Ok(())
 }
 
-// What is said of a program without capabilities that has an array of the value as its constant.
-fn with_array(alloc: Global, value: Dynamic) -> Result<String, Fail> {
+// An array of a unit, or of a shared value.
+fn array(alloc: Global, is_shared: bool) -> Result<Dynamic, Fail> {
+    let value = if is_shared {
+        Dynamic::Shared(Box::new(alloc, Dynamic::Int(1))?)
+    } else {
+        Dynamic::Unit
+    };
+    Ok(Dynamic::Array(vec![in alloc; value]?))
+}
+
+// The parts of a program that has it as its constant.
+fn with_array(alloc: Global, is_shared: bool) -> Result<Parts, Fail> {
     let mut parts = parts(alloc, &[])?;
-    let array = Dynamic::Array(vec![in alloc; value]?);
-    parts.consts = vec![in alloc; array]?;
+    parts.consts.push(array(alloc, is_shared)?)?;
+    Ok(parts)
+}
+
+// What is said of that program, which has no capabilities.
+fn said_of_array(alloc: Global, is_shared: bool) -> Result<Answer, Fail> {
     let code = [0x02, 0x13].to_vec(alloc)?;
     let main = Chunk::new(0, 2, 8);
+    let parts = with_array(alloc, is_shared)?;
     let program = Program::new(alloc, Caps::empty(), code, main, Vec::new(alloc), parts);
-    verified(alloc, &program)
+    Ok(of_one_chunk(program.verify()))
 }
 
 #[test]
 fn constants_ask_capabilities(rt: HostRuntime) -> Result<(), Fail> {
-    let said = with_array(rt.alloc(), Dynamic::Unit)?;
-    let missing: Result<(), VerifyError> = Err(VerifyError::MissingCaps {
+    let missing = VerifyError::MissingCaps {
         artifact: Caps::empty(),
         missing: Caps::ARRAY,
         at: 0,
-    });
-    let text = format!(in rt.alloc(); "{missing:?}")?;
-    assert_same(&rt, said, text);
-    let shared = Dynamic::Shared(Box::new(rt.alloc(), Dynamic::Int(1))?);
-    assert_same(&rt, with_array(rt.alloc(), shared)?.as_str(), "Ok([1])");
+    };
+    assert_same(&rt, said_of_array(rt.alloc(), false)?, Err(missing));
+    Ok(())
+}
+
+#[test]
+fn shared_constants_ask_none(rt: HostRuntime) -> Result<(), Fail> {
+    assert_same(&rt, said_of_array(rt.alloc(), true)?, Ok(Some(1)));
     Ok(())
 }

@@ -1,13 +1,26 @@
 use super::*;
+use grain::Op;
 
-// For each instruction of the chunk its address, its position and its text.
+// Of an instruction its address, its position and its text.
+fn write_op(out: &mut String, program: &Program, at: usize, op: &Op) -> Result<(), Fail> {
+    let text = op.disassemble(*out.allocator(), program)?;
+    writeln!(out, "{at} {} {text}", program.position(at))?;
+    Ok(())
+}
+
+// Each instruction of the chunk.
 fn write_chunk(out: &mut String, program: &Program, chunk: &Chunk) -> Result<(), Fail> {
     for (at, op) in chunk.ops(program.code()) {
-        let position = program.position(at);
-        let text = op.disassemble(*out.allocator(), program)?;
-        writeln!(out, "{at} {position} {text}")?;
+        write_op(out, program, at, &op)?;
     }
     Ok(())
+}
+
+// The function's head, and each instruction of its chunk.
+fn write_function(out: &mut String, program: &Program, function: &Function) -> Result<(), Fail> {
+    let head = function.disassemble(*out.allocator(), program)?;
+    writeln!(out, "{head}")?;
+    write_chunk(out, program, &function.chunk)
 }
 
 // The whole program, chunk by chunk.
@@ -15,34 +28,33 @@ fn written(alloc: Global, program: &Program) -> Result<String, Fail> {
     let mut out = String::new(alloc);
     write_chunk(&mut out, program, &program.main())?;
     for function in program.functions() {
-        let head = function.disassemble(alloc, program)?;
-        writeln!(out, "{head}")?;
-        write_chunk(&mut out, program, &function.chunk)?;
+        write_function(&mut out, program, function)?;
     }
     Ok(out)
 }
 
+fn written_out(alloc: Global) -> Result<String, Fail> {
+    written(alloc, &compiled(alloc)?)
+}
+
+const WANTED: &str = "\
+0 none Const(0) = 21
+3 1:1 Call { name: 0, argc: 1, op: None, capture_parent_scope: false } : double
+7 none Chain(0, 0 total operands): Temporary <temp value> .len\u{20}
+10 none Return
+double(double)
+11 none LoadLocal(0)
+14 none LoadLocal(0)
+17 none Call { name: 1, argc: 2, op: Some(0), capture_parent_scope: false } : + (Plus)
+23 none Return
+i64!double()
+24 none LoadThis
+25 none Return
+";
+
 #[test]
 fn programs_are_written_out(rt: HostRuntime) -> Result<(), Fail> {
-    let program = compiled(rt.alloc())?;
-    let wanted = [
-        "0 none Const(0) = 21",
-        "3 1:1 Call { name: 0, argc: 1, op: None, capture_parent_scope: false } : double",
-        "7 none Chain(0, 0 total operands): Temporary <temp value> .len ",
-        "10 none Return",
-        "double(double)",
-        "11 none LoadLocal(0)",
-        "14 none LoadLocal(0)",
-        "17 none Call { name: 1, argc: 2, op: Some(0), capture_parent_scope: false } : + (Plus)",
-        "23 none Return",
-        "i64!double()",
-        "24 none LoadThis",
-        "25 none Return",
-    ];
-    let out = written(rt.alloc(), &program)?;
-    assert_same(&rt, out.as_str().lines().count(), wanted.len());
-    for (line, text) in out.as_str().lines().zip(wanted.iter()) {
-        assert_same(&rt, line, *text);
-    }
+    let out = written_out(rt.alloc())?;
+    assert_same(&rt, out.as_str(), WANTED);
     Ok(())
 }

@@ -1,0 +1,227 @@
+//! Runs over bytes, with reads, writes and growths that fail.
+
+ghost use Rattle.std.specs.Prelude.{◌≤◌, Some, take};
+ghost use Rattle.grain_cases_tests.specs.declared.run.TheConstants.{ROOM};
+
+use grain_cases::{Failed, RunError, Sink, Source, Summary, run, status};
+use std::alloc::Global;
+use std::process::Abort;
+
+mod growths;
+mod long_lines;
+
+/// Gives its bytes, at most so many a call, and fails once so many were given.
+#[derive(Drop)]
+struct Given<'a> {
+    left: &'a [u8],
+    each: usize,
+    before_failure: usize,
+    failures: u64,
+    calls_after: u64,
+}
+
+impl<'a> Given<'a> {
+    fn new(bytes: &'a [u8], each: usize, before_failure: usize) -> Self {
+        Given {
+            left: bytes,
+            each,
+            before_failure,
+            failures: 0,
+            calls_after: 0,
+        }
+    }
+}
+
+impl Source for Given<'_> {
+    ghost remaining = { λ source. Some source.left.now };
+
+    ghost mark = { λ source. source.failures };
+
+    fn read(&mut self, buf: &mut [u8]) -> Result<usize, Failed> {
+        if self.failures != 0 {
+            self.calls_after = self.calls_after.saturating_add(1);
+        }
+        if self.before_failure == 0 {
+            self.failures = self.failures.wrapping_add(1);
+            return Err(Failed);
+        }
+        let most = self.each.max(1).min(self.before_failure);
+        let count = self.left.len().min(buf.len()).min(most);
+        let (front, rest) = self.left.split_at(count);
+        buf[..count].copy_from_slice(front);
+        self.left = rest;
+        self.before_failure -= count;
+        Ok(count)
+    }
+}
+
+/// How many bytes the tests write at most.
+const ROOM: usize = 128;
+
+/// Takes bytes, at most so many a call, and fails once so many were taken. It allocates nothing.
+#[derive(Drop)]
+struct Taken {
+    room: [u8; ROOM],
+    len: usize,
+    each: usize,
+    before_failure: usize,
+    fails_by_none: bool,
+    failures: u64,
+    calls_after: u64,
+    ghost within: { len ≤ ROOM },
+}
+
+impl Taken {
+    fn new(each: usize, before_failure: usize) -> Self {
+        Taken {
+            room: [0; ROOM],
+            len: 0,
+            each,
+            before_failure,
+            fails_by_none: false,
+            failures: 0,
+            calls_after: 0,
+        }
+    }
+
+    fn bytes(&self) -> &[u8] {
+        &self.room[..self.len]
+    }
+}
+
+impl Sink for Taken {
+    ghost taken = { λ sink. Some (take sink.len sink.room) };
+
+    ghost mark = { λ sink. sink.failures };
+
+    fn write(&mut self, bytes: &[u8]) -> Result<usize, Failed> {
+        if self.failures != 0 {
+            self.calls_after = self.calls_after.saturating_add(1);
+        }
+        if bytes.is_empty() {
+            return Ok(0);
+        }
+        let most = self.each.min(self.before_failure).min(ROOM - self.len);
+        if most == 0 {
+            self.failures = self.failures.wrapping_add(1);
+            return if self.fails_by_none {
+                Ok(0)
+            } else {
+                Err(Failed)
+            };
+        }
+        let count = bytes.len().min(most);
+        let end = self.len + count;
+        self.room[self.len..end].copy_from_slice(&bytes[..count]);
+        self.len = end;
+        self.before_failure -= count;
+        Ok(count)
+    }
+}
+
+const INPUT: &[u8] = b"code 0213\ncode 020bff02\n";
+
+const TEXT: &[u8] = b"whole 2\nundecodable at=2\n";
+
+/// An input, its verdict text, its cases, the bad ones among them, and the status.
+type Row = (&'static [u8], &'static [u8], u64, u64, u8);
+
+const ROWS: [Row; 6] = [
+    (INPUT, TEXT, 2, 0, 0),
+    (b"code 1213\ncode 020B", b"whole 2\nwhole 2\n", 2, 0, 0),
+    (b" code  0213 \r\n\r\n\n# c\n#\xff\n", b"whole 2\n", 1, 0, 0),
+    (
+        b"   \n #\n\xff\ncode 02\xff13\n",
+        b"bad case\nbad case\nbad case\nbad case\n",
+        4,
+        4,
+        2,
+    ),
+    (
+        b"code 0213\r\ncode 0213\r\r\ncode\r 0213\ncode 0213\r",
+        b"whole 2\nbad case\nbad case\nbad case\n",
+        4,
+        3,
+        2,
+    ),
+    (b"", b"", 0, 0, 0),
+];
+
+/// A run over the input with at most so many bytes a call, and what it wrote.
+fn run_over(alloc: Global, input: &[u8], each: usize) -> (Result<Summary, RunError>, Taken) {
+    let mut reader = Given::new(input, each, usize::MAX);
+    let mut writer = Taken::new(each, usize::MAX);
+    let outcome = run(alloc, &mut reader, &mut writer);
+    (outcome, writer)
+}
+
+/// Asserts that the line is answered by this verdict.
+fn assert_verdict(rt: &impl Abort, alloc: Global, line: &str, verdict: &str) {
+    let (outcome, writer) = run_over(alloc, line.as_bytes(), usize::MAX);
+    let text = writer.bytes().strip_suffix(b"\n").unwrap_or_default();
+    assert_eq!(rt; text, verdict.as_bytes(), "{verdict}");
+    let bad = u64::from(verdict == "bad case");
+    assert_eq!(rt; outcome, Ok(Summary { cases: 1, bad }), "{verdict}");
+}
+
+#[test]
+fn answers_lines(rt: HostRuntime) {
+    for (input, text, cases, bad, wanted) in ROWS {
+        for each in [1, 7, 100000] {
+            let (outcome, writer) = run_over(rt.alloc(), input, each);
+            assert_eq!(rt; writer.bytes(), text);
+            assert_eq!(rt; outcome, Ok(Summary { cases, bad }));
+            assert_eq!(rt; status(&outcome), wanted);
+        }
+    }
+}
+
+#[test]
+fn shows_what_came_of_a_run(rt: HostRuntime) {
+    let summary = Summary { cases: 2, bad: 1 };
+    let text = format!(in rt.alloc();
+        "{summary:?} {:?} {:?} {:?} {Failed:?}",
+        RunError::Read,
+        RunError::Write,
+        RunError::OutOfMemory
+    )
+    .expect(&rt, "memory");
+    assert_eq!(rt;
+        text.as_str(),
+        "Summary { cases: 2, bad: 1 } Read Write OutOfMemory Failed"
+    );
+}
+
+#[test]
+fn a_write_fails(rt: HostRuntime) {
+    for k in 0..25usize {
+        for fails_by_none in [false, true] {
+            let mut reader = Given::new(INPUT, 100, usize::MAX);
+            let mut writer = Taken::new(1, k);
+            writer.fails_by_none = fails_by_none;
+            let outcome = run(rt.alloc(), &mut reader, &mut writer);
+            assert_eq!(rt; outcome, Err(RunError::Write), "after {k}");
+            assert_eq!(rt; status(&outcome), 4);
+            assert_eq!(rt; writer.bytes(), &TEXT[..k], "after {k}");
+            assert_eq!(rt; writer.calls_after, 0, "after {k}");
+        }
+    }
+}
+
+#[test]
+fn a_read_fails(rt: HostRuntime) {
+    for k in 0..25usize {
+        let mut reader = Given::new(INPUT, 3, k);
+        let mut writer = Taken::new(1, usize::MAX);
+        let outcome = run(rt.alloc(), &mut reader, &mut writer);
+        let wanted = match k {
+            0..10 => 0,
+            10..24 => 8,
+            _ => 25,
+        };
+        assert_eq!(rt; outcome, Err(RunError::Read), "after {k}");
+        assert_eq!(rt; status(&outcome), 3);
+        assert_eq!(rt; writer.bytes(), &TEXT[..wanted], "after {k}");
+        assert_eq!(rt; reader.calls_after, 0, "after {k}");
+    }
+}

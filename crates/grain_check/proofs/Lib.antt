@@ -1,3 +1,0 @@
-pub mod Sending
-pub mod VerdictLaws
-pub mod RunLaws
