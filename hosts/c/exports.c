@@ -160,10 +160,12 @@ static void texts_are_written(void) {
 
 static void instructions_are_written(void) {
     static const uint8_t code[] = {0x02, 0x37, 0x01, 0x00, 0x02, 0x03, 0x00, 0x01, 0xff, 0xff};
-    uint8_t text[64] = {0}, short_room[15] = {77};
+    uint8_t text[64], short_room[15] = {77};
+    for (size_t i = 0; i < sizeof text; i++)
+        text[i] = 'M';
     size_t size = 77;
     CHECK(grain_instruction_text(code, sizeof code, 1, text, sizeof text, &size) == GRAIN_WRITTEN && size == 20);
-    CHECK(begins(text, "CALL_NAMED_REF 1 2 3M"));
+    CHECK(begins(text, "CALL_NAMED_REF 1 2 3M")); /* what stands behind the text stays */
     CHECK(grain_instruction_text(code, sizeof code, 0, text, sizeof text, &size) == GRAIN_WRITTEN && size == 4);
     CHECK(begins(text, "UNIT"));
     CHECK(grain_instruction_text(code, sizeof code, 7, short_room, sizeof short_room, &size) == GRAIN_SHORT);
