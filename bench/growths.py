@@ -30,14 +30,14 @@ REFUSED = "a growth of the call was refused"
 BEHIND = "no growth of the call is left"
 PREPARING = {"error: AllocError", "error: AllocFailed { .. }", "error: OutOfMemory"}
 
-# The crates whose tests stand in a crate of their own.
+# The crate that has the tests of each.
 TESTS = {
     "grain_base": "grain_base_tests",
     "grain_bytecode": "grain_bytecode_tests",
     "grain": "grain_tests",
-    "grain_explain": "grain_explain_tests",
+    "grain_explain": "grain_tests",
     "grain_machine": "grain_machine_tests",
-    "grain_cases": "grain_cases_tests",
+    "grain_cases": "grain_tests",
 }
 
 # The call of each test.
@@ -124,14 +124,14 @@ def kind_of(lines):
     return "third"
 
 
-def run(crate, number):
+def run(tests, number):
     """How each test ended in the run in which that growth is refused."""
     words = ["rt", "try", "--test", "--fail-alloc", str(number)]
-    folder = os.path.join(TOP, "crates", TESTS.get(crate, crate))
+    folder = os.path.join(TOP, "crates", tests)
     ran = subprocess.run(words, cwd=folder, capture_output=True, text=True)
     ends = ends_of(ran.stdout + ran.stderr)
     if not ends:
-        sys.exit(f"{crate}: no test of growths ran\n{ran.stdout}{ran.stderr}")
+        sys.exit(f"{tests}: no test of growths ran\n{ran.stdout}{ran.stderr}")
     return ends
 
 
@@ -156,13 +156,13 @@ class Row:
             self.thirds.append((number, lines))
 
 
-def rows_of(crate, jobs, last):
-    """The row of each test of the crate."""
+def rows_of(tests, jobs, last):
+    """The row of each test of growths in that crate of tests."""
     rows = {}
     with ThreadPoolExecutor(jobs) as pool:
         for first in range(1, last + 1, jobs):
             numbers = range(first, first + jobs)
-            for number, ends in zip(numbers, pool.map(lambda n: run(crate, n), numbers)):
+            for number, ends in zip(numbers, pool.map(lambda n: run(tests, n), numbers)):
                 for name, lines in ends.items():
                     rows.setdefault(name, Row()).add(number, lines)
             if all(row.ended for row in rows.values()):
@@ -179,11 +179,16 @@ def main():
     good = True
     print("| Crate | Call | Growths | Want of memory | Undisturbed | Third answers |")
     print("|---|---|---|---|---|---|", flush=True)
+    known = {}
     for crate in [given.crate] if given.crate else CALLS:
-        rows = rows_of(crate, given.jobs, given.last)
-        for name in sorted(CALLS[crate].keys() ^ rows.keys()):
-            print(f"{crate}: a test or a call is missing: {name}", file=sys.stderr)
-            good = False
+        tests = TESTS[crate]
+        if tests not in known:
+            known[tests] = rows_of(tests, given.jobs, given.last)
+            called = {name for it, calls in CALLS.items() if TESTS[it] == tests for name in calls}
+            for name in sorted(called ^ known[tests].keys()):
+                print(f"{tests}: a test or a call is missing: {name}", file=sys.stderr)
+                good = False
+        rows = known[tests]
         for name, call in CALLS[crate].items():
             row = rows.get(name, Row())
             counts = [row.kinds.count(kind) for kind in ("refused", "undisturbed", "third")]

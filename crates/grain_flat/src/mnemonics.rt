@@ -9,7 +9,7 @@ pub(crate) fn mnemonic(op: &Op) -> &'static str
     ensures name { result.now ≡ mnemonic op.now }
     ensures short { length result.now ≤ 20 }
 {
-    match op {
+    match *op {
         Op::Const(_) => "LOAD_CONST",
         Op::Unit => "UNIT",
         Op::Bool(false) => "FALSE",

@@ -74,36 +74,36 @@ pub fn refusal_text(error: &VerifyError) -> Line
     requires { IsToldRefusal error.now }
     ensures { result.items ≡ verify_error_text error.now }
 {
-    match error {
+    match *error {
         VerifyError::MissingCaps { missing, at, .. } => {
-            let mut line = one("missing-caps at=", *at as u64);
+            let mut line = one("missing-caps at=", at as u64);
             put(&mut line, b" missing=".as_slice());
             put(&mut line, hex_digits(missing.bits()).as_slice());
             line
         }
-        VerifyError::Undecodable { at } => one("undecodable at=", *at as u64),
+        VerifyError::Undecodable { at } => one("undecodable at=", at as u64),
         VerifyError::TrailingBytes { at, len } => {
-            two("trailing-bytes at=", *at as u64, " len=", *len as u64)
+            two("trailing-bytes at=", at as u64, " len=", len as u64)
         }
         VerifyError::ChunkOutOfRange { entry, end, len } => three(
             "chunk-out-of-range entry=",
-            u64::from(*entry),
+            u64::from(entry),
             " end=",
-            u64::from(*end),
+            u64::from(end),
             " len=",
-            *len as u64,
+            len as u64,
         ),
         VerifyError::JumpOutOfRange { at, target } => two(
             "jump-out-of-range at=",
-            *at as u64,
+            at as u64,
             " target=",
-            u64::from(*target),
+            u64::from(target),
         ),
         VerifyError::JumpIntoAnInstruction { at, target } => two(
             "jump-into-an-instruction at=",
-            *at as u64,
+            at as u64,
             " target=",
-            u64::from(*target),
+            u64::from(target),
         ),
         VerifyError::DepthConflict {
             at,
@@ -111,19 +111,19 @@ pub fn refusal_text(error: &VerifyError) -> Line
             found,
         } => three(
             "depth-conflict at=",
-            *at as u64,
+            at as u64,
             " expected=",
-            *expected as u64,
+            expected as u64,
             " found=",
-            *found as u64,
+            found as u64,
         ),
         VerifyError::Underflow { at, need, have } => three(
             "underflow at=",
-            *at as u64,
+            at as u64,
             " need=",
-            *need as u64,
+            need as u64,
             " have=",
-            *have as u64,
+            have as u64,
         ),
         VerifyError::FallsOffTheEnd => {
             let mut line = ArrayVec::new();
@@ -132,22 +132,22 @@ pub fn refusal_text(error: &VerifyError) -> Line
         }
         VerifyError::StackExceedsDeclared { needed, declared } => two(
             "stack-exceeds-declared needed=",
-            *needed as u64,
+            needed as u64,
             " declared=",
-            u64::from(*declared),
+            u64::from(declared),
         ),
-        VerifyError::IteratorUnderflow { at } => one("iterator-underflow at=", *at as u64),
-        VerifyError::HandlerUnderflow { at } => one("handler-underflow at=", *at as u64),
+        VerifyError::IteratorUnderflow { at } => one("iterator-underflow at=", at as u64),
+        VerifyError::HandlerUnderflow { at } => one("handler-underflow at=", at as u64),
         VerifyError::SinksBelowHandler { at, need, have } => three(
             "sinks-below-handler at=",
-            *at as u64,
+            at as u64,
             " need=",
-            *need as u64,
+            need as u64,
             " have=",
-            *have as u64,
+            have as u64,
         ),
         VerifyError::BadIndex { at, what, index } => {
-            let mut line = two("bad-index at=", *at as u64, " index=", u64::from(*index));
+            let mut line = two("bad-index at=", at as u64, " index=", u64::from(index));
             put(&mut line, b" what=".as_slice());
             put(&mut line, what.as_bytes());
             line

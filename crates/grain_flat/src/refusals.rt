@@ -53,62 +53,62 @@ pub fn told(place: Option<usize>, error: &VerifyError) -> CFault
         first,
         second,
     };
-    match error {
+    match *error {
         VerifyError::MissingCaps {
             artifact,
             missing,
             at,
         } => fault(
             MISSING_CAPS,
-            *at as u64,
+            at as u64,
             u64::from(missing.bits()),
             u64::from(artifact.bits()),
         ),
-        VerifyError::Undecodable { at } => fault(UNDECODABLE, *at as u64, 0, 0),
+        VerifyError::Undecodable { at } => fault(UNDECODABLE, at as u64, 0, 0),
         VerifyError::TrailingBytes { at, len } => {
-            fault(TRAILING_BYTES, *at as u64, *len as u64, 0)
+            fault(TRAILING_BYTES, at as u64, len as u64, 0)
         }
         VerifyError::ChunkOutOfRange { entry, end, len } => fault(
             CHUNK_OUT_OF_RANGE,
-            u64::from(*entry),
-            u64::from(*end),
-            *len as u64,
+            u64::from(entry),
+            u64::from(end),
+            len as u64,
         ),
         VerifyError::JumpOutOfRange { at, target } => {
-            fault(JUMP_OUT_OF_RANGE, *at as u64, u64::from(*target), 0)
+            fault(JUMP_OUT_OF_RANGE, at as u64, u64::from(target), 0)
         }
         VerifyError::JumpIntoAnInstruction { at, target } => {
-            fault(JUMP_INTO_AN_INSTRUCTION, *at as u64, u64::from(*target), 0)
+            fault(JUMP_INTO_AN_INSTRUCTION, at as u64, u64::from(target), 0)
         }
         VerifyError::DepthConflict {
             at,
             expected,
             found,
-        } => fault(DEPTH_CONFLICT, *at as u64, *expected as u64, *found as u64),
+        } => fault(DEPTH_CONFLICT, at as u64, expected as u64, found as u64),
         VerifyError::Underflow { at, need, have } => {
-            fault(UNDERFLOW, *at as u64, *need as u64, *have as u64)
+            fault(UNDERFLOW, at as u64, need as u64, have as u64)
         }
         VerifyError::FallsOffTheEnd => fault(FALLS_OFF_THE_END, 0, 0, 0),
         VerifyError::StackExceedsDeclared { needed, declared } => {
             fault(
                 STACK_EXCEEDS_DECLARED,
                 0,
-                *needed as u64,
-                u64::from(*declared),
+                needed as u64,
+                u64::from(declared),
             )
         }
-        VerifyError::IteratorUnderflow { at } => fault(ITERATOR_UNDERFLOW, *at as u64, 0, 0),
-        VerifyError::HandlerUnderflow { at } => fault(HANDLER_UNDERFLOW, *at as u64, 0, 0),
+        VerifyError::IteratorUnderflow { at } => fault(ITERATOR_UNDERFLOW, at as u64, 0, 0),
+        VerifyError::HandlerUnderflow { at } => fault(HANDLER_UNDERFLOW, at as u64, 0, 0),
         VerifyError::SinksBelowHandler { at, need, have } => fault(
             SINKS_BELOW_HANDLER,
-            *at as u64,
-            *need as u64,
-            *have as u64,
+            at as u64,
+            need as u64,
+            have as u64,
         ),
         VerifyError::BadIndex { at, what, index } => fault(
             BAD_INDEX,
-            *at as u64,
-            u64::from(*index),
+            at as u64,
+            u64::from(index),
             u64::from(word_kind(what)),
         ),
         VerifyError::OutOfMemory => fault(NOTHING, 0, 0, 0),

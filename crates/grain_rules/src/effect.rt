@@ -42,7 +42,7 @@ impl Effect {
         ensures flow { flow_view result.flow ≡ flow_of op.now }
         ensures quiet { result.quiet ≡ is_quiet op.now }
     {
-        match op {
+        match *op {
             Op::Unit | Op::Bool(_) => Effect::taking(0, 1).quietly(),
             Op::Const(_)
             | Op::LoadLocal(_)
@@ -50,7 +50,7 @@ impl Effect {
             | Op::InterpolateStart
             | Op::LoadShared(_)
             | Op::LoadSharedNamed(_) => Effect::taking(0, 1),
-            Op::LoadNamed(name) => Effect::taking(0, 1).asking(Asks::Name(*name)),
+            Op::LoadNamed(name) => Effect::taking(0, 1).asking(Asks::Name(name)),
             Op::MakeClosure(_) => Effect::taking(0, 1).asking(Asks::These(Caps::FN_PTR)),
             Op::LoadThis | Op::LoadThisShared => {
                 Effect::taking(0, 1).asking(Asks::These(Caps::THIS))
@@ -65,11 +65,11 @@ impl Effect {
             Op::AssignThis { .. } => Effect::taking(1, 0).asking(Asks::These(Caps::THIS)),
             Op::Import { .. } => Effect::taking(1, 0).asking(Asks::These(Caps::IMPORT)),
             Op::JumpIfTrue { target } | Op::JumpIfFalse { target } => {
-                Effect::taking(1, 0).flowing(Flow::Branches(*target))
+                Effect::taking(1, 0).flowing(Flow::Branches(target))
             }
             // These look at the top of the operand stack and leave it there.
-            Op::SkipIfNotUnit { target } => Effect::keeping(1, 0).flowing(Flow::Branches(*target)),
-            Op::Switch(index) => Effect::keeping(1, 0).flowing(Flow::Switches(*index)),
+            Op::SkipIfNotUnit { target } => Effect::keeping(1, 0).flowing(Flow::Branches(target)),
+            Op::Switch(index) => Effect::keeping(1, 0).flowing(Flow::Switches(index)),
             Op::Throw => Effect::taking(1, 0).flowing(Flow::Ends),
             Op::IterInit => Effect::taking(1, 0).flowing(Flow::BeginsIterator),
             Op::InterpolateEnd | Op::CheckSize { .. } => Effect::taking(1, 1),
@@ -83,40 +83,40 @@ impl Effect {
                 argc,
                 receiver: Receiver::Local(_),
                 ..
-            } => Effect::taking(u32::from(*argc).saturating_sub(1), 1).asking(Asks::Name(*name)),
+            } => Effect::taking(u32::from(argc).saturating_sub(1), 1).asking(Asks::Name(name)),
             Op::CallRef {
                 name,
                 argc,
                 receiver: Receiver::This,
                 ..
-            } => Effect::taking(u32::from(*argc), 1).asking(Asks::NameOnThis(*name)),
+            } => Effect::taking(u32::from(argc), 1).asking(Asks::NameOnThis(name)),
             Op::Call { name, argc, .. }
             | Op::CallRef {
                 name,
                 argc,
                 receiver: Receiver::Named(_),
                 ..
-            } => Effect::taking(u32::from(*argc), 1).asking(Asks::Name(*name)),
+            } => Effect::taking(u32::from(argc), 1).asking(Asks::Name(name)),
             Op::Chain(index) => {
-                Effect::taking(consumed_at(chains, *index), 1).asking(Asks::Chain(*index))
+                Effect::taking(consumed_at(chains, index), 1).asking(Asks::Chain(index))
             }
             Op::MakeArray(len) => {
-                Effect::taking(u32::from(*len), 1).asking(Asks::These(Caps::ARRAY))
+                Effect::taking(u32::from(len), 1).asking(Asks::These(Caps::ARRAY))
             }
             // The keys and values of the entries, and the literal that they go into.
             Op::MakeMap(len) => {
-                Effect::taking(2 * u32::from(*len) + 1, 1).asking(Asks::These(Caps::MAP))
+                Effect::taking(2 * u32::from(len) + 1, 1).asking(Asks::These(Caps::MAP))
             }
             Op::Curry(argc) => {
                 let caps = Caps::FN_PTR.union(Caps::CURRYING);
-                Effect::taking(u32::from(*argc) + 1, 1).asking(Asks::These(caps))
+                Effect::taking(u32::from(argc) + 1, 1).asking(Asks::These(caps))
             }
             // The arguments, and the pointer below them.
             Op::CallFnPtr { argc, .. } => {
-                Effect::taking(u32::from(*argc) + 1, 1).asking(Asks::These(Caps::FN_PTR))
+                Effect::taking(u32::from(argc) + 1, 1).asking(Asks::These(Caps::FN_PTR))
             }
             Op::Rotate(depth) => {
-                Effect::taking(u32::from(*depth) + 1, u32::from(*depth) + 1).quietly()
+                Effect::taking(u32::from(depth) + 1, u32::from(depth) + 1).quietly()
             }
             Op::Share(_) | Op::ShareNamed(_) => {
                 Effect::taking(0, 0).asking(Asks::These(Caps::SHARING))
@@ -125,15 +125,15 @@ impl Effect {
             Op::ExportLocal { .. } | Op::ExportNamed { .. } => {
                 Effect::taking(0, 0).asking(Asks::These(Caps::EXPORT))
             }
-            Op::Jump(target) => Effect::taking(0, 0).flowing(Flow::Jumps(*target)),
+            Op::Jump(target) => Effect::taking(0, 0).flowing(Flow::Jumps(target)),
             Op::Return => Effect::taking(0, 0).flowing(Flow::Ends).quietly(),
             // The item that it pushes lies on one of its two ways alone.
             Op::IterNext { exit, .. } => {
-                Effect::taking(0, 0).flowing(Flow::AdvancesIterator(*exit))
+                Effect::taking(0, 0).flowing(Flow::AdvancesIterator(exit))
             }
             Op::IterDrop => Effect::taking(0, 0).flowing(Flow::EndsIterator).quietly(),
             Op::PushHandler { target, .. } => {
-                Effect::taking(0, 0).flowing(Flow::PushesHandler(*target))
+                Effect::taking(0, 0).flowing(Flow::PushesHandler(target))
             }
             Op::PopHandler => Effect::taking(0, 0).flowing(Flow::PopsHandler).quietly(),
             Op::UnwindTo(_) => Effect::taking(0, 0).quietly(),

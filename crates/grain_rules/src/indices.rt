@@ -228,18 +228,18 @@ fn check_fields(pools: &Pools<'_>, passed: &mut [u64], op: &Op) -> Result<(), Ba
     ensures passed { ChainsPass pools.now passed.new }
     ensures refused { refused result ≡ first_out (tests_of (alone pools.now) op.now) }
 {
-    match op {
-        Op::Const(constant) => check(pools, Pool::Constants, *constant),
+    match *op {
+        Op::Const(constant) => check(pools, Pool::Constants, constant),
         Op::LoadNamed(name)
         | Op::DeclareLocal { name, .. }
         | Op::ShareNamed(name)
         | Op::LoadSharedNamed(name)
         | Op::MakeClosure(name)
         | Op::ExportLocal { alias: name, .. }
-        | Op::Import { alias: name } => check(pools, Pool::Names, *name),
+        | Op::Import { alias: name } => check(pools, Pool::Names, name),
         Op::ExportNamed { name, alias } => {
-            check(pools, Pool::Names, *name)?;
-            check(pools, Pool::Names, *alias)
+            check(pools, Pool::Names, name)?;
+            check(pools, Pool::Names, alias)
         }
         Op::AssignNamed { name, op }
         | Op::AssignLocal {
@@ -247,27 +247,27 @@ fn check_fields(pools: &Pools<'_>, passed: &mut [u64], op: &Op) -> Result<(), Ba
             op,
             ..
         } => {
-            check(pools, Pool::Names, *name)?;
-            check_some(pools, Pool::OpAssignments, *op)
+            check(pools, Pool::Names, name)?;
+            check_some(pools, Pool::OpAssignments, op)
         }
-        Op::AssignThis { op } => check_some(pools, Pool::OpAssignments, *op),
+        Op::AssignThis { op } => check_some(pools, Pool::OpAssignments, op),
         Op::Call { name, op, .. } => {
-            check(pools, Pool::Names, *name)?;
-            check_some(pools, Pool::Operators, *op)
+            check(pools, Pool::Names, name)?;
+            check_some(pools, Pool::Operators, op)
         }
         Op::CallRef { name, receiver, .. } => {
-            check(pools, Pool::Names, *name)?;
-            check_receiver(pools, *receiver)
+            check(pools, Pool::Names, name)?;
+            check_receiver(pools, receiver)
         }
         Op::CallFnPtr {
             receiver: Some(receiver),
             ..
-        } => check_receiver(pools, *receiver),
-        Op::PushHandler { catch_var, .. } => check_some(pools, Pool::Names, *catch_var),
-        Op::EvalAst { residual, .. } => check(pools, Pool::Fragments, *residual),
-        Op::Chain(chain) => check_chain_at(pools, passed, *chain),
-        Op::Switch(switch) => check(pools, Pool::Switches, *switch),
-        Op::CustomSyntax(site) => check(pools, Pool::SyntaxSites, *site),
+        } => check_receiver(pools, receiver),
+        Op::PushHandler { catch_var, .. } => check_some(pools, Pool::Names, catch_var),
+        Op::EvalAst { residual, .. } => check(pools, Pool::Fragments, residual),
+        Op::Chain(chain) => check_chain_at(pools, passed, chain),
+        Op::Switch(switch) => check(pools, Pool::Switches, switch),
+        Op::CustomSyntax(site) => check(pools, Pool::SyntaxSites, site),
         _ => Ok(()),
     }
 }

@@ -1,7 +1,9 @@
-//! The tests of `grain`, which call it as a host does: a test that changes has no crate proved again but this one.
+//! The tests of `grain`, which call it as a host does, and of `grain_explain` and `grain_cases`: a test that changes has no
+//! crate proved again but this one.
 //!
 //! `host` shows how a host calls the verifier. `changes`, `large` and `many` have what strangers may hand over: code that was
 //! changed on its way, and pools that all instructions name. `growths` has what a call leaves where there is no memory.
+//! `rows` has the tests of what is explained, `run` those of lines and their verdicts.
 #![tactic(auto)]
 
 #[cfg(test)]
@@ -32,6 +34,10 @@ mod meter;
 mod placed;
 #[cfg(test)]
 mod program;
+#[cfg(test)]
+mod rows;
+#[cfg(test)]
+mod run;
 #[cfg(test)]
 mod samples;
 #[cfg(test)]

@@ -1,6 +1,6 @@
 //! The texts of operations.
 ghost use Rattle.std.specs.Prelude.{◌∷◌, [], OnOk, IfErr};
-ghost use Rattle.grain_pools.specs.LookedUp.{FindsAll, NamesMissing, LooksUp, assign_op_at_sought, assigned_sought, name};
+ghost use Rattle.grain_pools.specs.LookedUp.{FindsAll, NamesMissing, LooksUp, assign_op_at_sought, assigned_sought, constant, name};
 ghost use Rattle.grain_code.specs.OperationTexts.{called_sought, op_sought};
 
 use crate::op::Op;
@@ -37,18 +37,14 @@ impl Op {
 fn write_op<L: Lookups>(out: &mut String, lookups: &L, op: &Op) -> Result<(), DisassembleError>
     ensures { LooksUp (L.pools lookups.now) (op_sought op.now) result }
 {
-    match op {
-        Op::Const(index) => {
-            let value = find_constant(lookups, *index)?;
-            write!(out, "{op:?} = {value}")?;
-            Ok(())
-        }
+    match *op {
+        Op::Const(index) => write_constant(out, lookups, op, index),
         Op::LoadNamed(name)
         | Op::ShareNamed(name)
         | Op::LoadSharedNamed(name)
         | Op::MakeClosure(name)
         | Op::CallRef { name, .. }
-        | Op::Import { alias: name } => write_named(out, lookups, op, *name),
+        | Op::Import { alias: name } => write_named(out, lookups, op, name),
         Op::AssignNamed {
             name,
             op: assign_op,
@@ -58,51 +54,50 @@ fn write_op<L: Lookups>(out: &mut String, lookups: &L, op: &Op) -> Result<(), Di
             op: assign_op,
             ..
         } => {
-            write_named(out, lookups, op, *name)?;
-            write_assigned(out, lookups, *assign_op)
+            write_named(out, lookups, op, name)?;
+            write_assigned(out, lookups, assign_op)
         }
         Op::DeclareLocal {
             name,
             is_const,
             is_global,
-        } => {
-            let keyword = if *is_const { "const" } else { "let" };
-            let reach = if *is_global { " (global)" } else { "" };
-            let name = find_name(lookups, *name)?;
-            write!(out, "{op:?} : {keyword} {name}{reach}")?;
-            Ok(())
-        }
+        } => write_declared(out, lookups, op, name, is_const, is_global),
         Op::Call {
             name,
             op: operator,
             ..
         } => {
-            write_named(out, lookups, op, *name)?;
-            write_operator(out, lookups, *operator)
+            write_named(out, lookups, op, name)?;
+            write_operator(out, lookups, operator)
         }
-        Op::Switch(index) => write_switch_at(out, lookups, *index),
-        Op::AssignThis { op: Some(index) } => write_assigned_this(out, lookups, op, *index),
-        Op::Chain(index) => write_chain_at(out, lookups, *index),
-        Op::ExportLocal { alias, .. } => {
-            let alias = find_name(lookups, *alias)?;
-            write!(out, "{op:?} : as {alias}")?;
-            Ok(())
-        }
-        Op::ExportNamed { name, alias } => {
-            let name = find_name(lookups, *name)?;
-            let alias = find_name(lookups, *alias)?;
-            write!(out, "{op:?} : {name} as {alias}")?;
-            Ok(())
-        }
+        Op::Switch(index) => write_switch_at(out, lookups, index),
+        Op::AssignThis { op: Some(index) } => write_assigned_this(out, lookups, op, index),
+        Op::Chain(index) => write_chain_at(out, lookups, index),
+        Op::ExportLocal { alias, .. } => write_exported(out, lookups, op, alias),
+        Op::ExportNamed { name, alias } => write_exported_name(out, lookups, op, name, alias),
         Op::CustomSyntax(index) => Err(DisassembleError::Missing {
             what: "custom syntax site",
-            index: *index,
+            index,
         }),
         _ => {
             write!(out, "{op:?}")?;
             Ok(())
         }
     }
+}
+
+// Writes the operation and the constant at the index.
+fn write_constant<L: Lookups>(
+    out: &mut String,
+    lookups: &L,
+    op: &Op,
+    index: u32,
+) -> Result<(), DisassembleError>
+    ensures { LooksUp (L.pools lookups.now) (λ _. constant index ∷ []) result }
+{
+    let value = find_constant(lookups, index)?;
+    write!(out, "{op:?} = {value}")?;
+    Ok(())
 }
 
 // Writes the operation and the name at the index.
@@ -116,6 +111,54 @@ fn write_named<L: Lookups>(
 {
     let name = find_name(lookups, index)?;
     write!(out, "{op:?} : {name}")?;
+    Ok(())
+}
+
+// Writes the operation, how it declares a variable, and the variable's name at the index.
+fn write_declared<L: Lookups>(
+    out: &mut String,
+    lookups: &L,
+    op: &Op,
+    index: u32,
+    is_const: bool,
+    is_global: bool,
+) -> Result<(), DisassembleError>
+    ensures { LooksUp (L.pools lookups.now) (λ _. name index ∷ []) result }
+{
+    let keyword = if is_const { "const" } else { "let" };
+    let reach = if is_global { " (global)" } else { "" };
+    let name = find_name(lookups, index)?;
+    write!(out, "{op:?} : {keyword} {name}{reach}")?;
+    Ok(())
+}
+
+// Writes the operation and the name at the index under which it exports.
+fn write_exported<L: Lookups>(
+    out: &mut String,
+    lookups: &L,
+    op: &Op,
+    index: u32,
+) -> Result<(), DisassembleError>
+    ensures { LooksUp (L.pools lookups.now) (λ _. name index ∷ []) result }
+{
+    let alias = find_name(lookups, index)?;
+    write!(out, "{op:?} : as {alias}")?;
+    Ok(())
+}
+
+// Writes the operation, the name of what it exports, and the name under which it does.
+fn write_exported_name<L: Lookups>(
+    out: &mut String,
+    lookups: &L,
+    op: &Op,
+    index: u32,
+    alias: u32,
+) -> Result<(), DisassembleError>
+    ensures { LooksUp (L.pools lookups.now) (λ _. name index ∷ name alias ∷ []) result }
+{
+    let name = find_name(lookups, index)?;
+    let alias = find_name(lookups, alias)?;
+    write!(out, "{op:?} : {name} as {alias}")?;
     Ok(())
 }
 

@@ -1,6 +1,7 @@
 //! Each growth of a run refused in turn, by `bench/growths.py`.
 
 use super::*;
+use crate::samples::told;
 use std::test::Fail;
 
 /// Runs over the input, and again where a growth is refused. The first run has written the verdicts of a beginning of the
@@ -18,18 +19,6 @@ fn was_refused(rt: &impl Abort, alloc: Global, input: &[u8], text: &[u8], cases:
     assert_eq!(rt; outcome, Ok(Summary { cases, bad: 0 }));
     assert_eq!(rt; writer.bytes(), text);
     refused
-}
-
-/// How a test of growths ends: it says which growth failed, one of the call's or the one that is asked for here, behind
-/// them. Where none fails, it is `Ok`.
-fn told(alloc: Global, refused: bool) -> Result<(), Fail> {
-    if refused {
-        return Err(Fail::new("a growth of the call was refused"));
-    }
-    let mut behind = Vec::new(alloc);
-    behind
-        .push(refused)
-        .map_err(|_| Fail::new("no growth of the call is left"))
 }
 
 #[test]

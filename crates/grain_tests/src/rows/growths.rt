@@ -1,10 +1,8 @@
 //! Each growth refused in turn, by `bench/growths.py`. A call answers want of memory by its own name, and made again it answers
 //! as if nothing had been refused.
 
-use crate::samples::{no_pools, told};
-use grain_base::{Caps, Flags};
-use grain_bytecode::{Chunk, Strings};
-use grain_explain::{ExplainError, ExplainedChunk, explain_chunks};
+use crate::samples::{pools, told};
+use grain::{Caps, Chunk, ExplainError, ExplainedChunk, Flags, Strings, explain_chunks};
 use std::alloc::Global;
 use std::test::Fail;
 
@@ -15,7 +13,7 @@ fn explained(
     code: &[u8],
     end: u32,
 ) -> Result<Vec<ExplainedChunk>, ExplainError> {
-    let (pools, chunks) = (no_pools(names), [Chunk::new(0, end, 8)]);
+    let (pools, chunks) = (pools(names), [Chunk::new(0, end, 8)]);
     explain_chunks(alloc, Caps::empty(), code, &chunks, &pools)
 }
 

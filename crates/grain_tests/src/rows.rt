@@ -1,11 +1,12 @@
 //! README's loops, and its code with a handler, explained and checked.
-use crate::samples::no_pools;
-use grain_base::{Caps, Flags};
-use grain_bytecode::{Chunk, Strings};
-use grain_explain::{Row, TypingError, check_typing, explain_chunks};
-use grain_rules::VerifyError;
+use crate::samples::pools;
+use grain::{
+    Caps, Chunk, Flags, Row, Strings, TypingError, VerifyError, check_typing, explain_chunks,
+};
 use std::alloc::{AllocError, Global};
 use std::test::Fail;
+
+mod growths;
 
 fn row(alloc: Global, at: u32, operands: u32, iterators: u32) -> Row {
     Row {
@@ -35,7 +36,7 @@ const LOOP: [u8; 15] = [2, 29, 30, 13, 0, 0, 0, 11, 12, 2, 0, 0, 0, 2, 19];
 fn a_loop_has_these_rows(rt: HostRuntime) -> Result<(), Fail> {
     let alloc = rt.alloc();
     let names = Strings::new(alloc, &[])?;
-    let pools = no_pools(&names);
+    let pools = pools(&names);
     let chunks = [Chunk::new(0, 15, 8)];
     let explained = explain_chunks(alloc, Caps::empty(), &LOOP, &chunks, &pools)?;
     let first = explained.first().ok_or("no chunk")?;
@@ -51,7 +52,7 @@ fn a_loop_has_these_rows(rt: HostRuntime) -> Result<(), Fail> {
 fn its_rows_are_checked(rt: HostRuntime) -> Result<(), Fail> {
     let alloc = rt.alloc();
     let names = Strings::new(alloc, &[])?;
-    let pools = no_pools(&names);
+    let pools = pools(&names);
     let chunk = Chunk::new(0, 15, 8);
     let mut rows = loop_rows(alloc)?;
     assert_eq!(rt;
@@ -71,7 +72,7 @@ fn its_rows_are_checked(rt: HostRuntime) -> Result<(), Fail> {
 fn a_conflict_has_two_ways(rt: HostRuntime) -> Result<(), Fail> {
     let alloc = rt.alloc();
     let names = Strings::new(alloc, &[])?;
-    let pools = no_pools(&names);
+    let pools = pools(&names);
     let code = [2, 29, 30, 12, 0, 0, 0, 12, 2, 0, 0, 0, 2, 19];
     let chunks = [Chunk::new(0, 14, 8)];
     let explained = explain_chunks(alloc, Caps::empty(), &code, &chunks, &pools)?;
@@ -106,7 +107,7 @@ fn a_conflict_has_two_ways(rt: HostRuntime) -> Result<(), Fail> {
 fn an_instruction_sinks_below_its_handler(rt: HostRuntime) -> Result<(), Fail> {
     let alloc = rt.alloc();
     let names = Strings::new(alloc, &[])?;
-    let pools = no_pools(&names);
+    let pools = pools(&names);
     // `verify 7fff 02230a0000000b122213220b13 0:13:8` of README.
     let code = [2, 35, 10, 0, 0, 0, 11, 18, 34, 19, 34, 11, 19];
     let chunks = [Chunk::new(0, 13, 8)];

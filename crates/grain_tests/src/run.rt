@@ -1,7 +1,7 @@
 //! Runs over bytes, with reads, writes and growths that fail.
 
 ghost use Rattle.std.specs.Prelude.{◌≤◌, Some, take};
-ghost use Rattle.grain_cases_tests.specs.declared.run.TheConstants.{ROOM};
+ghost use Rattle.grain_tests.specs.declared.run.TheConstants.{ROOM};
 
 use grain_cases::{Failed, RunError, Sink, Source, Summary, run, status};
 use std::alloc::Global;
