@@ -28,8 +28,8 @@ pub use grain_bytecode::{
     Field, Fields, Function, Head as InstructionHead, Instruction, Lookups, Names, Op, Pool,
     Positions, Receiver, Root, Starts, Step, StepFlags, Strings, StringsError, StripError, Switch,
     SwitchRange, TableError, TagFlow, TagRow, Tail, assemble, count_instructions, decode,
-    disassemble, names, resolve_switch_targets, site_to_position, sites, tag, tag_row, u16_at,
-    u32_at, width,
+    decode_standing, disassemble, names, resolve_switch_targets, site_to_position, sites, tag,
+    tag_row, u16_at, u32_at, width,
 };
 pub use grain_explain::{
     Base, ExplainError, ExplainedChunk, Refusal as ExplainedRefusal, Row, TypingError,

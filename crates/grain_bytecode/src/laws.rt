@@ -17,7 +17,7 @@ ghost use Rattle.grain_bytecode.specs.Positions.{Arrived};
 ghost use Rattle.grain_bytecode.specs.Qualified.{IsLastCut, last_cut, separator};
 ghost use Rattle.grain_pools.specs.StepBits.{flags_table};
 ghost use Rattle.grain_code.specs.InstructionTable.{Instr, canon};
-ghost use Rattle.grain_code.specs.Split.{Split, IsSplitBoundary, FrontEnds};
+ghost use Rattle.grain_code.specs.Split.{Split, IsSplitBoundary, FrontEnds, StandsAt};
 ghost use Rattle.grain_code.specs.Disassembly.{IsDisassembly};
 ghost use Rattle.grain_code.specs.Assembly.{IsAssembly, CanAssemble, with_indices};
 ghost use Rattle.grain_pools.specs.declared.chain.Step.{Step};
@@ -38,6 +38,12 @@ pub fn spellings_are_unique()
 pub fn no_instruction_begins_another()
     ensures { (bytes other x y : List ℕ) (op op' : Op) → Instr bytes op → Instr other op'
         → bytes ++ x ≡ other ++ y → (bytes ≡ other) × (op ≡ op') }
+{}
+
+/// One instruction stands at an address at most.
+pub fn one_instruction_stands()
+    ensures { (code : List ℕ) (at : ℕ) (op op' : Op) → StandsAt code at op → StandsAt code at op'
+        → op ≡ op' }
 {}
 
 /// Code splits in one way, and its longest front that splits ends in one place.

@@ -14,8 +14,8 @@ mod strings;
 
 pub use grain_code::{
     Chunk, Disassembly, Field, Fields, Function, Head, Instruction, Op, Pool, Receiver, Starts,
-    TagFlow, TagRow, assemble, count_instructions, decode, disassemble, tag, tag_row, u16_at,
-    u32_at, width,
+    TagFlow, TagRow, assemble, count_instructions, decode, decode_standing, disassemble, tag,
+    tag_row, u16_at, u32_at, width,
 };
 pub use grain_pools::{
     AssembleError, AssignOp, Chain, ChainPositions, DisassembleError, Lookups, Root, Step,

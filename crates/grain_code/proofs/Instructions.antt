@@ -57,6 +57,11 @@ stands_there code at w op fits h =
     let wide : w ≡ width_of op = omega (arith, instr_width (take w (drop at code)) op h, length-take w (drop at code), length-drop at code) in
     (subst (λ n. Instr (take n (drop at code)) op) wide h, wide)
 
+-- the tag and the operands at an address are the instruction that stands there
+pub standing_bytes : (code : List ℕ) (at w : ℕ) (op : Op) → 0 < w → at + w ≤ length code → w ≡ width_of op → StandsAt code at op
+    → Instr (get_or code at 0 ∷ take (at + w - (at + 1)) (drop (at + 1) code)) op
+standing_bytes code at w op some fits e h = instr_along _ _ op (ap (λ n. take n (drop at code)) (sym e) ∙ sym (tag_and_operands code at w some fits)) h
+
 -- the first byte of an instruction is its tag
 pub standing_tag : (code : List ℕ) (at : ℕ) (op : Op) → at < length code → StandsAt code at op → get_or code at 0 ≡ (form op).0
 standing_tag code at op inside h =

@@ -125,3 +125,11 @@ none_at code at all inside why op h =
     let wide : tag_width (get_or code at 0) ≡ width_of op = ap tag_width (tag_is code at op inside h) ∙ width_is op in
     let fits = begins_fits (drop at code) op h in
     elim why [ inl none ↦ absurd (omega arith) | inr short ↦ absurd (omega (arith, length-drop at code)) ]
+
+-- an instruction that stands in code ends in it
+pub standing_fits : (code : List ℕ) (at : ℕ) (op : Op) → StandsAt code at op → (0 < width_of op) × (at < length code) × (at + width_of op ≤ length code)
+standing_fits code at op h = let fits = begins_fits (drop at code) op h in let l = length-drop at code in (omega arith, omega arith, omega arith)
+
+-- the width of the tag is that of the instruction that stands there
+pub standing_wide : (code : List ℕ) (at : ℕ) (op : Op) → StandsAt code at op → tag_width (get_or code at 0) ≡ width_of op
+standing_wide code at op h = ap tag_width (tag_is code at op (standing_fits code at op h).1 h) ∙ width_is op

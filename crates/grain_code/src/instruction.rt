@@ -8,7 +8,7 @@ ghost use Rattle.grain_code.specs.declared.op.Op.{Op};
 
 use crate::decoder::op_of;
 use crate::op::Op;
-use crate::tag_widths::width;
+use crate::tag_widths::{standing_width, width};
 
 /// The bytes of an instruction: its tag and those of its fields (docs/FORMAT.md, "Instructions").
 ///
@@ -73,6 +73,25 @@ impl<'a> Instruction<'a> {
     {
         op_of(self.tag, self.fields)
     }
+}
+
+/// The operation that stands at an address where one is known to stand, and the address behind it.
+///
+/// It asks neither whether the address is in the code nor whether its byte is a tag nor whether the fields are there, as
+/// [`Instruction::at`] does. It takes constant time and no memory.
+#[inline(always)]
+#[must_use]
+pub fn decode_standing(code: &[u8], at: usize) -> (Op, usize)
+    requires { (op : Op) × StandsAt code.now at op }
+    ensures stands { StandsAt code.now at result.0 }
+    ensures behind { result.1 ≡ at + width_of result.0 }
+    ensures fits { result.1 ≤ length code.now }
+{
+    let width = standing_width(code, at);
+    let Some(op) = op_of(code[at], &code[at + 1..at + width]) else {
+        unreachable!()
+    };
+    (op, at + width)
 }
 
 /// The instruction at an address and its width, or `None` where none stands.

@@ -27,7 +27,7 @@ pub use code::{count_instructions, decode, u16_at, u32_at};
 pub use disassembly::{Disassembly, disassemble};
 pub use field::{Field, Fields, Pool};
 pub use function::Function;
-pub use instruction::Instruction;
+pub use instruction::{Instruction, decode_standing};
 pub use op::{Op, Receiver};
 pub use starts::Starts;
 pub use tag_table::{TagFlow, TagRow, tag_row};

@@ -59,3 +59,13 @@ pub fn width(code: &[u8], at: usize) -> Option<usize>
     }
     Some(width)
 }
+
+/// How many bytes the instruction takes that stands at an address where one is known to stand.
+#[inline(always)]
+pub(crate) fn standing_width(code: &[u8], at: usize) -> usize
+    requires { (op : Op) × StandsAt code.now at op }
+    ensures width { (op : Op) → StandsAt code.now at op → result ≡ width_of op }
+    ensures fits { (0 < result) × (at + result ≤ length code.now) }
+{
+    tag_row(code[at]).width as usize
+}

@@ -14,28 +14,11 @@ use Rattle.grain_rules.specs.Machine.{Catches, Handler, IsKept, IsKeptRun, IsOnK
 use Rattle.grain.specs.Program.{setting_of}
 use Rattle.grain_rules.specs.Rows.{flow_of, is_quiet, takes}
 use Rattle.grain_rules.specs.Typing.{HasTyping}
-use Rattle.grain_rules.proofs.Law.{kept_run_tied, typing_covers}
-use Rattle.grain_rules.proofs.Quiet.{run_kept}
+use Rattle.grain_rules.proofs.Law.{typing_covers_run}
+use Rattle.grain_rules.proofs.Quiet.{move_from_run}
 use Rattle.grain_machine.specs.Act.{IsForHost}
 use Rattle.grain_machine.specs.Asked.{program_code}
 use Rattle.grain_machine.specs.State.{MakesMove, IsAt, IsUnderWay, IsRunnable, Lands, Runs, State}
-
-move_at_quiet : (code : Code) (chunk : Span) (m n : Machine) → Moves code chunk m n → MovesKeptAtQuiet code chunk m n
-move_at_quiet code chunk m n (inl step) = inl step
-move_at_quiet code chunk m n (inr fault) = inr (fault.0, λ q. fault.1)
-
-run_at_quiet : (code : Code) (chunk : Span) (m : Machine) (earlier : List Machine) → IsKeptRun code chunk m earlier → IsRunKeptAtQuiet code chunk m earlier
-run_at_quiet code chunk m [] h = h
-run_at_quiet code chunk m (before ∷ earlier) h = (move_at_quiet code chunk before m h.0, run_at_quiet code chunk before earlier h.1)
-
-module _ (code : Code) (chunk : Span) (d : ℕ) (typed : HasTyping code chunk d) where
-  -- a move from a kept run whose fault is kept at quiet operations is a move of a kept run
-  pub move_kept : (m n : Machine) → IsOnKeptRun code chunk m → MovesKeptAtQuiet code chunk m n → Moves code chunk m n
-  move_kept m n run move = (run_kept code chunk d typed (m ∷ run.0) n (move, run_at_quiet code chunk m run.0 run.1)).0
-
-  -- no state of a kept run has more operands
-  pub shallow : (m : Machine) → IsOnKeptRun code chunk m → m.operands ≤ d
-  shallow m run = typed.1.shallow m.address (counts m) (typing_covers code chunk d typed.0 typed.1 m.address (counts m) (kept_run_tied code chunk d typed run.0 m run.1).reached)
 
 -- the state with this machine, and room as before
 abbrev pub stood : ℕ → ℕ → ℕ → List Handler → ℕ → State
@@ -79,7 +62,7 @@ goes_back r s x t op behind runs at sounds eh low high ei er lands et =
       lands = lands.lands;
     } in
     let loud : is_quiet op ≡ true → IsKept fault = λ q. absurd (let e : true ≡ false = sym q ∙ sounds in cc) in
-    (move_kept (program_code r.program) r.chunk r.room runs.typed s.machine t.machine at.ready.0 (inr (fault, loud)), et ∙ er)
+    (move_from_run (program_code r.program) r.chunk r.room runs.typed s.machine t.machine at.ready.0 (inr (fault, loud)), et ∙ er)
 
 -- a move leads to a state of a kept run
 pub ready_again : (r : Runs) (s t : State) → IsUnderWay r s → MakesMove r s t → IsUnderWay r t
@@ -93,7 +76,7 @@ way_on r s t way goes = (((s.machine ∷ way.0.0, (goes.0, way.0.1)), let e = go
 pub room_for : (r : Runs) (s t : State) → IsRunnable r → IsUnderWay r s → MakesMove r s t → t.machine.operands ≤ s.room
 room_for r s t runs ready goes =
     let after = ready_again r s t ready goes in
-    let l = shallow (program_code r.program) r.chunk r.room runs.typed t.machine after.0 in
+    let l = (typing_covers_run (program_code r.program) r.chunk r.room runs.typed.0 runs.typed.1 t.machine after.0).1 in
     let h = ready.1 in
     omega arith
 

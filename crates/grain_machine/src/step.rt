@@ -12,7 +12,7 @@ use crate::accepted::Runnable;
 use crate::act::Act;
 use crate::frame::Frame;
 use crate::host::{Host, Request};
-use grain::{Instruction, Op};
+use grain::{Op, decode_standing};
 
 /// How a run ends.
 #[derive(Drop)]
@@ -49,14 +49,7 @@ impl<'a> Runnable<'a> {
         requires { IsUnderWay self.now frame.now }
         ensures { IsAt self.now frame.now result.0 result.1 }
     {
-        let at = frame.at();
-        let Some(instruction) = Instruction::at(self.program.code(), at) else {
-            unreachable!()
-        };
-        let Some(op) = instruction.op() else {
-            unreachable!()
-        };
-        (op, at + instruction.width())
+        decode_standing(self.program.code(), frame.at())
     }
 
     /// What the host is asked to do with an operation where the run is.

@@ -250,3 +250,10 @@ module _ (code : Code) (chunk : Span) (d : ℕ) (typed : HasTyping code chunk d)
   -- counts are reached just where a kept run has them
   pub reached_is_run : (at : ℕ) (c : Counts) → Reached code chunk at c ↔ IsAt code chunk at c
   reached_is_run at c = (reached_on_run at c, λ h. subst (λ (x : Counts). Reached code chunk at x) h.3 (subst (λ (x : ℕ). Reached code chunk x (counts h.0)) h.2 (kept_run_tied h.1.0 h.0 h.1.1).reached))
+
+-- a typing covers each state of a kept run, which has no more operands than the typing's bound
+pub typing_covers_run : (code : Code) (chunk : Span) (d : ℕ) (typing : ℕ → Option Counts) → IsTyping code chunk d typing
+    → (m : Machine) → IsOnKeptRun code chunk m → (typing m.address ≡ Some (counts m)) × (m.operands ≤ d)
+typing_covers_run code chunk d typing h m run =
+    let covered = typing_covers code chunk d typing h m.address (counts m) (kept_run_tied code chunk d (typing, h) run.0 m run.1).reached in
+    (covered, h.shallow m.address (counts m) covered)

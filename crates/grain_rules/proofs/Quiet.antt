@@ -8,7 +8,7 @@ use Rattle.grain_rules.specs.Code.{Code}
 use Rattle.grain_rules.specs.Counts.{Base, Counts, last_base, without_last}
 use Rattle.grain_rules.specs.Flow.{Flow, PopsHandler, PushesHandler}
 use Rattle.grain_rules.specs.FlowFields.{bases_for}
-use Rattle.grain_rules.specs.Machine.{Handler, Machine, base_of, counts, Catches, IsKept, Moves, MovesKeptAtQuiet, IsKeptRun, IsRunKeptAtQuiet}
+use Rattle.grain_rules.specs.Machine.{Handler, Machine, base_of, counts, Catches, IsKept, Moves, MovesKeptAtQuiet, IsKeptRun, IsOnKeptRun, IsRunKeptAtQuiet}
 use Rattle.grain_rules.specs.Setting.{Setting}
 use Rattle.grain_rules.specs.Sinking.{ReachesUpTo, Stays, untouched}
 use Rattle.grain_rules.specs.Rows.{flow_of, is_quiet}
@@ -102,3 +102,7 @@ module _ (code : Code) (chunk : Span) (d : ℕ) (typed : HasTyping code chunk d)
   run_kept (before ∷ earlier) m r =
       let k = run_kept earlier before r.1 in
       (move_kept before m (kept_run_tied code chunk d typed earlier before k).reached r.0, k)
+
+  -- and so is a move from a state of a kept run
+  pub move_from_run : (m n : Machine) → IsOnKeptRun code chunk m → MovesKeptAtQuiet code chunk m n → Moves code chunk m n
+  move_from_run m n run move = move_kept m n (kept_run_tied code chunk d typed run.0 m run.1).reached move

@@ -22,7 +22,7 @@ ghost use Rattle.grain_rules.specs.Effects.{Edge, after_jump};
 ghost use Rattle.grain_rules.specs.Depths.{IsDepthTyping, depths_of};
 ghost use Rattle.grain_rules.specs.Indices.{Indexed, IsWithinPools};
 ghost use Rattle.grain_rules.specs.Machine.{Catches, Finds, IsKept, IsKeptRun, IsOnKeptRun};
-ghost use Rattle.grain_rules.specs.Machine.{IsRunKeptAtQuiet, Machine, counts};
+ghost use Rattle.grain_rules.specs.Machine.{IsRunKeptAtQuiet, Machine, Moves, MovesKeptAtQuiet, counts};
 ghost use Rattle.grain_rules.specs.EdgeSteps.{IsArmed, IsEdgeCatch, IsEdgeStep, armed_counts};
 ghost use Rattle.grain_rules.specs.Setting.{Setting};
 ghost use Rattle.grain_rules.specs.Typing.{HasTyping, IsDeepest, IsInChunk, IsTyping, Passes, Reached};
@@ -39,11 +39,26 @@ pub fn walks_and_runs()
         → (op : Op) × Passes code chunk m.address (counts m) op }
 {}
 
+/// A typing covers each state of a kept run with its very counts, and no state has more operands than the typing's bound.
+pub fn typings_cover_runs()
+    ensures { (code : Code) (chunk : Span) (d : ℕ) (typing : ℕ → Option Counts)
+        → IsTyping code chunk d typing → (m : Machine) → IsOnKeptRun code chunk m
+        → (typing m.address ≡ Some (counts m)) × (m.operands ≤ d) }
+{}
+
 /// In a chunk that has a typing, a run is kept where its faults at quiet operations are.
 pub fn faults_elsewhere_are_kept()
     ensures { (code : Code) (chunk : Span) (d : ℕ) → HasTyping code chunk d
         → (earlier : List Machine) (m : Machine) → IsRunKeptAtQuiet code chunk m earlier
         → IsKeptRun code chunk m earlier }
+{}
+
+/// In a chunk that has a typing, a move from a state of a kept run is one of a kept run where its fault at a quiet operation
+/// is kept.
+pub fn moves_elsewhere_are_kept()
+    ensures { (code : Code) (chunk : Span) (d : ℕ) → HasTyping code chunk d
+        → (m n : Machine) → IsOnKeptRun code chunk m → MovesKeptAtQuiet code chunk m n
+        → Moves code chunk m n }
 {}
 
 /// In a chunk that has a typing, every written edge from a state of a kept run is one step of it, or two: the catch edge

@@ -1,0 +1,98 @@
+//! Why scripts fail, and where.
+ghost use Rattle.std.specs.Prelude.{◌≡◌};
+ghost use Rattle.grain_base.specs.Place.{place_of};
+ghost use Rattle.grain_bytecode.specs.Positions.{place_at};
+ghost use Rattle.grain.specs.Program.{places_of};
+
+use grain::{Dynamic, Position, Program};
+use std::alloc::{AllocError, AllocFailed, Global};
+use std::fmt;
+
+/// Why an operation fails.
+#[derive(Drop)]
+pub enum Why {
+    /// The script threw this value.
+    Thrown(Dynamic),
+    /// No variable has this name, or lies in this slot.
+    NoVariable,
+    /// No function has this name and so many arguments of these types.
+    NoFunction,
+    /// An operand is of another type than the operation takes.
+    WrongType,
+    /// A result doesn't fit 64 bits.
+    Overflow,
+    /// A divisor is zero.
+    DivisionByZero,
+    /// Nothing lies at this index, or has this name.
+    NoPart,
+    /// As many functions are under way as may.
+    TooDeep,
+    /// Memory is wanted that isn't there.
+    OutOfMemory,
+    /// This host doesn't do the operation.
+    Unsupported,
+}
+
+impl From<AllocError> for Why {
+    fn from(_: AllocError) -> Why {
+        Why::OutOfMemory
+    }
+}
+
+impl<T: Drop> From<AllocFailed<T>> for Why {
+    fn from(_: AllocFailed<T>) -> Why {
+        Why::OutOfMemory
+    }
+}
+
+impl fmt::Display for Why {
+    fn fmt<W: fmt::Write>(&self, f: &mut fmt::Formatter<W>) -> fmt::Result {
+        match self {
+            Why::Thrown(value) => write!(f, "Runtime error: {value}"),
+            Why::NoVariable => write!(f, "Variable not found"),
+            Why::NoFunction => write!(f, "Function not found"),
+            Why::WrongType => write!(f, "Data type incorrect"),
+            Why::Overflow => write!(f, "Arithmetic overflow"),
+            Why::DivisionByZero => write!(f, "Division by zero"),
+            Why::NoPart => write!(f, "Index out of bounds"),
+            Why::TooDeep => write!(f, "Stack overflow"),
+            Why::OutOfMemory => write!(f, "Out of memory"),
+            Why::Unsupported => write!(f, "Unsupported operation"),
+        }
+    }
+}
+
+/// A fault of a script.
+#[derive(Drop)]
+pub struct Fault {
+    /// Why it came.
+    pub why: Why,
+    /// The address of the operation that the host was asked for last in the chunk where it came. Where a value is no condition
+    /// or nothing to go over, or is thrown, the host isn't told the address, and that operation stands before.
+    pub at: usize,
+}
+
+impl Fault {
+    /// The position of its address in the source text, by the table of the program that was run.
+    pub fn position(&self, program: &Program) -> Position
+        ensures { place_of result ≡ place_at (places_of program.now) self.now.at }
+    {
+        program.position(self.at)
+    }
+
+    /// What is told of it: why it came, and behind that the line and the column, where the program's positions have them.
+    ///
+    /// # Errors
+    /// There is no memory for the text.
+    pub fn text(&self, alloc: Global, program: &Program) -> Result<String, AllocError> {
+        let why = &self.why;
+        let position = self.position(program);
+        match (position.line(), position.position()) {
+            (Some(line), Some(column)) => {
+                format!(in alloc; "{why} (line {line}, position {column})")
+            }
+            (Some(line), None) => format!(in alloc; "{why} (line {line})"),
+            (None, _) => format!(in alloc; "{why}"),
+        }
+    }
+}

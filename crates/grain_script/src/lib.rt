@@ -1,0 +1,20 @@
+//! A host of `grain_machine` for scripts: values as [`grain::Dynamic`], local and named variables, operators, arrays, maps,
+//! ranges, texts with interpolation, and function pointers.
+//!
+//! What operations do to the stacks is the machine's, and proved there. What they mean for values docs/FORMAT.md leaves open.
+//! Here it is as Rhai's documentation tells it, as far as that goes and as [`Script`] says; all else is this host's own. Proved of
+//! it is that each call is safe and ends, and that the fault of an operation has the operation's address.
+#![tactic(auto)]
+
+mod copies;
+mod fault;
+mod operators;
+mod parts;
+mod pointers;
+mod script;
+mod variables;
+mod walk;
+
+pub use fault::{Fault, Why};
+pub use script::Script;
+pub use walk::Walk;
