@@ -1,5 +1,5 @@
 -- A verdict on what was made is one on all with the flat form.
-use Rattle.std.proofs.Common.{◌≡◌, ℕ, List, [], length, map, Result, Ok, Err, Vec, inr, refl, ap, ◌∙◌}
+use Rattle.std.proofs.Common.{◌≡◌, ℕ, List, [], length, map, Result, Ok, Err, Vec, inr, refl, ap, ◌∙◌, arith}
 use Rattle.std.specs.List.{All}
 use Rattle.std.specs.declared.alloc.Global.{Global}
 use Rattle.std.proofs.lemmas.Slice.Zip.{AllZip-long}
@@ -107,5 +107,12 @@ pub flat_metered : (caps : ℕ) (bytes : List ℕ) (chunks : List Span) (p : CPo
     → (old new : ℕ) (result : Result (Vec ℕ Global) Stop) → IsMeteredOf (judged caps bytes chunks p functions cs ts) old new result → IsFlatMetered caps bytes chunks p old new result
 flat_metered caps bytes chunks p cs ts functions made some old new (Ok v) h = record {
   accepted = (h.accepted.0, λ rest. reached_there caps bytes chunks p cs ts functions made some rest [] (no_constants caps) h.accepted.0 h.accepted.1, h.accepted.2);
+  refused = tt;
 }
-flat_metered caps bytes chunks p cs ts functions made some old new (Err stop) h = record { accepted = tt }
+flat_metered caps bytes chunks p cs ts functions made some old new (Err stop) h =
+    let within = h.refused.1 in
+    record { accepted = tt; refused = (h.refused.0, record { starts = within.starts; nowhere = within.nowhere }, h.refused.2) }
+
+-- where nothing is walked, the meter stays
+pub stays_metered : (caps : ℕ) (bytes : List ℕ) (chunks : List Span) (p : CPools) (meter : ℕ) (stop : Stop) → IsFlatMetered caps bytes chunks p meter meter (Err stop)
+stays_metered caps bytes chunks p meter stop = record { accepted = tt; refused = (0, record { starts = λ starts split. omega arith; nowhere = λ none. refl }, omega arith) }
