@@ -1,5 +1,5 @@
 -- A verdict on what was made is one on all with the flat form.
-use Rattle.std.proofs.Common.{◌≡◌, ℕ, List, [], length, map, Result, Ok, Err, Vec, inr, refl, ap, ◌∙◌, arith}
+use Rattle.std.proofs.Common.{◌≡◌, ℕ, List, [], length, map, Result, Ok, Err, Vec, inr, refl, ap, ◌∙◌}
 use Rattle.std.specs.List.{All}
 use Rattle.std.specs.declared.alloc.Global.{Global}
 use Rattle.std.proofs.lemmas.Slice.Zip.{AllZip-long}
@@ -112,7 +112,3 @@ flat_metered caps bytes chunks p cs ts functions made some old new (Ok v) h = re
 flat_metered caps bytes chunks p cs ts functions made some old new (Err stop) h =
     let within = h.refused.1 in
     record { accepted = tt; refused = (h.refused.0, record { starts = within.starts; nowhere = within.nowhere }, h.refused.2) }
-
--- where nothing is walked, the meter stays
-pub stays_metered : (caps : ℕ) (bytes : List ℕ) (chunks : List Span) (p : CPools) (meter : ℕ) (stop : Stop) → IsFlatMetered caps bytes chunks p meter meter (Err stop)
-stays_metered caps bytes chunks p meter stop = record { accepted = tt; refused = (0, record { starts = λ starts split. omega arith; nowhere = λ none. refl }, omega arith) }

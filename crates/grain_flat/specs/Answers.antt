@@ -2,7 +2,7 @@
 use Rattle.std.specs.Prelude.{◌≡◌, ◌≢◌, ◌⊎◌, ⊤, ℕ, ◌<◌, ◌≤◌, ◌^◌, List, Option, Some, None, codes, sum_by, if◌then◌else◌}
 use Rattle.std.specs.List.{All}
 use Rattle.std.specs.Str.{bytes_eq}
-use Rattle.grain.specs.Accepted.{AreDeepest, AreSafe, AreTyped, Input, IsAccepted}
+use Rattle.grain.specs.Accepted.{AreDeepest, AreSafe, AreTyped, IsAccepted}
 use Rattle.grain.specs.Flaw.{FlawAt}
 use Rattle.grain.specs.Meter.{AreReached, starts_within}
 use Rattle.grain.specs.Span.{Span}

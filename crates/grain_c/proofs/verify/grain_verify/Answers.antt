@@ -16,5 +16,5 @@ returns-in-Err-Refused-clause-looked_within c is =
     let counted = c.in-Err-Refused.ensures.metered.refused in (
       counted.0,
       counted.1,
-      shows c.new-meter.result c.verdict.new.meter counted.0 c.shown.result c.new-meter.ensures counted.2 c.shown.ensures,
+      shows c.new-meter.result c.verdict.new.meter counted.0 c.shown-in-Err-Refused.result c.new-meter.ensures counted.2 c.shown-in-Err-Refused.ensures,
     )
