@@ -77,14 +77,14 @@ static void verifies(const uint8_t *code, size_t code_len, const grain_chunk *ch
     CHECK(is_told(&fault, 77, 77, 77, 77, 77));
 }
 
-/* Why it is refused. */
+/* Why it is refused, after so many places were visited. */
 static grain_fault refused(uint16_t caps, const uint8_t *code, size_t code_len, const grain_chunk *chunks, size_t many,
-                           const grain_pools *given) {
+                           const grain_pools *given, uint64_t places) {
     uint16_t numbers[] = {77, 78, 79};
     grain_fault fault = unwritten;
     uint64_t looked = 77;
     CHECK(grain_verify(caps, code, code_len, chunks, many, given, numbers, LENGTH(numbers), &fault, &looked) == GRAIN_REFUSED);
-    CHECK(numbers[0] == 77 && numbers[1] == 78 && numbers[2] == 79 && looked == 77);
+    CHECK(numbers[0] == 77 && numbers[1] == 78 && numbers[2] == 79 && looked == places);
     return fault;
 }
 
@@ -92,30 +92,30 @@ static void refusals_are_told(void) {
     static const uint8_t code[] = {0x02, 0x13, 0x0b, 0x13};
     static const grain_chunk chunks[] = {{0, 2, 1}, {0, 2, 1}, {2, 4, 1}};
     grain_pools given = nothing();
-    grain_fault fault = refused(ALL, code, sizeof code, chunks, 3, &given);
+    grain_fault fault = refused(ALL, code, sizeof code, chunks, 3, &given, 5);
     CHECK(is_told(&fault, GRAIN_FAULT_UNDERFLOW, 2, 2, 1, 0));
 
     given = pools();
     given.names_len = 0;
     given.starts_len = 1;
-    fault = refused(ALL, on_chain, sizeof on_chain, whole_chain, 1, &given);
+    fault = refused(ALL, on_chain, sizeof on_chain, whole_chain, 1, &given, 0);
     CHECK(is_told(&fault, GRAIN_FAULT_BAD_INDEX, GRAIN_NO_CHUNK, 1, 0, GRAIN_KIND_NAME));
 
     given = pools();
-    fault = refused(0, on_chain, sizeof on_chain, whole_chain, 1, &given);
+    fault = refused(0, on_chain, sizeof on_chain, whole_chain, 1, &given, 2);
     CHECK(is_told(&fault, GRAIN_FAULT_MISSING_CAPS, 0, 1, 0x200, 0));
 
     static const grain_constant asking[] = {{1, 2}};
     given = nothing();
     given.constants = asking;
     given.constants_len = 1;
-    fault = refused(4, code, 2, chunks, 1, &given);
+    fault = refused(4, code, 2, chunks, 1, &given, 0);
     CHECK(is_told(&fault, GRAIN_FAULT_MISSING_CAPS, GRAIN_NO_CHUNK, 0, 2, 4));
 
     static const grain_step past_the_chain[] = {{.kind = GRAIN_STEP_INDEX, .operand = 1}};
     given = pools();
     given.steps = past_the_chain;
-    fault = refused(ALL, on_chain, sizeof on_chain, whole_chain, 1, &given);
+    fault = refused(ALL, on_chain, sizeof on_chain, whole_chain, 1, &given, 0);
     CHECK(fault.kind == GRAIN_FAULT_BAD_INDEX && fault.at == 1 && fault.first == 1);
 }
 
@@ -129,7 +129,7 @@ static void tightens(uint16_t declared) {
     if (declared >= 2) {
         CHECK(answer == GRAIN_ACCEPTED && chunk.max_stack == 2 && fault.kind == 77 && looked == 6);
     } else {
-        CHECK(answer == GRAIN_REFUSED && chunk.max_stack == declared && looked == 77);
+        CHECK(answer == GRAIN_REFUSED && chunk.max_stack == declared && looked == 6);
         CHECK(fault.kind == GRAIN_FAULT_STACK_EXCEEDS_DECLARED && fault.first == 2);
     }
 }

@@ -78,7 +78,7 @@ static long verify(const grain_chunk *chunks, size_t many) {
     for (size_t i = answer == GRAIN_ACCEPTED ? many : 0; i < LENGTH(numbers); i++)
         if (numbers[i] != 777)
             return -1;
-    if ((answer == GRAIN_REFUSED) == is_same(&fault, 777) || (answer == GRAIN_ACCEPTED) == (looked == 777) || live != 0)
+    if ((answer == GRAIN_REFUSED) == is_same(&fault, 777) || (answer <= GRAIN_REFUSED) == (looked == 777) || live != 0)
         return -1;
     return answer;
 }
@@ -93,7 +93,7 @@ static long tighten(const grain_chunk *chunks, size_t many) {
     uint32_t answer = grain_tighten(0x7fff, code, sizeof code, own, many, &given, &fault, &looked);
     if ((answer != GRAIN_ACCEPTED) != (memcmp(own, chunks, many * sizeof *own) == 0))
         return -1;
-    if ((answer == GRAIN_REFUSED) == is_same(&fault, 777) || (answer == GRAIN_ACCEPTED) == (looked == 777) || live != 0)
+    if ((answer == GRAIN_REFUSED) == is_same(&fault, 777) || (answer <= GRAIN_REFUSED) == (looked == 777) || live != 0)
         return -1;
     return answer;
 }

@@ -333,8 +333,9 @@ GRAIN_ASSERT(sizeof(grain_place) == 8 && offsetof(grain_place, column) == 4, "gr
 
 /* Verifies a program: its code, its chunks, and what it has beside them. GRAIN_ACCEPTED: the number of each chunk is
  * written, the greatest operand count that any run of it reaches, and the other numbers stay; and *looked, how many
- * places the chunks reach, each for itself, which is what their walks have visited. GRAIN_REFUSED: why is written. Else
- * nothing is. That pools are flat is tested first, and then the length of the list for the numbers.
+ * places the chunks reach, each for itself, which is what their walks have visited. GRAIN_REFUSED: why is written; and
+ * *looked, what the walks have visited until then, which is no more than the chunks have instructions, each for itself.
+ * Else nothing is. That pools are flat is tested first, and then the length of the list for the numbers.
  *
  * No run of what is accepted leaves the starts of its chunk's instructions or lacks an operand, an iterator or a handler,
  * and none has more operands than the number. That is said of kept runs, in which a fault that a handler catches finds at
@@ -347,7 +348,7 @@ uint32_t grain_verify(uint16_t caps, const uint8_t *code, size_t code_len, const
 
 /* Verifies a program as grain_verify does, and has each chunk declare its number. GRAIN_ACCEPTED: each max_stack is the
  * chunk's number, with which the program is accepted again, all else of the chunks stays, and *looked is written.
- * GRAIN_REFUSED: why is written. Else nothing is. That pools are flat is tested first. */
+ * GRAIN_REFUSED: why is written, and *looked. Else nothing is. That pools are flat is tested first. */
 uint32_t grain_tighten(uint16_t caps, const uint8_t *code, size_t code_len, grain_chunk *chunks, size_t chunks_len,
                        const grain_pools *pools, grain_fault *fault, uint64_t *looked);
 

@@ -1,7 +1,7 @@
 //! Chunks that declare their numbers.
 ghost use Rattle.std.specs.Prelude.{◌≡◌, ◌≢◌, ◌-◌, ◌^◌, ◌≤◌, ◌↔◌, ℕ, All, Option, min};
 ghost use Rattle.grain.specs.declared.VerifyError.{VerifyError};
-ghost use Rattle.grain_flat.specs.Answers.{Looks, Refuses, told};
+ghost use Rattle.grain_flat.specs.Answers.{Looks, LooksWithin, Refuses, told};
 ghost use Rattle.grain_flat.specs.Asking.{RowPasses};
 ghost use Rattle.grain_flat.specs.Flat.{Pooled};
 ghost use Rattle.grain_flat.specs.Tightening.{Tightens};
@@ -14,9 +14,9 @@ use std::alloc::Global;
 
 /// Verifies a program as `grain_verify` does, and has each chunk declare its number.
 ///
-/// 0 where it is accepted: then each chunk declares its number, and how many instructions were looked at is written. 1 where
-/// it is refused: then why is written. 3 where memory was wanted, as it is only where the constants pass, 4 where no pools
-/// have this flat form, which is tested first.
+/// 0 where it is accepted: then each chunk declares its number. 1 where it is refused: then why is written. In both cases how
+/// many instructions were looked at is written too. 3 where memory was wanted, as it is only where the constants pass, 4
+/// where no pools have this flat form, which is tested first.
 #[unsafe(no_mangle)]
 pub extern "C" fn grain_tighten(
     alloc: Global,
@@ -32,8 +32,10 @@ pub extern "C" fn grain_tighten(
     ensures refused { result ≡ REFUSED → (place : Option ℕ) × (e : VerifyError)
         × (fault.new ≡ told place e) × Refuses caps code.now chunks.old pools.now place e }
 
-    // The meter shows how many places the chunks reach, each for itself.
+    // The meter shows how many places the chunks reach, each for itself, and of what is refused no more than their starts.
     ensures looked { result ≡ ACCEPTED → (n : ℕ) × Looks caps code.now chunks.old pools.now n
+        × (looked.new ≡ min n (2 ^ 64 - 1)) }
+    ensures looked_within { result ≡ REFUSED → (n : ℕ) × LooksWithin code.now chunks.old n
         × (looked.new ≡ min n (2 ^ 64 - 1)) }
 
     // Which of the other answers comes when.
@@ -44,7 +46,7 @@ pub extern "C" fn grain_tighten(
     // What isn't written stays as it was.
     ensures chunks_kept { result ≢ ACCEPTED → chunks.new ≡ chunks.old }
     ensures fault_kept { result ≢ REFUSED → fault.new ≡ fault.old }
-    ensures looked_kept { result ≢ ACCEPTED → looked.new ≡ looked.old }
+    ensures looked_kept { result ≢ ACCEPTED → result ≢ REFUSED → looked.new ≡ looked.old }
 {
     if !is_flat(pools) {
         return NOT_FLAT;
@@ -60,6 +62,7 @@ pub extern "C" fn grain_tighten(
         Err(Stop::OutOfMemory) => OUT_OF_MEMORY,
         Err(Stop::Refused(refusal)) => {
             *fault = told(refusal.place, &refusal.error);
+            *looked = shown(&meter);
             REFUSED
         }
     }

@@ -1,7 +1,7 @@
 //! Verification, over pools in their flat form.
 ghost use Rattle.std.specs.Prelude.{◌≡◌, ◌≢◌, ◌-◌, ◌^◌, ◌<◌, ◌≤◌, ◌↔◌, ◌++◌, ℕ, All, List, Option, drop, length, min};
 ghost use Rattle.grain.specs.declared.VerifyError.{VerifyError};
-ghost use Rattle.grain_flat.specs.Answers.{Accepts, Looks, Refuses, told};
+ghost use Rattle.grain_flat.specs.Answers.{Accepts, Looks, LooksWithin, Refuses, told};
 ghost use Rattle.grain_flat.specs.Asking.{RowPasses};
 ghost use Rattle.grain_flat.specs.Flat.{Pooled};
 
@@ -28,9 +28,9 @@ fn put(room: &mut [u16], numbers: &[u16])
 /// Verifies a program: its code, its chunks, and what it has beside them.
 ///
 /// 0 where it is accepted: then the number of each chunk is written, the greatest operand count that any run of it
-/// reaches, and how many instructions were looked at. 1 where it is refused: then why is written. 2 where there are fewer
-/// numbers than chunks, 3 where memory was wanted, as it is only where the constants pass, 4 where no pools have this flat
-/// form, which is tested first.
+/// reaches. 1 where it is refused: then why is written. In both cases how many instructions were looked at is written too. 2
+/// where there are fewer numbers than chunks, 3 where memory was wanted, as it is only where the constants pass, 4 where no
+/// pools have this flat form, which is tested first.
 #[unsafe(no_mangle)]
 pub extern "C" fn grain_verify(
     alloc: Global,
@@ -50,8 +50,10 @@ pub extern "C" fn grain_verify(
     ensures refused { result ≡ REFUSED → (place : Option ℕ) × (e : VerifyError)
         × (fault.new ≡ told place e) × Refuses caps code.now chunks.now pools.now place e }
 
-    // The meter shows how many places the chunks reach, each for itself.
+    // The meter shows how many places the chunks reach, each for itself, and of what is refused no more than their starts.
     ensures looked { result ≡ ACCEPTED → (n : ℕ) × Looks caps code.now chunks.now pools.now n
+        × (looked.new ≡ min n (2 ^ 64 - 1)) }
+    ensures looked_within { result ≡ REFUSED → (n : ℕ) × LooksWithin code.now chunks.now n
         × (looked.new ≡ min n (2 ^ 64 - 1)) }
 
     // Which of the other answers comes when.
@@ -64,7 +66,7 @@ pub extern "C" fn grain_verify(
     // What isn't written stays as it was.
     ensures numbers_kept { result ≢ ACCEPTED → numbers.new ≡ numbers.old }
     ensures fault_kept { result ≢ REFUSED → fault.new ≡ fault.old }
-    ensures looked_kept { result ≢ ACCEPTED → looked.new ≡ looked.old }
+    ensures looked_kept { result ≢ ACCEPTED → result ≢ REFUSED → looked.new ≡ looked.old }
 {
     if !is_flat(pools) {
         return NOT_FLAT;
@@ -83,6 +85,7 @@ pub extern "C" fn grain_verify(
         Err(Stop::OutOfMemory) => OUT_OF_MEMORY,
         Err(Stop::Refused(refusal)) => {
             *fault = told(refusal.place, &refusal.error);
+            *looked = shown(&meter);
             REFUSED
         }
     }

@@ -1,5 +1,5 @@
 -- Fields as records take as many bytes.
-use Rattle.std.proofs.Common.{◌≡◌, ℕ, ◌+◌, List, [], ◌∷◌, length, get_or, refl, ap, arith}
+use Rattle.std.proofs.Common.{◌≡◌, ◌+◌, List, [], ◌∷◌, length, get_or, refl, ap, arith}
 use Rattle.std.specs.Prelude.{sum_by}
 use Rattle.grain_bytecode.specs.declared.Field.{Field}
 use Rattle.grain_bytecode.specs.declared.Field.TheVariants.{Index, Slot, Count, Target}

@@ -107,5 +107,8 @@ pub flat_metered : (caps : ℕ) (bytes : List ℕ) (chunks : List Span) (p : CPo
     → (old new : ℕ) (result : Result (Vec ℕ Global) Stop) → IsMeteredOf (judged caps bytes chunks p functions cs ts) old new result → IsFlatMetered caps bytes chunks p old new result
 flat_metered caps bytes chunks p cs ts functions made some old new (Ok v) h = record {
   accepted = (h.accepted.0, λ rest. reached_there caps bytes chunks p cs ts functions made some rest [] (no_constants caps) h.accepted.0 h.accepted.1, h.accepted.2);
+  refused = tt;
 }
-flat_metered caps bytes chunks p cs ts functions made some old new (Err stop) h = record { accepted = tt }
+flat_metered caps bytes chunks p cs ts functions made some old new (Err stop) h =
+    let within = h.refused.1 in
+    record { accepted = tt; refused = (h.refused.0, record { starts = within.starts; nowhere = within.nowhere }, h.refused.2) }

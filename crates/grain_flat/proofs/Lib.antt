@@ -1,5 +1,6 @@
 mod Alike
 mod AlikeFlaws
+mod AsciiNames
 mod CaseRows
 mod ChainRows
 mod FieldSizes

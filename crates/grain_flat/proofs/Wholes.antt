@@ -1,5 +1,5 @@
 -- What is said of the pools that were made holds of all that has their flat form.
-use Rattle.std.proofs.Common.{◌≡◌, ℕ, ◌<◌, inl, inr, List, [], ◌∷◌, Option, Some, None, get_or, length, map, refl, subst, sym, ap, ◌∙◌, arith}
+use Rattle.std.proofs.Common.{◌≡◌, ℕ, ◌<◌, inl, List, [], ◌∷◌, Option, Some, None, get_or, length, map, refl, subst, sym, ap, ◌∙◌, arith}
 use Rattle.std.specs.List.{All, AllZip}
 use Rattle.std.proofs.lemmas.List.{get_or-map, length-map}
 use Rattle.grain.specs.Accepted.{AllowsConst, AreIndexed, AreDeepest, AreSafe, AreTyped, ChunkPasses, CodePasses, ConstantPasses, FunctionsPass, Input, IsAccepted, IsSafe}

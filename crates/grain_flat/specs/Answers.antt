@@ -1,11 +1,12 @@
 -- What `grain_verify` answers: that is the headline again, of all that has a flat form.
-use Rattle.std.specs.Prelude.{◌≡◌, ◌≢◌, ◌⊎◌, ⊤, ℕ, ◌<◌, ◌^◌, List, Option, Some, None, codes, if◌then◌else◌}
+use Rattle.std.specs.Prelude.{◌≡◌, ◌≢◌, ◌⊎◌, ⊤, ℕ, ◌<◌, ◌≤◌, ◌^◌, List, Option, Some, None, codes, sum_by, if◌then◌else◌}
 use Rattle.std.specs.List.{All}
 use Rattle.std.specs.Str.{bytes_eq}
-use Rattle.grain.specs.Accepted.{AreDeepest, AreSafe, AreTyped, Input, IsAccepted}
+use Rattle.grain.specs.Accepted.{AreDeepest, AreSafe, AreTyped, IsAccepted}
 use Rattle.grain.specs.Flaw.{FlawAt}
-use Rattle.grain.specs.Meter.{AreReached}
+use Rattle.grain.specs.Meter.{AreReached, starts_within}
 use Rattle.grain.specs.Span.{Span}
+use Rattle.grain.specs.Split.{Split}
 use Rattle.grain.specs.declared.VerifyError.{VerifyError}
 use Rattle.grain.specs.declared.VerifyError.TheVariants as errors
 use Rattle.grain_base.specs.declared.caps.Caps.{Caps}
@@ -30,6 +31,11 @@ pub record Accepts (caps : ℕ) (bytes : List ℕ) (chunks : List Span) (p : CPo
 -- so many places are reached by all chunks, each for itself
 abbrev pub Looks : ℕ → List ℕ → List Span → CPools → ℕ → Type 0
 Looks caps bytes chunks p n = (rest : Rest p) → AreReached (rest_input caps bytes chunks p rest).code chunks n
+
+-- no more than all chunks have starts, each for itself; none where the code isn't whole instructions
+pub record LooksWithin (bytes : List ℕ) (chunks : List Span) (n : ℕ) : Type 0 where
+  pub starts : (starts : List ℕ) → Split bytes starts → n ≤ sum_by (starts_within starts) chunks
+  pub nowhere : ((starts : List ℕ) → Split bytes starts → ⊥) → n ≡ 0
 
 -- what the first row asks that isn't all there
 pub record AsksMissing (caps : ℕ) (p : CPools) (place : Option ℕ) (e : VerifyError) : Type 0 where

@@ -4,12 +4,12 @@ use Rattle.std.specs.declared.alloc.Global.{Global}
 use Rattle.grain.specs.Accepted.{AreDeepest, AreSafe, AreTyped, Input, IsAccepted, input}
 use Rattle.grain.specs.Dispatch.{Arms, arms}
 use Rattle.grain.specs.Flaw.{FlawAt}
-use Rattle.grain.specs.Meter.{AreReached, HasCounted}
+use Rattle.grain.specs.Meter.{AreReached, HasCounted, IsWithinAll}
 use Rattle.grain.specs.Names.{names_in}
 use Rattle.grain.specs.Span.{Span}
 use Rattle.grain_bytecode.specs.declared.Chain.{Chain}
 use Rattle.grain_bytecode.specs.declared.Function.{Function}
-use Rattle.grain_flat.specs.Answers.{Accepts, Looks, Refuses}
+use Rattle.grain_flat.specs.Answers.{Accepts, Looks, LooksWithin, Refuses}
 use Rattle.grain_flat.specs.Flat.{AreChains, AreSwitches, code_with}
 use Rattle.grain_flat.specs.declared.build.Made.{Made}
 use Rattle.grain_flat.specs.declared.judge.Judge.{Judge}
@@ -45,9 +45,10 @@ pub record IsVerdictOf (i : Input) (result : Result (Vec ℕ Global) Stop) : Typ
   pub accepted : IfOk result (λ v. IsAccepted i × AreTyped i v.items × AreDeepest i v.items × AreSafe i v.items)
   pub refused : IfErr result (IsStopOf i)
 
--- the meter counts what accepted chunks reach
+-- the meter counts what accepted chunks reach, and of others no more than their starts
 pub record IsMeteredOf (i : Input) (old new : ℕ) (result : Result (Vec ℕ Global) Stop) : Type 0 where
   pub accepted : IfOk result (λ _. (n : ℕ) × AreReached i.code i.chunks n × HasCounted old new n)
+  pub refused : IfErr result (λ _. (n : ℕ) × IsWithinAll i n × HasCounted old new n)
 
 -- these names, chains and switches are those of the flat form
 pub record IsMadeOf (p : CPools) (made : Made) : Type 0 where
@@ -61,9 +62,10 @@ pub record IsFlatVerdict (caps : ℕ) (bytes : List ℕ) (chunks : List Span) (p
   pub each : IfOk result (λ v. length v.items ≡ length chunks)
   pub refused : IfErr result (IsStop caps bytes chunks p)
 
--- the meter counts what the accepted chunks of all with the flat form reach
+-- the meter counts what the accepted chunks of all with the flat form reach, and of others no more than their starts
 pub record IsFlatMetered (caps : ℕ) (bytes : List ℕ) (chunks : List Span) (p : CPools) (old new : ℕ) (result : Result (Vec ℕ Global) Stop) : Type 0 where
   pub accepted : IfOk result (λ _. (n : ℕ) × Looks caps bytes chunks p n × HasCounted old new n)
+  pub refused : IfErr result (λ _. (n : ℕ) × LooksWithin bytes chunks n × HasCounted old new n)
 
 -- functions are there exactly where some are counted
 pub record AreSome (count : ℕ) (functions : List Function) : Type 0 where

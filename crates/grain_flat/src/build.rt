@@ -1,8 +1,8 @@
 //! Pools from their flat form. Only want of memory can fail.
-ghost use Rattle.std.specs.Prelude.{◌≡◌, IfOk, None, length, map, sum_by};
+ghost use Rattle.std.specs.Prelude.{◌≡◌, IfOk, None, length, map, option_map, sum_by};
 ghost use Rattle.std.specs.List.{All};
 ghost use Rattle.std.specs.List.Sorted.{IsPermutation};
-ghost use Rattle.grain.specs.Dispatch.{arms};
+ghost use Rattle.grain.specs.Dispatch.{arms, listed};
 ghost use Rattle.grain.specs.Names.{first_flaw, names_in};
 ghost use Rattle.grain_flat.specs.Flat.{AreChains, AreSwitches, IsChainRow, IsFlat, IsStepRow, case_row, case_rows, chain_row, arm_range_targets, step_row, switch_row};
 ghost use Rattle.grain_flat.specs.Judging.{IsMadeOf};
@@ -92,6 +92,20 @@ fn cases_of(alloc: Global, rows: &[CCase]) -> Result<HashMap<Dynamic, (u32, u32)
     Ok(cases)
 }
 
+/// The same, and none where there is no case: an empty map takes memory.
+fn some_cases(
+    alloc: Global,
+    rows: &[CCase],
+) -> Result<Option<HashMap<Dynamic, (u32, u32)>>, AllocError>
+    ensures { IfOk result (λ cases. IsPermutation rows.now
+        (map case_row (listed (option_map (λ m. m.entries) cases)))) }
+{
+    if rows.is_empty() {
+        return Ok(None);
+    }
+    Ok(Some(cases_of(alloc, rows)?))
+}
+
 fn ranges_of(alloc: Global, targets: &[u32]) -> Result<Vec<SwitchRange>, AllocError>
     ensures { IfOk result (λ v. map (λ r. r.target) v.items ≡ targets.now) }
 {
@@ -119,10 +133,10 @@ fn switch_of(
     ensures cases { IfOk result (λ s. IsPermutation cases.now (case_rows (arms s))) }
     ensures ranges { IfOk result (λ s. arm_range_targets (arms s) ≡ ranges.now) }
 {
-    let cases = cases_of(alloc, cases)?;
+    let cases = some_cases(alloc, cases)?;
     let ranges = ranges_of(alloc, ranges)?;
     Ok(Switch {
-        cases: Some(cases),
+        cases,
         ranges,
         default: row.otherwise,
     })

@@ -2,7 +2,7 @@
 ghost use Rattle.std.specs.Prelude.{◌≡◌, ◌<◌, ◌^◌, ◌↔◌, IsTrue, MatchBool, None, length, sum_by};
 ghost use Rattle.std.specs.Bool.{OnTrue};
 ghost use Rattle.std.specs.List.{All};
-ghost use Rattle.std.specs.Str.{is_utf8};
+ghost use Rattle.std.specs.Str.{IsAscii, is_utf8};
 ghost use Rattle.grain.specs.Names.{first_flaw, span_flaw};
 ghost use Rattle.grain_flat.specs.Flat.{IsAskedRow, IsChainRow, IsFlat, IsStepRow, Pooled};
 
@@ -92,14 +92,28 @@ fn is_text(bytes: &[u8]) -> bool
     str::from_utf8(bytes).is_ok()
 }
 
-/// Whether the bytes from one start to the next are a name.
-fn is_name(blob: &[u8], from: usize, to: usize) -> bool
+/// Whether each byte is of ASCII. It has no branch for each of them.
+#[tactic(auto, using(crate::proofs::AsciiNames::one_more))]
+fn is_ascii(bytes: &[u8]) -> bool
+    ensures { IsTrue result → IsAscii bytes.now }
+{
+    let mut bits = 0;
+    for byte in bytes {
+        bits |= *byte;
+    }
+    bits < 128
+}
+
+/// Whether the bytes from one start to the next are a name. Where all bytes are of ASCII, any of them are text.
+#[tactic(auto, using(crate::proofs::AsciiNames::span_is_text))]
+fn is_name(blob: &[u8], ascii: bool, from: usize, to: usize) -> bool
+    requires { IsTrue ascii → IsAscii blob.now }
     ensures { IsTrue result ↔ (span_flaw blob.now from to ≡ None) }
 {
     if to < from || blob.len() < to {
         return false;
     }
-    is_text(&blob[from..to])
+    ascii || is_text(&blob[from..to])
 }
 
 /// Whether the starts cut the blob into names.
@@ -109,10 +123,11 @@ fn are_names(blob: &[u8], starts: &[u32]) -> bool
     let [0, rest @ ..] = starts else {
         return false;
     };
+    let ascii = is_ascii(blob);
     let mut from = 0;
     for start in rest {
         let to = *start as usize;
-        if !is_name(blob, from, to) {
+        if !is_name(blob, ascii, from, to) {
             return false;
         }
         from = to;

@@ -17,7 +17,7 @@ ghost use Rattle.grain_rules.specs.Indices.{Indexed, IsOut, cases_of, chain_test
 ghost use Rattle.grain_rules.specs.Setting.{Setting, case_consts, setting};
 
 use crate::error::VerifyError;
-use crate::passed::{Passed, WORDS, add_passed, has_passed};
+use crate::passed::{FEW_WORDS, Passed, WORDS, add_passed, has_passed};
 use crate::pools::Pools;
 use crate::unindexed::unindexed_width;
 use grain_base::Dynamic;
@@ -411,8 +411,29 @@ fn check_instructions<const N: usize>(
     Ok(())
 }
 
+/// Tests the same over pools of 256 chains and switches at most. It is compiled apart: where one function has sets of both
+/// sizes, the larger is cleared in each call.
+#[inline(never)]
+#[tactic(auto, using(crate::proofs::Passing::none_passed))]
+fn check_by_few_words(pools: &Pools<'_>, code: &[u8]) -> Result<(), VerifyError>
+    ensures ok { OnOk result (AreIndexed (alone pools.now) code.now) }
+    ensures err { IfErr result (λ e. CodeFlaw (alone pools.now) code.now e) }
+{
+    check_instructions(pools, &mut Passed::<FEW_WORDS>::new(), code)
+}
+
+/// Tests the same over pools of any size.
+#[inline(never)]
+#[tactic(auto, using(crate::proofs::Passing::none_passed))]
+fn check_by_all_words(pools: &Pools<'_>, code: &[u8]) -> Result<(), VerifyError>
+    ensures ok { OnOk result (AreIndexed (alone pools.now) code.now) }
+    ensures err { IfErr result (λ e. CodeFlaw (alone pools.now) code.now e) }
+{
+    check_instructions(pools, &mut Passed::<WORDS>::new(), code)
+}
+
 /// Tests that the code is instructions from its start to its end, each with its indices in bounds. What many
-/// instructions name is tested once.
+/// instructions name is tested once, where a bit remembers that it has passed.
 ///
 /// # Errors
 /// `Undecodable` and `BadIndex`, of the first instruction that doesn't pass and its first index that is out of bounds.
@@ -422,9 +443,12 @@ pub fn check_code(pools: &Pools<'_>, code: &[u8]) -> Result<(), VerifyError>
     ensures ok { OnOk result ((caps : Caps) → AreIndexed (setting caps pools.now) code.now) }
     ensures err { IfErr result (λ e. (caps : Caps) → CodeFlaw (setting caps pools.now) code.now e) }
 {
-    if pools.chains.is_empty() && pools.switches.is_empty() {
+    let entries = pools.chains.len().max(pools.switches.len());
+    if entries == 0 {
         check_instructions(pools, &mut Passed::<0>::new(), code)
+    } else if entries <= 64 * FEW_WORDS {
+        check_by_few_words(pools, code)
     } else {
-        check_instructions(pools, &mut Passed::<WORDS>::new(), code)
+        check_by_all_words(pools, code)
     }
 }

@@ -5,6 +5,9 @@ ghost use Rattle.grain_rules.specs.Passed.{HasPassed};
 /// How many words have a bit for each of the 65536 entries of a pool that code can name.
 pub(crate) const WORDS: usize = 1024;
 
+/// How many words have a bit for each entry of small pools: so many are cleared in no time.
+pub(crate) const FEW_WORDS: usize = 4;
+
 /// The chains and the switches that have passed, of the first so many words of entries.
 #[derive(Drop)]
 pub(crate) struct Passed<const N: usize> {

@@ -12,7 +12,7 @@ pub struct Fault(Why);
 
 #[derive(Clone, Copy, PartialEq, Eq, Hash)]
 enum Why {
-    Refusal(raw::Fault),
+    Refusal { fault: raw::Fault, looked: u64 },
     OutOfMemory,
     TooLarge,
     NotFlat,
@@ -140,8 +140,8 @@ pub enum Cause {
 }
 
 impl Fault {
-    pub(crate) fn refusal(fault: raw::Fault) -> Fault {
-        Fault(Why::Refusal(fault))
+    pub(crate) fn refusal(fault: raw::Fault, looked: u64) -> Fault {
+        Fault(Why::Refusal { fault, looked })
     }
 
     pub(crate) fn out_of_memory() -> Fault {
@@ -166,7 +166,7 @@ impl Fault {
 
     fn record(&self) -> Option<&raw::Fault> {
         match &self.0 {
-            Why::Refusal(fault) => Some(fault),
+            Why::Refusal { fault, .. } => Some(fault),
             Why::OutOfMemory
             | Why::TooLarge
             | Why::NotFlat
@@ -185,6 +185,20 @@ impl Fault {
         usize::try_from(chunk)
             .ok()
             .filter(|_| chunk != raw::NO_CHUNK)
+    }
+
+    /// How many places of the chunks were visited until the refusal, each chunk for itself, where there is one: no more than
+    /// they have instructions, which bounds what a refused script has cost its host.
+    #[must_use]
+    pub fn looked(&self) -> Option<u64> {
+        match self.0 {
+            Why::Refusal { looked, .. } => Some(looked),
+            Why::OutOfMemory
+            | Why::TooLarge
+            | Why::NotFlat
+            | Why::TooFewNumbers
+            | Why::Unknown(_) => None,
+        }
     }
 
     /// The address that the refusal names: of the instruction that is refused, or where no instruction stands; of
@@ -258,7 +272,7 @@ impl Fault {
     #[must_use]
     pub fn cause(&self) -> Cause {
         match self.0 {
-            Why::Refusal(fault) => cause_of(fault),
+            Why::Refusal { fault, .. } => cause_of(fault),
             Why::OutOfMemory => Cause::OutOfMemory,
             Why::TooLarge => Cause::TooLarge,
             Why::NotFlat => Cause::NotFlat,
@@ -334,7 +348,7 @@ fn cause_of(fault: raw::Fault) -> Cause {
 impl fmt::Display for Fault {
     fn fmt(&self, f: &mut fmt::Formatter<'_>) -> fmt::Result {
         let fault = match &self.0 {
-            Why::Refusal(fault) => fault,
+            Why::Refusal { fault, .. } => fault,
             Why::OutOfMemory => return f.write_str("out of memory"),
             Why::TooLarge => return f.write_str("too large for its flat form"),
             Why::NotFlat => return f.write_str("not flat"),

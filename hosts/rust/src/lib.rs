@@ -134,7 +134,7 @@ pub fn verify_into<'a>(
             &mut looked,
         )
     };
-    verdict(answer, fault, &pools).map(|()| looked)
+    verdict(answer, fault, looked, &pools)
 }
 
 /// Verifies as [`verify`] does, has each chunk declare its number, and answers what [`verify_into`] does.
@@ -162,14 +162,19 @@ pub fn tighten<'a>(
             &mut looked,
         )
     };
-    verdict(answer, fault, &pools).map(|()| looked)
+    verdict(answer, fault, looked, &pools)
 }
 
 /// What the library has answered.
-fn verdict(answer: u32, fault: raw::Fault, pools: &FlatPools<'_>) -> Result<(), Fault> {
+fn verdict(
+    answer: u32,
+    fault: raw::Fault,
+    looked: u64,
+    pools: &FlatPools<'_>,
+) -> Result<u64, Fault> {
     match answer {
-        raw::ACCEPTED => Ok(()),
-        raw::REFUSED => Err(Fault::refusal(fault)),
+        raw::ACCEPTED => Ok(looked),
+        raw::REFUSED => Err(Fault::refusal(fault, looked)),
         raw::SHORT => Err(Fault::too_few_numbers()),
         raw::OUT_OF_MEMORY => Err(Fault::out_of_memory()),
         raw::NOT_FLAT => Err(Fault::not_flat(pools)),

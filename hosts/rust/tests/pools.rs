@@ -213,6 +213,13 @@ fn what_is_looked_at_is_counted() {
         Ok(4)
     );
     assert_eq!(numbers, [1, 1, 77]);
+    let lacking = Chunk {
+        entry: 2,
+        end: 4,
+        ..chunk
+    };
+    let fault = verify(caps::ALL, &code, &[chunk, lacking], &Pools::new()).unwrap_err();
+    assert_eq!(fault.looked(), Some(3));
 }
 
 #[test]
