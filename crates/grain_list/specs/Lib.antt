@@ -1,0 +1,2 @@
+pub mod ListedCode
+pub mod Listed

@@ -1,0 +1,106 @@
+//! Code with its instructions.
+
+ghost use Rattle.std.specs.Prelude.{◌≡◌, IfOk};
+ghost use Rattle.grain.specs.Disassembly.{IsDisassembly};
+ghost use Rattle.grain.specs.EffectView.{flow_view};
+ghost use Rattle.grain.specs.Rows.{flow_of};
+ghost use Rattle.grain_list.specs.ListedCode.{IsListedCode};
+
+use grain::{Effect, Flow, Instruction, Op, disassemble};
+use std::alloc::{AllocError, Global};
+
+/// Code with its instructions.
+#[derive(Drop)]
+pub struct CodeListing {
+    /// The code.
+    pub bytes: Vec<u8>,
+    /// Its instructions with their addresses, in order, up to the first thing that is none.
+    pub items: Vec<(usize, Op)>,
+}
+
+/// The instructions of code with their addresses, in order, up to the first thing that is none.
+///
+/// # Errors
+/// [`AllocError`] where memory was refused.
+fn instructions_of(alloc: Global, code: &[u8]) -> Result<Vec<(usize, Op)>, AllocError>
+    ensures { IfOk result (λ v. IsDisassembly 0 code.now v.items) }
+{
+    disassemble(code).collect(alloc)
+}
+
+impl CodeListing {
+    /// Code with its instructions.
+    ///
+    /// # Errors
+    /// [`AllocError`] where memory was refused.
+    pub fn of(alloc: Global, bytes: Vec<u8>) -> Result<CodeListing, AllocError>
+        ensures { IfOk result (IsListedCode bytes.items) }
+    {
+        let items = instructions_of(alloc, &bytes)?;
+        Ok(CodeListing { bytes, items })
+    }
+
+    /// The address behind the instruction at an address; that address where none stands there.
+    fn end_of(&self, at: usize) -> usize {
+        match Instruction::at(&self.bytes, at) {
+            Some(instruction) => at.saturating_add(instruction.width()),
+            None => at,
+        }
+    }
+
+    /// The address behind the last instruction, where that isn't the end of the code.
+    pub fn damage(&self) -> Option<usize> {
+        let end = match self.items.last() {
+            Some((at, _)) => self.end_of(*at),
+            None => 0,
+        };
+        if end < self.bytes.len() {
+            Some(end)
+        } else {
+            None
+        }
+    }
+
+    /// The bytes of the instruction at an address.
+    pub fn bytes_at(&self, at: usize) -> &[u8] {
+        self.bytes.get(at..self.end_of(at)).unwrap_or_default()
+    }
+
+    /// The instruction at an address.
+    pub fn op_at(&self, at: usize) -> Option<&Op> {
+        let place = self.items.binary_search_by(|item| item.0.cmp(&at)).ok()?;
+        Some(&self.items.get(place)?.1)
+    }
+
+    /// The instructions that have a byte from an entry up to an end.
+    pub fn between(&self, entry: usize, end: usize) -> &[(usize, Op)] {
+        let first = self
+            .items
+            .partition_point(|item| self.end_of(item.0) <= entry);
+        let behind = self.items.partition_point(|item| item.0 < end);
+        self.items.get(first..behind).unwrap_or_default()
+    }
+}
+
+/// How an operation is left.
+pub fn flow_of(op: &Op) -> Flow
+    ensures { flow_view result ≡ flow_of op.now }
+{
+    Effect::of(op, &[]).flow
+}
+
+/// The target of a flow, if it names one.
+pub fn target_of(flow: Flow) -> Option<u32> {
+    match flow {
+        Flow::Jumps(target)
+        | Flow::Branches(target)
+        | Flow::AdvancesIterator(target)
+        | Flow::PushesHandler(target) => Some(target),
+        Flow::Falls
+        | Flow::Ends
+        | Flow::Switches(_)
+        | Flow::BeginsIterator
+        | Flow::EndsIterator
+        | Flow::PopsHandler => None,
+    }
+}

@@ -1,0 +1,75 @@
+//! The explanation of a program, and the verdict that it has.
+
+ghost use Rattle.std.specs.Prelude.{◌≡◌, IfOk, IfSome, OnOk, Option, string_bytes};
+ghost use Rattle.std.specs.Option.{option_map};
+ghost use Rattle.grain.specs.CapBits.{set_of};
+ghost use Rattle.grain.specs.Explanations.{IsExplanation};
+ghost use Rattle.grain_cases.specs.Case.{Asked, as_asked};
+ghost use Rattle.grain_cases.specs.Verdict.{Adds, IsVerdictOn, program};
+ghost use Rattle.grain_list.specs.Listed.{Explains};
+
+use grain::{Caps, Chunk, ExplainError, Explained, Pools, Strings, VerifyError, explain};
+use grain_cases::{Case, write_accepted};
+use std::alloc::{AllocError, Global};
+
+/// The explanation of a program that has no constants and no functions, and whose pools are all empty.
+///
+/// # Errors
+/// Those of [`explain`].
+fn explain_program(
+    alloc: Global,
+    caps: Caps,
+    code: &[u8],
+    chunks: &[Chunk],
+) -> Result<Explained, ExplainError>
+    ensures { IfOk result (IsExplanation (program (set_of caps) code.now chunks.now)) }
+{
+    let Ok(names) = Strings::new(alloc, &[]) else {
+        return Err(ExplainError::OutOfMemory);
+    };
+    let pools = Pools {
+        consts: 0,
+        names: &names,
+        tokens: 0,
+        assign_ops: 0,
+        residuals: 0,
+        chains: &[],
+        switches: &[],
+    };
+    explain(alloc, caps, &[], code, &[], chunks, &pools)
+}
+
+/// The explanation of the program that a case asks of; none of other cases, nor where nothing is explained.
+///
+/// # Errors
+/// [`AllocError`] where memory was refused.
+pub fn explained_of(alloc: Global, case: &Option<Case>) -> Result<Option<Explained>, AllocError>
+    ensures { IfOk result (λ found. IfSome found (Explains (option_map as_asked case.now))) }
+{
+    let Some(Case::Verify { caps, code, chunks }) = case else {
+        return Ok(None);
+    };
+    match explain_program(alloc, *caps, code, chunks) {
+        Ok(explained) => Ok(Some(explained)),
+        Err(ExplainError::OutOfMemory) => Err(AllocError),
+        Err(ExplainError::BadCode | ExplainError::Unfinished) => Ok(None),
+    }
+}
+
+/// Writes the verdict of an explanation behind the text.
+///
+/// # Errors
+/// [`AllocError`] where memory was refused.
+pub fn write_explained(text: &mut String, explained: &Explained) -> Result<(), AllocError>
+    ensures { (question : Option Asked) → Explains question explained.now → OnOk result
+        (Adds (IsVerdictOn question) (string_bytes text.old) (string_bytes text.new)) }
+{
+    match &explained.verdict {
+        Ok(numbers) => write_accepted(text, numbers)?,
+        Err(refusal) => match &refusal.error {
+            VerifyError::OutOfMemory => return Err(AllocError),
+            _ => write!(text, "refused {}", refusal.error)?,
+        },
+    }
+    Ok(())
+}

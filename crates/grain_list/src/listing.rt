@@ -1,0 +1,125 @@
+//! What is listed of a line.
+
+ghost use Rattle.std.specs.Prelude.{◌≡◌, IfOk, IfSome, Option, is_none, string_bytes};
+ghost use Rattle.std.specs.Option.{option_map};
+ghost use Rattle.grain_cases.specs.Case.{Asked, as_asked, asked};
+ghost use Rattle.grain_cases.specs.Verdict.{Verdict};
+ghost use Rattle.grain_list.specs.Listed.{Explains, IsShown};
+
+use crate::code::CodeListing;
+use crate::explained::{explained_of, write_explained};
+use crate::problem::Problem;
+use grain::{Chunk, Explained};
+use grain_cases::{Case, case_of, write_verdict};
+use std::alloc::{AllocError, Global};
+
+/// A program with its explanation.
+#[derive(Drop)]
+pub struct ProgramListing {
+    /// Its code.
+    pub code: CodeListing,
+    /// Its chunks.
+    pub chunks: Vec<Chunk>,
+    /// Its verdict, and where the tests before the chunks pass each chunk explained.
+    pub explained: Explained,
+}
+
+/// What is shown behind the verdict.
+#[derive(Drop)]
+pub enum Body {
+    /// What is wrong with a line that is no case.
+    Bad(Problem),
+    /// Of a site nothing.
+    Site,
+    /// Code alone.
+    Code(CodeListing),
+    /// Code with its chunks.
+    Program(ProgramListing),
+    /// Code whose chunks nothing explains, as `ExplainError::Unfinished` says.
+    Unexplained(CodeListing),
+}
+
+/// What is listed of a line.
+#[derive(Drop)]
+pub struct Listing {
+    /// The line as text, with a question mark for each byte that isn't printable ASCII.
+    pub line: String,
+    /// The verdict.
+    pub verdict: String,
+    /// What is shown behind it.
+    pub body: Body,
+}
+
+/// The line as text, with a question mark for each byte that isn't printable ASCII.
+fn printable(alloc: Global, line: &[u8]) -> Result<String, AllocError> {
+    line.iter()
+        .map(|byte| match *byte {
+            b' '..=b'~' => char::from(*byte),
+            _ => '?',
+        })
+        .collect(alloc)
+}
+
+/// What is shown of a case with this explanation.
+///
+/// # Errors
+/// [`AllocError`] where memory was refused.
+fn body_of(
+    alloc: Global,
+    line: &[u8],
+    case: Option<Case>,
+    explained: Option<Explained>,
+) -> Result<Body, AllocError>
+    requires { IfSome explained (Explains (option_map as_asked case)) }
+    ensures { IfOk result (IsShown (option_map as_asked case)) }
+{
+    match case {
+        None => Ok(Body::Bad(Problem::of(line))),
+        Some(Case::Site { .. }) => Ok(Body::Site),
+        Some(Case::Code { code }) => Ok(Body::Code(CodeListing::of(alloc, code)?)),
+        Some(Case::Verify { code, chunks, .. }) => {
+            let code = CodeListing::of(alloc, code)?;
+            match explained {
+                Some(explained) => Ok(Body::Program(ProgramListing {
+                    code,
+                    chunks,
+                    explained,
+                })),
+                None => Ok(Body::Unexplained(code)),
+            }
+        }
+    }
+}
+
+impl Listing {
+    /// The listing of a line that is neither empty nor a comment.
+    ///
+    /// # Errors
+    /// [`AllocError`] where memory was refused.
+    pub fn of(alloc: Global, line: &[u8]) -> Result<Listing, AllocError>
+        ensures verdict { IfOk result (λ l. Verdict line.now (string_bytes l.verdict)) }
+        ensures shown { IfOk result (λ l. IsShown (asked line.now) l.body) }
+    {
+        let mut verdict = String::new(alloc);
+        let case = case_of(alloc, line)?;
+        let explained = explained_of(alloc, &case)?;
+        match &explained {
+            Some(explained) => write_explained(&mut verdict, explained)?,
+            None => write_verdict(alloc, &mut verdict, &case)?,
+        }
+        let body = body_of(alloc, line, case, explained)?;
+        Ok(Listing {
+            line: printable(alloc, line)?,
+            verdict,
+            body,
+        })
+    }
+
+    /// Whether the line is no case.
+    pub fn is_bad(&self) -> bool
+        ensures { (question : Option Asked) → IsShown question self.now.body
+            → result ≡ is_none question }
+    {
+        matches!(&self.body, Body::Bad(_))
+    }
+}
