@@ -7,3 +7,5 @@ mod calls;
 mod growths;
 #[cfg(test)]
 mod runs;
+#[cfg(test)]
+mod scripts;
