@@ -5,4 +5,5 @@ pub mod Instruction
 pub mod InstructionTexts
 pub mod Judging
 pub mod Listing
+pub mod TagNames
 pub mod Tightening

@@ -1,0 +1,110 @@
+#!/usr/bin/env python3
+"""What instructions are called, wherever that stands: by the constants of crates/grain_code/src/tag.rt, and of operations by
+the instruction table (`encoding` in crates/grain_code/specs/InstructionTable.antt).
+
+    bench/tag_names.py           says where it stands otherwise, and ends with 1 where there is any
+    bench/tag_names.py --write   writes it there
+
+It stands in hosts/c/grain.h (a number for each tag), in hosts/rust/src/mnemonics.rs (tags and names), and in
+crates/grain_flat, in specs/TagNames.antt (names by tags) and src/mnemonics.rt (names of operations). .ci/documents asks
+whether all of them are as this writes them.
+"""
+import pathlib
+import re
+import subprocess
+import sys
+
+TOP = pathlib.Path(__file__).resolve().parent.parent
+
+sys.dont_write_bytecode = True
+sys.path.append(str(TOP / ".ci"))
+import instruction_table
+
+
+def tags():
+    """The name of each tag by its number."""
+    text = (TOP / "crates/grain_code/src/tag.rt").read_text()
+    return {int(number, 16): name for name, number in re.findall(r"^pub const (\w+): u8 = (0x\w+);$", text, re.M)}
+
+
+def argument(text):
+    """An argument of a pattern of `encoding` as one of Rattle, or nothing where it is a variable."""
+    name, *inner = instruction_table.split(text)
+    if re.fullmatch(r"receiver\.\w+", name):
+        name = name.replace("receiver.", "Receiver::")
+    elif name not in ("true", "false", "None", "Some"):
+        return None
+    return f"{name}({argument(inner[0]) or '_'})" if inner else name
+
+
+def pattern(text, fields):
+    """A pattern of `encoding` as one of Rattle."""
+    name, arguments = instruction_table.pattern(text)
+    given = [argument(each) for each in arguments]
+    if not fields[name]:
+        return f"Op::{name}"
+    if fields[name] == [""]:
+        return f"Op::{name}({given[0] or '_'})"
+    told = [f"{field}: {each}" for field, each in zip(fields[name], given) if each]
+    return f"Op::{name} {{ {', '.join(told + ['..'] * (len(told) < len(given)))} }}"
+
+
+def arms():
+    names, fields = tags(), instruction_table.op_fields()
+    for text, body in instruction_table.clauses("grain_code/specs/InstructionTable.antt", "encoding"):
+        number = int(re.match(r"\(0x(\w+)", body)[1], 16)
+        yield f'{pattern(text, fields)} => "{names[number]}",'
+
+
+def by_tag():
+    """The names as a list by tags, in antt."""
+    names = tags()
+    codes = [f'codes "{names[tag]}"' if tag in names else "[]" for tag in range(max(names) + 1)]
+    return "tag_names =\n" + "".join(f"    {each} ∷\n" for each in codes) + "    []\n"
+
+
+def blocks():
+    """Of each file where they stand: what stands before, the block itself, and what stands behind."""
+    names = tags()
+    defines = "".join(f"#define GRAIN_TAG_{name} 0x{tag:02x}\n" for tag, name in names.items())
+    rows = "".join(f'    (0x{tag:02x}, "{name}"),\n' for tag, name in names.items())
+    return {
+        "hosts/c/grain.h": (r'"Instructions"\)\. \*/\n', defines, r"\n/\* The number of this"),
+        "hosts/rust/src/mnemonics.rs": (
+            r"(?=const MNEMONICS)", f"const MNEMONICS: [(u8, &str); {len(names)}] = [\n{rows}];\n", r"\Z"),
+        "crates/grain_flat/specs/TagNames.antt": (r"List \(List ℕ\)\n", by_tag(), r"\Z"),
+        "crates/grain_flat/src/mnemonics.rt": (
+            r"match \*op \{\n", "".join(f"        {arm}\n" for arm in arms()), r"    \}\n\}\n"),
+    }
+
+
+def plain(text):
+    """The text without what a formatter decides."""
+    return re.sub(r",(?=[})\]])", "", re.sub(r"\s", "", text))
+
+
+def differences(write=False):
+    for name, (before, block, behind) in blocks().items():
+        path = TOP / name
+        text = path.read_text()
+        found = re.search(rf"(?s)(?<={before})(.*?)(?={behind})" if not before.startswith("(?=") else rf"(?s){before}(.*?)(?={behind})", text)
+        if found is None:
+            yield f"{name} has no place for what instructions are called"
+        elif plain(found[1]) != plain(block):
+            if write:
+                path.write_text(text[:found.start(1)] + block + text[found.end(1):])
+            else:
+                yield f"{name} calls instructions otherwise than tag.rt and the instruction table: bench/tag_names.py --write"
+
+
+def main():
+    write = sys.argv[1:] == ["--write"]
+    untrue = list(differences(write))
+    if write:
+        subprocess.run(["rt", "fmt"], cwd=TOP / "crates/grain_flat", check=True, stdout=subprocess.DEVNULL)
+    print("\n".join(untrue) if untrue else "instructions have their names")
+    return 1 if untrue else 0
+
+
+if __name__ == "__main__":
+    sys.exit(main())
