@@ -39,7 +39,7 @@ impl Model for Starts {
 }
 
 /// A front as far as it was read: its last word, where it ends, and how many starts it has.
-#[derive(Clone, Copy, Debug)]
+#[derive(Clone, Copy)]
 struct Reading {
     word: Word,
     end: usize,

@@ -7,7 +7,7 @@ ghost use Rattle.grain_verify.specs.FlowView.{HasTarget, flow};
 use grain_rules::Flow as ToldFlow;
 
 /// How an operation is left, and what that does to iterators and handlers. Where it leads is its target.
-#[derive(Clone, Copy, PartialEq, Eq, Debug)]
+#[derive(Clone, Copy)]
 pub(crate) enum Flow {
     /// It falls through to the next one.
     Falls,

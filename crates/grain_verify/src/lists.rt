@@ -8,14 +8,14 @@ use std::alloc::{AllocError, Global};
 use std::collections::BTreeMap;
 
 /// The base of an armed handler: how many operands and iterators stood when it was armed.
-#[derive(Clone, Copy, PartialEq, Eq, PartialOrd, Ord, Debug)]
+#[derive(Clone, Copy, PartialEq, Eq, PartialOrd, Ord)]
 pub(crate) struct Base {
     pub(crate) operands: u32,
     pub(crate) iterators: u32,
 }
 
 /// A base on top of the list with the parent's number.
-#[derive(Clone, Copy, PartialEq, Eq, PartialOrd, Ord, Debug)]
+#[derive(Clone, Copy, PartialEq, Eq, PartialOrd, Ord)]
 pub(crate) struct Node {
     pub(crate) parent: u32,
     pub(crate) base: Base,

@@ -12,7 +12,7 @@ use grain_rules::VerifyError;
 use std::alloc::AllocError;
 
 /// How many operands and iterators there are, and the number of the list of the bases of armed handlers.
-#[derive(Clone, Copy, PartialEq, Eq, Debug)]
+#[derive(Clone, Copy, PartialEq, Eq)]
 pub(crate) struct State {
     pub(crate) operands: u32,
     pub(crate) iterators: u32,
@@ -20,7 +20,7 @@ pub(crate) struct State {
 }
 
 /// A state on its way to an address.
-#[derive(Clone, Copy, PartialEq, Eq, Debug)]
+#[derive(Clone, Copy)]
 pub(crate) struct Arrival {
     /// How many instructions stand before the address in the code.
     pub(crate) ordinal: usize,
