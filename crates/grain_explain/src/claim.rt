@@ -46,19 +46,23 @@ impl Claim<'_> {
         Ok(())
     }
 
-    /// Tests that each row is at a start of the chunk, and that the chunk ends at a boundary.
+    /// Tests that each row is at a start of the chunk, and that the chunk ends at a boundary, where the code is read from
+    /// a boundary on.
     ///
     /// # Errors
     /// `OutsideChunk` and `NoStart`, of the first row that isn't at one; `EndsInside`.
-    fn check_places(&self) -> Result<(), TypingError>
+    fn check_places(&self, from: usize) -> Result<(), TypingError>
         requires whole { (starts : List ℕ) × Split self.now.code.now starts }
+        requires here { IsBoundary self.now.code.now from }
+        requires before { from ≤ self.now.chunk.now.entry }
+        requires ordered { self.now.chunk.now.entry ≤ self.now.chunk.now.end }
         requires inside { self.now.chunk.now.end ≤ length self.now.code.now }
         requires ascending { AreAscending self.now.rows.now }
         ensures placed { OnOk result (ArePlaced self.now) }
         ensures ends { OnOk result (IsBoundary self.now.code.now self.now.chunk.now.end) }
         ensures err { IfErr result (RefusesRows self.now) }
     {
-        let mut boundary = 0;
+        let mut boundary = from;
         for (row, here) in self.rows.iter().enumerate() {
             if here.at < self.chunk.entry() || here.at >= self.chunk.end() {
                 return Err(TypingError::OutsideChunk { row });
@@ -129,8 +133,25 @@ impl Claim<'_> {
         if end as usize > self.code.len() || self.chunk.entry() > end {
             return Err(TypingError::ChunkOutOfRange);
         }
+        self.check_from(0)
+    }
+
+    /// The same of a chunk in range, in code that is whole instructions, where the code is read from a boundary on.
+    ///
+    /// # Errors
+    /// The first test that fails, by its name.
+    pub(crate) fn check_from(&self, from: usize) -> Result<(), TypingError>
+        requires whole { (starts : List ℕ) × Split self.now.code.now starts }
+        requires here { IsBoundary self.now.code.now from }
+        requires before { from ≤ self.now.chunk.now.entry }
+        requires ordered { self.now.chunk.now.entry ≤ self.now.chunk.now.end }
+        requires inside { self.now.chunk.now.end ≤ length self.now.code.now }
+        ensures yes { OnOk result
+            (IsCertificate (code_claimed self.now) (span_claimed self.now) self.now.rows.now) }
+        ensures err { IfErr result (RefusesRows self.now) }
+    {
         self.check_ascending()?;
-        self.check_places()?;
+        self.check_places(from)?;
         if !self.has_row(self.chunk.entry() as usize, &OnEdge::nothing()) {
             return Err(TypingError::BadEntry);
         }

@@ -8,7 +8,6 @@ ghost use Rattle.grain_explain.specs.Scenes.{IsSearching, IsStarted, code_seen};
 ghost use Rattle.grain_explain.specs.Ways.{IsFrameFlaw};
 
 use crate::arrival::Arrival;
-use crate::certificate::check_typing;
 use crate::claim::Claim;
 use crate::error::TypingError;
 use crate::refusal::{ExplainError, ExplainedChunk, Refusal};
@@ -164,10 +163,32 @@ impl Scene<'_> {
         ensures { IfOk result (λ r. MatchOption r
             (IsTypedBy (code_seen self.now) self.now.chunk.now rows.now) (IsRefusalAt self.now)) }
     {
-        match check_typing(self.caps, self.code, self.chunk, self.pools, rows) {
+        let claim = self.claim(rows, u32::from(self.chunk.max_stack()));
+        match claim.check_from(self.chunk.entry() as usize) {
             Ok(()) => Ok(None),
             Err(TypingError::TooDeep { .. }) => Ok(Some(self.too_deep(slots, rows)?)),
             Err(_) => Err(ExplainError::Unfinished),
+        }
+    }
+
+    /// Rows with the chunk, of which each may have so many operands.
+    fn claim<'a>(&'a self, rows: &'a [Row], most: u32) -> Claim<'a>
+        ensures { result ≡ record {
+          caps = self.now.caps;
+          code = self.now.code;
+          chunk = self.now.chunk;
+          pools = self.now.pools;
+          rows = rows.entry;
+          most = most;
+        } }
+    {
+        Claim {
+            caps: self.caps,
+            code: self.code,
+            chunk: self.chunk,
+            pools: self.pools,
+            rows,
+            most,
         }
     }
 
@@ -183,15 +204,9 @@ impl Scene<'_> {
     {
         let needed = greatest(rows);
         let declared = self.chunk.max_stack();
-        let claim = Claim {
-            caps: self.caps,
-            code: self.code,
-            chunk: self.chunk,
-            pools: self.pools,
-            rows,
-            most: u32::MAX,
-        };
-        if needed <= u32::from(declared) || claim.check().is_err() {
+        let claim = self.claim(rows, u32::MAX);
+        let checked = claim.check_from(self.chunk.entry() as usize);
+        if needed <= u32::from(declared) || checked.is_err() {
             return Err(ExplainError::Unfinished);
         }
         match self.deepest(slots, needed) {

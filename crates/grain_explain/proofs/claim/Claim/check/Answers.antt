@@ -1,20 +1,5 @@
-use Rattle.std.proofs.Common.{◌≡◌, Some, ap, arith, subst, ◌∙◌}
-use Rattle.grain_rules.specs.Counts.{nothing}
-use Rattle.grain_explain.specs.RowView.{typing_of}
-use Rattle.grain_explain.proofs.Certified.{certified}
-use Rattle.grain_explain.proofs.Matching.{on_ok}
+use Rattle.grain_explain.proofs.Boundaries.{first_boundary}
 use Rattle.grain_explain.proofs.claim.Claim.check.Goals as goal
 
-pub returns-clause-yes : goal.returns-clause-yes
-returns-clause-yes c =
-    let claim = c.args.self.now in
-    let rows = claim.rows.now in
-    let inside = c.if-end-self.false in
-    let ordered = c.if-entry-end.false in
-    let end = c.end-end.ensures in
-    let first = c.entry.ensures in
-    let entry : typing_of rows claim.chunk.now.entry ≡ Some nothing =
-    subst (λ n. typing_of rows n ≡ Some nothing) c.entry-2.ensures (c.has_row.ensures.0 c.if-not-has_row.false ∙ ap Some c.nothing.ensures) in
-    on_ok c.check_rows.result
-    (λ sound. certified claim (omega arith) (omega arith) c.in_ok-check_places.ensures.ends c.in_ok-check_ascending.ensures.ok c.in_ok-check_places.ensures.placed entry sound)
-    c.check_rows.ensures.sound
+pub check_from-requires-clause-here : goal.check_from-requires-clause-here
+check_from-requires-clause-here c = first_boundary c.args.self.now.code.now c.in_default.ensures.counted.0 c.in_default.ensures.counted.1

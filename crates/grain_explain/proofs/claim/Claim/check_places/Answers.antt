@@ -1,19 +1,19 @@
-use Rattle.std.proofs.Common.{inl, inr, arith, subst}
+use Rattle.std.proofs.Common.{◌≤◌, inl, inr, arith, subst}
 use Rattle.grain_rules.specs.Code.{coded}
 use Rattle.grain_rules.specs.Layout.{IsBoundary}
 use Rattle.grain_rules.specs.Typing.{IsInChunk}
 use Rattle.grain_explain.specs.Claimed.{code_claimed}
 use Rattle.grain_explain.specs.declared.row.Row.{Row}
-use Rattle.grain_explain.proofs.Boundaries.{first_boundary, start_there}
+use Rattle.grain_explain.proofs.Boundaries.{start_there}
 use Rattle.grain_explain.proofs.Laying.{row_inside, row_read, rows_more}
 use Rattle.grain_explain.proofs.claim.Claim.check_places.Goals as goal
 use Rattle.grain_explain.proofs.claim.Claim.check_places.Goals.{then-here-entry-via-then-here-entry, then-here-entry-via-else-here-entry+then-here-end}
 
 pub loop-row-init : goal.loop-row-init
 loop-row-init c = record {
-  boundary = first_boundary c.args.self.now.code.now c.requires.whole.0 c.requires.whole.1;
-  below = λ k r l e. omega arith;
-  before_end = λ b. omega arith;
+  boundary = c.requires.here;
+  below = λ k r l e low. (let h = c.requires.before in omega arith);
+  before_end = λ b. (let h = c.requires.before in let o = c.requires.ordered in omega arith);
   placed = λ k r l e. absurd (omega arith);
 }
 
@@ -29,10 +29,11 @@ returns-then-here-entry-clause-err c = (
 
 pub returns-then-boundary-here-clause-err : goal.returns-then-boundary-here-clause-err
 returns-then-boundary-here-clause-err c =
-    let is = row_read c.args.self.now.rows.now c.loop-row.row c.here-item.result c.loop-row-test.true c.here-item.is in (
+    let is = row_read c.args.self.now.rows.now c.loop-row.row c.here-item.result c.loop-row-test.true c.here-item.is in
+    let low : c.args.self.now.chunk.now.entry ≤ c.here-item.result.at = (let l = c.if-here-entry.false in let e = c.entry.ensures in omega arith) in (
       c.here-item.result,
       is,
-      λ s. c.if-boundary-here.true (c.boundary_from-boundary.ensures.found (inl s) (c.loop-row.invariant.below c.loop-row.row c.here-item.result (omega arith) is)),
+      λ s. c.if-boundary-here.true (c.boundary_from-boundary.ensures.found (inl s) (c.loop-row.invariant.below c.loop-row.row c.here-item.result (omega arith) is low)),
     )
 
 pub loop-row-preserved : goal.loop-row-preserved
@@ -47,7 +48,7 @@ loop-row-preserved c =
     let at_boundary = subst (IsBoundary c.args.self.now.code.now) same c.boundary_from-boundary.ensures.boundary in
     record {
       boundary = c.boundary_from-boundary.ensures.boundary;
-      below = λ k r l e. (let h = c.requires.ascending c.loop-row.row k c.here-item.result r (omega arith) is e in omega arith);
+      below = λ k r l e above. (let h = c.requires.ascending c.loop-row.row k c.here-item.result r (omega arith) is e in omega arith);
       before_end = λ b. omega arith;
       placed = rows_more (λ (r : Row). IsInChunk (coded (code_claimed c.args.self.now)) c.args.self.now.chunk.now r.at) c.args.self.now.rows.now c.loop-row.row c.here-item.result is
           (record { entry = omega arith; end = omega arith; place = start_there c.args.self.now.code.now c.here-item.result.at at_boundary (omega arith) })

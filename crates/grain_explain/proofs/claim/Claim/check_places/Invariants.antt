@@ -9,7 +9,7 @@ use Rattle.grain_explain.proofs.claim.Claim.check_places.Given as goal
 abbrev pub invariant-loop-row : goal.invariant-loop-row
 invariant-loop-row l = record {
   boundary : IsBoundary l.self.code.now l.boundary;
-  below : (k : ℕ) (r : Row) → l.row ≤ k → slice_get l.self.rows.now k ≡ Some r → l.boundary ≤ r.at;
+  below : (k : ℕ) (r : Row) → l.row ≤ k → slice_get l.self.rows.now k ≡ Some r → l.self.chunk.now.entry ≤ r.at → l.boundary ≤ r.at;
   before_end : IsBoundary l.self.code.now l.self.chunk.now.end → l.boundary ≤ l.self.chunk.now.end;
   placed : (k : ℕ) (r : Row) → k < l.row → slice_get l.self.rows.now k ≡ Some r → IsInChunk (coded (code_claimed l.self)) l.self.chunk.now r.at;
 }
