@@ -124,7 +124,7 @@ pub enum VerifyError {
     OutOfMemory,
 }
 
-// Written out: a derived `clone` may fail at each field, and its proof takes four times as long.
+// Written out: a derived `clone` may fail at each field, and its proof takes ten times as long.
 impl Clone for VerifyError {
     fn clone(&self) -> Result<VerifyError, AllocError> {
         Ok(match *self {

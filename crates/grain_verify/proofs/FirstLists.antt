@@ -5,7 +5,7 @@ use Rattle.std.specs.Ordering.{is_eq}
 use Rattle.std.proofs.lemmas.Bool.{cases_eq, cases_lt}
 use Rattle.std.proofs.lemmas.Bool.Decides.{nat_tests}
 use Rattle.std.proofs.lemmas.Grind.{common_steps}
-use Rattle.std.proofs.lemmas.List.{get_or_append_left, get_or_past, get_or_push, get_or_read, get_or-set_same, get_or-set_other, length-set, length_push}
+use Rattle.std.proofs.lemmas.List.{get_or_append_left, get_or_past, get_or_push, get_or-set_same, get_or-set_other, length-set, length_push}
 use Rattle.grain_verify.specs.Lists.{AreFirsts, Grows, IsShared, IsSharing, base_cmp, first_on, firsts_of, found_in, found_with, list_in, no_node, node_cmp, list_count}
 use Rattle.grain_verify.specs.declared.lists.Base as kept
 use Rattle.grain_verify.specs.declared.lists.Lists.{Lists}

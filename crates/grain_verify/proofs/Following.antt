@@ -1,5 +1,5 @@
 -- How the flow of an instruction is followed, or refused.
-use Rattle.std.proofs.Common.{◌≡◌, ◌⊎◌, inl, inr, ℕ, ◌≤◌, List, [], ◌∷◌, ◌++◌, map, Option, refl, sym, ap, subst, ◌∙◌}
+use Rattle.std.proofs.Common.{◌≡◌, ◌⊎◌, inl, inr, ℕ, ◌<◌, ◌≤◌, List, [], ◌∷◌, ◌++◌, map, Option, refl, sym, ap, subst, ◌∙◌, arith}
 use Rattle.std.specs.List.{All}
 use Rattle.std.proofs.lemmas.List.{append-nil}
 use Rattle.std.proofs.lemmas.List.Elements.{All-nil}
@@ -10,7 +10,9 @@ use Rattle.grain_rules.specs.FlowFields.{bases_for, targets_for}
 use Rattle.grain_verify.specs.FlowView.{IsFollowed, IsMetBy, RefusesFlow, falls_to, flow, jumped, next_to}
 use Rattle.grain_verify.specs.Lists.{list_of, list_count}
 use Rattle.grain_verify.specs.declared.flow.Flow.{Flow}
+use Rattle.grain_verify.specs.declared.flow.Flow.TheVariants as ways
 use Rattle.grain_rules.specs.declared.error.VerifyError.{VerifyError}
+use Rattle.grain_rules.specs.declared.error.VerifyError.TheVariants as errors
 use Rattle.grain_verify.specs.declared.lists.Lists.{Lists}
 use Rattle.grain_verify.specs.declared.state.Arrival.{Arrival}
 use Rattle.grain_verify.specs.declared.state.State.{State}
@@ -21,6 +23,16 @@ pub refused_there : (starts : List ℕ) (chunk : Span) (switches : List (List �
     → RefusesFlow starts chunk switches at c after sent (flow way target) e
 refused_there starts chunk switches at c after sent way is target e same met refused =
     subst (λ (w : Flow). RefusesFlow starts chunk switches at c after sent (flow w target) e) (sym same) (inr (met, refused))
+
+-- an iterator is refused that isn't there, or its exit
+pub ended_refused : (starts : List ℕ) (chunk : Span) (switches : List (List ℕ)) (at : ℕ) (c : Counts) (after : State) (sent : List (Option State)) (way : Flow) (target : ℕ) (e : VerifyError)
+    → way ≡ ways.AdvancesIterator → (e ≡ errors.IteratorUnderflow at) × (c.iterators < 1) ⊎ (1 ≤ c.iterators) × RefusesTargetOf starts chunk at (target ∷ []) e
+    → RefusesFlow starts chunk switches at c after sent (flow way target) e
+ended_refused starts chunk switches at c after sent way target e same (inl (is, none)) =
+    let P : Flow → VerifyError → Type 0 = λ w r. RefusesFlow starts chunk switches at c after sent (flow w target) r in
+    subst (λ (w : Flow). P w e) (sym same) (subst (P ways.AdvancesIterator) (sym is) (inl (refl, none)))
+ended_refused starts chunk switches at c after sent way target e same (inr (there, refused)) =
+    refused_there starts chunk switches at c after sent way ways.AdvancesIterator target e same (record { iterators = there; handlers = omega arith }) (inl refused)
 
 -- an arrival that falls through, with the state that falls
 pub goes_on : (work : List Arrival) (here next : Arrival) (width : ℕ) (s fallen : State) → next ≡ next_to here width s → s ≡ fallen → work ++ next ∷ [] ≡ work ++ next_to here width fallen ∷ []

@@ -1,5 +1,5 @@
 -- No instruction sends its state to more places than all switches have targets, and one.
-use Rattle.std.proofs.Common.{◌≡◌, ℕ, ◌+◌, ◌*◌, ◌-◌, ◌<◌, ◌≤◌, inl, inr, Bool, true, false, cond, Option, List, [], ◌∷◌, ◌++◌, length, get_or, map, Some, Vec, ap, subst, ◌∙◌, arith}
+use Rattle.std.proofs.Common.{◌≡◌, ℕ, ◌+◌, ◌*◌, ◌-◌, ◌<◌, ◌≤◌, inl, inr, Bool, true, false, cond, Option, List, [], ◌∷◌, ◌++◌, length, get_or, map, Some, Vec, ap, subst, sym, ◌∙◌, arith}
 use Rattle.std.specs.Option.{option_to_list}
 use Rattle.std.proofs.Math.Nat.{mul-le-mul_left}
 use Rattle.std.proofs.lemmas.List.{length-append, length-map, length_push, get_or_past}
@@ -69,6 +69,14 @@ pub lighter_on : (p : Prepared) (t new : Traversal) (news olds : ℕ) → length
     → visits_in new.states ≤ length new.states → news ≤ olds + (all_targets (bytecode_of p).switches + 2) → weight p new news < weight p t olds
 lighter_on p t new news olds long further most few =
     outweighs (all_targets (bytecode_of p).switches + 2) (length t.states - visits_in t.states) (length new.states - visits_in new.states) news olds (omega (arith, long, further, most)) few
+
+-- once an instruction is marked, fewer are left that weren't visited
+pub fewer_left : (old marked new : List (Option State)) → visits_in marked ≡ visits_in old + 1 → length marked ≡ length old → new ≡ marked
+    → length new - visits_in new < length old - visits_in old
+fewer_left old marked new more long same =
+    let most : visits_in marked ≤ length marked = count_by-le-length (λ (o : Option State). is_some o) marked in
+    let left : length marked - visits_in marked < length old - visits_in old = omega (arith, more, long, most) in
+    subst (λ (xs : List (Option State)). length xs - visits_in xs < length old - visits_in old) (sym same) left
 
 -- once an instruction is marked and what it leads to is on its way, less may still come than before
 pub lighter_still : (p : Prepared) (t marked new : Traversal) (n first : ℕ) → visits_in marked.states ≡ visits_in t.states + 1 → length marked.states ≡ length t.states

@@ -1,5 +1,5 @@
 -- Refusals with the place of the chunk that is refused.
-use Rattle.std.specs.Prelude.{◌≡◌, ◌⊎◌, ℕ, List, Option, None, Some, Ok, Err, Result, Vec}
+use Rattle.std.specs.Prelude.{◌≡◌, ◌⊎◌, ℕ, List, None, Some, Ok, Err, Result, Vec}
 use Rattle.std.specs.declared.alloc.Global.{Global}
 use Rattle.grain_code.specs.Span.{Span}
 use Rattle.grain_rules.specs.Accepted.{Input}

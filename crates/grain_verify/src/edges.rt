@@ -1,11 +1,14 @@
 //! Pushing where an instruction may lead.
-ghost use Rattle.std.specs.Prelude.{◌≡◌, ◌<◌, ◌∷◌, ◌⊎◌, [], Some, get_or, length, map, slice_get, IfErr, IfNone, IfOk, IfSome, OnOk};
+ghost use Rattle.std.specs.Prelude.{◌≡◌, ◌+◌, ◌-◌, ◌<◌, ◌≤◌, ◌^◌, ◌∷◌, ◌⊎◌, [], Some, get_or, length, map, slice_get, IfErr, IfNone, IfOk, IfSome, OnOk};
 ghost use Rattle.std.specs.List.{All};
 ghost use Rattle.grain_verify.specs.Arrivals.{IsAtOrdinal, IsStartIn, Pushes, RefusesSwitch, RefusesTarget};
-ghost use Rattle.grain_verify.specs.Arrivals.{RefusesTargetOf, Sends, underway};
+ghost use Rattle.grain_verify.specs.Arrivals.{RefusesTargetOf, Sends, underway, view};
 ghost use Rattle.grain_rules.specs.Code.{switch_targets};
+ghost use Rattle.grain_rules.specs.Counts.{armed};
 ghost use Rattle.grain_rules.specs.Flow as flows;
+ghost use Rattle.grain_verify.specs.Lists.{Grows, IsShared, list_count, list_of};
 
+use crate::lists::Lists;
 use crate::state::{Arrival, State, check_same};
 use crate::states::States;
 use grain_bytecode::{Chunk, Starts, Switch};
@@ -79,6 +82,63 @@ pub(crate) fn push_target(
     let arrival = arrival_at(starts, chunk, at, target, after)?;
     work.push(arrival)?;
     Ok(())
+}
+
+/// Pushes a state to the exit of an iterator, without that iterator.
+///
+/// # Errors
+/// `IteratorUnderflow` where it has none, and those of [`push_target`].
+#[inline(always)]
+pub(crate) fn push_ended(
+    starts: &Starts,
+    chunk: &Chunk,
+    at: u32,
+    exit: u32,
+    state: State,
+    work: &mut Vec<Arrival>,
+) -> Result<(), VerifyError>
+    ensures met { OnOk result (1 ≤ state.iterators) }
+    ensures pushed { OnOk result (Pushes starts.now.starts chunk.now
+        (record state { iterators = state.iterators - 1 }) (exit ∷ [])
+        work.old.items work.new.items) }
+    ensures err { IfErr result (λ e.
+        ((e ≡ VerifyError.IteratorUnderflow at) × (state.iterators < 1))
+        ⊎ ((1 ≤ state.iterators)
+        × RefusesTargetOf starts.now.starts chunk.now at (exit ∷ []) e)) }
+{
+    let ended = state.without_iterators(1, at)?;
+    push_target(starts, chunk, at, exit, ended, work)
+}
+
+/// Arms a handler, and pushes the state that has it to where it catches. It answers that state, which falls through too.
+///
+/// # Errors
+/// Those of [`push_target`].
+#[inline(always)]
+pub(crate) fn push_armed(
+    starts: &Starts,
+    chunk: &Chunk,
+    at: u32,
+    target: u32,
+    state: State,
+    lists: &mut Lists,
+    work: &mut Vec<Arrival>,
+) -> Result<State, VerifyError>
+    requires shared { IsShared lists.old }
+    requires list { state.list ≤ list_count lists.old }
+    requires room { list_count lists.old + 1 < 2 ^ 32 }
+    ensures grows { OnOk result (Grows lists.old lists.new) }
+    ensures same { IfOk result (λ s. s ≡ record state { list = s.list }) }
+    ensures list { IfOk result (λ s. (s.list ≤ list_count lists.new)
+        × (list_of lists.new s.list ≡ armed (view lists.old state))) }
+    ensures pushed { IfOk result (λ s. Pushes starts.now.starts chunk.now s (target ∷ [])
+        work.old.items work.new.items) }
+    ensures err { IfErr result (λ e.
+        RefusesTargetOf starts.now.starts chunk.now at (target ∷ []) e) }
+{
+    let armed = state.with_handler(lists)?;
+    push_target(starts, chunk, at, target, armed, work)?;
+    Ok(armed)
 }
 
 /// Pushes the state to each target of the switch: those of its cases and of its ranges, and where it goes by default.

@@ -23,7 +23,7 @@ ghost use Rattle.grain_verify.specs.Walk.{HasHead, IsPassing, IsReady, bytecode_
 ghost use Rattle.grain_verify.specs.declared.lists.Lists.{Lists};
 
 use crate::by_tag::{effect_by_row, effect_by_tag, plain_next, row_of};
-use crate::edges::{arrival_at, push_table, push_target};
+use crate::edges::{arrival_at, push_armed, push_ended, push_table, push_target};
 use crate::effects::Effect;
 use crate::flow::Flow;
 use crate::lists::Lists;
@@ -196,16 +196,21 @@ impl Prepared<'_> {
         match effect.flow {
             Flow::Falls => Ok(Some(here.next(width, after))),
             Flow::Ends => Ok(None),
-            Flow::Jumps => Ok(Some(arrival_at(starts, chunk, at, target, after)?)),
-            Flow::Branches => {
-                push_target(starts, chunk, at, target, after, work)?;
-                Ok(Some(here.next(width, after)))
-            }
+            Flow::Jumps => match arrival_at(starts, chunk, at, target, after) {
+                Ok(next) => Ok(Some(next)),
+                Err(error) => Err(error),
+            },
+            Flow::Branches => match push_target(starts, chunk, at, target, after, work) {
+                Ok(()) => Ok(Some(here.next(width, after))),
+                Err(error) => Err(error),
+            },
             Flow::Switches => {
                 let switches = self.pools.switches;
                 let sent = &mut traversal.sent;
-                push_table(starts, chunk, at, switches, target, after, sent, work)?;
-                Ok(None)
+                match push_table(starts, chunk, at, switches, target, after, sent, work) {
+                    Ok(()) => Ok(None),
+                    Err(error) => Err(error),
+                }
             }
             Flow::BeginsIterator => {
                 let begun = State {
@@ -214,22 +219,30 @@ impl Prepared<'_> {
                 };
                 Ok(Some(here.next(width, begun)))
             }
-            Flow::AdvancesIterator => {
-                let ended = state.without_iterators(1, at)?;
-                push_target(starts, chunk, at, target, ended, work)?;
-                let advanced = State {
-                    operands: state.operands + 1,
-                    ..state
-                };
-                Ok(Some(here.next(width, advanced)))
-            }
-            Flow::EndsIterator => Ok(Some(here.next(width, state.without_iterators(1, at)?))),
+            Flow::AdvancesIterator => match push_ended(starts, chunk, at, target, state, work) {
+                Ok(()) => {
+                    let advanced = State {
+                        operands: state.operands + 1,
+                        ..state
+                    };
+                    Ok(Some(here.next(width, advanced)))
+                }
+                Err(error) => Err(error),
+            },
+            Flow::EndsIterator => match state.without_iterators(1, at) {
+                Ok(ended) => Ok(Some(here.next(width, ended))),
+                Err(error) => Err(error),
+            },
             Flow::PushesHandler => {
-                let armed = state.with_handler(lists)?;
-                push_target(starts, chunk, at, target, armed, work)?;
-                Ok(Some(here.next(width, armed)))
+                match push_armed(starts, chunk, at, target, state, lists, work) {
+                    Ok(armed) => Ok(Some(here.next(width, armed))),
+                    Err(error) => Err(error),
+                }
             }
-            Flow::PopsHandler => Ok(Some(here.next(width, state.without_handler(at, lists)?))),
+            Flow::PopsHandler => match state.without_handler(at, lists) {
+                Ok(left) => Ok(Some(here.next(width, left))),
+                Err(error) => Err(error),
+            },
         }
     }
 
@@ -441,29 +454,42 @@ impl Prepared<'_> {
             match row.flow {
                 TagFlow::Jumps if above => {
                     let flow = Flow::Jumps;
-                    here = self.visit_by_tag(chunk, here, head, row, flow, lists, traversal)?;
+                    match self.visit_by_tag(chunk, here, head, row, flow, lists, traversal) {
+                        Ok(next) => here = next,
+                        Err(error) => return Err(error),
+                    }
                 }
                 TagFlow::Branches if above => {
                     let flow = Flow::Branches;
-                    here = self.visit_by_tag(chunk, here, head, row, flow, lists, traversal)?;
+                    match self.visit_by_tag(chunk, here, head, row, flow, lists, traversal) {
+                        Ok(next) => here = next,
+                        Err(error) => return Err(error),
+                    }
                 }
                 TagFlow::PushesHandler if above => {
                     let flow = Flow::PushesHandler;
-                    here = self.visit_by_tag(chunk, here, head, row, flow, lists, traversal)?;
+                    match self.visit_by_tag(chunk, here, head, row, flow, lists, traversal) {
+                        Ok(next) => here = next,
+                        Err(error) => return Err(error),
+                    }
                     floor = here.state.floor_armed();
                 }
                 TagFlow::PopsHandler if above => {
                     let flow = Flow::PopsHandler;
-                    here = self.visit_by_tag(chunk, here, head, row, flow, lists, traversal)?;
+                    match self.visit_by_tag(chunk, here, head, row, flow, lists, traversal) {
+                        Ok(next) => here = next,
+                        Err(error) => return Err(error),
+                    }
                     floor = here.state.floor(lists);
                 }
-                _ => {
-                    let Some(next) = self.visit(chunk, here, head, row, lists, traversal)? else {
-                        return Ok(());
-                    };
-                    here = next;
-                    floor = here.state.floor(lists);
-                }
+                _ => match self.visit(chunk, here, head, row, lists, traversal) {
+                    Ok(Some(next)) => {
+                        here = next;
+                        floor = here.state.floor(lists);
+                    }
+                    Ok(None) => return Ok(()),
+                    Err(error) => return Err(error),
+                },
             }
         }
         Err(VerifyError::FallsOffTheEnd)

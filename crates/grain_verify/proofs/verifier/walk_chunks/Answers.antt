@@ -2,7 +2,7 @@ use Rattle.std.proofs.Common.{◌∙◌, arith}
 use Rattle.grain_rules.specs.Code.{coded}
 use Rattle.grain_rules.specs.Typing.{HasTyping, IsDeepest}
 use Rattle.grain_verify.specs.Walk.{bytecode_of}
-use Rattle.grain_verify.proofs.Metering.{counted_all, counted_more, counted_refused}
+use Rattle.grain_verify.proofs.Metering.{counted_more, counted_refused}
 use Rattle.grain_verify.proofs.Chunks.{passes_more, passes_there, refused_at, number_more}
 use Rattle.grain_verify.proofs.verifier.walk_chunks.Goals as goal
 

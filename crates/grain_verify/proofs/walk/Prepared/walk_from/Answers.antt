@@ -7,7 +7,7 @@ use Rattle.grain_verify.specs.Visits.{IsVisited}
 use Rattle.grain_verify.specs.Walk.{bytecode_of}
 use Rattle.grain_verify.specs.declared.state.Arrival.{Arrival}
 use Rattle.grain_verify.specs.declared.state.State.{State}
-use Rattle.grain_verify.proofs.Most.{lighter_still, lighter_visited, next_visited}
+use Rattle.grain_verify.proofs.Most.{fewer_left, lighter_still, lighter_visited, next_visited}
 use Rattle.grain_verify.proofs.Ordinals.{ordinal_low}
 use Rattle.grain_verify.proofs.Refusing.{err_so, ok_so}
 use Rattle.grain_rules.proofs.Splits.{boundary_apart}
@@ -83,7 +83,7 @@ visit_by_tag-requires-clause-above c = (c.others.floor, c.others.invariant.floor
 pub others-preserved-then-above : goal.others-preserved-then-above
 others-preserved-then-above c =
     let done = c.mark.ensures in
-    let told = c.in_ok-here-in-Jumps.ensures in
+    let told = c.in-Ok.ensures in
     record {
       walking = told.visited.walking c.mark.new.deepest done.halts;
       floor = told.floor c.others.floor c.others.invariant.floor;
@@ -98,7 +98,7 @@ visit_by_tag-requires-in-Branches-clause-above c = (c.others.floor, c.others.inv
 pub others-preserved-then-above-2 : goal.others-preserved-then-above-2
 others-preserved-then-above-2 c =
     let done = c.mark.ensures in
-    let told = c.in_ok-here-in-Branches.ensures in
+    let told = c.in-Ok-visit_by_tag.ensures in
     record {
       walking = told.visited.walking c.mark.new.deepest done.halts;
       floor = told.floor c.others.floor c.others.invariant.floor;
@@ -113,7 +113,7 @@ visit_by_tag-requires-in-PushesHandler-clause-above c = (c.others.floor, c.other
 pub others-preserved-then-above-3 : goal.others-preserved-then-above-3
 others-preserved-then-above-3 c =
     let done = c.mark.ensures in
-    let told = c.in_ok-here-in-PushesHandler.ensures in
+    let told = c.in-Ok-visit_by_tag-2.ensures in
     let is_floor = told.floor c.others.floor c.others.invariant.floor in
     record {
       walking = told.visited.walking c.mark.new.deepest done.halts;
@@ -127,16 +127,16 @@ pub visit_by_tag-requires-in-PopsHandler-clause-above : goal.visit_by_tag-requir
 visit_by_tag-requires-in-PopsHandler-clause-above c = (c.others.floor, c.others.invariant.floor, omega (arith, c.from.ensures, c.from-in-Some.ensures, c.if-above-4.true))
 
 pub floor-floor-requires-in-PopsHandler-clause-shared : goal.floor-floor-requires-in-PopsHandler-clause-shared
-floor-floor-requires-in-PopsHandler-clause-shared c = (c.in_ok-here-in-PopsHandler.ensures.visited.walking c.mark.new.deepest c.mark.ensures.halts).known.shared
+floor-floor-requires-in-PopsHandler-clause-shared c = (c.in-Ok-visit_by_tag-3.ensures.visited.walking c.mark.new.deepest c.mark.ensures.halts).known.shared
 
 pub floor-floor-requires-in-PopsHandler-clause-list : goal.floor-floor-requires-in-PopsHandler-clause-list
 floor-floor-requires-in-PopsHandler-clause-list c =
-    taken_named _ _ (c.in_ok-here-in-PopsHandler.ensures.visited.walking c.mark.new.deepest c.mark.ensures.halts)
+    taken_named _ _ (c.in-Ok-visit_by_tag-3.ensures.visited.walking c.mark.new.deepest c.mark.ensures.halts)
 
 pub others-preserved-then-above-4 : goal.others-preserved-then-above-4
 others-preserved-then-above-4 c =
     let done = c.mark.ensures in
-    let told = c.in_ok-here-in-PopsHandler.ensures in
+    let told = c.in-Ok-visit_by_tag-3.ensures in
     record {
       walking = told.visited.walking c.mark.new.deepest done.halts;
       floor = c.floor-floor-in-PopsHandler.ensures.floor;
@@ -145,31 +145,31 @@ others-preserved-then-above-4 c =
       lighter = lighter_visited _ _ _ _ c.others.traversal c.mark.new.traversal _ _ _ _ done.more done.long done.work told.visited c.others.invariant.lighter;
     }
 
-pub returns-in_default-2-clause-walking : goal.returns-in_default-2-clause-walking
-returns-in_default-2-clause-walking c =
+pub returns-in-Ok-None-clause-walking : goal.returns-in-Ok-None-clause-walking
+returns-in-Ok-None-clause-walking c =
     let new = c.visit.new in
     let at : Option Arrival → Type 0 = λ o. IsVisited c.args.self.now c.args.chunk.now c.others.lists new.lists c.mark.new.traversal new.traversal c.others.here (option_to_list o) in
-    let visited = subst at c.in_default-2.is c.in_ok-next-in_default-flow.ensures.visited in
+    let visited = subst at c.in-Ok-None.field-0-is c.in-Ok-None.ensures.visited in
     subst (λ (xs : List Arrival). IsWalking c.args.self.now c.args.chunk.now new.lists new.traversal xs c.mark.new.deepest) (append-nil new.traversal.work.items) (visited.walking c.mark.new.deepest c.mark.ensures.halts)
 
-pub floor-floor-requires-in_default-flow-clause-shared : goal.floor-floor-requires-in_default-flow-clause-shared
-floor-floor-requires-in_default-flow-clause-shared c = (c.in_ok-next-in_default-flow.ensures.visited.walking c.mark.new.deepest c.mark.ensures.halts).known.shared
+pub floor-floor-requires-in-Ok-Some-clause-shared : goal.floor-floor-requires-in-Ok-Some-clause-shared
+floor-floor-requires-in-Ok-Some-clause-shared c = (c.in-Ok-Some.ensures.visited.walking c.mark.new.deepest c.mark.ensures.halts).known.shared
 
-pub floor-floor-requires-in_default-flow-clause-list : goal.floor-floor-requires-in_default-flow-clause-list
-floor-floor-requires-in_default-flow-clause-list c =
+pub floor-floor-requires-in-Ok-Some-clause-list : goal.floor-floor-requires-in-Ok-Some-clause-list
+floor-floor-requires-in-Ok-Some-clause-list c =
     let new = c.visit.new in
-    let visited = next_visited _ _ _ _ _ _ _ _ _ c.in-Some-2.is c.in_ok-next-in_default-flow.ensures.visited in
+    let visited = next_visited _ _ _ _ _ _ _ _ _ c.in-Ok-Some.field-0-is c.in-Ok-Some.ensures.visited in
     taken_named _ _ (visited.walking c.mark.new.deepest c.mark.ensures.halts)
 
 pub others-preserved : goal.others-preserved
 others-preserved c =
     let done = c.mark.ensures in
     let new = c.visit.new in
-    let visited = next_visited _ _ _ _ _ _ _ _ _ c.in-Some-2.is c.in_ok-next-in_default-flow.ensures.visited in
+    let visited = next_visited _ _ _ _ _ _ _ _ _ c.in-Ok-Some.field-0-is c.in-Ok-Some.ensures.visited in
     record {
       walking = visited.walking c.mark.new.deepest done.halts;
-      floor = c.floor-floor-in_default-flow.ensures.floor;
-      small = c.floor-floor-in_default-flow.ensures.small;
+      floor = c.floor-floor-in-Ok-Some.ensures.floor;
+      small = c.floor-floor-in-Ok-Some.ensures.small;
       counted = done.counted ∙ sym (ap visits_in visited.states);
       lighter = lighter_visited _ _ _ _ c.others.traversal c.mark.new.traversal _ _ _ _ done.more done.long done.work visited c.others.invariant.lighter;
     }
@@ -182,3 +182,48 @@ returns-clause-within c =
 pub returns-clause-err : goal.returns-clause-err
 returns-clause-err c =
     inr (inr (c.requires.framed, taken_falls _ _ c.others.invariant.walking c.in_default.ensures.none))
+
+pub visit_by_tag-requires-clause-marked : goal.visit_by_tag-requires-clause-marked
+visit_by_tag-requires-clause-marked c = record { ready = c.requires.ready; framed = c.requires.framed; halts = (c.mark.new.deepest, c.mark.ensures.halts) }
+
+pub visit_by_tag-requires-in-Branches-clause-marked : goal.visit_by_tag-requires-in-Branches-clause-marked
+visit_by_tag-requires-in-Branches-clause-marked c = record { ready = c.requires.ready; framed = c.requires.framed; halts = (c.mark.new.deepest, c.mark.ensures.halts) }
+
+pub visit_by_tag-requires-in-PushesHandler-clause-marked : goal.visit_by_tag-requires-in-PushesHandler-clause-marked
+visit_by_tag-requires-in-PushesHandler-clause-marked c = record { ready = c.requires.ready; framed = c.requires.framed; halts = (c.mark.new.deepest, c.mark.ensures.halts) }
+
+pub visit_by_tag-requires-in-PopsHandler-clause-marked : goal.visit_by_tag-requires-in-PopsHandler-clause-marked
+visit_by_tag-requires-in-PopsHandler-clause-marked c = record { ready = c.requires.ready; framed = c.requires.framed; halts = (c.mark.new.deepest, c.mark.ensures.halts) }
+
+pub visit-requires-clause-marked : goal.visit-requires-clause-marked
+visit-requires-clause-marked c = record { ready = c.requires.ready; framed = c.requires.framed; halts = (c.mark.new.deepest, c.mark.ensures.halts) }
+
+pub others-smaller-in-Some-plain_next : goal.others-smaller-in-Some-plain_next
+others-smaller-in-Some-plain_next c = fewer_left c.others.traversal.states c.mark.new.traversal.states _ c.mark.ensures.more c.mark.ensures.long refl
+
+pub others-smaller-then-above : goal.others-smaller-then-above
+others-smaller-then-above c = fewer_left c.others.traversal.states c.mark.new.traversal.states _ c.mark.ensures.more c.mark.ensures.long c.in-Ok.ensures.visited.states
+
+pub others-smaller-then-above-2 : goal.others-smaller-then-above-2
+others-smaller-then-above-2 c = fewer_left c.others.traversal.states c.mark.new.traversal.states _ c.mark.ensures.more c.mark.ensures.long c.in-Ok-visit_by_tag.ensures.visited.states
+
+pub others-smaller-then-above-3 : goal.others-smaller-then-above-3
+others-smaller-then-above-3 c = fewer_left c.others.traversal.states c.mark.new.traversal.states _ c.mark.ensures.more c.mark.ensures.long c.in-Ok-visit_by_tag-2.ensures.visited.states
+
+pub others-smaller-then-above-4 : goal.others-smaller-then-above-4
+others-smaller-then-above-4 c = fewer_left c.others.traversal.states c.mark.new.traversal.states _ c.mark.ensures.more c.mark.ensures.long c.in-Ok-visit_by_tag-3.ensures.visited.states
+
+pub others-smaller : goal.others-smaller
+others-smaller c =
+    let visited = next_visited _ _ _ _ _ _ _ _ _ c.in-Ok-Some.field-0-is c.in-Ok-Some.ensures.visited in
+    fewer_left c.others.traversal.states c.mark.new.traversal.states _ c.mark.ensures.more c.mark.ensures.long visited.states
+
+pub returns-in-Ok-None-clause-counted : goal.returns-in-Ok-None-clause-counted
+returns-in-Ok-None-clause-counted c =
+    let new = c.visit.new in
+    let at : Option Arrival → Type 0 = λ o. IsVisited c.args.self.now c.args.chunk.now c.others.lists new.lists c.mark.new.traversal new.traversal c.others.here (option_to_list o) in
+    let visited = subst at c.in-Ok-None.field-0-is c.in-Ok-None.ensures.visited in
+    c.mark.ensures.counted ∙ sym (ap visits_in visited.states)
+
+pub returns-in-Ok-None-clause-within : goal.returns-in-Ok-None-clause-within
+returns-in-Ok-None-clause-within c = c.mark.ensures.within
