@@ -10,7 +10,7 @@ use std::alloc::{AllocError, Global};
 
 /// Counts at an instruction, or on their way there, and the place of the instruction from which they come: its distance from
 /// the chunk's entry.
-#[derive(Debug, Drop)]
+#[derive(Drop)]
 pub(crate) struct Arrival {
     pub(crate) row: Row,
     pub(crate) from: Option<usize>,

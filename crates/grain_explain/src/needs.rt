@@ -12,7 +12,7 @@ use grain_bytecode::Op;
 use grain_rules::{Effect, Pools, asked_beside, missing};
 
 /// What an operation finds lacking.
-#[derive(Clone, Copy, Debug, PartialEq, Eq)]
+#[derive(Clone, Copy)]
 pub(crate) enum Lack {
     /// These capabilities.
     Capabilities(Caps),
