@@ -53,7 +53,7 @@ impl Act {
     pub(crate) fn of(op: &Op, program: &Program) -> Act
         ensures { Does (setting_of program.now) op.now result }
     {
-        match op {
+        match *op {
             Op::Const(_)
             | Op::LoadLocal(_)
             | Op::EvalAst { .. }
@@ -73,7 +73,7 @@ impl Act {
                 receiver: Receiver::Local(_),
                 ..
             } => Act::Gives {
-                takes: usize::from(*argc).saturating_sub(1),
+                takes: usize::from(argc).saturating_sub(1),
             },
             Op::CallRef {
                 argc,
@@ -86,22 +86,22 @@ impl Act {
                 ..
             }
             | Op::Call { argc, .. } => Act::Gives {
-                takes: usize::from(*argc),
+                takes: usize::from(argc),
             },
             Op::Chain(index) => Act::Gives {
-                takes: consumed_at(program, *index),
+                takes: consumed_at(program, index),
             },
             Op::MakeArray(len) => Act::Gives {
-                takes: usize::from(*len),
+                takes: usize::from(len),
             },
             Op::MakeMap(len) => Act::Gives {
-                takes: 2 * usize::from(*len) + 1,
+                takes: 2 * usize::from(len) + 1,
             },
             Op::Curry(argc) => Act::Gives {
-                takes: usize::from(*argc) + 1,
+                takes: usize::from(argc) + 1,
             },
             Op::CallFnPtr { argc, .. } => Act::Gives {
-                takes: usize::from(*argc) + 1,
+                takes: usize::from(argc) + 1,
             },
             Op::StoreLocal { .. }
             | Op::AssignLocal { .. }
@@ -120,34 +120,31 @@ impl Act {
             | Op::Checkpoint
             | Op::Statement { .. } => Act::Takes { needs: 0, takes: 0 },
             Op::Unit => Act::Unit,
-            Op::Bool(value) => Act::Truth { value: *value },
+            Op::Bool(value) => Act::Truth { value },
             Op::Pop => Act::Pop,
             Op::Rotate(depth) => Act::Rotate {
-                depth: usize::from(*depth),
+                depth: usize::from(depth),
             },
-            Op::UnwindTo(depth) => Act::Unwind { depth: *depth },
-            Op::Jump(target) => Act::Jump { target: *target },
-            Op::JumpIfTrue { target } => Act::JumpIf {
-                target: *target,
-                when: true,
-            },
+            Op::UnwindTo(depth) => Act::Unwind { depth },
+            Op::Jump(target) => Act::Jump { target },
+            Op::JumpIfTrue { target } => Act::JumpIf { target, when: true },
             Op::JumpIfFalse { target } => Act::JumpIf {
-                target: *target,
+                target,
                 when: false,
             },
-            Op::SkipIfNotUnit { target } => Act::Skip { target: *target },
-            Op::Switch(index) => Act::Switch { index: *index },
+            Op::SkipIfNotUnit { target } => Act::Skip { target },
+            Op::Switch(index) => Act::Switch { index },
             Op::Return => Act::Return,
             Op::Throw => Act::Throw,
             Op::IterInit => Act::Begin,
             Op::IterNext { exit, counter_slot } => Act::Advance {
-                exit: *exit,
-                counter: *counter_slot,
+                exit,
+                counter: counter_slot,
             },
             Op::IterDrop => Act::End,
             Op::PushHandler { target, catch_var } => Act::Arm {
-                target: *target,
-                name: *catch_var,
+                target,
+                name: catch_var,
             },
             Op::PopHandler => Act::Disarm,
         }
