@@ -45,11 +45,11 @@ pub enum ExplainError {
 
 impl fmt::Display for ExplainError {
     fn fmt<W: fmt::Write>(&self, f: &mut fmt::Formatter<W>) -> fmt::Result {
-        match self {
-            ExplainError::BadCode => write!(f, "bad code"),
-            ExplainError::OutOfMemory => write!(f, "out of memory"),
-            ExplainError::Unfinished => write!(f, "unfinished"),
-        }
+        f.write_str(match *self {
+            ExplainError::BadCode => "bad code",
+            ExplainError::OutOfMemory => "out of memory",
+            ExplainError::Unfinished => "unfinished",
+        })
     }
 }
 

@@ -1,9 +1,9 @@
 //! The walk over one chunk: what it comes to, how, and the flaw that it meets.
-ghost use Rattle.std.specs.Prelude.{◌≡◌, ◌<◌, None, Some, get_or, length};
+ghost use Rattle.std.specs.Prelude.{◌≡◌, ◌<◌, None, Some, get_or, length, true};
 ghost use Rattle.std.specs.Prelude.{IfErr, IfOk, IfSome, OnOk};
 ghost use Rattle.std.specs.List.{All};
 ghost use Rattle.grain_rules.specs.Flaw.{ChunkFlaw};
-ghost use Rattle.grain_rules.specs.FlowFields.{targets_for};
+ghost use Rattle.grain_rules.specs.FlowFields.{falls_for, targets_for};
 ghost use Rattle.grain_rules.specs.EffectView.{flow_view};
 ghost use Rattle.grain_explain.specs.OnEdges.{counts_on};
 ghost use Rattle.grain_explain.specs.Claimed.{jumping};
@@ -225,6 +225,37 @@ impl Scene<'_> {
         ensures waits { OnOk result (All (IsCome self.now departure.now.slots.now) work.new.items) }
         ensures refusal { IfOk result (λ r. IfSome r (IsRefusalAt self.now)) }
     {
+        let here = departure.here;
+        let effect = departure.effect;
+        let targets = targets_of(self.alloc, self.pools, effect.flow)?;
+        if let Err(error) = self.check_targets(here.row.at, &targets) {
+            return Ok(Some(self.refuse(departure.slots, here, error)?));
+        }
+        let edge = OnEdge::to_targets(&here.row, effect);
+        self.push_all(departure, &targets, &edge, work)?;
+        if effect.flow.falls() {
+            self.fall(departure, work)
+        } else {
+            Ok(None)
+        }
+    }
+
+    /// Sends counts along the edge to the next instruction.
+    ///
+    /// # Errors
+    /// `OutOfMemory`, `Unfinished`.
+    fn fall(
+        &self,
+        departure: &Departure<'_>,
+        work: &mut Vec<Arrival>,
+    ) -> Result<Option<Refusal>, ExplainError>
+        requires ready { IsReadyScene self.now }
+        requires left { IsLeft self.now departure.now }
+        requires falls { falls_for (flow_view departure.now.effect.now.flow) ≡ true }
+        requires waits { All (IsCome self.now departure.now.slots.now) work.old.items }
+        ensures waits { OnOk result (All (IsCome self.now departure.now.slots.now) work.new.items) }
+        ensures refusal { IfOk result (λ r. IfSome r (IsRefusalAt self.now)) }
+    {
         let Departure {
             slots,
             here,
@@ -232,15 +263,6 @@ impl Scene<'_> {
             effect,
             next,
         } = *departure;
-        let targets = targets_of(self.alloc, self.pools, effect.flow)?;
-        if let Err(error) = self.check_targets(here.row.at, &targets) {
-            return Ok(Some(self.refuse(slots, here, error)?));
-        }
-        let edge = OnEdge::to_targets(&here.row, effect);
-        self.push_all(departure, &targets, &edge, work)?;
-        if !effect.flow.falls() {
-            return Ok(None);
-        }
         if next == self.chunk.end() as usize {
             return Ok(Some(self.refuse(slots, here, VerifyError::FallsOffTheEnd)?));
         }

@@ -1,15 +1,16 @@
 //! A whole run over lines.
 
-use crate::json::write_json;
 use crate::listing::Listing;
+use crate::object::write_json;
 use crate::paint::Paint;
 use crate::text::write_text;
 use grain_cases::{RunError, Summary, is_case, without_return};
+use json::Writer;
 use std::alloc::{AllocError, Global};
 use std::io::{BufRead, Write};
 
 /// How listings are written.
-#[derive(Clone, Copy, Debug, PartialEq, Eq)]
+#[derive(Clone, Copy)]
 pub enum Form {
     /// For people.
     Text(Paint),
@@ -25,19 +26,30 @@ fn content(line: &[u8]) -> &[u8] {
     }
 }
 
-/// Writes a listing behind the text.
+/// A listing as text.
+fn text_bytes(alloc: Global, paint: Paint, listing: &Listing) -> Result<Vec<u8>, AllocError> {
+    let mut text = String::new(alloc);
+    write_text(paint, listing, &mut text)?;
+    Ok(text.into_bytes())
+}
+
+/// A listing as one object of JSON on a line of its own.
+fn json_bytes(alloc: Global, listing: &Listing) -> Result<Vec<u8>, AllocError> {
+    let mut json = Writer::new(Vec::new(alloc));
+    write_json(alloc, listing, &mut json)?;
+    let mut bytes = json.into_inner();
+    bytes.push(b'\n')?;
+    Ok(bytes)
+}
+
+/// A listing as it is written.
 ///
 /// # Errors
 /// [`AllocError`] where memory was refused.
-fn write_listing(
-    alloc: Global,
-    form: Form,
-    listing: &Listing,
-    text: &mut String,
-) -> Result<(), AllocError> {
+fn listing_bytes(alloc: Global, form: Form, listing: &Listing) -> Result<Vec<u8>, AllocError> {
     match form {
-        Form::Text(paint) => write_text(alloc, paint, listing, text),
-        Form::Json => write_json(alloc, listing, text),
+        Form::Text(paint) => text_bytes(alloc, paint, listing),
+        Form::Json => json_bytes(alloc, listing),
     }
 }
 
@@ -66,7 +78,6 @@ pub fn run<R: BufRead, W: Write>(
 ) -> Result<Summary, RunError> {
     let mut summary = Summary { cases: 0, bad: 0 };
     let mut line = Vec::new(alloc);
-    let mut text = String::new(alloc);
     for _turn in 0..u64::MAX {
         if !read_line(reader, &mut line)? {
             return Ok(summary);
@@ -76,9 +87,8 @@ pub fn run<R: BufRead, W: Write>(
             continue;
         }
         let listing = Listing::of(alloc, case)?;
-        text.clear();
-        write_listing(alloc, form, &listing, &mut text)?;
-        if writer.write_all(text.as_bytes()).is_err() || writer.flush().is_err() {
+        let bytes = listing_bytes(alloc, form, &listing)?;
+        if writer.write_all(&bytes).is_err() || writer.flush().is_err() {
             return Err(RunError::Write);
         }
         summary.count(listing.is_bad());

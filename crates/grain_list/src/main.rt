@@ -9,8 +9,8 @@
 mod code;
 mod driver;
 mod explained;
-mod json;
 mod listing;
+mod object;
 mod paint;
 mod problem;
 mod sentence;

@@ -3,7 +3,7 @@
 use std::alloc::AllocError;
 
 /// Whether texts are coloured.
-#[derive(Clone, Copy, Debug, PartialEq, Eq)]
+#[derive(Clone, Copy)]
 pub enum Paint {
     /// They aren't.
     Plain,
@@ -12,7 +12,7 @@ pub enum Paint {
 }
 
 /// What a piece of a listing is.
-#[derive(Clone, Copy, Debug, PartialEq, Eq)]
+#[derive(Clone, Copy)]
 pub enum Kind {
     /// What passes.
     Good,

@@ -4,7 +4,7 @@ use grain_cases::{are_hex_digits, caps_of, chunk_of, next_word, u32_of};
 use std::fmt;
 
 /// What is wrong with a line that is no case. Words are counted from 1.
-#[derive(Clone, Copy, Debug, PartialEq, Eq)]
+#[derive(Clone, Copy)]
 pub enum Problem {
     /// There is no word.
     NoWord,
@@ -19,7 +19,7 @@ pub enum Problem {
 }
 
 /// What a word of a case spells.
-#[derive(Clone, Copy, Debug, PartialEq, Eq)]
+#[derive(Clone, Copy)]
 pub enum Field {
     /// Bytes.
     Hex,
@@ -129,8 +129,8 @@ impl Problem {
 impl fmt::Display for Problem {
     fn fmt<W: fmt::Write>(&self, f: &mut fmt::Formatter<W>) -> fmt::Result {
         match self {
-            Problem::NoWord => write!(f, "The line has no word."),
-            Problem::UnknownForm => write!(f, "The first word is none of code, site and verify."),
+            Problem::NoWord => f.write_str("The line has no word."),
+            Problem::UnknownForm => f.write_str("The first word is none of code, site and verify."),
             Problem::TooMany(number) => write!(f, "Word {number} is one too many."),
             Problem::Missing(field) => {
                 let name = field.name();

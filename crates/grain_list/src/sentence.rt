@@ -1,107 +1,154 @@
 //! What is said of a refusal: what is wrong, and which rule it breaks.
 
 use grain::{Flags, Row, VerifyError};
-use std::alloc::{AllocError, Global};
+use std::alloc::AllocError;
 
-/// So many of something, in words.
-fn counted(alloc: Global, count: usize, what: &str) -> Result<String, AllocError> {
+/// Writes so many of something, in words.
+fn write_counted(count: usize, what: &str, text: &mut String) -> Result<(), AllocError> {
     match count {
-        0 => format!(in alloc; "no {what}s"),
-        1 => format!(in alloc; "1 {what}"),
-        _ => format!(in alloc; "{count} {what}s"),
+        0 => write!(text, "no {what}s"),
+        1 => write!(text, "1 {what}"),
+        _ => write!(text, "{count} {what}s"),
     }
 }
 
-/// In what two states at one address differ.
-fn differing(alloc: Global, here: &Row, there: &Row) -> Result<String, AllocError> {
-    let at = here.at;
-    let (one, other) = if here.operands != there.operands {
-        (
-            counted(alloc, here.operands as usize, "operand")?,
-            counted(alloc, there.operands as usize, "operand")?,
-        )
-    } else if here.iterators != there.iterators {
-        (
-            counted(alloc, here.iterators as usize, "iterator")?,
-            counted(alloc, there.iterators as usize, "iterator")?,
-        )
-    } else {
-        return format!(in alloc; "Two ways to {at} differ in the bases of armed handlers.");
-    };
-    format!(in alloc; "Two ways to {at} differ: one comes with {one}, the other with {other}.")
+/// Writes with how many of something each of two ways comes.
+fn write_both(one: u32, other: u32, what: &str, text: &mut String) -> Result<(), AllocError> {
+    text.push_str(": one comes with ")?;
+    write_counted(one as usize, what, text)?;
+    text.push_str(", the other with ")?;
+    write_counted(other as usize, what, text)?;
+    text.push_str(".")
 }
 
-/// What is wrong at the state to which a way leads, that has no more than this one way.
-fn wrong_there(alloc: Global, error: &VerifyError, here: &Row) -> Result<String, AllocError> {
+/// Writes in what two states at one address differ.
+fn write_differing(here: &Row, there: &Row, text: &mut String) -> Result<(), AllocError> {
     let at = here.at;
-    match error {
+    write!(text, "Two ways to {at} differ")?;
+    if here.operands != there.operands {
+        write_both(here.operands, there.operands, "operand", text)
+    } else if here.iterators != there.iterators {
+        write_both(here.iterators, there.iterators, "iterator", text)
+    } else {
+        text.push_str(" in the bases of armed handlers.")
+    }
+}
+
+/// Writes what is wrong with an instruction that is come to, behind its address.
+fn write_wrong_instruction(error: &VerifyError, text: &mut String) -> Result<(), AllocError> {
+    match *error {
         VerifyError::MissingCaps { missing, .. } => {
             let bits = missing.bits();
-            format!(in alloc;
-                "The instruction at {at} asks capabilities that are missing: {bits:04x}."
-            )
+            write!(text, "asks capabilities that are missing: {bits:04x}.")
         }
         VerifyError::JumpOutOfRange { target, .. } => {
-            format!(in alloc;
-                "The instruction at {at} leads to {target}, which is outside the chunk."
-            )
+            write!(text, "leads to {target}, which is outside the chunk.")
         }
         VerifyError::JumpIntoAnInstruction { target, .. } => {
-            format!(in alloc;
-                "The instruction at {at} leads to {target}, where no instruction begins."
-            )
+            write!(text, "leads to {target}, where no instruction begins.")
         }
         VerifyError::Underflow { need, have, .. } => {
-            let needed = counted(alloc, *need, "operand")?;
-            format!(in alloc; "The instruction at {at} needs {needed}, and finds {have}.")
+            text.push_str("needs ")?;
+            write_counted(need, "operand", text)?;
+            write!(text, ", and finds {have}.")
         }
+        VerifyError::SinksBelowHandler { need, have, .. } => write!(
+            text,
+            "leaves {have} of the {need} that stood when the last handler was armed."
+        ),
         VerifyError::FallsOffTheEnd => {
-            format!(in alloc;
-                "The instruction at {at} is the last of the chunk, and falls through."
-            )
-        }
-        VerifyError::StackExceedsDeclared { needed, declared } => {
-            let most = counted(alloc, *needed, "operand")?;
-            format!(in alloc; "The chunk comes to {most} at {at}, and declares {declared}.")
+            text.push_str("is the last of the chunk, and falls through.")
         }
         VerifyError::IteratorUnderflow { .. } => {
-            format!(in alloc; "The instruction at {at} needs an iterator, and finds none.")
+            text.push_str("needs an iterator, and finds none.")
         }
         VerifyError::HandlerUnderflow { .. } => {
-            format!(in alloc; "The instruction at {at} needs an armed handler, and finds none.")
+            text.push_str("needs an armed handler, and finds none.")
         }
-        VerifyError::SinksBelowHandler { need, have, .. } => {
-            format!(in alloc;
-                "The instruction at {at} leaves {have} of the {need} that stood when the last handler was armed."
-            )
+        VerifyError::StackExceedsDeclared { .. }
+        | VerifyError::DepthConflict { .. }
+        | VerifyError::Undecodable { .. }
+        | VerifyError::TrailingBytes { .. }
+        | VerifyError::ChunkOutOfRange { .. }
+        | VerifyError::BadIndex { .. }
+        | VerifyError::OutOfMemory => write!(text, "is refused: {error}"),
+    }
+}
+
+/// Writes that the stack is too deep at an address.
+fn write_depth(at: u32, needed: usize, declared: u16, text: &mut String) -> Result<(), AllocError> {
+    text.push_str("The chunk comes to ")?;
+    write_counted(needed, "operand", text)?;
+    write!(text, " at {at}, and declares {declared}.")
+}
+
+/// Writes what is wrong at the state to which a way leads, that has no more than this one way.
+fn write_wrong_there(error: &VerifyError, here: &Row, text: &mut String) -> Result<(), AllocError> {
+    let at = here.at;
+    match *error {
+        VerifyError::StackExceedsDeclared { needed, declared } => {
+            write_depth(at, needed, declared, text)
+        }
+        VerifyError::MissingCaps { .. }
+        | VerifyError::JumpOutOfRange { .. }
+        | VerifyError::JumpIntoAnInstruction { .. }
+        | VerifyError::Underflow { .. }
+        | VerifyError::SinksBelowHandler { .. }
+        | VerifyError::FallsOffTheEnd
+        | VerifyError::IteratorUnderflow { .. }
+        | VerifyError::HandlerUnderflow { .. } => {
+            write!(text, "The instruction at {at} ")?;
+            write_wrong_instruction(error, text)
         }
         VerifyError::DepthConflict { .. }
         | VerifyError::Undecodable { .. }
         | VerifyError::TrailingBytes { .. }
         | VerifyError::ChunkOutOfRange { .. }
         | VerifyError::BadIndex { .. }
-        | VerifyError::OutOfMemory => format!(in alloc; "{error}"),
+        | VerifyError::OutOfMemory => write!(text, "{error}"),
     }
 }
 
-/// What is wrong, to which no way leads: with the code, or with the chunk itself.
-fn wrong_frame(alloc: Global, error: &VerifyError) -> Result<String, AllocError> {
-    match error {
-        VerifyError::Undecodable { at } => { format!(in alloc; "No instruction stands at {at}.") }
-        VerifyError::BadIndex { at, what, index } => {
-            format!(in alloc; "The instruction at {at} names {what} {index}, and there is none.")
+/// Writes that a chunk runs backwards, or past the code.
+fn write_out_of_range(
+    entry: u32,
+    end: u32,
+    len: usize,
+    text: &mut String,
+) -> Result<(), AllocError> {
+    write!(text, "The chunk ends at {end}, ")?;
+    if end < entry {
+        write!(text, "before its entry at {entry}.")
+    } else {
+        write!(text, "and the code has {len} bytes.")
+    }
+}
+
+/// Writes that a chunk begins or ends inside an instruction.
+fn write_inside(at: usize, target: u32, text: &mut String) -> Result<(), AllocError> {
+    if at == target as usize {
+        write!(
+            text,
+            "The chunk begins at {target}, where no instruction does."
+        )
+    } else {
+        write!(text, "The chunk ends at {target}, inside an instruction.")
+    }
+}
+
+/// Writes what is wrong, to which no way leads: with the code, or with the chunk itself.
+fn write_wrong_frame(error: &VerifyError, text: &mut String) -> Result<(), AllocError> {
+    match *error {
+        VerifyError::Undecodable { at } => write!(text, "No instruction stands at {at}."),
+        VerifyError::BadIndex { at, what, index } => write!(
+            text,
+            "The instruction at {at} names {what} {index}, and there is none."
+        ),
+        VerifyError::ChunkOutOfRange { entry, end, len } => {
+            write_out_of_range(entry, end, len, text)
         }
-        VerifyError::ChunkOutOfRange { entry, end, len } => if end < entry {
-            format!(in alloc; "The chunk ends at {end}, before its entry at {entry}.")
-        } else {
-            format!(in alloc; "The chunk ends at {end}, and the code has {len} bytes.")
-        },
-        VerifyError::JumpIntoAnInstruction { at, target } => if *at == *target as usize {
-            format!(in alloc; "The chunk begins at {target}, where no instruction does.")
-        } else {
-            format!(in alloc; "The chunk ends at {target}, inside an instruction.")
-        },
-        VerifyError::FallsOffTheEnd => String::from_str(alloc, "The chunk is empty."),
+        VerifyError::JumpIntoAnInstruction { at, target } => write_inside(at, target, text),
+        VerifyError::FallsOffTheEnd => text.push_str("The chunk is empty."),
         VerifyError::MissingCaps { .. }
         | VerifyError::TrailingBytes { .. }
         | VerifyError::JumpOutOfRange { .. }
@@ -111,25 +158,25 @@ fn wrong_frame(alloc: Global, error: &VerifyError) -> Result<String, AllocError>
         | VerifyError::IteratorUnderflow { .. }
         | VerifyError::HandlerUnderflow { .. }
         | VerifyError::SinksBelowHandler { .. }
-        | VerifyError::OutOfMemory => format!(in alloc; "{error}"),
+        | VerifyError::OutOfMemory => write!(text, "{error}"),
     }
 }
 
-/// What is wrong, in a sentence. The ways are those to the flaw, the last state first; there are none where the code or the chunk
-/// itself is refused.
+/// Writes what is wrong, in a sentence. The ways are those to the flaw, the last state first; there are none where the code or the
+/// chunk itself is refused.
 ///
 /// # Errors
 /// [`AllocError`] where memory was refused.
-pub fn wrong(
-    alloc: Global,
+pub fn write_wrong(
     error: &VerifyError,
     way: &[Row],
     other: &[Row],
-) -> Result<String, AllocError> {
+    text: &mut String,
+) -> Result<(), AllocError> {
     match (way.first(), other.first()) {
-        (Some(here), Some(there)) => differing(alloc, here, there),
-        (Some(here), None) => wrong_there(alloc, error, here),
-        (None, _) => wrong_frame(alloc, error),
+        (Some(here), Some(there)) => write_differing(here, there, text),
+        (Some(here), None) => write_wrong_there(error, here, text),
+        (None, _) => write_wrong_frame(error, text),
     }
 }
 

@@ -3,9 +3,9 @@
 use crate::code::{CodeListing, flow_of, target_of};
 use crate::listing::{Body, Listing, ProgramListing};
 use crate::paint::{Kind, Paint};
-use crate::sentence::{rule, wrong};
+use crate::sentence::{rule, write_wrong};
 use grain::{Base, Chunk, ExplainedChunk, ExplainedRefusal, Flow, Op, Row, VerifyError};
-use std::alloc::{AllocError, Global};
+use std::alloc::AllocError;
 
 /// How wide the column of bytes is at least.
 const BYTES: usize = 14;
@@ -181,16 +181,16 @@ fn write_table(
 
 /// Writes what is wrong, and the rule that it breaks.
 fn write_sentences(
-    alloc: Global,
     paint: Paint,
     error: &VerifyError,
     way: &[Row],
     other: &[Row],
     text: &mut String,
 ) -> Result<(), AllocError> {
-    let said = wrong(alloc, error, way, other)?;
     text.push_str("  ")?;
-    paint.write(Kind::Flaw, said.as_str(), text)?;
+    paint.begin(Kind::Flaw, text)?;
+    write_wrong(error, way, other, text)?;
+    paint.end(Kind::Flaw, text)?;
     let rule = rule(error);
     write!(text, "\n  The rule: {rule}\n")?;
     Ok(())
@@ -218,14 +218,13 @@ fn write_way(
 
 /// Writes why a chunk is refused, with the ways to its flaw.
 fn write_refusal(
-    alloc: Global,
     paint: Paint,
     code: &CodeListing,
     refusal: &ExplainedRefusal,
     text: &mut String,
 ) -> Result<(), AllocError> {
     let ExplainedRefusal { error, way, other } = refusal;
-    write_sentences(alloc, paint, error, way, other, text)?;
+    write_sentences(paint, error, way, other, text)?;
     if way.is_empty() {
         return Ok(());
     }
@@ -238,7 +237,6 @@ fn write_refusal(
 
 /// Writes a chunk: its instructions with what stands there, and why it is refused, if it is.
 fn write_chunk(
-    alloc: Global,
     paint: Paint,
     code: &CodeListing,
     place: usize,
@@ -263,7 +261,7 @@ fn write_chunk(
         write_table(paint, code, items, explained, text)?;
     }
     match &explained.refusal {
-        Some(refusal) => write_refusal(alloc, paint, code, refusal, text),
+        Some(refusal) => write_refusal(paint, code, refusal, text),
         None => Ok(()),
     }
 }
@@ -293,7 +291,6 @@ fn write_code(paint: Paint, code: &CodeListing, text: &mut String) -> Result<(),
 
 /// Writes a program: its chunks, or its code and why it is refused, where it is refused before its chunks.
 fn write_program(
-    alloc: Global,
     paint: Paint,
     program: &ProgramListing,
     text: &mut String,
@@ -302,13 +299,13 @@ fn write_program(
     if explained.chunks.is_empty() {
         write_code(paint, &program.code, text)?;
         if let Err(refusal) = &explained.verdict {
-            write_sentences(alloc, paint, &refusal.error, &[], &[], text)?;
+            write_sentences(paint, &refusal.error, &[], &[], text)?;
         }
         return Ok(());
     }
     let pairs = program.chunks.iter().zip(explained.chunks.iter());
     for (place, (chunk, explained)) in pairs.enumerate() {
-        write_chunk(alloc, paint, &program.code, place, chunk, explained, text)?;
+        write_chunk(paint, &program.code, place, chunk, explained, text)?;
     }
     Ok(())
 }
@@ -317,12 +314,7 @@ fn write_program(
 ///
 /// # Errors
 /// [`AllocError`] where memory was refused.
-pub fn write_text(
-    alloc: Global,
-    paint: Paint,
-    listing: &Listing,
-    text: &mut String,
-) -> Result<(), AllocError> {
+pub fn write_text(paint: Paint, listing: &Listing, text: &mut String) -> Result<(), AllocError> {
     paint.write(Kind::Heading, listing.line.as_str(), text)?;
     let verdict = listing.verdict.as_str();
     write!(text, "\n{verdict}\n")?;
@@ -330,7 +322,7 @@ pub fn write_text(
         Body::Bad(problem) => write!(text, "  {problem}\n")?,
         Body::Site => {}
         Body::Code(code) | Body::Unexplained(code) => write_code(paint, code, text)?,
-        Body::Program(program) => write_program(alloc, paint, program, text)?,
+        Body::Program(program) => write_program(paint, program, text)?,
     }
     text.push_str("\n")
 }

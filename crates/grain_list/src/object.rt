@@ -1,0 +1,297 @@
+//! A listing as a line of JSON, for programs.
+
+use crate::code::{CodeListing, flow_of, target_of};
+use crate::listing::{Body, Listing, ProgramListing};
+use crate::sentence::{rule, write_wrong};
+use crate::text::{row_at, write_hex};
+use grain::{Base, Chunk, ExplainedChunk, ExplainedRefusal, Flow, Op, Row, VerifyError};
+use json::Writer;
+use std::alloc::{AllocError, Global};
+
+fn write_number(name: &str, number: u64, json: &mut Writer) -> Result<(), AllocError> {
+    json.key(name)?;
+    json.u64(number)
+}
+
+/// Writes a member that is a number, or null where there is none.
+fn write_option(name: &str, number: Option<u32>, json: &mut Writer) -> Result<(), AllocError> {
+    match number {
+        Some(number) => write_number(name, u64::from(number), json),
+        None => write_null(name, json),
+    }
+}
+
+fn write_truth(name: &str, truth: bool, json: &mut Writer) -> Result<(), AllocError> {
+    json.key(name)?;
+    json.boolean(truth)
+}
+
+fn write_words(name: &str, words: &str, json: &mut Writer) -> Result<(), AllocError> {
+    json.key(name)?;
+    json.string(words)
+}
+
+fn write_null(name: &str, json: &mut Writer) -> Result<(), AllocError> {
+    json.key(name)?;
+    json.null()
+}
+
+/// Begins a member that is an array.
+fn begin_array(name: &str, json: &mut Writer) -> Result<(), AllocError> {
+    json.key(name)?;
+    json.begin_array()
+}
+
+/// Begins a member that is an object.
+fn begin_object(name: &str, json: &mut Writer) -> Result<(), AllocError> {
+    json.key(name)?;
+    json.begin_object()
+}
+
+/// Writes the base of an armed handler.
+fn write_base(base: &Base, json: &mut Writer) -> Result<(), AllocError> {
+    json.begin_object()?;
+    write_number("operands", u64::from(base.operands()), json)?;
+    write_number("iterators", u64::from(base.iterators()), json)?;
+    json.end_object()
+}
+
+fn write_bases(bases: &[Base], json: &mut Writer) -> Result<(), AllocError> {
+    begin_array("bases", json)?;
+    for base in bases {
+        write_base(base, json)?;
+    }
+    json.end_array()
+}
+
+/// Writes what stands at an address.
+fn write_state(row: &Row, json: &mut Writer) -> Result<(), AllocError> {
+    json.begin_object()?;
+    write_number("at", u64::from(row.at), json)?;
+    write_number("operands", u64::from(row.operands), json)?;
+    write_number("iterators", u64::from(row.iterators), json)?;
+    write_bases(&row.bases, json)?;
+    json.end_object()
+}
+
+/// Writes a way, the chunk's entry first.
+fn write_way(name: &str, way: &[Row], json: &mut Writer) -> Result<(), AllocError> {
+    begin_array(name, json)?;
+    for row in way.iter().rev() {
+        write_state(row, json)?;
+    }
+    json.end_array()
+}
+
+/// Writes what stands at an instruction, and from where that was come to.
+fn write_found(found: Option<(&Row, Option<u32>)>, json: &mut Writer) -> Result<(), AllocError> {
+    match found {
+        Some((row, from)) => {
+            json.key("state")?;
+            write_state(row, json)?;
+            write_option("from", from, json)
+        }
+        None => {
+            write_null("state", json)?;
+            write_null("from", json)
+        }
+    }
+}
+
+/// Writes the bytes of an instruction.
+fn write_bytes(alloc: Global, bytes: &[u8], json: &mut Writer) -> Result<(), AllocError> {
+    let mut digits = String::new(alloc);
+    write_hex(bytes, &mut digits)?;
+    write_words("bytes", digits.as_str(), json)
+}
+
+/// Writes an operation.
+fn write_op(alloc: Global, op: &Op, json: &mut Writer) -> Result<(), AllocError> {
+    let shown = format!(in alloc; "{op:?}")?;
+    write_words("instruction", shown.as_str(), json)
+}
+
+/// Writes how an operation is left.
+fn write_flow(flow: Flow, json: &mut Writer) -> Result<(), AllocError> {
+    write_option("target", target_of(flow), json)?;
+    write_truth("catches", matches!(flow, Flow::PushesHandler(_)), json)?;
+    write_truth("falls", flow.falls(), json)
+}
+
+/// Writes an instruction with what stands there, and from where that was come to.
+fn write_item(
+    alloc: Global,
+    code: &CodeListing,
+    item: &(usize, Op),
+    found: Option<(&Row, Option<u32>)>,
+    json: &mut Writer,
+) -> Result<(), AllocError> {
+    let (at, op) = item;
+    json.begin_object()?;
+    write_number("at", *at as u64, json)?;
+    write_bytes(alloc, code.bytes_at(*at), json)?;
+    write_op(alloc, op, json)?;
+    write_flow(flow_of(op), json)?;
+    write_found(found, json)?;
+    json.end_object()
+}
+
+/// Writes what the verdict says of a refusal.
+fn write_error(alloc: Global, error: &VerifyError, json: &mut Writer) -> Result<(), AllocError> {
+    let said = format!(in alloc; "{error}")?;
+    write_words("error", said.as_str(), json)
+}
+
+/// Writes what is wrong, in a sentence.
+fn write_sentence(
+    alloc: Global,
+    error: &VerifyError,
+    way: &[Row],
+    other: &[Row],
+    json: &mut Writer,
+) -> Result<(), AllocError> {
+    let mut said = String::new(alloc);
+    write_wrong(error, way, other, &mut said)?;
+    write_words("wrong", said.as_str(), json)
+}
+
+/// Writes why something is refused.
+fn write_refusal(
+    alloc: Global,
+    error: &VerifyError,
+    way: &[Row],
+    other: &[Row],
+    json: &mut Writer,
+) -> Result<(), AllocError> {
+    begin_object("refusal", json)?;
+    write_error(alloc, error, json)?;
+    write_sentence(alloc, error, way, other, json)?;
+    write_words("rule", rule(error), json)?;
+    write_way("way", way, json)?;
+    write_way("other", other, json)?;
+    json.end_object()
+}
+
+/// Writes why a chunk is refused, if it is.
+fn write_chunk_refusal(
+    alloc: Global,
+    refusal: &Option<ExplainedRefusal>,
+    json: &mut Writer,
+) -> Result<(), AllocError> {
+    match refusal {
+        Some(ExplainedRefusal { error, way, other }) => {
+            write_refusal(alloc, error, way, other, json)
+        }
+        None => write_null("refusal", json),
+    }
+}
+
+/// Writes the instructions of a chunk.
+fn write_chunk_items(
+    alloc: Global,
+    code: &CodeListing,
+    chunk: &Chunk,
+    explained: &ExplainedChunk,
+    json: &mut Writer,
+) -> Result<(), AllocError> {
+    begin_array("items", json)?;
+    for item in code.between(chunk.entry() as usize, chunk.end() as usize) {
+        write_item(alloc, code, item, row_at(explained, item.0), json)?;
+    }
+    json.end_array()
+}
+
+fn write_chunk(
+    alloc: Global,
+    code: &CodeListing,
+    chunk: &Chunk,
+    explained: &ExplainedChunk,
+    json: &mut Writer,
+) -> Result<(), AllocError> {
+    json.begin_object()?;
+    write_number("entry", u64::from(chunk.entry()), json)?;
+    write_number("end", u64::from(chunk.end()), json)?;
+    write_number("declared", u64::from(chunk.max_stack()), json)?;
+    write_chunk_refusal(alloc, &explained.refusal, json)?;
+    write_chunk_items(alloc, code, chunk, explained, json)?;
+    json.end_object()
+}
+
+/// Writes what is wrong with a line that is no case.
+fn write_problem(alloc: Global, body: &Body, json: &mut Writer) -> Result<(), AllocError> {
+    match body {
+        Body::Bad(problem) => {
+            let said = format!(in alloc; "{problem}")?;
+            write_words("problem", said.as_str(), json)
+        }
+        Body::Site | Body::Code(_) | Body::Program(_) | Body::Unexplained(_) => {
+            write_null("problem", json)
+        }
+    }
+}
+
+/// Why a program is refused before its chunks, if it is.
+fn early_error(program: &ProgramListing) -> Option<&VerifyError> {
+    match &program.explained.verdict {
+        Err(refusal) if program.explained.chunks.is_empty() => Some(&refusal.error),
+        _ => None,
+    }
+}
+
+/// Writes why code with chunks is refused before these, if it is.
+fn write_early_refusal(alloc: Global, body: &Body, json: &mut Writer) -> Result<(), AllocError> {
+    let error = match body {
+        Body::Program(program) => early_error(program),
+        Body::Bad(_) | Body::Site | Body::Code(_) | Body::Unexplained(_) => None,
+    };
+    match error {
+        Some(error) => write_refusal(alloc, error, &[], &[], json),
+        None => write_null("refusal", json),
+    }
+}
+
+/// The code that is listed without chunks, if there is any.
+fn bare_code(body: &Body) -> Option<&CodeListing> {
+    match body {
+        Body::Code(code) | Body::Unexplained(code) => Some(code),
+        Body::Program(program) if program.explained.chunks.is_empty() => Some(&program.code),
+        Body::Bad(_) | Body::Site | Body::Program(_) => None,
+    }
+}
+
+/// Writes the instructions of code that is listed without chunks.
+fn write_items(alloc: Global, body: &Body, json: &mut Writer) -> Result<(), AllocError> {
+    begin_array("items", json)?;
+    if let Some(code) = bare_code(body) {
+        for item in &code.items {
+            write_item(alloc, code, item, None, json)?;
+        }
+    }
+    json.end_array()
+}
+
+fn write_chunks(alloc: Global, body: &Body, json: &mut Writer) -> Result<(), AllocError> {
+    begin_array("chunks", json)?;
+    if let Body::Program(program) = body {
+        for (chunk, explained) in program.chunks.iter().zip(program.explained.chunks.iter()) {
+            write_chunk(alloc, &program.code, chunk, explained, json)?;
+        }
+    }
+    json.end_array()
+}
+
+/// Writes a listing as an object of JSON.
+///
+/// # Errors
+/// [`AllocError`] where memory was refused.
+pub fn write_json(alloc: Global, listing: &Listing, json: &mut Writer) -> Result<(), AllocError> {
+    let body = &listing.body;
+    json.begin_object()?;
+    write_words("line", listing.line.as_str(), json)?;
+    write_words("verdict", listing.verdict.as_str(), json)?;
+    write_problem(alloc, body, json)?;
+    write_early_refusal(alloc, body, json)?;
+    write_items(alloc, body, json)?;
+    write_chunks(alloc, body, json)?;
+    json.end_object()
+}
