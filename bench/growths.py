@@ -3,8 +3,12 @@
 
     python3 bench/growths.py [--crate NAME] [--jobs N] [--last N]
 
-It runs `rt try --test --fail-alloc N` in the folder of each crate, or of the crate that has its tests, for N from 1 on, and
-reads the tests whose names end in _growth_fails. In such a run the Nth growth of each test is refused, and the test says which one that was:
+The tests of growths stand in bench/growths/CRATE of tests, apart from the crates, since the gate would prove each of them and
+run it where nothing is refused. A file MODULE.tests there is a module of that crate: it is put into a scratch copy, so that
+nothing of the work tree changes, and its parent names it.
+
+In the copy's folder of each crate that has such tests it runs `rt try --test --fail-alloc N`, for N from 1 on, and reads the
+tests whose names end in _growth_fails. In such a run the Nth growth of each test is refused, and the test says which one that was:
 
 - one of what it prepares, by an error of which it makes nothing;
 - one of its call. Then the call answered want of memory by its own name, what it was lent was as before, and the same call
@@ -16,12 +20,14 @@ each call has and what came of them, and ends with status 1 where there is a thi
 run builds the tests anew, which takes half a minute to a minute; N runs are made at a time with --jobs N.
 """
 import argparse
-import os
+import pathlib
+import shutil
 import subprocess
 import sys
+import tempfile
 from concurrent.futures import ThreadPoolExecutor
 
-TOP = os.path.dirname(os.path.dirname(os.path.abspath(__file__)))
+TOP = pathlib.Path(__file__).resolve().parent.parent
 
 SUFFIX = "_growth_fails"
 
@@ -124,14 +130,31 @@ def kind_of(lines):
     return "third"
 
 
-def run(tests, number):
+def scratch_copy(room):
+    """The crates as the work tree has them, each of tests with its modules of growths."""
+    words = ["git", "ls-files", "-zco", "--exclude-standard", "crates", "crates.txt", "HANDLES"]
+    names = subprocess.run(words, cwd=TOP, capture_output=True, text=True, check=True).stdout
+    for name in names.split("\0"):
+        if name and (TOP / name).is_file():
+            (room / name).parent.mkdir(parents=True, exist_ok=True)
+            shutil.copyfile(TOP / name, room / name)
+    for module in (TOP / "bench" / "growths").glob("*/**/*.tests"):
+        crate, *place = module.relative_to(TOP / "bench" / "growths").with_suffix(".rt").parts
+        source = room / "crates" / crate / "src"
+        source.joinpath(*place).parent.mkdir(exist_ok=True)
+        shutil.copyfile(module, source.joinpath(*place))
+        parent = source.joinpath(*place[:-1]).with_suffix(".rt") if place[1:] else source / "lib.rt"
+        with parent.open("a") as text:
+            text.write(f"\n#[cfg(test)]\nmod {module.stem};\n")
+
+
+def run(folder, number):
     """How each test ended in the run in which that growth is refused."""
     words = ["rt", "try", "--test", "--fail-alloc", str(number)]
-    folder = os.path.join(TOP, "crates", tests)
     ran = subprocess.run(words, cwd=folder, capture_output=True, text=True)
     ends = ends_of(ran.stdout + ran.stderr)
     if not ends:
-        sys.exit(f"{tests}: no test of growths ran\n{ran.stdout}{ran.stderr}")
+        sys.exit(f"{folder.name}: no test of growths ran\n{ran.stdout}{ran.stderr}")
     return ends
 
 
@@ -156,13 +179,13 @@ class Row:
             self.thirds.append((number, lines))
 
 
-def rows_of(tests, jobs, last):
-    """The row of each test of growths in that crate of tests."""
+def rows_of(folder, jobs, last):
+    """The row of each test of growths in the folder of a crate of tests."""
     rows = {}
     with ThreadPoolExecutor(jobs) as pool:
         for first in range(1, last + 1, jobs):
             numbers = range(first, first + jobs)
-            for number, ends in zip(numbers, pool.map(lambda n: run(tests, n), numbers)):
+            for number, ends in zip(numbers, pool.map(lambda n: run(folder, n), numbers)):
                 for name, lines in ends.items():
                     rows.setdefault(name, Row()).add(number, lines)
             if all(row.ended for row in rows.values()):
@@ -170,20 +193,16 @@ def rows_of(tests, jobs, last):
     return rows
 
 
-def main():
-    arguments = argparse.ArgumentParser()
-    arguments.add_argument("--crate", choices=CALLS)
-    arguments.add_argument("--jobs", type=int, default=1)
-    arguments.add_argument("--last", type=int, default=60)
-    given = arguments.parse_args()
+def report(room, crates, jobs, last):
+    """Prints the rows of these crates. Answers whether each call has its test, is counted to its end and has no third answer."""
     good = True
     print("| Crate | Call | Growths | Want of memory | Undisturbed | Third answers |")
     print("|---|---|---|---|---|---|", flush=True)
     known = {}
-    for crate in [given.crate] if given.crate else CALLS:
+    for crate in crates:
         tests = TESTS[crate]
         if tests not in known:
-            known[tests] = rows_of(tests, given.jobs, given.last)
+            known[tests] = rows_of(room / "crates" / tests, jobs, last)
             called = {name for it, calls in CALLS.items() if TESTS[it] == tests for name in calls}
             for name in sorted(called ^ known[tests].keys()):
                 print(f"{tests}: a test or a call is missing: {name}", file=sys.stderr)
@@ -197,9 +216,22 @@ def main():
             for number, lines in row.thirds:
                 print(f"{crate}: {name}, growth {number}: {lines}", file=sys.stderr)
             if not row.ended:
-                print(f"{crate}: {name} has growths above {given.last}", file=sys.stderr)
+                print(f"{crate}: {name} has growths above {last}", file=sys.stderr)
             good = good and row.ended and not row.thirds
-    return 0 if good else 1
+    return good
+
+
+def main():
+    arguments = argparse.ArgumentParser()
+    arguments.add_argument("--crate", choices=CALLS)
+    arguments.add_argument("--jobs", type=int, default=1)
+    arguments.add_argument("--last", type=int, default=60)
+    given = arguments.parse_args()
+    crates = [given.crate] if given.crate else [*CALLS]
+    with tempfile.TemporaryDirectory(prefix="growths-") as made:
+        room = pathlib.Path(made)
+        scratch_copy(room)
+        return 0 if report(room, crates, given.jobs, given.last) else 1
 
 
 if __name__ == "__main__":

@@ -7,8 +7,6 @@ mod access;
 #[cfg(test)]
 mod caps;
 #[cfg(test)]
-mod growths;
-#[cfg(test)]
 mod pos;
 #[cfg(test)]
 mod position;

@@ -82,41 +82,65 @@ fn kinds_are_told_apart(rt: HostRuntime) -> Result<(), Fail> {
     Ok(())
 }
 
-/// Whether a value that is marked as shared twice is equal to the plain one, either way round, has its hash and is it
-/// without its marks.
-fn is_its_content(alloc: Global, marked: Dynamic, plain: &Dynamic) -> Result<bool, AllocError> {
-    let marked = shared(alloc, shared(alloc, marked)?)?;
-    let equal = marked == *plain && *plain == marked;
-    Ok(equal && hash_of(&marked) == hash_of(plain) && marked.unshared() == plain)
+/// A value of a kind that is marked as shared twice.
+fn marked(alloc: Global, number: usize) -> Result<Dynamic, AllocError> {
+    shared(alloc, shared(alloc, kind(alloc, number)?)?)
+}
+
+/// Whether both are equal, either way round, and have one hash.
+fn are_one(left: &Dynamic, right: &Dynamic) -> bool {
+    *left == *right && *right == *left && hash_of(left) == hash_of(right)
+}
+
+/// Whether a value that is marked as shared twice and the plain one are one, whether it is that without its marks, and whether
+/// the plain one can be a case.
+fn of_kind(alloc: Global, number: usize) -> Result<[bool; 3], AllocError> {
+    let plain = kind(alloc, number)?;
+    let marked = marked(alloc, number)?;
+    let is_content = *marked.unshared() == plain;
+    Ok([are_one(&marked, &plain), is_content, plain.is_hashable()])
 }
 
 #[test]
 fn a_shared_value_is_its_content(rt: HostRuntime) -> Result<(), Fail> {
     for number in 0..KINDS {
-        let plain = kind(rt.alloc(), number)?;
-        let marked = kind(rt.alloc(), number)?;
-        assert_same(&rt, is_its_content(rt.alloc(), marked, &plain)?, true);
-        assert_same(&rt, plain.is_hashable(), number != KINDS - 1);
+        let found = of_kind(rt.alloc(), number)?;
+        assert_same(&rt, found, [true, true, number != KINDS - 1]);
     }
     Ok(())
 }
 
+/// Whether an array of a marked integer is that of the plain one.
+fn of_part(alloc: Global) -> Result<bool, AllocError> {
+    let marked = array_of(alloc, shared(alloc, Dynamic::Int(1))?)?;
+    let plain = array_of(alloc, Dynamic::Int(1))?;
+    Ok(are_one(&marked, &plain))
+}
+
 #[test]
 fn a_shared_part_is_its_content(rt: HostRuntime) -> Result<(), Fail> {
-    let marked = array_of(rt.alloc(), shared(rt.alloc(), Dynamic::Int(1))?)?;
-    let plain = array_of(rt.alloc(), Dynamic::Int(1))?;
-    assert_same(&rt, marked == plain, true);
-    assert_same(&rt, hash_of(&marked), hash_of(&plain));
+    assert_same(&rt, of_part(rt.alloc())?, true);
     Ok(())
+}
+
+/// Adds a marked text.
+fn add(alloc: Global, targets: &mut HashMap<Dynamic, u32>) -> Result<(), Fail> {
+    let key = shared(alloc, text(alloc, "a")?)?;
+    let _ = targets.insert(key, 10)?;
+    Ok(())
+}
+
+/// What a map with a marked text has of that text, and of its character.
+fn keyed(alloc: Global) -> Result<[Option<u32>; 2], Fail> {
+    let (plain, other) = (text(alloc, "a")?, Dynamic::Char('a'));
+    let mut targets = HashMap::new(alloc);
+    add(alloc, &mut targets)?;
+    Ok([targets.get(&plain).copied(), targets.get(&other).copied()])
 }
 
 #[test]
 fn values_are_keys(rt: HostRuntime) -> Result<(), Fail> {
-    let alloc = rt.alloc();
-    let mut targets = HashMap::new(alloc);
-    let _ = targets.insert(shared(alloc, text(alloc, "a")?)?, 10)?;
-    assert_same(&rt, targets.get(&text(alloc, "a")?), Some(&10));
-    assert_same(&rt, targets.get(&Dynamic::Char('a')), None);
+    assert_same(&rt, keyed(rt.alloc())?, [Some(10), None]);
     Ok(())
 }
 
@@ -130,42 +154,37 @@ fn pointer_to_the_host(alloc: Global, id: u64) -> Result<FnPtr, AllocError> {
     pointer_to(alloc, "f", host(alloc, id)?)
 }
 
+/// Whether these may be cases.
+fn are_hashable(alloc: Global) -> Result<[bool; 2], AllocError> {
+    let in_map = map_of_the_host(alloc)?.is_hashable();
+    let pointer = Dynamic::FnPtr(pointer_to_the_host(alloc, 1)?);
+    Ok([in_map, pointer.is_hashable()])
+}
+
 #[test]
 fn a_part_of_the_host_is_not_hashable(rt: HostRuntime) -> Result<(), Fail> {
-    assert_same(&rt, map_of_the_host(rt.alloc())?.is_hashable(), false);
-    let pointer = Dynamic::FnPtr(pointer_to_the_host(rt.alloc(), 1)?);
-    assert_same(&rt, pointer.is_hashable(), false);
+    assert_same(&rt, are_hashable(rt.alloc())?, [false; 2]);
     Ok(())
+}
+
+/// Whether pointers that are called with the values 1 and that of the host are equal, and have one hash.
+fn compared(alloc: Global, id: u64) -> Result<(bool, bool), AllocError> {
+    let first = pointer_to_the_host(alloc, 1)?;
+    let other = pointer_to_the_host(alloc, id)?;
+    Ok((first == other, hash_of(&first) == hash_of(&other)))
 }
 
 #[test]
 fn pointers_are_compared_by_their_arguments(rt: HostRuntime) -> Result<(), Fail> {
-    let first = pointer_to_the_host(rt.alloc(), 1)?;
     for (id, same) in [(1, true), (2, false)] {
-        let other = pointer_to_the_host(rt.alloc(), id)?;
-        assert_same(
-            &rt,
-            (first == other, hash_of(&first) == hash_of(&other)),
-            (same, same),
-        );
+        assert_same(&rt, compared(rt.alloc(), id)?, (same, same));
     }
     Ok(())
 }
 
-/// The text of a value.
-fn shown(alloc: Global, value: Dynamic) -> Result<String, AllocError> {
-    value.to_string(alloc)
-}
-
-#[test]
-fn each_kind_has_a_text(rt: HostRuntime) -> Result<(), Fail> {
-    let texts = [
-        "()", "true", "49", "1", "1", "1..2", "1..=2", "[1]", "[1]", "#{1: 1}", "Fn(1)", "<Timer>",
-    ];
-    for (number, wanted) in texts.into_iter().enumerate() {
-        let found = shown(rt.alloc(), kind(rt.alloc(), number)?)?;
-        assert_same(&rt, found.as_str(), wanted);
-    }
+/// Adds a value as a line.
+fn write_line(out: &mut String, value: Dynamic) -> Result<(), Fail> {
+    writeln!(out, "{value}")?;
     Ok(())
 }
 
@@ -178,19 +197,43 @@ fn entries(alloc: Global) -> Result<Dynamic, AllocError> {
     Ok(Dynamic::Map(entries))
 }
 
-#[test]
-fn parts_have_their_texts(rt: HostRuntime) -> Result<(), Fail> {
-    let alloc = rt.alloc();
+/// An array with that map, a marked array of a text and an integer.
+fn nested(alloc: Global) -> Result<Dynamic, AllocError> {
     let marked = shared(alloc, array_of(alloc, text(alloc, "t")?)?)?;
-    let items = vec![in alloc; entries(alloc)?, marked, Dynamic::Int(-3)]?;
-    let found = shown(alloc, Dynamic::Array(items))?;
-    assert_same(&rt, found.as_str(), "[#{a: [0, 255], b: false}, [t], -3]");
-    Ok(())
+    let entries = entries(alloc)?;
+    Ok(Dynamic::Array(vec![in alloc; entries, marked, Dynamic::Int(-3)]?))
 }
 
+/// A value of each kind, that array and an empty map, a line for each.
+fn write_lines(alloc: Global, out: &mut String) -> Result<(), Fail> {
+    for number in 0..KINDS {
+        write_line(out, kind(alloc, number)?)?;
+    }
+    write_line(out, nested(alloc)?)?;
+    write_line(out, Dynamic::Map(BTreeMap::new(alloc)))
+}
+
+const LINES: &str = "\
+()
+true
+49
+1
+1
+1..2
+1..=2
+[1]
+[1]
+#{1: 1}
+Fn(1)
+<Timer>
+[#{a: [0, 255], b: false}, [t], -3]
+#{}
+";
+
 #[test]
-fn an_empty_map_has_a_text(rt: HostRuntime) -> Result<(), Fail> {
-    let found = shown(rt.alloc(), Dynamic::Map(BTreeMap::new(rt.alloc())))?;
-    assert_same(&rt, found.as_str(), "#{}");
+fn values_have_texts(rt: HostRuntime) -> Result<(), Fail> {
+    let mut lines = String::new(rt.alloc());
+    write_lines(rt.alloc(), &mut lines)?;
+    assert_same(&rt, lines.as_str(), LINES);
     Ok(())
 }

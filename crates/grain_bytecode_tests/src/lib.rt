@@ -13,11 +13,7 @@ mod chunk;
 #[cfg(test)]
 mod code;
 #[cfg(test)]
-mod damage;
-#[cfg(test)]
 mod function;
-#[cfg(test)]
-mod growths;
 #[cfg(test)]
 mod instruction;
 #[cfg(test)]

@@ -5,7 +5,6 @@ use grain_bytecode::{Chain, Root, Step, StepFlags, Tail};
 use std::alloc::{AllocError, Global};
 use std::fmt::{Debug, Display};
 use std::process::Abort;
-use std::test::Fail;
 
 /// Asserts that both are the same. `assert_eq!` in its place costs the prover five times as much.
 pub(crate) fn assert_same<T: PartialEq + Debug + Drop>(rt: &impl Abort, found: T, wanted: T) {
@@ -71,18 +70,4 @@ pub(crate) fn assert_texts<E: Debug + Display + Drop>(
 ) -> Result<(), AllocError> {
     assert_same(rt, both_texts(alloc, &row.0)?.as_str(), row.1);
     Ok(())
-}
-
-/// How a test of growths ends, whose call was refused memory or not, and was refused it again when it was made again. It
-/// says which growth failed, one of the call's or the one that is asked for here, behind them. Where none fails, it is `Ok`.
-pub(crate) fn told(rt: &impl Abort, alloc: Global, refused: bool, again: bool) -> Result<(), Fail> {
-    assert_same(rt, again, false);
-    if refused {
-        return Err(Fail::new("a growth of the call was refused"));
-    }
-    let mut behind = Vec::new(alloc);
-    match behind.push(refused) {
-        Ok(()) => Ok(()),
-        Err(_) => Err(Fail::new("no growth of the call is left")),
-    }
 }

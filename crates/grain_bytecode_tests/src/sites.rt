@@ -36,7 +36,7 @@ fn two(alloc: Global) -> Result<Vec<Chain>, AllocError> {
 }
 
 /// Chains of a number.
-fn chains(alloc: Global, number: u32) -> Result<Vec<Chain>, AllocError> {
+fn chains(alloc: Global, number: usize) -> Result<Vec<Chain>, AllocError> {
     match number {
         0 => two(alloc),
         1 => Ok(vec![in alloc; chain(alloc)?]?),
@@ -46,98 +46,41 @@ fn chains(alloc: Global, number: u32) -> Result<Vec<Chain>, AllocError> {
     }
 }
 
-/// Asserts that the positions of the chains of a number are written as this.
-fn assert_stream(rt: &impl Abort, alloc: Global, number: u32, wanted: &[u8]) -> Result<(), Fail> {
+/// The positions of the chains of a number, as they are written.
+fn written(alloc: Global, number: usize) -> Result<Vec<u8>, AllocError> {
     let chains = chains(alloc, number)?;
-    let stream = encode(alloc, &chains)?;
-    assert_same(rt, stream.as_slice(), wanted);
-    Ok(())
+    encode(alloc, &chains)
 }
 
-/// The positions in two chains, as they are written.
-const BOTH: &[u8] = &[5, 1, 1, 1, 3, 1, 2, 1, 6, 9, 9];
+/// The streams of these chains. A number that is missing is written as 0.
+const STREAMS: [&[u8]; 5] = [
+    &[5, 1, 1, 1, 3, 1, 2, 1, 6, 9, 9],
+    STREAM,
+    &[4, 1, 1, 1, 3, 4, 4, 1, 6],
+    &[2, 1, 0, 0, 0],
+    &[0],
+];
 
 #[test]
 fn positions_are_written(rt: HostRuntime) -> Result<(), Fail> {
-    assert_stream(&rt, rt.alloc(), 0, BOTH)?;
-    assert_same(&rt, resolve(BOTH, 4), site(9, 9));
-    assert_stream(&rt, rt.alloc(), 1, STREAM)?;
-    assert_stream(&rt, rt.alloc(), 2, &[4, 1, 1, 1, 3, 4, 4, 1, 6])
-}
-
-#[test]
-fn missing_numbers_are_written_as_0(rt: HostRuntime) -> Result<(), Fail> {
-    assert_stream(&rt, rt.alloc(), 3, &[2, 1, 0, 0, 0])?;
-    assert_same(&rt, (check(&[0]), resolve(&[0], 0)), (Ok(()), None));
-    assert_stream(&rt, rt.alloc(), 4, &[0])
-}
-
-#[test]
-fn slots_are_found(rt: HostRuntime) {
-    let rows = [
-        (0, site(1, 1)),
-        (1, site(1, 3)),
-        (2, site(1, 2)),
-        (3, site(1, 6)),
-        (4, None),
-        (99, None),
-    ];
-    for (slot, wanted) in rows {
-        assert_same(&rt, resolve(STREAM, slot), wanted);
+    for (number, stream) in STREAMS.into_iter().enumerate() {
+        assert_same(&rt, written(rt.alloc(), number)?.as_slice(), stream);
     }
-    assert_same(&rt, resolve(&[2, 0, 7, 9, 0], 0), None);
-    assert_same(&rt, resolve(&[2, 0, 7, 9, 0], 1), site(9, 0));
-}
-
-#[test]
-fn slots_before_damage_are_found(rt: HostRuntime) {
-    let damaged = [3, 1, 1, 2, 2, 0x80];
-    assert_same(&rt, check(&damaged), Err(StreamError::Truncated));
-    assert_same(&rt, resolve(&damaged, 1), site(2, 2));
-    assert_same(&rt, resolve(&damaged, 2), None);
-    assert_same(&rt, resolve(&[], 0), None);
-}
-
-#[test]
-fn streams_are_checked(rt: HostRuntime) {
-    assert_same(&rt, check(STREAM), Ok(()));
-    assert_same(&rt, check(&[0]), Ok(()));
-    for end in 0..STREAM.len() {
-        assert_same(&rt, check(&STREAM[..end]), Err(StreamError::Truncated));
-    }
-    assert_same(
-        &rt,
-        check(&[0, 0, 0]),
-        Err(StreamError::TrailingBytes { count: 2 }),
-    );
-    assert_same(
-        &rt,
-        check(&[1, 1, 0x80, 0x80, 0x80, 0x80, 0x10]),
-        Err(StreamError::Overflow),
-    );
-}
-
-/// Asserts that a stream is refused for that flaw.
-fn assert_refused(rt: &impl Abort, alloc: Global, stream: &[u8], flaw: StreamError) {
-    assert_same(rt, decode(alloc, stream).err(), Some(flaw));
-}
-
-#[test]
-fn streams_are_decoded(rt: HostRuntime) -> Result<(), Fail> {
-    let sites = decode(rt.alloc(), STREAM)?;
-    let wanted = [site(1, 1), site(1, 3), site(1, 2), site(1, 6)];
-    assert_same(&rt, sites.as_slice(), wanted.as_slice());
     Ok(())
 }
 
+/// More rows, of damaged streams and of bytes that are none, are tests of the package in hosts/rust.
 #[test]
-fn bad_streams_are_not_decoded(rt: HostRuntime) {
-    let greatest = [0xff, 0xff, 0xff, 0xff, 0x0f, 1, 1];
-    for stream in [&greatest[..5], &greatest] {
-        assert_refused(&rt, rt.alloc(), stream, StreamError::Truncated);
-    }
-    let trailing = StreamError::TrailingBytes { count: 1 };
-    assert_refused(&rt, rt.alloc(), &[0, 5], trailing);
+fn streams_are_read(rt: HostRuntime) -> Result<(), Fail> {
+    let sites = decode(rt.alloc(), STREAM)?;
+    let wanted = [site(1, 1), site(1, 3), site(1, 2), site(1, 6)];
+    assert_same(&rt, sites.as_slice(), wanted.as_slice());
+    assert_same(
+        &rt,
+        (check(STREAM), resolve(STREAM, 3)),
+        (Ok(()), site(1, 6)),
+    );
+    Ok(())
 }
 
 /// The stream of calls in so many lines, less one.

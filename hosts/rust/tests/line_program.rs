@@ -1,6 +1,6 @@
-//! Generated programs, judged by the library and by the line program alike.
+//! Generated programs, judged by the library and by the line program alike; and what the line program answers to long lines.
 //!
-//! `hosts/build` names the line program by GRAIN_CHECK, and runs the test that compares with it, which is left out elsewhere.
+//! `hosts/build` names the line program by GRAIN_CHECK, and runs these tests, which are left out elsewhere.
 mod common;
 
 use common::chance::Chance;
@@ -122,24 +122,28 @@ fn case(chance: &mut Chance) -> (String, String) {
     (line, line_of(caps, &code, &chunks))
 }
 
-#[test]
-#[ignore = "compares with the line program, which GRAIN_CHECK has to name"]
-fn generated_programs_are_judged_alike() {
+/// What the line program writes for these lines, of which none is bad.
+fn answered(lines: String) -> String {
     let program = std::env::var_os("GRAIN_CHECK").expect("GRAIN_CHECK names the line program");
-    let mut chance = Chance(1);
-    let (lines, said): (Vec<_>, Vec<_>) = (0..PROGRAMS).map(|_| case(&mut chance)).unzip();
     let mut child = Command::new(program)
         .stdin(Stdio::piped())
         .stdout(Stdio::piped())
         .spawn()
         .unwrap();
     let mut input = child.stdin.take().unwrap();
-    let text = lines.join("\n");
-    let writing = std::thread::spawn(move || input.write_all(text.as_bytes()).unwrap());
+    let writing = std::thread::spawn(move || input.write_all(lines.as_bytes()).unwrap());
     let output = child.wait_with_output().unwrap();
     writing.join().unwrap();
     assert!(output.status.success());
-    let verdicts = String::from_utf8(output.stdout).unwrap();
+    String::from_utf8(output.stdout).unwrap()
+}
+
+#[test]
+#[ignore = "compares with the line program, which GRAIN_CHECK has to name"]
+fn generated_programs_are_judged_alike() {
+    let mut chance = Chance(1);
+    let (lines, said): (Vec<_>, Vec<_>) = (0..PROGRAMS).map(|_| case(&mut chance)).unzip();
+    let verdicts = answered(lines.join("\n"));
     assert_eq!(verdicts.lines().count(), PROGRAMS);
     for ((line, said), verdict) in lines.iter().zip(&said).zip(verdicts.lines()) {
         assert_eq!(said, verdict, "{line}");
@@ -158,4 +162,87 @@ fn generated_programs_are_judged_alike() {
         (PROGRAMS / 10..PROGRAMS * 9 / 10).contains(&accepted),
         "{accepted} were accepted"
     );
+}
+
+/// The line program reads into a buffer, which the first three lines end about.
+#[test]
+#[ignore = "asks the line program, which GRAIN_CHECK has to name"]
+fn long_code_is_counted() {
+    for count in [32764, 32765, 32766, 100_000] {
+        let lines = format!("code {}\ncode 0213\n", "02".repeat(count));
+        assert_eq!(answered(lines), format!("whole {count}\nwhole 2\n"));
+    }
+}
+
+/// How many times a branch stands in the code that is verified.
+const BRANCHES: usize = 6000;
+
+/// `verify` with code of that many branches, each to the next, and then these bytes.
+fn long_verify(tail: &str) -> String {
+    let mut line = String::from("verify 7fff ");
+    for branch in 1..=BRANCHES {
+        let [first, second, third, fourth] = (6 * branch as u32).to_le_bytes();
+        write!(line, "020e{first:02x}{second:02x}{third:02x}{fourth:02x}").unwrap();
+    }
+    let end = 6 * BRANCHES + tail.len() / 2;
+    line + tail + &format!(" 0:{end}:1")
+}
+
+#[test]
+#[ignore = "asks the line program, which GRAIN_CHECK has to name"]
+fn many_branches_are_verified() {
+    for (tail, verdict) in [
+        ("0213", "accepted 1"),
+        ("02", "refused falls-off-the-end"),
+        ("0b13", "refused underflow at=36000 need=1 have=0"),
+        ("0c00000000", "accepted 1"),
+        (
+            "0c0100000013",
+            "refused depth-conflict at=1 expected=1 found=0",
+        ),
+        (
+            "0c0200000013",
+            "refused jump-into-an-instruction at=36000 target=2",
+        ),
+        ("ff", "refused undecodable at=36000"),
+    ] {
+        assert_eq!(answered(long_verify(tail)), format!("{verdict}\n"));
+    }
+}
+
+#[test]
+#[ignore = "asks the line program, which GRAIN_CHECK has to name"]
+fn more_operands_than_can_be_declared_are_counted() {
+    let line = format!("verify 7fff {}13 0:65537:65535", "02".repeat(65536));
+    assert_eq!(
+        answered(line),
+        "refused stack-exceeds-declared needed=65536 declared=65535\n"
+    );
+}
+
+/// 2000 chunks, and one that ends past the code.
+#[test]
+#[ignore = "asks the line program, which GRAIN_CHECK has to name"]
+fn many_chunks_are_verified() {
+    let line = format!("verify 7fff 0213{} 0:9:8", " 0:2:8".repeat(2000));
+    assert_eq!(
+        answered(line),
+        "refused chunk-out-of-range entry=0 end=9 len=2\n"
+    );
+}
+
+/// An address table of 1200 entries, at the addresses 0 to 1199.
+#[test]
+#[ignore = "asks the line program, which GRAIN_CHECK has to name"]
+fn sites_are_found_in_a_large_table() {
+    for (address, verdict) in [
+        ("0", "site 1:2"),
+        ("1000", "site 1:3"),
+        ("1199", "site 7:4"),
+        ("1200", "none"),
+    ] {
+        let table = format!("b009000102{}010704", "010103".repeat(1198));
+        let line = format!("site {table} {address}");
+        assert_eq!(answered(line), format!("{verdict}\n"));
+    }
 }

@@ -68,6 +68,32 @@ fn switches_lead_to_starts_of_the_chunk() {
     );
 }
 
+/// One case, whose constant is the last of 43, and a default.
+#[test]
+fn cases_and_defaults_lead_to_starts_of_the_chunk() {
+    let with = |target, otherwise| {
+        let constant = Case {
+            target,
+            constant: 42,
+        };
+        let mut pools = Pools::new().switch(&[constant], &[], otherwise);
+        assert_eq!(pools.extend_constants([Some(0); 43]), Ok(0));
+        judged(ON_SWITCH, &pools)
+    };
+    assert_eq!(with(4, 6), Ok(vec![2]));
+    assert_eq!(
+        with(2, 6).unwrap_err().cause(),
+        Cause::JumpIntoAnInstruction { at: 1, target: 2 }
+    );
+    assert_eq!(
+        with(4, 9999).unwrap_err().cause(),
+        Cause::JumpOutOfRange {
+            at: 1,
+            target: 9999
+        }
+    );
+}
+
 #[test]
 fn pieces_belong_to_the_item_at_their_place() {
     let property = |name| {
@@ -163,6 +189,89 @@ fn chains_ask_operands_names_and_capabilities() {
     assert_eq!(fault.chunk(), Some(0));
 }
 
+fn method(name: u32, argc: u8, operand: u16) -> Step {
+    Step::Method {
+        name,
+        argc,
+        operand,
+    }
+}
+
+fn property(name: u32) -> Step {
+    Step::Property {
+        name,
+        getter: 0,
+        setter: 0,
+    }
+}
+
+fn bad_index(at: u64, what: Kind, index: u64) -> Cause {
+    Cause::BadIndex { at, what, index }
+}
+
+#[test]
+fn indices_inside_chains_are_bounded() {
+    let temporary = Root::Temporary;
+    let chains: [(Root, &[Step], Tail, Kind, u64); 5] = [
+        (Root::Named { name: 3 }, &[], Tail::Read, Kind::Name, 3),
+        (Root::Local { name: 3 }, &[], Tail::Read, Kind::Name, 3),
+        (temporary, &[property(3)], Tail::Read, Kind::Name, 3),
+        (temporary, &[method(3, 0, 0)], Tail::Read, Kind::Name, 3),
+        (
+            temporary,
+            &[],
+            Tail::AssignThrough { op: 2 },
+            Kind::OpAssignment,
+            2,
+        ),
+    ];
+    for (root, steps, tail, what, index) in chains {
+        let pools = Pools::new().name("x").chain(root, steps, tail, 0);
+        let cause = judged("16000013", &pools).unwrap_err().cause();
+        assert_eq!(cause, bad_index(0, what, index));
+    }
+    let steps = [property(0), method(0, 0, 0)];
+    let root = Root::Named { name: 0 };
+    let pools = Pools::new().name("x").chain(root, &steps, Tail::Read, 2);
+    assert_eq!(judged("020216000013", &pools), Ok(vec![2]));
+}
+
+/// Behind one, two and three units.
+const ONE: &str = "0216000013";
+const TWO: &str = "020216000013";
+const THREE: &str = "02020216000013";
+
+#[test]
+fn steps_keep_within_the_operands() {
+    let with = |code, step, operands| {
+        let pools = Pools::new()
+            .name("x")
+            .chain(Root::Temporary, &[step], Tail::Read, operands);
+        judged(code, &pools)
+    };
+    let index = Step::Index { operand: 0 };
+    for (code, step, operands, deepest) in [
+        (TWO, index, 1, 2),
+        (THREE, method(0, 2, 0), 2, 3),
+        (ONE, method(0, 0, 65535), 0, 1),
+    ] {
+        assert_eq!(with(code, step, operands), Ok(vec![deepest]));
+    }
+    for (code, step, operands, cause) in [
+        (ONE, index, 0, bad_index(1, Kind::Operand, 0)),
+        (THREE, method(0, 2, 1), 2, bad_index(3, Kind::Operand, 2)),
+        (
+            ONE,
+            method(0, 255, 65535),
+            65535,
+            bad_index(1, Kind::Operand, 65789),
+        ),
+        (ONE, method(3, 2, 1), 0, bad_index(1, Kind::Name, 3)),
+    ] {
+        assert_eq!(with(code, step, operands).unwrap_err().cause(), cause);
+    }
+}
+
 #[test]
 fn constants_and_functions_ask_capabilities() {
     let code = bytes("0213");
@@ -220,6 +329,62 @@ fn what_is_looked_at_is_counted() {
     };
     let fault = verify(caps::ALL, &code, &[chunk, lacking], &Pools::new()).unwrap_err();
     assert_eq!(fault.looked(), Some(3));
+}
+
+/// The numbers of the code as one chunk that declares so much, or what is wrong with it, and how many places were looked at.
+fn looked(code: &str, max_stack: u16) -> (Result<u16, Cause>, Option<u64>) {
+    let code = bytes(code);
+    let chunk = Chunk {
+        max_stack,
+        ..whole(&code)[0]
+    };
+    let mut numbers = [0];
+    match verify_into(caps::ALL, &code, &[chunk], &Pools::new(), &mut numbers) {
+        Ok(looked) => (Ok(numbers[0]), Some(looked)),
+        Err(fault) => (Err(fault.cause()), fault.looked()),
+    }
+}
+
+#[test]
+fn no_more_is_counted_than_is_reached() {
+    assert_eq!(looked("2308000000022213220213", 8).1, Some(7));
+    assert_eq!(looked("130c63000000", 8), (Ok(0), Some(1)));
+    let (said, count) = looked("020e070000000213", 8);
+    assert_eq!(
+        said,
+        Err(Cause::DepthConflict {
+            at: 7,
+            expected: 1,
+            found: 0
+        })
+    );
+    assert!(count.is_some_and(|count| count <= 4));
+}
+
+/// The library keeps where instructions begin in words of 64 bits.
+#[test]
+fn words_of_starts_end_where_code_does() {
+    for units in [64, 65, 128] {
+        let code = "02".repeat(usize::from(units)) + "13";
+        assert_eq!(
+            looked(&code, units),
+            (Ok(units), Some(u64::from(units) + 1))
+        );
+    }
+}
+
+#[test]
+fn what_is_of_no_chunk_has_no_place() {
+    let front = Chunk {
+        entry: 0,
+        end: 2,
+        max_stack: 8,
+    };
+    let fault = verify(caps::ALL, &bytes("0213ff"), &[front], &Pools::new()).unwrap_err();
+    assert_eq!(
+        (fault.cause(), fault.chunk()),
+        (Cause::Undecodable { at: 2 }, None)
+    );
 }
 
 #[test]

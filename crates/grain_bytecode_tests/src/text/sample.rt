@@ -1,9 +1,8 @@
-//! Pools for tests, and what has a text.
+//! Pools for tests, and what has a text with them.
 
 use grain_base::{Dynamic, Flags, Position, Token};
 use grain_bytecode::{
-    AssignOp, Chain, DisassembleError, Function, Lookups, Op, Root, Step, StepFlags, Strings,
-    Switch, SwitchRange, Tail,
+    AssignOp, Chain, Lookups, Root, Step, StepFlags, Strings, Switch, SwitchRange, Tail,
 };
 use std::alloc::{AllocError, Global};
 use std::collections::HashMap;
@@ -51,39 +50,6 @@ impl Lookups for TestPools {
 
     fn switch(&self, index: u32) -> Option<&Switch> {
         self.switches.get(index as usize)
-    }
-}
-
-/// What has a text.
-#[derive(Drop)]
-pub(super) enum Thing {
-    Op(Op),
-    Chain(Chain),
-    Step(Step),
-    Tail(Tail),
-    AssignOp(AssignOp),
-    Switch(Switch),
-    Range(SwitchRange),
-    Function(Function),
-}
-
-impl Thing {
-    /// The text, with what the pools hold.
-    pub(super) fn text(
-        &self,
-        alloc: Global,
-        pools: &TestPools,
-    ) -> Result<String, DisassembleError> {
-        match self {
-            Thing::Op(op) => op.disassemble(alloc, pools),
-            Thing::Chain(chain) => chain.disassemble(alloc, pools),
-            Thing::Step(step) => step.disassemble(alloc, pools),
-            Thing::Tail(tail) => tail.disassemble(alloc, pools),
-            Thing::AssignOp(op) => op.disassemble(alloc, pools),
-            Thing::Switch(switch) => switch.disassemble(alloc, pools),
-            Thing::Range(range) => Ok(range.disassemble(alloc)?),
-            Thing::Function(function) => function.disassemble(alloc, pools),
-        }
     }
 }
 
