@@ -53,6 +53,15 @@ impl Act {
         ensures { Does (setting_of program.now) op.now result }
     {
         match *op {
+            // What most runs do most, without a look at the rest.
+            Op::Const(_) | Op::LoadLocal(_) => Act::Gives { takes: 0 },
+            Op::Call { argc, .. } => Act::Gives {
+                takes: usize::from(argc),
+            },
+            Op::StoreLocal { .. } | Op::AssignLocal { .. } | Op::DeclareLocal { .. } => {
+                Act::Takes { needs: 1, takes: 1 }
+            }
+            Op::Tick | Op::Statement { .. } => Act::Takes { needs: 0, takes: 0 },
             Op::Unit => Act::Unit,
             Op::Bool(value) => Act::Truth { value },
             Op::Pop => Act::Pop,
