@@ -45,19 +45,30 @@ impl<T: Drop> From<AllocFailed<T>> for Why {
     }
 }
 
+impl Why {
+    /// What it is called.
+    fn name(&self) -> &'static str {
+        match self {
+            Why::Thrown(_) => "Runtime error",
+            Why::NoVariable => "Variable not found",
+            Why::NoFunction => "Function not found",
+            Why::WrongType => "Data type incorrect",
+            Why::Overflow => "Arithmetic overflow",
+            Why::DivisionByZero => "Division by zero",
+            Why::NoPart => "Index out of bounds",
+            Why::TooDeep => "Stack overflow",
+            Why::OutOfMemory => "Out of memory",
+            Why::Unsupported => "Unsupported operation",
+        }
+    }
+}
+
 impl fmt::Display for Why {
     fn fmt<W: fmt::Write>(&self, f: &mut fmt::Formatter<W>) -> fmt::Result {
+        f.write_str(self.name())?;
         match self {
-            Why::Thrown(value) => write!(f, "Runtime error: {value}"),
-            Why::NoVariable => write!(f, "Variable not found"),
-            Why::NoFunction => write!(f, "Function not found"),
-            Why::WrongType => write!(f, "Data type incorrect"),
-            Why::Overflow => write!(f, "Arithmetic overflow"),
-            Why::DivisionByZero => write!(f, "Division by zero"),
-            Why::NoPart => write!(f, "Index out of bounds"),
-            Why::TooDeep => write!(f, "Stack overflow"),
-            Why::OutOfMemory => write!(f, "Out of memory"),
-            Why::Unsupported => write!(f, "Unsupported operation"),
+            Why::Thrown(value) => write!(f, ": {value}"),
+            _ => Ok(()),
         }
     }
 }
