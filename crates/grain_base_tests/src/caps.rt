@@ -1,6 +1,5 @@
-use crate::samples::assert_same;
+use crate::samples::{assert_same, made};
 use grain_base::{Caps, Flags};
-use std::test::Fail;
 
 /// Each capability, by its bit from the lowest on.
 const NAMED: [Caps; 15] = [
@@ -44,8 +43,7 @@ fn capabilities_are_sets(rt: HostRuntime) {
 }
 
 #[test]
-fn capabilities_are_printed(rt: HostRuntime) -> Result<(), Fail> {
-    let text = format!(in rt.alloc(); "{:?}", Caps::ARRAY)?;
+fn capabilities_are_printed(rt: HostRuntime) {
+    let text = made(&rt, format!(in rt.alloc(); "{:?}", Caps::ARRAY));
     assert_same(&rt, text.as_str(), "Caps(2)");
-    Ok(())
 }

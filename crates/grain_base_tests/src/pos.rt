@@ -1,8 +1,7 @@
-use crate::samples::{assert_same, both_texts};
+use crate::samples::{assert_same, both_texts, made};
 use grain_base::pos::{Error, Site, check, count, encode, entries, is_ascending, resolve};
 use grain_base::varint;
 use std::alloc::{AllocError, Global};
-use std::test::Fail;
 
 const TABLE: [u8; 13] = [4, 0, 1, 5, 3, 1, 11, 37, 7, 2, 1, 9, 0];
 
@@ -26,17 +25,18 @@ fn table_of(alloc: Global, places: &[(u32, u32, u32)]) -> Result<Vec<u8>, AllocE
 }
 
 #[test]
-fn writes(rt: HostRuntime) -> Result<(), Fail> {
-    let table = table_of(rt.alloc(), &PLACES)?;
+fn writes(rt: HostRuntime) {
+    let table = made(&rt, table_of(rt.alloc(), &PLACES));
     assert_same(&rt, table.as_slice(), TABLE.as_slice());
-    Ok(())
 }
 
 #[test]
-fn an_unknown_site_behind_others_is_left_out(rt: HostRuntime) -> Result<(), Fail> {
-    let table = table_of(rt.alloc(), &[(0, 1, 1), (1, 0, 0), (2, 3, 3)])?;
+fn an_unknown_site_behind_others_is_left_out(rt: HostRuntime) {
+    let table = made(
+        &rt,
+        table_of(rt.alloc(), &[(0, 1, 1), (1, 0, 0), (2, 3, 3)]),
+    );
     assert_same(&rt, count(&table), Ok(2));
-    Ok(())
 }
 
 #[test]
@@ -56,23 +56,21 @@ fn long_list(alloc: Global, length: u32) -> Result<Vec<(u32, u32, u32)>, AllocEr
 }
 
 #[test]
-fn long_tables_are_written(rt: HostRuntime) -> Result<(), Fail> {
-    let places = long_list(rt.alloc(), 100)?;
-    assert_same(&rt, table_of(rt.alloc(), &places)?.len(), 301);
-    Ok(())
+fn long_tables_are_written(rt: HostRuntime) {
+    let places = made(&rt, long_list(rt.alloc(), 100));
+    assert_same(&rt, made(&rt, table_of(rt.alloc(), &places)).len(), 301);
 }
 
 #[test]
-fn long_tables_are_read(rt: HostRuntime) -> Result<(), Fail> {
-    let places = long_list(rt.alloc(), 2000)?;
-    let table = table_of(rt.alloc(), &places)?;
+fn long_tables_are_read(rt: HostRuntime) {
+    let places = made(&rt, long_list(rt.alloc(), 2000));
+    let table = made(&rt, table_of(rt.alloc(), &places));
     assert_same(&rt, (check(&table), count(&table)), (Ok(()), Ok(2000)));
     for place in [(0, 1, 1), (1024, 1024, 2), (1999, 1999, 2)] {
         let (address, wanted) = entry(place);
         assert_same(&rt, resolve(&table, address), Some(wanted));
     }
     assert_same(&rt, resolve(&table, 2000), None);
-    Ok(())
 }
 
 /// More rows, of damaged tables and of bytes that are none, are tests of the package in hosts/rust.
@@ -86,11 +84,10 @@ fn tables_are_read(rt: HostRuntime) {
 }
 
 #[test]
-fn entries_are_given(rt: HostRuntime) -> Result<(), Fail> {
-    let found: Vec<(u32, Site)> = entries(&TABLE).collect(rt.alloc())?;
+fn entries_are_given(rt: HostRuntime) {
+    let found: Vec<(u32, Site)> = made(&rt, entries(&TABLE).collect(rt.alloc()));
     let wanted = PLACES.map(entry);
     assert_same(&rt, found.as_slice(), wanted.as_slice());
-    Ok(())
 }
 
 /// Whether nothing comes behind the entries of a table, however often it is asked for.
@@ -121,15 +118,14 @@ fn nothing_is_given_behind_the_entries(rt: HostRuntime) {
 }
 
 #[test]
-fn sites_are_printed(rt: HostRuntime) -> Result<(), Fail> {
+fn sites_are_printed(rt: HostRuntime) {
     let site = Site { line: 1, column: 5 };
-    let text = format!(in rt.alloc(); "{site:?}")?;
+    let text = made(&rt, format!(in rt.alloc(); "{site:?}"));
     assert_same(&rt, text.as_str(), "Site { line: 1, column: 5 }");
-    Ok(())
 }
 
 #[test]
-fn errors_are_printed(rt: HostRuntime) -> Result<(), Fail> {
+fn errors_are_printed(rt: HostRuntime) {
     let rows = [
         (
             Error::from(varint::Error::Truncated),
@@ -149,7 +145,10 @@ fn errors_are_printed(rt: HostRuntime) -> Result<(), Fail> {
         ),
     ];
     for (error, wanted) in rows {
-        assert_same(&rt, both_texts(rt.alloc(), &error)?.as_str(), wanted);
+        assert_same(
+            &rt,
+            made(&rt, both_texts(rt.alloc(), &error)).as_str(),
+            wanted,
+        );
     }
-    Ok(())
 }

@@ -1,7 +1,6 @@
-use crate::samples::assert_same;
+use crate::samples::{assert_same, made};
 use grain_base::Position;
 use std::alloc::{AllocError, Global};
-use std::test::Fail;
 
 /// The text of a position, and then its debug text.
 fn texts(alloc: Global, position: Position) -> Result<String, AllocError> {
@@ -9,7 +8,7 @@ fn texts(alloc: Global, position: Position) -> Result<String, AllocError> {
 }
 
 #[test]
-fn positions_are_read_and_printed(rt: HostRuntime) -> Result<(), Fail> {
+fn positions_are_read_and_printed(rt: HostRuntime) {
     let rows = [
         (Position::NONE, (None, None, true), "none none"),
         (Position::new(1, 0), (Some(1), None, false), "1:0 1:0"),
@@ -22,9 +21,8 @@ fn positions_are_read_and_printed(rt: HostRuntime) -> Result<(), Fail> {
     for (position, read, text) in rows {
         let found = (position.line(), position.position(), position.is_none());
         assert_same(&rt, found, read);
-        assert_same(&rt, texts(rt.alloc(), position)?.as_str(), text);
+        assert_same(&rt, made(&rt, texts(rt.alloc(), position)).as_str(), text);
     }
-    Ok(())
 }
 
 #[test]

@@ -1,4 +1,4 @@
-use crate::samples::assert_same;
+use crate::samples::{assert_same, made};
 use grain_base::{Dynamic, FnPtr, HostValue};
 use std::alloc::{AllocError, Global};
 use std::collections::{BTreeMap, HashMap};
@@ -72,14 +72,17 @@ fn are_alike(alloc: Global, left: usize, right: usize) -> Result<(bool, bool), A
 }
 
 #[test]
-fn kinds_are_told_apart(rt: HostRuntime) -> Result<(), Fail> {
+fn kinds_are_told_apart(rt: HostRuntime) {
     for left in 0..KINDS {
         for right in 0..KINDS {
             let same = left == right;
-            assert_same(&rt, are_alike(rt.alloc(), left, right)?, (same, same));
+            assert_same(
+                &rt,
+                made(&rt, are_alike(rt.alloc(), left, right)),
+                (same, same),
+            );
         }
     }
-    Ok(())
 }
 
 /// A value of a kind that is marked as shared twice.
@@ -102,12 +105,11 @@ fn of_kind(alloc: Global, number: usize) -> Result<[bool; 3], AllocError> {
 }
 
 #[test]
-fn a_shared_value_is_its_content(rt: HostRuntime) -> Result<(), Fail> {
+fn a_shared_value_is_its_content(rt: HostRuntime) {
     for number in 0..KINDS {
-        let found = of_kind(rt.alloc(), number)?;
+        let found = made(&rt, of_kind(rt.alloc(), number));
         assert_same(&rt, found, [true, true, number != KINDS - 1]);
     }
-    Ok(())
 }
 
 /// Whether an array of a marked integer is that of the plain one.
@@ -118,9 +120,8 @@ fn of_part(alloc: Global) -> Result<bool, AllocError> {
 }
 
 #[test]
-fn a_shared_part_is_its_content(rt: HostRuntime) -> Result<(), Fail> {
-    assert_same(&rt, of_part(rt.alloc())?, true);
-    Ok(())
+fn a_shared_part_is_its_content(rt: HostRuntime) {
+    assert_same(&rt, made(&rt, of_part(rt.alloc())), true);
 }
 
 /// Adds a marked text.
@@ -139,9 +140,8 @@ fn keyed(alloc: Global) -> Result<[Option<u32>; 2], Fail> {
 }
 
 #[test]
-fn values_are_keys(rt: HostRuntime) -> Result<(), Fail> {
-    assert_same(&rt, keyed(rt.alloc())?, [Some(10), None]);
-    Ok(())
+fn values_are_keys(rt: HostRuntime) {
+    assert_same(&rt, made(&rt, keyed(rt.alloc())), [Some(10), None]);
 }
 
 /// A value of the host, in a map in an array.
@@ -162,9 +162,8 @@ fn are_hashable(alloc: Global) -> Result<[bool; 2], AllocError> {
 }
 
 #[test]
-fn a_part_of_the_host_is_not_hashable(rt: HostRuntime) -> Result<(), Fail> {
-    assert_same(&rt, are_hashable(rt.alloc())?, [false; 2]);
-    Ok(())
+fn a_part_of_the_host_is_not_hashable(rt: HostRuntime) {
+    assert_same(&rt, made(&rt, are_hashable(rt.alloc())), [false; 2]);
 }
 
 /// Whether pointers that are called with the values 1 and that of the host are equal, and have one hash.
@@ -175,11 +174,10 @@ fn compared(alloc: Global, id: u64) -> Result<(bool, bool), AllocError> {
 }
 
 #[test]
-fn pointers_are_compared_by_their_arguments(rt: HostRuntime) -> Result<(), Fail> {
+fn pointers_are_compared_by_their_arguments(rt: HostRuntime) {
     for (id, same) in [(1, true), (2, false)] {
-        assert_same(&rt, compared(rt.alloc(), id)?, (same, same));
+        assert_same(&rt, made(&rt, compared(rt.alloc(), id)), (same, same));
     }
-    Ok(())
 }
 
 /// Adds a value as a line.
@@ -231,9 +229,8 @@ Fn(1)
 ";
 
 #[test]
-fn values_have_texts(rt: HostRuntime) -> Result<(), Fail> {
+fn values_have_texts(rt: HostRuntime) {
     let mut lines = String::new(rt.alloc());
-    write_lines(rt.alloc(), &mut lines)?;
+    made(&rt, write_lines(rt.alloc(), &mut lines));
     assert_same(&rt, lines.as_str(), LINES);
-    Ok(())
 }

@@ -1,6 +1,5 @@
-use crate::samples::{assert_same, both_texts};
+use crate::samples::{assert_same, both_texts, made};
 use grain_base::varint::{Error, i64, put_i64, put_u64, u32, u64};
-use std::test::Fail;
 
 /// What is read from this place on, and where the cursor is then.
 fn read(bytes: &[u8], from: usize) -> (Result<u64, Error>, usize) {
@@ -43,13 +42,12 @@ fn reads_u32(rt: HostRuntime) {
 }
 
 #[test]
-fn reads_what_was_written(rt: HostRuntime) -> Result<(), Fail> {
+fn reads_what_was_written(rt: HostRuntime) {
     for number in [0, 1, 127, 128, 16383, 16384, 4294967295, u64::MAX] {
         let mut out = Vec::new(rt.alloc());
-        put_u64(&mut out, number)?;
+        made(&rt, put_u64(&mut out, number));
         assert_same(&rt, read(&out, 0), (Ok(number), out.len()));
     }
-    Ok(())
 }
 
 /// The signed number that is read, and where the cursor is then.
@@ -59,17 +57,16 @@ fn read_signed(bytes: &[u8]) -> (Result<i64, Error>, usize) {
 }
 
 #[test]
-fn reads_what_was_written_signed(rt: HostRuntime) -> Result<(), Fail> {
+fn reads_what_was_written_signed(rt: HostRuntime) {
     for number in [0, -1, 1, -64, 63, -2147483648, i64::MIN, i64::MAX] {
         let mut out = Vec::new(rt.alloc());
-        put_i64(&mut out, number)?;
+        made(&rt, put_i64(&mut out, number));
         assert_same(&rt, read_signed(&out), (Ok(number), out.len()));
     }
-    Ok(())
 }
 
 #[test]
-fn errors_are_printed(rt: HostRuntime) -> Result<(), Fail> {
+fn errors_are_printed(rt: HostRuntime) {
     let rows = [
         (
             Error::Truncated,
@@ -78,16 +75,18 @@ fn errors_are_printed(rt: HostRuntime) -> Result<(), Fail> {
         (Error::Overflow, "Overflow: number is too wide to read"),
     ];
     for (error, wanted) in rows {
-        assert_same(&rt, both_texts(rt.alloc(), &error)?.as_str(), wanted);
+        assert_same(
+            &rt,
+            made(&rt, both_texts(rt.alloc(), &error)).as_str(),
+            wanted,
+        );
     }
-    Ok(())
 }
 
 #[test]
-fn writes_signed(rt: HostRuntime) -> Result<(), Fail> {
+fn writes_signed(rt: HostRuntime) {
     let mut out = Vec::new(rt.alloc());
-    put_i64(&mut out, -64)?;
-    put_i64(&mut out, -65)?;
+    made(&rt, put_i64(&mut out, -64));
+    made(&rt, put_i64(&mut out, -65));
     assert_same(&rt, out.as_slice(), [0x7fu8, 0x81, 0x01].as_slice());
-    Ok(())
 }

@@ -1,6 +1,6 @@
 //! Operations written and read again.
 
-use crate::samples::{assert_same, assert_texts};
+use crate::samples::{assert_same, assert_texts, made};
 use grain_bytecode::{
     AssembleError, Op, Receiver, TagFlow, assemble, count_instructions, decode, disassemble,
     tag_row,
@@ -41,11 +41,10 @@ fn assert_written(rt: &impl Abort, alloc: Global, number: u32) -> Result<(), Ass
 }
 
 #[test]
-fn writes_operations(rt: HostRuntime) -> Result<(), Fail> {
+fn writes_operations(rt: HostRuntime) {
     for number in 0..3 {
-        assert_written(&rt, rt.alloc(), number)?;
+        made(&rt, assert_written(&rt, rt.alloc(), number));
     }
-    Ok(())
 }
 
 /// Asserts that one operation is written as these bytes.
@@ -101,11 +100,10 @@ fn canonical(number: u32) -> (Op, &'static [u8], Op) {
 }
 
 #[test]
-fn writes_canonical_forms(rt: HostRuntime) -> Result<(), Fail> {
+fn writes_canonical_forms(rt: HostRuntime) {
     for number in 0..3 {
-        assert_canonical(&rt, rt.alloc(), canonical(number))?;
+        made(&rt, assert_canonical(&rt, rt.alloc(), canonical(number)));
     }
-    Ok(())
 }
 
 fn too_large(what: &'static str, entries: usize) -> AssembleError {
@@ -181,12 +179,11 @@ fn greatest(number: u32) -> (Op, &'static [u8]) {
 }
 
 #[test]
-fn takes_the_greatest_index_and_the_end(rt: HostRuntime) -> Result<(), Fail> {
+fn takes_the_greatest_index_and_the_end(rt: HostRuntime) {
     for number in 0..2 {
         let (op, bytes) = greatest(number);
-        assert_bytes(&rt, rt.alloc(), op, bytes)?;
+        made(&rt, assert_bytes(&rt, rt.alloc(), op, bytes));
     }
-    Ok(())
 }
 
 #[test]
@@ -239,15 +236,14 @@ fn begins(rt: &impl Abort, alloc: Global, bytes: &[u8]) -> Result<bool, Fail> {
 }
 
 #[test]
-fn each_operation_is_read_again(rt: HostRuntime) -> Result<(), Fail> {
+fn each_operation_is_read_again(rt: HostRuntime) {
     let mut tags = 0u32;
     for tag in 0..=u8::MAX {
-        if begins(&rt, rt.alloc(), &sample_bytes(tag))? {
+        if made(&rt, begins(&rt, rt.alloc(), &sample_bytes(tag))) {
             tags = tags.saturating_add(1);
         }
     }
     assert_same(&rt, tags, 74);
-    Ok(())
 }
 
 /// So many operations, of which each second one is a jump to itself.
@@ -281,10 +277,9 @@ fn assert_long(rt: &impl Abort, alloc: Global, ops: &[Op]) -> Result<(), Assembl
 }
 
 #[test]
-fn long_code_is_written_and_read(rt: HostRuntime) -> Result<(), Fail> {
-    let ops = long_code(rt.alloc(), 12_000)?;
-    assert_long(&rt, rt.alloc(), &ops)?;
-    Ok(())
+fn long_code_is_written_and_read(rt: HostRuntime) {
+    let ops = made(&rt, long_code(rt.alloc(), 12_000));
+    made(&rt, assert_long(&rt, rt.alloc(), &ops));
 }
 
 /// An error and its texts.
@@ -314,9 +309,8 @@ fn error(number: u32) -> (AssembleError, &'static str) {
 }
 
 #[test]
-fn errors_are_printed(rt: HostRuntime) -> Result<(), Fail> {
+fn errors_are_printed(rt: HostRuntime) {
     for number in 0..5 {
-        assert_texts(&rt, rt.alloc(), error(number))?;
+        made(&rt, assert_texts(&rt, rt.alloc(), error(number)));
     }
-    Ok(())
 }

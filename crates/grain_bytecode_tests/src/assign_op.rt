@@ -1,8 +1,7 @@
-use crate::samples::assert_same;
+use crate::samples::{assert_same, made};
 use grain_base::Token;
 use grain_bytecode::AssignOp;
 use std::alloc::{AllocError, Global};
-use std::test::Fail;
 
 fn plus() -> AssignOp {
     AssignOp {
@@ -33,12 +32,11 @@ fn text(alloc: Global) -> Result<String, AllocError> {
 }
 
 #[test]
-fn op_assignments_are_compared_and_printed(rt: HostRuntime) -> Result<(), Fail> {
+fn op_assignments_are_compared_and_printed(rt: HostRuntime) {
     assert_same(&rt, are_unlike(), true);
     assert_same(
         &rt,
-        text(rt.alloc())?.as_str(),
+        made(&rt, text(rt.alloc())).as_str(),
         "AssignOp { op_assign: PlusAssign, op_assign_name: 1, op: Plus, op_name: 2 }",
     );
-    Ok(())
 }

@@ -1,4 +1,4 @@
-use crate::samples::{assert_same, chain};
+use crate::samples::{assert_same, chain, made};
 use grain_base::{Flags, Position};
 use grain_bytecode::{Chain, Root, Step, StepFlags, Tail};
 use std::alloc::{AllocError, Global};
@@ -43,12 +43,11 @@ fn with_one_moved(slot: u32) -> &'static str {
 }
 
 #[test]
-fn positions_are_replaced(rt: HostRuntime) -> Result<(), Fail> {
+fn positions_are_replaced(rt: HostRuntime) {
     for slot in 0..5 {
-        let found = moved(rt.alloc(), slot)?;
+        let found = made(&rt, moved(rt.alloc(), slot));
         assert_same(&rt, found.as_str(), with_one_moved(slot));
     }
-    Ok(())
 }
 
 /// How many slots a chain has by their number and by its positions, where they fit.
@@ -68,22 +67,20 @@ fn step_slots(chain: &Chain) -> Option<[Option<u32>; 3]> {
 }
 
 #[test]
-fn positions_have_slots(rt: HostRuntime) -> Result<(), Fail> {
-    let chain = chain(rt.alloc())?;
+fn positions_have_slots(rt: HostRuntime) {
+    let chain = made(&rt, chain(rt.alloc()));
     assert_same(&rt, slots(&chain), Some((4, 4)));
     assert_same(&rt, step_slots(&chain), Some([Some(1), Some(3), None]));
-    Ok(())
 }
 
 #[test]
-fn chains_are_printed(rt: HostRuntime) -> Result<(), Fail> {
-    let text = shown(rt.alloc(), &chain(rt.alloc())?)?;
+fn chains_are_printed(rt: HostRuntime) {
+    let text = made(&rt, shown(rt.alloc(), &made(&rt, chain(rt.alloc()))));
     assert_same(
         &rt,
         text.as_str(),
         "Chain { root: Named { name: 0, pos: 1:1 }, steps: [Index { operand: 0, flags: StepFlags(0), pos: 1:3, bracket: 1:2 }, Property { name: 1, getter: 2, setter: 3, flags: StepFlags(1), pos: 1:6 }], tail: Read, operands: 1 }",
     );
-    Ok(())
 }
 
 /// The chain with an assignment to a temporary value.
@@ -100,13 +97,12 @@ fn taken(chain: &Chain) -> (usize, bool, bool) {
 }
 
 #[test]
-fn chains_take_operands(rt: HostRuntime) -> Result<(), Fail> {
-    let read = chain(rt.alloc())?;
+fn chains_take_operands(rt: HostRuntime) {
+    let read = made(&rt, chain(rt.alloc()));
     assert_same(&rt, taken(&read), (1, false, false));
-    let assigned = assigning(rt.alloc())?;
+    let assigned = made(&rt, assigning(rt.alloc()));
     assert_same(&rt, taken(&assigned), (3, true, true));
     assert_same(&rt, slots(&assigned), Some((3, 3)));
-    Ok(())
 }
 
 /// Whether a chain is equal to another one, and its steps to their copy.
@@ -115,19 +111,17 @@ fn comparisons(left: &Chain, right: &Chain) -> Result<(bool, bool), AllocError> 
 }
 
 #[test]
-fn chains_are_compared(rt: HostRuntime) -> Result<(), Fail> {
-    let left = chain(rt.alloc())?;
-    let right = chain(rt.alloc())?;
-    assert_same(&rt, comparisons(&left, &right)?, (true, true));
-    Ok(())
+fn chains_are_compared(rt: HostRuntime) {
+    let left = made(&rt, chain(rt.alloc()));
+    let right = made(&rt, chain(rt.alloc()));
+    assert_same(&rt, made(&rt, comparisons(&left, &right)), (true, true));
 }
 
 #[test]
-fn unlike_chains_are_compared(rt: HostRuntime) -> Result<(), Fail> {
-    let left = assigning(rt.alloc())?;
-    let right = chain(rt.alloc())?;
-    assert_same(&rt, comparisons(&left, &right)?, (false, true));
-    Ok(())
+fn unlike_chains_are_compared(rt: HostRuntime) {
+    let left = made(&rt, assigning(rt.alloc()));
+    let right = made(&rt, chain(rt.alloc()));
+    assert_same(&rt, made(&rt, comparisons(&left, &right)), (false, true));
 }
 
 /// Asserts that copies of the root and the tail are as they are, and that they and the first step have these texts.
@@ -144,9 +138,9 @@ fn assert_parts(rt: &impl Abort, alloc: Global, chain: &Chain) -> Result<(), Fai
 }
 
 #[test]
-fn parts_are_copied_and_printed(rt: HostRuntime) -> Result<(), Fail> {
-    let chain = assigning(rt.alloc())?;
-    assert_parts(&rt, rt.alloc(), &chain)
+fn parts_are_copied_and_printed(rt: HostRuntime) {
+    let chain = made(&rt, assigning(rt.alloc()));
+    made(&rt, assert_parts(&rt, rt.alloc(), &chain));
 }
 
 /// The last operand of a call of a method.
@@ -167,15 +161,14 @@ fn last_of_step(chain: &Chain, number: usize) -> Option<u32> {
 }
 
 #[test]
-fn steps_take_operands(rt: HostRuntime) -> Result<(), Fail> {
-    let chain = chain(rt.alloc())?;
+fn steps_take_operands(rt: HostRuntime) {
+    let chain = made(&rt, chain(rt.alloc()));
     assert_same(&rt, chain.steps.len(), 2);
     assert_same(&rt, last_of_step(&chain, 0), Some(0));
     assert_same(&rt, last_of_step(&chain, 1), None);
     assert_same(&rt, last_of_method(2, 1), Some(2));
     assert_same(&rt, last_of_method(0, 65535), None);
     assert_same(&rt, last_of_method(255, 65535), Some(65789));
-    Ok(())
 }
 
 #[test]
@@ -192,13 +185,12 @@ fn flags_are_sets_of_bits(rt: HostRuntime) {
 }
 
 #[test]
-fn flags_are_ordered(rt: HostRuntime) -> Result<(), Fail> {
+fn flags_are_ordered(rt: HostRuntime) {
     let skip = StepFlags::SKIP_IF_UNIT;
     let none = StepFlags::default();
-    assert_same(&rt, skip.clone()?, skip);
+    assert_same(&rt, made(&rt, skip.clone()), skip);
     assert_same(&rt, none < skip, true);
     assert_same(&rt, none.cmp(&skip), Ordering::Less);
-    Ok(())
 }
 
 /// The hash of a value.

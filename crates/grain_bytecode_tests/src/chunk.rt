@@ -1,8 +1,7 @@
-use crate::samples::assert_same;
+use crate::samples::{assert_same, made};
 use grain_bytecode::{Chunk, Op};
 use std::alloc::{AllocError, Global};
 use std::process::Abort;
-use std::test::Fail;
 
 /// A chunk from 1 up to 3, whose stack was set to 2.
 fn set() -> Chunk {
@@ -12,27 +11,25 @@ fn set() -> Chunk {
 }
 
 #[test]
-fn chunks_are_spans(rt: HostRuntime) -> Result<(), Fail> {
+fn chunks_are_spans(rt: HostRuntime) {
     let chunk = set();
     assert_same(
         &rt,
         (chunk.entry(), chunk.end(), chunk.max_stack()),
         (1, 3, 2),
     );
-    assert_same(&rt, chunk.clone()?, Chunk::new(1, 3, 2));
+    assert_same(&rt, made(&rt, chunk.clone()), Chunk::new(1, 3, 2));
     assert_same(&rt, Chunk::default(), Chunk::new(0, 0, 0));
-    Ok(())
 }
 
 #[test]
-fn chunks_are_printed(rt: HostRuntime) -> Result<(), Fail> {
-    let text = format!(in rt.alloc(); "{:?}", set())?;
+fn chunks_are_printed(rt: HostRuntime) {
+    let text = made(&rt, format!(in rt.alloc(); "{:?}", set()));
     assert_same(
         &rt,
         text.as_str(),
         "Chunk { entry: 1, end: 3, max_stack: 2 }",
     );
-    Ok(())
 }
 
 /// Asserts that the code of a span is this.
@@ -61,13 +58,12 @@ fn count(entry: u32, end: u32, code: &[u8]) -> usize {
 }
 
 #[test]
-fn chunks_have_instructions(rt: HostRuntime) -> Result<(), Fail> {
+fn chunks_have_instructions(rt: HostRuntime) {
     let code = [2, 19, 2, 11, 255, 2];
-    let found = ops(rt.alloc(), 2, 6, &code)?;
+    let found = made(&rt, ops(rt.alloc(), 2, 6, &code));
     let wanted = [(2, Op::Unit), (3, Op::Pop)];
     assert_same(&rt, found.as_slice(), wanted.as_slice());
     for end in [9, 0] {
         assert_same(&rt, count(2, end, &code), 0);
     }
-    Ok(())
 }

@@ -1,10 +1,9 @@
-use crate::samples::assert_same;
+use crate::samples::{assert_same, made};
 use grain_bytecode::{
     Op, Receiver, TagFlow, TagRow, decode, disassemble, tag, tag_row, u16_at, u32_at, width,
 };
 use std::alloc::{AllocError, Global};
 use std::fmt::Debug;
-use std::test::Fail;
 
 #[test]
 fn numbers(rt: HostRuntime) {
@@ -55,12 +54,11 @@ fn items(alloc: Global, code: &[u8]) -> Result<Vec<(usize, Op)>, AllocError> {
 }
 
 #[test]
-fn disassembles(rt: HostRuntime) -> Result<(), Fail> {
+fn disassembles(rt: HostRuntime) {
     assert_same(&rt, disassemble(&[0xff; 32]).next().is_none(), true);
-    let found = items(rt.alloc(), &[0x02, 0x0b, 0xff, 0x02])?;
+    let found = made(&rt, items(rt.alloc(), &[0x02, 0x0b, 0xff, 0x02]));
     let wanted = [(0, Op::Unit), (1, Op::Pop)];
     assert_same(&rt, found.as_slice(), wanted.as_slice());
-    Ok(())
 }
 
 /// The debug text of a value.
@@ -69,21 +67,23 @@ fn text<T: Debug>(alloc: Global, value: &T) -> Result<String, AllocError> {
 }
 
 #[test]
-fn copies_of_an_operation_are_equal(rt: HostRuntime) -> Result<(), Fail> {
+fn copies_of_an_operation_are_equal(rt: HostRuntime) {
     let op = Op::Jump(7);
-    assert_same(&rt, &op.clone()?, &op);
+    assert_same(&rt, &made(&rt, op.clone()), &op);
     assert_same(&rt, op == Op::Jump(8), false);
-    assert_same(&rt, text(rt.alloc(), &op)?.as_str(), "Jump(7)");
-    Ok(())
+    assert_same(&rt, made(&rt, text(rt.alloc(), &op)).as_str(), "Jump(7)");
 }
 
 #[test]
-fn copies_of_a_receiver_are_equal(rt: HostRuntime) -> Result<(), Fail> {
+fn copies_of_a_receiver_are_equal(rt: HostRuntime) {
     let receiver = Receiver::Local(4);
     let copy = receiver;
     assert_same(&rt, copy, receiver);
-    assert_same(&rt, text(rt.alloc(), &receiver)?.as_str(), "Local(4)");
-    Ok(())
+    assert_same(
+        &rt,
+        made(&rt, text(rt.alloc(), &receiver)).as_str(),
+        "Local(4)",
+    );
 }
 
 #[test]

@@ -1,8 +1,7 @@
-use crate::samples::assert_same;
+use crate::samples::{assert_same, made};
 use grain_base::FnAccess;
 use grain_bytecode::{Chunk, Function};
 use std::alloc::{AllocError, Global};
-use std::test::Fail;
 
 fn function(alloc: Global) -> Result<Function, AllocError> {
     Ok(Function {
@@ -20,11 +19,10 @@ fn text(alloc: Global) -> Result<String, AllocError> {
 }
 
 #[test]
-fn functions_are_printed(rt: HostRuntime) -> Result<(), Fail> {
+fn functions_are_printed(rt: HostRuntime) {
     assert_same(
         &rt,
-        text(rt.alloc())?.as_str(),
+        made(&rt, text(rt.alloc())).as_str(),
         "Function { name: 0, params: [1], access: Public, this_type: None, chunk: Chunk { entry: 0, end: 2, max_stack: 1 } }",
     );
-    Ok(())
 }

@@ -1,11 +1,13 @@
-use crate::samples::assert_same;
+use crate::samples::{assert_same, made};
 use grain_bytecode::names::{qualify, split_qualified};
-use std::test::Fail;
 
 #[test]
-fn names_are_qualified(rt: HostRuntime) -> Result<(), Fail> {
-    assert_same(&rt, qualify(rt.alloc(), "a", "b")?.as_str(), "a::b");
-    Ok(())
+fn names_are_qualified(rt: HostRuntime) {
+    assert_same(
+        &rt,
+        made(&rt, qualify(rt.alloc(), "a", "b")).as_str(),
+        "a::b",
+    );
 }
 
 /// A name and its parts.

@@ -1,4 +1,4 @@
-use crate::samples::{assert_same, assert_texts};
+use crate::samples::{assert_same, assert_texts, made};
 use grain_base::pos::Site;
 use grain_base::{Position, pos};
 use grain_bytecode::sites::StreamError;
@@ -64,12 +64,15 @@ fn table_and_code(number: u32) -> (&'static [u8], &'static [u8], &'static str) {
 }
 
 #[test]
-fn tables_are_read(rt: HostRuntime) -> Result<(), Fail> {
+fn tables_are_read(rt: HostRuntime) {
     for number in 0..13 {
         let (table, code, wanted) = table_and_code(number);
-        assert_same(&rt, read(rt.alloc(), table, code)?.as_str(), wanted);
+        assert_same(
+            &rt,
+            made(&rt, read(rt.alloc(), table, code)).as_str(),
+            wanted,
+        );
     }
-    Ok(())
 }
 
 /// Four places, of which two have none.
@@ -100,29 +103,30 @@ fn assert_table(
 }
 
 #[test]
-fn tables_are_written(rt: HostRuntime) -> Result<(), Fail> {
-    let positions = places(rt.alloc())?;
-    assert_table(&rt, rt.alloc(), positions, &[2, 1, 1, 5, 2, 3, 0])?;
-    let none = no_places(rt.alloc())?;
-    assert_table(&rt, rt.alloc(), none, &[0])
+fn tables_are_written(rt: HostRuntime) {
+    let positions = made(&rt, places(rt.alloc()));
+    made(
+        &rt,
+        assert_table(&rt, rt.alloc(), positions, &[2, 1, 1, 5, 2, 3, 0]),
+    );
+    let none = made(&rt, no_places(rt.alloc()));
+    made(&rt, assert_table(&rt, rt.alloc(), none, &[0]));
 }
 
 #[test]
-fn places_have_positions(rt: HostRuntime) -> Result<(), Fail> {
-    let positions = places(rt.alloc())?;
+fn places_have_positions(rt: HostRuntime) {
+    let positions = made(&rt, places(rt.alloc()));
     assert_same(&rt, positions.get(1), Position::new(1, 5));
     assert_same(&rt, positions.get(2), Position::NONE);
     assert_same(&rt, positions.get(9999), Position::NONE);
     assert_same(&rt, positions.is_stripped(), false);
-    Ok(())
 }
 
 #[test]
-fn positions_that_are_none_are_stripped(rt: HostRuntime) -> Result<(), Fail> {
-    let none = no_places(rt.alloc())?;
+fn positions_that_are_none_are_stripped(rt: HostRuntime) {
+    let none = made(&rt, no_places(rt.alloc()));
     assert_same(&rt, none.is_stripped(), true);
     assert_same(&rt, none.get(0), Position::NONE);
-    Ok(())
 }
 
 /// The table of so many addresses, of which each eighth has a position.
@@ -145,14 +149,13 @@ fn positions_of(alloc: Global, table: &[u8], length: usize) -> Result<Positions,
 }
 
 #[test]
-fn long_tables_are_written_and_read(rt: HostRuntime) -> Result<(), Fail> {
-    let table = long_table(rt.alloc(), 12_000)?;
+fn long_tables_are_written_and_read(rt: HostRuntime) {
+    let table = made(&rt, long_table(rt.alloc(), 12_000));
     assert_same(&rt, pos::count(&table), Ok(1500));
-    let positions = positions_of(rt.alloc(), &table, 12_000)?;
+    let positions = made(&rt, positions_of(rt.alloc(), &table, 12_000));
     assert_same(&rt, positions.get(0), Position::new(1, 1));
     assert_same(&rt, positions.get(1), Position::NONE);
     assert_same(&rt, positions.get(11_992), Position::new(1500, 1));
-    Ok(())
 }
 
 /// The table of so many addresses that each have a position.
@@ -170,16 +173,15 @@ fn assert_full(rt: &impl Abort, positions: &Positions) {
 }
 
 #[test]
-fn a_table_may_have_each_start(rt: HostRuntime) -> Result<(), Fail> {
-    let table = full_table(rt.alloc(), 1_000)?;
+fn a_table_may_have_each_start(rt: HostRuntime) {
+    let table = made(&rt, full_table(rt.alloc(), 1_000));
     assert_same(
         &rt,
         (pos::check(&table), pos::count(&table)),
         (Ok(()), Ok(1_000)),
     );
-    let positions = positions_of(rt.alloc(), &table, 1_000)?;
+    let positions = made(&rt, positions_of(rt.alloc(), &table, 1_000));
     assert_full(&rt, &positions);
-    Ok(())
 }
 
 #[test]
@@ -241,11 +243,10 @@ fn assert_error_text(
 }
 
 #[test]
-fn errors_are_printed(rt: HostRuntime) -> Result<(), Fail> {
+fn errors_are_printed(rt: HostRuntime) {
     for number in 0..6 {
-        assert_error_text(&rt, rt.alloc(), table_error(number))?;
+        made(&rt, assert_error_text(&rt, rt.alloc(), table_error(number)));
     }
-    Ok(())
 }
 
 /// Why no table was written, and its texts.
@@ -260,9 +261,8 @@ fn strip_error(number: u32) -> (StripError, &'static str) {
 }
 
 #[test]
-fn errors_of_writing_are_printed(rt: HostRuntime) -> Result<(), Fail> {
+fn errors_of_writing_are_printed(rt: HostRuntime) {
     for number in 0..2 {
-        assert_texts(&rt, rt.alloc(), strip_error(number))?;
+        made(&rt, assert_texts(&rt, rt.alloc(), strip_error(number)));
     }
-    Ok(())
 }

@@ -11,6 +11,14 @@ pub(crate) fn assert_same<T: PartialEq + Debug + Drop>(rt: &impl Abort, found: T
     assert_eq!(rt; found, wanted);
 }
 
+/// What a test prepares, for which there is memory. A `?` in its place costs the prover a drop of all that is alive.
+pub(crate) fn made<T, E>(rt: &impl Abort, made: Result<T, E>) -> T {
+    match made {
+        Ok(made) => made,
+        Err(_) => panic!(rt; "a test can't be prepared"),
+    }
+}
+
 /// `a[i].b`, whose four positions in the first line are 1:1, 1:3, its bracket 1:2, and 1:6.
 pub(crate) fn chain(alloc: Global) -> Result<Chain, AllocError> {
     let index = Step::Index {

@@ -1,4 +1,4 @@
-use crate::samples::{assert_same, assert_texts, call, chain};
+use crate::samples::{assert_same, assert_texts, call, chain, made};
 use grain_base::Position;
 use grain_base::pos::Site;
 use grain_bytecode::Chain;
@@ -62,17 +62,20 @@ const STREAMS: [&[u8]; 5] = [
 ];
 
 #[test]
-fn positions_are_written(rt: HostRuntime) -> Result<(), Fail> {
+fn positions_are_written(rt: HostRuntime) {
     for (number, stream) in STREAMS.into_iter().enumerate() {
-        assert_same(&rt, written(rt.alloc(), number)?.as_slice(), stream);
+        assert_same(
+            &rt,
+            made(&rt, written(rt.alloc(), number)).as_slice(),
+            stream,
+        );
     }
-    Ok(())
 }
 
 /// More rows, of damaged streams and of bytes that are none, are tests of the package in hosts/rust.
 #[test]
-fn streams_are_read(rt: HostRuntime) -> Result<(), Fail> {
-    let sites = decode(rt.alloc(), STREAM)?;
+fn streams_are_read(rt: HostRuntime) {
+    let sites = made(&rt, decode(rt.alloc(), STREAM));
     let wanted = [site(1, 1), site(1, 3), site(1, 2), site(1, 6)];
     assert_same(&rt, sites.as_slice(), wanted.as_slice());
     assert_same(
@@ -80,7 +83,6 @@ fn streams_are_read(rt: HostRuntime) -> Result<(), Fail> {
         (check(STREAM), resolve(STREAM, 3)),
         (Ok(()), site(1, 6)),
     );
-    Ok(())
 }
 
 /// The stream of calls in so many lines, less one.
@@ -107,12 +109,11 @@ fn last(alloc: Global, stream: &[u8]) -> Result<(usize, Option<Option<Site>>), S
 }
 
 #[test]
-fn long_streams_are_written_and_read(rt: HostRuntime) -> Result<(), Fail> {
-    let stream = long_stream(rt.alloc(), 2000)?;
+fn long_streams_are_written_and_read(rt: HostRuntime) {
+    let stream = made(&rt, long_stream(rt.alloc(), 2000));
     assert_long_stream(&rt, &stream);
     let wanted = Ok((1999, Some(site(1999, 2))));
     assert_same(&rt, last(rt.alloc(), &stream), wanted);
-    Ok(())
 }
 
 /// An error and its texts.
@@ -135,9 +136,8 @@ fn flaw(number: u32) -> (StreamError, &'static str) {
 }
 
 #[test]
-fn errors_are_printed(rt: HostRuntime) -> Result<(), Fail> {
+fn errors_are_printed(rt: HostRuntime) {
     for number in 0..4 {
-        assert_texts(&rt, rt.alloc(), flaw(number))?;
+        made(&rt, assert_texts(&rt, rt.alloc(), flaw(number)));
     }
-    Ok(())
 }

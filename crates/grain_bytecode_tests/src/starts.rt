@@ -1,8 +1,7 @@
-use crate::samples::assert_same;
+use crate::samples::{assert_same, made};
 use grain_bytecode::Starts;
 use std::alloc::{AllocError, Global};
 use std::process::Abort;
-use std::test::Fail;
 
 fn starts_of(alloc: Global, code: &[u8]) -> Result<Starts, AllocError> {
     Starts::of(alloc, code)
@@ -21,8 +20,11 @@ fn assert_ordinal(rt: &impl Abort, starts: &Starts, at: usize, wanted: Option<us
 }
 
 #[test]
-fn the_front_that_splits(rt: HostRuntime) -> Result<(), Fail> {
-    let starts = starts_of(rt.alloc(), &[0x02, 0x01, 0x00, 0x00, 0x13, 0xff])?;
+fn the_front_that_splits(rt: HostRuntime) {
+    let starts = made(
+        &rt,
+        starts_of(rt.alloc(), &[0x02, 0x01, 0x00, 0x00, 0x13, 0xff]),
+    );
     assert_end(&rt, &starts, 5, 3);
     for (at, number) in [(0, 0), (1, 1), (4, 2)] {
         assert_ordinal(&rt, &starts, at, Some(number));
@@ -30,7 +32,6 @@ fn the_front_that_splits(rt: HostRuntime) -> Result<(), Fail> {
     for at in [2, 5, 64, usize::MAX] {
         assert_ordinal(&rt, &starts, at, None);
     }
-    Ok(())
 }
 
 /// The starts of so many operations of one byte, and a return behind them.
@@ -50,17 +51,20 @@ fn assert_words(rt: &impl Abort, starts: &Starts, last: usize, end: usize) {
 }
 
 #[test]
-fn words_begin_at_each_64th_address(rt: HostRuntime) -> Result<(), Fail> {
+fn words_begin_at_each_64th_address(rt: HostRuntime) {
     for (last, end) in [(64, 65), (65, 66), (128, 129)] {
-        assert_words(&rt, &starts_of_units(rt.alloc(), last)?, last, end);
+        assert_words(
+            &rt,
+            &made(&rt, starts_of_units(rt.alloc(), last)),
+            last,
+            end,
+        );
     }
-    Ok(())
 }
 
 #[test]
-fn no_code(rt: HostRuntime) -> Result<(), Fail> {
-    let starts = starts_of(rt.alloc(), &[])?;
+fn no_code(rt: HostRuntime) {
+    let starts = made(&rt, starts_of(rt.alloc(), &[]));
     assert_end(&rt, &starts, 0, 0);
     assert_same(&rt, starts.contains(0), false);
-    Ok(())
 }

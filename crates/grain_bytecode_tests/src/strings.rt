@@ -1,4 +1,4 @@
-use crate::samples::{assert_same, assert_texts};
+use crate::samples::{assert_same, assert_texts, made};
 use grain_bytecode::{BadTable, Strings, StringsError};
 use std::alloc::Global;
 use std::process::Abort;
@@ -26,43 +26,42 @@ fn cut_again(alloc: Global, names: &Strings) -> Result<String, Fail> {
 }
 
 #[test]
-fn names_are_read(rt: HostRuntime) -> Result<(), Fail> {
-    let names = four(rt.alloc())?;
+fn names_are_read(rt: HostRuntime) {
+    let names = made(&rt, four(rt.alloc()));
     assert_same(&rt, names.get(2), Some(""));
     assert_same(&rt, names.get(3), Some("gamma"));
     assert_same(&rt, names.get(4), None);
     assert_same(&rt, names.starts(), [0, 5, 6, 6, 11].as_slice());
     assert_same(&rt, counts(&names), (4, false, 4));
-    Ok(())
 }
 
 #[test]
-fn names_are_cut_again(rt: HostRuntime) -> Result<(), Fail> {
-    let names = four(rt.alloc())?;
+fn names_are_cut_again(rt: HostRuntime) {
+    let names = made(&rt, four(rt.alloc()));
     assert_same(
         &rt,
-        cut_again(rt.alloc(), &names)?.as_str(),
+        made(&rt, cut_again(rt.alloc(), &names)).as_str(),
         "Strings { blob: [97, 108, 112, 104, 97, 98, 103, 97, 109, 109, 97], starts: [0, 5, 6, 6, 11] }",
     );
-    Ok(())
 }
 
 #[test]
-fn tables_are_cut_by_their_starts(rt: HostRuntime) -> Result<(), Fail> {
-    let names = borrowed(rt.alloc(), b"onetwothree".as_slice(), &[0, 3, 6, 11])?;
+fn tables_are_cut_by_their_starts(rt: HostRuntime) {
+    let names = made(
+        &rt,
+        borrowed(rt.alloc(), b"onetwothree".as_slice(), &[0, 3, 6, 11]),
+    );
     assert_same(&rt, names.get(0), Some("one"));
     assert_same(&rt, names.get(1), Some("two"));
     assert_same(&rt, names.get(2), Some("three"));
-    Ok(())
 }
 
 #[test]
-fn there_may_be_no_names(rt: HostRuntime) -> Result<(), Fail> {
-    let names = borrowed(rt.alloc(), &[], &[0])?;
+fn there_may_be_no_names(rt: HostRuntime) {
+    let names = made(&rt, borrowed(rt.alloc(), &[], &[0]));
     assert_same(&rt, names.is_empty(), true);
-    let names = Strings::new(rt.alloc(), &[])?;
+    let names = made(&rt, Strings::new(rt.alloc(), &[]));
     assert_same(&rt, names.starts(), [0].as_slice());
-    Ok(())
 }
 
 /// Asserts that a table is refused for that flaw.
@@ -133,12 +132,11 @@ fn error(number: u32) -> (StringsError, &'static str) {
 }
 
 #[test]
-fn errors_are_printed(rt: HostRuntime) -> Result<(), Fail> {
+fn errors_are_printed(rt: HostRuntime) {
     for number in 0..5 {
-        assert_texts(&rt, rt.alloc(), flaw(number))?;
+        made(&rt, assert_texts(&rt, rt.alloc(), flaw(number)));
     }
     for number in 0..2 {
-        assert_texts(&rt, rt.alloc(), error(number))?;
+        made(&rt, assert_texts(&rt, rt.alloc(), error(number)));
     }
-    Ok(())
 }

@@ -1,4 +1,4 @@
-use crate::samples::assert_same;
+use crate::samples::{assert_same, made};
 use grain_base::{Dynamic, HostValue};
 use grain_bytecode::{AssembleError, Switch, SwitchRange, resolve_switch_targets};
 use std::alloc::{AllocError, Global};
@@ -87,10 +87,9 @@ fn assert_targets(rt: &impl Abort, alloc: Global, table: &Switch) -> Result<(), 
 }
 
 #[test]
-fn cases_come_before_ranges(rt: HostRuntime) -> Result<(), Fail> {
-    let table = table(rt.alloc())?;
-    assert_targets(&rt, rt.alloc(), &table)?;
-    Ok(())
+fn cases_come_before_ranges(rt: HostRuntime) {
+    let table = made(&rt, table(rt.alloc()));
+    made(&rt, assert_targets(&rt, rt.alloc(), &table));
 }
 
 fn text(alloc: Global, text: &str) -> Result<Dynamic, AllocError> {
@@ -117,10 +116,9 @@ fn target_of_kind(alloc: Global, table: &Switch, number: u32) -> Result<u32, All
 }
 
 #[test]
-fn a_value_of_the_host_has_no_case(rt: HostRuntime) -> Result<(), Fail> {
-    let table = table(rt.alloc())?;
-    assert_same(&rt, target_of_kind(rt.alloc(), &table, 4)?, 99);
-    Ok(())
+fn a_value_of_the_host_has_no_case(rt: HostRuntime) {
+    let table = made(&rt, table(rt.alloc()));
+    assert_same(&rt, made(&rt, target_of_kind(rt.alloc(), &table, 4)), 99);
 }
 
 /// Adds cases of the first three subjects.
@@ -150,10 +148,9 @@ fn assert_kinds(rt: &impl Abort, alloc: Global, table: &Switch) -> Result<(), Al
 }
 
 #[test]
-fn cases_of_any_kind(rt: HostRuntime) -> Result<(), Fail> {
-    let table = table_of_kinds(rt.alloc())?;
-    assert_kinds(&rt, rt.alloc(), &table)?;
-    Ok(())
+fn cases_of_any_kind(rt: HostRuntime) {
+    let table = made(&rt, table_of_kinds(rt.alloc()));
+    made(&rt, assert_kinds(&rt, rt.alloc(), &table));
 }
 
 /// Whether all integers from the least up to the greatest contain one.
@@ -175,21 +172,20 @@ fn ends_of_ranges(rt: HostRuntime) {
 }
 
 #[test]
-fn ranges_are_copied_and_printed(rt: HostRuntime) -> Result<(), Fail> {
+fn ranges_are_copied_and_printed(rt: HostRuntime) {
     let range = SwitchRange {
         from: 0,
         to: 2,
         inclusive: true,
         target: 1,
     };
-    assert_same(&rt, &range, &range.clone()?);
-    let text = format!(in rt.alloc(); "{range:?}")?;
+    assert_same(&rt, &range, &made(&rt, range.clone()));
+    let text = made(&rt, format!(in rt.alloc(); "{range:?}"));
     assert_same(
         &rt,
         text.as_str(),
         "SwitchRange { from: 0, to: 2, inclusive: true, target: 1 }",
     );
-    Ok(())
 }
 
 /// Asserts what comes of two tables with these defaults, and what the defaults are then.
@@ -236,11 +232,10 @@ fn resolved(rt: &impl Abort, alloc: Global) -> Result<[Switch; 1], Fail> {
 }
 
 #[test]
-fn targets_of_cases_and_ranges_become_offsets(rt: HostRuntime) -> Result<(), Fail> {
-    let tables = resolved(&rt, rt.alloc())?;
+fn targets_of_cases_and_ranges_become_offsets(rt: HostRuntime) {
+    let tables = made(&rt, resolved(&rt, rt.alloc()));
     for (subject, target) in [(1, 1), (7, 2), (8, 3), (11, 4)] {
         let found = target_of(&tables[0], Dynamic::Int(subject));
         assert_same(&rt, found, target);
     }
-    Ok(())
 }

@@ -1,4 +1,4 @@
-use crate::samples::{assert_same, assert_texts};
+use crate::samples::{assert_same, assert_texts, made};
 use grain_base::{Flags, FnAccess, Position};
 use grain_bytecode::{
     Chain, Chunk, DisassembleError, Function, Op, Receiver, Root, Step, StepFlags, SwitchRange,
@@ -177,19 +177,21 @@ fn texts_of(alloc: Global, names: &[&str], ops: &[Op]) -> Result<String, Fail> {
 }
 
 #[test]
-fn operations_have_texts(rt: HostRuntime) -> Result<(), Fail> {
+fn operations_have_texts(rt: HostRuntime) {
     for (ops, texts) in OPERATIONS {
-        assert_same(&rt, texts_of(rt.alloc(), NAMES, ops)?.as_str(), texts);
+        assert_same(
+            &rt,
+            made(&rt, texts_of(rt.alloc(), NAMES, ops)).as_str(),
+            texts,
+        );
     }
-    Ok(())
 }
 
 #[test]
-fn no_names_are_there(rt: HostRuntime) -> Result<(), Fail> {
-    let found = texts_of(rt.alloc(), &[], &[Op::LoadNamed(3)])?;
+fn no_names_are_there(rt: HostRuntime) {
+    let found = made(&rt, texts_of(rt.alloc(), &[], &[Op::LoadNamed(3)]));
     let wanted = "disassembly needs name 3, which isn't there\n";
     assert_same(&rt, found.as_str(), wanted);
-    Ok(())
 }
 
 /// An assignment to a root, as a chain without steps.
@@ -323,9 +325,8 @@ disassembly needs constant 8, which isn't there
 ";
 
 #[test]
-fn parts_have_texts(rt: HostRuntime) -> Result<(), Fail> {
-    assert_same(&rt, written_parts(rt.alloc())?.as_str(), PARTS);
-    Ok(())
+fn parts_have_texts(rt: HostRuntime) {
+    assert_same(&rt, made(&rt, written_parts(rt.alloc())).as_str(), PARTS);
 }
 
 /// The text of the sample chain, with other names than those of the sample pools.
@@ -335,10 +336,9 @@ fn renamed(alloc: Global) -> Result<String, Fail> {
 }
 
 #[test]
-fn chains_take_the_names_of_their_pools(rt: HostRuntime) -> Result<(), Fail> {
+fn chains_take_the_names_of_their_pools(rt: HostRuntime) {
     let wanted = "Named { name: 0, pos: 1:1 } a [0] .b ";
-    assert_same(&rt, renamed(rt.alloc())?.as_str(), wanted);
-    Ok(())
+    assert_same(&rt, made(&rt, renamed(rt.alloc())).as_str(), wanted);
 }
 
 const MISSING: DisassembleError = DisassembleError::Missing {
@@ -347,7 +347,7 @@ const MISSING: DisassembleError = DisassembleError::Missing {
 };
 
 #[test]
-fn errors_print_themselves(rt: HostRuntime) -> Result<(), Fail> {
+fn errors_print_themselves(rt: HostRuntime) {
     let rows = [
         (
             MISSING,
@@ -356,13 +356,11 @@ fn errors_print_themselves(rt: HostRuntime) -> Result<(), Fail> {
         (DisassembleError::OutOfMemory, "OutOfMemory: out of memory"),
     ];
     for row in rows {
-        assert_texts(&rt, rt.alloc(), row)?;
+        made(&rt, assert_texts(&rt, rt.alloc(), row));
     }
-    Ok(())
 }
 
 #[test]
-fn errors_are_copied(rt: HostRuntime) -> Result<(), Fail> {
-    assert_same(&rt, MISSING.clone()?, MISSING);
-    Ok(())
+fn errors_are_copied(rt: HostRuntime) {
+    assert_same(&rt, made(&rt, MISSING.clone()), MISSING);
 }

@@ -1,71 +1,45 @@
 //! Functions of a program that are called, and other ways that runs take.
 
-use crate::runs::{Outcome, call, ended, idle_script, program_of};
-use grain::{Cut, Dynamic, FnAccess, Head, Op, Program, Switch, SwitchRange};
+use crate::runs::{
+    ADD, DIVIDE, INVOKE, LESS, Outcome, ended, idle_script, program_of, with_function, with_switch,
+};
+use crate::samples::{assert_same, made};
+use grain::{Dynamic, Op, Program, Switch, SwitchRange};
 use grain_machine::accept;
-use std::alloc::Global;
+use std::alloc::{AllocError, Global};
 use std::collections::HashMap;
 use std::test::Fail;
 
-/// Calls the function of a name: the first function has name 4.
-pub(crate) fn invoke(name: u32, argc: u8) -> Op {
-    Op::Call {
-        name,
-        argc,
-        op: None,
-        capture_parent_scope: false,
-    }
-}
-
-fn head(alloc: Global, name: u32) -> Head {
-    Head {
-        name,
-        params: Vec::new(alloc),
-        access: FnAccess::Public,
-        this_type: None,
-    }
-}
-
-fn cut(first: usize, end: usize) -> Cut {
-    Cut {
-        first,
-        end,
-        max_stack: 8,
-    }
-}
-
-/// A program of the top level, which ends at an operation, and of one function.
-pub(crate) fn with_function(alloc: Global, ops: &[Op], end: usize) -> Result<Program, Fail> {
-    let mut heads = Vec::new(alloc);
-    heads.push(head(alloc, 4))?;
-    let cuts = [cut(0, end), cut(end, ops.len())];
-    program_of(alloc, ops, &cuts, heads, Vec::new(alloc))
-}
-
 /// f(argument), where f(n) is 0 below 1, and else n + f(n / 2)
-fn halving(argument: u32) -> [Op; 16] {
-    [
-        Op::Const(argument),
-        invoke(4, 1),
-        Op::Return,
-        Op::LoadLocal(0),
-        Op::Const(1),
-        call(1),
-        Op::JumpIfFalse { target: 9 },
-        Op::Const(0),
-        Op::Return,
-        Op::LoadLocal(0),
-        Op::LoadLocal(0),
-        Op::Const(2),
-        call(2),
-        invoke(4, 1),
-        call(0),
-        Op::Return,
-    ]
+macro_rules! halving {
+    ($argument:expr) => {
+        &[
+            Op::Const($argument),
+            INVOKE,
+            Op::Return,
+            Op::LoadLocal(0),
+            Op::Const(1),
+            LESS,
+            Op::JumpIfFalse { target: 9 },
+            Op::Const(0),
+            Op::Return,
+            Op::LoadLocal(0),
+            Op::LoadLocal(0),
+            Op::Const(2),
+            DIVIDE,
+            INVOKE,
+            ADD,
+            Op::Return,
+        ]
+    };
 }
+
+const HALVING_3: &[Op] = halving!(3);
+
+const HALVING_4: &[Op] = halving!(4);
 
 /// How a run of the program ends, and how many functions are under way then, as the host was told.
-fn told(program: &Program, alloc: Global, fuel: u64) -> Result<(Outcome, usize), Fail> {
+fn told(alloc: Global, program: &Program, fuel: u64) -> Result<(Outcome, usize), Fail> {
     let accepted = accept(program)?;
     let mut script = idle_script(alloc);
     let main = accepted.main();
@@ -73,73 +47,101 @@ fn told(program: &Program, alloc: Global, fuel: u64) -> Result<(Outcome, usize),
     Ok((outcome, script.under_way()))
 }
 
-#[test]
-fn a_function_calls_itself(rt: HostRuntime) -> Result<(), Fail> {
-    let program = with_function(rt.alloc(), &halving(3), 3)?;
-    assert!(rt; told(&program, rt.alloc(), 1000)? == (Outcome::Returned(4), 0));
-    assert!(rt; told(&program, rt.alloc(), 20)? == (Outcome::OutOfFuel, 0));
-    let program = with_function(rt.alloc(), &halving(4), 3)?;
-    assert!(rt; told(&program, rt.alloc(), 1000)? == (Outcome::TooDeep, 0));
-    Ok(())
+/// The same of a top level, which ends at an operation, and a function.
+fn called(alloc: Global, ops: &[Op], end: usize, fuel: u64) -> Result<(Outcome, usize), Fail> {
+    told(alloc, &with_function(alloc, ops, end)?, fuel)
 }
 
 #[test]
-fn a_fault_leaves_functions_until_it_is_caught(rt: HostRuntime) -> Result<(), Fail> {
-    // try { f(3) } catch { 9 }, where f(n) is f(0) from 1 on, and f(0) throws 7
-    let ops = [
-        Op::PushHandler {
-            target: 5,
-            catch_var: None,
-        },
-        Op::Const(3),
-        invoke(4, 1),
-        Op::PopHandler,
-        Op::Return,
-        Op::PopHandler,
-        Op::Const(9),
-        Op::Return,
-        Op::LoadLocal(0),
-        Op::Const(1),
-        call(1),
-        Op::JumpIfFalse { target: 14 },
-        Op::Const(7),
-        Op::Throw,
-        Op::Const(0),
-        invoke(4, 1),
-        Op::Return,
+fn a_function_calls_itself(rt: HostRuntime) {
+    let rows = [
+        (HALVING_3, 1000, Outcome::Returned(4)),
+        (HALVING_3, 20, Outcome::OutOfFuel),
+        (HALVING_4, 1000, Outcome::TooDeep),
     ];
-    let program = with_function(rt.alloc(), &ops, 8)?;
-    assert!(rt; told(&program, rt.alloc(), 1000)? == (Outcome::Returned(9), 0));
-    Ok(())
+    for (ops, fuel, outcome) in rows {
+        assert_same(
+            &rt,
+            made(&rt, called(rt.alloc(), ops, 3, fuel)),
+            (outcome, 0),
+        );
+    }
+}
+
+/// try { f(3) } catch { 9 }, where f(n) is f(0) from 1 on, and f(0) throws 7
+const THROWING: &[Op] = &[
+    Op::PushHandler {
+        target: 5,
+        catch_var: None,
+    },
+    Op::Const(3),
+    INVOKE,
+    Op::PopHandler,
+    Op::Return,
+    Op::PopHandler,
+    Op::Const(9),
+    Op::Return,
+    Op::LoadLocal(0),
+    Op::Const(1),
+    LESS,
+    Op::JumpIfFalse { target: 14 },
+    Op::Const(7),
+    Op::Throw,
+    Op::Const(0),
+    INVOKE,
+    Op::Return,
+];
+
+#[test]
+fn a_fault_leaves_functions_until_it_is_caught(rt: HostRuntime) {
+    let found = made(&rt, called(rt.alloc(), THROWING, 8, 1000));
+    assert_same(&rt, found, (Outcome::Returned(9), 0));
+}
+
+const TWO: &[Op] = &[Op::Const(1), Op::Return, Op::Const(8), Op::Return];
+
+/// How a run of the program's only function ends, and where.
+fn function_ended(alloc: Global, program: &Program) -> Result<(Outcome, usize), Fail> {
+    if program.functions().len() != 1 {
+        return Err(Fail::new("not one function"));
+    }
+    let accepted = accept(program)?;
+    let mut script = idle_script(alloc);
+    Ok(ended(&accepted.function(0), alloc, &mut script, 10)?)
+}
+
+/// The same of the function that begins at the third of these operations.
+fn second_ended(alloc: Global, ops: &[Op]) -> Result<(Outcome, usize), Fail> {
+    function_ended(alloc, &with_function(alloc, ops, 2)?)
 }
 
 #[test]
-fn a_function_runs_by_itself(rt: HostRuntime) -> Result<(), Fail> {
-    let ops = [Op::Const(1), Op::Return, Op::Const(8), Op::Return];
-    let program = with_function(rt.alloc(), &ops, 2)?;
-    assert!(rt; program.functions().len() == 1);
-    let accepted = accept(&program)?;
-    let mut script = idle_script(rt.alloc());
-    let (outcome, at) = ended(&accepted.function(0), rt.alloc(), &mut script, 10)?;
-    assert!(rt; outcome == Outcome::Returned(8) && at == 7);
-    Ok(())
+fn a_function_runs_by_itself(rt: HostRuntime) {
+    let found = made(&rt, second_ended(rt.alloc(), TWO));
+    assert_same(&rt, found, (Outcome::Returned(8), 7));
 }
 
 /// switch x { 7 => 1, 2..=4 => 5, _ => 3 }
-fn switching(alloc: Global, x: u32) -> Result<Program, Fail> {
-    let ops = [
-        Op::Const(x),
-        Op::Switch(0),
-        Op::Pop,
-        Op::Const(1),
-        Op::Return,
-        Op::Pop,
-        Op::Const(5),
-        Op::Return,
-        Op::Pop,
-        Op::Const(3),
-        Op::Return,
-    ];
+macro_rules! switching {
+    ($x:expr) => {
+        &[
+            Op::Const($x),
+            Op::Switch(0),
+            Op::Pop,
+            Op::Const(1),
+            Op::Return,
+            Op::Pop,
+            Op::Const(5),
+            Op::Return,
+            Op::Pop,
+            Op::Const(3),
+            Op::Return,
+        ]
+    };
+}
+
+/// 7 leads to operation 2, 2 to 4 lead to 5, and all else to 8.
+fn switch(alloc: Global) -> Result<Switch, AllocError> {
     let mut cases = HashMap::new(alloc);
     let _ = cases.insert(Dynamic::Int(7), (2, 7))?;
     let range = SwitchRange {
@@ -148,23 +150,25 @@ fn switching(alloc: Global, x: u32) -> Result<Program, Fail> {
         inclusive: true,
         target: 5,
     };
-    let switch = Switch {
+    Ok(Switch {
         cases: Some(cases),
         ranges: vec![in alloc; range]?,
         default: 8,
-    };
-    let switches = vec![in alloc; switch]?;
-    program_of(alloc, &ops, &[cut(0, 11)], Vec::new(alloc), switches)
+    })
 }
 
+/// How a run of the operations with the switch ends.
+fn switched(alloc: Global, ops: &[Op]) -> Result<(Outcome, usize), Fail> {
+    let parts = with_switch(alloc, switch(alloc)?)?;
+    told(alloc, &program_of(alloc, ops, parts)?, 10)
+}
+
+const SWITCHES: [(&[Op], i64); 3] = [(switching!(7), 1), (switching!(4), 5), (switching!(5), 3)];
+
 #[test]
-fn a_switch_leads_where_its_subject_says(rt: HostRuntime) -> Result<(), Fail> {
-    let led = |x: u32| -> Result<(Outcome, usize), Fail> {
-        let program = switching(rt.alloc(), x)?;
-        told(&program, rt.alloc(), 10)
-    };
-    assert!(rt; led(7)? == (Outcome::Returned(1), 0));
-    assert!(rt; led(4)? == (Outcome::Returned(5), 0));
-    assert!(rt; led(5)? == (Outcome::Returned(3), 0));
-    Ok(())
+fn a_switch_leads_where_its_subject_says(rt: HostRuntime) {
+    for (ops, wanted) in SWITCHES {
+        let found = made(&rt, switched(rt.alloc(), ops));
+        assert_same(&rt, found, (Outcome::Returned(wanted), 0));
+    }
 }

@@ -4,8 +4,8 @@
 #[cfg(test)]
 mod calls;
 #[cfg(test)]
-mod growths;
-#[cfg(test)]
 mod runs;
+#[cfg(test)]
+mod samples;
 #[cfg(test)]
 mod scripts;

@@ -1,5 +1,7 @@
+use crate::samples::{assert_same, made};
 use grain::{
-    Caps, Cut, Dynamic, Flags, Head, Op, Parts, Positions, Program, Strings, Switch, build,
+    BuildError, Caps, Cut, Dynamic, Flags, FnAccess, Head, Op, Parts, Positions, Program, Strings,
+    Switch, build,
 };
 use grain_machine::{CallError, Given, Host, How, Limits, Request, Runnable, accept, dispatch};
 use std::alloc::{AllocError, Global};
@@ -229,70 +231,140 @@ impl Host for Script {
     }
 }
 
-fn local(slot: u16) -> Op {
-    Op::AssignLocal {
-        slot,
-        var_name: 0,
-        op: None,
-    }
+/// Declares a local variable.
+const DECLARE: Op = Op::DeclareLocal {
+    name: 0,
+    is_const: false,
+    is_global: false,
+};
+
+/// Assigns to the first local variable.
+const ASSIGN: Op = Op::AssignLocal {
+    slot: 0,
+    var_name: 0,
+    op: None,
+};
+
+/// Calls what has that name with so many arguments.
+macro_rules! call {
+    ($name:expr, $argc:expr) => {
+        Op::Call {
+            name: $name,
+            argc: $argc,
+            op: None,
+            capture_parent_scope: false,
+        }
+    };
 }
 
-pub(crate) fn call(name: u32) -> Op {
-    Op::Call {
-        name,
-        argc: 2,
-        op: None,
-        capture_parent_scope: false,
-    }
+pub(crate) const ADD: Op = call!(0, 2);
+
+pub(crate) const LESS: Op = call!(1, 2);
+
+pub(crate) const DIVIDE: Op = call!(2, 2);
+
+const STOP: Op = call!(3, 2);
+
+/// Calls the first function.
+pub(crate) const INVOKE: Op = call!(4, 1);
+
+/// Arms a handler whose catch begins at an operation.
+macro_rules! catching {
+    ($target:expr) => {
+        Op::PushHandler {
+            target: $target,
+            catch_var: None,
+        }
+    };
 }
 
-pub(crate) fn declare() -> Op {
-    Op::DeclareLocal {
-        name: 0,
-        is_const: false,
-        is_global: false,
-    }
-}
-
-/// A program whose constants are 0, 1, 2 and so on, of these chunks: the top level, and functions.
-pub(crate) fn program_of(
-    alloc: Global,
-    ops: &[Op],
-    cuts: &[Cut],
-    functions: Vec<Head>,
-    switches: Vec<Switch>,
-) -> Result<Program, Fail> {
-    let mut consts = Vec::new(alloc);
-    for x in 0..10 {
-        consts.push(Dynamic::Int(x))?;
-    }
-    let parts = Parts {
+/// What all programs here share: the constants 0, 1, 2 and so on, and names.
+fn parts(alloc: Global) -> Result<Parts, Fail> {
+    let mut parts = Parts {
         positions: Positions::Stripped,
         debug_id: 0,
         residuals: 0,
-        consts,
+        consts: Vec::new(alloc),
         names: Strings::new(alloc, &["+", "<", "/", "stop", "f", "g"])?,
         tokens: Vec::new(alloc),
         assign_ops: Vec::new(alloc),
         chains: Vec::new(alloc),
-        switches,
+        switches: Vec::new(alloc),
         source: None,
     };
-    if functions.len() > 9 || cuts.len() != functions.len() + 1 {
-        return Err(Fail::new("a chunk for the top level, and one for each function"));
+    fill(&mut parts.consts)?;
+    Ok(parts)
+}
+
+fn fill(consts: &mut Vec<Dynamic>) -> Result<(), Fail> {
+    for x in 0..10 {
+        consts.push(Dynamic::Int(x))?;
     }
-    let (program, _) = build(alloc, Caps::all(), ops, cuts, functions, parts)?;
-    Ok(program)
+    Ok(())
+}
+
+/// The same, and a switch.
+pub(crate) fn with_switch(alloc: Global, switch: Switch) -> Result<Parts, Fail> {
+    let mut parts = parts(alloc)?;
+    parts.switches.push(switch)?;
+    Ok(parts)
+}
+
+/// [`build`], where each cut but the first has its head.
+fn built(
+    alloc: Global,
+    ops: &[Op],
+    cuts: &[Cut],
+    heads: Vec<Head>,
+    parts: Parts,
+) -> Result<Program, BuildError> {
+    if cuts.len() != heads.len() + 1 {
+        return Err(BuildError::BadCut { index: usize::MAX });
+    }
+    match build(alloc, Caps::all(), ops, cuts, heads, parts) {
+        Ok((program, _)) => Ok(program),
+        Err(refusal) => Err(refusal),
+    }
+}
+
+/// The operations from the first up to the end, which declare that they stack at most 8 operands.
+fn cut(first: usize, end: usize) -> Cut {
+    Cut {
+        first,
+        end,
+        max_stack: 8,
+    }
+}
+
+/// The operations as the top level of a program with these parts.
+pub(crate) fn program_of(alloc: Global, ops: &[Op], parts: Parts) -> Result<Program, BuildError> {
+    built(alloc, ops, &[cut(0, ops.len())], Vec::new(alloc), parts)
+}
+
+/// The head of the function of the name 4, which declares no parameters.
+fn heads(alloc: Global) -> Result<Vec<Head>, AllocError> {
+    let mut heads = Vec::new(alloc);
+    heads.push(Head {
+        name: 4,
+        params: Vec::new(alloc),
+        access: FnAccess::Public,
+        this_type: None,
+    })?;
+    Ok(heads)
+}
+
+/// A program of the top level, which ends at an operation, and of one function.
+pub(crate) fn with_function(alloc: Global, ops: &[Op], end: usize) -> Result<Program, Fail> {
+    let cuts = [cut(0, end), cut(end, ops.len())];
+    let heads = heads(alloc)?;
+    let parts = parts(alloc)?;
+    Ok(built(alloc, ops, &cuts, heads, parts)?)
 }
 
 /// The operations as the top level of a program.
 pub(crate) fn program(alloc: Global, ops: &[Op]) -> Result<Program, Fail> {
-    let cut = Cut {
-        first: 0,
-        end: ops.len(),
-        max_stack: 8,
-    };
-    program_of(alloc, ops, &[cut], Vec::new(alloc), Vec::new(alloc))
+    let parts = parts(alloc)?;
+    Ok(program_of(alloc, ops, parts)?)
 }
 
 /// How a run ended, with the integer that it returned or threw.
@@ -344,138 +416,131 @@ pub(crate) fn ended(
     Ok((told(ending.how), at))
 }
 
-/// How a run of the operations ends, where, and what was caught in it.
-fn ran(alloc: Global, ops: &[Op], fuel: u64) -> Result<(Outcome, usize, Vec<i64>), Fail> {
-    let program = program(alloc, ops)?;
-    let accepted = accept(&program)?;
+/// How a run of the program ends, where, and whether this was caught in it.
+fn ends(
+    alloc: Global,
+    program: &Program,
+    fuel: u64,
+    caught: &[i64],
+) -> Result<(Outcome, usize, bool), Fail> {
+    let accepted = accept(program)?;
     let main = accepted.main();
     let mut script = idle_script(alloc);
     let (told, at) = ended(&main, alloc, &mut script, fuel)?;
-    let Script {
-        alloc: _,
-        locals: _,
-        bases: _,
-        caught,
-    } = script;
-    Ok((told, at, caught))
+    Ok((told, at, script.caught.as_slice() == caught))
 }
 
-/// Whether a run of the operations ends so, there, and with this caught.
-fn ends_so(
+/// How a run of the operations ends, where, and whether this was caught in it.
+fn ran(
     alloc: Global,
     ops: &[Op],
     fuel: u64,
-    told: Outcome,
-    at: usize,
     caught: &[i64],
-) -> Result<bool, Fail> {
-    let ending = ran(alloc, ops, fuel)?;
-    Ok(ending.0 == told && ending.1 == at && ending.2.as_slice() == caught)
+) -> Result<(Outcome, usize, bool), Fail> {
+    ends(alloc, &program(alloc, ops)?, fuel, caught)
 }
 
-#[test]
-fn a_loop_runs_to_its_end(rt: HostRuntime) -> Result<(), Fail> {
-    // sum = 0; for x in [1, 2, 3] { sum = sum + x }; sum
-    let ops = [
-        Op::Const(0),
-        declare(),
-        Op::Const(1),
-        Op::Const(2),
-        Op::Const(3),
-        Op::MakeArray(3),
-        Op::IterInit,
-        Op::IterNext {
-            exit: 12,
-            counter_slot: None,
-        },
-        Op::LoadLocal(0),
-        call(0),
-        local(0),
-        Op::Jump(7),
-        Op::LoadLocal(0),
-        Op::Return,
-    ];
-    let so = ends_so(rt.alloc(), &ops, 1000, Outcome::Returned(6), 44, &[])?;
-    assert!(rt; so);
-    let so = ends_so(rt.alloc(), &ops, 9, Outcome::OutOfFuel, 27, &[])?;
-    assert!(rt; so);
-    Ok(())
-}
+/// sum = 0; for x in [1, 2, 3] { sum = sum + x }; sum
+const LOOP: &[Op] = &[
+    Op::Const(0),
+    DECLARE,
+    Op::Const(1),
+    Op::Const(2),
+    Op::Const(3),
+    Op::MakeArray(3),
+    Op::IterInit,
+    Op::IterNext {
+        exit: 12,
+        counter_slot: None,
+    },
+    Op::LoadLocal(0),
+    ADD,
+    ASSIGN,
+    Op::Jump(7),
+    Op::LoadLocal(0),
+    Op::Return,
+];
 
 #[test]
-fn faults_are_caught_by_the_innermost_handler(rt: HostRuntime) -> Result<(), Fail> {
-    // try { try { 5 / 0 } catch { throw 7 } } catch { 9 }
-    let ops = [
-        Op::PushHandler {
-            target: 9,
-            catch_var: None,
-        },
-        Op::PushHandler {
-            target: 6,
-            catch_var: None,
-        },
-        Op::Const(5),
-        Op::Const(0),
-        call(2),
-        Op::Return,
-        Op::PopHandler,
-        Op::Const(7),
-        Op::Throw,
-        Op::PopHandler,
-        Op::Const(9),
-        Op::Return,
-    ];
-    let so = ends_so(rt.alloc(), &ops, 1000, Outcome::Returned(9), 30, &[-1, 7])?;
-    assert!(rt; so);
-    let so = ends_so(
-        rt.alloc(),
-        &[Op::Const(4), Op::Throw],
-        1000,
-        Outcome::Thrown(4),
-        3,
-        &[],
-    )?;
-    assert!(rt; so);
-    Ok(())
+fn a_loop_runs_to_its_end(rt: HostRuntime) {
+    let found = made(&rt, ran(rt.alloc(), LOOP, 1000, &[]));
+    assert_same(&rt, found, (Outcome::Returned(6), 44, true));
+    let found = made(&rt, ran(rt.alloc(), LOOP, 9, &[]));
+    assert_same(&rt, found, (Outcome::OutOfFuel, 27, true));
 }
 
-#[test]
-fn a_fault_that_is_not_let_be_caught_ends_the_run(rt: HostRuntime) -> Result<(), Fail> {
-    // try { stop(1, 2) } catch { 9 }
-    let ops = [
-        Op::PushHandler {
-            target: 5,
-            catch_var: None,
-        },
-        Op::Const(1),
-        Op::Const(2),
-        call(3),
-        Op::Return,
-        Op::PopHandler,
-        Op::Const(9),
-        Op::Return,
-    ];
-    let so = ends_so(rt.alloc(), &ops, 1000, Outcome::Stopped, 11, &[])?;
-    assert!(rt; so);
-    Ok(())
-}
+/// try { try { 5 / 0 } catch { throw 7 } } catch { 9 }
+const TRIES: &[Op] = &[
+    catching!(9),
+    catching!(6),
+    Op::Const(5),
+    Op::Const(0),
+    DIVIDE,
+    Op::Return,
+    Op::PopHandler,
+    Op::Const(7),
+    Op::Throw,
+    Op::PopHandler,
+    Op::Const(9),
+    Op::Return,
+];
+
+const THROWING: &[Op] = &[Op::Const(4), Op::Throw];
 
 #[test]
-fn branches_go_where_the_condition_says(rt: HostRuntime) -> Result<(), Fail> {
-    // if 1 < 2 { 3 } else { 4 }, and with the numbers the other way round
-    let ops = |a: u32, b: u32| [
-        Op::Const(a),
-        Op::Const(b),
-        call(1),
-        Op::JumpIfFalse { target: 6 },
-        Op::Const(3),
-        Op::Return,
-        Op::Const(4),
-        Op::Return,
-    ];
-    let so = ends_so(rt.alloc(), &ops(1, 2), 1000, Outcome::Returned(3), 18, &[])?;
-    assert!(rt; so);
-    let so = ends_so(rt.alloc(), &ops(2, 1), 1000, Outcome::Returned(4), 22, &[])?;
-    assert!(rt; so);
-    Ok(())
+fn faults_are_caught_by_the_innermost_handler(rt: HostRuntime) {
+    let found = made(&rt, ran(rt.alloc(), TRIES, 1000, &[-1, 7]));
+    assert_same(&rt, found, (Outcome::Returned(9), 30, true));
+    let found = made(&rt, ran(rt.alloc(), THROWING, 1000, &[]));
+    assert_same(&rt, found, (Outcome::Thrown(4), 3, true));
+}
+
+/// try { stop(1, 2) } catch { 9 }
+const STOPPING: &[Op] = &[
+    catching!(5),
+    Op::Const(1),
+    Op::Const(2),
+    STOP,
+    Op::Return,
+    Op::PopHandler,
+    Op::Const(9),
+    Op::Return,
+];
+
+#[test]
+fn a_fault_that_is_not_let_be_caught_ends_the_run(rt: HostRuntime) {
+    let found = made(&rt, ran(rt.alloc(), STOPPING, 1000, &[]));
+    assert_same(&rt, found, (Outcome::Stopped, 11, true));
+}
+
+/// if a < b { 3 } else { 4 }
+macro_rules! branching {
+    ($a:expr, $b:expr) => {
+        &[
+            Op::Const($a),
+            Op::Const($b),
+            LESS,
+            Op::JumpIfFalse { target: 6 },
+            Op::Const(3),
+            Op::Return,
+            Op::Const(4),
+            Op::Return,
+        ]
+    };
+}
+
+const BRANCHES: [(&[Op], Outcome, usize); 2] = [
+    (branching!(1, 2), Outcome::Returned(3), 18),
+    (branching!(2, 1), Outcome::Returned(4), 22),
+];
+
+#[test]
+fn branches_go_where_the_condition_says(rt: HostRuntime) {
+    for (ops, outcome, at) in BRANCHES {
+        assert_same(
+            &rt,
+            made(&rt, ran(rt.alloc(), ops, 1000, &[])),
+            (outcome, at, true),
+        );
+    }
 }

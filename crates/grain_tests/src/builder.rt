@@ -1,4 +1,4 @@
-use crate::samples::{assert_same, built, cut, heads, parts, with_switch};
+use crate::samples::{assert_same, built, cut, heads, made, parts, with_switch};
 use grain::{
     AssembleError, BuildError, Caps, Chunk, Flags, Op, Program, Switch, SwitchRange, VerifyError,
 };
@@ -63,11 +63,10 @@ fn with_function(
 }
 
 #[test]
-fn cuts_are_the_top_level_and_functions(rt: HostRuntime) -> Result<(), Fail> {
+fn cuts_are_the_top_level_and_functions(rt: HostRuntime) {
     let (main, function) = (Chunk::new(0, 2, 8), Chunk::new(2, 4, 8));
-    let found = facts(with_function(rt.alloc(), 4)?);
+    let found = facts(made(&rt, with_function(rt.alloc(), 4)));
     assert_same(&rt, found, Some((true, true, main, Some(function))));
-    Ok(())
 }
 
 // Where the first switch leads by default, and by its first range.
@@ -116,72 +115,66 @@ fn looping(alloc: Global) -> Result<Option<Looped>, Fail> {
 }
 
 #[test]
-fn targets_of_jumps_and_switches_become_addresses(rt: HostRuntime) -> Result<(), Fail> {
-    let found = looping(rt.alloc())?;
+fn targets_of_jumps_and_switches_become_addresses(rt: HostRuntime) {
+    let found = made(&rt, looping(rt.alloc()));
     assert_same(&rt, found, Some((true, true, Some((10, Some(4))))));
-    Ok(())
 }
 
+const BRANCHING: &[Op] = &[
+    Op::Unit,
+    Op::JumpIfFalse { target: 3 },
+    Op::Unit,
+    Op::Return,
+];
+
+const SWITCHING: &[Op] = &[Op::Unit, Op::Switch(0), Op::Return];
+
+const WILD: &[Op] = &[Op::Jump(99)];
+
+const CONFLICT: VerifyError = VerifyError::DepthConflict {
+    at: 7,
+    expected: 1,
+    found: 0,
+};
+
+// A target of a switch past the end.
+const PAST: AssembleError = AssembleError::SwitchTargetOutOfRange {
+    table: 0,
+    target: 9,
+};
+
+const JUMP: AssembleError = AssembleError::JumpOutOfRange { at: 0, target: 99 };
+
 #[test]
-fn the_first_flaw_is_named(rt: HostRuntime) -> Result<(), Fail> {
-    let ops = [
-        Op::Unit,
-        Op::JumpIfFalse { target: 3 },
-        Op::Unit,
-        Op::Return,
+fn the_first_flaw_is_named(rt: HostRuntime) {
+    // Cuts are looked at before jumps, and these before switches and the program.
+    let rows = [
+        (WILD, 2, 1, 9, BuildError::BadCut { index: 0 }),
+        (WILD, 0, 1, 9, BuildError::Assemble(JUMP)),
+        (SWITCHING, 0, 3, 9, BuildError::Assemble(PAST)),
+        (BRANCHING, 0, 4, 0, BuildError::Verify(CONFLICT)),
     ];
-    let conflict = BuildError::Verify(VerifyError::DepthConflict {
-        at: 7,
-        expected: 1,
-        found: 0,
-    });
-    let refusal = refused(rt.alloc(), &ops, 0, 4, 0)?;
-    assert_same(&rt, refusal, Some(conflict));
-    Ok(())
+    for (ops, first, end, default, wanted) in rows {
+        let refusal = made(&rt, refused(rt.alloc(), ops, first, end, default));
+        assert_same(&rt, refusal, Some(wanted));
+    }
 }
 
 #[test]
-fn a_target_of_a_switch_past_the_end_is_named(rt: HostRuntime) -> Result<(), Fail> {
-    let ops = [Op::Unit, Op::Switch(0), Op::Return];
-    let past = AssembleError::SwitchTargetOutOfRange {
-        table: 0,
-        target: 9,
-    };
-    let refusal = refused(rt.alloc(), &ops, 0, 3, 9)?;
-    assert_same(&rt, refusal, Some(BuildError::Assemble(past)));
-    Ok(())
-}
-
-#[test]
-fn cuts_are_looked_at_before_jumps(rt: HostRuntime) -> Result<(), Fail> {
-    let cut = BuildError::BadCut { index: 0 };
-    let refusal = refused(rt.alloc(), &[Op::Jump(99)], 2, 1, 9)?;
-    assert_same(&rt, refusal, Some(cut));
-    Ok(())
-}
-
-#[test]
-fn jumps_are_looked_at_behind_cuts(rt: HostRuntime) -> Result<(), Fail> {
-    let jump = AssembleError::JumpOutOfRange { at: 0, target: 99 };
-    let refusal = refused(rt.alloc(), &[Op::Jump(99)], 0, 1, 9)?;
-    assert_same(&rt, refusal, Some(BuildError::Assemble(jump)));
-    Ok(())
-}
-
-#[test]
-fn the_first_bad_cut_is_named(rt: HostRuntime) -> Result<(), Fail> {
-    let refusal = with_function(rt.alloc(), 5)?.err();
+fn the_first_bad_cut_is_named(rt: HostRuntime) {
+    let refusal = made(&rt, with_function(rt.alloc(), 5)).err();
     assert_same(&rt, refusal, Some(BuildError::BadCut { index: 1 }));
-    Ok(())
 }
 
 #[test]
-fn a_bad_cut_has_a_text(rt: HostRuntime) -> Result<(), Fail> {
-    let text = format!(in rt.alloc(); "{}", BuildError::BadCut { index: 1 })?;
+fn a_bad_cut_has_a_text(rt: HostRuntime) {
+    let text = made(
+        &rt,
+        format!(in rt.alloc(); "{}", BuildError::BadCut { index: 1 }),
+    );
     assert_same(
         &rt,
         text.as_str(),
         "cut 1 runs backwards or past the operations",
     );
-    Ok(())
 }

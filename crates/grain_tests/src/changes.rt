@@ -1,9 +1,8 @@
 //! Code of which one bit was changed.
 
-use crate::samples::{Answer, assert_same, of_one_chunk, parts, program};
+use crate::samples::{Answer, assert_same, made, of_one_chunk, parts, program};
 use grain::{Meter, Program, VerifyError, verify, verify_metered};
 use std::alloc::Global;
-use std::process::Abort;
 use std::test::Fail;
 
 /// A try that pushes a unit and returns, and a catch that does the same.
@@ -41,15 +40,20 @@ fn by_call(alloc: Global, program: &Program, call: u32) -> Answer {
 /// How many calls verify.
 const CALLS: u32 = 3;
 
-/// What all calls that verify answer of the code as one chunk that declares 8. That they answer alike is asserted.
-fn answer(rt: &(impl Abort + AllocGlobal), code: &[u8]) -> Result<Answer, Fail> {
-    let program = program(rt.alloc(), code, 8, parts(rt.alloc(), &[])?)?;
-    let first = by_call(rt.alloc(), &program, 0);
+/// What the first call answers of the program, and whether all others answer the same.
+fn by_all(alloc: Global, program: &Program) -> (Answer, bool) {
+    let first = by_call(alloc, program, 0);
+    let mut alike = true;
     for call in 1..CALLS {
-        let alike = by_call(rt.alloc(), &program, call) == first;
-        assert_same(rt, (code, call, alike), (code, call, true));
+        alike = alike && by_call(alloc, program, call) == first;
     }
-    Ok(first)
+    (first, alike)
+}
+
+/// The same of the code as one chunk that declares 8.
+fn answer(alloc: Global, code: &[u8]) -> Result<(Answer, bool), Fail> {
+    let parts = parts(alloc, &[])?;
+    Ok(by_all(alloc, &program(alloc, code, 8, parts)?))
 }
 
 /// The code with that bit changed, of which the first byte has the bits 0 to 7.
@@ -64,25 +68,33 @@ fn changed(bit: usize) -> [u8; 11] {
 /// The numbers of the changes that are accepted, which were found by a verifier of another hand.
 const ACCEPTED: [u16; 8] = [1, 1, 1, 1, 2, 2, 1, 1];
 
-/// The numbers that are answered of each change that is accepted; 0 where not just one is answered.
-fn accepted(rt: &(impl Abort + AllocGlobal)) -> Result<Vec<u16>, Fail> {
+/// The number that is answered of a change, 0 where not just one is answered, and whether all calls answer alike.
+fn answer_to(alloc: Global, bit: usize) -> Result<(Option<u16>, bool), Fail> {
+    let (answer, alike) = answer(alloc, &changed(bit))?;
+    match answer {
+        Ok(number) => Ok((Some(number.unwrap_or(0)), alike)),
+        Err(_) => Ok((None, alike)),
+    }
+}
+
+#[test]
+fn each_change_of_one_bit_is_answered_alike(rt: HostRuntime) {
     let mut accepted = Vec::new(rt.alloc());
     for bit in 0..8 * CODE.len() {
-        if let Ok(number) = answer(rt, &changed(bit))? {
-            accepted.push(number.unwrap_or(0))?;
+        let (number, alike) = made(&rt, answer_to(rt.alloc(), bit));
+        assert_same(&rt, (bit, alike), (bit, true));
+        if let Some(number) = number {
+            made(&rt, accepted.push(number));
         }
     }
-    Ok(accepted)
+    assert_same(&rt, accepted.as_slice(), ACCEPTED.as_slice());
 }
 
 #[test]
-fn each_change_of_one_bit_is_answered_alike(rt: HostRuntime) -> Result<(), Fail> {
-    assert_same(&rt, accepted(&rt)?.as_slice(), ACCEPTED.as_slice());
-    Ok(())
-}
-
-#[test]
-fn unchanged_code_is_accepted(rt: HostRuntime) -> Result<(), Fail> {
-    assert_same(&rt, answer(&rt, &CODE)?, Ok(Some(1)));
-    Ok(())
+fn unchanged_code_is_accepted(rt: HostRuntime) {
+    assert_same(
+        &rt,
+        made(&rt, answer(rt.alloc(), &CODE)),
+        (Ok(Some(1)), true),
+    );
 }

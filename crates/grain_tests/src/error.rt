@@ -1,6 +1,5 @@
-use crate::samples::assert_same;
+use crate::samples::{assert_same, made};
 use grain::{Caps, Flags, VerifyError};
-use std::alloc::{AllocError, Global};
 use std::test::Fail;
 
 fn refusal(number: usize) -> VerifyError {
@@ -30,37 +29,32 @@ fn refusal(number: usize) -> VerifyError {
     }
 }
 
-fn shown(alloc: Global, number: usize) -> Result<String, AllocError> {
-    format!(in alloc; "{}", refusal(number))
-}
-
-#[test]
-fn refusals_print_as_verdict_lines_have_them(rt: HostRuntime) -> Result<(), Fail> {
-    let texts = [
-        "missing-caps at=1 missing=0020",
-        "depth-conflict at=7 expected=1 found=0",
-        "bad-index at=0 index=3 what=name",
-        "sinks-below-handler at=7 need=1 have=0",
-        "falls-off-the-end",
-        "out of memory",
-    ];
-    for (number, text) in texts.into_iter().enumerate() {
-        assert_same(&rt, shown(rt.alloc(), number)?.as_str(), text);
+/// The refusals as verdict lines have them, and one as it is debugged.
+fn write_lines(out: &mut String) -> Result<(), Fail> {
+    for number in 0..6 {
+        writeln!(out, "{}", refusal(number))?;
     }
-    Ok(())
-}
-
-#[test]
-fn refusals_have_debug_texts(rt: HostRuntime) -> Result<(), Fail> {
     let error = VerifyError::StackExceedsDeclared {
         needed: 3,
         declared: 2,
     };
-    let shown = format!(in rt.alloc(); "{error:?}")?;
-    assert_same(
-        &rt,
-        shown.as_str(),
-        "StackExceedsDeclared { needed: 3, declared: 2 }",
-    );
+    writeln!(out, "{error:?}")?;
     Ok(())
+}
+
+const LINES: &str = "\
+missing-caps at=1 missing=0020
+depth-conflict at=7 expected=1 found=0
+bad-index at=0 index=3 what=name
+sinks-below-handler at=7 need=1 have=0
+falls-off-the-end
+out of memory
+StackExceedsDeclared { needed: 3, declared: 2 }
+";
+
+#[test]
+fn refusals_have_texts(rt: HostRuntime) {
+    let mut lines = String::new(rt.alloc());
+    made(&rt, write_lines(&mut lines));
+    assert_same(&rt, lines.as_str(), LINES);
 }

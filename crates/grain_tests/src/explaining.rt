@@ -1,9 +1,8 @@
 //! The verdict with each chunk explained.
 
-use crate::samples::{assert_same, pools};
+use crate::samples::{assert_same, made, pools};
 use grain::{Caps, Chunk, ExplainError, Explained, Flags, Strings, VerifyError, explain};
 use std::alloc::Global;
-use std::test::Fail;
 
 /// What is explained of the code with these chunks and empty pools.
 fn explained(alloc: Global, code: &[u8], chunks: &[Chunk]) -> Result<Explained, ExplainError> {
@@ -34,9 +33,9 @@ const CODE: [u8; 16] = [
 ];
 
 #[test]
-fn a_refused_chunk_has_the_flaw_of_the_verdict(rt: HostRuntime) -> Result<(), Fail> {
+fn a_refused_chunk_has_the_flaw_of_the_verdict(rt: HostRuntime) {
     let chunks = [Chunk::new(0, 2, 8), Chunk::new(2, 16, 8)];
-    let explained = explained(rt.alloc(), &CODE, &chunks)?;
+    let explained = made(&rt, explained(rt.alloc(), &CODE, &chunks));
     let flaw = VerifyError::DepthConflict {
         at: 4,
         expected: 0,
@@ -44,12 +43,12 @@ fn a_refused_chunk_has_the_flaw_of_the_verdict(rt: HostRuntime) -> Result<(), Fa
     };
     assert_same(&rt, refused(&explained), Some((Some(1), &flaw)));
     assert_same(&rt, flaw_of_chunk(&explained, 1), Some(&flaw));
-    Ok(())
 }
 
 #[test]
-fn no_chunk_is_explained_of_code_that_is_refused(rt: HostRuntime) -> Result<(), Fail> {
-    let explained = explained(rt.alloc(), &[0x02, 0x13, 0xff], &[Chunk::new(0, 2, 8)])?;
+fn no_chunk_is_explained_of_code_that_is_refused(rt: HostRuntime) {
+    let explained = explained(rt.alloc(), &[0x02, 0x13, 0xff], &[Chunk::new(0, 2, 8)]).expect(
+        &rt, "memory",
+    );
     assert_same(&rt, explained.chunks.len(), 0);
-    Ok(())
 }

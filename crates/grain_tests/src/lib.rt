@@ -1,9 +1,8 @@
 //! The tests of `grain`, which call it as a host does, and of `grain_explain` and `grain_cases`: a test that changes has no
 //! crate proved again but this one.
 //!
-//! `host` shows how a host calls the verifier. `changes`, `large` and `many` have what strangers may hand over: code that was
-//! changed on its way, and pools that all instructions name. `growths` has what a call leaves where there is no memory.
-//! `rows` has the tests of what is explained, `run` those of lines and their verdicts.
+//! `host` shows how a host calls the verifier. `changes` has code that was changed on its way, `large` what is deep, long or
+//! many. `rows` has the tests of what is explained, `run` those of lines and their verdicts.
 #![tactic(auto)]
 
 #[cfg(test)]
@@ -17,17 +16,11 @@ mod error;
 #[cfg(test)]
 mod explaining;
 #[cfg(test)]
-mod growths;
-#[cfg(test)]
 mod host;
-#[cfg(test)]
-mod indices;
 #[cfg(test)]
 mod large;
 #[cfg(test)]
 mod lookup;
-#[cfg(test)]
-mod many;
 #[cfg(test)]
 mod meter;
 #[cfg(test)]
@@ -44,5 +37,3 @@ mod samples;
 mod sidecar;
 #[cfg(test)]
 mod tighten;
-#[cfg(test)]
-mod verifier;

@@ -1,4 +1,4 @@
-use crate::samples::{assert_same, function, parts};
+use crate::samples::{assert_same, function, made, parts};
 use grain::{Caps, Chunk, Flags, Function, Lookups, Program};
 use std::alloc::Global;
 use std::test::Fail;
@@ -50,15 +50,6 @@ fn found(
     Ok(entries(&of_functions(alloc, declared)?, argc, this_type))
 }
 
-#[test]
-fn functions_differ_by_parameters(rt: HostRuntime) -> Result<(), Fail> {
-    let declared = [(Some(1), 1), (None, 0)];
-    for (argc, wanted) in [(0, [Some(1); 3]), (1, [Some(0), None, None])] {
-        assert_same(&rt, found(rt.alloc(), &declared, argc, "i64")?, wanted);
-    }
-    Ok(())
-}
-
 // The index of the name of the function `f`, and of the function `i64`, without parameters.
 fn name_indices(program: &Program) -> [Option<u32>; 2] {
     [
@@ -68,24 +59,31 @@ fn name_indices(program: &Program) -> [Option<u32>; 2] {
 }
 
 #[test]
-fn functions_have_the_indices_of_their_names(rt: HostRuntime) -> Result<(), Fail> {
-    let program = of_functions(rt.alloc(), &[(Some(1), 1), (None, 0)])?;
+fn functions_have_the_indices_of_their_names(rt: HostRuntime) {
+    let program = made(&rt, of_functions(rt.alloc(), &[(Some(1), 1), (None, 0)]));
     assert_same(&rt, name_indices(&program), [Some(0), None]);
-    Ok(())
 }
 
+// Functions that differ by their parameters, and some by their receivers.
+const BY_PARAMETERS: &[(Option<u32>, usize)] = &[(Some(1), 1), (None, 0)];
+
+const BY_RECEIVERS: &[(Option<u32>, usize)] = &[(Some(1), 0), (None, 0), (None, 0)];
+
+const METHOD: &[(Option<u32>, usize)] = &[(Some(1), 0)];
+
 #[test]
-fn functions_differ_by_receivers(rt: HostRuntime) -> Result<(), Fail> {
-    let both = [(Some(1), 0), (None, 0), (None, 0)];
-    let rows: [(&[(Option<u32>, usize)], &str, [Option<u32>; 3]); 3] = [
-        (&both, "i64", [Some(0), Some(1), Some(1)]),
-        (&both, "string", [Some(1); 3]),
-        (&both[..1], "i64", [Some(0), None, None]),
+fn functions_differ_by_parameters_and_receivers(rt: HostRuntime) {
+    let rows = [
+        (BY_PARAMETERS, 0, "i64", [Some(1); 3]),
+        (BY_PARAMETERS, 1, "i64", [Some(0), None, None]),
+        (BY_RECEIVERS, 0, "i64", [Some(0), Some(1), Some(1)]),
+        (BY_RECEIVERS, 0, "string", [Some(1); 3]),
+        (METHOD, 0, "i64", [Some(0), None, None]),
     ];
-    for (declared, this_type, wanted) in rows {
-        assert_same(&rt, found(rt.alloc(), declared, 0, this_type)?, wanted);
+    for (declared, argc, this_type, wanted) in rows {
+        let found = made(&rt, found(rt.alloc(), declared, argc, this_type));
+        assert_same(&rt, found, wanted);
     }
-    Ok(())
 }
 
 // Whether something is found by an index that the pools don't have.
@@ -105,9 +103,8 @@ fn found_names(program: &Program) -> [bool; 2] {
 }
 
 #[test]
-fn indices_past_the_pools_find_nothing(rt: HostRuntime) -> Result<(), Fail> {
-    let program = of_functions(rt.alloc(), &[])?;
+fn indices_past_the_pools_find_nothing(rt: HostRuntime) {
+    let program = made(&rt, of_functions(rt.alloc(), &[]));
     assert_same(&rt, found_names(&program), [true, false]);
     assert_same(&rt, found_past(&program), [false; 5]);
-    Ok(())
 }

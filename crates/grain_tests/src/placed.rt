@@ -1,44 +1,30 @@
-use crate::samples::{assert_same, pools};
+use crate::samples::{assert_same, made, pools};
 use grain::{Caps, Chunk, Flags, Meter, Refusal, Strings, VerifyError, verify_placed};
 use std::alloc::Global;
 use std::test::Fail;
 
-/// What is said of the code with these chunks and empty pools.
-fn said(alloc: Global, code: &[u8], chunks: &[Chunk]) -> Result<Result<Vec<u16>, Refusal>, Fail> {
+/// A chunk that passes, and one that lacks a handler.
+const CODE: [u8; 4] = [0x02, 0x13, 0x22, 0x13];
+
+/// What is said of the code with these chunks and empty pools: the number of the last chunk, or the refusal.
+fn said(alloc: Global, chunks: &[Chunk]) -> Result<Result<Option<u16>, Refusal>, Fail> {
     let names = Strings::new(alloc, &[])?;
     let mut meter = Meter::new();
     let (caps, pools) = (Caps::all(), pools(&names));
-    Ok(verify_placed(alloc, caps, &[], code, &[], chunks, &pools, &mut meter))
+    match verify_placed(alloc, caps, &[], &CODE, &[], chunks, &pools, &mut meter) {
+        Ok(numbers) => Ok(Ok(numbers.last().copied())),
+        Err(refusal) => Ok(Err(refusal)),
+    }
 }
 
+/// What is of no chunk has no place; that is a test of the package in hosts/rust.
 #[test]
-fn a_refusal_has_the_place_of_its_chunk(rt: HostRuntime) -> Result<(), Fail> {
-    let code = [0x02, 0x13, 0x22, 0x13];
-    let chunks = [Chunk::new(0, 2, 8), Chunk::new(2, 4, 8)];
+fn a_refusal_has_the_place_of_its_chunk(rt: HostRuntime) {
     let refusal = Refusal {
         place: Some(1),
         error: VerifyError::HandlerUnderflow { at: 2 },
     };
-    assert_same(&rt, said(rt.alloc(), &code, &chunks)?, Err(refusal));
-    assert_same(
-        &rt,
-        said(rt.alloc(), &code, &chunks[..1])?,
-        Ok(vec![in rt.alloc(); 1]?),
-    );
-    Ok(())
-}
-
-#[test]
-fn what_is_of_no_chunk_has_no_place(rt: HostRuntime) -> Result<(), Fail> {
-    let refusal = Refusal {
-        place: None,
-        error: VerifyError::Undecodable { at: 2 },
-    };
-    let chunks = [Chunk::new(0, 2, 8)];
-    assert_same(
-        &rt,
-        said(rt.alloc(), &[0x02, 0x13, 0xff], &chunks)?,
-        Err(refusal),
-    );
-    Ok(())
+    let chunks = [Chunk::new(0, 2, 8), Chunk::new(2, 4, 8)];
+    assert_same(&rt, made(&rt, said(rt.alloc(), &chunks)), Err(refusal));
+    assert_same(&rt, made(&rt, said(rt.alloc(), &chunks[..1])), Ok(Some(1)));
 }

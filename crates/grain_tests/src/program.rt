@@ -1,4 +1,6 @@
-use crate::samples::{assert_same, function, parts, strip_and_attach, strips, tightens, verifies};
+use crate::samples::{
+    assert_same, function, made, parts, strip_and_attach, strips, tightens, verifies,
+};
 use grain::{
     Caps, Chain, Chunk, Dynamic, Flags, Function, Lookups, Parts, Position, Positions, Program,
     Root, Step, StepFlags, Tail, Token,
@@ -90,16 +92,6 @@ fn compiled(alloc: Global) -> Result<Program, Fail> {
     Ok(Program::new(alloc, caps, code, main, functions, pools(alloc)?))
 }
 
-#[test]
-fn programs_are_verified(rt: HostRuntime) -> Result<(), Fail> {
-    let program = compiled(rt.alloc())?;
-
-    // No run of the top level stacks more than one operand, and none of the first function more than two.
-    assert_same(&rt, verifies(&program, &[1, 2, 1]), true);
-    assert_same(&rt, program.max_stack(), 8);
-    Ok(())
-}
-
 // Whether tightening succeeds, what the main chunk then declares and what the most is that a chunk does, and whether the
 // program is verified as before.
 fn tightened(program: &mut Program) -> (bool, u16, u16, bool) {
@@ -112,12 +104,11 @@ fn tightened(program: &mut Program) -> (bool, u16, u16, bool) {
 }
 
 #[test]
-fn programs_are_tightened(rt: HostRuntime) -> Result<(), Fail> {
-    let mut program = compiled(rt.alloc())?;
+fn programs_are_tightened(rt: HostRuntime) {
+    let mut program = made(&rt, compiled(rt.alloc()));
 
     // What runs reach is what has to be declared.
     assert_same(&rt, tightened(&mut program), (true, 1, 2, true));
-    Ok(())
 }
 
 // Where a function begins that was found.
@@ -143,14 +134,6 @@ fn looked_up(program: &Program) -> [bool; 4] {
     ]
 }
 
-#[test]
-fn functions_and_entries_are_found(rt: HostRuntime) -> Result<(), Fail> {
-    let program = compiled(rt.alloc())?;
-    assert_same(&rt, entries(&program), [Some(11), Some(24)]);
-    assert_same(&rt, looked_up(&program), [true, true, true, false]);
-    Ok(())
-}
-
 // The position of the call, and that of the property.
 fn places(program: &Program) -> (Position, Option<Position>) {
     let property = match program.chains() {
@@ -170,22 +153,20 @@ fn stripped(program: &mut Program) -> (bool, Position, bool) {
 }
 
 #[test]
-fn positions_go_apart(rt: HostRuntime) -> Result<(), Fail> {
-    let mut program = compiled(rt.alloc())?;
+fn positions_go_apart(rt: HostRuntime) {
+    let mut program = made(&rt, compiled(rt.alloc()));
     let found = stripped(&mut program);
     assert_same(&rt, found, (true, Position::NONE, true));
-    Ok(())
 }
 
 #[test]
-fn positions_go_apart_and_come_back(rt: HostRuntime) -> Result<(), Fail> {
-    let mut program = compiled(rt.alloc())?;
+fn positions_go_apart_and_come_back(rt: HostRuntime) {
+    let mut program = made(&rt, compiled(rt.alloc()));
 
     // Whoever looks into a crash gives them back.
     assert_same(&rt, strip_and_attach(&mut program), true);
     let wanted = (Position::new(1, 1), Some(Position::new(1, 11)));
     assert_same(&rt, places(&program), wanted);
-    Ok(())
 }
 
 // How many bytes, functions, constants, names, operators, chains, op-assignments, switches and fragments there are.
@@ -218,12 +199,17 @@ fn holds(program: &Program) -> [bool; 3] {
 }
 
 #[test]
-fn programs_tell_what_they_have(rt: HostRuntime) -> Result<(), Fail> {
-    let program = compiled(rt.alloc())?;
+fn programs_tell_what_they_have(rt: HostRuntime) {
+    let program = made(&rt, compiled(rt.alloc()));
     assert_same(&rt, counts(&program), [26, 2, 1, 6, 1, 1, 0, 0, 0]);
     assert_same(&rt, numbers(&program), (2, 7));
     assert_same(&rt, holds(&program), [false, true, false]);
-    Ok(())
+    assert_same(&rt, entries(&program), [Some(11), Some(24)]);
+    assert_same(&rt, looked_up(&program), [true, true, true, false]);
+
+    // No run of the top level stacks more than one operand, and none of the first function more than two.
+    assert_same(&rt, verifies(&program, &[1, 2, 1]), true);
+    assert_same(&rt, program.max_stack(), 8);
 }
 
 // Whether the source has no name at first, and then this one.
@@ -234,11 +220,10 @@ fn sets_source(program: &mut Program, source: String) -> (bool, bool) {
 }
 
 #[test]
-fn programs_have_sources(rt: HostRuntime) -> Result<(), Fail> {
-    let source = String::from_str(rt.alloc(), "sums.rhai")?;
-    let mut program = compiled(rt.alloc())?;
+fn programs_have_sources(rt: HostRuntime) {
+    let source = made(&rt, String::from_str(rt.alloc(), "sums.rhai"));
+    let mut program = made(&rt, compiled(rt.alloc()));
     assert_same(&rt, sets_source(&mut program, source), (true, true));
-    Ok(())
 }
 
 // The program as it is printed.
@@ -255,14 +240,13 @@ fn shown_with_source(alloc: Global) -> Result<String, Fail> {
 }
 
 #[test]
-fn programs_are_printed_by_their_counts(rt: HostRuntime) -> Result<(), Fail> {
-    let text = shown_with_source(rt.alloc())?;
+fn programs_are_printed_by_their_counts(rt: HostRuntime) {
+    let text = made(&rt, shown_with_source(rt.alloc()));
     assert_same(
         &rt,
         text.as_str(),
         "Program { source: Some(\"sums.rhai\"), bytes: 26, max_stack: 8, consts: 1, names: 6, residuals: 0, compiled_fns: 2, positions: true }",
     );
-    Ok(())
 }
 
 // What is printed is what the top level declares, though a function declares more: that, and whether it is so once the
@@ -275,11 +259,10 @@ fn shown_tightened(alloc: Global, program: &mut Program) -> Result<(u16, bool), 
 }
 
 #[test]
-fn programs_are_printed_by_their_top_level(rt: HostRuntime) -> Result<(), Fail> {
-    let mut program = compiled(rt.alloc())?;
-    let found = shown_tightened(rt.alloc(), &mut program)?;
+fn programs_are_printed_by_their_top_level(rt: HostRuntime) {
+    let mut program = made(&rt, compiled(rt.alloc()));
+    let found = made(&rt, shown_tightened(rt.alloc(), &mut program));
     assert_same(&rt, found, (2, true));
-    Ok(())
 }
 
 mod texts;

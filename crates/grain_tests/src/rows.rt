@@ -1,127 +1,170 @@
 //! README's loops, and its code with a handler, explained and checked.
-use crate::samples::pools;
+use crate::samples::{assert_same, made, pools};
 use grain::{
-    Caps, Chunk, Flags, Row, Strings, TypingError, VerifyError, check_typing, explain_chunks,
+    Caps, Chunk, ExplainError, ExplainedChunk, Flags, Row, Strings, TypingError, VerifyError,
+    check_typing, explain_chunks,
 };
 use std::alloc::{AllocError, Global};
 use std::test::Fail;
 
-mod growths;
+/// README's loop that is accepted, and the one without its `Pop`.
+const LOOP: [u8; 15] = [2, 29, 30, 13, 0, 0, 0, 11, 12, 2, 0, 0, 0, 2, 19];
 
-fn row(alloc: Global, at: u32, operands: u32, iterators: u32) -> Row {
-    Row {
-        at,
-        operands,
-        iterators,
-        bases: Vec::new(alloc),
+const BARE_LOOP: [u8; 14] = [2, 29, 30, 12, 0, 0, 0, 12, 2, 0, 0, 0, 2, 19];
+
+/// `verify 7fff 02230a0000000b122213220b13 0:13:8` of README.
+const SINKING: [u8; 13] = [2, 35, 10, 0, 0, 0, 11, 18, 34, 19, 34, 11, 19];
+
+/// A row without handlers: its address, its operands and its iterators.
+type Counts = (u32, u32, u32);
+
+/// The rows of the loop that is accepted.
+const ROWS: [Counts; 7] = [
+    (0, 0, 0),
+    (1, 1, 0),
+    (2, 0, 1),
+    (7, 1, 1),
+    (8, 0, 1),
+    (13, 0, 0),
+    (14, 1, 0),
+];
+
+const ORIGINS: [Option<u32>; 7] = [None, Some(0), Some(1), Some(2), Some(7), Some(2), Some(13)];
+
+/// The two ways to the conflict of the other loop.
+const WAY: [Counts; 3] = [(2, 0, 1), (1, 1, 0), (0, 0, 0)];
+
+const OTHER_WAY: [Counts; 5] = [(2, 1, 1), (7, 1, 1), (2, 0, 1), (1, 1, 0), (0, 0, 0)];
+
+/// Whether these are the rows of a way, none of which has a handler.
+fn are(rows: &[Row], wanted: &[Counts]) -> bool {
+    if rows.len() != wanted.len() {
+        return false;
     }
+    for (row, counts) in rows.iter().zip(wanted.iter()) {
+        if (row.at, row.operands, row.iterators) != *counts || !row.bases.is_empty() {
+            return false;
+        }
+    }
+    true
 }
 
-/// The rows of README's accepted loop.
-fn loop_rows(alloc: Global) -> Result<Vec<Row>, AllocError> {
+/// The code explained as the only chunk, which declares 8, where the host has these capabilities.
+fn explained(
+    alloc: Global,
+    caps: Caps,
+    code: &[u8],
+    end: u32,
+) -> Result<Vec<ExplainedChunk>, ExplainError> {
+    let Ok(names) = Strings::new(alloc, &[]) else {
+        return Err(ExplainError::OutOfMemory);
+    };
+    let (pools, chunks) = (pools(&names), [Chunk::new(0, end, 8)]);
+    explain_chunks(alloc, caps, code, &chunks, &pools)
+}
+
+/// So many rows of the loop.
+fn rows(alloc: Global, count: usize) -> Result<Vec<Row>, AllocError> {
     let mut rows = Vec::new(alloc);
-    rows.push(row(alloc, 0, 0, 0))?;
-    rows.push(row(alloc, 1, 1, 0))?;
-    rows.push(row(alloc, 2, 0, 1))?;
-    rows.push(row(alloc, 7, 1, 1))?;
-    rows.push(row(alloc, 8, 0, 1))?;
-    rows.push(row(alloc, 13, 0, 0))?;
-    rows.push(row(alloc, 14, 1, 0))?;
+    for (at, operands, iterators) in ROWS.into_iter().take(count) {
+        rows.push(Row {
+            at,
+            operands,
+            iterators,
+            bases: Vec::new(alloc),
+        })?;
+    }
     Ok(rows)
 }
 
-const LOOP: [u8; 15] = [2, 29, 30, 13, 0, 0, 0, 11, 12, 2, 0, 0, 0, 2, 19];
+/// Whether the first chunk is accepted, with these rows and the origins of the loop.
+fn is_loop(chunks: &[ExplainedChunk], rows: &[Row]) -> [bool; 3] {
+    match chunks.first() {
+        Some(first) => [
+            first.refusal.is_none(),
+            first.rows.as_slice() == rows,
+            first.origins.as_slice() == ORIGINS.as_slice(),
+        ],
+        None => [false; 3],
+    }
+}
 
-#[test]
-fn a_loop_has_these_rows(rt: HostRuntime) -> Result<(), Fail> {
-    let alloc = rt.alloc();
-    let names = Strings::new(alloc, &[])?;
-    let pools = pools(&names);
-    let chunks = [Chunk::new(0, 15, 8)];
-    let explained = explain_chunks(alloc, Caps::empty(), &LOOP, &chunks, &pools)?;
-    let first = explained.first().ok_or("no chunk")?;
-    let rows = loop_rows(alloc)?;
-    assert!(rt; first.refusal.is_none());
-    assert_eq!(rt; first.rows.as_slice(), rows.as_slice());
-    let origins = [None, Some(0), Some(1), Some(2), Some(7), Some(2), Some(13)];
-    assert_eq!(rt; first.origins.as_slice(), origins.as_slice());
-    Ok(())
+/// The same of the loop.
+fn explained_loop(alloc: Global) -> Result<[bool; 3], Fail> {
+    let rows = rows(alloc, 7)?;
+    Ok(is_loop(&explained(alloc, Caps::empty(), &LOOP, 15)?, &rows))
 }
 
 #[test]
-fn its_rows_are_checked(rt: HostRuntime) -> Result<(), Fail> {
-    let alloc = rt.alloc();
+fn a_loop_has_these_rows(rt: HostRuntime) {
+    assert_same(&rt, made(&rt, explained_loop(rt.alloc())), [true; 3]);
+}
+
+/// What is said of these rows of the loop, which declares so much.
+fn checked(alloc: Global, declared: u16, rows: &[Row]) -> Result<Result<(), TypingError>, Fail> {
     let names = Strings::new(alloc, &[])?;
-    let pools = pools(&names);
-    let chunk = Chunk::new(0, 15, 8);
-    let mut rows = loop_rows(alloc)?;
-    assert_eq!(rt;
-        check_typing(Caps::empty(), &LOOP, &chunk, &pools, &rows),
-        Ok(())
-    );
-    let shallow = Chunk::new(0, 15, 0);
-    let answer = check_typing(Caps::empty(), &LOOP, &shallow, &pools, &rows);
-    assert_eq!(rt; answer, Err(TypingError::TooDeep { row: 1 }));
-    let _ = rows.pop();
-    let answer = check_typing(Caps::empty(), &LOOP, &chunk, &pools, &rows);
-    assert_eq!(rt; answer, Err(TypingError::Unmatched { row: 5, target: 14 }));
-    Ok(())
+    let (pools, chunk) = (pools(&names), Chunk::new(0, 15, declared));
+    Ok(check_typing(Caps::empty(), &LOOP, &chunk, &pools, rows))
+}
+
+/// The same of so many rows.
+fn checked_front(
+    alloc: Global,
+    declared: u16,
+    count: usize,
+) -> Result<Result<(), TypingError>, Fail> {
+    let rows = rows(alloc, count)?;
+    checked(alloc, declared, &rows)
 }
 
 #[test]
-fn a_conflict_has_two_ways(rt: HostRuntime) -> Result<(), Fail> {
-    let alloc = rt.alloc();
-    let names = Strings::new(alloc, &[])?;
-    let pools = pools(&names);
-    let code = [2, 29, 30, 12, 0, 0, 0, 12, 2, 0, 0, 0, 2, 19];
-    let chunks = [Chunk::new(0, 14, 8)];
-    let explained = explain_chunks(alloc, Caps::empty(), &code, &chunks, &pools)?;
-    let first = explained.first().ok_or("no chunk")?;
-    let Some(refusal) = &first.refusal else {
-        return Err("accepted".into());
-    };
-    let error = VerifyError::DepthConflict {
+fn its_rows_are_checked(rt: HostRuntime) {
+    let deep = TypingError::TooDeep { row: 1 };
+    let unmatched = TypingError::Unmatched { row: 5, target: 14 };
+    for (declared, count, wanted) in [(8, 7, Ok(())), (0, 7, Err(deep)), (8, 6, Err(unmatched))] {
+        let found = made(&rt, checked_front(rt.alloc(), declared, count));
+        assert_same(&rt, found, wanted);
+    }
+}
+
+/// The flaw of the first chunk.
+fn flaw_of(chunks: &[ExplainedChunk]) -> Option<&VerifyError> {
+    let refusal = chunks.first()?.refusal.as_ref()?;
+    Some(&refusal.error)
+}
+
+/// Whether it has the two ways to the conflict.
+fn has_both_ways(chunks: &[ExplainedChunk]) -> Option<[bool; 2]> {
+    let refusal = chunks.first()?.refusal.as_ref()?;
+    Some([are(&refusal.way, &WAY), are(&refusal.other, &OTHER_WAY)])
+}
+
+#[test]
+fn a_conflict_has_two_ways(rt: HostRuntime) {
+    let chunks = made(&rt, explained(rt.alloc(), Caps::empty(), &BARE_LOOP, 14));
+    let flaw = VerifyError::DepthConflict {
         at: 2,
         expected: 0,
         found: 1,
     };
-    assert_eq!(rt; refusal.error, error);
-    let way = [
-        row(alloc, 2, 0, 1),
-        row(alloc, 1, 1, 0),
-        row(alloc, 0, 0, 0),
-    ];
-    assert_eq!(rt; refusal.way.as_slice(), way.as_slice());
-    let other = [
-        row(alloc, 2, 1, 1),
-        row(alloc, 7, 1, 1),
-        row(alloc, 2, 0, 1),
-        row(alloc, 1, 1, 0),
-        row(alloc, 0, 0, 0),
-    ];
-    assert_eq!(rt; refusal.other.as_slice(), other.as_slice());
-    Ok(())
+    assert_same(&rt, flaw_of(&chunks), Some(&flaw));
+    assert_same(&rt, has_both_ways(&chunks), Some([true; 2]));
+}
+
+/// How long the way to its flaw is.
+fn length_of_way(chunks: &[ExplainedChunk]) -> Option<usize> {
+    let refusal = chunks.first()?.refusal.as_ref()?;
+    Some(refusal.way.len())
 }
 
 #[test]
-fn an_instruction_sinks_below_its_handler(rt: HostRuntime) -> Result<(), Fail> {
-    let alloc = rt.alloc();
-    let names = Strings::new(alloc, &[])?;
-    let pools = pools(&names);
-    // `verify 7fff 02230a0000000b122213220b13 0:13:8` of README.
-    let code = [2, 35, 10, 0, 0, 0, 11, 18, 34, 19, 34, 11, 19];
-    let chunks = [Chunk::new(0, 13, 8)];
-    let explained = explain_chunks(alloc, Caps::all(), &code, &chunks, &pools)?;
-    let first = explained.first().ok_or("no chunk")?;
-    let Some(refusal) = &first.refusal else {
-        return Err("accepted".into());
-    };
-    let error = VerifyError::SinksBelowHandler {
+fn an_instruction_sinks_below_its_handler(rt: HostRuntime) {
+    let chunks = made(&rt, explained(rt.alloc(), Caps::all(), &SINKING, 13));
+    let flaw = VerifyError::SinksBelowHandler {
         at: 7,
         need: 1,
         have: 0,
     };
-    assert_eq!(rt; refusal.error, error);
-    assert_eq!(rt; refusal.way.len(), 4);
-    Ok(())
+    assert_same(&rt, flaw_of(&chunks), Some(&flaw));
+    assert_same(&rt, length_of_way(&chunks), Some(4));
 }

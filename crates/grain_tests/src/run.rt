@@ -1,14 +1,11 @@
-//! Runs over bytes, with reads, writes and growths that fail.
+//! Runs over bytes, with reads and writes that fail.
 
 ghost use Rattle.std.specs.Prelude.{◌≤◌, Some, take};
 ghost use Rattle.grain_tests.specs.declared.run.TheConstants.{ROOM};
 
+use crate::samples::{assert_same, made};
 use grain_cases::{Failed, RunError, Sink, Source, Summary, run, status};
-use std::alloc::Global;
-use std::process::Abort;
-
-mod growths;
-mod long_lines;
+use std::alloc::{AllocError, Global};
 
 /// Gives its bytes, at most so many a call, and fails once so many were given.
 #[derive(Drop)]
@@ -147,81 +144,89 @@ const ROWS: [Row; 6] = [
     (b"", b"", 0, 0, 0),
 ];
 
-/// A run over the input with at most so many bytes a call, and what it wrote.
-fn run_over(alloc: Global, input: &[u8], each: usize) -> (Result<Summary, RunError>, Taken) {
+/// What came of a run: its outcome, its status, and whether this text was written.
+type Ended = (Result<Summary, RunError>, u8, bool);
+
+fn ended(outcome: Result<Summary, RunError>, writer: &Taken, text: &[u8]) -> Ended {
+    let code = status(&outcome);
+    (outcome, code, writer.bytes() == text)
+}
+
+/// What comes of a run over the input with at most so many bytes a call.
+fn run_over(alloc: Global, input: &[u8], each: usize, text: &[u8]) -> Ended {
     let mut reader = Given::new(input, each, usize::MAX);
     let mut writer = Taken::new(each, usize::MAX);
     let outcome = run(alloc, &mut reader, &mut writer);
-    (outcome, writer)
-}
-
-/// Asserts that the line is answered by this verdict.
-fn assert_verdict(rt: &impl Abort, alloc: Global, line: &str, verdict: &str) {
-    let (outcome, writer) = run_over(alloc, line.as_bytes(), usize::MAX);
-    let text = writer.bytes().strip_suffix(b"\n").unwrap_or_default();
-    assert_eq!(rt; text, verdict.as_bytes(), "{verdict}");
-    let bad = u64::from(verdict == "bad case");
-    assert_eq!(rt; outcome, Ok(Summary { cases: 1, bad }), "{verdict}");
+    ended(outcome, &writer, text)
 }
 
 #[test]
 fn answers_lines(rt: HostRuntime) {
     for (input, text, cases, bad, wanted) in ROWS {
         for each in [1, 7, 100000] {
-            let (outcome, writer) = run_over(rt.alloc(), input, each);
-            assert_eq!(rt; writer.bytes(), text);
-            assert_eq!(rt; outcome, Ok(Summary { cases, bad }));
-            assert_eq!(rt; status(&outcome), wanted);
+            let found = run_over(rt.alloc(), input, each, text);
+            assert_same(&rt, found, (Ok(Summary { cases, bad }), wanted, true));
         }
     }
+}
+
+/// The texts of a summary and of what a run may fail of.
+fn shown(alloc: Global, summary: Summary) -> Result<String, AllocError> {
+    let errors = [RunError::Read, RunError::Write, RunError::OutOfMemory];
+    format!(in alloc; "{summary:?} {errors:?} {Failed:?}")
 }
 
 #[test]
 fn shows_what_came_of_a_run(rt: HostRuntime) {
-    let summary = Summary { cases: 2, bad: 1 };
-    let text = format!(in rt.alloc();
-        "{summary:?} {:?} {:?} {:?} {Failed:?}",
-        RunError::Read,
-        RunError::Write,
-        RunError::OutOfMemory
-    )
-    .expect(&rt, "memory");
-    assert_eq!(rt;
-        text.as_str(),
-        "Summary { cases: 2, bad: 1 } Read Write OutOfMemory Failed"
+    assert_same(
+        &rt,
+        made(&rt, shown(rt.alloc(), Summary { cases: 2, bad: 1 })).as_str(),
+        "Summary { cases: 2, bad: 1 } [Read, Write, OutOfMemory] Failed",
     );
+}
+
+/// What comes of a run whose writer fails once it took so many bytes, and how often it was called behind that.
+fn run_to_a_failing_writer(alloc: Global, taken: usize, fails_by_none: bool) -> (Ended, u64) {
+    let mut reader = Given::new(INPUT, 100, usize::MAX);
+    let mut writer = Taken::new(1, taken);
+    writer.fails_by_none = fails_by_none;
+    let outcome = run(alloc, &mut reader, &mut writer);
+    let text = TEXT.get(..taken).unwrap_or_default();
+    (ended(outcome, &writer, text), writer.calls_after)
 }
 
 #[test]
 fn a_write_fails(rt: HostRuntime) {
-    for k in 0..25usize {
-        for fails_by_none in [false, true] {
-            let mut reader = Given::new(INPUT, 100, usize::MAX);
-            let mut writer = Taken::new(1, k);
-            writer.fails_by_none = fails_by_none;
-            let outcome = run(rt.alloc(), &mut reader, &mut writer);
-            assert_eq!(rt; outcome, Err(RunError::Write), "after {k}");
-            assert_eq!(rt; status(&outcome), 4);
-            assert_eq!(rt; writer.bytes(), &TEXT[..k], "after {k}");
-            assert_eq!(rt; writer.calls_after, 0, "after {k}");
+    for taken in 0..25usize {
+        for by_none in [false, true] {
+            let found = run_to_a_failing_writer(rt.alloc(), taken, by_none);
+            let wanted = ((Err(RunError::Write), 4, true), 0);
+            assert_same(&rt, (taken, found), (taken, wanted));
         }
     }
 }
 
+/// What comes of a run whose reader fails once it gave so many bytes, and how often it was called behind that.
+fn run_from_a_failing_reader(alloc: Global, given: usize) -> (Ended, u64) {
+    let mut reader = Given::new(INPUT, 3, given);
+    let mut writer = Taken::new(1, usize::MAX);
+    let outcome = run(alloc, &mut reader, &mut writer);
+    let written = match given {
+        0..10 => 0,
+        10..24 => 8,
+        _ => 25,
+    };
+    (
+        ended(outcome, &writer, &TEXT[..written]),
+        reader.calls_after,
+    )
+}
+
 #[test]
 fn a_read_fails(rt: HostRuntime) {
-    for k in 0..25usize {
-        let mut reader = Given::new(INPUT, 3, k);
-        let mut writer = Taken::new(1, usize::MAX);
-        let outcome = run(rt.alloc(), &mut reader, &mut writer);
-        let wanted = match k {
-            0..10 => 0,
-            10..24 => 8,
-            _ => 25,
-        };
-        assert_eq!(rt; outcome, Err(RunError::Read), "after {k}");
-        assert_eq!(rt; status(&outcome), 3);
-        assert_eq!(rt; writer.bytes(), &TEXT[..wanted], "after {k}");
-        assert_eq!(rt; reader.calls_after, 0, "after {k}");
+    for given in 0..25usize {
+        let found = run_from_a_failing_reader(rt.alloc(), given);
+        let wanted = ((Err(RunError::Read), 3, true), 0);
+        assert_same(&rt, (given, found), (given, wanted));
     }
 }

@@ -3,7 +3,7 @@
 use grain::{
     BuildError, Caps, Chain, Chunk, Cut, Flags, FnAccess, Function, Head, Op, Parts, Pools,
     Position, Positions, Program, Sidecar, Strings, StripError, Switch, TableError, VerifyError,
-    build, verify,
+    build,
 };
 use std::alloc::{AllocError, Global};
 use std::fmt::Debug;
@@ -13,6 +13,14 @@ use std::test::Fail;
 /// Asserts that both are the same. `assert_eq!` in its place costs the prover five times as much.
 pub(crate) fn assert_same<T: PartialEq + Debug + Drop>(rt: &impl Abort, found: T, wanted: T) {
     assert_eq!(rt; found, wanted);
+}
+
+/// What a test prepares, for which there is memory. A `?` in its place costs the prover a drop of all that is alive.
+pub(crate) fn made<T, E>(rt: &impl Abort, made: Result<T, E>) -> T {
+    match made {
+        Ok(made) => made,
+        Err(_) => panic!(rt; "a test can't be prepared"),
+    }
 }
 
 /// Number 7, with these names and nothing else.
@@ -81,13 +89,6 @@ pub(crate) fn of_one_chunk(answer: Result<Vec<u16>, VerifyError>) -> Answer {
         [number] => Ok(Some(*number)),
         _ => Ok(None),
     }
-}
-
-/// What `verify` answers of the code with these pools, as one chunk that declares 8, all capabilities there.
-pub(crate) fn said(alloc: Global, code: &[u8], pools: &Pools<'_>) -> Answer {
-    let end = u32::try_from(code.len()).unwrap_or(u32::MAX);
-    let chunks = [Chunk::new(0, end, 8)];
-    of_one_chunk(verify(alloc, Caps::all(), &[], code, &[], &chunks, pools))
 }
 
 /// The operations from the first up to the end, which declare that they stack at most 8 operands.
@@ -207,17 +208,4 @@ pub(crate) fn placed(alloc: Global) -> Result<Program, Fail> {
     let mut parts = parts(alloc, &[])?;
     parts.positions = Positions::dense(places.to_vec(alloc)?);
     Ok(program(alloc, &[0x02, 0x02, 0x13], 8, parts)?)
-}
-
-/// How a test of growths ends: it says which growth failed, one of the call's or the one that is asked for here, behind
-/// them. Where none fails, it is `Ok`.
-pub(crate) fn told(alloc: Global, refused: bool) -> Result<(), Fail> {
-    if refused {
-        return Err(Fail::new("a growth of the call was refused"));
-    }
-    let mut behind = Vec::new(alloc);
-    match behind.push(refused) {
-        Ok(()) => Ok(()),
-        Err(_) => Err(Fail::new("no growth of the call is left")),
-    }
 }

@@ -1,4 +1,6 @@
-use crate::samples::{assert_same, attach, is_sidecar, placed, program, strip, strips, with_chain};
+use crate::samples::{
+    assert_same, attach, is_sidecar, made, placed, program, strip, strips, with_chain,
+};
 use grain::sites::StreamError;
 use grain::{
     Chain, Flags, Position, Positions, Program, Root, Sidecar, Step, StepFlags, TableError, Tail,
@@ -29,11 +31,10 @@ fn sidecar(
 }
 
 #[test]
-fn sidecars_are_written_and_positions_stay(rt: HostRuntime) -> Result<(), Fail> {
-    let program = placed(rt.alloc())?;
+fn sidecars_are_written_and_positions_stay(rt: HostRuntime) {
+    let program = made(&rt, placed(rt.alloc()));
     assert_same(&rt, is_sidecar(&program, TABLE, STREAM), true);
     assert_same(&rt, program.position(1), Position::new(1, 5));
-    Ok(())
 }
 
 // Strips `placed` twice. Tells whether the right bytes came off it each time, and whether no positions were left between.
@@ -44,10 +45,9 @@ fn strip_twice(program: &mut Program) -> [bool; 3] {
 }
 
 #[test]
-fn positions_are_stripped_once(rt: HostRuntime) -> Result<(), Fail> {
-    let mut program = placed(rt.alloc())?;
+fn positions_are_stripped_once(rt: HostRuntime) {
+    let mut program = made(&rt, placed(rt.alloc()));
     assert_same(&rt, strip_twice(&mut program), [true; 3]);
-    Ok(())
 }
 
 // Strips `placed` twice, and gives it back what came off it first. Tells whether nothing was left to strip the second time.
@@ -69,12 +69,11 @@ fn places(program: &Program) -> [Position; 3] {
 }
 
 #[test]
-fn positions_are_attached(rt: HostRuntime) -> Result<(), Fail> {
-    let mut program = placed(rt.alloc())?;
+fn positions_are_attached(rt: HostRuntime) {
+    let mut program = made(&rt, placed(rt.alloc()));
     assert_same(&rt, strip_twice_and_attach(&mut program), true);
     let wanted = [Position::NONE, Position::new(1, 5), Position::new(3, 0)];
     assert_same(&rt, places(&program), wanted);
-    Ok(())
 }
 
 // How `placed` refuses a sidecar, and whether it stays as it was.
@@ -94,58 +93,42 @@ fn refusal(
     Ok(refused(&mut placed(alloc)?, &sidecar))
 }
 
-#[test]
-fn foreign_sidecars_are_refused_first(rt: HostRuntime) -> Result<(), Fail> {
-    for table in [TABLE, CUT_TABLE] {
-        let foreign = TableError::WrongProgram {
-            expected: 8,
-            found: 7,
-        };
-        let found = refusal(rt.alloc(), 8, table, STREAM)?;
-        assert_same(&rt, found, (Some(foreign), true));
-    }
-    Ok(())
-}
+const FOREIGN: TableError = TableError::WrongProgram {
+    expected: 8,
+    found: 7,
+};
 
-// What is wrong with a table.
-fn flaw_of_table(number: usize) -> TableError {
-    match number {
-        0 => TableError::Malformed(pos::Error::Truncated),
-        _ => TableError::PastTheEnd {
-            entries: 2,
-            matched: 1,
-            instructions: 3,
-        },
-    }
-}
+const PAST: TableError = TableError::PastTheEnd {
+    entries: 2,
+    matched: 1,
+    instructions: 3,
+};
 
-#[test]
-fn tables_that_do_not_fit_are_refused(rt: HostRuntime) -> Result<(), Fail> {
-    let tables: [&[u8]; 2] = [CUT_TABLE, &[2, 1, 1, 5, 9, 3, 0]];
-    for (number, table) in tables.into_iter().enumerate() {
-        let found = refusal(rt.alloc(), 7, table, STREAM)?;
-        assert_same(&rt, found, (Some(flaw_of_table(number)), true));
-    }
-    Ok(())
-}
+const CUT: TableError = TableError::Malformed(pos::Error::Truncated);
 
-// What is wrong with a stream.
-fn flaw_of_stream(number: usize) -> TableError {
-    match number {
-        0 => TableError::ChainStream(StreamError::Truncated),
-        1 => TableError::ChainStream(StreamError::TrailingBytes { count: 1 }),
-        _ => TableError::ChainCount { sites: 1, slots: 0 },
-    }
-}
+const CUT_STREAM: TableError = TableError::ChainStream(StreamError::Truncated);
+
+const TRAILING: TableError = TableError::ChainStream(StreamError::TrailingBytes { count: 1 });
+
+const MANY: TableError = TableError::ChainCount { sites: 1, slots: 0 };
+
+/// Sidecars of programs with these numbers, and why `placed` refuses them: whose they are is looked at first.
+const REFUSED: [(u128, &[u8], &[u8], TableError); 7] = [
+    (8, TABLE, STREAM, FOREIGN),
+    (8, CUT_TABLE, STREAM, FOREIGN),
+    (7, CUT_TABLE, STREAM, CUT),
+    (7, &[2, 1, 1, 5, 9, 3, 0], STREAM, PAST),
+    (7, TABLE, &[1, 1], CUT_STREAM),
+    (7, TABLE, &[0, 0], TRAILING),
+    (7, TABLE, &[1, 1, 1], MANY),
+];
 
 #[test]
-fn streams_that_do_not_fit_are_refused(rt: HostRuntime) -> Result<(), Fail> {
-    let streams: [&[u8]; 3] = [&[1, 1], &[0, 0], &[1, 1, 1]];
-    for (number, stream) in streams.into_iter().enumerate() {
-        let found = refusal(rt.alloc(), 7, TABLE, stream)?;
-        assert_same(&rt, found, (Some(flaw_of_stream(number)), true));
+fn sidecars_that_do_not_fit_are_refused(rt: HostRuntime) {
+    for (debug_id, table, stream, flaw) in REFUSED {
+        let found = made(&rt, refusal(rt.alloc(), debug_id, table, stream));
+        assert_same(&rt, found, (Some(flaw), true));
     }
-    Ok(())
 }
 
 // `[i]` at 1:3 with its bracket at 1:2, on an `a` that stands there.
@@ -182,10 +165,9 @@ fn strip_chain(program: &mut Program) -> [bool; 2] {
 }
 
 #[test]
-fn chains_lose_their_positions(rt: HostRuntime) -> Result<(), Fail> {
-    let mut program = chained(rt.alloc())?;
+fn chains_lose_their_positions(rt: HostRuntime) {
+    let mut program = made(&rt, chained(rt.alloc()));
     assert_same(&rt, strip_chain(&mut program), [true; 2]);
-    Ok(())
 }
 
 // Strips it, and gives it back what came off it. Tells how a sidecar with too few slots was refused between, and whether the
@@ -203,12 +185,11 @@ fn attach_to_chain(alloc: Global, program: &mut Program) -> (Option<TableError>,
 }
 
 #[test]
-fn chains_have_their_positions_back(rt: HostRuntime) -> Result<(), Fail> {
+fn chains_have_their_positions_back(rt: HostRuntime) {
     let few = TableError::ChainCount { sites: 2, slots: 3 };
-    let mut program = chained(rt.alloc())?;
+    let mut program = made(&rt, chained(rt.alloc()));
     let found = attach_to_chain(rt.alloc(), &mut program);
     assert_same(&rt, found, (Some(few), true));
-    Ok(())
 }
 
 // `a[i].b` at 1:1, 1:3 with its bracket at 1:2, and 1:6.
@@ -249,10 +230,8 @@ fn refused_longer(alloc: Global, program: &mut Program) -> (Option<TableError>, 
 }
 
 #[test]
-fn a_byte_behind_the_stream_is_refused(rt: HostRuntime) -> Result<(), Fail> {
-    let trailing = TableError::ChainStream(StreamError::TrailingBytes { count: 1 });
-    let mut program = with_both(rt.alloc())?;
+fn a_byte_behind_the_stream_is_refused(rt: HostRuntime) {
+    let mut program = made(&rt, with_both(rt.alloc()));
     let found = refused_longer(rt.alloc(), &mut program);
-    assert_same(&rt, found, (Some(trailing), [true; 2]));
-    Ok(())
+    assert_same(&rt, found, (Some(TRAILING), [true; 2]));
 }

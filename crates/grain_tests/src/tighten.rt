@@ -1,4 +1,4 @@
-use crate::samples::{Answer, assert_same, of_one_chunk, parts, program, tightens, verifies};
+use crate::samples::{Answer, assert_same, made, of_one_chunk, parts, program, tightens, verifies};
 use grain::{Caps, Chunk, Dynamic, Flags, Parts, Program, VerifyError};
 use std::alloc::Global;
 use std::test::Fail;
@@ -12,12 +12,11 @@ fn declaring(alloc: Global, declared: u16) -> Result<Program, Fail> {
 }
 
 #[test]
-fn chunks_declare_their_numbers(rt: HostRuntime) -> Result<(), Fail> {
-    let mut program = declaring(rt.alloc(), 8)?;
+fn chunks_declare_their_numbers(rt: HostRuntime) {
+    let mut program = made(&rt, declaring(rt.alloc(), 8));
     assert_same(&rt, tightens(&mut program), true);
     assert_same(&rt, program.max_stack(), 2);
     assert_same(&rt, verifies(&program, &[2]), true);
-    Ok(())
 }
 
 // How a program is refused, by both calls, and what it declares afterwards.
@@ -35,10 +34,9 @@ fn exceeds() -> Option<VerifyError> {
 }
 
 #[test]
-fn refused_programs_keep_what_they_declare(rt: HostRuntime) -> Result<(), Fail> {
-    let mut program = declaring(rt.alloc(), 1)?;
+fn refused_programs_keep_what_they_declare(rt: HostRuntime) {
+    let mut program = made(&rt, declaring(rt.alloc(), 1));
     assert_same(&rt, refused(&mut program), (exceeds(), exceeds(), 1));
-    Ok(())
 }
 
 // An array of a unit, or of a shared value.
@@ -68,18 +66,20 @@ fn said_of_array(alloc: Global, is_shared: bool) -> Result<Answer, Fail> {
 }
 
 #[test]
-fn constants_ask_capabilities(rt: HostRuntime) -> Result<(), Fail> {
+fn constants_ask_capabilities(rt: HostRuntime) {
     let missing = VerifyError::MissingCaps {
         artifact: Caps::empty(),
         missing: Caps::ARRAY,
         at: 0,
     };
-    assert_same(&rt, said_of_array(rt.alloc(), false)?, Err(missing));
-    Ok(())
+    assert_same(
+        &rt,
+        made(&rt, said_of_array(rt.alloc(), false)),
+        Err(missing),
+    );
 }
 
 #[test]
-fn shared_constants_ask_none(rt: HostRuntime) -> Result<(), Fail> {
-    assert_same(&rt, said_of_array(rt.alloc(), true)?, Ok(Some(1)));
-    Ok(())
+fn shared_constants_ask_none(rt: HostRuntime) {
+    assert_same(&rt, made(&rt, said_of_array(rt.alloc(), true)), Ok(Some(1)));
 }

@@ -77,7 +77,7 @@ fn cases_and_defaults_lead_to_starts_of_the_chunk() {
             constant: 42,
         };
         let mut pools = Pools::new().switch(&[constant], &[], otherwise);
-        assert_eq!(pools.extend_constants([Some(0); 43]), Ok(0));
+        assert_eq!(pools.extend_constants([Some(0); 43]), Ok(43));
         judged(ON_SWITCH, &pools)
     };
     assert_eq!(with(4, 6), Ok(vec![2]));

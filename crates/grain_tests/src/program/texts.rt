@@ -53,8 +53,7 @@ i64!double()
 ";
 
 #[test]
-fn programs_are_written_out(rt: HostRuntime) -> Result<(), Fail> {
-    let out = written_out(rt.alloc())?;
+fn programs_are_written_out(rt: HostRuntime) {
+    let out = made(&rt, written_out(rt.alloc()));
     assert_same(&rt, out.as_str(), WANTED);
-    Ok(())
 }
