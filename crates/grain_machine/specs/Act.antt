@@ -1,9 +1,8 @@
 -- What the machine does with each operation.
-use Rattle.std.specs.Prelude.{◌≡◌, ℕ, true, false, ◌==◌, if◌then◌else◌}
+use Rattle.std.specs.Prelude.{◌≡◌, ℕ, true, false}
 use Rattle.grain_code.specs.declared.op.Op.{Op}
 use Rattle.grain_code.specs.declared.op.Op.TheVariants as ops
 use Rattle.grain_rules.specs.Flow as flows
-use Rattle.grain_rules.specs.declared.effect.Effect.{Effect}
 use Rattle.grain_rules.specs.Rows.{flow_of, gives, is_quiet, needs, takes}
 use Rattle.grain_rules.specs.Setting.{Setting}
 use Rattle.grain_machine.specs.declared.act.Act.{Act}
@@ -38,7 +37,3 @@ Does s op (acts.Advance exit counter) = op ≡ ops.IterNext exit counter
 Does s op acts.End = op ≡ ops.IterDrop
 Does s op (acts.Arm target name) = op ≡ ops.PushHandler target name
 Does s op acts.Disarm = op ≡ ops.PopHandler
-
--- what is to be done with an operation that the host does, by its numbers
-abbrev pub for_host : Effect → Act
-for_host e = if e.gives == 0 then acts.Takes e.needs e.takes else acts.Gives e.takes

@@ -1,9 +1,10 @@
 //! What the machine does with each operation.
-ghost use Rattle.std.specs.Prelude.{◌≡◌};
+ghost use Rattle.std.specs.Prelude.{◌≡◌, get_or, map};
+ghost use Rattle.grain_pools.specs.Chain.{consumed};
 ghost use Rattle.grain.specs.Program.{setting_of};
-ghost use Rattle.grain_machine.specs.Act.{Does, for_host};
+ghost use Rattle.grain_machine.specs.Act.{Does};
 
-use grain::{Effect, Op, Program};
+use grain::{Op, Program, Receiver};
 
 /// What the machine does with an operation.
 #[derive(Clone, Copy)]
@@ -53,15 +54,71 @@ impl Act {
         ensures { Does (setting_of program.now) op.now result }
     {
         match *op {
-            // What most runs do most, without a look at the rest.
-            Op::Const(_) | Op::LoadLocal(_) => Act::Gives { takes: 0 },
-            Op::Call { argc, .. } => Act::Gives {
+            Op::Const(_)
+            | Op::LoadLocal(_)
+            | Op::EvalAst { .. }
+            | Op::InterpolateStart
+            | Op::LoadShared(_)
+            | Op::LoadSharedNamed(_)
+            | Op::LoadNamed(_)
+            | Op::MakeClosure(_)
+            | Op::LoadThis
+            | Op::LoadThisShared
+            | Op::CustomSyntax(_) => Act::Gives { takes: 0 },
+            Op::InterpolateEnd | Op::CheckSize { .. } | Op::MakeFnPtr | Op::IsShared => {
+                Act::Gives { takes: 1 }
+            }
+            Op::CallRef {
+                argc,
+                receiver: Receiver::Local(_),
+                ..
+            } => Act::Gives {
+                takes: usize::from(argc).saturating_sub(1),
+            },
+            Op::CallRef {
+                argc,
+                receiver: Receiver::This,
+                ..
+            }
+            | Op::CallRef {
+                argc,
+                receiver: Receiver::Named(_),
+                ..
+            }
+            | Op::Call { argc, .. } => Act::Gives {
                 takes: usize::from(argc),
             },
-            Op::StoreLocal { .. } | Op::AssignLocal { .. } | Op::DeclareLocal { .. } => {
-                Act::Takes { needs: 1, takes: 1 }
-            }
-            Op::Tick | Op::Statement { .. } => Act::Takes { needs: 0, takes: 0 },
+            Op::Chain(index) => Act::Gives {
+                takes: consumed_at(program, index),
+            },
+            Op::MakeArray(len) => Act::Gives {
+                takes: usize::from(len),
+            },
+            Op::MakeMap(len) => Act::Gives {
+                takes: 2 * usize::from(len) + 1,
+            },
+            Op::Curry(argc) => Act::Gives {
+                takes: usize::from(argc) + 1,
+            },
+            Op::CallFnPtr { argc, .. } => Act::Gives {
+                takes: usize::from(argc) + 1,
+            },
+            Op::StoreLocal { .. }
+            | Op::AssignLocal { .. }
+            | Op::DeclareLocal { .. }
+            | Op::AssignNamed { .. }
+            | Op::StoreShared(_)
+            | Op::AssignThis { .. }
+            | Op::Import { .. } => Act::Takes { needs: 1, takes: 1 },
+            Op::InterpolateAppend => Act::Takes { needs: 2, takes: 1 },
+            Op::Share(_)
+            | Op::ShareNamed(_)
+            | Op::RequireThis
+            | Op::ExportLocal { .. }
+            | Op::ExportNamed { .. }
+            | Op::Tick
+            | Op::Checkpoint
+            | Op::Statement { .. } => Act::Takes { needs: 0, takes: 0 },
             Op::Unit => Act::Unit,
             Op::Bool(value) => Act::Truth { value },
             Op::Pop => Act::Pop,
@@ -90,21 +147,16 @@ impl Act {
                 name: catch_var,
             },
             Op::PopHandler => Act::Disarm,
-            _ => Act::for_host(Effect::of(op, program.chains())),
         }
     }
+}
 
-    /// What it does with an operation that falls through and may fail.
-    #[inline(always)]
-    fn for_host(effect: Effect) -> Act
-        ensures { result ≡ for_host effect }
-    {
-        let takes = effect.takes as usize;
-        if effect.gives == 0 {
-            let needs = effect.needs as usize;
-            Act::Takes { needs, takes }
-        } else {
-            Act::Gives { takes }
-        }
+/// How many operands the program's chain at an index takes; none where there is no chain.
+fn consumed_at(program: &Program, index: u32) -> usize
+    ensures { result ≡ get_or (map consumed program.now.chains) index 0 }
+{
+    match program.chains().get(index as usize) {
+        Some(chain) => chain.consumes(),
+        None => 0,
     }
 }
