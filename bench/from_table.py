@@ -1,13 +1,16 @@
 #!/usr/bin/env python3
-"""What instructions are called, wherever that stands: by the constants of crates/grain_code/src/tag.rt, and of operations by
-the instruction table (`encoding` in crates/grain_code/specs/InstructionTable.antt).
+"""What follows from the instruction table (`encoding` in crates/grain_code/specs/InstructionTable.antt) and from the names of
+tags (crates/grain_code/src/tag.rt), wherever it stands.
 
-    bench/tag_names.py           says where it stands otherwise, and ends with 1 where there is any
-    bench/tag_names.py --write   writes it there
+    bench/from_table.py           says where it stands otherwise, and ends with 1 where there is any
+    bench/from_table.py --write   writes it there
 
-It stands in hosts/c/grain.h (a number for each tag), in hosts/rust/src/mnemonics.rs (tags and names), and in
-crates/grain_flat, in specs/TagNames.antt (names by tags) and src/mnemonics.rt (names of operations). .ci/documents asks
-whether all of them are as this writes them.
+- What instructions are called stands in hosts/c/grain.h (a number for each tag), in hosts/rust/src/mnemonics.rs (tags and
+  names), and in crates/grain_flat, in specs/TagNames.antt (names by tags) and src/mnemonics.rt (names of operations).
+- The table read from tags to operations is the list `rows` in crates/grain_code/proofs/Rows.antt, which the prover compares
+  with the table.
+
+.ci/documents asks whether all of it is as this writes it.
 """
 import pathlib
 import re
@@ -63,6 +66,26 @@ def by_tag():
     return "tag_names =\n" + "".join(f"    {each} ∷\n" for each in codes) + "    []\n"
 
 
+def row_op(text, values):
+    """A pattern of `encoding` as the operation of a row, with a value in the place of each variable."""
+    name, *inner = instruction_table.split(text)
+    if name in values:
+        return values[name]
+    arguments = [row_op(each, values) for each in inner]
+    return " ".join([name, *(f"({each})" if " " in each else each for each in arguments)])
+
+
+def table_rows():
+    """The rows of `rows`, by tags, in antt."""
+    for text, body in instruction_table.clauses("grain_code/specs/InstructionTable.antt", "encoding"):
+        tag, list_, unwritten = re.fullmatch(r"\((0x\w+), (\[\]|.*? ∷ \[\]), (.*)\)", body).groups()
+        items = [item.rsplit(" ", 1) for item in list_.split(" ∷ ")[:-1]]
+        letters = " ∷ ".join([kind[0].lower() + kind[1:] for kind, _ in items] + ["[]"])
+        values = {variable: f"v {place}" for place, (_, variable) in enumerate(items)}
+        values |= dict(re.findall(r"\((\w+), (\w+)\)", unwritten))
+        yield f"    row {tag} {f'({letters})' if items else letters} (λ v. {row_op(text, values)}) ∷\n"
+
+
 def blocks():
     """Of each file where they stand: what stands before, the block itself, and what stands behind."""
     names = tags()
@@ -72,6 +95,7 @@ def blocks():
         "hosts/c/grain.h": (r'"Instructions"\)\. \*/\n', defines, r"\n/\* The number of this"),
         "hosts/rust/src/mnemonics.rs": (
             r"(?=const MNEMONICS)", f"const MNEMONICS: [(u8, &str); {len(names)}] = [\n{rows}];\n", r"\Z"),
+        "crates/grain_code/proofs/Rows.antt": (r"\nrows =\n", "".join(sorted(table_rows())) + "    []\n", r"\nabbrev pub row_of"),
         "crates/grain_flat/specs/TagNames.antt": (r"List \(List ℕ\)\n", by_tag(), r"\Z"),
         "crates/grain_flat/src/mnemonics.rt": (
             r"match \*op \{\n", "".join(f"        {arm}\n" for arm in arms()), r"    \}\n\}\n"),
@@ -89,12 +113,12 @@ def differences(write=False):
         text = path.read_text()
         found = re.search(rf"(?s)(?<={before})(.*?)(?={behind})" if not before.startswith("(?=") else rf"(?s){before}(.*?)(?={behind})", text)
         if found is None:
-            yield f"{name} has no place for what instructions are called"
+            yield f"{name} has no place for what follows from the instruction table"
         elif plain(found[1]) != plain(block):
             if write:
                 path.write_text(text[:found.start(1)] + block + text[found.end(1):])
             else:
-                yield f"{name} calls instructions otherwise than tag.rt and the instruction table: bench/tag_names.py --write"
+                yield f"{name} says of instructions otherwise than tag.rt and the instruction table: bench/from_table.py --write"
 
 
 def main():
@@ -102,7 +126,7 @@ def main():
     untrue = list(differences(write))
     if write:
         subprocess.run(["rt", "fmt"], cwd=TOP / "crates/grain_flat", check=True, stdout=subprocess.DEVNULL)
-    print("\n".join(untrue) if untrue else "instructions have their names")
+    print("\n".join(untrue) if untrue else "all is as it follows from the instruction table")
     return 1 if untrue else 0
 
 
