@@ -3,6 +3,7 @@ mod AlikeFlaws
 mod AsciiNames
 mod CaseRows
 mod ChainRows
+mod Explained
 mod FieldSizes
 mod FlatAlike
 mod FlatIndices

@@ -1,5 +1,6 @@
 pub mod Answers
 pub mod Asking
+pub mod Explaining
 pub mod Flat
 pub mod Instruction
 pub mod InstructionTexts

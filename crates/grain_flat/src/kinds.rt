@@ -38,3 +38,6 @@ pub const COUNT: u32 = 11;
 
 /// A jump target: an address in the code.
 pub const TARGET: u32 = 12;
+
+/// There is no address: that of an instruction is less.
+pub const NO_ADDRESS: u32 = u32::MAX;

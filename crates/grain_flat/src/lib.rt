@@ -7,6 +7,7 @@
 
 mod asking;
 mod build;
+mod explaining;
 pub mod faults;
 mod fields;
 mod flat;
@@ -23,6 +24,7 @@ pub mod shapes;
 mod tightening;
 mod verdicts;
 
+pub use explaining::{ToldRows, explain_chunk, rows_of};
 pub use fields::fields_of;
 pub use flat::is_flat;
 pub use judge::Stop;
@@ -30,8 +32,8 @@ pub use line::Line;
 pub use listing::{list_entries, list_sites};
 pub use printing::{instruction_text, refusal_text};
 pub use records::{
-    CCase, CChain, CChunk, CConstant, CEntry, CFault, CField, CInstruction, CPlace, CPools, CStep,
-    CSwitch,
+    CBase, CCase, CChain, CChunk, CConstant, CEntry, CExplained, CFault, CField, CInstruction,
+    CPlace, CPools, CRow, CStep, CSwitch,
 };
 pub use refusals::told;
 pub use tightening::declare;

@@ -182,3 +182,43 @@ pub struct CPlace {
     /// The column, or 0 for the start of the line.
     pub column: u32,
 }
+
+/// What stands at an instruction, or on a way to a flaw.
+#[repr(C)]
+#[derive(Clone, Copy)]
+pub struct CRow {
+    /// The address of the instruction.
+    pub at: u32,
+    /// How many operands there are.
+    pub operands: u32,
+    /// How many iterators there are.
+    pub iterators: u32,
+    /// The address from which it was come to first, or [`crate::kinds::NO_ADDRESS`]: at the entry, and on a way.
+    pub from: u32,
+    /// How many handlers are armed. So many bases are its own, that of the last handler first.
+    pub bases: usize,
+}
+
+/// The base of an armed handler.
+#[repr(C)]
+#[derive(Clone, Copy)]
+pub struct CBase {
+    /// How many operands stood when it was armed.
+    pub operands: u32,
+    /// How many iterators stood.
+    pub iterators: u32,
+}
+
+/// How much is told of a chunk.
+#[repr(C)]
+#[derive(Clone, Copy)]
+pub struct CExplained {
+    /// How many rows there are.
+    pub rows: usize,
+    /// How many rows of the way to the flaw stand behind them, the last state first; none where there is no flaw.
+    pub way: usize,
+    /// How many rows of another way stand behind those; none but of a conflict.
+    pub other: usize,
+    /// How many bases all of these have.
+    pub bases: usize,
+}
