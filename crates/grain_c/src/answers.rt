@@ -29,3 +29,6 @@ pub const NO_INSTRUCTION: u32 = 1;
 
 /// The bytes are no stream.
 pub const NO_STREAM: u32 = 1;
+
+/// Nothing is explained: the code isn't whole instructions whose indices are in bounds.
+pub const UNEXPLAINED: u32 = 5;

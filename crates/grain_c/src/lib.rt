@@ -7,6 +7,7 @@
 
 mod answers;
 mod code;
+mod explain;
 mod flaws;
 mod tables;
 mod text;
@@ -14,6 +15,6 @@ mod tighten;
 mod verify;
 
 pub use grain_flat::{
-    CCase, CChain, CChunk, CConstant, CEntry, CFault, CField, CInstruction, CPlace, CPools, CStep,
-    CSwitch,
+    CBase, CCase, CChain, CChunk, CConstant, CEntry, CExplained, CFault, CField, CInstruction,
+    CPlace, CPools, CRow, CStep, CSwitch,
 };

@@ -19,4 +19,5 @@ pub mod Redeclared
 mod StepRows
 mod SwitchRows
 mod Texts
+pub mod ToldRoom
 mod Wholes

@@ -10,6 +10,7 @@ use Rattle.grain.specs.declared.ExplainedChunk.{ExplainedChunk}
 use Rattle.grain.specs.declared.ExplainedRefusal.{Refusal}
 use Rattle.grain.specs.declared.Row.{Row}
 use Rattle.grain_bytecode.specs.declared.Chain.{Chain}
+use Rattle.grain_flat.specs.Listing.{filled}
 use Rattle.grain_flat.specs.Flat.{AreChains, AreSwitches, code_with}
 use Rattle.grain_flat.specs.declared.explaining.ToldRows.{ToldRows}
 use Rattle.grain_flat.specs.declared.kinds.TheConstants.{NO_ADDRESS}
@@ -75,3 +76,9 @@ pub record IsMadeOfRows (x : ExplainedChunk) (told : ToldRows) : Type 0 where
   pub rows_are : told.rows.items ≡ rows_told x
   pub bases_are : told.bases.items ≡ all_bases_told x
   pub counts : told.explained ≡ explained_told x
+
+-- it is told in this room, as far as it has places
+pub record IsToldIn (x : ExplainedChunk) (rows written : List CRow) (bases filled_bases : List CBase) (counts : CExplained) : Type 0 where
+  pub rows_are : written ≡ filled (rows_told x) rows
+  pub bases_are : filled_bases ≡ filled (all_bases_told x) bases
+  pub counts_are : counts ≡ explained_told x

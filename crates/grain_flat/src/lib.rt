@@ -29,7 +29,7 @@ pub use fields::fields_of;
 pub use flat::is_flat;
 pub use judge::Stop;
 pub use line::Line;
-pub use listing::{list_entries, list_sites};
+pub use listing::{fill, list_entries, list_sites};
 pub use printing::{instruction_text, refusal_text};
 pub use records::{
     CBase, CCase, CChain, CChunk, CConstant, CEntry, CExplained, CFault, CField, CInstruction,

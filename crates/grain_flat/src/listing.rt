@@ -9,6 +9,14 @@ ghost use Rattle.grain_flat.specs.Listing.{entry_row, filled, place_row};
 use crate::records::{CEntry, CPlace};
 use grain::{pos, sites, varint};
 
+/// Writes items in front of the room, as many as it has places for.
+pub fn fill<T: Copy>(room: &mut [T], items: &[T])
+    ensures { room.new ≡ filled items.now room.old }
+{
+    let count = items.len().min(room.len());
+    room[..count].copy_from_slice(&items[..count]);
+}
+
 /// Writes an item at its place, if the room has it.
 fn put_at<T: Copy>(room: &mut [T], place: usize, item: T)
     ensures { room.new ≡ cond (nat_lt place (length room.old)) (slice_set room.old place item) room.old }
