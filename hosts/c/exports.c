@@ -134,6 +134,49 @@ static void tightens(uint16_t declared) {
     }
 }
 
+/* A try that is left early, and a loop that leaves an operand each round. */
+static const uint8_t on_try[] = {0x23, 0x07, 0, 0, 0, 0x22, 0x13, 0x02, 0x02, 0x22, 0x13};
+static const uint8_t on_loop[] = {0x02, 0x1d, 0x1e, 0x0c, 0, 0, 0, 0x0c, 0x02, 0, 0, 0, 0x02, 0x13};
+
+static void chunks_that_pass_are_explained(size_t room) {
+    grain_pools given = nothing();
+    grain_chunk chunk = {0, sizeof on_try, 8};
+    grain_row rows[8] = {{0}};
+    grain_base bases[8] = {{7, 7}, {7, 7}};
+    grain_explained explained = {77, 77, 77, 77};
+    grain_fault fault = unwritten;
+    rows[6].at = rows[7].at = 77;
+    uint32_t answer =
+        grain_explain(ALL, on_try, sizeof on_try, &chunk, &given, rows, room, bases, 8, &explained, &fault);
+    CHECK(answer == GRAIN_ACCEPTED && fault.kind == 77);
+    CHECK(explained.rows == 7 && explained.way == 0 && explained.other == 0 && explained.bases == 4);
+    CHECK(rows[0].at == 0 && rows[0].bases == 0 && rows[0].from == GRAIN_NO_ADDRESS);
+    CHECK(rows[1].at == 5 && rows[1].bases == 1 && rows[1].from == 0 && rows[3].at == 7 && rows[3].from == 0);
+    CHECK(bases[0].operands == 0 && bases[0].iterators == 0);
+    CHECK((rows[6].at == 10 && rows[6].operands == 2) == (room == 8) && rows[7].at == 77);
+}
+
+static void conflicts_are_explained(void) {
+    grain_pools given = nothing(), odd = pools();
+    grain_chunk chunk = {0, sizeof on_loop, 8};
+    grain_row rows[16] = {{0}};
+    grain_base bases[1] = {{7, 7}};
+    grain_explained explained = {77, 77, 77, 77};
+    grain_fault fault = unwritten;
+    uint32_t answer =
+        grain_explain(ALL, on_loop, sizeof on_loop, &chunk, &given, rows, 16, bases, 1, &explained, &fault);
+    CHECK(answer == GRAIN_REFUSED && is_told(&fault, GRAIN_FAULT_DEPTH_CONFLICT, GRAIN_NO_CHUNK, 2, 0, 1));
+    CHECK(explained.way + explained.other == 8 && explained.way != 0 && explained.other != 0 && explained.bases == 0);
+    const grain_row *way = rows + explained.rows, *other = way + explained.way;
+    CHECK(way[0].at == 2 && other[0].at == 2 && way[0].operands != other[0].operands);
+    CHECK(way[explained.way - 1].at == 0 && other[explained.other - 1].at == 0);
+    odd.ranges_len = 2;
+    explained.rows = 77;
+    CHECK(grain_explain(ALL, on_loop, 13, &chunk, &odd, rows, 16, bases, 1, &explained, &fault) == GRAIN_NOT_FLAT);
+    CHECK(grain_explain(ALL, on_loop, 8, &chunk, &given, rows, 16, bases, 1, &explained, &fault) == GRAIN_UNEXPLAINED);
+    CHECK(explained.rows == 77);
+}
+
 static void instructions_are_counted_and_shown(void) {
     static const uint8_t code[] = {0x02, 0x37, 0x01, 0x00, 0x02, 0x03, 0x00, 0x13};
     size_t count = 77;
@@ -226,6 +269,9 @@ int main(void) {
     refusals_are_told();
     tightens(8);
     tightens(1);
+    chunks_that_pass_are_explained(8);
+    chunks_that_pass_are_explained(6);
+    conflicts_are_explained();
     instructions_are_counted_and_shown();
     texts_are_written();
     instructions_are_written();

@@ -98,6 +98,22 @@ static long tighten(const grain_chunk *chunks, size_t many) {
     return answer;
 }
 
+/* The same where the last chunk is explained. */
+static long explain(const grain_chunk *chunks, size_t many) {
+    const grain_pools given = pools();
+    grain_row rows[16] = {{777, 0, 0, 0, 0}};
+    grain_base bases[1] = {{777, 777}};
+    grain_explained explained = {777, 777, 777, 777};
+    grain_fault fault = {777, 777, 777, 777, 777};
+    uint32_t answer = grain_explain(0x7fff, code, sizeof code, chunks + many - 1, &given, rows, LENGTH(rows), bases, 1,
+                                    &explained, &fault);
+    if ((answer == GRAIN_REFUSED) == is_same(&fault, 777) || live != 0)
+        return -1;
+    if ((answer <= GRAIN_REFUSED) == (explained.rows == 777) || (answer <= GRAIN_REFUSED) == (rows[0].at == 777))
+        return -1;
+    return answer;
+}
+
 /* What takes no memory answers where none is to be had. */
 static bool needs_none(void) {
     const grain_fault fault = {GRAIN_FAULT_UNDERFLOW, 0, 1, 2, 3};
@@ -144,6 +160,8 @@ int main(void) {
     well = each_fails("refused", verify, bad, LENGTH(bad), GRAIN_REFUSED) && well;
     well = each_fails("tightened", tighten, good, LENGTH(good), GRAIN_ACCEPTED) && well;
     well = each_fails("not tightened", tighten, bad, LENGTH(bad), GRAIN_REFUSED) && well;
+    well = each_fails("explained", explain, good, LENGTH(good), GRAIN_ACCEPTED) && well;
+    well = each_fails("its flaw explained", explain, bad, LENGTH(bad), GRAIN_REFUSED) && well;
     well = needs_none() && well;
     return well ? 0 : 1;
 }

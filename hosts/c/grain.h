@@ -8,7 +8,7 @@
  * - What is written overlaps nothing else that the call is given, and no other thread reads or writes it meanwhile.
  *   What is only read may overlap, and many calls may read it at once.
  * - The library allocates by malloc, realloc and free of the C library, and frees all that it took before it returns; of
- *   its calls only grain_verify and grain_tighten do.
+ *   its calls only grain_verify, grain_tighten and grain_explain do.
  *   The three have to be of one allocator, and to align a block to each power of two up to 16 that divides its size.
  *   So it isn't called from a signal handler, nor from the forked child of a process of many threads.
  * - A call takes up to 22 KiB of the stack of its thread.
@@ -135,6 +135,7 @@ extern "C" {
 #define GRAIN_NO_REFUSAL 1     /* the record tells no refusal */
 #define GRAIN_NO_INSTRUCTION 1 /* no instruction stands at the address */
 #define GRAIN_NO_STREAM 1      /* the bytes are no stream */
+#define GRAIN_UNEXPLAINED 5    /* nothing is explained: the code isn't whole instructions whose indices are in bounds */
 
 /* Why a program is refused: the kind of a grain_fault. What `first` and `second` are is said beside; 0 where nothing is. */
 #define GRAIN_FAULT_MISSING_CAPS 1             /* first: the capabilities that aren't there, or of a constant all that it
@@ -170,6 +171,9 @@ extern "C" {
 #define GRAIN_KIND_SLOT 10
 #define GRAIN_KIND_COUNT 11
 #define GRAIN_KIND_TARGET 12
+
+/* An address where there is none. */
+#define GRAIN_NO_ADDRESS 0xffffffff
 
 /* Where a chain begins, what its steps are, and what it does at its end. */
 #define GRAIN_ROOT_LOCAL 0     /* root_name: the variable's */
@@ -331,6 +335,37 @@ typedef struct {
 } grain_place;
 GRAIN_ASSERT(sizeof(grain_place) == 8 && offsetof(grain_place, column) == 4, "grain_place");
 
+/* What stands at an instruction, or on a way to a flaw. */
+typedef struct {
+    uint32_t at;        /* the address of the instruction */
+    uint32_t operands;  /* how many there are */
+    uint32_t iterators; /* how many there are */
+    uint32_t from;      /* the address from which it was come to first, or GRAIN_NO_ADDRESS: at the entry, and on a way */
+    size_t bases;       /* how many handlers are armed: so many bases are its own, that of the last handler first */
+} grain_row;
+GRAIN_ASSERT(sizeof(grain_row) == 16 + sizeof(size_t) && offsetof(grain_row, operands) == 4 &&
+                 offsetof(grain_row, iterators) == 8 && offsetof(grain_row, from) == 12 && offsetof(grain_row, bases) == 16,
+             "grain_row");
+
+/* The base of an armed handler: what stood when it was armed. */
+typedef struct {
+    uint32_t operands;
+    uint32_t iterators;
+} grain_base;
+GRAIN_ASSERT(sizeof(grain_base) == 8 && offsetof(grain_base, iterators) == 4, "grain_base");
+
+/* How much is told of a chunk. */
+typedef struct {
+    size_t rows;  /* how many rows there are */
+    size_t way;   /* how many rows of the way to the flaw stand behind them, the last state first */
+    size_t other; /* how many rows of another way stand behind those, of a conflict alone */
+    size_t bases; /* how many bases all of these have */
+} grain_explained;
+GRAIN_ASSERT(sizeof(grain_explained) == 4 * sizeof(size_t) && offsetof(grain_explained, way) == sizeof(size_t) &&
+                 offsetof(grain_explained, other) == 2 * sizeof(size_t) &&
+                 offsetof(grain_explained, bases) == 3 * sizeof(size_t),
+             "grain_explained");
+
 /* Verifies a program: its code, its chunks, and what it has beside them. GRAIN_ACCEPTED: the number of each chunk is
  * written, the greatest operand count that any run of it reaches, and the other numbers stay; and *looked, how many
  * places the chunks reach, each for itself, which is what their walks have visited. GRAIN_REFUSED: why is written; and
@@ -351,6 +386,18 @@ uint32_t grain_verify(uint16_t caps, const uint8_t *code, size_t code_len, const
  * GRAIN_REFUSED: why is written, and *looked. Else nothing is. That pools are flat is tested first. */
 uint32_t grain_tighten(uint16_t caps, const uint8_t *code, size_t code_len, grain_chunk *chunks, size_t chunks_len,
                        const grain_pools *pools, grain_fault *fault, uint64_t *looked);
+
+/* Explains a chunk of a program: what stands at each instruction that its runs reach, in the order of addresses, and where
+ * it is refused a way to its flaw, the last state first, of a conflict another way to the same address too. GRAIN_ACCEPTED:
+ * the chunk passes, and the rows are a stack typing of it and just what is reached. GRAIN_REFUSED: why is written, of no
+ * chunk by its place; the first row of the way shows the flaw. In both cases the rows, then those of the way and of the
+ * other way, stand in front of the list, as many as it has places for, and so do their bases; and how many there are stands
+ * in *explained. GRAIN_UNEXPLAINED, GRAIN_OUT_OF_MEMORY, GRAIN_NOT_FLAT: nothing is written. That pools are flat is tested
+ * first. Constants and functions aren't looked at. It takes memory for all rows with their bases, however long the lists
+ * are. */
+uint32_t grain_explain(uint16_t caps, const uint8_t *code, size_t code_len, const grain_chunk *chunk,
+                       const grain_pools *pools, grain_row *rows, size_t rows_len, grain_base *bases, size_t bases_len,
+                       grain_explained *explained, grain_fault *fault);
 
 /* The text of a refusal, in ASCII and without a 0 at its end. GRAIN_WRITTEN: it stands in front of the room, and how
  * many bytes it has in *size. GRAIN_SHORT: the latter alone is written. GRAIN_NO_REFUSAL: nothing is. No text is longer

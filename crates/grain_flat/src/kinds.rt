@@ -40,4 +40,4 @@ pub const COUNT: u32 = 11;
 pub const TARGET: u32 = 12;
 
 /// There is no address: that of an instruction is less.
-pub const NO_ADDRESS: u32 = u32::MAX;
+pub const NO_ADDRESS: u32 = 0xffff_ffff;

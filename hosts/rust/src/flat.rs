@@ -163,6 +163,12 @@ impl<'a> FlatPools<'a> {
         self.starts.len().saturating_sub(1)
     }
 
+    /// The name at an index, where it is one.
+    pub(crate) fn name(&self, index: u32) -> Option<&'a str> {
+        let [from, to] = *self.starts.get(index as usize..)?.first_chunk::<2>()?;
+        std::str::from_utf8(self.names.get(from as usize..to as usize)?).ok()
+    }
+
     /// The chain at an index, and its steps.
     pub(crate) fn chain(&self, index: usize) -> Option<(ChainRow, &'a [StepRow])> {
         let chain = *self.chains.get(index)?;

@@ -35,6 +35,7 @@
 mod capabilities;
 pub mod caps;
 mod code;
+mod explained;
 mod fault;
 mod flat;
 mod mnemonics;
@@ -49,6 +50,7 @@ pub use capabilities::{Caps, CapsIter, HostCaps, UnknownCap};
 pub use code::{
     count_instructions, instruction, instructions, Field, Instruction, Instructions, Kind,
 };
+pub use explained::{explain, Base, ExplainError, Explained, Row};
 pub use fault::{Cause, Fault};
 pub use flat::FlatPools;
 pub use mnemonics::mnemonic;

@@ -1,4 +1,5 @@
 //! The library's C functions and records, as `hosts/c/grain.h` has them.
+use crate::explained::Base;
 use crate::rows::{Case, ChainRow, Constant, StepRow, SwitchRow};
 use crate::tables::{Entry, Site};
 use crate::Chunk;
@@ -8,11 +9,14 @@ pub(crate) const REFUSED: u32 = 1;
 pub(crate) const SHORT: u32 = 2;
 pub(crate) const OUT_OF_MEMORY: u32 = 3;
 pub(crate) const NOT_FLAT: u32 = 4;
+pub(crate) const UNEXPLAINED: u32 = 5;
 pub(crate) const WRITTEN: u32 = 0;
 pub(crate) const NO_STREAM: u32 = 1;
 pub(crate) const INTERFACE: u32 = 1;
 
 pub(crate) const NO_CHUNK: u64 = u64::MAX;
+
+pub(crate) const NO_ADDRESS: u32 = u32::MAX;
 
 #[repr(C)]
 pub(crate) struct Pools {
@@ -63,6 +67,25 @@ pub(crate) struct Instruction {
     pub(crate) fields: [Field; 3],
 }
 
+#[repr(C)]
+#[derive(Clone, Copy, Default)]
+pub(crate) struct Row {
+    pub(crate) at: u32,
+    pub(crate) operands: u32,
+    pub(crate) iterators: u32,
+    pub(crate) from: u32,
+    pub(crate) bases: usize,
+}
+
+#[repr(C)]
+#[derive(Clone, Copy, Default)]
+pub(crate) struct Explained {
+    pub(crate) rows: usize,
+    pub(crate) way: usize,
+    pub(crate) other: usize,
+    pub(crate) bases: usize,
+}
+
 const _: () = assert!(std::mem::size_of::<Chunk>() == 12);
 const _: () = assert!(std::mem::size_of::<Constant>() == 4);
 const _: () = assert!(std::mem::size_of::<ChainRow>() == 24);
@@ -74,6 +97,9 @@ const _: () = assert!(std::mem::size_of::<Entry>() == 12);
 const _: () = assert!(std::mem::size_of::<Site>() == 8);
 const _: () = assert!(std::mem::size_of::<Fault>() == 40);
 const _: () = assert!(std::mem::size_of::<Instruction>() == 28);
+const _: () = assert!(std::mem::size_of::<Row>() == 24);
+const _: () = assert!(std::mem::size_of::<Base>() == 8);
+const _: () = assert!(std::mem::size_of::<Explained>() == 32);
 
 extern "C" {
     pub(crate) fn grain_verify(
@@ -97,6 +123,19 @@ extern "C" {
         pools: *const Pools,
         fault: *mut Fault,
         looked: *mut u64,
+    ) -> u32;
+    pub(crate) fn grain_explain(
+        caps: u16,
+        code: *const u8,
+        code_len: usize,
+        chunk: *const Chunk,
+        pools: *const Pools,
+        rows: *mut Row,
+        rows_len: usize,
+        bases: *mut Base,
+        bases_len: usize,
+        explained: *mut Explained,
+        fault: *mut Fault,
     ) -> u32;
     pub(crate) fn grain_fault_text(
         fault: *const Fault,
