@@ -165,7 +165,8 @@ impl<'a> FlatPools<'a> {
 
     /// The name at an index, where it is one.
     pub(crate) fn name(&self, index: u32) -> Option<&'a str> {
-        let [from, to] = *self.starts.get(index as usize..)?.first_chunk::<2>()?;
+        let index = index as usize;
+        let (from, to) = (*self.starts.get(index)?, *self.starts.get(index + 1)?);
         std::str::from_utf8(self.names.get(from as usize..to as usize)?).ok()
     }
 

@@ -4,7 +4,7 @@ mod common;
 use common::chance::Chance;
 use common::model::{Model, Table};
 use common::programs::{built, program, Program};
-use grain::{tighten, verify, verify_into, Cause, Fault, Pools};
+use grain::{explain, tighten, verify, verify_into, Cause, Explained, Fault, Pools, Row};
 use std::collections::BTreeMap;
 
 /// What came of some programs: how many were accepted, and how many refused by each cause.
@@ -45,6 +45,7 @@ fn compare(program: &Program, table: &Table, tally: &mut Tally) {
         (Ok(said), Ok(wanted)) => {
             assert_eq!(said, wanted, "{program:?}");
             tighten_well(program, &pools, &said.0);
+            explain_accepted(program, &pools, &said);
             tally.accepted += 1;
         }
         (Err(fault), Err((chunk, flaws))) => {
@@ -54,6 +55,7 @@ fn compare(program: &Program, table: &Table, tally: &mut Tally) {
                 "{fault:?} is none of {flaws:?} in {program:?}"
             );
             place_well(program, &pools, &fault);
+            explain_refused(program, &pools, &fault);
             *tally.refused.entry(word(&fault.cause())).or_default() += 1;
         }
         (said, wanted) => panic!("the library says {said:?}, the model {wanted:?}, of {program:?}"),
@@ -70,6 +72,59 @@ fn tighten_well(program: &Program, pools: &Pools, numbers: &[u16]) {
         .eq(numbers.iter().copied()));
     let again = verify(program.caps, &program.code, &chunks, pools);
     assert_eq!(again.as_deref(), Ok(numbers));
+}
+
+fn explained<'a>(program: &'a Program, pools: &'a Pools, place: usize) -> Explained<'a> {
+    explain(program.caps, &program.code, program.chunks[place], pools).unwrap()
+}
+
+/// The rows of the chunks are what is reached, each once, and the deepest has as many operands as the number says.
+fn explain_accepted(program: &Program, pools: &Pools, (numbers, looked): &(Vec<u16>, u64)) {
+    let mut rows = 0;
+    for (place, number) in numbers.iter().enumerate() {
+        let explained = explained(program, pools, place);
+        assert!(explained.refusal().is_none(), "{explained}");
+        assert!(explained.rows().windows(2).all(|two| two[0].at < two[1].at));
+        let most = explained.rows().iter().map(|row| row.operands).max();
+        assert_eq!(most, Some(u32::from(*number)), "{explained}");
+        rows += explained.rows().len() as u64;
+    }
+    assert_eq!(rows, *looked, "{program:?}");
+}
+
+/// The chunk that is refused has the flaw that the verdict names, and its ways come from its entry to it; those before it pass.
+fn explain_refused(program: &Program, pools: &Pools, fault: &Fault) {
+    let Some(chunk) = fault.chunk() else {
+        return;
+    };
+    for place in 0..chunk {
+        assert!(explained(program, pools, place).refusal().is_none());
+    }
+    let explained = explained(program, pools, chunk);
+    let refusal = explained.refusal().expect("a flaw");
+    assert_eq!(refusal.cause(), fault.cause(), "{explained}");
+    let is_conflict = matches!(fault.cause(), Cause::DepthConflict { .. });
+    assert_eq!(is_conflict, !explained.other().is_empty(), "{explained}");
+    for way in [explained.way(), explained.other()] {
+        let (Some(first), Some(last)) = (way.first(), way.last()) else {
+            continue;
+        };
+        let Row {
+            at,
+            operands,
+            iterators,
+            bases,
+            ..
+        } = first;
+        assert_eq!(
+            (*at, *operands, *iterators),
+            (program.chunks[chunk].entry, 0, 0)
+        );
+        assert!(bases.is_empty());
+        if let Some(at) = fault.at() {
+            assert_eq!(at, last.at as usize, "{explained}");
+        }
+    }
 }
 
 /// The constant that is refused is the first that asks what isn't there; and the place in a chain that is refused exists.
