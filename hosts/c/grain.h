@@ -387,8 +387,8 @@ uint32_t grain_verify(uint16_t caps, const uint8_t *code, size_t code_len, const
 uint32_t grain_tighten(uint16_t caps, const uint8_t *code, size_t code_len, grain_chunk *chunks, size_t chunks_len,
                        const grain_pools *pools, grain_fault *fault, uint64_t *looked);
 
-/* Explains a chunk of a program: what stands at each instruction that its runs reach, in the order of addresses, and where
- * it is refused a way to its flaw, the last state first, of a conflict another way to the same address too. GRAIN_ACCEPTED:
+/* Explains a chunk of a program: what stands at each instruction that ways along its edges come to, in the order of
+ * addresses, of a refused one at those that were come to until then; and where it is refused a way to its flaw, the last state first, of a conflict another way to the same address too. GRAIN_ACCEPTED:
  * the chunk passes, and the rows are a stack typing of it and just what is reached. GRAIN_REFUSED: why is written, of no
  * chunk by its place; the first row of the way shows the flaw. In both cases the rows, then those of the way and of the
  * other way, stand in front of the list, as many as it has places for, and so do their bases; and how many there are stands

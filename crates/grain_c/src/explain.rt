@@ -13,8 +13,8 @@ use grain_flat::{
 };
 use std::alloc::Global;
 
-/// Explains a chunk of a program: what stands at each instruction that its runs reach, and where it is refused the way to its
-/// flaw, of a conflict another way too.
+/// Explains a chunk of a program: what stands at each instruction that ways along its edges come to, of a refused one at
+/// those that were come to until then; and where it is refused the way to its flaw, of a conflict another way too.
 ///
 /// 0 where it passes: then the rows are a stack typing of it, and just what is reached. 1 where it is refused: then why is
 /// written, of no chunk by its place. In both cases as many rows and bases are written as there is room for, and how many there

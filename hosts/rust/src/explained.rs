@@ -31,7 +31,7 @@ pub struct Row {
     pub bases: Vec<Base>,
 }
 
-/// What stands at each instruction of a chunk that its runs reach, and why the chunk is refused, if it is.
+/// What stands at each instruction of a chunk that ways along its edges come to, and why the chunk is refused, if it is.
 ///
 /// It prints as a listing, with what the pools call what instructions name.
 #[derive(Clone, Debug)]
@@ -165,7 +165,7 @@ impl Room {
     }
 }
 
-/// Explains a chunk: what stands at each instruction that its runs reach, and where it is refused the way to its flaw, of a
+/// Explains a chunk: what stands at each instruction that ways along its edges come to, and where it is refused the way to its flaw, of a
 /// conflict two ways. Constants and functions aren't looked at.
 ///
 /// ```
