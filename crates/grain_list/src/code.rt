@@ -1,12 +1,15 @@
 //! Code with its instructions.
 
-ghost use Rattle.std.specs.Prelude.{◌≡◌, IfOk};
+ghost use Rattle.std.specs.Prelude.{◌≡◌, [], ℕ, Err, IfNone, IfOk, IfSome, Ok};
+ghost use Rattle.std.specs.Option.{option_to_list};
 ghost use Rattle.grain.specs.Disassembly.{IsDisassembly};
 ghost use Rattle.grain.specs.EffectView.{flow_view};
+ghost use Rattle.grain.specs.FlowFields.{targets_for};
 ghost use Rattle.grain.specs.Rows.{flow_of};
+ghost use Rattle.grain.specs.Split.{IsCount};
 ghost use Rattle.grain_list.specs.ListedCode.{IsListedCode};
 
-use grain::{Effect, Flow, Instruction, Op, disassemble};
+use grain::{Effect, Flow, Instruction, Op, count_instructions, disassemble};
 use std::alloc::{AllocError, Global};
 
 /// Code with its instructions.
@@ -48,16 +51,14 @@ impl CodeListing {
         }
     }
 
-    /// The address behind the last instruction, where that isn't the end of the code.
-    pub fn damage(&self) -> Option<usize> {
-        let end = match self.items.last() {
-            Some((at, _)) => self.end_of(*at),
-            None => 0,
-        };
-        if end < self.bytes.len() {
-            Some(end)
-        } else {
-            None
+    /// The address of the first thing that is no instruction, if there is one.
+    pub fn damage(&self) -> Option<usize>
+        ensures some { IfSome result (λ at. IsCount self.now.bytes.items (Err at)) }
+        ensures none { IfNone result ((n : ℕ) × IsCount self.now.bytes.items (Ok n)) }
+    {
+        match count_instructions(&self.bytes) {
+            Ok(_) => None,
+            Err(at) => Some(at),
         }
     }
 
@@ -90,7 +91,9 @@ pub fn flow_of(op: &Op) -> Flow
 }
 
 /// The target of a flow, if it names one.
-pub fn target_of(flow: Flow) -> Option<u32> {
+pub fn target_of(flow: Flow) -> Option<u32>
+    ensures { option_to_list result ≡ targets_for [] (flow_view flow) }
+{
     match flow {
         Flow::Jumps(target)
         | Flow::Branches(target)
