@@ -95,6 +95,8 @@ def number(text, letters):
     """A count of operands as the column has it."""
     for variable, letter in letters.items():
         text = re.sub(rf"(?<![\w']){re.escape(variable)}(?![\w'])", letter, text)
+    if text.startswith("chain_takes "):
+        return "k"
     return "m" if text == "a - 1" else text.replace(" * ", "").replace(" ", "")
 
 
@@ -102,7 +104,7 @@ def asked(text):
     parts = split(text)
     if parts[0] == "bit_or":
         return f"{asked(parts[1])}, {asked(parts[2])}"
-    return {"0": "", "module_of": "M", "get_or": "those of the chain"}.get(parts[0], parts[0])
+    return {"0": "", "module_of": "M", "chain_asks": "those of the chain"}.get(parts[0], parts[0])
 
 
 def cells(names, fields, rules, text, body):

@@ -1,5 +1,5 @@
 -- What is handed over passes by index exactly where the program that it makes is accepted.
-use Rattle.std.proofs.Common.{◌≡◌, ℕ, ◌+◌, ◌<◌, ◌≤◌, suc, List, [], ◌∷◌, ◌++◌, length, map, Option, Some, None, refl, sym, ap, subst, ◌∙◌, arith}
+use Rattle.std.proofs.Common.{flat_map, ◌≡◌, ℕ, ◌+◌, ◌<◌, ◌≤◌, suc, List, [], ◌∷◌, ◌++◌, length, map, Option, Some, None, refl, sym, ap, subst, ◌∙◌, arith}
 use Rattle.std.specs.Prelude.{option_map, slice_index}
 use Rattle.std.specs.List.{All, AllByRecursion, AllZip}
 use Rattle.std.proofs.lemmas.List.{get_or_default, map-append}
@@ -27,67 +27,48 @@ use Rattle.grain.specs.Build.{AreDeepestByIndex, CanBuild, CanLay, Draft, IsLaid
 use Rattle.grain_rules.specs.ByIndex.{IsCut, LeadWithin, span_moved}
 use Rattle.grain_rules.specs.Capabilities.{Allows}
 use Rattle.grain_rules.specs.Code.{Bytecode, coded, switch_targets}
-use Rattle.grain_rules.specs.Indices.{Indexed, IsPassed, Test, all_case_constants, all_inner, case_constants, cases_of, chain_tests, field_test, field_tests, inner, tests_of}
+use Rattle.grain_rules.specs.Indices.{Indexed, IsPassed, case_constants, cases_of, field_mentions, further, own_mentions, test_of, tests_of}
 use Rattle.grain.specs.Program.{Program, chunks_of, input_of, setting_of}
-use Rattle.grain_rules.specs.Setting.{Setting, case_consts}
+use Rattle.grain_rules.specs.Facts.{Mention, Entry, case_consts}
+use Rattle.grain_rules.specs.Setting.{Setting, with_caps}
 use Rattle.grain_rules.specs.Typing.{HasTyping, IsDeepest}
 use Rattle.grain.specs.declared.builder.Head.{Head}
 use Rattle.grain.proofs.Laying.{All-before_map}
 use Rattle.grain_rules.proofs.Offsets.{offset_count}
 use Rattle.grain_rules.proofs.Transport.{deepest_here, deepest_there, framed_there, typed_here, typed_there}
 
--- mapped targets leave the tests of fields as they are, and what is inside what they name
-module _ (s : Setting) (g : ℕ → ℕ) where
-  tests_moved : (fs : List Field) → field_tests s (map (fields.moved g) fs) ≡ field_tests s fs
-  tests_moved [] = refl
-  tests_moved (Index pool x ∷ fs) = ap (λ (rest : List Test). field_test s (Index pool x) ++ rest) (tests_moved fs)
-  tests_moved (Slot x ∷ fs) = tests_moved fs
-  tests_moved (Count x ∷ fs) = tests_moved fs
-  tests_moved (Target t ∷ fs) = tests_moved fs
-
-  inner_moved : (fs : List Field) → all_inner (chain_tests s) s (map (fields.moved g) fs) ≡ all_inner (chain_tests s) s fs
-  inner_moved [] = refl
-  inner_moved (Index pool x ∷ fs) = ap (λ (rest : List Test). inner (chain_tests s) s pool x ++ rest) (inner_moved fs)
-  inner_moved (Slot x ∷ fs) = inner_moved fs
-  inner_moved (Count x ∷ fs) = inner_moved fs
-  inner_moved (Target t ∷ fs) = inner_moved fs
-
-  cases_moved : (fs : List Field) → all_case_constants s (map (fields.moved g) fs) ≡ all_case_constants s fs
-  cases_moved [] = refl
-  cases_moved (Index pool x ∷ fs) = ap (λ (rest : List ℕ). case_constants s pool x ++ rest) (cases_moved fs)
-  cases_moved (Slot x ∷ fs) = cases_moved fs
-  cases_moved (Count x ∷ fs) = cases_moved fs
-  cases_moved (Target t ∷ fs) = cases_moved fs
+-- mapped targets leave what fields name as it is
+mentions_moved : (g : ℕ → ℕ) (fs : List Field) → flat_map field_mentions (map (fields.moved g) fs) ≡ flat_map field_mentions fs
+mentions_moved g [] = refl
+mentions_moved g (Index pool x ∷ fs) = ap (λ (rest : List Mention). Entry pool x ∷ rest) (mentions_moved g fs)
+mentions_moved g (Slot x ∷ fs) = mentions_moved g fs
+mentions_moved g (Count x ∷ fs) = mentions_moved g fs
+mentions_moved g (Target t ∷ fs) = mentions_moved g fs
 
 -- so an operation's indices pass exactly where they pass once it is assembled
 module _ (s : Setting) (offsets : List ℕ) (op : Op) where
   abbrev g : ℕ → ℕ
   g = slice_index offsets
 
-  abbrev own : List Field
-  own = (form op).1
-
-  fields_same : (form (assembled offsets op)).1 ≡ map (fields.moved g) own
-  fields_same = ap (λ (p : ℕ × List Field). p.1) (form_decoded g op)
+  mentions_same : own_mentions (assembled offsets op) ≡ own_mentions op
+  mentions_same = ap (λ (p : ℕ × List Field). flat_map field_mentions p.1) (form_decoded g op) ∙ mentions_moved g (form op).1
 
   tests_same : tests_of s (assembled offsets op) ≡ tests_of s op
-  tests_same =
-      ap (λ (fs : List Field). field_tests s fs ++ all_inner (chain_tests s) s fs) fields_same
-      ∙ (λ i. tests_moved s g own i ++ inner_moved s g own i)
+  tests_same = ap (λ (own : List Mention). map (test_of s) (own ++ flat_map (further s) own)) mentions_same
 
   cases_same : cases_of s (assembled offsets op) ≡ cases_of s op
-  cases_same = ap (all_case_constants s) fields_same ∙ cases_moved s g own
+  cases_same = ap (flat_map (case_constants s)) mentions_same
 
   indexed_there : Indexed s op → Indexed s (assembled offsets op)
   indexed_there h = record {
     tests = subst (AllByRecursion IsPassed) (sym tests_same) h.tests;
-    cases = subst (AllByRecursion (λ c. c < s.consts)) (sym cases_same) h.cases;
+    cases = subst (AllByRecursion (λ c. c < s.facts.consts)) (sym cases_same) h.cases;
   }
 
   indexed_here : Indexed s (assembled offsets op) → Indexed s op
   indexed_here h = record {
     tests = subst (AllByRecursion IsPassed) tests_same h.tests;
-    cases = subst (AllByRecursion (λ c. c < s.consts)) cases_same h.cases;
+    cases = subst (AllByRecursion (λ c. c < s.facts.consts)) cases_same h.cases;
   }
 
 -- the constants of the cases don't change with the targets
@@ -175,7 +156,7 @@ module _ (d : Draft) (p : Program) (lays : CanLay d) (laid : IsLaid d p) where
 
   same_setting : setting_of p ≡ s
   same_setting =
-      (λ i. record (setting_of p) { cases = same_consts laid.offsets p.switches d.parts.switches.items laid.switches i })
+      (λ i. with_caps p.caps.0 (record (setting_of p).facts { cases = same_consts laid.offsets p.switches d.parts.switches.items laid.switches i }))
       ∙ ap setting_of laid.rest
 
   same_code : (input_of p).code ≡ there

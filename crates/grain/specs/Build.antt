@@ -18,7 +18,8 @@ use Rattle.grain_rules.specs.Code.{Code, switch_targets}
 use Rattle.grain_rules.specs.Flaw.{Flaw}
 use Rattle.grain_rules.specs.Indices.{Indexed}
 use Rattle.grain.specs.Program.{Program, chunks_of, input_of, made}
-use Rattle.grain_rules.specs.Setting.{Setting, case_consts}
+use Rattle.grain_rules.specs.Facts.{facts_with}
+use Rattle.grain_rules.specs.Setting.{Setting, with_caps}
 use Rattle.grain_rules.specs.Texts.{verify_error_text}
 use Rattle.grain_rules.specs.Typing.{HasTyping, IsDeepest}
 use Rattle.grain.specs.declared.builder.BuildError.{BuildError}
@@ -47,16 +48,8 @@ draft caps ops cuts heads parts = record { caps = caps; ops = ops; cuts = map sp
 
 -- what the operations are judged against
 abbrev pub setting_with : Caps → Parts → Setting
-setting_with caps parts = record {
-  caps = caps.0;
-  consts = length parts.consts.items;
-  names = parts.names;
-  tokens = length parts.tokens.items;
-  assign_ops = length parts.assign_ops.items;
-  residuals = parts.residuals;
-  chains = parts.chains.items;
-  cases = map case_consts parts.switches.items;
-}
+setting_with caps parts =
+    with_caps caps.0 (facts_with (length parts.consts.items) parts.names (length parts.tokens.items) (length parts.assign_ops.items) parts.residuals parts.chains.items parts.switches.items)
 
 -- the indices to which each switch leads
 abbrev pub leads : Draft → List (List ℕ)

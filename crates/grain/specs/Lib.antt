@@ -45,6 +45,8 @@ pub use Rattle.grain_rules.specs.Counts
 pub use Rattle.grain_rules.specs.Depths
 pub use Rattle.grain_rules.specs.EdgeSteps
 pub use Rattle.grain_rules.specs.Effects
+pub use Rattle.grain_rules.specs.Facts
+pub use Rattle.grain_rules.specs.FirstOut
 pub use Rattle.grain_rules.specs.Flaw
 pub use Rattle.grain_rules.specs.Flow
 pub use Rattle.grain_rules.specs.FlowFields
@@ -55,6 +57,7 @@ pub use Rattle.grain_rules.specs.Machine
 pub use Rattle.grain_rules.specs.Rows
 pub use Rattle.grain_rules.specs.Setting
 pub use Rattle.grain_rules.specs.Sinking
+pub use Rattle.grain_rules.proofs.Testing
 pub use Rattle.grain_rules.specs.Texts
 pub use Rattle.grain_rules.specs.Typing
 pub use Rattle.grain_rules.specs.Verdict

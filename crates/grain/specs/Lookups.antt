@@ -6,11 +6,10 @@ use Rattle.std.specs.Option.{option_map_or}
 use Rattle.grain_pools.specs.Pools.{Pools}
 use Rattle.grain_code.specs.Split.{AreInstructions}
 use Rattle.grain_code.specs.declared.function.Function.{Function}
-use Rattle.grain_code.specs.declared.field.Field.{Field}
-use Rattle.grain_code.specs.declared.field.Field.TheVariants.{Index, Slot, Count, Target}
 use Rattle.grain_code.specs.declared.field.Pool.TheVariants.{Constants, Names, Operators, OpAssignments, Fragments, Chains, Switches, SyntaxSites}
 use Rattle.grain_code.specs.declared.op.Op.{Op}
-use Rattle.grain_rules.specs.Indices.{cases_of, fields_of}
+use Rattle.grain_rules.specs.Facts.{Mention, Entry, Operand}
+use Rattle.grain_rules.specs.Indices.{cases_of, mentions_of}
 use Rattle.grain.specs.Program.{Program, setting_of}
 
 -- the pools of a program, as its look-ups see them
@@ -45,22 +44,20 @@ abbrev pub is_named : List (List ℕ) → List ℕ → ℕ → Function → Bool
 is_named names name argc f = is_text names name f.name && is_untyped f.name argc f
 
 -- the index is found by its lookup, and that of a fragment is below their number
-abbrev pub IsFound : Program → Field → Type 0
-IsFound p (Index Constants x) = IsSome (slice_get p.consts x)
-IsFound p (Index Names x) = IsSome (slice_get p.names x)
-IsFound p (Index Operators x) = IsSome (slice_get p.tokens x)
-IsFound p (Index OpAssignments x) = IsSome (slice_get p.assign_ops x)
-IsFound p (Index Fragments x) = x < p.residuals
-IsFound p (Index Chains x) = IsSome (slice_get p.chains x)
-IsFound p (Index Switches x) = IsSome (slice_get p.switches x)
-IsFound p (Index SyntaxSites x) = ⊥
-IsFound p (Slot x) = ⊤
-IsFound p (Count x) = ⊤
-IsFound p (Target x) = ⊤
+abbrev pub IsFound : Program → Mention → Type 0
+IsFound p (Entry Constants x) = IsSome (slice_get p.consts x)
+IsFound p (Entry Names x) = IsSome (slice_get p.names x)
+IsFound p (Entry Operators x) = IsSome (slice_get p.tokens x)
+IsFound p (Entry OpAssignments x) = IsSome (slice_get p.assign_ops x)
+IsFound p (Entry Fragments x) = x < p.residuals
+IsFound p (Entry Chains x) = IsSome (slice_get p.chains x)
+IsFound p (Entry Switches x) = IsSome (slice_get p.switches x)
+IsFound p (Entry SyntaxSites x) = ⊥
+IsFound p (Operand operands place) = ⊤
 
 -- each index that the operation names, and each inside the chain or the switch that it names, is found
 pub record AreFound (p : Program) (op : Op) : Type 0 where
-  pub fields : All (IsFound p) (fields_of (setting_of p) op)
+  pub entries : All (IsFound p) (mentions_of (setting_of p) op)
   pub cases : All (λ x. IsSome (slice_get p.consts x)) (cases_of (setting_of p) op)
 
 -- the code is instructions whose indices are found

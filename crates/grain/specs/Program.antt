@@ -16,7 +16,8 @@ use Rattle.grain_bytecode.specs.declared.positions.Positions.TheVariants.{Stripp
 use Rattle.grain_pools.specs.declared.switch.Switch.{Switch}
 use Rattle.grain_rules.specs.Accepted.{Input}
 use Rattle.grain_rules.specs.Code.{switch_targets}
-use Rattle.grain_rules.specs.Setting.{Setting, case_consts}
+use Rattle.grain_rules.specs.Facts.{facts_with}
+use Rattle.grain_rules.specs.Setting.{Setting, with_caps}
 use Rattle.grain.specs.declared.program.Parts.{Parts}
 
 pub record Program : Type 0 where
@@ -79,16 +80,7 @@ pub record IsGreatest (numbers : List ℕ) (n : ℕ) : Type 0 where
 
 -- what the program's code is judged against
 abbrev pub setting_of : Program → Setting
-setting_of p = record {
-  caps = p.caps.0;
-  consts = length p.consts;
-  names = p.names;
-  tokens = length p.tokens;
-  assign_ops = length p.assign_ops;
-  residuals = p.residuals;
-  chains = p.chains;
-  cases = map case_consts p.switches;
-}
+setting_of p = with_caps p.caps.0 (facts_with (length p.consts) p.names (length p.tokens) (length p.assign_ops) p.residuals p.chains p.switches)
 
 -- what `verify` is given of the program
 abbrev pub input_of : Program → Input

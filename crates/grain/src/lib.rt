@@ -35,7 +35,12 @@ pub use grain_explain::{
     Base, ExplainError, ExplainedChunk, Refusal as ExplainedRefusal, Row, TypingError,
     check_typing, explain_chunks,
 };
-pub use grain_rules::{Asks, Effect, Flow, Pools, VerifyError, asked_beside, constant_caps};
-pub use grain_verify::{Meter, Refusal, is_quiet, verify, verify_metered, verify_placed};
+pub use grain_rules::{
+    Asks, BadIndex, Bound, Effect, Flow, NoPools, Pools, Read, Targets, VerifyError, asked_beside,
+    check_among, check_below, constant_caps, name_caps,
+};
+pub use grain_verify::{
+    Meter, Refusal, is_quiet, verify, verify_metered, verify_placed, verify_read,
+};
 pub use program::{Parts, Program};
 pub use sidecar::Sidecar;

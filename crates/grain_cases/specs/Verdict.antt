@@ -2,9 +2,10 @@
 use Rattle.std.specs.Prelude.{◌≡◌, ℕ, List, [], ◌++◌, codes, decimal, Option, Some, None, Result}
 use Rattle.std.specs.Prelude.{Ok, Err, flat_map}
 use Rattle.std.specs.List.{AllZip}
-use Rattle.grain.specs.Accepted.{AreDeepest, Input, IsAccepted}
+use Rattle.grain.specs.Accepted.{AreDeepest, Input, IsAccepted, input_beside}
 use Rattle.grain.specs.AddressTable.{Entry, LongestFront, site_at}
 use Rattle.grain.specs.Flaw.{Flaw}
+use Rattle.grain.specs.Setting.{unset}
 use Rattle.grain.specs.Split.{IsCount}
 use Rattle.grain.specs.Span.{Span}
 use Rattle.grain.specs.Site.{Site}
@@ -42,25 +43,7 @@ pub record SiteVerdict (table : List ℕ) (address : ℕ) (text : List ℕ) : Ty
 
 -- code with chunks, without constants and functions, all pools being empty
 abbrev pub program : ℕ → List ℕ → List Span → Input
-program caps bytes chunks = record {
-  code = record {
-    setting = record {
-      caps = caps;
-      consts = 0;
-      names = [];
-      tokens = 0;
-      assign_ops = 0;
-      residuals = 0;
-      chains = [];
-      cases = [];
-    };
-    bytes = bytes;
-    switches = [];
-  };
-  consts = [];
-  functions = [];
-  chunks = chunks;
-}
+program caps bytes chunks = input_beside caps [] bytes [] chunks unset.facts []
 
 -- an accepted program has the greatest operand count that each chunk reaches, any other a flaw
 abbrev pub IsJudged : Input → Result (List ℕ) VerifyError → Type 0

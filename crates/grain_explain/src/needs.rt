@@ -37,7 +37,7 @@ pub(crate) fn check_needs(caps: Caps, pools: &Pools<'_>, op: &Op, row: &Row) -> 
     ensures lacks { IfErr result
         (FindsLacking (setting caps pools.now) op.now (counts_of row.now)) }
 {
-    let effect = Effect::of(op, pools.chains);
+    let effect = Effect::of(op, pools);
     let absent = missing(caps, asked_beside(pools, effect.asks));
     if !absent.is_empty() {
         return Err(Lack::Capabilities(absent));

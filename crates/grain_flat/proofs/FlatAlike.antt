@@ -2,9 +2,8 @@
 use Rattle.std.proofs.Common.{◌≡◌, ℕ, List, [], ◌∷◌, ◌++◌, false, get_or, map, refl, subst, sym, ap, ◌∙◌}
 use Rattle.std.specs.List.{AllZip, Contains, flat_map}
 use Rattle.std.proofs.lemmas.List.Concat.{flat_map-cons}
-use Rattle.grain.specs.Capabilities.{chain_caps}
-use Rattle.grain.specs.Chain.{consumed}
 use Rattle.grain.specs.Dispatch.{Arms, Case, listed, arm_targets}
+use Rattle.grain.specs.Facts.{ChainFacts, chain_facts}
 use Rattle.grain.specs.Flow as flows
 use Rattle.grain.specs.Flow.{Falls, Flow}
 use Rattle.grain.specs.Rows.{does, flow_of, row}
@@ -18,7 +17,7 @@ use Rattle.grain_flat.specs.declared.records.CCase.{CCase}
 use Rattle.grain_flat.specs.declared.records.CPools.{CPools}
 use Rattle.grain_flat.specs.Flat.{AreChains, AreSwitches, arm_constants, case_row, case_rows, code_with, arm_range_targets}
 use Rattle.grain_flat.proofs.Alike.{Alike}
-use Rattle.grain_flat.proofs.ChainRows.{Told, caps_told, consumed_told, map_told, told_alike, told_caps, told_consumed, told_of}
+use Rattle.grain_flat.proofs.ChainRows.{facts_alike, map_told}
 use Rattle.grain_flat.proofs.Members.{appended, at_place, mapped}
 use Rattle.grain_flat.proofs.SwitchRows.{SameArms, same_arms}
 
@@ -30,10 +29,6 @@ map_same f g same (x ∷ xs) = let here = same x in let rest = map_same f g same
 pub flat_same : {A X : Type 0} (f g : A → List X) → ((a : A) → f a ≡ g a) → (xs : List A) → flat_map f xs ≡ flat_map g xs
 flat_same f g same [] = refl
 flat_same f g same (x ∷ xs) = flat_map-cons f x xs ∙ ap (λ ys. ys ++ flat_map f xs) (same x) ∙ ap (λ ys. g x ++ ys) (flat_same f g same xs) ∙ sym (flat_map-cons g x xs)
-
--- what a function that rows tell gives of chains of one flat form
-pub all_told : {X : Type 0} (f : Chain → X) (g : Told → X) → ((c : Chain) → f c ≡ g (told_of c)) → (cs ds : List Chain) → map told_of cs ≡ map told_of ds → map f cs ≡ map f ds
-all_told f g told cs ds same = map_told f told_of g told cs ∙ ap (map g) same ∙ sym (map_told f told_of g told ds)
 
 -- what the rows of cases tell of a case
 case_same : (f : Case → ℕ) (g : CCase → ℕ) → ((c : Case) → f c ≡ g (case_row c)) → (t u : Arms) → SameArms t u → (x : ℕ) → Contains (map f (listed t.cases)) x → Contains (map f (listed u.cases)) x
@@ -74,17 +69,18 @@ pub record AreOf (p : CPools) (chains : List Chain) (switches : List Arms) : Typ
 abbrev pub setting_of : ℕ → CPools → List Chain → List Arms → Setting
 setting_of caps p chains switches = (code_with caps [] p chains switches).setting
 
-row_same : (caps : ℕ) (p : CPools) (cs ds : List Chain) (ts us : List Arms) → map consumed cs ≡ map consumed ds → map chain_caps cs ≡ map chain_caps ds → (op : Op)
+row_same : (caps : ℕ) (p : CPools) (cs ds : List Chain) (ts us : List Arms) → map chain_facts cs ≡ map chain_facts ds → (op : Op)
     → row (setting_of caps p cs ts) op ≡ row (setting_of caps p ds us) op
-row_same caps p cs ds ts us takes asks (ops.Chain h) = λ i. let k = get_or (takes i) h 0 in does k k 1 (get_or (asks i) h 0) Falls false
-row_same caps p cs ds ts us takes asks (ops.CallRef n a (receiver.Local slot) capture) = refl
-row_same caps p cs ds ts us takes asks (ops.CallRef n a (receiver.Named m) capture) = refl
-row_same caps p cs ds ts us takes asks (ops.CallRef n a receiver.This capture) = refl
-row_same caps p cs ds ts us takes asks op = refl
+row_same caps p cs ds ts us same (ops.Chain h) =
+    λ i. let k = get_or (map (λ (c : ChainFacts). c.takes) (same i)) h 0 in does k k 1 (get_or (map (λ (c : ChainFacts). c.asks) (same i)) h 0) Falls false
+row_same caps p cs ds ts us same (ops.CallRef n a (receiver.Local slot) capture) = refl
+row_same caps p cs ds ts us same (ops.CallRef n a (receiver.Named m) capture) = refl
+row_same caps p cs ds ts us same (ops.CallRef n a receiver.This capture) = refl
+row_same caps p cs ds ts us same op = refl
 
-pub told_same : (p : CPools) (cs ds : List Chain) (ts us : List Arms) → AreOf p cs ts → AreOf p ds us → map told_of cs ≡ map told_of ds
-told_same p cs ds ts us one other =
-    told_alike cs ds (sym one.chains_are.rows_are ∙ other.chains_are.rows_are) (sym one.chains_are.steps_are ∙ other.chains_are.steps_are)
+pub facts_same : (p : CPools) (cs ds : List Chain) (ts us : List Arms) → AreOf p cs ts → AreOf p ds us → map chain_facts cs ≡ map chain_facts ds
+facts_same p cs ds ts us one other =
+    facts_alike cs ds (sym one.chains_are.rows_are ∙ other.chains_are.rows_are) (sym one.chains_are.steps_are ∙ other.chains_are.steps_are)
 
 pub arms_same : (p : CPools) (cs ds : List Chain) (ts us : List Arms) → AreOf p cs ts → AreOf p ds us → AllZip SameArms ts us
 arms_same p cs ds ts us one other =
@@ -94,10 +90,9 @@ arms_same p cs ds ts us one other =
 
 pub alike : (caps : ℕ) (p : CPools) (cs ds : List Chain) (ts us : List Arms) → AreOf p cs ts → AreOf p ds us → Alike (setting_of caps p cs ts) (setting_of caps p ds us) (map arm_targets ts) (map arm_targets us)
 alike caps p cs ds ts us one other =
-    let told = told_same p cs ds ts us one other in
     record {
       caps = refl;
-      rows = row_same caps p cs ds ts us (all_told consumed told_consumed consumed_told cs ds told) (all_told chain_caps told_caps caps_told cs ds told);
+      rows = row_same caps p cs ds ts us (facts_same p cs ds ts us one other);
       leads = λ op. flow_same ts us (arms_same p cs ds ts us one other) (flow_of op);
       leads_back = λ op. flow_same us ts (arms_same p ds cs us ts other one) (flow_of op);
     }

@@ -3,11 +3,12 @@ use Rattle.std.proofs.Common.{◌≡◌, ℕ, List, [], length, map, Result, Ok,
 use Rattle.std.specs.List.{All}
 use Rattle.std.specs.declared.alloc.Global.{Global}
 use Rattle.std.proofs.lemmas.Slice.Zip.{AllZip-long}
-use Rattle.grain.specs.Accepted.{Input}
+use Rattle.grain.specs.Accepted.{Input, input_beside}
+use Rattle.grain.specs.Capabilities.{name_caps}
 use Rattle.grain.specs.Code.{switch_targets}
 use Rattle.grain.specs.Dispatch.{Arms, arms, arm_targets}
 use Rattle.grain.specs.Names.{names_in}
-use Rattle.grain.specs.Setting.{case_consts}
+use Rattle.grain.specs.Facts.{case_consts, chain_facts, facts_with}
 use Rattle.grain.specs.Span.{Span}
 use Rattle.grain_bytecode.specs.declared.Chain.{Chain}
 use Rattle.grain_bytecode.specs.declared.Function.{Function}
@@ -24,25 +25,8 @@ use Rattle.grain_flat.proofs.Wholes.{accepted, accepted_back, deepest_there, fla
 
 -- what is judged, by its parts
 abbrev pub over : ℕ → List ℕ → List Span → CPools → List Function → List (List ℕ) → List Chain → List Switch → Input
-over caps bytes chunks p functions names chains switches = record {
-  code = record {
-    setting = record {
-      caps = caps;
-      consts = length p.constants.now;
-      names = names;
-      tokens = p.operators;
-      assign_ops = p.op_assignments;
-      residuals = p.fragments;
-      chains = chains;
-      cases = map case_consts switches;
-    };
-    bytes = bytes;
-    switches = map switch_targets switches;
-  };
-  consts = [];
-  functions = functions;
-  chunks = chunks;
-}
+over caps bytes chunks p functions names chains switches =
+    input_beside caps [] bytes functions chunks (facts_with (length p.constants.now) names p.operators p.op_assignments p.fragments chains switches) (map switch_targets switches)
 
 pub over_is : (caps : ℕ) (bytes : List ℕ) (chunks : List Span) (p : CPools) (functions : List Function) (names : List (List ℕ)) (chains made : List Chain) (switches given : List Switch)
     → names ≡ names_in p.names.now p.starts.now → chains ≡ made → switches ≡ given
@@ -50,25 +34,15 @@ pub over_is : (caps : ℕ) (bytes : List ℕ) (chunks : List Span) (p : CPools) 
 over_is caps bytes chunks p functions names chains made switches given names_are chains_are switches_are =
     let cases = ap (map case_consts) switches_are ∙ map_told case_consts arms arm_constants (λ s. refl) given in
     let leads = ap (map switch_targets) switches_are ∙ map_told switch_targets arms arm_targets (λ s. refl) given in
-    λ k. record {
-      code = record {
-        setting = record {
-          caps = caps;
-          consts = length p.constants.now;
-          names = names_are k;
-          tokens = p.operators;
-          assign_ops = p.op_assignments;
-          residuals = p.fragments;
-          chains = chains_are k;
-          cases = cases k;
-        };
-        bytes = bytes;
-        switches = leads k;
-      };
-      consts = [];
-      functions = functions;
-      chunks = chunks;
-    }
+    λ k. input_beside caps [] bytes functions chunks (record {
+      consts = length p.constants.now;
+      names = map name_caps (names_are k);
+      tokens = p.operators;
+      assign_ops = p.op_assignments;
+      residuals = p.fragments;
+      chains = map chain_facts (chains_are k);
+      cases = cases k;
+    }) (leads k)
 
 pub flat_verdict : (caps : ℕ) (bytes : List ℕ) (chunks : List Span) (p : CPools) (cs : List Chain) (ts : List Arms) (functions : List Function) → AreOf p cs ts → AreSome p.functions functions
     → All (RowPasses caps) p.constants.now → (result : Result (Vec ℕ Global) Stop) → IsVerdictOf (judged caps bytes chunks p functions cs ts) result → IsFlatVerdict caps bytes chunks p result

@@ -3,7 +3,9 @@ use Rattle.std.specs.Prelude.{◌≡◌, ℕ, List, [], map, length, sum_by, Opt
 use Rattle.std.specs.List.{All, AllZip, flat_map}
 use Rattle.std.specs.List.Sorted.{IsPermutation}
 use Rattle.grain.specs.Accepted.{Input}
-use Rattle.grain.specs.Code.{Bytecode}
+use Rattle.grain.specs.Capabilities.{name_caps}
+use Rattle.grain.specs.Code.{Bytecode, bytecode_beside}
+use Rattle.grain.specs.Facts.{chain_facts}
 use Rattle.grain.specs.ConstCaps.{const_caps}
 use Rattle.grain.specs.Span.{Span}
 use Rattle.grain_base.specs.declared.value.Dynamic.{Dynamic}
@@ -130,20 +132,16 @@ pub record IsFlat (p : CPools) : Type 0 where
 
 -- the code with chains and switches beside it
 abbrev pub code_with : ℕ → List ℕ → CPools → List Chain → List Arms → Bytecode
-code_with caps bytes p chains switches = record {
-  setting = record {
-    caps = caps;
-    consts = length p.constants.now;
-    names = names_in p.names.now p.starts.now;
-    tokens = p.operators;
-    assign_ops = p.op_assignments;
-    residuals = p.fragments;
-    chains = chains;
-    cases = map arm_constants switches;
-  };
-  bytes = bytes;
-  switches = map arm_targets switches;
-}
+code_with caps bytes p chains switches =
+    bytecode_beside caps (record {
+      consts = length p.constants.now;
+      names = map name_caps (names_in p.names.now p.starts.now);
+      tokens = p.operators;
+      assign_ops = p.op_assignments;
+      residuals = p.fragments;
+      chains = map chain_facts chains;
+      cases = map arm_constants switches;
+    }) (map arm_targets switches) bytes
 
 -- functions and pools with this flat form, constants aside
 pub record Rest (p : CPools) : Type 0 where

@@ -9,7 +9,7 @@ ghost use Rattle.grain.specs.Rows.{flow_of};
 ghost use Rattle.grain.specs.Split.{IsCount};
 ghost use Rattle.grain_list.specs.ListedCode.{IsListedCode};
 
-use grain::{Effect, Flow, Instruction, Op, count_instructions, disassemble};
+use grain::{Effect, Flow, Instruction, NoPools, Op, count_instructions, disassemble};
 use std::alloc::{AllocError, Global};
 
 /// Code with its instructions.
@@ -87,7 +87,7 @@ impl CodeListing {
 pub fn flow_of(op: &Op) -> Flow
     ensures { flow_view result ≡ flow_of op.now }
 {
-    Effect::of(op, &[]).flow
+    Effect::of(op, &NoPools).flow
 }
 
 /// The target of a flow, if it names one.

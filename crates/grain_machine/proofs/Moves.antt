@@ -1,19 +1,16 @@
 -- What moves a run makes.
 use Rattle.std.proofs.Common.{◌≡◌, ℕ, ◌+◌, ◌-◌, ◌≤◌, inl, inr, true, false, List, [], ◌∷◌, length, refl, sym, ap, ◌∙◌, arith}
 use Rattle.std.specs.List.{Contains}
-use Rattle.grain_code.specs.Span.{Span}
 use Rattle.grain_code.specs.declared.op.Op.{Op}
-use Rattle.grain_rules.specs.Code.{Code}
 use Rattle.grain_rules.specs.Counts.{Counts}
 use Rattle.grain_rules.specs.Effects.{after_fall, after_jump, falls_through, operands_after, targets}
 use Rattle.grain_rules.specs.Flow as flows
 use Rattle.grain_rules.specs.Flow.{Flow}
 use Rattle.grain_rules.specs.FlowFields.{fall_for, falls_for, jumps_for}
 use Rattle.grain_rules.specs.Layout.{switches}
-use Rattle.grain_rules.specs.Machine.{Catches, Handler, IsKept, IsKeptRun, IsOnKeptRun, IsRunKeptAtQuiet, Machine, Moves, MovesKeptAtQuiet, counts, first, handlers_after, handlers_behind, innermost}
+use Rattle.grain_rules.specs.Machine.{Catches, Handler, IsKept, Machine, counts, first, handlers_after, handlers_behind, innermost}
 use Rattle.grain.specs.Program.{setting_of}
 use Rattle.grain_rules.specs.Rows.{flow_of, is_quiet, takes}
-use Rattle.grain_rules.specs.Typing.{HasTyping}
 use Rattle.grain_rules.proofs.Law.{typing_covers_run}
 use Rattle.grain_rules.proofs.Quiet.{move_from_run}
 use Rattle.grain_machine.specs.Act.{IsForHost}

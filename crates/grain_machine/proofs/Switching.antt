@@ -6,7 +6,7 @@ use Rattle.std.proofs.lemmas.List.{get_or-map}
 use Rattle.std.proofs.lemmas.Option.{slice_get_within}
 use Rattle.grain_code.specs.declared.op.Op.TheVariants as ops
 use Rattle.grain_pools.specs.declared.switch.Switch.{Switch}
-use Rattle.grain_code.specs.declared.field.Field.TheVariants.{Index}
+use Rattle.grain_rules.specs.Facts.{Entry}
 use Rattle.grain_code.specs.declared.field.Pool.TheVariants.{Switches}
 use Rattle.grain_rules.specs.Code.{switch_targets}
 use Rattle.grain.specs.Lookups.{AreFound}
@@ -19,7 +19,7 @@ found_within xs k (Some x) e h = slice_get_within xs k x e
 -- the switch that an operation names is there
 pub switch_within : (p : Program) (index : ℕ) → AreFound p (ops.Switch index) → index < length p.switches
 switch_within p index found =
-    let h : IsSome (slice_get p.switches index) = found.fields 0 (Index Switches index) (omega arith) in
+    let h : IsSome (slice_get p.switches index) = found.entries 0 (Entry Switches index) (omega arith) in
     found_within p.switches index (slice_get p.switches index) refl h
 
 -- where it leads is where the code says that it leads

@@ -1,10 +1,10 @@
 //! What the machine does with each operation.
-ghost use Rattle.std.specs.Prelude.{◌≡◌, get_or, map};
-ghost use Rattle.grain_pools.specs.Chain.{consumed};
+ghost use Rattle.std.specs.Prelude.{◌≡◌, get_or, map, option_map, slice_get};
+ghost use Rattle.grain.specs.Facts.{ChainFacts, chain_facts};
 ghost use Rattle.grain.specs.Program.{setting_of};
 ghost use Rattle.grain_machine.specs.Act.{Does};
 
-use grain::{Op, Program, Receiver};
+use grain::{Chain, Op, Program, Receiver};
 
 /// What the machine does with an operation.
 #[derive(Clone, Copy)]
@@ -153,10 +153,18 @@ impl Act {
 
 /// How many operands the program's chain at an index takes; none where there is no chain.
 fn consumed_at(program: &Program, index: u32) -> usize
-    ensures { result ≡ get_or (map consumed program.now.chains) index 0 }
+    ensures { result
+        ≡ get_or (map (λ (c : ChainFacts). c.takes) (map chain_facts program.now.chains)) index 0 }
 {
-    match program.chains().get(index as usize) {
+    match chain_at(program.chains(), index) {
         Some(chain) => chain.consumes(),
         None => 0,
     }
+}
+
+/// The chain of an index, if there is one. It is cut from [`consumed_at`] for the prover alone.
+fn chain_at(chains: &[Chain], index: u32) -> Option<&Chain>
+    ensures { option_map (λ c. c.now) result ≡ slice_get chains.now index }
+{
+    chains.get(index as usize)
 }

@@ -6,7 +6,7 @@ use Rattle.std.proofs.lemmas.List.Elements.{Contains-push}
 use Rattle.grain_code.specs.Span.{Span}
 use Rattle.grain_code.specs.declared.op.Op.{Op}
 use Rattle.grain_rules.specs.Code.{Code}
-use Rattle.grain_rules.specs.Counts.{Base, Counts, armed, without_last}
+use Rattle.grain_rules.specs.Counts.{Counts, armed, without_last}
 use Rattle.grain_rules.specs.Effects.{Edge, after_fall, after_jump, falls_through, operands_after, targets}
 use Rattle.grain_rules.specs.Flow.{Flow, PopsHandler, PushesHandler}
 use Rattle.grain_rules.specs.Layout.{next, switches}

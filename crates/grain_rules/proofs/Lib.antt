@@ -1,5 +1,5 @@
 pub mod Bodies
-pub mod Bounds
+pub mod Testing
 pub mod ByDepth
 pub mod ChainTests
 pub mod Exact
@@ -11,6 +11,7 @@ pub mod Once
 pub mod PassedBits
 pub mod Passing
 pub mod Quiet
+pub mod Said
 pub mod Splits
 pub mod Transport
 pub mod Verdicts

@@ -1,26 +1,24 @@
 -- What has passed, and one entry more.
-use Rattle.std.proofs.Common.{◌≡◌, ◌⊎◌, ℕ, List, [], map, get_or, None, ap, ◌∙◌, inl, inr}
+use Rattle.std.proofs.Common.{◌≡◌, ◌⊎◌, ℕ, List, [], get_or, None, ap, ◌∙◌, inl, inr}
 use Rattle.grain_pools.specs.Dispatch.{first_past}
-use Rattle.grain_rules.specs.FirstOut.{CasesPass, ChainsPass, HavePassed, alone, first_out}
-use Rattle.grain_rules.specs.Indices.{chain_tests}
-use Rattle.grain_rules.specs.Setting.{case_consts}
+use Rattle.grain_rules.specs.Facts.{Facts}
+use Rattle.grain_rules.specs.FirstOut.{CasesPass, ChainsPass, HavePassed, first_out, tests_inside}
 use Rattle.grain_rules.specs.Passed.{HasPassed}
-use Rattle.grain_rules.specs.declared.pools.Pools.{Pools}
 
-pub chains_more : (pools : Pools) (old new : List ℕ) (index : ℕ) → ChainsPass pools old → ((i : ℕ) → HasPassed new i → HasPassed old i ⊎ (i ≡ index))
-    → first_out (get_or (map (chain_tests (alone pools)) pools.chains.now) index []) ≡ None → ChainsPass pools new
-chains_more pools old new index passed more here i has = elim (more i has) [
+pub chains_more : (facts : Facts) (old new : List ℕ) (index : ℕ) → ChainsPass facts old → ((i : ℕ) → HasPassed new i → HasPassed old i ⊎ (i ≡ index))
+    → first_out (tests_inside facts index) ≡ None → ChainsPass facts new
+chains_more facts old new index passed more here i has = elim (more i has) [
   | inl before ↦ passed i before
-  | inr same ↦ ap (λ n. first_out (get_or (map (chain_tests (alone pools)) pools.chains.now) n [])) same ∙ here
+  | inr same ↦ ap (λ n. first_out (tests_inside facts n)) same ∙ here
 ]
 
-pub cases_more : (pools : Pools) (old new : List ℕ) (index : ℕ) → CasesPass pools old → ((i : ℕ) → HasPassed new i → HasPassed old i ⊎ (i ≡ index))
-    → first_past pools.consts (get_or (map case_consts pools.switches.now) index []) ≡ None → CasesPass pools new
-cases_more pools old new index passed more here i has = elim (more i has) [
+pub cases_more : (facts : Facts) (old new : List ℕ) (index : ℕ) → CasesPass facts old → ((i : ℕ) → HasPassed new i → HasPassed old i ⊎ (i ≡ index))
+    → first_past facts.consts (get_or facts.cases index []) ≡ None → CasesPass facts new
+cases_more facts old new index passed more here i has = elim (more i has) [
   | inl before ↦ passed i before
-  | inr same ↦ ap (λ n. first_past pools.consts (get_or (map case_consts pools.switches.now) n [])) same ∙ here
+  | inr same ↦ ap (λ n. first_past facts.consts (get_or facts.cases n [])) same ∙ here
 ]
 
 -- what has nothing in it has only what passed
-pub none_passed : (pools : Pools) (chains switches : List ℕ) → ((i : ℕ) → HasPassed chains i → ⊥) → ((i : ℕ) → HasPassed switches i → ⊥) → HavePassed pools chains switches
-none_passed pools chains switches a b = record { chains_pass = λ i has. absurd (a i has); switches_pass = λ i has. absurd (b i has) }
+pub none_passed : (facts : Facts) (chains switches : List ℕ) → ((i : ℕ) → HasPassed chains i → ⊥) → ((i : ℕ) → HasPassed switches i → ⊥) → HavePassed facts chains switches
+none_passed facts chains switches a b = record { chains_pass = λ i has. absurd (a i has); switches_pass = λ i has. absurd (b i has) }

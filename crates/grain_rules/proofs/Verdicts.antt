@@ -1,5 +1,5 @@
 -- A verdict, put together.
-use Rattle.std.proofs.Common.{◌≡◌, ◌⊎◌, ℕ, inl, inr, IfErr, IfOk, OnOk, Ok, Err, Result, Vec, refl, subst}
+use Rattle.std.proofs.Common.{◌≡◌, ◌⊎◌, ℕ, inl, inr, IfErr, IfOk, OnOk, Ok, Err, Result, Vec, refl}
 use Rattle.std.specs.List.{All, AllZip}
 use Rattle.std.specs.declared.alloc.Global.{Global}
 use Rattle.grain_rules.specs.Accepted.{ChunkPasses, Input, IsAccepted}

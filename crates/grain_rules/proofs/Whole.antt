@@ -67,7 +67,7 @@ none_out s op what index h (inl o) =
     let g = o.fails in
     omega arith
 none_out s op what index h (inr o) =
-    let k : index < s.consts = in_all (λ c. c < s.consts) (cases_of s op) index h.cases o.case in
+    let k : index < s.facts.consts = in_all (λ c. c < s.facts.consts) (cases_of s op) index h.cases o.case in
     let g = o.fails in
     omega arith
 

@@ -1,5 +1,5 @@
 -- What is verified, and when it is accepted.
-use Rattle.std.specs.Prelude.{◌≡◌, ◌≢◌, ⊤, ℕ, ◌≤◌, List, [], length, Option, Some, None}
+use Rattle.std.specs.Prelude.{◌≡◌, ◌≢◌, ⊤, ℕ, ◌≤◌, List, [], length, map, Option, Some, None}
 use Rattle.std.specs.List.{All, AllZip}
 use Rattle.grain_base.specs.CapBits.{FUNCTION}
 use Rattle.grain_base.specs.declared.caps.Caps.{Caps}
@@ -10,8 +10,9 @@ use Rattle.grain_code.specs.declared.op.Op.{Op}
 use Rattle.grain_code.specs.declared.function.Function.{Function}
 use Rattle.grain_rules.specs.Capabilities.{Allows}
 use Rattle.grain_rules.specs.Rows.{caps_of}
-use Rattle.grain_rules.specs.Code.{Bytecode, bytecode, coded}
+use Rattle.grain_rules.specs.Code.{Bytecode, bytecode_beside, coded, switch_targets}
 use Rattle.grain_rules.specs.ConstCaps.{const_caps}
+use Rattle.grain_rules.specs.Facts.{Facts, facts_of}
 use Rattle.grain_rules.specs.Indices.{Indexed}
 use Rattle.grain_rules.specs.Layout.{IsStart, IsBoundary}
 use Rattle.grain_rules.specs.Setting.{Setting}
@@ -26,8 +27,12 @@ pub record Input : Type 0 where
   pub functions : List Function
   pub chunks : List Span
 
+-- beside pools of which this is said, with where their switches may lead
+abbrev pub input_beside : ℕ → List Dynamic → List ℕ → List Function → List Span → Facts → List (List ℕ) → Input
+input_beside caps consts bytes functions chunks facts leads = record { code = bytecode_beside caps facts leads bytes; consts = consts; functions = functions; chunks = chunks }
+
 abbrev pub input : Caps → List Dynamic → List ℕ → List Function → List Span → Pools → Input
-input caps consts bytes functions chunks pools = record { code = bytecode caps pools bytes; consts = consts; functions = functions; chunks = chunks }
+input caps consts bytes functions chunks pools = input_beside caps.0 consts bytes functions chunks (facts_of pools) (map switch_targets pools.switches.now)
 
 -- the capabilities of a constant, if it has any to name, are there
 abbrev pub AllowsConst : ℕ → Option ℕ → Type 0

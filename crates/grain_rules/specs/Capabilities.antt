@@ -1,17 +1,13 @@
 -- What an operation asks of the host.
-use Rattle.std.specs.Prelude.{ℕ, ◌≡◌, List, [], ◌∷◌, map, get_or, Option, Some, None}
+use Rattle.std.specs.Prelude.{ℕ, ◌≡◌, List, [], ◌∷◌, map, Option, Some, None}
 use Rattle.std.specs.Int.RustNames.{bit_or}
-use Rattle.grain_base.specs.CapBits.{missing, ARRAY, MAP, FN_PTR, CURRYING, SHARING, THIS, INDEXING, PROPERTY, METHOD, MODULE, EXPORT, IMPORT, CUSTOM_SYNTAX}
+use Rattle.grain_base.specs.CapBits.{missing, THIS, INDEXING, PROPERTY, METHOD, MODULE}
 use Rattle.grain_bytecode.specs.Qualified.{split_qualified}
-use Rattle.grain_code.specs.declared.op.Op.{Op}
-use Rattle.grain_code.specs.declared.op.Op.TheVariants as ops
-use Rattle.grain_code.specs.declared.op.Receiver.TheVariants as receiver
 use Rattle.grain_pools.specs.declared.chain.Chain.{Chain}
 use Rattle.grain_pools.specs.declared.chain.Root.{Root}
 use Rattle.grain_pools.specs.declared.chain.Root.TheVariants as roots
 use Rattle.grain_pools.specs.declared.chain.Step.{Step}
 use Rattle.grain_pools.specs.declared.chain.Step.TheVariants as steps
-use Rattle.grain_rules.specs.Setting.{Setting}
 
 -- all that is asked is there
 abbrev pub Allows : ℕ → ℕ → Type 0
@@ -43,7 +39,3 @@ step_caps (steps.Method name argc operand flags pos) = METHOD
 
 abbrev pub chain_caps : Chain → ℕ
 chain_caps c = joined (root_caps c.root) (map step_caps c.steps.items)
-
--- of the name at an index; past the names nothing is asked
-abbrev pub module_of : Setting → ℕ → ℕ
-module_of s n = get_or (map name_caps s.names) n 0

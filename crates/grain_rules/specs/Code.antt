@@ -4,7 +4,8 @@ use Rattle.grain_base.specs.declared.caps.Caps.{Caps}
 use Rattle.grain_pools.specs.Dispatch.{arms, arm_targets}
 use Rattle.grain_pools.specs.declared.switch.Switch.{Switch}
 use Rattle.grain_rules.specs.Layout.{Layout, Coded}
-use Rattle.grain_rules.specs.Setting.{Setting, pools_with}
+use Rattle.grain_rules.specs.Facts.{Facts, facts_of}
+use Rattle.grain_rules.specs.Setting.{Setting, with_caps}
 use Rattle.grain_rules.specs.declared.pools.Pools.{Pools}
 
 -- operations where they stand, and what they are judged against
@@ -25,5 +26,9 @@ coded b = record { setting = b.setting; layout = Coded b.bytes b.switches }
 abbrev pub switch_targets : Switch → List ℕ
 switch_targets s = arm_targets (arms s)
 
+-- code beside pools of which this is said, with where their switches may lead
+abbrev pub bytecode_beside : ℕ → Facts → List (List ℕ) → List ℕ → Bytecode
+bytecode_beside caps facts leads bytes = record { setting = with_caps caps facts; bytes = bytes; switches = leads }
+
 abbrev pub bytecode : Caps → Pools → List ℕ → Bytecode
-bytecode caps pools bytes = record { setting = pools_with caps.0 pools; bytes = bytes; switches = map switch_targets pools.switches.now }
+bytecode caps pools bytes = bytecode_beside caps.0 (facts_of pools) (map switch_targets pools.switches.now) bytes

@@ -1,10 +1,9 @@
 -- What an operation does, as a value of the code has it.
-use Rattle.std.specs.Prelude.{ℕ, get_or, map}
+use Rattle.std.specs.Prelude.{ℕ}
 use Rattle.std.specs.Int.RustNames.{bit_or}
 use Rattle.grain_base.specs.CapBits.{THIS}
-use Rattle.grain_rules.specs.Capabilities.{chain_caps, module_of}
 use Rattle.grain_rules.specs.Flow as flows
-use Rattle.grain_rules.specs.Setting.{Setting}
+use Rattle.grain_rules.specs.Setting.{Setting, chain_asks, module_of}
 use Rattle.grain_rules.specs.declared.asks.Asks.{Asks}
 use Rattle.grain_rules.specs.declared.asks.Asks.TheVariants as asks
 use Rattle.grain_rules.specs.declared.effect.Effect.{Effect}
@@ -30,7 +29,7 @@ asked_in s asks.Nothing = 0
 asked_in s (asks.These caps) = caps.0
 asked_in s (asks.Name n) = module_of s n
 asked_in s (asks.NameOnThis n) = bit_or THIS (module_of s n)
-asked_in s (asks.Chain h) = get_or (map chain_caps s.chains) h 0
+asked_in s (asks.Chain h) = chain_asks s h
 
 -- how many operands it needs, takes and gives
 abbrev pub operand_numbers : Effect → ℕ × ℕ × ℕ

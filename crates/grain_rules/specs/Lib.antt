@@ -1,10 +1,11 @@
 pub mod Counts
+pub mod Capabilities
+pub mod Facts
 pub mod Setting
 pub mod Layout
 pub mod Code
 pub mod Flow
 pub mod FlowFields
-pub mod Capabilities
 pub mod Rows
 pub mod EffectView
 pub mod ConstCaps

@@ -1,14 +1,12 @@
 -- What each operation does: a row for each, in the order of the instruction table of docs/FORMAT.md.
-use Rattle.std.specs.Prelude.{ℕ, ◌+◌, ◌-◌, ◌*◌, Bool, true, false, map, get_or}
+use Rattle.std.specs.Prelude.{ℕ, ◌+◌, ◌-◌, ◌*◌, Bool, true, false}
 use Rattle.std.specs.Int.RustNames.{bit_or}
 use Rattle.grain_base.specs.CapBits.{ARRAY, MAP, FN_PTR, CURRYING, SHARING, THIS, EXPORT, IMPORT, CUSTOM_SYNTAX}
-use Rattle.grain_pools.specs.Chain.{consumed}
 use Rattle.grain_code.specs.declared.op.Op.{Op}
 use Rattle.grain_code.specs.declared.op.Op.TheVariants as ops
 use Rattle.grain_code.specs.declared.op.Receiver.TheVariants as receiver
-use Rattle.grain_rules.specs.Capabilities.{chain_caps, module_of}
 use Rattle.grain_rules.specs.Flow.{Flow, Falls, Ends, Jumps, Branches, Switches, BeginsIterator, AdvancesIterator, EndsIterator, PushesHandler, PopsHandler}
-use Rattle.grain_rules.specs.Setting.{Setting, unset}
+use Rattle.grain_rules.specs.Setting.{Setting, chain_asks, chain_takes, module_of, unset}
 
 -- How many operands there have to be, how many are taken and how many are given; what is asked of the host; how the operation is
 -- left; and whether it is quiet, so that it alone may find or leave less than stood when the last handler was armed.
@@ -40,7 +38,7 @@ row s (ops.UnwindTo depth) = does 0 0 0 0 Falls true
 row s ops.Tick = does 0 0 0 0 Falls false
 row s ops.Return = does 0 0 0 0 Ends true
 row s (ops.EvalAst f rewind) = does 0 0 1 0 Falls false
-row s (ops.Chain h) = let k = get_or (map consumed s.chains) h 0 in does k k 1 (get_or (map chain_caps s.chains) h 0) Falls false
+row s (ops.Chain h) = does (chain_takes s h) (chain_takes s h) 1 (chain_asks s h) Falls false
 row s (ops.MakeArray n) = does n n 1 ARRAY Falls false
 row s (ops.Switch w) = does 1 0 0 0 (Switches w) false
 row s (ops.LoadNamed n) = does 0 0 1 (module_of s n) Falls false

@@ -5,9 +5,10 @@ ghost use Rattle.grain_rules.specs.EffectView.{asked_in};
 ghost use Rattle.grain_rules.specs.Setting.{pools_with};
 
 use crate::pools::Pools;
+use crate::read::Read;
 use grain_base::{Caps, Flags};
 use grain_bytecode::names::split_qualified;
-use grain_bytecode::{Chain, Root, Step, Strings};
+use grain_bytecode::{Chain, Root, Step};
 
 /// What an operation asks of the host. What a name or a chain asks is told by the pools that it stands in.
 #[derive(Clone, Copy, Debug, PartialEq, Eq)]
@@ -75,26 +76,8 @@ pub fn asked_beside(pools: &Pools<'_>, asks: Asks) -> Caps
     match asks {
         Asks::Nothing => Caps::empty(),
         Asks::These(caps) => caps,
-        Asks::Name(name) => asked_by_name(pools.names, name),
-        Asks::NameOnThis(name) => Caps::THIS.union(asked_by_name(pools.names, name)),
-        Asks::Chain(chain) => asked_by_chain(pools.chains, chain),
-    }
-}
-
-fn asked_by_name(names: &Strings, index: u32) -> Caps
-    ensures { result.0 ≡ get_or (map name_caps names.now) index 0 }
-{
-    match names.get(index) {
-        Some(name) => name_caps(name),
-        None => Caps::empty(),
-    }
-}
-
-fn asked_by_chain(chains: &[Chain], index: u32) -> Caps
-    ensures { result.0 ≡ get_or (map chain_caps chains.now) index 0 }
-{
-    match chains.get(index as usize) {
-        Some(chain) => chain_caps(chain),
-        None => Caps::empty(),
+        Asks::Name(name) => pools.name_asks(name),
+        Asks::NameOnThis(name) => Caps::THIS.union(pools.name_asks(name)),
+        Asks::Chain(chain) => pools.chain_asks(chain),
     }
 }

@@ -1,6 +1,5 @@
 //! What operations need of the stacks and leave on them, what they ask of the host, and how they are left.
-ghost use Rattle.std.specs.Prelude.{◌≡◌, ◌+◌, ◌<◌, ◌≤◌, ◌^◌, false, get_or, map, true};
-ghost use Rattle.grain_pools.specs.Chain.{consumed};
+ghost use Rattle.std.specs.Prelude.{◌≡◌, ◌+◌, ◌<◌, ◌≤◌, ◌^◌, false, true};
 ghost use Rattle.grain_rules.specs.EffectView.{asked_in, flow_view, operand_numbers};
 ghost use Rattle.grain_rules.specs.Rows.{caps_of, flow_of, gives, is_quiet, needs, takes};
 ghost use Rattle.grain_rules.specs.Setting.{Setting};
@@ -8,8 +7,9 @@ ghost use Rattle.grain_rules.specs.declared.asks.Asks.TheVariants.{Nothing};
 
 use crate::asks::Asks;
 use crate::flow::Flow;
+use crate::read::Read;
 use grain_base::{Caps, Flags};
-use grain_bytecode::{Chain, Op, Receiver};
+use grain_bytecode::{Op, Receiver};
 
 /// What an operation does: its row of the instruction table (docs/FORMAT.md, "Instructions").
 #[derive(Clone, Copy, Debug, PartialEq, Eq)]
@@ -30,11 +30,11 @@ pub struct Effect {
 }
 
 impl Effect {
-    /// What an operation does, with these chains in the pool; a chain that isn't there takes nothing.
+    /// What an operation does beside these pools; a chain that isn't there takes nothing.
     #[inline(always)]
     #[must_use]
-    pub fn of(op: &Op, chains: &[Chain]) -> Effect
-        ensures operands { (s : Setting) → s.chains ≡ chains.now
+    pub fn of<P: Read>(op: &Op, pools: &P) -> Effect
+        ensures operands { (s : Setting) → s.facts ≡ P.facts pools.now
             → operand_numbers result ≡ (needs s op.now, takes s op.now, gives s op.now) }
         ensures there { result.takes ≤ result.needs }
         ensures by_one { result.gives ≤ result.takes + 1 }
@@ -97,9 +97,9 @@ impl Effect {
                 receiver: Receiver::Named(_),
                 ..
             } => Effect::taking(u32::from(argc), 1).asking(Asks::Name(name)),
-            Op::Chain(index) => {
-                Effect::taking(consumed_at(chains, index), 1).asking(Asks::Chain(index))
-            }
+            Op::Chain(index) => Effect::taking(pools.chain_takes(index), 1).asking(Asks::Chain(
+                index,
+            )),
             Op::MakeArray(len) => {
                 Effect::taking(u32::from(len), 1).asking(Asks::These(Caps::ARRAY))
             }
@@ -211,15 +211,5 @@ impl Effect {
             quiet: true,
             ..self
         }
-    }
-}
-
-/// How many operands the chain at an index takes; none where there is no chain.
-fn consumed_at(chains: &[Chain], index: u32) -> u32
-    ensures { result ≡ get_or (map consumed chains.now) index 0 }
-{
-    match chains.get(index as usize) {
-        Some(chain) => chain.consumes() as u32,
-        None => 0,
     }
 }

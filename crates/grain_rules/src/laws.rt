@@ -1,7 +1,7 @@
 //! Laws of the definitions that contracts cite.
 //!
 //! Each function does nothing: its contract is the law.
-ghost use Rattle.std.specs.Prelude.{◌≡◌, ◌<◌, ◌≤◌, ◌↔◌, ◌⊎◌, ℕ, List, [], Option, Some, get_or, length, option_map};
+ghost use Rattle.std.specs.Prelude.{◌≡◌, ◌<◌, ◌≤◌, ◌↔◌, ◌⊎◌, ℕ, List, [], Option, Some, get_or, length, map, option_map};
 ghost use Rattle.std.specs.Prelude.{slice_get, slice_index};
 ghost use Rattle.std.specs.List.{Contains};
 ghost use Rattle.grain_base.specs.Content.{Content};
@@ -20,6 +20,7 @@ ghost use Rattle.grain_rules.specs.ByIndex.{IsCut, LeadWithin, code_by_index, sp
 ghost use Rattle.grain_rules.specs.Counts.{Counts};
 ghost use Rattle.grain_rules.specs.Effects.{Edge, after_jump};
 ghost use Rattle.grain_rules.specs.Depths.{IsDepthTyping, depths_of};
+ghost use Rattle.grain_rules.specs.Facts.{chain_facts};
 ghost use Rattle.grain_rules.specs.Indices.{Indexed, IsWithinPools};
 ghost use Rattle.grain_rules.specs.Machine.{Catches, Finds, IsKept, IsKeptRun, IsOnKeptRun};
 ghost use Rattle.grain_rules.specs.Machine.{IsRunKeptAtQuiet, Machine, Moves, MovesKeptAtQuiet, counts};
@@ -118,7 +119,8 @@ pub fn steps_stay_within_operands()
     ensures { (input : Input) → IsAccepted input
         → (all : List Op) → AreInstructions input.code.bytes all
         → (x : ℕ) → Contains all (ops.Chain x)
-        → (chain : Chain) → slice_get input.code.setting.chains x ≡ Some chain
+        → (chains : List Chain) → input.code.setting.facts.chains ≡ map chain_facts chains
+        → (chain : Chain) → slice_get chains x ≡ Some chain
         → (step : Step) → Contains chain.steps.items step
         → (place : ℕ) → TakesOperand step place → place < chain.operands }
 {}

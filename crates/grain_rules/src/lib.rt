@@ -6,6 +6,7 @@
 #![tactic(auto)]
 
 mod asks;
+mod bounds;
 mod capabilities;
 mod constants;
 mod effect;
@@ -15,10 +16,13 @@ mod functions;
 mod indices;
 pub mod laws;
 mod passed;
+mod pool_reads;
 mod pools;
+mod read;
 mod unindexed;
 
 pub use asks::{Asks, asked_beside, chain_caps, name_caps};
+pub use bounds::{BadIndex, Bound, check_among, check_below};
 pub use capabilities::{allows, missing};
 pub use constants::{check_constants, constant_caps};
 pub use effect::Effect;
@@ -26,4 +30,6 @@ pub use error::VerifyError;
 pub use flow::Flow;
 pub use functions::check_functions;
 pub use indices::check_code;
+pub use pool_reads::{NoPools, SwitchTargets};
 pub use pools::Pools;
+pub use read::{Read, Targets};

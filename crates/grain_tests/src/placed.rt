@@ -1,5 +1,7 @@
 use crate::samples::{assert_same, made, pools};
-use grain::{Caps, Chunk, Flags, Meter, Refusal, Strings, VerifyError, verify_placed};
+use grain::{
+    Caps, Chunk, Flags, Meter, NoPools, Refusal, Strings, VerifyError, verify_placed, verify_read,
+};
 use std::alloc::Global;
 use std::test::Fail;
 
@@ -27,4 +29,37 @@ fn a_refusal_has_the_place_of_its_chunk(rt: HostRuntime) {
     let chunks = [Chunk::new(0, 2, 8), Chunk::new(2, 4, 8)];
     assert_same(&rt, made(&rt, said(rt.alloc(), &chunks)), Err(refusal));
     assert_same(&rt, made(&rt, said(rt.alloc(), &chunks[..1])), Ok(Some(1)));
+}
+
+/// What is said beside no pools of code with a chunk from its start to here.
+fn said_beside_none(alloc: Global, code: &[u8], end: u32) -> Result<Option<u16>, Refusal> {
+    let chunks = [Chunk::new(0, end, 8)];
+    let mut meter = Meter::new();
+    let caps = Caps::all();
+    match verify_read(alloc, caps, &[], code, &[], &chunks, &NoPools, &mut meter) {
+        Ok(numbers) => Ok(numbers.last().copied()),
+        Err(refusal) => Err(refusal),
+    }
+}
+
+#[test]
+fn code_is_verified_beside_no_pools(rt: HostRuntime) {
+    let refusal = Refusal {
+        place: None,
+        error: VerifyError::BadIndex {
+            at: 0,
+            what: "constant",
+            index: 0,
+        },
+    };
+    assert_same(
+        &rt,
+        said_beside_none(rt.alloc(), &CODE[..2], 2),
+        Ok(Some(1)),
+    );
+    assert_same(
+        &rt,
+        said_beside_none(rt.alloc(), &[1, 0, 0, 0x13], 4),
+        Err(refusal),
+    );
 }

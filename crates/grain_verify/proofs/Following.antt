@@ -1,5 +1,5 @@
 -- How the flow of an instruction is followed, or refused.
-use Rattle.std.proofs.Common.{◌≡◌, ◌⊎◌, inl, inr, ℕ, ◌<◌, ◌≤◌, List, [], ◌∷◌, ◌++◌, map, Option, refl, sym, ap, subst, ◌∙◌, arith}
+use Rattle.std.proofs.Common.{◌≡◌, ◌⊎◌, inl, inr, ℕ, ◌<◌, ◌≤◌, List, [], ◌∷◌, ◌++◌, length, map, zero, suc, Option, refl, sym, ap, subst, ◌∙◌, arith}
 use Rattle.std.specs.List.{All}
 use Rattle.std.proofs.lemmas.List.{append-nil}
 use Rattle.std.proofs.lemmas.List.Elements.{All-nil}
@@ -68,3 +68,8 @@ module _ (starts : List ℕ) (chunk : Span) (switches : List (List ℕ)) (left :
   followed_to pushed on_way s one after pushes all =
       let p = subst (λ (ts : List ℕ). Pushes starts chunk (jumped (flow is target) left list here.state) ts work pushed) (sym one) (subst (λ (a : State). Pushes starts chunk a (target ∷ []) work pushed) after pushes) in
       followed sent pushed on_way (inl (record { starts_in = p.starts_in; added = p.added; noted = inl refl })) p.placed all
+
+-- a list with a number has a base
+pub some_list : (lists : Lists) (n : ℕ) → 0 < n → 1 ≤ length (list_of lists n)
+some_list lists zero l = absurd (omega arith)
+some_list lists (suc k) l = omega arith

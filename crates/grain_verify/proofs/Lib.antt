@@ -4,6 +4,7 @@ pub mod Flows
 pub mod Following
 pub mod Growth
 pub mod Heads
+pub mod Knowing
 pub mod Leading
 pub mod Metering
 pub mod Most

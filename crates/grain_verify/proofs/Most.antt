@@ -9,16 +9,15 @@ use Rattle.std.specs.Option.{is_some}
 use Rattle.std.specs.declared.alloc.Global.{Global}
 use Rattle.grain_code.specs.Span.{Span}
 use Rattle.grain_verify.specs.Arrivals.{Sends, Underway, all_underway, underway}
+use Rattle.grain_verify.specs.Walk.{Walked}
 use Rattle.grain_rules.specs.Flow.{Flow, Switches}
 use Rattle.grain_rules.specs.FlowFields.{falls_for, targets_for}
 use Rattle.grain_verify.specs.FlowView.{IsFollowed, fallen, jumped, next_to}
 use Rattle.grain_verify.specs.Progress.{all_targets, visits_in, weight}
 use Rattle.grain_verify.specs.Visits.{IsVisited}
-use Rattle.grain_verify.specs.Walk.{bytecode_of}
 use Rattle.grain_verify.specs.declared.lists.Lists.{Lists}
 use Rattle.grain_verify.specs.declared.state.Arrival.{Arrival}
 use Rattle.grain_verify.specs.declared.state.State.{State}
-use Rattle.grain_verify.specs.declared.walk.Prepared.{Prepared}
 use Rattle.grain_verify.specs.declared.walk.Traversal.{Traversal}
 
 few_by : (switches : List (List ℕ)) (f : Flow) → length (targets_for switches f) ≤ all_targets switches + 1
@@ -65,10 +64,10 @@ outweighs most before later news olds l few =
     omega (arith, few, less)
 
 -- where more was visited, and no more was sent than one instruction sends, less may still come
-pub lighter_on : (p : Prepared) (t new : Traversal) (news olds : ℕ) → length new.states ≡ length t.states → visits_in t.states < visits_in new.states
-    → visits_in new.states ≤ length new.states → news ≤ olds + (all_targets (bytecode_of p).switches + 2) → weight p new news < weight p t olds
+pub lighter_on : (p : Walked) (t new : Traversal) (news olds : ℕ) → length new.states ≡ length t.states → visits_in t.states < visits_in new.states
+    → visits_in new.states ≤ length new.states → news ≤ olds + (all_targets p.code.switches + 2) → weight p new news < weight p t olds
 lighter_on p t new news olds long further most few =
-    outweighs (all_targets (bytecode_of p).switches + 2) (length t.states - visits_in t.states) (length new.states - visits_in new.states) news olds (omega (arith, long, further, most)) few
+    outweighs (all_targets p.code.switches + 2) (length t.states - visits_in t.states) (length new.states - visits_in new.states) news olds (omega (arith, long, further, most)) few
 
 -- once an instruction is marked, fewer are left that weren't visited
 pub fewer_left : (old marked new : List (Option State)) → visits_in marked ≡ visits_in old + 1 → length marked ≡ length old → new ≡ marked
@@ -79,8 +78,8 @@ fewer_left old marked new more long same =
     subst (λ (xs : List (Option State)). length xs - visits_in xs < length old - visits_in old) (sym same) left
 
 -- once an instruction is marked and what it leads to is on its way, less may still come than before
-pub lighter_still : (p : Prepared) (t marked new : Traversal) (n first : ℕ) → visits_in marked.states ≡ visits_in t.states + 1 → length marked.states ≡ length t.states
-    → marked.work ≡ t.work → new.states ≡ marked.states → n ≤ length marked.work.items + (all_targets (bytecode_of p).switches + 2) → weight p t (length t.work.items + 1) ≤ first
+pub lighter_still : (p : Walked) (t marked new : Traversal) (n first : ℕ) → visits_in marked.states ≡ visits_in t.states + 1 → length marked.states ≡ length t.states
+    → marked.work ≡ t.work → new.states ≡ marked.states → n ≤ length marked.work.items + (all_targets p.code.switches + 2) → weight p t (length t.work.items + 1) ≤ first
     → weight p new n < first
 lighter_still p t marked new n first more long work states few lighter =
     let seen : visits_in new.states ≡ visits_in marked.states = ap visits_in states in
@@ -90,7 +89,7 @@ lighter_still p t marked new n first more long work states few lighter =
     omega (arith, less, lighter)
 
 -- so it is where the instruction was visited
-pub lighter_visited : (p : Prepared) (chunk : Span) (lists new_lists : Lists) (t marked new : Traversal) (here next : Arrival) (first : ℕ)
+pub lighter_visited : (p : Walked) (chunk : Span) (lists new_lists : Lists) (t marked new : Traversal) (here next : Arrival) (first : ℕ)
     → visits_in marked.states ≡ visits_in t.states + 1 → length marked.states ≡ length t.states → marked.work ≡ t.work
     → IsVisited p chunk lists new_lists marked new here (next ∷ []) → weight p t (length t.work.items + 1) ≤ first → weight p new (length new.work.items + 1) ≤ first
 lighter_visited p chunk lists new_lists t marked new here next first more long work visited lighter =
@@ -99,7 +98,7 @@ lighter_visited p chunk lists new_lists t marked new here next first more long w
     omega (arith, less)
 
 -- what is known of what comes next, where it is this arrival
-pub next_visited : (p : Prepared) (chunk : Span) (old new : Lists) (before after : Traversal) (here a : Arrival) (o : Option Arrival)
+pub next_visited : (p : Walked) (chunk : Span) (old new : Lists) (before after : Traversal) (here a : Arrival) (o : Option Arrival)
     → o ≡ Some a → IsVisited p chunk old new before after here (option_to_list o) → IsVisited p chunk old new before after here (a ∷ [])
 next_visited p chunk old new before after here a o is visited =
     subst (λ (x : Option Arrival). IsVisited p chunk old new before after here (option_to_list x)) is visited

@@ -1,18 +1,13 @@
 -- Pushing one state to many targets.
-use Rattle.std.proofs.Common.{◌≡◌, ℕ, ◌+◌, ◌<◌, inl, inr, List, [], ◌∷◌, ◌++◌, length, get_or, map, drop, drop-cons, add-one, sym, ap, subst, ◌∙◌, append_assoc}
+use Rattle.std.proofs.Common.{◌≡◌, ℕ, inl, inr, List, [], ◌∷◌, ◌++◌, map, sym, ap, subst, ◌∙◌, append_assoc}
 use Rattle.std.specs.List.{Contains}
 use Rattle.std.proofs.lemmas.List.{append-nil, map-append, map_push}
 use Rattle.std.proofs.lemmas.List.Elements.{All-append, All-cons, All-nil, All-push, Contains-append_left, Contains-append_right}
 use Rattle.grain_code.specs.Span.{Span}
-use Rattle.grain_pools.specs.Dispatch.{arms, listed}
-use Rattle.grain_pools.specs.declared.switch.Switch.{Switch}
-use Rattle.grain_pools.specs.declared.switch.SwitchRange.{SwitchRange}
-use Rattle.grain_rules.specs.Code.{switch_targets}
-use Rattle.grain_verify.specs.Arrivals.{IsAtOrdinal, IsStartIn, Pushes, RefusesTargetOf, Underway, all_underway, case_targets, range_targets, underway}
+use Rattle.grain_verify.specs.Arrivals.{IsAtOrdinal, IsStartIn, Pushes, RefusesTargetOf, Underway, all_underway, underway}
 use Rattle.grain_rules.specs.declared.error.VerifyError.{VerifyError}
 use Rattle.grain_verify.specs.declared.state.Arrival.{Arrival}
 use Rattle.grain_verify.specs.declared.state.State.{State}
-use Rattle.grain_rules.proofs.Splits.{in_head}
 
 -- an arrival pushed
 pub pushed_one : (starts : List ℕ) (chunk : Span) (work : List Arrival) (a : Arrival) (t : ℕ) (s : State)
@@ -60,10 +55,3 @@ next_refused starts chunk s at all left ts x old work e is so_far (inl m) = inl 
 next_refused starts chunk s at all left ts x old work e is so_far (inr r) =
     let in_order = ap (λ (ys : List ℕ). so_far.done ++ ys) (sym is) ∙ so_far.in_order in
     inr (r.0, subst (λ (ys : List ℕ). Contains ys r.0) in_order (Contains-append_right so_far.done (x ∷ ts) r.0 (Contains-append_left (x ∷ []) ts r.0 r.1)), r.2)
-
-pub ranges_left : (rs : List SwitchRange) (i : ℕ) (d : SwitchRange) → i < length rs → range_targets (drop i rs) ≡ (get_or rs i d).target ∷ range_targets (drop (i + 1) rs)
-ranges_left rs i d l = ap range_targets (drop-cons rs i d l) ∙ ap (λ n. (get_or rs i d).target ∷ range_targets (drop n rs)) (sym (add-one i))
-
--- where a switch goes by default is one of its targets
-pub default_named : (s : Switch) → Contains (switch_targets s) s.default
-default_named s = Contains-append_right (case_targets (listed (arms s).cases) ++ range_targets s.ranges.items) (s.default ∷ []) s.default (in_head s.default [])

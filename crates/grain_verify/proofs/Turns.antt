@@ -25,13 +25,12 @@ use Rattle.grain_verify.specs.Lists.{Grows, list_of, list_count}
 use Rattle.grain_verify.specs.Progress.{HaltsAt, IsWalking, KnowsLists, NameLists, NamesList, Walking, visits_in}
 use Rattle.grain_rules.specs.Sinking.{Stays}
 use Rattle.grain_rules.specs.Typing.{IsInChunk, Passes, onward}
-use Rattle.grain_verify.specs.Walk.{IsReady, bytecode_of}
+use Rattle.grain_verify.specs.Walk.{IsReady, Walked}
 use Rattle.grain_rules.specs.declared.error.VerifyError.{VerifyError}
 use Rattle.grain_rules.specs.declared.error.VerifyError.TheVariants as errors
 use Rattle.grain_verify.specs.declared.lists.Lists.{Lists}
 use Rattle.grain_verify.specs.declared.state.Arrival.{Arrival}
 use Rattle.grain_verify.specs.declared.state.State.{State}
-use Rattle.grain_verify.specs.declared.walk.Prepared.{Prepared}
 use Rattle.grain_verify.specs.declared.walk.Traversal.{Traversal}
 use Rattle.grain_rules.proofs.Splits.{in_nil}
 use Rattle.grain_verify.proofs.Flows.{left_is, passes_known}
@@ -45,10 +44,10 @@ use Rattle.grain_verify.proofs.Taking.{left_named, left_placed, taken_inside, ta
 use Rattle.grain_verify.proofs.Walking.{JumpsTo, pending_reached, sent_before, walking_visit}
 
 -- the edges of an instruction at which the walk halts are followed, where lists may since have come to those that there were
-module _ (p : Prepared) (chunk : Span) (t new : Traversal) (here : Arrival) (deepest : ℕ) (op : Op) (pushed falls_on : List Arrival) (ready : IsReady p)
-    (framed : IsFramed (bytecode_of p) chunk) (old lists : Lists) (grows : Grows old lists) (h : HaltsAt p chunk old t here deepest)
-    (passes : Passes (coded (bytecode_of p)) chunk here.at (view lists here.state) op) (falls : map (coming lists) falls_on ≡ falling (bytecode_of p) op here.at (view lists here.state))
-    (states : new.states ≡ t.states) (long : length new.sent ≡ length t.sent) (placed : All (IsAtOrdinal p.starts.starts chunk) (pushed ++ falls_on))
+module _ (p : Walked) (chunk : Span) (t new : Traversal) (here : Arrival) (deepest : ℕ) (op : Op) (pushed falls_on : List Arrival) (ready : IsReady p)
+    (framed : IsFramed p.code chunk) (old lists : Lists) (grows : Grows old lists) (h : HaltsAt p chunk old t here deepest)
+    (passes : Passes (coded p.code) chunk here.at (view lists here.state) op) (falls : map (coming lists) falls_on ≡ falling p.code op here.at (view lists here.state))
+    (states : new.states ≡ t.states) (long : length new.sent ≡ length t.sent) (placed : All (IsAtOrdinal p.starts chunk) (pushed ++ falls_on))
     (sent_named : NameLists lists new.sent) (named : All (λ (a : Arrival). NamesList lists a.state) (pushed ++ falls_on)) where
   marked : new.states ≡ set h.before here.ordinal (Some here.state)
   marked = states ∙ h.marked
@@ -69,19 +68,19 @@ module _ (p : Prepared) (chunk : Span) (t new : Traversal) (here : Arrival) (dee
         );
   }
 
-  walking : Walking (bytecode_of p) chunk p.starts.starts lists h.before (sent_by lists t.sent) (map (coming lists) t.work.items ++ coming lists here ∷ []) h.earlier
+  walking : Walking p.code chunk p.starts lists h.before (sent_by lists t.sent) (map (coming lists) t.work.items ++ coming lists here ∷ []) h.earlier
   walking =
-      subst (λ (xs : List Coming). Walking (bytecode_of p) chunk p.starts.starts lists h.before (sent_by lists t.sent) xs h.earlier) (map_push (coming lists) t.work.items here)
-      (walking_kept old lists grows (bytecode_of p) chunk p.starts.starts h.before t.sent (t.work.items ++ here ∷ []) h.earlier h.is.known.states h.is.known.sent h.is.known.waiting h.is.walking)
+      subst (λ (xs : List Coming). Walking p.code chunk p.starts lists h.before (sent_by lists t.sent) xs h.earlier) (map_push (coming lists) t.work.items here)
+      (walking_kept old lists grows p.code chunk p.starts h.before t.sent (t.work.items ++ here ∷ []) h.earlier h.is.known.states h.is.known.sent h.is.known.waiting h.is.walking)
 
-  followed : (jumped : List Coming) → ((x : ℕ) → Contains (targets (bytecode_of p).switches op) x → IsInChunk (coded (bytecode_of p)) chunk x)
-      → JumpsTo (bytecode_of p) op (view lists here.state) (sent_by lists t.sent) (sent_by lists new.sent) (Pending walking.marked (map (coming lists) t.work.items ++ coming lists here ∷ [])) jumped
+  followed : (jumped : List Coming) → ((x : ℕ) → Contains (targets p.code.switches op) x → IsInChunk (coded p.code) chunk x)
+      → JumpsTo p.code op (view lists here.state) (sent_by lists t.sent) (sent_by lists new.sent) (Pending walking.marked (map (coming lists) t.work.items ++ coming lists here ∷ [])) jumped
       → map (coming lists) pushed ≡ map (coming lists) t.work.items ++ jumped → IsWalking p chunk lists new (pushed ++ falls_on) deepest
   followed jumped inside jumps added =
-      let code = bytecode_of p in
+      let code = p.code in
       let work = map (coming lists) t.work.items in
       let come = falling code op here.at (view lists here.state) in
-      let walk : List (Option State) → List Coming → ℕ → Type 0 = λ s xs n. Walking code chunk p.starts.starts lists s (sent_by lists new.sent) xs n in
+      let walk : List (Option State) → List Coming → ℕ → Type 0 = λ s xs n. Walking code chunk p.starts lists s (sent_by lists new.sent) xs n in
       let before = set h.before here.ordinal (Some here.state) in
       let w = walking_visit work here walking ready.starts h.is.fits.states (taken_place _ _ h.is h.within) h.fresh (record { passes = passes; inside = inside }) jumps in
       let whole : map (coming lists) (pushed ++ falls_on) ≡ work ++ (jumped ++ come) =
@@ -99,15 +98,15 @@ module _ (p : Prepared) (chunk : Span) (t new : Traversal) (here : Arrival) (dee
             (subst (λ (xs : List Coming). walk before xs (max h.earlier here.state.operands)) (sym whole) w));
       }
 
-  pub turned : (after : State) → view lists after ≡ after_jump (bytecode_of p).setting op (view lists here.state)
-      → Sends p.starts.starts chunk (bytecode_of p).switches (flow_of op) after t.sent new.sent (map underway t.work.items) (map underway pushed)
+  pub turned : (after : State) → view lists after ≡ after_jump p.code.setting op (view lists here.state)
+      → Sends p.starts chunk p.code.switches (flow_of op) after t.sent new.sent (map underway t.work.items) (map underway pushed)
       → IsWalking p chunk lists new (pushed ++ falls_on) deepest
   turned after is (inl all) =
-      let code = bytecode_of p in
+      let code = p.code in
       let ts = targets code.switches op in
       let d = after_jump code.setting op (view lists here.state) in
       followed (all_to d ts)
-      (λ x k. start_in code p.starts.starts chunk x ready.starts (All-contains (IsStartIn p.starts.starts chunk) ts x all.starts_in k))
+      (λ x k. start_in code p.starts chunk x ready.starts (All-contains (IsStartIn p.starts chunk) ts x all.starts_in k))
       (record {
         sub = λ x k. (jumps_to d ts x).0 k;
         all = λ x j. inl ((jumps_to d ts x).1 j);
@@ -115,7 +114,7 @@ module _ (p : Prepared) (chunk : Span) (t new : Traversal) (here : Arrival) (dee
       })
       (come_all lists t.work.items pushed after ts all.added ∙ ap (λ (c : Counts). map (coming lists) t.work.items ++ all_to c ts) is)
   turned after is (inr none) =
-      let code = bytecode_of p in
+      let code = p.code in
       let d = after_jump code.setting op (view lists here.state) in
       let before = was_sent lists t.sent none.switch after none.before ∙ ap (λ (c : Counts). Some c) is in
       let there = λ (x : ℕ) (k : Contains (targets code.switches op) x). sent_before walking none.switch d before x (subst (λ (f : Flow). Contains (targets_for code.switches f) x) none.is k) in
@@ -129,10 +128,10 @@ module _ (p : Prepared) (chunk : Span) (t new : Traversal) (here : Arrival) (dee
       (come_none lists t.work.items pushed none.added ∙ sym (append-nil (map (coming lists) t.work.items)))
 
 -- what falls through is placed
-pub falls_placed : (p : Prepared) (chunk : Span) (here : Arrival) (op : Op) (s : State) → IsReady p → IsFramed (bytecode_of p) chunk
-    → slice_get p.starts.starts here.ordinal ≡ Some here.at → StandsAt p.code.now here.at op → IsAtOrdinal p.starts.starts chunk (next_to here (width_of op) s)
-falls_placed p chunk here op s ready framed place stands l = elim (next_ordinal p.code.now p.starts.starts ready.starts here.ordinal here.at op place stands) [
-  | inl e ↦ subst (λ k. slice_get p.starts.starts k ≡ Some (here.at + width_of op)) (sym (add-one here.ordinal)) e
+pub falls_placed : (p : Walked) (chunk : Span) (here : Arrival) (op : Op) (s : State) → IsReady p → IsFramed p.code chunk
+    → slice_get p.starts here.ordinal ≡ Some here.at → StandsAt p.code.bytes here.at op → IsAtOrdinal p.starts chunk (next_to here (width_of op) s)
+falls_placed p chunk here op s ready framed place stands l = elim (next_ordinal p.code.bytes p.starts ready.starts here.ordinal here.at op place stands) [
+  | inl e ↦ subst (λ k. slice_get p.starts k ≡ Some (here.at + width_of op)) (sym (add-one here.ordinal)) e
   | inr end ↦ absurd (let f = framed.inside in omega arith)
 ]
 
@@ -148,21 +147,21 @@ one_more P false xs a p all = subst (All P) (sym (append-nil xs)) all
 
 -- An instruction that finds what it asks and needs, and stays above the base of the last handler, is visited, where its flow
 -- is followed.
-module _ (p : Prepared) (chunk : Span) (t new : Traversal) (here : Arrival) (deepest : ℕ) (op : Op) (width : ℕ) (ready : IsReady p) (framed : IsFramed (bytecode_of p) chunk)
-    (old lists : Lists) (grows : Grows old lists) (h : HaltsAt p chunk old t here deepest) (stands : StandsAt p.code.now here.at op) (wide : width ≡ width_of op) where
-  next_placed : (s : State) → IsAtOrdinal p.starts.starts chunk (next_to here width s)
+module _ (p : Walked) (chunk : Span) (t new : Traversal) (here : Arrival) (deepest : ℕ) (op : Op) (width : ℕ) (ready : IsReady p) (framed : IsFramed p.code chunk)
+    (old lists : Lists) (grows : Grows old lists) (h : HaltsAt p chunk old t here deepest) (stands : StandsAt p.code.bytes here.at op) (wide : width ≡ width_of op) where
+  next_placed : (s : State) → IsAtOrdinal p.starts chunk (next_to here width s)
   next_placed s =
-      subst (λ n. IsAtOrdinal p.starts.starts chunk (next_to here n s)) (sym wide)
+      subst (λ n. IsAtOrdinal p.starts chunk (next_to here n s)) (sym wide)
       (falls_placed p chunk here op s ready framed (taken_place _ _ h.is h.within) stands)
 
-  visited_here : (caps needs takes gives list : ℕ) (f : Flow) (pushed : List Arrival) → caps ≡ caps_of (bytecode_of p).setting op
-      → (needs, takes, gives) ≡ stack_effect (bytecode_of p).setting op → f ≡ flow_of op → Allows (bytecode_of p).setting.caps caps → needs ≤ here.state.operands
-      → IsMetBy f (view lists here.state) → Stays (bytecode_of p).setting op (view lists here.state) → list ≤ list_count lists → list_of lists list ≡ bases_for f (view lists here.state)
-      → Sends p.starts.starts chunk (bytecode_of p).switches f (jumped f (here.state.operands - takes + gives) list here.state) t.sent new.sent (map underway t.work.items) (map underway pushed)
-      → new.states ≡ t.states → length new.sent ≡ length t.sent → (All (IsAtOrdinal p.starts.starts chunk) t.work.items → All (IsAtOrdinal p.starts.starts chunk) pushed)
+  visited_here : (caps needs takes gives list : ℕ) (f : Flow) (pushed : List Arrival) → caps ≡ caps_of p.code.setting op
+      → (needs, takes, gives) ≡ stack_effect p.code.setting op → f ≡ flow_of op → Allows p.code.setting.caps caps → needs ≤ here.state.operands
+      → IsMetBy f (view lists here.state) → Stays p.code.setting op (view lists here.state) → list ≤ list_count lists → list_of lists list ≡ bases_for f (view lists here.state)
+      → Sends p.starts chunk p.code.switches f (jumped f (here.state.operands - takes + gives) list here.state) t.sent new.sent (map underway t.work.items) (map underway pushed)
+      → new.states ≡ t.states → length new.sent ≡ length t.sent → (All (IsAtOrdinal p.starts chunk) t.work.items → All (IsAtOrdinal p.starts chunk) pushed)
       → IsWalking p chunk lists new (pushed ++ falls_to f (here.state.operands - takes + gives) list here width) deepest
   visited_here caps needs takes gives list f pushed asked known same allowed there met stays in_lists bases sends states long placed =
-      let code = bytecode_of p in
+      let code = p.code in
       let c = view lists here.state in
       let left = here.state.operands - takes + gives in
       let is : left ≡ operands_after code.setting op here.state.operands = left_is code.setting op needs takes gives here.state.operands known in
@@ -179,34 +178,34 @@ module _ (p : Prepared) (chunk : Span) (t new : Traversal) (here : Arrival) (dee
       coming_next lists (falls_for f) here next_state width (here.at + width_of op) (ap (λ n. here.at + n) wide)
       ∙ (ap (λ (g : Flow). cond (falls_for g) ((here.at + width_of op, view lists next_state) ∷ []) []) same
       ∙ (let P : Counts → List Coming = λ d. cond (falls_for (flow_of op)) ((here.at + width_of op, d) ∷ []) [] in ap P next_is)) in
-      let work_named = sends_named lists p.starts.starts chunk code.switches f sent_state t.sent new.sent t.work.items pushed jump_named
+      let work_named = sends_named lists p.starts chunk code.switches f sent_state t.sent new.sent t.work.items pushed jump_named
       (arrivals_named_more old lists grows t.work.items (left_named _ _ h.is)) sends in
       turned p chunk t new here deepest op pushed (falls_to f left list here width) ready framed old lists grows h passes goes states long
-      (one_more (IsAtOrdinal p.starts.starts chunk) (falls_for f) pushed (next_to here width next_state) (next_placed next_state) (placed (left_placed _ _ h.is)))
-      (switches_named lists p.starts.starts chunk code.switches f sent_state t.sent new.sent t.work.items pushed jump_named (all_named_more old lists grows t.sent h.is.known.sent) sends)
+      (one_more (IsAtOrdinal p.starts chunk) (falls_for f) pushed (next_to here width next_state) (next_placed next_state) (placed (left_placed _ _ h.is)))
+      (switches_named lists p.starts chunk code.switches f sent_state t.sent new.sent t.work.items pushed jump_named (all_named_more old lists grows t.sent h.is.known.sent) sends)
       (one_more (λ (a : Arrival). NamesList lists a.state) (falls_for f) pushed (next_to here width next_state) (fallen_named lists f left list here.state in_lists named) work_named)
       sent_state sent_is
-      (subst (λ (g : Flow). Sends p.starts.starts chunk code.switches g sent_state t.sent new.sent (map underway t.work.items) (map underway pushed)) same sends)
+      (subst (λ (g : Flow). Sends p.starts chunk code.switches g sent_state t.sent new.sent (map underway t.work.items) (map underway pushed)) same sends)
 
   -- the same, where what it finds is told of the lists that there were before
-  pub visited : (caps needs takes gives : ℕ) (f : Flow) (on_way : List Arrival) → caps ≡ caps_of (bytecode_of p).setting op
-      → (needs, takes, gives) ≡ stack_effect (bytecode_of p).setting op → f ≡ flow_of op → Allows (bytecode_of p).setting.caps caps → needs ≤ here.state.operands
-      → IsMetBy f (view old here.state) → Stays (bytecode_of p).setting op (view old here.state)
-      → IsFollowed p.starts.starts chunk (bytecode_of p).switches f (here.state.operands - takes + gives) here width old lists t.sent new.sent t.work.items on_way
+  pub visited : (caps needs takes gives : ℕ) (f : Flow) (on_way : List Arrival) → caps ≡ caps_of p.code.setting op
+      → (needs, takes, gives) ≡ stack_effect p.code.setting op → f ≡ flow_of op → Allows p.code.setting.caps caps → needs ≤ here.state.operands
+      → IsMetBy f (view old here.state) → Stays p.code.setting op (view old here.state)
+      → IsFollowed p.starts chunk p.code.switches f (here.state.operands - takes + gives) here width old lists t.sent new.sent t.work.items on_way
       → new.states ≡ t.states → length new.sent ≡ length t.sent → IsWalking p chunk lists new on_way deepest
   visited caps needs takes gives f on_way asked known same allowed there met stays is states long =
       let kept : view old here.state ≡ view lists here.state = sym (view_kept old lists grows here.state (taken_named _ _ h.is)) in
-      let w = visited_here caps needs takes gives is.list f is.pushed asked known same allowed there (subst (IsMetBy f) kept met) (subst (Stays (bytecode_of p).setting op) kept stays)
+      let w = visited_here caps needs takes gives is.list f is.pushed asked known same allowed there (subst (IsMetBy f) kept met) (subst (Stays p.code.setting op) kept stays)
       is.there (is.bases ∙ ap (bases_for f) kept) is.sends states long is.placed in
       subst (λ (xs : List Arrival). IsWalking p chunk lists new xs deepest) (sym is.all) w
 
 -- another state than an instruction sends was sent to the targets of its switch before
-pub refused_switch : (p : Prepared) (chunk : Span) (t : Traversal) (lists : Lists) (here : Arrival) (deepest : ℕ) (op : Op) (needs takes gives : ℕ) (f : Flow) (e : VerifyError)
-    → IsFramed (bytecode_of p) chunk → HaltsAt p chunk lists t here deepest → (needs, takes, gives) ≡ stack_effect (bytecode_of p).setting op → f ≡ flow_of op
-    → Passes (coded (bytecode_of p)) chunk here.at (view lists here.state) op
-    → RefusesSwitch (bytecode_of p).switches f (record here.state { operands = here.state.operands - takes + gives }) t.sent e → ChunkFlaw (bytecode_of p) chunk e
+pub refused_switch : (p : Walked) (chunk : Span) (t : Traversal) (lists : Lists) (here : Arrival) (deepest : ℕ) (op : Op) (needs takes gives : ℕ) (f : Flow) (e : VerifyError)
+    → IsFramed p.code chunk → HaltsAt p chunk lists t here deepest → (needs, takes, gives) ≡ stack_effect p.code.setting op → f ≡ flow_of op
+    → Passes (coded p.code) chunk here.at (view lists here.state) op
+    → RefusesSwitch p.code.switches f (record here.state { operands = here.state.operands - takes + gives }) t.sent e → ChunkFlaw p.code chunk e
 refused_switch p chunk t lists here deepest op needs takes gives f (errors.DepthConflict a expected found) framed h known same passes (w, before, is, sent, unlike, named, first, second) =
-    let code = bytecode_of p in
+    let code = p.code in
     let c = view lists here.state in
     let left = here.state.operands - takes + gives in
     let after : State = record here.state { operands = left } in

@@ -2,11 +2,9 @@
 use Rattle.std.specs.Prelude.{◌≡◌, ◌≢◌, ℕ, ◌+◌, ◌<◌, ◌≤◌, ◌⊎◌, cond, List, [], ◌∷◌, ◌++◌, get_or, length, map, Option, None, Some, option_map, slice_get, slice_set}
 use Rattle.std.specs.List.{All, Contains}
 use Rattle.grain_base.specs.CapBits.{missing}
-use Rattle.grain_pools.specs.Dispatch.{Case}
 use Rattle.grain_code.specs.Span.{Span}
 use Rattle.grain_code.specs.InstructionTable.{width_of}
 use Rattle.grain_code.specs.declared.op.Op.{Op}
-use Rattle.grain_pools.specs.declared.switch.SwitchRange.{SwitchRange}
 use Rattle.grain_rules.specs.Capabilities.{Allows}
 use Rattle.grain_rules.specs.Code.{Bytecode}
 use Rattle.grain_rules.specs.Counts.{Counts}
@@ -120,10 +118,3 @@ RefusesState code op at c e = ⊥
 -- what falls through to the next instruction, if it does
 abbrev pub falling : Bytecode → Op → ℕ → Counts → List Coming
 falling code op at c = cond (falls_through op) ((at + width_of op, after_fall code.setting op c) ∷ []) []
-
--- the targets of a switch, part by part
-abbrev pub case_targets : List Case → List ℕ
-case_targets cases = map (λ (c : Case). c.1.0) cases
-
-abbrev pub range_targets : List SwitchRange → List ℕ
-range_targets ranges = map (λ (r : SwitchRange). r.target) ranges

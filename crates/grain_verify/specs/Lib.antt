@@ -8,7 +8,7 @@ pub mod Plain
 pub mod SinkingView
 pub mod States
 pub mod TagRows
-pub mod PoolCaps
+pub mod Asked
 pub mod Progress
 pub mod Refusals
 pub mod Visits

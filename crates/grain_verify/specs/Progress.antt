@@ -5,6 +5,7 @@ use Rattle.std.specs.Option.{is_some}
 use Rattle.grain_code.specs.Span.{Span}
 use Rattle.grain_code.specs.declared.op.Op.{Op}
 use Rattle.grain_verify.specs.Arrivals.{Coming, IsAtOrdinal, coming, sent_by, view}
+use Rattle.grain_verify.specs.Walk.{Walked}
 use Rattle.grain_rules.specs.Accepted.{IsFramed}
 use Rattle.grain_rules.specs.Code.{Bytecode, coded}
 use Rattle.grain_rules.specs.Counts.{Counts, nothing}
@@ -15,12 +16,10 @@ use Rattle.grain_verify.specs.Graph.{IsSearch, Path}
 use Rattle.grain_verify.specs.Lists.{IsShared, list_count}
 use Rattle.grain_verify.specs.Meter.{AreReached, HasCounted, starts_within}
 use Rattle.grain_rules.specs.Typing.{IsInChunk, IsReachedCount, Passes}
-use Rattle.grain_verify.specs.Walk.{bytecode_of}
 use Rattle.grain_rules.specs.declared.error.VerifyError.{VerifyError}
 use Rattle.grain_verify.specs.declared.lists.Lists.{Lists}
 use Rattle.grain_verify.specs.declared.state.Arrival.{Arrival}
 use Rattle.grain_verify.specs.declared.state.State.{State}
-use Rattle.grain_verify.specs.declared.walk.Prepared.{Prepared}
 use Rattle.grain_verify.specs.declared.walk.Traversal.{Traversal}
 
 -- The operation here passes, and all its targets are in the chunk.
@@ -82,9 +81,9 @@ abbrev pub NameLists : Lists → List (Option State) → Type 0
 NameLists lists states = All (λ (o : Option State). IfSome o (NamesList lists)) states
 
 -- there is room for each instruction and each switch
-pub record Fits (p : Prepared) (t : Traversal) : Type 0 where
-  pub states : length t.states ≡ length p.starts.starts
-  pub sent : length t.sent ≡ length p.pools.now.switches.now
+pub record Fits (p : Walked) (t : Traversal) : Type 0 where
+  pub states : length t.states ≡ length p.starts
+  pub sent : length t.sent ≡ length p.code.switches
 
 -- equal lists of bases have equal numbers, every state names one that there is, and there are no more of them than visits
 pub record KnowsLists (lists : Lists) (t : Traversal) (arrivals : List Arrival) : Type 0 where
@@ -95,18 +94,18 @@ pub record KnowsLists (lists : Lists) (t : Traversal) (arrivals : List Arrival) 
   pub few : list_count lists ≤ visits_in t.states
 
 -- the same, in the variables of the walk
-pub record IsWalking (p : Prepared) (chunk : Span) (lists : Lists) (t : Traversal) (arrivals : List Arrival) (deepest : ℕ) : Type 0 where
+pub record IsWalking (p : Walked) (chunk : Span) (lists : Lists) (t : Traversal) (arrivals : List Arrival) (deepest : ℕ) : Type 0 where
   pub fits : Fits p t
-  pub placed : All (IsAtOrdinal p.starts.starts chunk) arrivals
+  pub placed : All (IsAtOrdinal p.starts chunk) arrivals
   pub known : KnowsLists lists t arrivals
-  pub walking : Walking (bytecode_of p) chunk p.starts.starts lists t.states (sent_by lists t.sent) (map (coming lists) arrivals) deepest
+  pub walking : Walking p.code chunk p.starts lists t.states (sent_by lists t.sent) (map (coming lists) arrivals) deepest
 
 -- how much may still come where so many arrivals wait: no instruction that is visited sends its state to more places
-abbrev pub weight : Prepared → Traversal → ℕ → ℕ
-weight p t waiting = (all_targets (bytecode_of p).switches + 2 + 1) * (length t.states - visits_in t.states) + waiting
+abbrev pub weight : Walked → Traversal → ℕ → ℕ
+weight p t waiting = (all_targets p.code.switches + 2 + 1) * (length t.states - visits_in t.states) + waiting
 
 -- The walk has marked an instruction as visited, and its edges are still to be followed.
-pub record HaltsAt (p : Prepared) (chunk : Span) (lists : Lists) (t : Traversal) (here : Arrival) (deepest : ℕ) : Type 0 where
+pub record HaltsAt (p : Walked) (chunk : Span) (lists : Lists) (t : Traversal) (here : Arrival) (deepest : ℕ) : Type 0 where
   pub before : List (Option State)
   pub earlier : ℕ
   pub fresh : get_or before here.ordinal None ≡ None

@@ -1,7 +1,6 @@
 -- What tags tell of instructions.
 use Rattle.std.specs.Prelude.{◌≡◌, ⊤, ℕ, ◌+◌, ◌≤◌, List, ◌∷◌, Option, None, Some}
 use Rattle.grain_code.specs.InstructionTable.{form}
-use Rattle.grain_pools.specs.declared.chain.Chain.{Chain}
 use Rattle.grain_code.specs.declared.field.Field.{Field}
 use Rattle.grain_code.specs.declared.field.Field.TheVariants.{Target}
 use Rattle.grain_code.specs.declared.op.Op.{Op}
@@ -9,9 +8,8 @@ use Rattle.grain_rules.specs.Flow as flows
 use Rattle.grain_rules.specs.Rows.{caps_of, flow_of}
 use Rattle.grain_verify.specs.Operands.{stack_effect}
 use Rattle.grain_verify.specs.FlowView.{flow}
-use Rattle.grain_verify.specs.PoolCaps.{AreAsked}
+use Rattle.grain_rules.specs.Facts.{Facts}
 use Rattle.grain_rules.specs.Setting.{Setting}
-use Rattle.grain_verify.specs.declared.pool_caps.PoolCaps.{PoolCaps}
 use Rattle.grain_verify.specs.declared.effects.Effect.{Effect}
 use Rattle.grain_verify.specs.declared.flow.Flow.{Flow}
 use Rattle.grain_verify.specs.declared.flow.Flow.TheVariants as ways
@@ -70,8 +68,8 @@ pub record IsEffectOf (e : Effect) (op : Op) : Type 0 where
   pub asks : (s : Setting) → e.asks.0 ≡ caps_of s op
   pub flow_is : flow e.flow e.target ≡ flow_of op
 
--- the effect is that of the operation, with these chains in the pool, and names and chains that ask this of the host
-pub record IsEffectIn (chains : List Chain) (asked : PoolCaps) (e : Effect) (op : Op) : Type 0 where
-  pub operands : (s : Setting) → s.chains ≡ chains → (e.needs, e.takes, e.gives) ≡ stack_effect s op
-  pub asks : (s : Setting) → AreAsked s asked → e.asks.0 ≡ caps_of s op
+-- the effect is that of the operation, beside pools of which this is said
+pub record IsEffectIn (facts : Facts) (e : Effect) (op : Op) : Type 0 where
+  pub operands : (s : Setting) → s.facts ≡ facts → (e.needs, e.takes, e.gives) ≡ stack_effect s op
+  pub asks : (s : Setting) → s.facts ≡ facts → e.asks.0 ≡ caps_of s op
   pub flow_is : flow e.flow e.target ≡ flow_of op

@@ -7,23 +7,21 @@ use Rattle.grain_code.specs.declared.op.Op.{Op}
 use Rattle.grain_code.specs.declared.tag_widths.Head.{Head}
 use Rattle.grain_verify.specs.Arrivals.{view}
 use Rattle.grain_rules.specs.Capabilities.{Allows}
-use Rattle.grain_rules.specs.Code.{Bytecode, bytecode}
-use Rattle.grain_verify.specs.PoolCaps.{AreAsked}
+use Rattle.grain_rules.specs.Code.{Bytecode}
 use Rattle.grain_rules.specs.Sinking.{Stays}
 use Rattle.grain_verify.specs.TagRows.{IsEffectIn}
 use Rattle.grain_verify.specs.declared.effects.Effect.{Effect}
 use Rattle.grain_verify.specs.declared.lists.Lists.{Lists}
 use Rattle.grain_verify.specs.declared.state.Arrival.{Arrival}
-use Rattle.grain_verify.specs.declared.walk.Prepared.{Prepared}
 
--- the code that is walked, in its setting
-abbrev pub bytecode_of : Prepared → Bytecode
-bytecode_of p = bytecode p.caps p.pools.now p.code.now
+-- the code that is walked, in its setting, and where its instructions begin
+pub record Walked : Type 0 where
+  pub code : Bytecode
+  pub starts : List ℕ
 
--- its starts are known, and what its names and chains ask
-pub record IsReady (p : Prepared) : Type 0 where
-  pub starts : Split p.code.now p.starts.starts
-  pub asked : AreAsked (bytecode_of p).setting p.asked
+-- the starts are those of the code
+pub record IsReady (p : Walked) : Type 0 where
+  pub starts : Split p.code.bytes p.starts
 
 -- an instruction stands here that has this head
 pub record HasHead (code : List ℕ) (at : ℕ) (head : Head) : Type 0 where
@@ -35,11 +33,11 @@ pub record HasHead (code : List ℕ) (at : ℕ) (head : Head) : Type 0 where
 
 -- The instruction here does this, finds what it asks and the operands that it needs, and leaves what stood when the last
 -- handler was armed.
-pub record IsPassing (p : Prepared) (lists : Lists) (here : Arrival) (i : Instruction) (effect : Effect) : Type 0 where
+pub record IsPassing (p : Walked) (lists : Lists) (here : Arrival) (i : Instruction) (effect : Effect) : Type 0 where
   pub op : Op
-  pub stands : StandsAt p.code.now here.at op
+  pub stands : StandsAt p.code.bytes here.at op
   pub is : Instr (i.tag ∷ i.fields.now) op
-  pub does : IsEffectIn p.pools.now.chains.now p.asked effect op
-  pub allowed : Allows (bytecode_of p).setting.caps effect.asks.0
+  pub does : IsEffectIn p.code.setting.facts effect op
+  pub allowed : Allows p.code.setting.caps effect.asks.0
   pub there : effect.needs ≤ here.state.operands
-  pub stays : Stays (bytecode_of p).setting op (view lists here.state)
+  pub stays : Stays p.code.setting op (view lists here.state)

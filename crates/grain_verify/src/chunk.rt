@@ -4,16 +4,18 @@ ghost use Rattle.grain_rules.specs.Accepted.{ChunkPasses, IsFramed};
 ghost use Rattle.grain_rules.specs.Code.{coded};
 ghost use Rattle.grain_rules.specs.Flaw.{ChunkFlaw};
 ghost use Rattle.grain_rules.specs.Typing.{HasTyping, IsDeepest};
+ghost use Rattle.grain_verify.specs.Asked.{Knows};
 ghost use Rattle.grain_verify.specs.Lists.{IsShared};
 ghost use Rattle.grain_verify.specs.Progress.{Fits, IsMeteredChunk};
 ghost use Rattle.grain_verify.specs.Visits.{RefusesChunk};
-ghost use Rattle.grain_verify.specs.Walk.{IsReady, bytecode_of};
+ghost use Rattle.grain_verify.specs.Walk.{IsReady};
 
+use crate::asked::Asked;
 use crate::lists::Lists;
 use crate::meter::Meter;
 use crate::walk::{Prepared, Traversal};
 use grain_bytecode::Chunk;
-use grain_rules::VerifyError;
+use grain_rules::{Read, VerifyError};
 
 /// How many instructions stand before the chunk's entry, where the chunk lies in the code and begins and ends where
 /// instructions do.
@@ -24,17 +26,17 @@ use grain_rules::VerifyError;
 /// # Errors
 /// `ChunkOutOfRange`; `FallsOffTheEnd` where it is empty; `JumpIntoAnInstruction` to its entry or its end.
 #[inline(never)]
-fn check_frame(prepared: &Prepared<'_>, chunk: &Chunk) -> Result<usize, VerifyError>
+fn check_frame<P: Read>(prepared: &Prepared<'_, P>, chunk: &Chunk) -> Result<usize, VerifyError>
     requires { IsReady prepared.now }
-    ensures framed { OnOk result (IsFramed (bytecode_of prepared.now) chunk.now) }
+    ensures framed { OnOk result (IsFramed prepared.now.code chunk.now) }
     ensures holds { OnOk result (chunk.now.entry < chunk.now.end) }
-    ensures place { IfOk result (λ k. slice_get prepared.now.starts.starts k ≡ Some chunk.now.entry) }
-    ensures err { IfErr result (λ e. ChunkFlaw (bytecode_of prepared.now) chunk.now e
+    ensures place { IfOk result (λ k. slice_get prepared.now.starts k ≡ Some chunk.now.entry) }
+    ensures err { IfErr result (λ e. ChunkFlaw prepared.now.code chunk.now e
         × (e ≢ VerifyError.OutOfMemory)) }
 {
     let entry = chunk.entry() as usize;
     let end = chunk.end() as usize;
-    let len = prepared.code.len();
+    let len = prepared.len();
     if end > len || entry > end {
         return Err(VerifyError::ChunkOutOfRange {
             entry: chunk.entry(),
@@ -45,13 +47,13 @@ fn check_frame(prepared: &Prepared<'_>, chunk: &Chunk) -> Result<usize, VerifyEr
     if entry == end {
         return Err(VerifyError::FallsOffTheEnd);
     }
-    let Some(ordinal) = prepared.starts.ordinal(entry) else {
+    let Some(ordinal) = prepared.ordinal(entry) else {
         return Err(VerifyError::JumpIntoAnInstruction {
             at: entry,
             target: chunk.entry(),
         });
     };
-    if end < len && !prepared.starts.contains(end) {
+    if end < len && !prepared.is_start(end) {
         return Err(VerifyError::JumpIntoAnInstruction {
             at: entry,
             target: chunk.end(),
@@ -66,30 +68,33 @@ fn check_frame(prepared: &Prepared<'_>, chunk: &Chunk) -> Result<usize, VerifyEr
 /// # Errors
 /// One of the chunk's flaws: of its frame, of its walk, or `StackExceedsDeclared`, since a host makes stacks as deep as
 /// chunks declare. `OutOfMemory` where it was refused.
-pub(crate) fn verify_chunk(
-    prepared: &Prepared<'_>,
+pub(crate) fn verify_chunk<P: Read>(
+    prepared: &Prepared<'_, P>,
     chunk: &Chunk,
     lists: &mut Lists,
     traversal: &mut Traversal,
+    asked: &mut Asked,
     meter: &mut Meter,
 ) -> Result<u16, VerifyError>
     requires ready { IsReady prepared.now }
     requires fits { Fits prepared.now traversal.old }
     requires shared { IsShared lists.old }
-    ensures passes { OnOk result (ChunkPasses (bytecode_of prepared.now) chunk.now) }
-    ensures typed { IfOk result (λ n. HasTyping (coded (bytecode_of prepared.now)) chunk.now n) }
-    ensures deepest { IfOk result (λ n. IsDeepest (coded (bytecode_of prepared.now)) chunk.now n) }
-    ensures accepts { ChunkPasses (bytecode_of prepared.now) chunk.now
+    requires knows { Knows prepared.now.code.setting.facts asked.old }
+    ensures passes { OnOk result (ChunkPasses prepared.now.code chunk.now) }
+    ensures typed { IfOk result (λ n. HasTyping (coded prepared.now.code) chunk.now n) }
+    ensures deepest { IfOk result (λ n. IsDeepest (coded prepared.now.code) chunk.now n) }
+    ensures accepts { ChunkPasses prepared.now.code chunk.now
         → IfErr result (λ e. e ≡ VerifyError.OutOfMemory) }
-    ensures flaws { IfErr result (RefusesChunk (bytecode_of prepared.now) chunk.now) }
-    ensures metered { IsMeteredChunk (bytecode_of prepared.now)
-        prepared.now.starts.starts chunk.now meter.old meter.new result }
+    ensures flaws { IfErr result (RefusesChunk prepared.now.code chunk.now) }
+    ensures metered { IsMeteredChunk prepared.now.code
+        prepared.now.starts chunk.now meter.old meter.new result }
     ensures fits { OnOk result (Fits prepared.now traversal.new) }
     ensures shared { OnOk result (IsShared lists.new) }
+    ensures knows { OnOk result (Knows prepared.now.code.setting.facts asked.new) }
 {
     let ordinal = check_frame(prepared, chunk)?;
     let mut visits = 0;
-    let walked = prepared.walk(chunk, ordinal, lists, traversal, &mut visits);
+    let walked = prepared.walk(chunk, ordinal, lists, traversal, asked, &mut visits);
     meter.add(visits);
     let needed = walked?;
     let declared = chunk.max_stack();

@@ -4,7 +4,6 @@ ghost use Rattle.std.specs.Prelude.{get_or, length, map, slice_get, IfErr, IfNon
 ghost use Rattle.std.specs.List.{All};
 ghost use Rattle.grain_verify.specs.Arrivals.{IsAtOrdinal, IsStartIn, Pushes, RefusesSwitch, RefusesTarget};
 ghost use Rattle.grain_verify.specs.Arrivals.{RefusesTargetOf, Sends, underway, view};
-ghost use Rattle.grain_rules.specs.Code.{switch_targets};
 ghost use Rattle.grain_rules.specs.Counts.{armed};
 ghost use Rattle.grain_rules.specs.Flow as flows;
 ghost use Rattle.grain_verify.specs.Lists.{Grows, IsShared, list_count, list_of};
@@ -12,8 +11,8 @@ ghost use Rattle.grain_verify.specs.Lists.{Grows, IsShared, list_count, list_of}
 use crate::lists::Lists;
 use crate::state::{Arrival, State, check_same};
 use crate::states::States;
-use grain_bytecode::{Chunk, Starts, Switch};
-use grain_rules::VerifyError;
+use grain_bytecode::{Chunk, Starts};
+use grain_rules::{Read, Targets, VerifyError};
 
 /// How many instructions stand before a target, which has to be a start of the chunk: elsewhere a run would come to code that
 /// this walk doesn't visit, or read bytes within an instruction as another one.
@@ -142,42 +141,27 @@ pub(crate) fn push_armed(
     Ok(armed)
 }
 
-/// Pushes the state to each target of the switch: those of its cases and of its ranges, and where it goes by default.
+/// Pushes the state to each of these targets.
 ///
 /// # Errors
 /// Those of the first target that is none.
-fn push_switch(
+fn push_targets<T: Targets>(
     starts: &Starts,
     chunk: &Chunk,
     at: u32,
-    switch: &Switch,
+    mut targets: T,
     after: State,
     work: &mut Vec<Arrival>,
 ) -> Result<(), VerifyError>
     ensures pushed { OnOk result (Pushes starts.now.starts chunk.now after
-        (switch_targets switch.now) work.old.items work.new.items) }
+        (T.left targets) work.old.items work.new.items) }
     ensures err { IfErr result (λ e. RefusesTargetOf starts.now.starts chunk.now at
-        (switch_targets switch.now) e) }
+        (T.left targets) e) }
 {
-    if let Some(cases) = &switch.cases {
-        for (_, (target, _)) in cases {
-            push_target(starts, chunk, at, *target, after, work)?;
-        }
+    while let Some(target) = targets.next() {
+        push_target(starts, chunk, at, target, after, work)?;
     }
-    for range in &switch.ranges {
-        push_target(starts, chunk, at, range.target, after, work)?;
-    }
-    push_target(starts, chunk, at, switch.default, after, work)
-}
-
-/// The switch of an index, if there is one. It is cut from [`push_table`] for the prover alone.
-#[inline(always)]
-fn switch_at(switches: &[Switch], index: u32) -> Option<&Switch>
-    ensures found { IfSome result (λ s. (index < length switches.now)
-        × (get_or (map switch_targets switches.now) index [] ≡ switch_targets s.now)) }
-    ensures none { IfNone result (get_or (map switch_targets switches.now) index [] ≡ []) }
-{
-    switches.get(index as usize)
+    Ok(())
 }
 
 /// Pushes the state to each target of the switch of an index, if there is one, unless it was sent there before. Many
@@ -185,35 +169,36 @@ fn switch_at(switches: &[Switch], index: u32) -> Option<&Switch>
 ///
 /// # Errors
 /// Those of the first target that is none, and `DepthConflict` where another state was sent there before.
-pub(crate) fn push_table(
+#[inline(never)]
+pub(crate) fn push_table<P: Read>(
     starts: &Starts,
     chunk: &Chunk,
     at: u32,
-    switches: &[Switch],
+    pools: &P,
     index: u32,
     after: State,
     sent: &mut States,
     work: &mut Vec<Arrival>,
 ) -> Result<(), VerifyError>
-    requires { length sent.old ≡ length switches.now }
+    requires { length sent.old ≡ length (P.leads pools.now) }
     ensures sends { OnOk result (Sends starts.now.starts chunk.now
-        (map switch_targets switches.now) (flows.Switches index) after
+        (P.leads pools.now) (flows.Switches index) after
         sent.old sent.new (map underway work.old.items) (map underway work.new.items)) }
     ensures long { OnOk result (length sent.new ≡ length sent.old) }
     ensures placed { All (IsAtOrdinal starts.now.starts chunk.now) work.old.items
         → OnOk result (All (IsAtOrdinal starts.now.starts chunk.now) work.new.items) }
     ensures err { IfErr result (λ e.
         RefusesTargetOf starts.now.starts chunk.now at
-        (get_or (map switch_targets switches.now) index []) e
-        ⊎ RefusesSwitch (map switch_targets switches.now) (flows.Switches index) after sent.old e) }
+        (get_or (P.leads pools.now) index []) e
+        ⊎ RefusesSwitch (P.leads pools.now) (flows.Switches index) after sent.old e) }
 {
-    let Some(switch) = switch_at(switches, index) else {
+    let Some(default) = pools.default_target(index) else {
         return Ok(());
     };
     match sent.get(index as usize) {
-        Some(before) => check_same(switch.default, before, after),
+        Some(before) => check_same(default, before, after),
         None => {
-            push_switch(starts, chunk, at, switch, after, work)?;
+            push_targets(starts, chunk, at, pools.targets(index), after, work)?;
             sent.set(index as usize, after);
             Ok(())
         }

@@ -1,15 +1,16 @@
 //! What operations ask of the host, what they need of the stacks and leave on them, and how they are left.
 ghost use Rattle.std.specs.Prelude.{◌≡◌, ◌+◌, ◌≤◌};
-ghost use Rattle.grain_rules.specs.Rows.{caps_of, flow_of};
-ghost use Rattle.grain_verify.specs.Operands.{stack_effect};
+ghost use Rattle.grain_verify.specs.Asked.{Knows};
 ghost use Rattle.grain_verify.specs.FlowView.{flow};
-ghost use Rattle.grain_verify.specs.PoolCaps.{AreAsked};
+ghost use Rattle.grain_verify.specs.Operands.{stack_effect};
+ghost use Rattle.grain_rules.specs.Rows.{caps_of, flow_of};
 ghost use Rattle.grain_rules.specs.Setting.{Setting};
 
+use crate::asked::Asked;
 use crate::flow::Flow;
-use crate::pool_caps::PoolCaps;
 use grain_base::{Caps, Flags};
-use grain_bytecode::{Chain, Op, TagRow};
+use grain_bytecode::{Op, TagRow};
+use grain_rules::Read;
 
 /// What an operation does: what it asks of the host, how many operands it needs, how many of them it takes, how many it
 /// gives, its flow, and where that leads: the target of a jump or a handler, the exit of an iterator, the index of a switch.
@@ -27,19 +28,21 @@ pub(crate) struct Effect {
 }
 
 impl Effect {
-    /// What an operation does, with these chains in the pool, and names and chains that ask this of the host.
+    /// What an operation does beside pools that are read so.
     #[inline(always)]
-    pub(crate) fn of(op: &Op, chains: &[Chain], asked: &PoolCaps) -> Effect
-        ensures operands { (s : Setting)
-            → s.chains ≡ chains.now
+    pub(crate) fn of<P: Read>(op: &Op, pools: &P, asked: &mut Asked) -> Effect
+        requires { Knows (P.facts pools.now) asked.old }
+        ensures knows { Knows (P.facts pools.now) asked.new }
+        ensures operands { (s : Setting) → s.facts ≡ P.facts pools.now
             → (result.needs, result.takes, result.gives) ≡ stack_effect s op.now }
-        ensures asks { (s : Setting) → AreAsked s asked.now → result.asks.0 ≡ caps_of s op.now }
+        ensures asks { (s : Setting) → s.facts ≡ P.facts pools.now
+            → result.asks.0 ≡ caps_of s op.now }
         ensures flow { flow result.flow result.target ≡ flow_of op.now }
     {
-        let effect = grain_rules::Effect::of(op, chains);
+        let effect = grain_rules::Effect::of(op, pools);
         let (flow, target) = Flow::with_target(effect.flow);
         Effect {
-            asks: asked.of(effect.asks),
+            asks: asked.of(pools, effect.asks),
             needs: effect.needs,
             takes: effect.takes,
             gives: effect.gives,

@@ -4,6 +4,7 @@
 //! `Meter`.
 #![tactic(auto)]
 
+mod asked;
 mod by_tag;
 mod chunk;
 mod edges;
@@ -11,7 +12,6 @@ mod effects;
 mod flow;
 mod lists;
 mod meter;
-mod pool_caps;
 mod refusal;
 mod sinking;
 mod state;
@@ -22,4 +22,4 @@ mod walk;
 pub use meter::Meter;
 pub use refusal::Refusal;
 pub use sinking::is_quiet;
-pub use verifier::{verify, verify_metered, verify_placed};
+pub use verifier::{verify, verify_metered, verify_placed, verify_read};

@@ -3,26 +3,25 @@ ghost use Rattle.std.specs.Prelude.{◌≡◌, ℕ, IfErr, IfOk, List, OnOk};
 ghost use Rattle.std.specs.List.{All, AllZip};
 ghost use Rattle.grain_code.specs.Span.{Span};
 ghost use Rattle.grain_code.specs.Split.{Split};
-ghost use Rattle.grain_rules.specs.Accepted.{AreIndexed, ChunkPasses, input};
-ghost use Rattle.grain_rules.specs.Code.{bytecode, coded};
+ghost use Rattle.grain_rules.specs.Accepted.{AreIndexed, ChunkPasses, input, input_beside};
+ghost use Rattle.grain_rules.specs.Code.{bytecode_beside, coded};
 ghost use Rattle.grain_rules.specs.Flaw.{Flaw};
 ghost use Rattle.grain_verify.specs.Meter.{IsMetered};
 ghost use Rattle.grain_verify.specs.Progress.{AreMeteredChunks};
 ghost use Rattle.grain_verify.specs.Refusals.{IsChunkRefusal, IsPlacedRefusal, without_place};
-ghost use Rattle.grain_rules.specs.Setting.{setting};
+ghost use Rattle.grain_rules.specs.Setting.{with_caps};
 ghost use Rattle.grain_rules.specs.Typing.{HasTyping, IsDeepest};
 ghost use Rattle.grain_rules.specs.Verdict.{IsVerdict, ReachesChunks};
-ghost use Rattle.grain_verify.specs.Walk.{IsReady, bytecode_of};
+ghost use Rattle.grain_verify.specs.Walk.{IsReady};
 
 use crate::chunk::verify_chunk;
 use crate::lists::Lists;
 use crate::meter::Meter;
-use crate::pool_caps::PoolCaps;
 use crate::refusal::Refusal;
-use crate::walk::{Prepared, Traversal};
+use crate::walk::Prepared;
 use grain_base::{Caps, Dynamic};
 use grain_bytecode::{Chunk, Function, Starts};
-use grain_rules::{Pools, VerifyError, check_code, check_constants, check_functions};
+use grain_rules::{Pools, Read, VerifyError, check_code, check_constants, check_functions};
 use std::alloc::Global;
 
 /// The tests before the chunks: of the constants, of the code and its indices, and of the functions. They take no
@@ -30,20 +29,20 @@ use std::alloc::Global;
 ///
 /// # Errors
 /// The first of them that fails, by its name.
-fn check_before_chunks(
+fn check_before_chunks<P: Read>(
     caps: Caps,
     consts: &[Dynamic],
     code: &[u8],
     functions: &[Function],
-    pools: &Pools<'_>,
+    pools: &P,
 ) -> Result<(), VerifyError>
-    ensures ok { (chunks : List Span) → OnOk result
-        (ReachesChunks (input caps consts.now code.now functions.now chunks pools.now)) }
-    ensures refused { (chunks : List Span)
-        → ReachesChunks (input caps consts.now code.now functions.now chunks pools.now)
+    ensures ok { (chunks : List Span) → OnOk result (ReachesChunks (input_beside caps.0 consts.now
+        code.now functions.now chunks (P.facts pools.now) (P.leads pools.now))) }
+    ensures refused { (chunks : List Span) → ReachesChunks (input_beside caps.0 consts.now
+        code.now functions.now chunks (P.facts pools.now) (P.leads pools.now))
         → IfErr result (λ _. ⊥) }
-    ensures flaws { (chunks : List Span) → IfErr result (λ e. Flaw
-        (input caps consts.now code.now functions.now chunks pools.now) e) }
+    ensures flaws { (chunks : List Span) → IfErr result (Flaw (input_beside caps.0 consts.now
+        code.now functions.now chunks (P.facts pools.now) (P.leads pools.now))) }
 {
     check_constants(caps, consts)?;
     check_code(pools, code)?;
@@ -51,30 +50,37 @@ fn check_before_chunks(
 }
 
 /// The deepest operand stack of each chunk, or why the first is refused that is.
-fn walk_chunks(
+fn walk_chunks<P: Read>(
     alloc: Global,
-    prepared: &Prepared<'_>,
+    prepared: &Prepared<'_, P>,
     chunks: &[Chunk],
     meter: &mut Meter,
 ) -> Result<Vec<u16>, Refusal>
     requires { IsReady prepared.now }
-    ensures passes { OnOk result (All (ChunkPasses (bytecode_of prepared.now)) chunks.now) }
-    ensures typed { IfOk result (λ v. AllZip (HasTyping (coded (bytecode_of prepared.now)))
+    ensures passes { OnOk result (All (ChunkPasses prepared.now.code) chunks.now) }
+    ensures typed { IfOk result (λ v. AllZip (HasTyping (coded prepared.now.code))
         chunks.now v.items) }
-    ensures deepest { IfOk result (λ v. AllZip (IsDeepest (coded (bytecode_of prepared.now)))
+    ensures deepest { IfOk result (λ v. AllZip (IsDeepest (coded prepared.now.code))
         chunks.now v.items) }
-    ensures accepts { All (ChunkPasses (bytecode_of prepared.now)) chunks.now
+    ensures accepts { All (ChunkPasses prepared.now.code) chunks.now
         → IfErr result (λ r. r.error ≡ VerifyError.OutOfMemory) }
-    ensures flaws { IfErr result (IsChunkRefusal (bytecode_of prepared.now) chunks.now) }
-    ensures metered { AreMeteredChunks (bytecode_of prepared.now) prepared.now.starts.starts
+    ensures flaws { IfErr result (IsChunkRefusal prepared.now.code chunks.now) }
+    ensures metered { AreMeteredChunks prepared.now.code prepared.now.starts
         chunks.now meter.old meter.new result }
 {
-    let switches = prepared.pools.switches.len();
-    let mut traversal = Traversal::new(alloc, prepared.starts.count(), switches)?;
+    let mut traversal = prepared.traversal(alloc)?;
+    let mut asked = prepared.asked(alloc)?;
     let mut lists = Lists::new(alloc);
     let mut deepest = Vec::with_capacity(alloc, chunks.len())?;
     for (place, chunk) in chunks.iter().enumerate() {
-        match verify_chunk(prepared, chunk, &mut lists, &mut traversal, meter) {
+        match verify_chunk(
+            prepared,
+            chunk,
+            &mut lists,
+            &mut traversal,
+            &mut asked,
+            meter,
+        ) {
             Ok(needed) => deepest.push_reserved(needed),
             Err(error) => return Err(Refusal::of_chunk(place, error)),
         }
@@ -83,35 +89,32 @@ fn walk_chunks(
 }
 
 /// The deepest operand stack of each chunk of code that is whole instructions, or why the first is refused that is.
-fn verify_chunks(
+fn verify_chunks<P: Read>(
     alloc: Global,
     caps: Caps,
     code: &[u8],
-    pools: &Pools<'_>,
+    pools: &P,
     chunks: &[Chunk],
     meter: &mut Meter,
 ) -> Result<Vec<u16>, Refusal>
-    requires { AreIndexed (setting caps pools.now) code.now }
-    ensures passes { OnOk result (All (ChunkPasses (bytecode caps pools.now code.now)) chunks.now) }
-    ensures typed { IfOk result (λ v. AllZip (HasTyping (coded (bytecode caps pools.now code.now)))
-        chunks.now v.items) }
-    ensures deepest { IfOk result (λ v.
-        AllZip (IsDeepest (coded (bytecode caps pools.now code.now))) chunks.now v.items) }
-    ensures accepts { All (ChunkPasses (bytecode caps pools.now code.now)) chunks.now
+    requires { AreIndexed (with_caps caps.0 (P.facts pools.now)) code.now }
+    ensures passes { OnOk result (All (ChunkPasses (bytecode_beside caps.0
+        (P.facts pools.now) (P.leads pools.now) code.now)) chunks.now) }
+    ensures typed { IfOk result (λ v. AllZip (HasTyping (coded (bytecode_beside caps.0
+        (P.facts pools.now) (P.leads pools.now) code.now))) chunks.now v.items) }
+    ensures deepest { IfOk result (λ v. AllZip (IsDeepest (coded (bytecode_beside caps.0
+        (P.facts pools.now) (P.leads pools.now) code.now))) chunks.now v.items) }
+    ensures accepts { All (ChunkPasses (bytecode_beside caps.0
+        (P.facts pools.now) (P.leads pools.now) code.now)) chunks.now
         → IfErr result (λ r. r.error ≡ VerifyError.OutOfMemory) }
-    ensures flaws { IfErr result (IsChunkRefusal (bytecode caps pools.now code.now) chunks.now) }
+    ensures flaws { IfErr result (IsChunkRefusal (bytecode_beside caps.0
+        (P.facts pools.now) (P.leads pools.now) code.now) chunks.now) }
     ensures metered { (starts : List ℕ) → Split code.now starts → AreMeteredChunks
-        (bytecode caps pools.now code.now) starts chunks.now meter.old meter.new result }
+        (bytecode_beside caps.0 (P.facts pools.now) (P.leads pools.now) code.now)
+        starts chunks.now meter.old meter.new result }
 {
     let starts = Starts::of(alloc, code)?;
-    let asked = PoolCaps::new(alloc, pools)?;
-    let prepared = Prepared {
-        caps,
-        code,
-        pools,
-        starts,
-        asked,
-    };
+    let prepared = Prepared::new(caps, code, pools, starts);
     let deepest = walk_chunks(alloc, &prepared, chunks, meter)?;
     Ok(deepest)
 }
@@ -209,6 +212,35 @@ pub fn verify_placed(
         (input caps consts.now code.now functions.now chunks.now pools.now)) }
     ensures metered { IsMetered
         (input caps consts.now code.now functions.now chunks.now pools.now)
+        meter.old meter.new (without_place result) }
+{
+    verify_read(alloc, caps, consts, code, functions, chunks, pools, meter)
+}
+
+/// Verifies as [`verify_placed`] does, beside pools that are kept otherwise. Of these it makes nothing: it reads what is
+/// looked at where it is looked at.
+///
+/// # Errors
+/// Those of [`verify_placed`].
+pub fn verify_read<P: Read>(
+    alloc: Global,
+    caps: Caps,
+    consts: &[Dynamic],
+    code: &[u8],
+    functions: &[Function],
+    chunks: &[Chunk],
+    pools: &P,
+    meter: &mut Meter,
+) -> Result<Vec<u16>, Refusal>
+    ensures verdict { IsVerdict (input_beside caps.0 consts.now code.now functions.now
+        chunks.now (P.facts pools.now) (P.leads pools.now)) (without_place result) }
+    ensures placed { IfErr result (IsPlacedRefusal (input_beside caps.0 consts.now code.now
+        functions.now chunks.now (P.facts pools.now) (P.leads pools.now))) }
+    ensures memory { IfErr result (λ r. r.error ≡ VerifyError.OutOfMemory
+        → ReachesChunks (input_beside caps.0 consts.now code.now functions.now chunks.now
+        (P.facts pools.now) (P.leads pools.now))) }
+    ensures metered { IsMetered (input_beside caps.0 consts.now code.now functions.now
+        chunks.now (P.facts pools.now) (P.leads pools.now))
         meter.old meter.new (without_place result) }
 {
     match check_before_chunks(caps, consts, code, functions, pools) {

@@ -2,6 +2,8 @@
 //! instruction after instruction, and [`Prepared::visit`] or [`Prepared::visit_by_tag`] does one of them.
 ghost use Rattle.std.specs.Prelude.{◌≡◌, ℕ, ◌+◌, ◌-◌, ◌≤◌, ◌<◌, ◌^◌, ◌++◌, ◌∷◌, ◌⊎◌, [], None, Some};
 ghost use Rattle.std.specs.Prelude.{get_or, length, replicate, slice_get, IfErr, IfNone, IfOk, IfSome, OnOk};
+ghost use Rattle.std.specs.Prelude.{◌↔◌, IsTrue};
+ghost use Rattle.std.specs.List.{Contains};
 ghost use Rattle.std.specs.Option.{option_to_list};
 ghost use Rattle.grain_code.specs.InstructionTable.{Instr};
 ghost use Rattle.grain_code.specs.Split.{StandsAt};
@@ -9,7 +11,8 @@ ghost use Rattle.grain_code.specs.declared.op.Op.{Op};
 ghost use Rattle.grain_rules.specs.Accepted.{IsFramed};
 ghost use Rattle.grain_verify.specs.Arrivals.{RefusesState, view};
 ghost use Rattle.grain_rules.specs.Capabilities.{Allows};
-ghost use Rattle.grain_rules.specs.Code.{coded};
+ghost use Rattle.grain_rules.specs.Code.{bytecode_beside, coded};
+ghost use Rattle.grain_verify.specs.Asked.{Knows};
 ghost use Rattle.grain_rules.specs.Rows.{caps_of, needs};
 ghost use Rattle.grain_verify.specs.FlowView.{IsFollowed, IsMetBy, RefusesFlow, flow};
 ghost use Rattle.grain_verify.specs.Lists.{Grows, IsShared, list_count};
@@ -19,34 +22,44 @@ ghost use Rattle.grain_verify.specs.Progress.{Fits, HaltsAt, IsWalking, visits_i
 ghost use Rattle.grain_verify.specs.TagRows.{IsEffectIn, IsRowOf, tag_flow};
 ghost use Rattle.grain_rules.specs.Typing.{HasTyping, IsDeepest, IsInChunk, IsReachedCount};
 ghost use Rattle.grain_verify.specs.Visits.{CarriesFloor, IsMarked, IsVisited, RefusesChunk};
-ghost use Rattle.grain_verify.specs.Walk.{HasHead, IsPassing, IsReady, bytecode_of};
+ghost use Rattle.grain_verify.specs.Walk.{HasHead, IsPassing, IsReady};
 ghost use Rattle.grain_verify.specs.declared.lists.Lists.{Lists};
 
+use crate::asked::Asked;
 use crate::by_tag::{effect_by_row, effect_by_tag, plain_next, row_of};
 use crate::edges::{arrival_at, push_armed, push_ended, push_table, push_target};
 use crate::effects::Effect;
 use crate::flow::Flow;
 use crate::lists::Lists;
-use crate::pool_caps::PoolCaps;
 use crate::sinking::check_stays;
 use crate::state::{Arrival, State, check_same};
 use crate::states::States;
 use grain_base::{Caps, Flags};
-use grain_bytecode::{Chunk, Head, Instruction, Starts, TagFlow, TagRow};
-use grain_rules::{Pools, VerifyError, missing};
+use grain_bytecode::{Chunk, Head, Instruction, Pool, Starts, TagFlow, TagRow};
+use grain_rules::{Read, VerifyError, missing};
 use std::alloc::{AllocError, Global};
+use std::marker::Model;
 
-/// What the walks of all chunks share: code that is whole instructions with its indices in bounds, and what walks ask of
-/// it again and again.
+/// What the walks of all chunks share: code that is whole instructions with its indices in bounds, and the pools beside it.
 #[derive(Drop)]
-pub(crate) struct Prepared<'a> {
-    pub(crate) caps: Caps,
-    pub(crate) code: &'a [u8],
-    pub(crate) pools: &'a Pools<'a>,
+pub(crate) struct Prepared<'a, P: Read> {
+    caps: Caps,
+    code: &'a [u8],
+    pools: &'a P,
     /// Where instructions begin.
-    pub(crate) starts: Starts,
-    /// What the names and the chains of the pools ask of the host.
-    pub(crate) asked: PoolCaps,
+    starts: Starts,
+}
+
+impl<'a, P: Read> Model for Prepared<'a, P> {
+    ghost use Rattle.grain_rules.specs.Code.{bytecode_beside};
+    ghost use Rattle.grain_verify.specs.Walk.{Walked};
+
+    ghost Value = { Walked };
+
+    ghost view = { λ p. record {
+      code = bytecode_beside p.caps.0 (P.facts p.pools.now) (P.leads p.pools.now) p.code.now;
+      starts = p.starts.starts;
+    } };
 }
 
 /// What a walk writes. It serves one chunk after another.
@@ -111,7 +124,179 @@ fn instruction_at<'a>(code: &'a [u8], at: usize, head: Head) -> Instruction<'a>
     }
 }
 
-impl Prepared<'_> {
+/// Sends the state that an instruction of this width leaves to its targets, where it has what it asks and the operands
+/// that it needs. It answers what falls through, or the target of a jump in place of pushing it. A way that was left out
+/// here would lead runs to code that was never tested, or with other counts than were tested.
+///
+/// # Errors
+/// `IteratorUnderflow` or `HandlerUnderflow` where it lacks one; those of its targets; `DepthConflict` where another state
+/// was sent to its switch before; `OutOfMemory` where it was refused.
+#[inline(always)]
+fn follow<P: Read>(
+    starts: &Starts,
+    pools: &P,
+    chunk: &Chunk,
+    effect: Effect,
+    here: Arrival,
+    width: usize,
+    lists: &mut Lists,
+    traversal: &mut Traversal,
+) -> Result<Option<Arrival>, VerifyError>
+    requires long { length traversal.old.sent ≡ length (P.leads pools.now) }
+    requires operands { effect.needs ≤ here.state.operands }
+    requires operands_room { here.state.operands + 1 < 2 ^ 32 }
+    requires iterators_room { here.state.iterators + 1 < 2 ^ 32 }
+    requires room { here.at + width < 2 ^ 32 }
+    requires ordinal_room { here.ordinal + 1 < 2 ^ 64 }
+    requires shared { IsShared lists.old }
+    requires list { here.state.list ≤ list_count lists.old }
+    requires lists_room { list_count lists.old + 1 < 2 ^ 32 }
+    ensures met { OnOk result
+        (IsMetBy (flow effect.flow effect.target) (view lists.old here.state)) }
+    ensures grows { OnOk result (Grows lists.old lists.new) }
+    ensures followed { IfOk result (λ next. IsFollowed starts.now.starts chunk.now
+        (P.leads pools.now) (flow effect.flow effect.target)
+        (here.state.operands - effect.takes + effect.gives) here width lists.old lists.new
+        traversal.old.sent traversal.new.sent traversal.old.work.items
+        (traversal.new.work.items ++ option_to_list next)) }
+    ensures states { OnOk result (traversal.new.states ≡ traversal.old.states) }
+    ensures long { OnOk result (length traversal.new.sent ≡ length traversal.old.sent) }
+    ensures goes_on { GoesOn effect.flow → IfOk result (λ next. IfNone next ⊥) }
+    ensures floor { IfOk result (λ next. IfSome next (λ a.
+        CarriesFloor effect.flow lists.old lists.new here.state a.state)) }
+    ensures err { IfErr result (RefusesFlow starts.now.starts chunk.now
+        (P.leads pools.now) here.at (view lists.old here.state) (record here.state {
+          operands = here.state.operands - effect.takes + effect.gives;
+        }) traversal.old.sent (flow effect.flow effect.target)) }
+{
+    let work = &mut traversal.work;
+    let Arrival { at, state, .. } = here;
+    let target = effect.target;
+    let after = state.with(effect);
+    match effect.flow {
+        Flow::Falls => Ok(Some(here.next(width, after))),
+        Flow::Ends => Ok(None),
+        Flow::Jumps => match arrival_at(starts, chunk, at, target, after) {
+            Ok(next) => Ok(Some(next)),
+            Err(error) => Err(error),
+        },
+        Flow::Branches => match push_target(starts, chunk, at, target, after, work) {
+            Ok(()) => Ok(Some(here.next(width, after))),
+            Err(error) => Err(error),
+        },
+        Flow::Switches => {
+            let sent = &mut traversal.sent;
+            match push_table(starts, chunk, at, pools, target, after, sent, work) {
+                Ok(()) => Ok(None),
+                Err(error) => Err(error),
+            }
+        }
+        Flow::BeginsIterator => {
+            let begun = State {
+                iterators: state.iterators + 1,
+                ..after
+            };
+            Ok(Some(here.next(width, begun)))
+        }
+        Flow::AdvancesIterator => match push_ended(starts, chunk, at, target, state, work) {
+            Ok(()) => {
+                let advanced = State {
+                    operands: state.operands + 1,
+                    ..state
+                };
+                Ok(Some(here.next(width, advanced)))
+            }
+            Err(error) => Err(error),
+        },
+        Flow::EndsIterator => match state.without_iterators(1, at) {
+            Ok(ended) => Ok(Some(here.next(width, ended))),
+            Err(error) => Err(error),
+        },
+        Flow::PushesHandler => {
+            match push_armed(starts, chunk, at, target, state, lists, work) {
+                Ok(armed) => Ok(Some(here.next(width, armed))),
+                Err(error) => Err(error),
+            }
+        }
+        Flow::PopsHandler => match state.without_handler(at, lists) {
+            Ok(left) => Ok(Some(here.next(width, left))),
+            Err(error) => Err(error),
+        },
+    }
+}
+
+impl<'a, P: Read> Prepared<'a, P> {
+    /// The code beside pools, whose instructions begin there.
+    pub(crate) fn new(caps: Caps, code: &'a [u8], pools: &'a P, starts: Starts) -> Prepared<'a, P>
+        ensures { result ≡ record {
+          code = bytecode_beside caps.0 (P.facts pools.now) (P.leads pools.now) code.now;
+          starts = starts.starts;
+        } }
+    {
+        Prepared {
+            caps,
+            code,
+            pools,
+            starts,
+        }
+    }
+
+    /// How many bytes the code has.
+    pub(crate) fn len(&self) -> usize
+        ensures { result ≡ length self.now.code.bytes }
+    {
+        self.code.len()
+    }
+
+    /// Whether an instruction begins at an address.
+    pub(crate) fn is_start(&self, at: usize) -> bool
+        ensures { IsTrue result ↔ Contains self.now.starts at }
+    {
+        self.starts.contains(at)
+    }
+
+    /// How many instructions stand before an address, where one begins there.
+    pub(crate) fn ordinal(&self, at: usize) -> Option<usize>
+        ensures { (k : ℕ) → (result ≡ Some k) ↔ (slice_get self.now.starts k ≡ Some at) }
+    {
+        self.starts.ordinal(at)
+    }
+
+    /// Room for walks over all chunks, of which none has begun.
+    ///
+    /// # Errors
+    /// [`AllocError`] where the memory was refused.
+    pub(crate) fn traversal(&self, alloc: Global) -> Result<Traversal, AllocError>
+        ensures { IfOk result (Fits self.now) }
+    {
+        Traversal::new(alloc, self.starts.count(), self.pools.switches())
+    }
+
+    /// Room for what names and chains ask, of which nothing is known.
+    ///
+    /// # Errors
+    /// [`AllocError`] where the memory was refused.
+    pub(crate) fn asked(&self, alloc: Global) -> Result<Asked, AllocError>
+        ensures { IfOk result (Knows self.now.code.setting.facts) }
+    {
+        Asked::new(
+            alloc,
+            self.pools.size(Pool::Names),
+            self.pools.size(Pool::Chains),
+        )
+    }
+
+    /// The instruction that stands at an address, where its head is known.
+    #[inline(always)]
+    fn instruction(&self, at: u32, head: Head) -> Instruction<'a>
+        requires { HasHead self.now.code.bytes at head }
+        ensures found { (op : Op) × StandsAt self.now.code.bytes at op
+            × Instr (result.tag ∷ result.fields.now) op }
+        ensures tag { result.tag ≡ head.tag }
+    {
+        instruction_at(self.code, at as usize, head)
+    }
+
     /// Whether the host has what the instruction asks, and the operand stack what it needs. Else a machine would do what the
     /// host doesn't allow, or read below its operand stack.
     ///
@@ -119,12 +304,12 @@ impl Prepared<'_> {
     /// `MissingCaps`, or `Underflow` where nothing is missing.
     #[inline(always)]
     fn check_needs(&self, effect: Effect, at: u32, state: State) -> Result<(), VerifyError>
-        ensures allowed { OnOk result (Allows self.now.caps.0 effect.asks.0) }
+        ensures allowed { OnOk result (Allows self.now.code.setting.caps effect.asks.0) }
         ensures there { OnOk result (effect.needs ≤ state.operands) }
         ensures err { (op : Op) (lists : Lists)
-            → effect.asks.0 ≡ caps_of (bytecode_of self.now).setting op
-            → effect.needs ≡ needs (bytecode_of self.now).setting op
-            → IfErr result (λ e. RefusesState (bytecode_of self.now) op at (view lists state) e) }
+            → effect.asks.0 ≡ caps_of self.now.code.setting op
+            → effect.needs ≡ needs self.now.code.setting op
+            → IfErr result (λ e. RefusesState self.now.code op at (view lists state) e) }
     {
         let missing = missing(self.caps, effect.asks);
         if !missing.is_empty() {
@@ -144,115 +329,15 @@ impl Prepared<'_> {
         Ok(())
     }
 
-    /// Sends the state that an instruction of this width leaves to its targets, where it has what it asks and the operands
-    /// that it needs. It answers what falls through, or the target of a jump in place of pushing it. A way that was left out
-    /// here would lead runs to code that was never tested, or with other counts than were tested.
-    ///
-    /// # Errors
-    /// `IteratorUnderflow` or `HandlerUnderflow` where it lacks one; those of its targets; `DepthConflict` where another state
-    /// was sent to its switch before; `OutOfMemory` where it was refused.
-    #[inline(always)]
-    fn follow(
-        &self,
-        chunk: &Chunk,
-        effect: Effect,
-        here: Arrival,
-        width: usize,
-        lists: &mut Lists,
-        traversal: &mut Traversal,
-    ) -> Result<Option<Arrival>, VerifyError>
-        requires long { length traversal.old.sent ≡ length self.now.pools.now.switches.now }
-        requires operands { effect.needs ≤ here.state.operands }
-        requires operands_room { here.state.operands + 1 < 2 ^ 32 }
-        requires iterators_room { here.state.iterators + 1 < 2 ^ 32 }
-        requires room { here.at + width < 2 ^ 32 }
-        requires ordinal_room { here.ordinal + 1 < 2 ^ 64 }
-        requires shared { IsShared lists.old }
-        requires list { here.state.list ≤ list_count lists.old }
-        requires lists_room { list_count lists.old + 1 < 2 ^ 32 }
-        ensures met { OnOk result
-            (IsMetBy (flow effect.flow effect.target) (view lists.old here.state)) }
-        ensures grows { OnOk result (Grows lists.old lists.new) }
-        ensures followed { IfOk result (λ next. IsFollowed self.now.starts.starts chunk.now
-            (bytecode_of self.now).switches (flow effect.flow effect.target)
-            (here.state.operands - effect.takes + effect.gives) here width lists.old lists.new
-            traversal.old.sent traversal.new.sent traversal.old.work.items
-            (traversal.new.work.items ++ option_to_list next)) }
-        ensures states { OnOk result (traversal.new.states ≡ traversal.old.states) }
-        ensures long { OnOk result (length traversal.new.sent ≡ length traversal.old.sent) }
-        ensures goes_on { GoesOn effect.flow → IfOk result (λ next. IfNone next ⊥) }
-        ensures floor { IfOk result (λ next. IfSome next (λ a.
-            CarriesFloor effect.flow lists.old lists.new here.state a.state)) }
-        ensures err { IfErr result (RefusesFlow self.now.starts.starts chunk.now
-            (bytecode_of self.now).switches here.at (view lists.old here.state) (record here.state {
-              operands = here.state.operands - effect.takes + effect.gives;
-            }) traversal.old.sent (flow effect.flow effect.target)) }
-    {
-        let starts = &self.starts;
-        let work = &mut traversal.work;
-        let Arrival { at, state, .. } = here;
-        let target = effect.target;
-        let after = state.with(effect);
-        match effect.flow {
-            Flow::Falls => Ok(Some(here.next(width, after))),
-            Flow::Ends => Ok(None),
-            Flow::Jumps => match arrival_at(starts, chunk, at, target, after) {
-                Ok(next) => Ok(Some(next)),
-                Err(error) => Err(error),
-            },
-            Flow::Branches => match push_target(starts, chunk, at, target, after, work) {
-                Ok(()) => Ok(Some(here.next(width, after))),
-                Err(error) => Err(error),
-            },
-            Flow::Switches => {
-                let switches = self.pools.switches;
-                let sent = &mut traversal.sent;
-                match push_table(starts, chunk, at, switches, target, after, sent, work) {
-                    Ok(()) => Ok(None),
-                    Err(error) => Err(error),
-                }
-            }
-            Flow::BeginsIterator => {
-                let begun = State {
-                    iterators: state.iterators + 1,
-                    ..after
-                };
-                Ok(Some(here.next(width, begun)))
-            }
-            Flow::AdvancesIterator => match push_ended(starts, chunk, at, target, state, work) {
-                Ok(()) => {
-                    let advanced = State {
-                        operands: state.operands + 1,
-                        ..state
-                    };
-                    Ok(Some(here.next(width, advanced)))
-                }
-                Err(error) => Err(error),
-            },
-            Flow::EndsIterator => match state.without_iterators(1, at) {
-                Ok(ended) => Ok(Some(here.next(width, ended))),
-                Err(error) => Err(error),
-            },
-            Flow::PushesHandler => {
-                match push_armed(starts, chunk, at, target, state, lists, work) {
-                    Ok(armed) => Ok(Some(here.next(width, armed))),
-                    Err(error) => Err(error),
-                }
-            }
-            Flow::PopsHandler => match state.without_handler(at, lists) {
-                Ok(left) => Ok(Some(here.next(width, left))),
-                Err(error) => Err(error),
-            },
-        }
-    }
-
     /// What an instruction does. It is decoded where its tag and its target don't tell, since decoding takes longer.
     #[inline(always)]
-    fn effect_of(&self, instruction: &Instruction<'_>, row: &TagRow) -> Effect
+    fn effect_of(&self, instruction: &Instruction<'_>, row: &TagRow, asked: &mut Asked) -> Effect
         requires row { IsRowOf row.now instruction.now.tag }
         requires known { (op : Op) × Instr (instruction.now.tag ∷ instruction.now.fields.now) op }
-        ensures { (op : Op) → Instr (instruction.now.tag ∷ instruction.now.fields.now) op
-            → IsEffectIn self.now.pools.now.chains.now self.now.asked result op }
+        requires knows { Knows self.now.code.setting.facts asked.old }
+        ensures knows { Knows self.now.code.setting.facts asked.new }
+        ensures does { (op : Op) → Instr (instruction.now.tag ∷ instruction.now.fields.now) op
+            → IsEffectIn self.now.code.setting.facts result op }
     {
         if let Some(effect) = effect_by_tag(instruction, row) {
             return effect;
@@ -260,7 +345,7 @@ impl Prepared<'_> {
         let Some(op) = instruction.op() else {
             unreachable!();
         };
-        Effect::of(&op, self.pools.chains, &self.asked)
+        Effect::of(&op, self.pools, asked)
     }
 
     /// Follows the flow of an instruction that has all that it asks and needs but maybe an iterator or a handler. It answers
@@ -268,7 +353,7 @@ impl Prepared<'_> {
     /// [`Prepared::visit_by_tag`] for the prover alone, which is told here once why the walk stays right.
     ///
     /// # Errors
-    /// Those of [`Prepared::follow`].
+    /// Those of [`follow`].
     #[inline(always)]
     fn follow_passing(
         &self,
@@ -286,9 +371,18 @@ impl Prepared<'_> {
         ensures goes_on { GoesOn effect.flow → IfOk result (λ next. IfNone next ⊥) }
         ensures floor { IfOk result (λ next. IfSome next (λ a.
             CarriesFloor effect.flow lists.old lists.new here.state a.state)) }
-        ensures err { IfErr result (RefusesChunk (bytecode_of self.now) chunk.now) }
+        ensures err { IfErr result (RefusesChunk self.now.code chunk.now) }
     {
-        self.follow(chunk, effect, here, instruction.width(), lists, traversal)
+        follow(
+            &self.starts,
+            self.pools,
+            chunk,
+            effect,
+            here,
+            instruction.width(),
+            lists,
+            traversal,
+        )
     }
 
     /// Visits an instruction: tests what it asks and needs and what it leaves as it was, and follows its flow. It answers the
@@ -305,16 +399,19 @@ impl Prepared<'_> {
         row: &TagRow,
         lists: &mut Lists,
         traversal: &mut Traversal,
+        asked: &mut Asked,
     ) -> Result<Option<Arrival>, VerifyError>
         requires marked { IsMarked self.now chunk.now lists.old traversal.old here }
-        requires headed { HasHead self.now.code.now here.at head }
+        requires headed { HasHead self.now.code.bytes here.at head }
         requires row { IsRowOf row.now head.tag }
+        requires knows { Knows self.now.code.setting.facts asked.old }
         ensures visited { IfOk result (λ next. IsVisited self.now chunk.now lists.old lists.new
             traversal.old traversal.new here (option_to_list next)) }
-        ensures err { IfErr result (RefusesChunk (bytecode_of self.now) chunk.now) }
+        ensures knows { Knows self.now.code.setting.facts asked.new }
+        ensures err { IfErr result (RefusesChunk self.now.code chunk.now) }
     {
-        let instruction = instruction_at(self.code, here.at as usize, head);
-        let effect = self.effect_of(&instruction, row);
+        let instruction = self.instruction(here.at, head);
+        let effect = self.effect_of(&instruction, row, asked);
         self.check_needs(effect, here.at, here.state)?;
         check_stays(&instruction, effect, here, lists)?;
         self.follow_passing(chunk, here, &instruction, effect, lists, traversal)
@@ -325,7 +422,7 @@ impl Prepared<'_> {
     /// the host, and the operands above the floor are those that it may take.
     ///
     /// # Errors
-    /// Those of [`Prepared::follow`].
+    /// Those of [`follow`].
     #[inline(always)]
     fn visit_by_tag(
         &self,
@@ -338,7 +435,7 @@ impl Prepared<'_> {
         traversal: &mut Traversal,
     ) -> Result<Arrival, VerifyError>
         requires marked { IsMarked self.now chunk.now lists.old traversal.old here }
-        requires headed { HasHead self.now.code.now here.at head }
+        requires headed { HasHead self.now.code.bytes here.at head }
         requires row { IsRowOf row.now head.tag }
         requires flow { tag_flow row.now.flow ≡ Some flow }
         requires goes_on { GoesOn flow }
@@ -348,9 +445,9 @@ impl Prepared<'_> {
             traversal.old traversal.new here (next ∷ [])) }
         ensures floor { IfOk result (λ next.
             CarriesFloor flow lists.old lists.new here.state next.state) }
-        ensures err { IfErr result (RefusesChunk (bytecode_of self.now) chunk.now) }
+        ensures err { IfErr result (RefusesChunk self.now.code chunk.now) }
     {
-        let instruction = instruction_at(self.code, here.at as usize, head);
+        let instruction = self.instruction(here.at, head);
         let effect = effect_by_row(&instruction, row, flow);
         match self.follow_passing(chunk, here, &instruction, effect, lists, traversal)? {
             Some(next) => Ok(next),
@@ -362,11 +459,11 @@ impl Prepared<'_> {
     /// is other code, whose counts this walk doesn't know.
     #[inline(always)]
     fn head_at(&self, chunk: &Chunk, at: u32) -> Option<Head>
-        requires framed { IsFramed (bytecode_of self.now) chunk.now }
-        requires place { at < chunk.now.end → IsInChunk (coded (bytecode_of self.now)) chunk.now at }
+        requires framed { IsFramed self.now.code chunk.now }
+        requires place { at < chunk.now.end → IsInChunk (coded self.now.code) chunk.now at }
         ensures inside { IfSome result (λ _. at < chunk.now.end) }
         ensures addresses { chunk.now.end < 2 ^ 32 }
-        ensures headed { IfSome result (HasHead self.now.code.now at) }
+        ensures headed { IfSome result (HasHead self.now.code.bytes at) }
         ensures none { IfNone result (chunk.now.end ≤ at) }
     {
         let code = &self.code[..chunk.end() as usize];
@@ -394,7 +491,7 @@ impl Prepared<'_> {
         requires counted { visits.old ≡ visits_in traversal.old.states }
         ensures halts { HaltsAt self.now chunk.now lists.now traversal.new here deepest.new }
         ensures counted { visits.new ≡ visits_in traversal.new.states }
-        ensures within { visits.new ≤ starts_within self.now.starts.starts chunk.now }
+        ensures within { visits.new ≤ starts_within self.now.starts chunk.now }
         ensures more { visits_in traversal.new.states ≡ visits_in traversal.old.states + 1 }
         ensures long { length traversal.new.states ≡ length traversal.old.states }
         ensures work { traversal.new.work ≡ traversal.old.work }
@@ -421,22 +518,25 @@ impl Prepared<'_> {
         from: Arrival,
         lists: &mut Lists,
         traversal: &mut Traversal,
+        asked: &mut Asked,
         visits: &mut u32,
         deepest: &mut u32,
     ) -> Result<(), VerifyError>
         requires ready { IsReady self.now }
-        requires framed { IsFramed (bytecode_of self.now) chunk.now }
+        requires knows { Knows self.now.code.setting.facts asked.old }
+        requires framed { IsFramed self.now.code chunk.now }
         requires walking { IsWalking self.now chunk.now lists.old traversal.old
             (traversal.old.work.items ++ from ∷ []) deepest.old }
         requires counted { visits.old ≡ visits_in traversal.old.states }
         ensures walking { OnOk result (IsWalking self.now chunk.now lists.new traversal.new
             traversal.new.work.items deepest.new) }
         ensures counted { OnOk result (visits.new ≡ visits_in traversal.new.states) }
-        ensures within { visits.new ≤ starts_within self.now.starts.starts chunk.now }
+        ensures within { visits.new ≤ starts_within self.now.starts chunk.now }
         ensures lighter { OnOk result (weight self.now traversal.new
             (length traversal.new.work.items)
             < weight self.now traversal.old (length traversal.old.work.items + 1)) }
-        ensures err { IfErr result (RefusesChunk (bytecode_of self.now) chunk.now) }
+        ensures knows { OnOk result (Knows self.now.code.setting.facts asked.new) }
+        ensures err { IfErr result (RefusesChunk self.now.code chunk.now) }
     {
         let mut here = from;
         let mut floor = from.state.floor(lists);
@@ -482,7 +582,7 @@ impl Prepared<'_> {
                     }
                     floor = here.state.floor(lists);
                 }
-                _ => match self.visit(chunk, here, head, row, lists, traversal) {
+                _ => match self.visit(chunk, here, head, row, lists, traversal, asked) {
                     Ok(Some(next)) => {
                         here = next;
                         floor = here.state.floor(lists);
@@ -506,24 +606,29 @@ impl Prepared<'_> {
         ordinal: usize,
         lists: &mut Lists,
         traversal: &mut Traversal,
+        asked: &mut Asked,
         visits: &mut u32,
     ) -> Result<u32, VerifyError>
         requires ready { IsReady self.now }
-        requires framed { IsFramed (bytecode_of self.now) chunk.now }
+        requires knows { Knows self.now.code.setting.facts asked.old }
+        requires framed { IsFramed self.now.code chunk.now }
         requires holds { chunk.now.entry < chunk.now.end }
-        requires place { slice_get self.now.starts.starts ordinal ≡ Some chunk.now.entry }
+        requires place { slice_get self.now.starts ordinal ≡ Some chunk.now.entry }
         requires fits { Fits self.now traversal.old }
         requires shared { IsShared lists.old }
         requires none { visits.old ≡ 0 }
-        ensures typed { IfOk result (λ n. HasTyping (coded (bytecode_of self.now)) chunk.now n) }
-        ensures deepest { IfOk result (λ n. IsDeepest (coded (bytecode_of self.now)) chunk.now n) }
-        ensures within { visits.new ≤ starts_within self.now.starts.starts chunk.now }
+        ensures typed { IfOk result (λ n. HasTyping (coded self.now.code) chunk.now n) }
+        ensures deepest { IfOk result (λ n. IsDeepest (coded self.now.code) chunk.now n) }
+        ensures within { visits.new ≤ starts_within self.now.starts chunk.now }
         ensures reached { OnOk result
-            (IsReachedCount (coded (bytecode_of self.now)) chunk.now visits.new) }
-        ensures err { IfErr result (RefusesChunk (bytecode_of self.now) chunk.now) }
+            (IsReachedCount (coded self.now.code) chunk.now visits.new) }
+        ensures knows { OnOk result (Knows self.now.code.setting.facts asked.new) }
+        ensures err { IfErr result (RefusesChunk self.now.code chunk.now) }
         ensures fits { OnOk result (Fits self.now traversal.new) }
         ensures shared { OnOk result (IsShared lists.new) }
     {
+        // The walk reads its end at each instruction.
+        let chunk = *chunk;
         traversal.begin_chunk();
         lists.clear();
         let mut deepest = 0;
@@ -533,7 +638,7 @@ impl Prepared<'_> {
             state: State::NOTHING,
         };
         'arrivals: loop {
-            self.walk_from(chunk, from, lists, traversal, visits, &mut deepest)?;
+            self.walk_from(&chunk, from, lists, traversal, asked, visits, &mut deepest)?;
             match traversal.work.pop() {
                 Some(arrival) => from = arrival,
                 None => return Ok(deepest),

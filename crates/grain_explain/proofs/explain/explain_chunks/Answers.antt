@@ -12,7 +12,7 @@ use Rattle.grain_explain.proofs.explain.explain_chunks.Goals as goal
 
 pub explain-requires : goal.explain-requires
 explain-requires c =
-    let whole = not_err c.check_code.result (sym c.is_err.ensures.value ∙ c.if-is_err.false) c.check_code.ensures.ok c.args.caps in
+    let whole = not_err c.check_code.result (sym c.is_err.ensures.value ∙ c.if-is_err.false) c.check_code.ensures.ok c.args.caps.0 in
     let split : Split c.args.code.now (starts_from 0 whole.0) = (whole.0, whole.1, refl) in
     let known = c.in_ok-starts.ensures.whole (starts_from 0 whole.0) split in
     subst (Split c.args.code.now) (sym (ap (λ (f : Front). f.starts) known)) split

@@ -1,7 +1,6 @@
-use Rattle.std.proofs.Common.{◌≡◌, ◌∙◌, length, zip, ap, rules}
+use Rattle.std.proofs.Common.{◌≡◌, length, zip, rules}
 use Rattle.std.proofs.lemmas.List.{length-map}
 use Rattle.grain_flat.specs.Explaining.{all_bases_told, other_of, way_of}
-use Rattle.grain_flat.specs.declared.records.CRow.{CRow}
 use Rattle.grain_flat.proofs.explaining.rows_of.Goals as goal
 
 pub returns : goal.returns

@@ -18,7 +18,7 @@ returns-in_default-clause-err g c = undecodable (record { inside = c.requires.in
 
 pub returns-in-Ok-clause-ok : goal.returns-in-Ok-clause-ok
 returns-in-Ok-clause-ok g c =
-    let s = alone c.args.pools.now in
+    let s = alone (g.P.Read.facts c.args.pools.now) in
     let i = c.in-Some.instruction in
     let found = c.in-Some.ensures.found in
     let op = c.in-Some-op.op in
@@ -34,4 +34,4 @@ returns-in-Err-clause-err g c =
     let op = c.in-Some-op.op in
     let same = same_instruction (i.tag ∷ i.fields.now) found.0 op found.2 c.in-Some-op.ensures.found in
     bad_index op (record { inside = c.requires.inside; front = c.requires.front }) (subst (λ (o : Op). StandsAt c.args.code.now c.args.at o) same found.1)
-    (subst (λ (what : List ℕ). IsOut (alone c.args.pools.now) op what c.in-Err.bad.index) (sym c.word_of.ensures) c.in-Err.ensures.err)
+    (subst (λ (what : List ℕ). IsOut (alone (g.P.Read.facts c.args.pools.now)) op what c.in-Err.bad.index) (sym c.word_of.ensures) c.in-Err.ensures.err)

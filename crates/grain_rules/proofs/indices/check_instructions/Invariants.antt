@@ -7,8 +7,8 @@ use Rattle.grain_rules.proofs.indices.check_instructions.Given as goal
 abbrev pub invariant-loop-at : goal.invariant-loop-at
 invariant-loop-at g l = record {
   in_code : l.at ≤ length l.code;
-  front : AreIndexed (alone l.pools) (take l.at l.code);
-  passed : HavePassed l.pools l.passed.chains l.passed.switches;
+  front : AreIndexed (alone (g.P.Read.facts l.pools)) (take l.at l.code);
+  passed : HavePassed (g.P.Read.facts l.pools) l.passed.chains l.passed.switches;
 }
 
 abbrev pub decreases-loop-at : goal.decreases-loop-at

@@ -5,11 +5,11 @@ use Rattle.grain_rules.specs.Layout.{IsBoundary}
 use Rattle.grain_verify.proofs.Places.{contains_place, placed_contains}
 use Rattle.grain_verify.proofs.Refusing.{start_listed}
 use Rattle.grain_verify.proofs.chunk.check_frame.Goals as goal
-use Rattle.grain_verify.proofs.chunk.check_frame.Goals.{else-end-len-2-via-then-end-len-2+else-not-contains, else-end-len-2-via-else-end-len-2}
+use Rattle.grain_verify.proofs.chunk.check_frame.Goals.{else-end-len-2-via-then-end-len-2+else-not-is_start, else-end-len-2-via-else-end-len-2}
 
 pub returns-in_default-clause-err : goal.returns-in_default-clause-err
-returns-in_default-clause-err c =
-    let starts = c.args.prepared.now.starts.starts in
+returns-in_default-clause-err g c =
+    let starts = c.args.prepared.now.starts in
     let entry = c.args.chunk.now.entry in
     let named = c.entry-entry.ensures in (
       inl (
@@ -19,8 +19,8 @@ returns-in_default-clause-err c =
         inl (
           c.entry-in_default.ensures,
           λ s.
-              let place = contains_place starts entry (start_listed c.args.prepared.now.code.now starts entry c.requires.starts s) in
-              c.in_default.not-Some place.0 ((c.ordinal.ensures.place place.0).1 (place.1 ∙ ap (λ (n : ℕ). Some n) (sym named))),
+              let place = contains_place starts entry (start_listed c.args.prepared.now.code.bytes starts entry c.requires.starts s) in
+              c.in_default.not-Some place.0 ((c.ordinal.ensures place.0).1 (place.1 ∙ ap (λ (n : ℕ). Some n) (sym named))),
         ),
       ),
       λ e. absurd cc,
@@ -31,14 +31,14 @@ not_listed : (bytes starts : List ℕ) (at : ℕ) → Split bytes starts → (Co
 not_listed bytes starts at split un l (inl s) = un (start_listed bytes starts at split s)
 not_listed bytes starts at split un l (inr e) = absurd (omega arith)
 
-pub returns-then-not-contains-clause-err : goal.returns-then-not-contains-clause-err
-returns-then-not-contains-clause-err c =
-    let starts = c.args.prepared.now.starts.starts in
-    let bytes = c.args.prepared.now.code.now in
+pub returns-then-not-is_start-clause-err : goal.returns-then-not-is_start-clause-err
+returns-then-not-is_start-clause-err g c =
+    let starts = c.args.prepared.now.starts in
+    let bytes = c.args.prepared.now.code.bytes in
     let entry = c.entry-entry.ensures in
     let end = c.end-end.ensures in
-    let last = c.end-then-not-contains.ensures in
-    let un : Contains starts c.args.chunk.now.end → ⊥ = λ h. (let t : c.contains.result ≡ true = c.contains.ensures.1 (subst (Contains starts) (sym end) h) in let f = c.if-not-contains.true in cc) in (
+    let last = c.end-then-not-is_start.ensures in
+    let un : Contains starts c.args.chunk.now.end → ⊥ = λ h. (let t : c.is_start.result ≡ true = c.is_start.ensures.1 (subst (Contains starts) (sym end) h) in let f = c.if-not-is_start.true in cc) in (
       inl (
         let l = c.if-end-len.false in omega arith,
         let a = c.if-entry-end.false in let b = c.if-entry-end-2.false in omega arith,
@@ -49,7 +49,7 @@ returns-then-not-contains-clause-err c =
             starts = starts;
             split = c.requires.starts;
             here = subst (Contains starts) entry
-                (placed_contains starts c.in-Some.ordinal c.entry-entry.result ((c.ordinal.ensures.place c.in-Some.ordinal).0 c.in-Some.is));
+                (placed_contains starts c.in-Some.ordinal c.entry-entry.result ((c.ordinal.ensures c.in-Some.ordinal).0 c.in-Some.is));
           },
           not_listed bytes starts c.args.chunk.now.end c.requires.starts un (let l = c.if-end-len-2.true in omega arith),
         ),
@@ -58,9 +58,9 @@ returns-then-not-contains-clause-err c =
     )
 
 pub returns-clause-framed : goal.returns-clause-framed
-returns-clause-framed c =
-    let starts = c.args.prepared.now.starts.starts in
-    let bytes = c.args.prepared.now.code.now in
+returns-clause-framed g c =
+    let starts = c.args.prepared.now.starts in
+    let bytes = c.args.prepared.now.code.bytes in
     let entry = c.entry-entry.ensures in
     let end = c.end-end.ensures in
     record {
@@ -70,11 +70,11 @@ returns-clause-framed c =
         starts = starts;
         split = c.requires.starts;
         here = subst (Contains starts) entry
-            (placed_contains starts c.in-Some.ordinal c.entry-entry.result ((c.ordinal.ensures.place c.in-Some.ordinal).0 c.in-Some.is));
+            (placed_contains starts c.in-Some.ordinal c.entry-entry.result ((c.ordinal.ensures c.in-Some.ordinal).0 c.in-Some.is));
       };
       end = elim c.else-end-len-2.branch as (λ _. IsBoundary bytes c.args.chunk.now.end) [
-        | else-end-len-2-via-then-end-len-2+else-not-contains w ↦ inl
-            (record { starts = starts; split = c.requires.starts; here = subst (Contains starts) end (w.contains.ensures.0 (let f = w.if-not-contains.false in cc)) })
+        | else-end-len-2-via-then-end-len-2+else-not-is_start w ↦ inl
+            (record { starts = starts; split = c.requires.starts; here = subst (Contains starts) end (w.is_start.ensures.0 (let f = w.if-not-is_start.false in cc)) })
         | else-end-len-2-via-else-end-len-2 w ↦ inr (let l = w.if-end-len-2.false in let m = c.if-end-len.false in omega arith)
       ];
     }

@@ -1,33 +1,33 @@
 use Rattle.std.proofs.Common.{refl}
 use Rattle.std.proofs.lemmas.Result.{err_from_is_err_and, IfErr-weaker}
 use Rattle.grain_rules.specs.Flaw.{of_code, of_constant, of_functions}
-use Rattle.grain_rules.specs.Setting.{setting}
+use Rattle.grain_rules.specs.Setting.{with_caps}
 use Rattle.grain_rules.proofs.Whole.{none_asks, no_code_flaw}
 use Rattle.grain_verify.proofs.verifier.check_before_chunks.Goals as goal
 
 pub returns-in_err-check_constants-clause-refused : goal.returns-in_err-check_constants-clause-refused
-returns-in_err-check_constants-clause-refused c chunks a =
+returns-in_err-check_constants-clause-refused g c chunks a =
     let h = c.in_err-check_constants.ensures.err in
     absurd (none_asks c.args.caps.0 c.args.consts.now h.0.0 a.constants h.2)
 
 pub returns-in_err-check_constants-clause-flaws : goal.returns-in_err-check_constants-clause-flaws
-returns-in_err-check_constants-clause-flaws c chunks =
+returns-in_err-check_constants-clause-flaws g c chunks =
     let p = err_from_is_err_and c.from_residual.result c.from_residual.ensures.1 in
     let (asked, is, asks) = c.in_err-check_constants.ensures.err in
     rw (p.1, p.2, is) (of_constant refl asks)
 
 pub returns-in_err-check_code-clause-refused : goal.returns-in_err-check_code-clause-refused
-returns-in_err-check_code-clause-refused c chunks a =
-    absurd (no_code_flaw (setting c.args.caps c.args.pools.now) c.args.code.now c.in_err-check_code.field-0.0 a.code (c.in_err-check_code.ensures.err c.args.caps))
+returns-in_err-check_code-clause-refused g c chunks a =
+    absurd (no_code_flaw (with_caps c.args.caps.0 (g.P.Read.facts c.args.pools.now)) c.args.code.now c.in_err-check_code.field-0.0 a.code (c.in_err-check_code.ensures.err c.args.caps.0))
 
 pub returns-in_err-check_code-clause-flaws : goal.returns-in_err-check_code-clause-flaws
-returns-in_err-check_code-clause-flaws c chunks =
+returns-in_err-check_code-clause-flaws g c chunks =
     let p = err_from_is_err_and c.from_residual-in_err-check_code.result c.from_residual-in_err-check_code.ensures.1 in
-    rw (p.1, p.2) (of_code c.in_ok-check_constants.ensures.ok (c.in_err-check_code.ensures.err c.args.caps))
+    rw (p.1, p.2) (of_code c.in_ok-check_constants.ensures.ok (c.in_err-check_code.ensures.err c.args.caps.0))
 
 pub returns-clause-flaws : goal.returns-clause-flaws
-returns-clause-flaws c chunks =
+returns-clause-flaws g c chunks =
     let constants = c.in_ok-check_constants.ensures.ok in
-    let code = c.in_ok-check_code.ensures.ok c.args.caps in
+    let code = c.in_ok-check_code.ensures.ok c.args.caps.0 in
     IfErr-weaker c.check_functions.result _ _ (λ e (asked, is, some, what, refused).
     rw is (of_functions refl (record { constants = constants; code = code; functions = some; what = what; refused = refused }))) c.check_functions.ensures.err

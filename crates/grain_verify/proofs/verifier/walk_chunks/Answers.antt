@@ -1,37 +1,37 @@
 use Rattle.std.proofs.Common.{◌∙◌, arith}
 use Rattle.grain_rules.specs.Code.{coded}
 use Rattle.grain_rules.specs.Typing.{HasTyping, IsDeepest}
-use Rattle.grain_verify.specs.Walk.{bytecode_of}
 use Rattle.grain_verify.proofs.Metering.{counted_more, counted_refused}
 use Rattle.grain_verify.proofs.Chunks.{passes_more, passes_there, refused_at, number_more}
 use Rattle.grain_verify.proofs.verifier.walk_chunks.Goals as goal
 
 pub returns-in-Err-clause-accepts : goal.returns-in-Err-clause-accepts
-returns-in-Err-clause-accepts c all =
+returns-in-Err-clause-accepts g c all =
     c.of_chunk.ensures.error
-    ∙ c.in-Err.ensures.accepts (passes_there (bytecode_of c.args.prepared.now) c.args.chunks.now c.loop-place.place c.index-chunks-place.result c.loop-place-test.true c.index-chunks-place.is all)
+    ∙ c.in-Err.ensures.accepts (passes_there c.args.prepared.now.code c.args.chunks.now c.loop-place.place c.index-chunks-place.result c.loop-place-test.true c.index-chunks-place.is all)
 
 pub returns-in-Err-clause-flaws : goal.returns-in-Err-clause-flaws
-returns-in-Err-clause-flaws c =
+returns-in-Err-clause-flaws g c =
     let of = c.of_chunk.ensures in
-    refused_at (bytecode_of c.args.prepared.now) c.args.chunks.now c.loop-place.place c.index-chunks-place.result c.in-Err.error c.of_chunk.result c.loop-place-test.true c.index-chunks-place.is
+    refused_at c.args.prepared.now.code c.args.chunks.now c.loop-place.place c.index-chunks-place.result c.in-Err.error c.of_chunk.result c.loop-place-test.true c.index-chunks-place.is
     c.loop-place.invariant.passes of.error of.place of.memory c.in-Err.ensures.flaws
 
 pub returns-in-Err-clause-metered : goal.returns-in-Err-clause-metered
-returns-in-Err-clause-metered c =
-    counted_refused (bytecode_of c.args.prepared.now) c.args.prepared.now.starts.starts c.args.chunks.now c.loop-place.place c.index-chunks-place.result c.args.meter.now c.loop-place.meter
+returns-in-Err-clause-metered g c =
+    counted_refused c.args.prepared.now.code c.args.prepared.now.starts c.args.chunks.now c.loop-place.place c.index-chunks-place.result c.args.meter.now c.loop-place.meter
     c.verify_chunk.new.meter c.loop-place-test.true c.index-chunks-place.is c.loop-place.invariant.counted c.in-Err.error c.in-Err.ensures.metered c.of_chunk.result
 
 pub loop-place-preserved : goal.loop-place-preserved
-loop-place-preserved c =
+loop-place-preserved g c =
     let v = c.in-Ok.ensures in
-    let code = bytecode_of c.args.prepared.now in
+    let code = c.args.prepared.now.code in
     record {
       fits = v.fits;
       shared = v.shared;
+      knows = v.knows;
       one_each = omega (arith, c.push_reserved.ensures.len, c.loop-place.invariant.one_each);
       reserved = omega (arith, c.push_reserved.ensures.capacity, c.loop-place.invariant.reserved);
-      counted = counted_more code c.args.prepared.now.starts.starts c.args.chunks.now c.loop-place.place c.index-chunks-place.result c.args.meter.now c.loop-place.meter
+      counted = counted_more code c.args.prepared.now.starts c.args.chunks.now c.loop-place.place c.index-chunks-place.result c.args.meter.now c.loop-place.meter
           c.verify_chunk.new.meter c.loop-place-test.true c.index-chunks-place.is c.loop-place.invariant.counted c.in-Ok.needed v.metered;
       passes = passes_more code c.args.chunks.now c.loop-place.place c.index-chunks-place.result c.loop-place-test.true c.index-chunks-place.is c.loop-place.invariant.passes v.passes;
       deepest = rw c.push_reserved.ensures.items (number_more (IsDeepest (coded code)) c.args.chunks.now c.loop-place.deepest.items c.loop-place.place c.index-chunks-place.result
@@ -41,5 +41,5 @@ loop-place-preserved c =
     }
 
 pub returns-clause-passes : goal.returns-clause-passes
-returns-clause-passes c k d l =
+returns-clause-passes g c k d l =
     c.loop-place.invariant.passes k d (omega arith) (let h = c.loop-place-test.false in omega arith)

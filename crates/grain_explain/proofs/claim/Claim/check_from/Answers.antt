@@ -1,4 +1,4 @@
-use Rattle.std.proofs.Common.{◌≡◌, Some, ap, arith, subst, ◌∙◌}
+use Rattle.std.proofs.Common.{◌≡◌, Some, ap, subst, ◌∙◌}
 use Rattle.grain_rules.specs.Counts.{nothing}
 use Rattle.grain_explain.specs.RowView.{typing_of}
 use Rattle.grain_explain.proofs.Certified.{certified}

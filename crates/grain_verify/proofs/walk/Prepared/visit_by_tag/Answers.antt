@@ -8,7 +8,6 @@ use Rattle.grain_verify.specs.FlowView.{flow}
 use Rattle.grain_verify.specs.Plain.{GoesOn}
 use Rattle.grain_rules.specs.Sinking.{ReachesUpTo}
 use Rattle.grain_verify.specs.Visits.{CarriesFloor, IsVisited}
-use Rattle.grain_verify.specs.Walk.{bytecode_of}
 use Rattle.grain_verify.specs.declared.flow.Flow.{Flow}
 use Rattle.grain_verify.specs.declared.state.Arrival.{Arrival}
 use Rattle.grain_verify.proofs.Flows.{goes_freely, nothing_missing}
@@ -16,12 +15,12 @@ use Rattle.grain_verify.proofs.Staying.{untouched_known}
 use Rattle.grain_verify.proofs.walk.Prepared.visit_by_tag.Goals as goal
 
 pub follow_passing-requires-clause-passing : goal.follow_passing-requires-clause-passing
-follow_passing-requires-clause-passing c =
-    let setting = (bytecode_of c.args.self.now).setting in
+follow_passing-requires-clause-passing g c =
+    let setting = c.args.self.now.code.setting in
     let here = c.args.here in
-    let i = c.instruction_at-instruction.result in
-    let op = c.instruction_at-instruction.ensures.found.0 in
-    let is = c.instruction_at-instruction.ensures.found.2 in
+    let i = c.instruction-instruction.result in
+    let op = c.instruction-instruction.ensures.found.0 in
+    let is = c.instruction-instruction.ensures.found.2 in
     let row = c.args.row.now in
     let does = c.effect_by_row-effect.result in
     let e = c.effect_by_row-effect.ensures in
@@ -33,7 +32,7 @@ follow_passing-requires-clause-passing c =
     let reaches = is_floor (here.state.operands - row.takes) (omega arith) (omega (arith, above, c.requires.row.there)) in
     record {
       op = op;
-      stands = c.instruction_at-instruction.ensures.found.1;
+      stands = c.instruction-instruction.ensures.found.1;
       is = is;
       does = record { operands = λ s same. known.operands s; asks = λ s asked. known.asks s; flow_is = known.flow_is };
       allowed = subst (Allows setting.caps) (sym e.asks) (nothing_missing setting.caps);
@@ -44,17 +43,17 @@ follow_passing-requires-clause-passing c =
     }
 
 pub unreachable-requires : goal.unreachable-requires
-unreachable-requires c =
+unreachable-requires g c =
     let goes = c.in_ok-next.ensures.goes_on (subst GoesOn (sym c.effect_by_row-effect.ensures.flow) c.requires.goes_on) in
     subst (λ (o : Option Arrival). IfNone o ⊥) c.in-None.is goes
 
 pub returns-clause-visited : goal.returns-clause-visited
-returns-clause-visited c =
+returns-clause-visited g c =
     let new = c.follow_passing.new in
     subst (λ (o : Option Arrival). IsVisited c.args.self.now c.args.chunk.now c.args.lists.now new.lists c.args.traversal.now new.traversal c.args.here (option_to_list o)) c.in-Some.is c.in_ok-next.ensures.visited
 
 pub returns-clause-floor : goal.returns-clause-floor
-returns-clause-floor c =
+returns-clause-floor g c =
     let carries : Flow → Arrival → Type 0 = λ w a. CarriesFloor w c.args.lists.now c.follow_passing.new.lists c.args.here.state a.state in
     let known = subst (λ (o : Option Arrival). IfSome o (carries c.effect_by_row-effect.result.flow)) c.in-Some.is c.in_ok-next.ensures.floor in
     subst (λ (w : Flow). carries w c.in-Some.next) c.effect_by_row-effect.ensures.flow known

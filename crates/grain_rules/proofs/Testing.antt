@@ -1,5 +1,5 @@
 -- Indices tested in order: the first that is out of bounds.
-use Rattle.std.proofs.Common.{◌≡◌, ℕ, ◌<◌, ◌≤◌, List, [], ◌∷◌, ◌++◌, Bool, true, false, cond, nat_lt, Option, Some, None, refl, ap, ◌∙◌, arith, inl, inr}
+use Rattle.std.proofs.Common.{◌≡◌, ℕ, ◌<◌, ◌≤◌, List, [], ◌∷◌, ◌++◌, Bool, true, false, cond, nat_lt, map, Option, Some, None, refl, ap, ◌∙◌, arith, inl, inr}
 use Rattle.std.proofs.lemmas.Bool.Decides.{nat_tests}
 use Rattle.std.specs.List.{AllByRecursion}
 use Rattle.std.specs.Option.{option_or}
@@ -9,7 +9,8 @@ use Rattle.grain_pools.proofs.Past.{past_none, past_some}
 use Rattle.grain_code.specs.declared.op.Op.{Op}
 use Rattle.grain_code.specs.declared.field.Pool.TheVariants.{Constants}
 use Rattle.grain_rules.specs.FirstOut.{first_out}
-use Rattle.grain_rules.specs.Indices.{Indexed, IsOut, IsPassed, Test, cases_of, entry_name, tests_of}
+use Rattle.grain_rules.specs.Facts.{Mention}
+use Rattle.grain_rules.specs.Indices.{Indexed, IsOut, IsPassed, Test, cases_of, entry_name, test_of, tests_of}
 use Rattle.grain_rules.specs.Setting.{Setting}
 
 or_cond : {A : Type 0} (b : Bool) (x y : Option A) (z : A) → cond b (option_or x y) (Some z) ≡ option_or (cond b x (Some z)) y
@@ -21,6 +22,14 @@ pub out_append : (ts us : List Test) → first_out (ts ++ us) ≡ option_or (fir
 out_append [] us = refl
 out_append (t ∷ ts) us =
     ap (λ r. cond (nat_lt t.index t.bound) r (Some (t.what, t.index))) (out_append ts us) ∙ or_cond (nat_lt t.index t.bound) (first_out ts) (first_out us) (t.what, t.index)
+
+-- the same of what is named
+pub mentions_append : (s : Setting) (is js : List Mention) → first_out (map (test_of s) (is ++ js)) ≡ option_or (first_out (map (test_of s) is)) (first_out (map (test_of s) js))
+mentions_append s [] js = refl
+mentions_append s (i ∷ is) js =
+    let t = test_of s i in
+    ap (λ r. cond (nat_lt t.index t.bound) r (Some (t.what, t.index))) (mentions_append s is js)
+    ∙ or_cond (nat_lt t.index t.bound) (first_out (map (test_of s) is)) (first_out (map (test_of s) js)) (t.what, t.index)
 
 -- where none is out of bounds, all are passed
 pub out_none : (ts : List Test) → first_out ts ≡ None → AllByRecursion IsPassed ts
@@ -75,9 +84,9 @@ out_some (t ∷ ts) what x is = at (nat_lt t.index t.bound) refl is (out_some ts
         }
 
 -- an operation whose tests and cases are passed
-pub indexed : (s : Setting) (op : Op) → first_out (tests_of s op) ≡ None → first_past s.consts (cases_of s op) ≡ None → Indexed s op
+pub indexed : (s : Setting) (op : Op) → first_out (tests_of s op) ≡ None → first_past s.facts.consts (cases_of s op) ≡ None → Indexed s op
 indexed s op tests cases =
-    record { tests = out_none (tests_of s op) tests; cases = recursion_from_All (λ c. c < s.consts) (cases_of s op) (past_none s.consts (cases_of s op) cases) }
+    record { tests = out_none (tests_of s op) tests; cases = recursion_from_All (λ c. c < s.facts.consts) (cases_of s op) (past_none s.facts.consts (cases_of s op) cases) }
 
 -- one of its tests isn't
 pub index_out : (s : Setting) (op : Op) (what : List ℕ) (x : ℕ) → first_out (tests_of s op) ≡ Some (what, x) → IsOut s op what x
@@ -95,7 +104,7 @@ index_out s op what x is =
     })
 
 -- its tests are, and a case isn't
-pub case_out : (s : Setting) (op : Op) (x : ℕ) → first_out (tests_of s op) ≡ None → first_past s.consts (cases_of s op) ≡ Some x → IsOut s op (entry_name Constants) x
+pub case_out : (s : Setting) (op : Op) (x : ℕ) → first_out (tests_of s op) ≡ None → first_past s.facts.consts (cases_of s op) ≡ Some x → IsOut s op (entry_name Constants) x
 case_out s op x tests is =
-    let past = past_some s.consts x (cases_of s op) is in
+    let past = past_some s.facts.consts x (cases_of s op) is in
     inr (record { passed = out_none (tests_of s op) tests; case = past.0; fails = past.1; named = refl })

@@ -1,6 +1,6 @@
 use Rattle.std.proofs.Common.{◌≡◌, map}
 use Rattle.grain_pools.specs.Dispatch.{Case, first_past}
-use Rattle.grain_rules.proofs.indices.bad_constant.Given as goal
+use Rattle.grain_rules.proofs.pool_reads.bad_case.Given as goal
 
 -- what is left to read decides
 abbrev pub invariant-loop-constant : goal.invariant-loop-constant
