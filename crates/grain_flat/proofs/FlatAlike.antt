@@ -17,7 +17,7 @@ use Rattle.grain_flat.specs.declared.records.CCase.{CCase}
 use Rattle.grain_flat.specs.declared.records.CPools.{CPools}
 use Rattle.grain_flat.specs.Flat.{AreChains, AreSwitches, arm_constants, case_row, case_rows, code_with, arm_range_targets}
 use Rattle.grain_flat.proofs.Alike.{Alike}
-use Rattle.grain_flat.proofs.ChainRows.{facts_alike, map_told}
+use Rattle.grain_flat.proofs.ChainRows.{map_told, told_by_rows}
 use Rattle.grain_flat.proofs.Members.{appended, at_place, mapped}
 use Rattle.grain_flat.proofs.SwitchRows.{SameArms, same_arms}
 
@@ -80,7 +80,7 @@ row_same caps p cs ds ts us same op = refl
 
 pub facts_same : (p : CPools) (cs ds : List Chain) (ts us : List Arms) → AreOf p cs ts → AreOf p ds us → map chain_facts cs ≡ map chain_facts ds
 facts_same p cs ds ts us one other =
-    facts_alike cs ds (sym one.chains_are.rows_are ∙ other.chains_are.rows_are) (sym one.chains_are.steps_are ∙ other.chains_are.steps_are)
+    sym (told_by_rows p.chains.now p.steps.now cs one.chains_are) ∙ told_by_rows p.chains.now p.steps.now ds other.chains_are
 
 pub arms_same : (p : CPools) (cs ds : List Chain) (ts us : List Arms) → AreOf p cs ts → AreOf p ds us → AllZip SameArms ts us
 arms_same p cs ds ts us one other =

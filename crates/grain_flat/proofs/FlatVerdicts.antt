@@ -1,50 +1,39 @@
 -- A verdict on what was made is one on all with the flat form.
-use Rattle.std.proofs.Common.{◌≡◌, ℕ, List, [], length, map, Result, Ok, Err, Vec, inr, refl, ap, ◌∙◌}
+use Rattle.std.proofs.Common.{◌≡◌, ◌<◌, ◌^◌, ℕ, List, [], length, Result, Ok, Err, Vec, inr, subst}
 use Rattle.std.specs.List.{All}
 use Rattle.std.specs.declared.alloc.Global.{Global}
 use Rattle.std.proofs.lemmas.Slice.Zip.{AllZip-long}
 use Rattle.grain.specs.Accepted.{Input, input_beside}
-use Rattle.grain.specs.Capabilities.{name_caps}
-use Rattle.grain.specs.Code.{switch_targets}
-use Rattle.grain.specs.Dispatch.{Arms, arms, arm_targets}
-use Rattle.grain.specs.Names.{names_in}
-use Rattle.grain.specs.Facts.{case_consts, chain_facts, facts_with}
+use Rattle.grain.specs.Dispatch.{Arms}
 use Rattle.grain.specs.Span.{Span}
 use Rattle.grain_bytecode.specs.declared.Chain.{Chain}
 use Rattle.grain_bytecode.specs.declared.Function.{Function}
-use Rattle.grain_bytecode.specs.declared.Switch.{Switch}
-use Rattle.grain_flat.specs.Flat.{arm_constants}
+use Rattle.grain_flat.specs.Flat.{AreChains, IsFlat}
+use Rattle.grain_flat.specs.RowFacts.{facts_told, leads_of}
 use Rattle.grain_flat.specs.Asking.{RowPasses}
 use Rattle.grain_flat.specs.Judging.{AreSome, IsFlatMetered, IsFlatVerdict, IsMeteredOf, IsVerdictOf, judged}
 use Rattle.grain_flat.specs.declared.judge.Stop.{Stop}
 use Rattle.grain_flat.specs.declared.judge.Stop.TheVariants as stops
 use Rattle.grain_flat.specs.declared.records.CPools.{CPools}
-use Rattle.grain_flat.proofs.ChainRows.{map_told}
+use Rattle.grain_flat.proofs.ChainRows.{told_by_rows}
+use Rattle.grain_flat.proofs.Flatness.{are_told, pooled, told_switches}
+use Rattle.grain_flat.proofs.SwitchTold.{cases_are_told, leads_are_told}
 use Rattle.grain_flat.proofs.FlatAlike.{AreOf}
 use Rattle.grain_flat.proofs.Wholes.{accepted, accepted_back, deepest_there, flaw_there, no_constants, reached_there, safe_there, typed_there, whole_constants}
 
--- what is judged, by its parts
-abbrev pub over : ℕ → List ℕ → List Span → CPools → List Function → List (List ℕ) → List Chain → List Switch → Input
-over caps bytes chunks p functions names chains switches =
-    input_beside caps [] bytes functions chunks (facts_with (length p.constants.now) names p.operators p.op_assignments p.fragments chains switches) (map switch_targets switches)
+-- what is judged, by its rows
+abbrev pub over : ℕ → List ℕ → List Span → CPools → List Function → Input
+over caps bytes chunks p functions = input_beside caps [] bytes functions chunks (facts_told p) (leads_of p)
 
-pub over_is : (caps : ℕ) (bytes : List ℕ) (chunks : List Span) (p : CPools) (functions : List Function) (names : List (List ℕ)) (chains made : List Chain) (switches given : List Switch)
-    → names ≡ names_in p.names.now p.starts.now → chains ≡ made → switches ≡ given
-    → over caps bytes chunks p functions names chains switches ≡ judged caps bytes chunks p functions made (map arms given)
-over_is caps bytes chunks p functions names chains made switches given names_are chains_are switches_are =
-    let cases = ap (map case_consts) switches_are ∙ map_told case_consts arms arm_constants (λ s. refl) given in
-    let leads = ap (map switch_targets) switches_are ∙ map_told switch_targets arms arm_targets (λ s. refl) given in
-    λ k. input_beside caps [] bytes functions chunks (record {
-      consts = length p.constants.now;
-      names = map name_caps (names_are k);
-      tokens = p.operators;
-      assign_ops = p.op_assignments;
-      residuals = p.fragments;
-      chains = map chain_facts (chains_are k);
-      cases = cases k;
-    }) (leads k)
+over_is : (caps : ℕ) (bytes : List ℕ) (chunks : List Span) (p : CPools) (functions : List Function) (cs : List Chain) → AreChains p.chains.now p.steps.now cs
+    → over caps bytes chunks p functions ≡ judged caps bytes chunks p functions cs (told_switches p.switches.now p.cases.now p.ranges.now)
+over_is caps bytes chunks p functions cs are =
+    let chains = told_by_rows p.chains.now p.steps.now cs are in
+    let cases = cases_are_told p.switches.now p.cases.now p.ranges.now in
+    let leads = leads_are_told p.switches.now p.cases.now p.ranges.now in
+    λ k. input_beside caps [] bytes functions chunks (record (facts_told p) { chains = chains k; cases = cases k }) (leads k)
 
-pub flat_verdict : (caps : ℕ) (bytes : List ℕ) (chunks : List Span) (p : CPools) (cs : List Chain) (ts : List Arms) (functions : List Function) → AreOf p cs ts → AreSome p.functions functions
+flat_verdict : (caps : ℕ) (bytes : List ℕ) (chunks : List Span) (p : CPools) (cs : List Chain) (ts : List Arms) (functions : List Function) → AreOf p cs ts → AreSome p.functions functions
     → All (RowPasses caps) p.constants.now → (result : Result (Vec ℕ Global) Stop) → IsVerdictOf (judged caps bytes chunks p functions cs ts) result → IsFlatVerdict caps bytes chunks p result
 flat_verdict caps bytes chunks p cs ts functions made some rows (Ok v) h =
     let none = no_constants caps in
@@ -77,7 +66,7 @@ flat_verdict caps bytes chunks p cs ts functions made some rows (Err (stops.Refu
       };
     }
 
-pub flat_metered : (caps : ℕ) (bytes : List ℕ) (chunks : List Span) (p : CPools) (cs : List Chain) (ts : List Arms) (functions : List Function) → AreOf p cs ts → AreSome p.functions functions
+flat_metered : (caps : ℕ) (bytes : List ℕ) (chunks : List Span) (p : CPools) (cs : List Chain) (ts : List Arms) (functions : List Function) → AreOf p cs ts → AreSome p.functions functions
     → (old new : ℕ) (result : Result (Vec ℕ Global) Stop) → IsMeteredOf (judged caps bytes chunks p functions cs ts) old new result → IsFlatMetered caps bytes chunks p old new result
 flat_metered caps bytes chunks p cs ts functions made some old new (Ok v) h = record {
   accepted = (h.accepted.0, λ rest. reached_there caps bytes chunks p cs ts functions made some rest [] (no_constants caps) h.accepted.0 h.accepted.1, h.accepted.2);
@@ -86,3 +75,22 @@ flat_metered caps bytes chunks p cs ts functions made some old new (Ok v) h = re
 flat_metered caps bytes chunks p cs ts functions made some old new (Err stop) h =
     let within = h.refused.1 in
     record { accepted = tt; refused = (h.refused.0, record { starts = within.starts; nowhere = within.nowhere }, h.refused.2) }
+
+-- the chains and switches of the rows
+told_of : (p : CPools) (flat : IsFlat p) (small : length p.steps.now < 2 ^ 63) → AreOf p (pooled p flat small).chains (told_switches p.switches.now p.cases.now p.ranges.now)
+told_of p flat small = record {
+  chains_are = (pooled p flat small).chains_are;
+  switches_are = are_told p.switches.now p.cases.now p.ranges.now flat.case_counts flat.range_counts;
+}
+
+pub rows_verdict : (caps : ℕ) (bytes : List ℕ) (chunks : List Span) (p : CPools) (functions : List Function) → IsFlat p → length p.steps.now < 2 ^ 63 → AreSome p.functions functions
+    → All (RowPasses caps) p.constants.now → (result : Result (Vec ℕ Global) Stop) → IsVerdictOf (over caps bytes chunks p functions) result → IsFlatVerdict caps bytes chunks p result
+rows_verdict caps bytes chunks p functions flat small some rows result h =
+    let are = told_of p flat small in
+    flat_verdict caps bytes chunks p _ _ functions are some rows result (subst (λ (i : Input). IsVerdictOf i result) (over_is caps bytes chunks p functions _ are.chains_are) h)
+
+pub rows_metered : (caps : ℕ) (bytes : List ℕ) (chunks : List Span) (p : CPools) (functions : List Function) → IsFlat p → length p.steps.now < 2 ^ 63 → AreSome p.functions functions
+    → (old new : ℕ) (result : Result (Vec ℕ Global) Stop) → IsMeteredOf (over caps bytes chunks p functions) old new result → IsFlatMetered caps bytes chunks p old new result
+rows_metered caps bytes chunks p functions flat small some old new result h =
+    let are = told_of p flat small in
+    flat_metered caps bytes chunks p _ _ functions are some old new result (subst (λ (i : Input). IsMeteredOf i old new result) (over_is caps bytes chunks p functions _ are.chains_are) h)

@@ -11,7 +11,7 @@ use Rattle.std.proofs.lemmas.List.Concat.{flat_map-cons}
 use Rattle.std.proofs.lemmas.List.Elements.{All-append, All-drop, All-take}
 use Rattle.std.proofs.lemmas.List.Sorted.{IsPermutation-refl, length_permutation}
 use Rattle.std.proofs.lemmas.List.Sums.{sum_by-cons}
-use Rattle.grain.specs.Dispatch.{Arms}
+use Rattle.grain.specs.Dispatch.{Arms, Case}
 use Rattle.grain_base.specs.declared.value.Dynamic.TheVariants as values
 use Rattle.grain_bytecode.specs.declared.Chain.{Chain}
 use Rattle.grain_bytecode.specs.declared.Step.{Step}
@@ -152,19 +152,23 @@ chains_of (row ∷ rows) given known steps long small =
     let others = chains_of rows more (rest IsChainRow row rows known) (All-drop IsStepRow row.steps given steps) (omega arith) (omega arith) in
     (one.chain ∷ others.0, subst (λ xs. AreChains (row ∷ rows) xs (one.chain ∷ others.0)) (take-append-drop row.steps given) (one_more_chain row rows own more one.chain others.0 one.row_is one.steps_are others.1))
 
+-- a case with this row, of any value
+abbrev pub case_of : CCase → Case
+case_of c = (values.Unit, (c.target, c.constant))
+
 -- a switch with this row, these cases and these ranges
-abbrev arms_of : CSwitch → List CCase → List ℕ → Arms
+abbrev pub arms_of : CSwitch → List CCase → List ℕ → Arms
 arms_of row cases ranges = record {
-  cases = Some (map (λ (c : CCase). (values.Unit, (c.target, c.constant))) cases);
+  cases = Some (map case_of cases);
   ranges = map (λ n. record { from = pos 0; to = pos 0; inclusive = false; target = n }) ranges;
   otherwise = row.otherwise;
 }
 
-cases_kept : (cases : List CCase) → map case_row (map (λ (c : CCase). (values.Unit, (c.target, c.constant))) cases) ≡ cases
+cases_kept : (cases : List CCase) → map case_row (map case_of cases) ≡ cases
 cases_kept [] = refl
 cases_kept (c ∷ cs) = ap (λ xs. c ∷ xs) (cases_kept cs)
 
-ranges_kept : (ranges : List ℕ) → map (λ (r : SwitchRange). r.target) (map (λ n. record { from = pos 0; to = pos 0; inclusive = false; target = n }) ranges) ≡ ranges
+pub ranges_kept : (ranges : List ℕ) → map (λ (r : SwitchRange). r.target) (map (λ n. record { from = pos 0; to = pos 0; inclusive = false; target = n }) ranges) ≡ ranges
 ranges_kept [] = refl
 ranges_kept (n ∷ ns) = ap (λ xs. n ∷ xs) (ranges_kept ns)
 
@@ -182,11 +186,15 @@ one_more_switch row rows own more near far ts own_long near_long others =
       ranges_are = ap (λ xs. near ++ xs) others.ranges_are ∙ ap (λ xs. xs ++ flat_map arm_range_targets ts) (sym (ranges_kept near)) ∙ sym (flat_map-cons arm_range_targets (arms_of row own near) ts);
     }
 
--- switches with these rows, cases and ranges
-switches_of : (rows : List CSwitch) (cases : List CCase) (ranges : List ℕ) → sum_by (λ (r : CSwitch). r.cases) rows ≡ length cases
-    → sum_by (λ (r : CSwitch). r.ranges) rows ≡ length ranges → (ts : List Arms) × AreSwitches rows cases ranges ts
-switches_of [] cases ranges c r = ([], record { rows_are = refl; pieces = []; cases_are = nothing_left cases c; each = tt; ranges_are = nothing_left ranges r })
-switches_of (row ∷ rows) cases ranges c r =
+-- switches with these rows, cases and ranges, the cases in their order
+abbrev pub told_switches : List CSwitch → List CCase → List ℕ → List Arms
+told_switches [] cases ranges = []
+told_switches (row ∷ rows) cases ranges = arms_of row (take row.cases cases) (take row.ranges ranges) ∷ told_switches rows (drop row.cases cases) (drop row.ranges ranges)
+
+pub are_told : (rows : List CSwitch) (cases : List CCase) (ranges : List ℕ) → sum_by (λ (r : CSwitch). r.cases) rows ≡ length cases
+    → sum_by (λ (r : CSwitch). r.ranges) rows ≡ length ranges → AreSwitches rows cases ranges (told_switches rows cases ranges)
+are_told [] cases ranges c r = record { rows_are = refl; pieces = []; cases_are = nothing_left cases c; each = tt; ranges_are = nothing_left ranges r }
+are_told (row ∷ rows) cases ranges c r =
     let counted : row.cases + sum_by (λ (r : CSwitch). r.cases) rows ≡ length cases = sym (sum_by-cons (λ (r : CSwitch). r.cases) row rows) ∙ c in
     let reaching : row.ranges + sum_by (λ (r : CSwitch). r.ranges) rows ≡ length ranges = sym (sum_by-cons (λ (r : CSwitch). r.ranges) row rows) ∙ r in
     let own = take row.cases cases in
@@ -197,26 +205,23 @@ switches_of (row ∷ rows) cases ranges c r =
     let near_long : length near ≡ row.ranges = length-take-le row.ranges ranges (omega arith) in
     let more_long : length more ≡ length cases - row.cases = length-drop row.cases cases in
     let far_long : length far ≡ length ranges - row.ranges = length-drop row.ranges ranges in
-    let others = switches_of rows more far (omega arith) (omega arith) in
-    let all = arms_of row own near ∷ others.0 in (
-      all,
-      subst (λ xs. AreSwitches (row ∷ rows) xs ranges all) (take-append-drop row.cases cases)
-          (subst (λ xs. AreSwitches (row ∷ rows) (own ++ more) xs all) (take-append-drop row.ranges ranges) (one_more_switch row rows own more near far others.0 own_long near_long others.1)),
-    )
+    let others = are_told rows more far (omega arith) (omega arith) in
+    let all = told_switches (row ∷ rows) cases ranges in
+    subst (λ xs. AreSwitches (row ∷ rows) xs ranges all) (take-append-drop row.cases cases)
+    (subst (λ xs. AreSwitches (row ∷ rows) (own ++ more) xs all) (take-append-drop row.ranges ranges) (one_more_switch row rows own more near far (told_switches rows more far) own_long near_long others))
 
 pub pooled : (p : CPools) → IsFlat p → length p.steps.now < 2 ^ 63 → Pooled p
 pooled p flat small =
     let asked = asked_of p.constants.now flat.constants in
     let chains = chains_of p.chains.now p.steps.now flat.chains flat.steps flat.step_counts small in
-    let switches = switches_of p.switches.now p.cases.now p.ranges.now flat.case_counts flat.range_counts in
     record {
       asked = asked.0;
       chains = chains.0;
-      switches = switches.0;
+      switches = told_switches p.switches.now p.cases.now p.ranges.now;
       asked_are = asked.1;
       names_are = flat.names;
       chains_are = chains.1;
-      switches_are = switches.1;
+      switches_are = are_told p.switches.now p.cases.now p.ranges.now flat.case_counts flat.range_counts;
     }
 
 -- the test of the rules tells whether there are such pools

@@ -16,8 +16,12 @@ mod ListedEntries
 mod Members
 mod Pieces
 pub mod Redeclared
+mod RowEntries
+mod RowParts
+mod RowTests
 mod StepRows
 mod SwitchRows
+mod SwitchTold
 mod Texts
 pub mod ToldRoom
 mod Wholes

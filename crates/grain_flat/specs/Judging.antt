@@ -1,7 +1,7 @@
 -- What the parts of `grain_verify` promise each other.
 use Rattle.std.specs.Prelude.{◌≡◌, ⊤, ℕ, IfErr, IfOk, List, [], length, map, Result, Vec}
 use Rattle.std.specs.declared.alloc.Global.{Global}
-use Rattle.grain.specs.Accepted.{AreDeepest, AreSafe, AreTyped, Input, IsAccepted, input}
+use Rattle.grain.specs.Accepted.{AreDeepest, AreSafe, AreTyped, Input, IsAccepted, input_beside}
 use Rattle.grain.specs.Dispatch.{Arms, arms}
 use Rattle.grain.specs.Flaw.{FlawAt}
 use Rattle.grain.specs.Meter.{AreReached, HasCounted, IsWithinAll}
@@ -11,6 +11,7 @@ use Rattle.grain_bytecode.specs.declared.Chain.{Chain}
 use Rattle.grain_bytecode.specs.declared.Function.{Function}
 use Rattle.grain_flat.specs.Answers.{Accepts, Looks, LooksWithin, Refuses}
 use Rattle.grain_flat.specs.Flat.{AreChains, AreSwitches, code_with}
+use Rattle.grain_flat.specs.RowFacts.{facts_told, leads_of}
 use Rattle.grain_flat.specs.declared.build.Made.{Made}
 use Rattle.grain_flat.specs.declared.judge.Judge.{Judge}
 use Rattle.grain_flat.specs.declared.judge.Stop.{Stop}
@@ -19,7 +20,7 @@ use Rattle.grain_flat.specs.declared.records.CPools.{CPools}
 
 -- what is judged with these chunks, without constants
 abbrev pub judged_input : Judge → List Span → Input
-judged_input j chunks = input j.caps [] j.code.now j.functions.now chunks j.pools.now
+judged_input j chunks = input_beside j.caps.0 [] j.code.now j.functions.now chunks (facts_told j.rows.now) (leads_of j.rows.now)
 
 -- what is verified without constants, which are tested by their rows
 abbrev pub judged : ℕ → List ℕ → List Span → CPools → List Function → List Chain → List Arms → Input

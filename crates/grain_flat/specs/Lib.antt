@@ -6,5 +6,7 @@ pub mod Instruction
 pub mod InstructionTexts
 pub mod Judging
 pub mod Listing
+pub mod RowFacts
+pub mod RowTables
 pub mod TagNames
 pub mod Tightening

@@ -1,7 +1,8 @@
 //! Verification of all but the constants.
 ghost use Rattle.grain_flat.specs.Judging.{IsMeteredOf, IsVerdictOf, judged_input};
 
-use grain::{Caps, Chunk, Function, Meter, Pools, Refusal, VerifyError, verify_placed};
+use crate::row_reads::Rows;
+use grain::{Caps, Chunk, Function, Meter, Refusal, VerifyError, verify_read};
 use std::alloc::{AllocError, Global};
 
 /// What is verified, but its chunks.
@@ -11,7 +12,7 @@ pub(crate) struct Judge<'a> {
     pub(crate) caps: Caps,
     pub(crate) code: &'a [u8],
     pub(crate) functions: &'a [Function],
-    pub(crate) pools: &'a Pools<'a>,
+    pub(crate) rows: &'a Rows<'a>,
 }
 
 /// Why it isn't accepted.
@@ -40,14 +41,14 @@ impl Judge<'_> {
         ensures verdict { IsVerdictOf (judged_input self.now chunks.now) result }
         ensures metered { IsMeteredOf (judged_input self.now chunks.now) meter.old meter.new result }
     {
-        let judged = verify_placed(
+        let judged = verify_read(
             self.alloc,
             self.caps,
             &[],
             self.code,
             self.functions,
             chunks,
-            self.pools,
+            self.rows,
             meter,
         );
         match judged {

@@ -19,6 +19,7 @@ mod mnemonics;
 mod printing;
 mod records;
 mod refusals;
+mod row_reads;
 mod rows;
 pub mod shapes;
 mod tightening;

@@ -3,15 +3,22 @@ ghost use Rattle.std.specs.Prelude.{◌≡◌, All, IfOk, length};
 ghost use Rattle.std.specs.Result.{IsErrOf};
 ghost use Rattle.grain_flat.specs.Flat.{IsFlat};
 ghost use Rattle.grain_flat.specs.Asking.{RowPasses};
-ghost use Rattle.grain_flat.specs.Judging.{AreSome, IsFlatMetered, IsFlatVerdict, IsMadeOf};
+ghost use Rattle.grain_flat.specs.Judging.{AreSome, IsFlatMetered, IsFlatVerdict};
 ghost use Rattle.grain_flat.specs.declared.judge.Stop.{Stop};
 
 use crate::asking::first_refused;
-use crate::build::{Made, make};
 use crate::judge::{Judge, Stop};
 use crate::records::{CChunk, CPools};
-use grain::{Caps, Chunk, FnAccess, Function, Meter, Pools, Refusal, VerifyError};
+use crate::row_reads::Rows;
+use grain::{Caps, Chunk, FnAccess, Function, Meter, Refusal, VerifyError};
 use std::alloc::{AllocError, Global};
+
+/// A chunk as it is verified.
+fn chunk_of(chunk: &CChunk) -> Chunk
+    ensures { result ≡ chunk.now }
+{
+    Chunk::new(chunk.entry, chunk.end, chunk.max_stack)
+}
 
 /// The chunks as they are verified.
 fn chunks_of(alloc: Global, chunks: &[CChunk]) -> Result<Vec<Chunk>, AllocError>
@@ -19,7 +26,7 @@ fn chunks_of(alloc: Global, chunks: &[CChunk]) -> Result<Vec<Chunk>, AllocError>
 {
     let mut made = Vec::with_capacity(alloc, chunks.len())?;
     for chunk in chunks {
-        made.push(Chunk::new(chunk.entry, chunk.end, chunk.max_stack))?;
+        made.push(chunk_of(chunk))?;
     }
     Ok(made)
 }
@@ -43,38 +50,30 @@ fn as_many(count: usize, some: &[Function]) -> &[Function]
     if count == 0 { &some[..0] } else { some }
 }
 
-/// The verdict on all with the flat form, once its constants have passed and its pools are made.
+/// The verdict on all with the flat form, once its constants have passed.
+#[inline(never)]
 fn verdict_with(
     alloc: Global,
     caps: Caps,
     code: &[u8],
     chunks: &[Chunk],
     pools: &CPools<'_>,
-    made: &Made,
     meter: &mut Meter,
 ) -> Result<Vec<u16>, Stop>
-    requires made { IsMadeOf pools.now made.now }
+    requires flat { IsFlat pools.now }
     requires constants { All (RowPasses caps.0) pools.now.constants.now }
     ensures verdict { IsFlatVerdict caps.0 code.now chunks.now pools.now result }
     ensures metered { IsFlatMetered
         caps.0 code.now chunks.now pools.now meter.old meter.new result }
 {
     let functions = [some_function(alloc)];
-    let given = Pools {
-        consts: pools.constants.len(),
-        names: &made.names,
-        tokens: pools.operators,
-        assign_ops: pools.op_assignments,
-        residuals: pools.fragments,
-        chains: &made.chains,
-        switches: &made.switches,
-    };
+    let rows = Rows::new(alloc, pools)?;
     let judge = Judge {
         alloc,
         caps,
         code,
         functions: as_many(pools.functions, &functions),
-        pools: &given,
+        rows: &rows,
     };
     judge.verdict(chunks, meter)
 }
@@ -111,7 +110,10 @@ pub fn verdict(
             },
         }));
     }
-    let made = make(alloc, pools)?;
+    // Of one chunk no list is made.
+    if let [chunk] = chunks {
+        return verdict_with(alloc, caps, code, &[chunk_of(chunk)], pools, meter);
+    }
     let chunks = chunks_of(alloc, chunks)?;
-    verdict_with(alloc, caps, code, &chunks, pools, &made, meter)
+    verdict_with(alloc, caps, code, &chunks, pools, meter)
 }

@@ -103,6 +103,14 @@ fn extend<T>(list: &mut Vec<T>, items: impl IntoIterator<Item = T>) -> Result<us
     added.map(|()| list.len() - before)
 }
 
+/// Room for the first items of a list, so that few of them don't have it grow again and again.
+#[inline]
+fn begin<T>(list: &mut Vec<T>, room: usize) {
+    if list.capacity() == 0 {
+        list.reserve(room);
+    }
+}
+
 impl Pools {
     /// Pools with nothing in them. It takes no memory.
     #[must_use]
@@ -139,15 +147,20 @@ impl Pools {
 
     /// One more constant, by what it [asks](crate::Asks): [`Asks`](crate::Asks), [`Caps`](crate::Caps), or in the older form
     /// an `Option` of a number, which is `None` for what can't be named.
+    #[inline]
     #[must_use]
     pub fn constant(mut self, asks: impl Into<Constant>) -> Pools {
+        begin(&mut self.constants, 16);
         self.constants.push(asks.into());
         self
     }
 
     /// One more name.
+    #[inline]
     #[must_use]
     pub fn name(mut self, name: &str) -> Pools {
+        begin(&mut self.names, 128);
+        begin(&mut self.starts, 16);
         self.names.extend_from_slice(name.as_bytes());
         if self.starts.is_empty() {
             self.starts.push(0);
@@ -157,6 +170,7 @@ impl Pools {
     }
 
     /// So many operators.
+    #[inline]
     #[must_use]
     pub fn operators(mut self, operators: usize) -> Pools {
         self.set_operators(operators);
@@ -164,6 +178,7 @@ impl Pools {
     }
 
     /// So many op-assignments.
+    #[inline]
     #[must_use]
     pub fn op_assignments(mut self, op_assignments: usize) -> Pools {
         self.set_op_assignments(op_assignments);
@@ -171,6 +186,7 @@ impl Pools {
     }
 
     /// So many fragments of syntax.
+    #[inline]
     #[must_use]
     pub fn fragments(mut self, fragments: usize) -> Pools {
         self.set_fragments(fragments);
@@ -178,6 +194,7 @@ impl Pools {
     }
 
     /// So many functions.
+    #[inline]
     #[must_use]
     pub fn functions(mut self, functions: usize) -> Pools {
         self.set_functions(functions);
@@ -185,8 +202,11 @@ impl Pools {
     }
 
     /// One more chain, whose steps take so many operands.
+    #[inline]
     #[must_use]
     pub fn chain(mut self, root: Root, steps: &[Step], tail: Tail, operands: u16) -> Pools {
+        begin(&mut self.chains, 8);
+        begin(&mut self.steps, 16);
         let row = ChainRow::new(root, count(steps.len()), tail, operands);
         self.chains.push(row);
         self.steps.extend(steps.iter().copied().map(StepRow::from));
@@ -194,8 +214,11 @@ impl Pools {
     }
 
     /// One more switch: its cases, where each of its ranges leads, and where all other subjects lead.
+    #[inline]
     #[must_use]
     pub fn switch(mut self, cases: &[Case], ranges: &[u32], otherwise: u32) -> Pools {
+        begin(&mut self.switches, 8);
+        begin(&mut self.cases, 16);
         self.switches.push(SwitchRow {
             cases: count(cases.len()),
             ranges: count(ranges.len()),
@@ -207,21 +230,25 @@ impl Pools {
     }
 
     /// So many operators.
+    #[inline]
     pub fn set_operators(&mut self, operators: usize) {
         self.operators = operators;
     }
 
     /// So many op-assignments.
+    #[inline]
     pub fn set_op_assignments(&mut self, op_assignments: usize) {
         self.op_assignments = op_assignments;
     }
 
     /// So many fragments of syntax.
+    #[inline]
     pub fn set_fragments(&mut self, fragments: usize) {
         self.fragments = fragments;
     }
 
     /// So many functions.
+    #[inline]
     pub fn set_functions(&mut self, functions: usize) {
         self.functions = functions;
     }

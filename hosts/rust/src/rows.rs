@@ -84,6 +84,7 @@ pub enum Asks {
 }
 
 impl From<Caps> for Asks {
+    #[inline]
     fn from(caps: Caps) -> Asks {
         Asks::Caps(caps)
     }
@@ -106,6 +107,7 @@ impl Constant {
 }
 
 impl From<Option<u16>> for Constant {
+    #[inline]
     fn from(asked: Option<u16>) -> Constant {
         Constant {
             is_known: u16::from(asked.is_some()),
@@ -115,6 +117,7 @@ impl From<Option<u16>> for Constant {
 }
 
 impl From<Asks> for Constant {
+    #[inline]
     fn from(asks: Asks) -> Constant {
         Constant::from(match asks {
             Asks::Caps(caps) => Some(caps.bits()),
@@ -124,6 +127,7 @@ impl From<Asks> for Constant {
 }
 
 impl From<Caps> for Constant {
+    #[inline]
     fn from(caps: Caps) -> Constant {
         Constant::from(Asks::Caps(caps))
     }
@@ -143,6 +147,7 @@ pub struct ChainRow {
 
 impl ChainRow {
     /// A chain of so many steps, which take so many operands.
+    #[inline]
     #[must_use]
     pub fn new(root: Root, steps: u32, tail: Tail, operands: u16) -> ChainRow {
         let (root, root_name) = match root {
@@ -214,6 +219,7 @@ pub struct StepRow {
 }
 
 impl From<Step> for StepRow {
+    #[inline]
     fn from(step: Step) -> StepRow {
         let none = StepRow {
             kind: 0,

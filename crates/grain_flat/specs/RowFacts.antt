@@ -1,0 +1,89 @@
+-- What the rows of a flat form say of pools, where they stand.
+use Rattle.std.specs.Prelude.{ℕ, ◌+◌, ◌-◌, ◌==◌, ◌||◌, nat_lt, not, cond, if◌then◌else◌, List, [], ◌∷◌, ◌++◌, map, take, drop, length, zip}
+use Rattle.std.specs.List.{flat_map}
+use Rattle.grain.specs.CapBits.{THIS, INDEXING, METHOD, PROPERTY}
+use Rattle.grain.specs.Capabilities.{joined, name_caps}
+use Rattle.grain.specs.Facts.{ChainFacts, Facts, Mention, Entry, Operand}
+use Rattle.grain.specs.Names.{names_in}
+use Rattle.grain_bytecode.specs.declared.Pool.TheVariants.{Names, OpAssignments}
+use Rattle.grain_flat.specs.declared.records.CCase.{CCase}
+use Rattle.grain_flat.specs.declared.records.CChain.{CChain}
+use Rattle.grain_flat.specs.declared.records.CPools.{CPools}
+use Rattle.grain_flat.specs.declared.records.CStep.{CStep}
+use Rattle.grain_flat.specs.declared.records.CSwitch.{CSwitch}
+use Rattle.grain_flat.specs.declared.shapes.TheConstants.{LOCAL, NAMED, TEMPORARY, INDEX, READ, ASSIGN_THROUGH}
+use Rattle.grain_flat.specs.declared.shapes.TheConstants as shapes
+
+-- a list in parts, one for each row, of as many as the row counts
+abbrev pub parts : {R X : Type 0} → (R → ℕ) → List R → List X → List (List X)
+parts count [] xs = []
+parts count (row ∷ rows) xs = take (count row) xs ∷ parts count rows (drop (count row) xs)
+
+-- where such parts begin, of which the first begins there
+abbrev pub begins : {R : Type 0} → (R → ℕ) → ℕ → List R → List ℕ
+begins count from [] = []
+begins count from (row ∷ rows) = from ∷ begins count (from + count row) rows
+
+-- what a root, a step and a tail name
+abbrev pub root_told : CChain → List Mention
+root_told row = if row.root == LOCAL || row.root == NAMED then Entry Names row.root_name ∷ [] else []
+
+abbrev pub step_told : ℕ → CStep → List Mention
+step_told operands row =
+    if row.kind == INDEX then Operand operands row.operand ∷ []
+    else if row.kind == shapes.PROPERTY then Entry Names row.name ∷ Entry Names row.getter ∷ Entry Names row.setter ∷ []
+    else Entry Names row.name ∷ cond (nat_lt 0 row.argc) (Operand operands (row.operand + row.argc - 1) ∷ []) []
+
+abbrev pub tail_told : CChain → List Mention
+tail_told row = if row.tail == ASSIGN_THROUGH then Entry OpAssignments row.op ∷ [] else []
+
+-- what they ask of the host
+abbrev pub root_asked : CChain → ℕ
+root_asked row = if row.root == shapes.THIS then THIS else 0
+
+abbrev pub step_asked : CStep → ℕ
+step_asked row = if row.kind == INDEX then INDEXING else if row.kind == shapes.PROPERTY then PROPERTY else METHOD
+
+-- how many operands a chain takes
+abbrev pub taken : CChain → ℕ
+taken row = row.operands + cond (row.root == TEMPORARY) 1 0 + cond (not (row.tail == READ)) 1 0
+
+-- a chain with this row and these steps
+abbrev pub chain_told : CChain → List CStep → ChainFacts
+chain_told row steps = record {
+  takes = taken row;
+  asks = joined (root_asked row) (map step_asked steps);
+  mentions = root_told row ++ flat_map (step_told row.operands) steps ++ tail_told row;
+}
+
+-- the chains, each by its row and its part of the steps
+abbrev pub chains_told : List CChain → List CStep → List ChainFacts
+chains_told rows steps = map (λ (c : CChain × List CStep). chain_told c.0 c.1) (zip rows (parts (λ (c : CChain). c.steps) rows steps))
+
+-- of each switch the constants of its part of the cases
+abbrev pub cases_told : List CSwitch → List CCase → List (List ℕ)
+cases_told rows cases = map (map (λ (c : CCase). c.constant)) (parts (λ (s : CSwitch). s.cases) rows cases)
+
+-- where a switch with this row, these cases and these ranges may lead
+abbrev pub switch_leads : CSwitch → List CCase → List ℕ → List ℕ
+switch_leads row cases ranges = map (λ (c : CCase). c.target) cases ++ ranges ++ row.otherwise ∷ []
+
+abbrev pub leads_told : List CSwitch → List CCase → List ℕ → List (List ℕ)
+leads_told rows cases ranges =
+    map (λ (s : CSwitch × (List CCase × List ℕ)). switch_leads s.0 s.1.0 s.1.1)
+    (zip rows (zip (parts (λ (s : CSwitch). s.cases) rows cases) (parts (λ (s : CSwitch). s.ranges) rows ranges)))
+
+-- all that is said of the pools
+abbrev pub facts_told : CPools → Facts
+facts_told p = record {
+  consts = length p.constants.now;
+  names = map name_caps (names_in p.names.now p.starts.now);
+  tokens = p.operators;
+  assign_ops = p.op_assignments;
+  residuals = p.fragments;
+  chains = chains_told p.chains.now p.steps.now;
+  cases = cases_told p.switches.now p.cases.now;
+}
+
+abbrev pub leads_of : CPools → List (List ℕ)
+leads_of p = leads_told p.switches.now p.cases.now p.ranges.now
