@@ -13,6 +13,9 @@ none_at (suc n) (suc k) c e = none_at n k c e
 pub none_known : (asks : List ℕ) (n : ℕ) → AreKnown asks (replicate n None)
 none_known asks n k c e = absurd (none_at n k c e)
 
+pub nothing_known : (asks : List ℕ) → AreKnown asks []
+nothing_known asks k c e = absurd (none-some c e)
+
 -- what is at an index once an entry is set
 at_entry : (known : List (Option Caps)) (i k : ℕ) (x y : Caps) → get_or (slice_set known i (Some x)) k None ≡ Some y → (get_or known k None ≡ Some y) ⊎ ((i ≡ k) × (x ≡ y))
 at_entry [] i k x y e = inl e

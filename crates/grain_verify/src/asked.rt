@@ -1,11 +1,12 @@
 //! What names and chains ask, once code that is walked has named them.
-ghost use Rattle.std.specs.Prelude.{◌≡◌, IfOk, Some, get_or, map, slice_set};
+ghost use Rattle.std.specs.Prelude.{◌≡◌, ℕ, IfOk, List, OnOk, get_or, map};
 ghost use Rattle.grain_rules.specs.EffectView.{asked_in};
 ghost use Rattle.grain_rules.specs.Facts.{ChainFacts, Facts};
 ghost use Rattle.grain_rules.specs.Setting.{Setting};
-ghost use Rattle.grain_verify.specs.Asked.{Knows};
+ghost use Rattle.grain_verify.specs.Asked.{AreKnown, Knows};
 
 use grain_base::{Caps, Flags};
+use grain_bytecode::Pool;
 use grain_rules::{Asks, Read};
 use std::alloc::{AllocError, Global};
 
@@ -20,56 +21,58 @@ pub(crate) struct Asked {
 }
 
 impl Asked {
-    /// Room for what so many names and chains ask, of which nothing is known.
-    ///
-    /// # Errors
-    /// [`AllocError`] where the memory was refused.
-    #[tactic(auto, using(crate::proofs::Knowing::none_known))]
-    pub(crate) fn new(alloc: Global, names: usize, chains: usize) -> Result<Asked, AllocError>
-        ensures { (facts : Facts) → IfOk result (Knows facts) }
+    /// Nothing is known. It takes no memory until code names a name or a chain.
+    #[tactic(auto, using(crate::proofs::Knowing::nothing_known))]
+    pub(crate) fn new(alloc: Global) -> Asked
+        ensures { (facts : Facts) → Knows facts result }
     {
-        let names = vec![in alloc; None; names]?;
-        let chains = vec![in alloc; None; chains]?;
-        Ok(Asked { names, chains })
+        Asked {
+            names: Vec::new(alloc),
+            chains: Vec::new(alloc),
+        }
     }
 
     /// What an operation asks.
+    ///
+    /// # Errors
+    /// [`AllocError`] where the memory for what all names, or all chains, ask was refused.
     #[inline(always)]
-    pub(crate) fn of<P: Read>(&mut self, pools: &P, asks: Asks) -> Caps
+    pub(crate) fn of<P: Read>(&mut self, pools: &P, asks: Asks) -> Result<Caps, AllocError>
         requires { Knows (P.facts pools.now) self.old }
-        ensures knows { Knows (P.facts pools.now) self.new }
-        ensures asks { (s : Setting) → s.facts ≡ P.facts pools.now → result.0 ≡ asked_in s asks }
+        ensures knows { OnOk result (Knows (P.facts pools.now) self.new) }
+        ensures asks { IfOk result (λ caps. (s : Setting) → s.facts ≡ P.facts pools.now
+            → caps.0 ≡ asked_in s asks) }
     {
         match asks {
-            Asks::Nothing => Caps::empty(),
-            Asks::These(caps) => caps,
+            Asks::Nothing => Ok(Caps::empty()),
+            Asks::These(caps) => Ok(caps),
             Asks::Name(name) => self.by_name(pools, name),
-            Asks::NameOnThis(name) => Caps::THIS.union(self.by_name(pools, name)),
+            Asks::NameOnThis(name) => Ok(Caps::THIS.union(self.by_name(pools, name)?)),
             Asks::Chain(chain) => self.by_chain(pools, chain),
         }
     }
 
     #[inline(always)]
-    fn by_name<P: Read>(&mut self, pools: &P, name: u32) -> Caps
+    fn by_name<P: Read>(&mut self, pools: &P, name: u32) -> Result<Caps, AllocError>
         requires { Knows (P.facts pools.now) self.old }
-        ensures knows { Knows (P.facts pools.now) self.new }
-        ensures asks { result.0 ≡ get_or (P.facts pools.now).names name 0 }
+        ensures knows { OnOk result (Knows (P.facts pools.now) self.new) }
+        ensures asks { IfOk result (λ caps. caps.0 ≡ get_or (P.facts pools.now).names name 0) }
     {
         match known_at(&self.names, name) {
-            Some(caps) => caps,
+            Some(caps) => Ok(caps),
             None => self.read_name(pools, name),
         }
     }
 
     #[inline(always)]
-    fn by_chain<P: Read>(&mut self, pools: &P, chain: u32) -> Caps
+    fn by_chain<P: Read>(&mut self, pools: &P, chain: u32) -> Result<Caps, AllocError>
         requires { Knows (P.facts pools.now) self.old }
-        ensures knows { Knows (P.facts pools.now) self.new }
-        ensures asks { result.0
-            ≡ get_or (map (λ (c : ChainFacts). c.asks) (P.facts pools.now).chains) chain 0 }
+        ensures knows { OnOk result (Knows (P.facts pools.now) self.new) }
+        ensures asks { IfOk result (λ caps. caps.0
+            ≡ get_or (map (λ (c : ChainFacts). c.asks) (P.facts pools.now).chains) chain 0) }
     {
         match known_at(&self.chains, chain) {
-            Some(caps) => caps,
+            Some(caps) => Ok(caps),
             None => self.read_chain(pools, chain),
         }
     }
@@ -77,30 +80,28 @@ impl Asked {
     /// What a name asks of which that isn't known yet. It is called once for each name, and compiled apart.
     #[cold]
     #[inline(never)]
-    #[tactic(auto, using(crate::proofs::Knowing::known_more))]
-    fn read_name<P: Read>(&mut self, pools: &P, name: u32) -> Caps
+    fn read_name<P: Read>(&mut self, pools: &P, name: u32) -> Result<Caps, AllocError>
         requires { Knows (P.facts pools.now) self.old }
-        ensures knows { Knows (P.facts pools.now) self.new }
-        ensures asks { result.0 ≡ get_or (P.facts pools.now).names name 0 }
+        ensures knows { OnOk result (Knows (P.facts pools.now) self.new) }
+        ensures asks { IfOk result (λ caps. caps.0 ≡ get_or (P.facts pools.now).names name 0) }
     {
         let caps = pools.name_asks(name);
-        note(&mut self.names, name, caps);
-        caps
+        note(&mut self.names, pools.size(Pool::Names), name, caps)?;
+        Ok(caps)
     }
 
     /// The same of a chain.
     #[cold]
     #[inline(never)]
-    #[tactic(auto, using(crate::proofs::Knowing::known_more))]
-    fn read_chain<P: Read>(&mut self, pools: &P, chain: u32) -> Caps
+    fn read_chain<P: Read>(&mut self, pools: &P, chain: u32) -> Result<Caps, AllocError>
         requires { Knows (P.facts pools.now) self.old }
-        ensures knows { Knows (P.facts pools.now) self.new }
-        ensures asks { result.0
-            ≡ get_or (map (λ (c : ChainFacts). c.asks) (P.facts pools.now).chains) chain 0 }
+        ensures knows { OnOk result (Knows (P.facts pools.now) self.new) }
+        ensures asks { IfOk result (λ caps. caps.0
+            ≡ get_or (map (λ (c : ChainFacts). c.asks) (P.facts pools.now).chains) chain 0) }
     {
         let caps = pools.chain_asks(chain);
-        note(&mut self.chains, chain, caps);
-        caps
+        note(&mut self.chains, pools.size(Pool::Chains), chain, caps)?;
+        Ok(caps)
     }
 }
 
@@ -115,12 +116,33 @@ fn known_at(known: &[Option<Caps>], index: u32) -> Option<Caps>
     }
 }
 
-/// Notes what is asked at an index, where there is room for it.
-fn note(known: &mut [Option<Caps>], index: u32, caps: Caps)
-    ensures { known.new ≡ slice_set known.old index (Some caps) }
+/// Makes room for what so many ask, where nothing is known.
+#[tactic(auto, using(crate::proofs::Knowing::none_known))]
+fn make_room(known: &mut Vec<Option<Caps>>, count: usize) -> Result<(), AllocError>
+    ensures { (asks : List ℕ) → AreKnown asks known.old.items
+        → OnOk result (AreKnown asks known.new.items) }
 {
+    if known.is_empty() {
+        known.resize(count, None)?;
+    }
+    Ok(())
+}
+
+/// Notes what is asked at an index among so many.
+#[tactic(auto, using(crate::proofs::Knowing::known_more))]
+fn note(
+    known: &mut Vec<Option<Caps>>,
+    count: usize,
+    index: u32,
+    caps: Caps,
+) -> Result<(), AllocError>
+    ensures { (asks : List ℕ) → AreKnown asks known.old.items → caps.0 ≡ get_or asks index 0
+        → OnOk result (AreKnown asks known.new.items) }
+{
+    make_room(known, count)?;
     let index = index as usize;
     if index < known.len() {
         known[index] = Some(caps);
     }
+    Ok(())
 }

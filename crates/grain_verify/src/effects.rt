@@ -1,5 +1,5 @@
 //! What operations ask of the host, what they need of the stacks and leave on them, and how they are left.
-ghost use Rattle.std.specs.Prelude.{◌≡◌, ◌+◌, ◌≤◌};
+ghost use Rattle.std.specs.Prelude.{◌≡◌, ◌+◌, ◌≤◌, IfOk, OnOk};
 ghost use Rattle.grain_verify.specs.Asked.{Knows};
 ghost use Rattle.grain_verify.specs.FlowView.{flow};
 ghost use Rattle.grain_verify.specs.Operands.{stack_effect};
@@ -11,6 +11,7 @@ use crate::flow::Flow;
 use grain_base::{Caps, Flags};
 use grain_bytecode::{Op, TagRow};
 use grain_rules::Read;
+use std::alloc::AllocError;
 
 /// What an operation does: what it asks of the host, how many operands it needs, how many of them it takes, how many it
 /// gives, its flow, and where that leads: the target of a jump or a handler, the exit of an iterator, the index of a switch.
@@ -29,26 +30,29 @@ pub(crate) struct Effect {
 
 impl Effect {
     /// What an operation does beside pools that are read so.
+    ///
+    /// # Errors
+    /// Those of [`Asked::of`].
     #[inline(always)]
-    pub(crate) fn of<P: Read>(op: &Op, pools: &P, asked: &mut Asked) -> Effect
+    pub(crate) fn of<P: Read>(op: &Op, pools: &P, asked: &mut Asked) -> Result<Effect, AllocError>
         requires { Knows (P.facts pools.now) asked.old }
-        ensures knows { Knows (P.facts pools.now) asked.new }
-        ensures operands { (s : Setting) → s.facts ≡ P.facts pools.now
-            → (result.needs, result.takes, result.gives) ≡ stack_effect s op.now }
-        ensures asks { (s : Setting) → s.facts ≡ P.facts pools.now
-            → result.asks.0 ≡ caps_of s op.now }
-        ensures flow { flow result.flow result.target ≡ flow_of op.now }
+        ensures knows { OnOk result (Knows (P.facts pools.now) asked.new) }
+        ensures operands { IfOk result (λ e. (s : Setting) → s.facts ≡ P.facts pools.now
+            → (e.needs, e.takes, e.gives) ≡ stack_effect s op.now) }
+        ensures asks { IfOk result (λ e. (s : Setting) → s.facts ≡ P.facts pools.now
+            → e.asks.0 ≡ caps_of s op.now) }
+        ensures flow { IfOk result (λ e. flow e.flow e.target ≡ flow_of op.now) }
     {
         let effect = grain_rules::Effect::of(op, pools);
         let (flow, target) = Flow::with_target(effect.flow);
-        Effect {
-            asks: asked.of(pools, effect.asks),
+        Ok(Effect {
+            asks: asked.of(pools, effect.asks)?,
             needs: effect.needs,
             takes: effect.takes,
             gives: effect.gives,
             flow,
             target,
-        }
+        })
     }
 
     /// What instructions with a tag do, with this flow and target.

@@ -69,7 +69,7 @@ fn walk_chunks<P: Read>(
         chunks.now meter.old meter.new result }
 {
     let mut traversal = prepared.traversal(alloc)?;
-    let mut asked = prepared.asked(alloc)?;
+    let mut asked = prepared.asked(alloc);
     let mut lists = Lists::new(alloc);
     let mut deepest = Vec::with_capacity(alloc, chunks.len())?;
     for (place, chunk) in chunks.iter().enumerate() {

@@ -35,7 +35,7 @@ use crate::sinking::check_stays;
 use crate::state::{Arrival, State, check_same};
 use crate::states::States;
 use grain_base::{Caps, Flags};
-use grain_bytecode::{Chunk, Head, Instruction, Pool, Starts, TagFlow, TagRow};
+use grain_bytecode::{Chunk, Head, Instruction, Starts, TagFlow, TagRow};
 use grain_rules::{Read, VerifyError, missing};
 use std::alloc::{AllocError, Global};
 use std::marker::Model;
@@ -272,18 +272,11 @@ impl<'a, P: Read> Prepared<'a, P> {
         Traversal::new(alloc, self.starts.count(), self.pools.switches())
     }
 
-    /// Room for what names and chains ask, of which nothing is known.
-    ///
-    /// # Errors
-    /// [`AllocError`] where the memory was refused.
-    pub(crate) fn asked(&self, alloc: Global) -> Result<Asked, AllocError>
-        ensures { IfOk result (Knows self.now.code.setting.facts) }
+    /// What names and chains ask, of which nothing is known.
+    pub(crate) fn asked(&self, alloc: Global) -> Asked
+        ensures { Knows self.now.code.setting.facts result }
     {
-        Asked::new(
-            alloc,
-            self.pools.size(Pool::Names),
-            self.pools.size(Pool::Chains),
-        )
+        Asked::new(alloc)
     }
 
     /// The instruction that stands at an address, where its head is known.
@@ -330,17 +323,26 @@ impl<'a, P: Read> Prepared<'a, P> {
     }
 
     /// What an instruction does. It is decoded where its tag and its target don't tell, since decoding takes longer.
+    ///
+    /// # Errors
+    /// Those of [`Asked::of`].
     #[inline(always)]
-    fn effect_of(&self, instruction: &Instruction<'_>, row: &TagRow, asked: &mut Asked) -> Effect
+    fn effect_of(
+        &self,
+        instruction: &Instruction<'_>,
+        row: &TagRow,
+        asked: &mut Asked,
+    ) -> Result<Effect, AllocError>
         requires row { IsRowOf row.now instruction.now.tag }
         requires known { (op : Op) × Instr (instruction.now.tag ∷ instruction.now.fields.now) op }
         requires knows { Knows self.now.code.setting.facts asked.old }
-        ensures knows { Knows self.now.code.setting.facts asked.new }
-        ensures does { (op : Op) → Instr (instruction.now.tag ∷ instruction.now.fields.now) op
-            → IsEffectIn self.now.code.setting.facts result op }
+        ensures knows { OnOk result (Knows self.now.code.setting.facts asked.new) }
+        ensures does { IfOk result (λ e. (op : Op)
+            → Instr (instruction.now.tag ∷ instruction.now.fields.now) op
+            → IsEffectIn self.now.code.setting.facts e op) }
     {
         if let Some(effect) = effect_by_tag(instruction, row) {
-            return effect;
+            return Ok(effect);
         }
         let Some(op) = instruction.op() else {
             unreachable!();
@@ -407,11 +409,11 @@ impl<'a, P: Read> Prepared<'a, P> {
         requires knows { Knows self.now.code.setting.facts asked.old }
         ensures visited { IfOk result (λ next. IsVisited self.now chunk.now lists.old lists.new
             traversal.old traversal.new here (option_to_list next)) }
-        ensures knows { Knows self.now.code.setting.facts asked.new }
+        ensures knows { OnOk result (Knows self.now.code.setting.facts asked.new) }
         ensures err { IfErr result (RefusesChunk self.now.code chunk.now) }
     {
         let instruction = self.instruction(here.at, head);
-        let effect = self.effect_of(&instruction, row, asked);
+        let effect = self.effect_of(&instruction, row, asked)?;
         self.check_needs(effect, here.at, here.state)?;
         check_stays(&instruction, effect, here, lists)?;
         self.follow_passing(chunk, here, &instruction, effect, lists, traversal)

@@ -147,7 +147,6 @@ impl Pools {
 
     /// One more constant, by what it [asks](crate::Asks): [`Asks`](crate::Asks), [`Caps`](crate::Caps), or in the older form
     /// an `Option` of a number, which is `None` for what can't be named.
-    #[inline]
     #[must_use]
     pub fn constant(mut self, asks: impl Into<Constant>) -> Pools {
         begin(&mut self.constants, 16);
@@ -156,7 +155,6 @@ impl Pools {
     }
 
     /// One more name.
-    #[inline]
     #[must_use]
     pub fn name(mut self, name: &str) -> Pools {
         begin(&mut self.names, 128);
@@ -170,7 +168,6 @@ impl Pools {
     }
 
     /// So many operators.
-    #[inline]
     #[must_use]
     pub fn operators(mut self, operators: usize) -> Pools {
         self.set_operators(operators);
@@ -178,7 +175,6 @@ impl Pools {
     }
 
     /// So many op-assignments.
-    #[inline]
     #[must_use]
     pub fn op_assignments(mut self, op_assignments: usize) -> Pools {
         self.set_op_assignments(op_assignments);
@@ -186,7 +182,6 @@ impl Pools {
     }
 
     /// So many fragments of syntax.
-    #[inline]
     #[must_use]
     pub fn fragments(mut self, fragments: usize) -> Pools {
         self.set_fragments(fragments);
@@ -194,7 +189,6 @@ impl Pools {
     }
 
     /// So many functions.
-    #[inline]
     #[must_use]
     pub fn functions(mut self, functions: usize) -> Pools {
         self.set_functions(functions);
@@ -202,7 +196,6 @@ impl Pools {
     }
 
     /// One more chain, whose steps take so many operands.
-    #[inline]
     #[must_use]
     pub fn chain(mut self, root: Root, steps: &[Step], tail: Tail, operands: u16) -> Pools {
         begin(&mut self.chains, 8);
@@ -214,7 +207,6 @@ impl Pools {
     }
 
     /// One more switch: its cases, where each of its ranges leads, and where all other subjects lead.
-    #[inline]
     #[must_use]
     pub fn switch(mut self, cases: &[Case], ranges: &[u32], otherwise: u32) -> Pools {
         begin(&mut self.switches, 8);

@@ -14,7 +14,7 @@ use Rattle.grain_verify.proofs.walk.Prepared.visit.Goals as goal
 
 pub returns-in_err-check_needs-clause-err : goal.returns-in_err-check_needs-clause-err
 returns-in_err-check_needs-clause-err g c =
-    let p = err_from_is_err_and c.from_residual.result c.from_residual.ensures.1 in
+    let p = err_from_is_err_and c.from_residual-in_err-check_needs.result c.from_residual-in_err-check_needs.ensures.1 in
     let self = c.args.self.now in
     let code = self.code in
     let chunk = c.args.chunk.now in
@@ -22,7 +22,7 @@ returns-in_err-check_needs-clause-err g c =
     let before = c.args.lists.now in
     let halts = c.requires.marked.halts in
     let op = c.instruction-instruction.ensures.found.0 in
-    let known = c.effect_of-effect.ensures.does op c.instruction-instruction.ensures.found.2 in
+    let known = c.in_ok-effect.ensures.does op c.instruction-instruction.ensures.found.2 in
     let stands = c.instruction-instruction.ensures.found.1 in
     let refused = c.in_err-check_needs.ensures.err op before (known.asks code.setting refl) (ap (λ (e : ℕ × ℕ × ℕ). e.0) (known.operands code.setting refl)) in
     let comes : Comes code chunk here.at op (view before here.state) = record { reached = taken_reached _ _ halts.1.is; stands = record { within = taken_inside _ _ halts.1.is halts.1.within; is = stands } } in
@@ -45,8 +45,8 @@ returns-in_err-check_stays-clause-err g c =
     let counts = view before here.state in
     let halts = c.requires.marked.halts in
     let op = c.instruction-instruction.ensures.found.0 in
-    let does = c.effect_of-effect.result in
-    let known = c.effect_of-effect.ensures.does op c.instruction-instruction.ensures.found.2 in
+    let does = c.in_ok-effect.effect in
+    let known = c.in_ok-effect.ensures.does op c.instruction-instruction.ensures.found.2 in
     let found = c.in_ok-check_needs.ensures in
     let allowed = subst (Allows code.setting.caps) (known.asks code.setting refl) found.allowed in
     let stands : StandsIn (coded code) chunk here.at op = record { within = taken_inside _ _ halts.1.is halts.1.within; is = c.instruction-instruction.ensures.found.1 } in
@@ -62,7 +62,7 @@ pub follow_passing-requires-clause-passing : goal.follow_passing-requires-clause
 follow_passing-requires-clause-passing g c =
     let code = c.args.self.now.code in
     let op = c.instruction-instruction.ensures.found.0 in
-    let known = c.effect_of-effect.ensures.does op c.instruction-instruction.ensures.found.2 in
+    let known = c.in_ok-effect.ensures.does op c.instruction-instruction.ensures.found.2 in
     let found = c.in_ok-check_needs.ensures in
     record {
       op = op;
