@@ -3,6 +3,7 @@ use crate::flat::FlatPools;
 use crate::rows::{Case, ChainRow, Constant, Root, Step, StepRow, SwitchRow, Tail};
 use std::collections::TryReserveError;
 use std::fmt;
+use std::hash::{Hash, Hasher};
 
 /// Why an item isn't added to pools. They are as they were then.
 #[derive(Clone, Copy, Debug, PartialEq, Eq, Hash)]
@@ -52,22 +53,31 @@ impl From<TryReserveError> for PoolError {
 /// }
 /// # Ok::<(), Box<dyn std::error::Error>>(())
 /// ```
-#[derive(Clone, Debug, Default, PartialEq, Eq, Hash)]
+#[derive(Clone, Default)]
 pub struct Pools {
-    constants: Vec<Constant>,
-    names: Vec<u8>,
-    /// 0 and then where each name ends; nothing where there is no name.
-    starts: Vec<u32>,
+    /// The lists, or nothing where there is no item: behind one pointer, so that a chained call moves little.
+    lists: Vec<Lists>,
     operators: usize,
     op_assignments: usize,
     fragments: usize,
     functions: usize,
+}
+
+/// The lists of pools.
+#[derive(Clone, Debug, PartialEq, Eq, Hash)]
+struct Lists {
+    constants: Vec<Constant>,
+    names: Vec<u8>,
+    /// 0 and then where each name ends; nothing where there is no name.
+    starts: Vec<u32>,
     chains: Vec<ChainRow>,
     steps: Vec<StepRow>,
     switches: Vec<SwitchRow>,
     cases: Vec<Case>,
     ranges: Vec<u32>,
 }
+
+static NO_LISTS: Lists = Lists::new();
 
 /// A count as the flat form has it. One that doesn't fit is told apart there: no sum of counts is what is there.
 fn count(length: usize) -> u32 {
@@ -111,18 +121,12 @@ fn begin<T>(list: &mut Vec<T>, room: usize) {
     }
 }
 
-impl Pools {
-    /// Pools with nothing in them. It takes no memory.
-    #[must_use]
-    pub const fn new() -> Pools {
-        Pools {
+impl Lists {
+    const fn new() -> Lists {
+        Lists {
             constants: Vec::new(),
             names: Vec::new(),
             starts: Vec::new(),
-            operators: 0,
-            op_assignments: 0,
-            fragments: 0,
-            functions: 0,
             chains: Vec::new(),
             steps: Vec::new(),
             switches: Vec::new(),
@@ -131,13 +135,10 @@ impl Pools {
         }
     }
 
-    /// Takes all out, and keeps the memory for what comes next.
-    pub fn clear(&mut self) {
+    fn clear(&mut self) {
         self.constants.clear();
         self.names.clear();
         self.starts.clear();
-        (self.operators, self.op_assignments) = (0, 0);
-        (self.fragments, self.functions) = (0, 0);
         self.chains.clear();
         self.steps.clear();
         self.switches.clear();
@@ -145,25 +146,99 @@ impl Pools {
         self.ranges.clear();
     }
 
+    fn add_name(&mut self, name: &str) -> Result<usize, PoolError> {
+        let end = self.names.len().checked_add(name.len());
+        let end = fitting(end.ok_or(PoolError::TooLarge)?)?;
+        self.starts.try_reserve(2)?;
+        self.names.try_reserve(name.len())?;
+        if self.starts.is_empty() {
+            self.starts.push(0);
+        }
+        self.starts.push(end);
+        self.names.extend_from_slice(name.as_bytes());
+        Ok(self.starts.len() - 2)
+    }
+
+    fn add_arms(
+        &mut self,
+        cases: impl IntoIterator<Item = Case>,
+        ranges: impl IntoIterator<Item = u32>,
+        otherwise: u32,
+    ) -> Result<(), PoolError> {
+        let cases = fitting(extend(&mut self.cases, cases)?)?;
+        let ranges = fitting(extend(&mut self.ranges, ranges)?)?;
+        let row = SwitchRow {
+            cases,
+            ranges,
+            otherwise,
+        };
+        push(&mut self.switches, row)
+    }
+}
+
+impl Pools {
+    /// Pools with nothing in them. It takes no memory.
+    #[must_use]
+    pub const fn new() -> Pools {
+        Pools {
+            lists: Vec::new(),
+            operators: 0,
+            op_assignments: 0,
+            fragments: 0,
+            functions: 0,
+        }
+    }
+
+    /// Takes all out, and keeps the memory for what comes next.
+    pub fn clear(&mut self) {
+        if let Some(lists) = self.lists.first_mut() {
+            lists.clear();
+        }
+        (self.operators, self.op_assignments) = (0, 0);
+        (self.fragments, self.functions) = (0, 0);
+    }
+
+    fn lists(&self) -> &Lists {
+        self.lists.first().unwrap_or(&NO_LISTS)
+    }
+
+    /// The lists, to which items are added as to a `Vec`.
+    fn lists_mut(&mut self) -> &mut Lists {
+        if self.lists.is_empty() {
+            self.lists.push(Lists::new());
+        }
+        &mut self.lists[0]
+    }
+
+    /// The same, and an error where memory is wanted.
+    fn try_lists(&mut self) -> Result<&mut Lists, PoolError> {
+        if self.lists.is_empty() {
+            self.lists.try_reserve_exact(1)?;
+        }
+        Ok(self.lists_mut())
+    }
+
     /// One more constant, by what it [asks](crate::Asks): [`Asks`](crate::Asks), [`Caps`](crate::Caps), or in the older form
     /// an `Option` of a number, which is `None` for what can't be named.
     #[must_use]
     pub fn constant(mut self, asks: impl Into<Constant>) -> Pools {
-        begin(&mut self.constants, 16);
-        self.constants.push(asks.into());
+        let lists = self.lists_mut();
+        begin(&mut lists.constants, 16);
+        lists.constants.push(asks.into());
         self
     }
 
     /// One more name.
     #[must_use]
     pub fn name(mut self, name: &str) -> Pools {
-        begin(&mut self.names, 128);
-        begin(&mut self.starts, 16);
-        self.names.extend_from_slice(name.as_bytes());
-        if self.starts.is_empty() {
-            self.starts.push(0);
+        let lists = self.lists_mut();
+        begin(&mut lists.names, 128);
+        begin(&mut lists.starts, 16);
+        lists.names.extend_from_slice(name.as_bytes());
+        if lists.starts.is_empty() {
+            lists.starts.push(0);
         }
-        self.starts.push(count(self.names.len()));
+        lists.starts.push(count(lists.names.len()));
         self
     }
 
@@ -198,26 +273,28 @@ impl Pools {
     /// One more chain, whose steps take so many operands.
     #[must_use]
     pub fn chain(mut self, root: Root, steps: &[Step], tail: Tail, operands: u16) -> Pools {
-        begin(&mut self.chains, 8);
-        begin(&mut self.steps, 16);
+        let lists = self.lists_mut();
+        begin(&mut lists.chains, 8);
+        begin(&mut lists.steps, 16);
         let row = ChainRow::new(root, count(steps.len()), tail, operands);
-        self.chains.push(row);
-        self.steps.extend(steps.iter().copied().map(StepRow::from));
+        lists.chains.push(row);
+        lists.steps.extend(steps.iter().copied().map(StepRow::from));
         self
     }
 
     /// One more switch: its cases, where each of its ranges leads, and where all other subjects lead.
     #[must_use]
     pub fn switch(mut self, cases: &[Case], ranges: &[u32], otherwise: u32) -> Pools {
-        begin(&mut self.switches, 8);
-        begin(&mut self.cases, 16);
-        self.switches.push(SwitchRow {
+        let lists = self.lists_mut();
+        begin(&mut lists.switches, 8);
+        begin(&mut lists.cases, 16);
+        lists.switches.push(SwitchRow {
             cases: count(cases.len()),
             ranges: count(ranges.len()),
             otherwise,
         });
-        self.cases.extend_from_slice(cases);
-        self.ranges.extend_from_slice(ranges);
+        lists.cases.extend_from_slice(cases);
+        lists.ranges.extend_from_slice(ranges);
         self
     }
 
@@ -250,8 +327,9 @@ impl Pools {
     /// # Errors
     /// Memory is wanted.
     pub fn add_constant(&mut self, asks: impl Into<Constant>) -> Result<usize, PoolError> {
-        push(&mut self.constants, asks.into())?;
-        Ok(self.constants.len() - 1)
+        let lists = self.try_lists()?;
+        push(&mut lists.constants, asks.into())?;
+        Ok(lists.constants.len() - 1)
     }
 
     /// More constants, by what each asks; and how many they are.
@@ -262,7 +340,8 @@ impl Pools {
         &mut self,
         asks: impl IntoIterator<Item = C>,
     ) -> Result<usize, PoolError> {
-        extend(&mut self.constants, asks.into_iter().map(Into::into))
+        let lists = self.try_lists()?;
+        extend(&mut lists.constants, asks.into_iter().map(Into::into))
     }
 
     /// One more name; and its index.
@@ -270,16 +349,7 @@ impl Pools {
     /// # Errors
     /// Memory is wanted, or the names are too long.
     pub fn add_name(&mut self, name: &str) -> Result<usize, PoolError> {
-        let end = self.names.len().checked_add(name.len());
-        let end = fitting(end.ok_or(PoolError::TooLarge)?)?;
-        self.starts.try_reserve(2)?;
-        self.names.try_reserve(name.len())?;
-        if self.starts.is_empty() {
-            self.starts.push(0);
-        }
-        self.starts.push(end);
-        self.names.extend_from_slice(name.as_bytes());
-        Ok(self.starts.len() - 2)
+        self.try_lists()?.add_name(name)
     }
 
     /// More names; and how many they are.
@@ -290,12 +360,13 @@ impl Pools {
         &mut self,
         names: impl IntoIterator<Item = N>,
     ) -> Result<usize, PoolError> {
-        let (starts, bytes) = (self.starts.len(), self.names.len());
+        let lists = self.try_lists()?;
+        let (starts, bytes) = (lists.starts.len(), lists.names.len());
         let mut added = 0;
         for name in names {
-            if let Err(error) = self.add_name(name.as_ref()) {
-                self.starts.truncate(starts);
-                self.names.truncate(bytes);
+            if let Err(error) = lists.add_name(name.as_ref()) {
+                lists.starts.truncate(starts);
+                lists.names.truncate(bytes);
                 return Err(error);
             }
             added += 1;
@@ -314,15 +385,16 @@ impl Pools {
         tail: Tail,
         operands: u16,
     ) -> Result<usize, PoolError> {
-        let before = self.steps.len();
-        self.chains.try_reserve(1)?;
-        let many = extend(&mut self.steps, steps.into_iter().map(StepRow::from))?;
+        let lists = self.try_lists()?;
+        let before = lists.steps.len();
+        lists.chains.try_reserve(1)?;
+        let many = extend(&mut lists.steps, steps.into_iter().map(StepRow::from))?;
         let Ok(many) = fitting(many) else {
-            self.steps.truncate(before);
+            lists.steps.truncate(before);
             return Err(PoolError::TooLarge);
         };
-        self.chains.push(ChainRow::new(root, many, tail, operands));
-        Ok(self.chains.len() - 1)
+        lists.chains.push(ChainRow::new(root, many, tail, operands));
+        Ok(lists.chains.len() - 1)
     }
 
     /// One more switch, as [`switch`](Pools::switch) takes it; and its index.
@@ -335,48 +407,71 @@ impl Pools {
         ranges: impl IntoIterator<Item = u32>,
         otherwise: u32,
     ) -> Result<usize, PoolError> {
-        let before = (self.cases.len(), self.ranges.len());
-        let added = self.add_arms(cases, ranges, otherwise);
+        let lists = self.try_lists()?;
+        let before = (lists.cases.len(), lists.ranges.len());
+        let added = lists.add_arms(cases, ranges, otherwise);
         if added.is_err() {
-            self.cases.truncate(before.0);
-            self.ranges.truncate(before.1);
+            lists.cases.truncate(before.0);
+            lists.ranges.truncate(before.1);
         }
-        added.map(|()| self.switches.len() - 1)
-    }
-
-    fn add_arms(
-        &mut self,
-        cases: impl IntoIterator<Item = Case>,
-        ranges: impl IntoIterator<Item = u32>,
-        otherwise: u32,
-    ) -> Result<(), PoolError> {
-        let cases = fitting(extend(&mut self.cases, cases)?)?;
-        let ranges = fitting(extend(&mut self.ranges, ranges)?)?;
-        let row = SwitchRow {
-            cases,
-            ranges,
-            otherwise,
-        };
-        push(&mut self.switches, row)
+        added.map(|()| lists.switches.len() - 1)
     }
 
     /// The lists in their flat form, as they are verified.
     #[must_use]
     pub fn flat(&self) -> FlatPools<'_> {
-        let starts: &[u32] = if self.starts.is_empty() {
+        let lists = self.lists();
+        let starts: &[u32] = if lists.starts.is_empty() {
             &[0]
         } else {
-            &self.starts
+            &lists.starts
         };
         FlatPools::new()
-            .constants(&self.constants)
-            .names(&self.names, starts)
+            .constants(&lists.constants)
+            .names(&lists.names, starts)
             .operators(self.operators)
             .op_assignments(self.op_assignments)
             .fragments(self.fragments)
             .functions(self.functions)
-            .chains(&self.chains, &self.steps)
-            .switches(&self.switches, &self.cases, &self.ranges)
+            .chains(&lists.chains, &lists.steps)
+            .switches(&lists.switches, &lists.cases, &lists.ranges)
             .of_builder()
+    }
+
+    /// The lists and the counts.
+    fn parts(&self) -> (&Lists, [usize; 4]) {
+        let counts = [
+            self.operators,
+            self.op_assignments,
+            self.fragments,
+            self.functions,
+        ];
+        (self.lists(), counts)
+    }
+}
+
+impl PartialEq for Pools {
+    fn eq(&self, other: &Pools) -> bool {
+        self.parts() == other.parts()
+    }
+}
+
+impl Eq for Pools {}
+
+impl Hash for Pools {
+    fn hash<H: Hasher>(&self, state: &mut H) {
+        self.parts().hash(state);
+    }
+}
+
+impl fmt::Debug for Pools {
+    fn fmt(&self, f: &mut fmt::Formatter<'_>) -> fmt::Result {
+        f.debug_struct("Pools")
+            .field("lists", self.lists())
+            .field("operators", &self.operators)
+            .field("op_assignments", &self.op_assignments)
+            .field("fragments", &self.fragments)
+            .field("functions", &self.functions)
+            .finish()
     }
 }
