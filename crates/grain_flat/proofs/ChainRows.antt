@@ -104,15 +104,19 @@ apart xs ys us vs long e = (
   sym (drop-append_seam xs ys) ∙ ap (drop (length xs)) e ∙ ap (λ n. drop n (us ++ vs)) long ∙ drop-append_seam us vs,
 )
 
+-- what stands in front, and what comes behind it
+in_front : {A : Type 0} (xs ys all : List A) (n : ℕ) → length xs ≡ n → all ≡ xs ++ ys → (take n all ≡ xs) × (drop n all ≡ ys)
+in_front xs ys all n long is = (
+  ap (take n) is ∙ ap (λ m. take m (xs ++ ys)) (sym long) ∙ take-append_seam xs ys,
+  ap (drop n) is ∙ ap (λ m. drop m (xs ++ ys)) (sym long) ∙ drop-append_seam xs ys,
+)
+
 -- chains are told by their rows and their steps
 all_told : (cs : List Chain) → chains_told (map chain_row cs) (flat_map step_rows cs) ≡ map chain_facts cs
 all_told [] = refl
 all_told (c ∷ cs) =
-    let long : length (step_rows c) ≡ length c.steps.items = length-map c.steps.items step_row in
-    let cut : flat_map step_rows (c ∷ cs) ≡ step_rows c ++ flat_map step_rows cs = flat_map-cons step_rows c cs in
-    let own : take (length c.steps.items) (flat_map step_rows (c ∷ cs)) ≡ step_rows c = ap (take (length c.steps.items)) cut ∙ ap (λ n. take n (step_rows c ++ flat_map step_rows cs)) (sym long) ∙ take-append_seam (step_rows c) (flat_map step_rows cs) in
-    let more : drop (length c.steps.items) (flat_map step_rows (c ∷ cs)) ≡ flat_map step_rows cs = ap (drop (length c.steps.items)) cut ∙ ap (λ n. drop n (step_rows c ++ flat_map step_rows cs)) (sym long) ∙ drop-append_seam (step_rows c) (flat_map step_rows cs) in
-    λ i. (ap (chain_told (chain_row c)) own ∙ facts_told c) i ∷ (ap (chains_told (map chain_row cs)) more ∙ all_told cs) i
+    let cut = in_front (step_rows c) (flat_map step_rows cs) (flat_map step_rows (c ∷ cs)) (length c.steps.items) (length-map c.steps.items step_row) (flat_map-cons step_rows c cs) in
+    λ i. (ap (chain_told (chain_row c)) cut.0 ∙ facts_told c) i ∷ (ap (chains_told (map chain_row cs)) cut.1 ∙ all_told cs) i
 
 -- whatever the chains are that have these rows
 pub told_by_rows : (rows : List CChain) (given : List CStep) (cs : List Chain) → AreChains rows given cs → chains_told rows given ≡ map chain_facts cs

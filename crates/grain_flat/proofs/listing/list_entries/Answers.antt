@@ -18,7 +18,8 @@ pub overflow_add-count : goal.overflow_add-count
 overflow_add-count c =
     let done = c.loop-address.invariant.2 in
     let entry : Entry = (c.in-Some.address, c.in-Some.site) in
-    let more : front c.args.table.now ≡ done.0 ++ entry ∷ left c.next.new.self = done.1 ∙ ap (λ (xs : List Entry). done.0 ++ xs) (left_more c.loop-address.address-iterator c.next.new.self entry c.in-Some.ensures.steps) in
+    let next = left_more c.loop-address.address-iterator c.next.new.self entry c.in-Some.ensures.steps in
+    let more : front c.args.table.now ≡ done.0 ++ entry ∷ left c.next.new.self = done.1 ∙ ap (λ (xs : List Entry). done.0 ++ xs) next in
     omega (arith, done.2, one_left c.args.table.now done.0 (left c.next.new.self) entry more)
 
 pub loop-address-preserved : goal.loop-address-preserved

@@ -1,5 +1,8 @@
 use Rattle.grain_machine.proofs.accepted.Runnable.step.Goals as goal
-use Rattle.grain_machine.proofs.accepted.Runnable.step.Goals.{in-Takes+in_ok-take-in-Takes, in-Unit, in-Truth, in-Pop, in-Rotate, in-Unwind, in-Jump, in-JumpIf-default-true+in_ok-jump_if_true-in-JumpIf-default-true, in-JumpIf-default-false+in_ok-jump_if_false-in-JumpIf-default-false, in-Skip, in-Switch+in_ok-switch-in-Switch, in-Throw+in_ok-throw-in-Throw, in-Begin+in_ok-begin-in-Begin, in-Advance+in_ok-advance-in-Advance, in-End, in-Arm+in_ok-arm-in-Arm, in-Disarm}
+use Rattle.grain_machine.proofs.accepted.Runnable.step.Goals.{in-Takes+in_ok-take-in-Takes, in-Unit, in-Truth, in-Pop, in-Rotate, in-Unwind, in-Jump, in-JumpIf-default-true+in_ok-jump_if_true-in-JumpIf-default-true}
+use Rattle.grain_machine.proofs.accepted.Runnable.step.Goals.{in-JumpIf-default-false+in_ok-jump_if_false-in-JumpIf-default-false, in-Skip}
+use Rattle.grain_machine.proofs.accepted.Runnable.step.Goals.{in-Switch+in_ok-switch-in-Switch, in-Throw+in_ok-throw-in-Throw, in-Begin+in_ok-begin-in-Begin}
+use Rattle.grain_machine.proofs.accepted.Runnable.step.Goals.{in-Advance+in_ok-advance-in-Advance, in-End, in-Arm+in_ok-arm-in-Arm, in-Disarm}
 
 pub returns-clause-goes : goal.returns-clause-goes
 returns-clause-goes g c =

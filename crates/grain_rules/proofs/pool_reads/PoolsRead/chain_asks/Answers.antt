@@ -11,4 +11,6 @@ returns-in-Some c =
     ∙ sym (said_at chain_facts (λ (f : ChainFacts). f.asks) c.args.self.now.chains.now c.args.chain c.in-Some.chain.now 0 (sym c.chain_at.ensures ∙ ap (option_map (λ (c : Bor Chain). c.now)) c.in-Some.is))
 
 pub returns-in-None : goal.returns-in-None
-returns-in-None c = c.empty.ensures tt ∙ sym (said_nowhere chain_facts (λ (f : ChainFacts). f.asks) c.args.self.now.chains.now c.args.chain 0 (sym c.chain_at.ensures ∙ ap (option_map (λ (c : Bor Chain). c.now)) c.in-None.is))
+returns-in-None c =
+    c.empty.ensures tt
+    ∙ sym (said_nowhere chain_facts (λ (f : ChainFacts). f.asks) c.args.self.now.chains.now c.args.chain 0 (sym c.chain_at.ensures ∙ ap (option_map (λ (c : Bor Chain). c.now)) c.in-None.is))
