@@ -9,7 +9,7 @@ use Rattle.std.proofs.lemmas.Option.{none-some, slice_get-map, slice_get_within,
 use Rattle.grain.specs.Capabilities.{name_caps}
 use Rattle.grain.specs.Names.{first_flaw, names_in}
 use Rattle.grain_bytecode.proofs.Tables.{length-starts_of, table_of}
-use Rattle.grain_flat.specs.RowFacts.{begins, cases_told, chain_told, chains_told, leads_told, parts, switch_leads}
+use Rattle.grain_flat.specs.RowFacts.{part_begins, cases_told, chain_told, chains_told, leads_told, parts, switch_leads}
 use Rattle.grain_flat.specs.RowTables.{AreTables}
 use Rattle.grain_flat.specs.declared.records.CCase.{CCase}
 use Rattle.grain_flat.specs.declared.records.CChain.{CChain}
@@ -49,7 +49,7 @@ arms_begun p steps arms t i row there =
 pub steps_there : (p : CPools) (steps : List ℕ) (arms : List ArmsBegin) → AreTables p steps arms → (i : ℕ) (row : CChain) (from : ℕ) → slice_get p.chains.now i ≡ Some row → slice_get steps i ≡ Some from
     → IsPart p.steps.now (slice_get (parts steps_in p.chains.now p.steps.now) i) from row.steps
 steps_there p steps arms t i row from there at =
-    let begun : slice_get (begins steps_in 0 p.chains.now) i ≡ Some from = ap (λ ns. slice_get ns i) (sym t.steps_are) ∙ at in
+    let begun : slice_get (part_begins steps_in 0 p.chains.now) i ≡ Some from = ap (λ ns. slice_get ns i) (sym t.steps_are) ∙ at in
     record {
       within = part_within steps_in p.steps.now p.chains.now 0 i row from there begun (omega (arith, t.flat.step_counts));
       told = part_at steps_in p.steps.now p.chains.now 0 i row from there begun;
@@ -87,7 +87,7 @@ chains_long rows steps =
 pub cases_there : (p : CPools) (steps : List ℕ) (arms : List ArmsBegin) → AreTables p steps arms → (i : ℕ) (row : CSwitch) (from : ArmsBegin) → slice_get p.switches.now i ≡ Some row → slice_get arms i ≡ Some from
     → IsPart p.cases.now (slice_get (parts cases_in p.switches.now p.cases.now) i) from.cases row.cases
 cases_there p steps arms t i row from there at =
-    let begun : slice_get (begins cases_in 0 p.switches.now) i ≡ Some from.cases =
+    let begun : slice_get (part_begins cases_in 0 p.switches.now) i ≡ Some from.cases =
     ap (λ ns. slice_get ns i) (sym t.cases_are) ∙ slice_get-map (λ (b : ArmsBegin). b.cases) arms i ∙ ap (option_map (λ (b : ArmsBegin). b.cases)) at
     in record {
       within = part_within cases_in p.cases.now p.switches.now 0 i row from.cases there begun (omega (arith, t.flat.case_counts));
@@ -97,7 +97,7 @@ cases_there p steps arms t i row from there at =
 pub ranges_there : (p : CPools) (steps : List ℕ) (arms : List ArmsBegin) → AreTables p steps arms → (i : ℕ) (row : CSwitch) (from : ArmsBegin) → slice_get p.switches.now i ≡ Some row → slice_get arms i ≡ Some from
     → IsPart p.ranges.now (slice_get (parts ranges_in p.switches.now p.ranges.now) i) from.ranges row.ranges
 ranges_there p steps arms t i row from there at =
-    let begun : slice_get (begins ranges_in 0 p.switches.now) i ≡ Some from.ranges =
+    let begun : slice_get (part_begins ranges_in 0 p.switches.now) i ≡ Some from.ranges =
     ap (λ ns. slice_get ns i) (sym t.ranges_are) ∙ slice_get-map (λ (b : ArmsBegin). b.ranges) arms i ∙ ap (option_map (λ (b : ArmsBegin). b.ranges)) at
     in record {
       within = part_within ranges_in p.ranges.now p.switches.now 0 i row from.ranges there begun (omega (arith, t.flat.range_counts));

@@ -20,9 +20,9 @@ parts count [] xs = []
 parts count (row ∷ rows) xs = take (count row) xs ∷ parts count rows (drop (count row) xs)
 
 -- where such parts begin, of which the first begins there
-abbrev pub begins : {R : Type 0} → (R → ℕ) → ℕ → List R → List ℕ
-begins count from [] = []
-begins count from (row ∷ rows) = from ∷ begins count (from + count row) rows
+abbrev pub part_begins : {R : Type 0} → (R → ℕ) → ℕ → List R → List ℕ
+part_begins count from [] = []
+part_begins count from (row ∷ rows) = from ∷ part_begins count (from + count row) rows
 
 -- what a root, a step and a tail name
 abbrev pub root_told : CChain → List Mention

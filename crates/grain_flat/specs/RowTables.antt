@@ -2,7 +2,7 @@
 use Rattle.std.specs.Prelude.{◌≡◌, ℕ, List, ◌++◌, map}
 use Rattle.std.specs.Option.{option_to_list}
 use Rattle.grain_flat.specs.Flat.{IsFlat}
-use Rattle.grain_flat.specs.RowFacts.{begins}
+use Rattle.grain_flat.specs.RowFacts.{part_begins}
 use Rattle.grain_flat.specs.declared.records.CCase.{CCase}
 use Rattle.grain_flat.specs.declared.records.CChain.{CChain}
 use Rattle.grain_flat.specs.declared.records.CPools.{CPools}
@@ -13,9 +13,9 @@ use Rattle.grain_flat.specs.declared.row_reads.RowTargets.{RowTargets}
 -- there the steps of each chain begin, and the arms of each switch
 pub record AreTables (p : CPools) (steps : List ℕ) (arms : List ArmsBegin) : Type 0 where
   pub flat : IsFlat p
-  pub steps_are : steps ≡ begins (λ (c : CChain). c.steps) 0 p.chains.now
-  pub cases_are : map (λ (b : ArmsBegin). b.cases) arms ≡ begins (λ (s : CSwitch). s.cases) 0 p.switches.now
-  pub ranges_are : map (λ (b : ArmsBegin). b.ranges) arms ≡ begins (λ (s : CSwitch). s.ranges) 0 p.switches.now
+  pub steps_are : steps ≡ part_begins (λ (c : CChain). c.steps) 0 p.chains.now
+  pub cases_are : map (λ (b : ArmsBegin). b.cases) arms ≡ part_begins (λ (s : CSwitch). s.cases) 0 p.switches.now
+  pub ranges_are : map (λ (b : ArmsBegin). b.ranges) arms ≡ part_begins (λ (s : CSwitch). s.ranges) 0 p.switches.now
 
 -- the targets that are left
 abbrev pub left_of : RowTargets → List ℕ

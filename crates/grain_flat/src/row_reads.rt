@@ -9,7 +9,7 @@ ghost use Rattle.grain.specs.FirstOut.{alone, first_out, refused};
 ghost use Rattle.grain.specs.Indices.{size, test_of};
 ghost use Rattle.grain.specs.Names.{names_in, span};
 ghost use Rattle.grain_flat.specs.Flat.{IsFlat};
-ghost use Rattle.grain_flat.specs.RowFacts.{begins, chain_told, chains_told, facts_told, leads_of, parts, root_asked, root_told};
+ghost use Rattle.grain_flat.specs.RowFacts.{part_begins, chain_told, chains_told, facts_told, leads_of, parts, root_asked, root_told};
 ghost use Rattle.grain_flat.specs.RowFacts.{step_asked, step_told, tail_told, taken};
 ghost use Rattle.grain_flat.specs.RowTables.{left_of};
 
@@ -51,7 +51,7 @@ impl<'a> Model for Rows<'a> {
 /// Where the steps of each chain begin.
 fn step_begins(alloc: Global, rows: &[CChain]) -> Result<Vec<usize>, AllocError>
     requires { sum_by (λ (c : CChain). c.steps) rows.now < 2 ^ 64 }
-    ensures { IfOk result (λ v. v.items ≡ begins (λ (c : CChain). c.steps) 0 rows.now) }
+    ensures { IfOk result (λ v. v.items ≡ part_begins (λ (c : CChain). c.steps) 0 rows.now) }
 {
     let mut begins = Vec::with_capacity(alloc, rows.len())?;
     let mut from = 0;
@@ -67,9 +67,9 @@ fn arm_begins(alloc: Global, rows: &[CSwitch]) -> Result<Vec<ArmsBegin>, AllocEr
     requires cases { sum_by (λ (s : CSwitch). s.cases) rows.now < 2 ^ 64 }
     requires ranges { sum_by (λ (s : CSwitch). s.ranges) rows.now < 2 ^ 64 }
     ensures cases { IfOk result (λ v. map (λ (b : ArmsBegin). b.cases) v.items
-        ≡ begins (λ (s : CSwitch). s.cases) 0 rows.now) }
+        ≡ part_begins (λ (s : CSwitch). s.cases) 0 rows.now) }
     ensures ranges { IfOk result (λ v. map (λ (b : ArmsBegin). b.ranges) v.items
-        ≡ begins (λ (s : CSwitch). s.ranges) 0 rows.now) }
+        ≡ part_begins (λ (s : CSwitch). s.ranges) 0 rows.now) }
 {
     let mut begins = Vec::with_capacity(alloc, rows.len())?;
     let mut cases = 0;
