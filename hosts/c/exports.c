@@ -77,6 +77,42 @@ static void verifies(const uint8_t *code, size_t code_len, const grain_chunk *ch
     CHECK(is_told(&fault, 77, 77, 77, 77, 77));
 }
 
+/* One scratch answers for one program after another, larger, smaller and refused ones, what the library answers alone. */
+static void programs_share_a_scratch(void) {
+    static const uint8_t lacks[] = {0x0b, 0x13};
+    static const grain_chunk whole_lacks[] = {{0, 2, 8}};
+    static const struct {
+        const uint8_t *code;
+        size_t code_len;
+        const grain_chunk *chunks;
+        uint32_t answer;
+        uint16_t number;
+        uint64_t places;
+    } programs[] = {
+        {on_switch, sizeof on_switch, whole_switch, GRAIN_ACCEPTED, 2, 6},
+        {lacks, sizeof lacks, whole_lacks, GRAIN_REFUSED, 77, 1},
+        {on_chain, sizeof on_chain, whole_chain, GRAIN_ACCEPTED, 1, 3},
+        {on_switch, sizeof on_switch, whole_switch, GRAIN_ACCEPTED, 2, 6},
+    };
+    grain_scratch scratch = GRAIN_SCRATCH_NONE;
+    grain_pools good = pools();
+    for (size_t i = 0; i < 2 * LENGTH(programs); i++) {
+        uint16_t numbers[] = {77, 78};
+        grain_fault fault = unwritten;
+        uint64_t looked = 77;
+        size_t k = i % LENGTH(programs);
+        CHECK(grain_verify_with(&scratch, ALL, programs[k].code, programs[k].code_len, programs[k].chunks, 1, &good, numbers,
+                                2, &fault, &looked) == programs[k].answer);
+        CHECK(numbers[0] == programs[k].number && numbers[1] == 78 && looked == programs[k].places);
+        CHECK(programs[k].answer == GRAIN_ACCEPTED ? is_told(&fault, 77, 77, 77, 77, 77)
+                                                   : is_told(&fault, GRAIN_FAULT_UNDERFLOW, 0, 0, 1, 0));
+        if (i == LENGTH(programs))
+            grain_scratch_free(&scratch);
+    }
+    grain_scratch_free(&scratch);
+    grain_scratch_free(&scratch);
+}
+
 /* Why it is refused, after so many places were visited. */
 static grain_fault refused(uint16_t caps, const uint8_t *code, size_t code_len, const grain_chunk *chunks, size_t many,
                            const grain_pools *given, uint64_t places) {
@@ -266,6 +302,7 @@ static void sites_are_listed(void) {
 int main(void) {
     verifies(on_switch, sizeof on_switch, whole_switch, 2, 6);
     verifies(on_chain, sizeof on_chain, whole_chain, 1, 3);
+    programs_share_a_scratch();
     refusals_are_told();
     tightens(8);
     tightens(1);

@@ -83,7 +83,46 @@ static long verify(const grain_chunk *chunks, size_t many) {
     return answer;
 }
 
-/* The same where each chunk is to declare its number. */
+/* The same in a scratch that keeps nothing yet. */
+static long verify_with(const grain_chunk *chunks, size_t many) {
+    const grain_pools given = pools();
+    grain_scratch scratch = GRAIN_SCRATCH_NONE;
+    uint16_t numbers[4] = {777, 777, 777, 777};
+    grain_fault fault = {777, 777, 777, 777, 777};
+    uint64_t looked = 777;
+    uint32_t answer = grain_verify_with(&scratch, 0x7fff, code, sizeof code, chunks, many, &given, numbers, LENGTH(numbers),
+                                        &fault, &looked);
+    grain_scratch_free(&scratch);
+    if ((answer == GRAIN_ACCEPTED) == (numbers[0] == 777) || live != 0)
+        return -1;
+    if ((answer == GRAIN_REFUSED) == is_same(&fault, 777) || (answer <= GRAIN_REFUSED) == (looked == 777))
+        return -1;
+    return answer;
+}
+
+/* A scratch that has room takes no memory, after a refusal neither. */
+static bool has_room(const grain_chunk *good, const grain_chunk *bad, size_t many) {
+    const grain_pools given = pools();
+    grain_scratch scratch = GRAIN_SCRATCH_NONE;
+    uint16_t numbers[4];
+    grain_fault fault;
+    uint64_t looked;
+    bool well = true;
+    for (int round = 0; round < 4; round++) {
+        left = round < 2 ? -1 : 0;
+        const grain_chunk *chunks = round % 2 == 0 ? bad : good;
+        uint32_t answer = grain_verify_with(&scratch, 0x7fff, code, sizeof code, chunks, many, &given, numbers,
+                                            LENGTH(numbers), &fault, &looked);
+        well = answer == (round % 2 == 0 ? GRAIN_REFUSED : GRAIN_ACCEPTED) && well;
+    }
+    left = -1;
+    grain_scratch_free(&scratch);
+    well = live == 0 && well;
+    printf("with room: no memory%s\n", well ? "" : ": WRONG");
+    return well;
+}
+
+/* As verify, where each chunk is to declare its number. */
 static long tighten(const grain_chunk *chunks, size_t many) {
     const grain_pools given = pools();
     grain_chunk own[4];
@@ -158,6 +197,9 @@ int main(void) {
     const grain_chunk bad[] = {{0, 8, 2}, {8, 13, 1}, {0, 8, 0}};
     bool well = each_fails("accepted", verify, good, LENGTH(good), GRAIN_ACCEPTED);
     well = each_fails("refused", verify, bad, LENGTH(bad), GRAIN_REFUSED) && well;
+    well = each_fails("accepted in a scratch", verify_with, good, LENGTH(good), GRAIN_ACCEPTED) && well;
+    well = each_fails("refused in a scratch", verify_with, bad, LENGTH(bad), GRAIN_REFUSED) && well;
+    well = has_room(good, bad + 1, LENGTH(good)) && well;
     well = each_fails("tightened", tighten, good, LENGTH(good), GRAIN_ACCEPTED) && well;
     well = each_fails("not tightened", tighten, bad, LENGTH(bad), GRAIN_REFUSED) && well;
     well = each_fails("explained", explain, good, LENGTH(good), GRAIN_ACCEPTED) && well;

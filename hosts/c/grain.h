@@ -7,14 +7,16 @@
  * - A pointer that stands before a length points to as many items, which are set; a list that is only written to, too.
  * - What is written overlaps nothing else that the call is given, and no other thread reads or writes it meanwhile.
  *   What is only read may overlap, and many calls may read it at once.
- * - The library allocates by malloc, realloc and free of the C library, and frees all that it took before it returns; of
- *   its calls only grain_verify, grain_tighten and grain_explain do.
+ * - The library allocates by malloc, realloc and free of the C library, and frees all that it took before it returns, but
+ *   for what a scratch keeps; of its calls only grain_verify, grain_verify_with, grain_tighten and grain_explain allocate.
  *   The three have to be of one allocator, and to align a block to each power of two up to 16 that divides its size.
  *   So it isn't called from a signal handler, nor from the forked child of a process of many threads.
+ * - A scratch begins as GRAIN_SCRATCH_NONE. Nothing but these calls reads or writes it from then on, one call at a time,
+ *   and of two copies of one no more than one is used. It may be handed from thread to thread.
  * - A call takes up to 22 KiB of the stack of its thread.
  * - The archive is for x86-64 Linux, of processors that have popcnt (x86-64-v2).
  *
- * Nothing is kept between calls, and no call waits, prints or ends the process. A bool is 0 or 1. */
+ * Nothing is kept between calls but in a scratch, and no call waits, prints or ends the process. A bool is 0 or 1. */
 #ifndef GRAIN_H
 #define GRAIN_H
 
@@ -289,6 +291,15 @@ GRAIN_ASSERT(sizeof(grain_pools) == 160 && offsetof(grain_pools, constants) == 0
                  offsetof(grain_pools, cases) == 128 && offsetof(grain_pools, ranges) == 144,
              "grain_pools");
 
+/* Memory that verifications use again, of which the fields are the library's own. It begins as GRAIN_SCRATCH_NONE, all of
+ * whose bytes are 0, which keeps nothing. */
+typedef struct {
+    bool made;
+    void *block;
+} grain_scratch;
+GRAIN_ASSERT(sizeof(grain_scratch) == 16 && offsetof(grain_scratch, block) == 8, "grain_scratch");
+#define GRAIN_SCRATCH_NONE {false, NULL}
+
 /* Why a program is refused: a GRAIN_FAULT, the place of the chunk, the address of an instruction, and what the kind
  * names. */
 typedef struct {
@@ -381,6 +392,16 @@ uint32_t grain_verify(uint16_t caps, const uint8_t *code, size_t code_len, const
                       const grain_pools *pools, uint16_t *numbers, size_t numbers_len, grain_fault *fault,
                       uint64_t *looked);
 
+/* Verifies a program as grain_verify does, with the same answers, in the memory that the scratch keeps, whatever it was used
+ * for before. Once a program was verified with it, one that isn't larger takes no memory; what it keeps is as much as the
+ * largest program wanted, until grain_scratch_free is called. Where memory was wanted it may keep less than before. */
+uint32_t grain_verify_with(grain_scratch *scratch, uint16_t caps, const uint8_t *code, size_t code_len,
+                           const grain_chunk *chunks, size_t chunks_len, const grain_pools *pools, uint16_t *numbers,
+                           size_t numbers_len, grain_fault *fault, uint64_t *looked);
+
+/* Frees what the scratch keeps. It may be used again. */
+void grain_scratch_free(grain_scratch *scratch);
+
 /* Verifies a program as grain_verify does, and has each chunk declare its number. GRAIN_ACCEPTED: each max_stack is the
  * chunk's number, with which the program is accepted again, all else of the chunks stays, and *looked is written.
  * GRAIN_REFUSED: why is written, and *looked. Else nothing is. That pools are flat is tested first. */
@@ -388,13 +409,13 @@ uint32_t grain_tighten(uint16_t caps, const uint8_t *code, size_t code_len, grai
                        const grain_pools *pools, grain_fault *fault, uint64_t *looked);
 
 /* Explains a chunk of a program: what stands at each instruction that ways along its edges come to, in the order of
- * addresses, of a refused one at those that were come to until then; and where it is refused a way to its flaw, the last state first, of a conflict another way to the same address too. GRAIN_ACCEPTED:
- * the chunk passes, and the rows are a stack typing of it and just what is reached. GRAIN_REFUSED: why is written, of no
- * chunk by its place; the first row of the way shows the flaw. In both cases the rows, then those of the way and of the
- * other way, stand in front of the list, as many as it has places for, and so do their bases; and how many there are stands
- * in *explained. GRAIN_UNEXPLAINED, GRAIN_OUT_OF_MEMORY, GRAIN_NOT_FLAT: nothing is written. That pools are flat is tested
- * first. Constants and functions aren't looked at. It takes memory for all rows with their bases, however long the lists
- * are. */
+ * addresses, of a refused one at those that were come to until then; and where it is refused a way to its flaw, the
+ * last state first, of a conflict another way to the same address too. GRAIN_ACCEPTED: the chunk passes, and the rows
+ * are a stack typing of it and just what is reached. GRAIN_REFUSED: why is written, of no chunk by its place; the first
+ * row of the way shows the flaw. In both cases the rows, then those of the way and of the other way, stand in front of
+ * the list, as many as it has places for, and so do their bases; and how many there are stands in *explained.
+ * GRAIN_UNEXPLAINED, GRAIN_OUT_OF_MEMORY, GRAIN_NOT_FLAT: nothing is written. That pools are flat is tested first.
+ * Constants and functions aren't looked at. It takes memory for all rows with their bases, however long the lists are. */
 uint32_t grain_explain(uint16_t caps, const uint8_t *code, size_t code_len, const grain_chunk *chunk,
                        const grain_pools *pools, grain_row *rows, size_t rows_len, grain_base *bases, size_t bases_len,
                        grain_explained *explained, grain_fault *fault);
@@ -404,8 +425,8 @@ uint32_t grain_explain(uint16_t caps, const uint8_t *code, size_t code_len, cons
  * than 128 bytes. It takes no memory, so that GRAIN_OUT_OF_MEMORY isn't answered any more. */
 uint32_t grain_fault_text(const grain_fault *fault, uint8_t *text, size_t text_len, size_t *size);
 
-/* Whether instructions that begin with this byte are quiet (above, at grain_verify). Of a byte with which none begins nothing
- * is said. */
+/* Whether instructions that begin with this byte are quiet (above, at grain_verify). Of a byte with which none begins
+ * nothing is said. */
 bool grain_is_quiet(uint8_t tag);
 
 /* The number of the library's interface, GRAIN_INTERFACE where this header is its own. */

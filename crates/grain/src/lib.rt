@@ -40,7 +40,7 @@ pub use grain_rules::{
     check_among, check_below, constant_caps, name_caps,
 };
 pub use grain_verify::{
-    Meter, Refusal, is_quiet, verify, verify_metered, verify_placed, verify_read,
+    Meter, Refusal, Scratch, is_quiet, verify, verify_metered, verify_placed, verify_read,
 };
 pub use program::{Parts, Program};
 pub use sidecar::Sidecar;

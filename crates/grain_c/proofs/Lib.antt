@@ -1,3 +1,4 @@
 mod Counting
 mod Streams
 mod Tags
+pub mod Words

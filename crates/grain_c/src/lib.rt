@@ -9,6 +9,7 @@ mod answers;
 mod code;
 mod explain;
 mod flaws;
+mod handle;
 mod tables;
 mod text;
 mod tighten;
@@ -18,3 +19,4 @@ pub use grain_flat::{
     CBase, CCase, CChain, CChunk, CConstant, CEntry, CExplained, CFault, CField, CInstruction,
     CPlace, CPools, CRow, CStep, CSwitch,
 };
+pub use handle::CScratch;

@@ -9,7 +9,7 @@ ghost use Rattle.grain_flat.specs.Tightening.{Tightens};
 use crate::answers::{ACCEPTED, NOT_FLAT, OUT_OF_MEMORY, REFUSED, SHORT};
 use crate::verify::shown;
 use grain::{Caps, Flags, Meter};
-use grain_flat::{CChunk, CFault, CPools, Stop, declare, is_flat, told, verdict};
+use grain_flat::{CChunk, CFault, CPools, Scratch, Stop, declare, is_flat, told, verdict};
 use std::alloc::Global;
 
 /// Verifies a program as `grain_verify` does, and has each chunk declare its number.
@@ -53,7 +53,16 @@ pub extern "C" fn grain_tighten(
     }
     let caps = Caps::from_bits_retain(caps);
     let mut meter = Meter::new();
-    match verdict(alloc, caps, code, chunks, pools, &mut meter) {
+    let judged = verdict(
+        alloc,
+        &mut Scratch::new(alloc),
+        caps,
+        code,
+        chunks,
+        pools,
+        &mut meter,
+    );
+    match judged {
         Ok(found) => {
             declare(chunks, &found);
             *looked = shown(&meter);

@@ -1,5 +1,5 @@
 //! Where the instructions of code begin: a bit for each address.
-ghost use Rattle.std.specs.Prelude.{◌≡◌, ◌↔◌, ◌≤◌, ◌<◌, ◌+◌, ◌*◌, ℕ, List, IsTrue, IfOk, IfSome, Some, length, count_by, nat_lt, slice_get};
+ghost use Rattle.std.specs.Prelude.{◌≡◌, ◌↔◌, ◌≤◌, ◌<◌, ◌+◌, ◌*◌, [], ℕ, List, IsTrue, IfOk, IfSome, Some, length, count_by, nat_lt, slice_get};
 ghost use Rattle.std.specs.List.{Contains};
 ghost use Rattle.grain_code.specs.Split.{NoneStandsAt, Split};
 ghost use Rattle.grain_code.specs.Starts.{ReadTo};
@@ -20,7 +20,7 @@ struct Word {
 /// The starts of the longest front of code that splits into instructions, and where that front ends.
 ///
 /// A start is the address of an instruction's first byte. There are 16 bytes for each 64 bytes of code, and no call but
-/// [`Starts::of`] takes memory. Contracts see the end and the list of the starts.
+/// [`Starts::of`] and [`Starts::again`] takes memory. Contracts see the end and the list of the starts.
 #[derive(Debug, Drop)]
 pub struct Starts {
     words: Vec<Word>,
@@ -80,6 +80,19 @@ fn read_word(code: &[u8], from: usize, before: usize, limit: usize) -> Reading
 impl Starts {
     ghost use Rattle.grain_code.specs.Starts.{IsLongestFront};
 
+    /// Those of no code. It takes no memory.
+    #[must_use]
+    #[inline(always)]
+    pub fn none(alloc: Global) -> Starts
+        ensures { result ≡ record { end = 0; starts = [] } }
+    {
+        Starts {
+            words: Vec::new(alloc),
+            end: 0,
+            count: 0,
+        }
+    }
+
     /// The starts of the longest front of the code that splits.
     ///
     /// It reads the code once, up to where the front ends, in time linear in the code, and takes memory once.
@@ -92,7 +105,22 @@ impl Starts {
         ensures whole { (starts : List ℕ) → Split code.now starts
             → IfOk result (λ s. s ≡ record { end = length code.now; starts = starts }) }
     {
-        let mut words = Vec::with_capacity(alloc, code.len() / 64 + 1)?;
+        Starts::none(alloc).again(code)
+    }
+
+    /// What [`Starts::of`] answers, in the memory of these, of which more is taken where it doesn't suffice.
+    ///
+    /// # Errors
+    ///
+    /// [`AllocError`] where the memory was refused. Then that of these is given back.
+    pub fn again(self, code: &[u8]) -> Result<Starts, AllocError>
+        ensures front { IfOk result (IsLongestFront code.now) }
+        ensures whole { (starts : List ℕ) → Split code.now starts
+            → IfOk result (λ s. s ≡ record { end = length code.now; starts = starts }) }
+    {
+        let Starts { mut words, .. } = self;
+        words.clear();
+        words.try_reserve_exact(code.len() / 64 + 1)?;
         let mut front = read_word(code, 0, 0, 64);
         while words.len() < front.end / 64 {
             words.push_reserved(front.word);

@@ -2,7 +2,7 @@
 ghost use Rattle.grain_flat.specs.Judging.{IsMeteredOf, IsVerdictOf, judged_input};
 
 use crate::row_reads::Rows;
-use grain::{Caps, Chunk, Function, Meter, Refusal, VerifyError, verify_read};
+use grain::{Caps, Chunk, Function, Meter, Refusal, Scratch, VerifyError};
 use std::alloc::{AllocError, Global};
 
 /// What is verified, but its chunks.
@@ -37,11 +37,16 @@ impl From<AllocError> for Stop {
 
 impl Judge<'_> {
     /// The numbers of the chunks, or why it isn't accepted with them. The meter counts what is looked at until then.
-    pub(crate) fn verdict(&self, chunks: &[Chunk], meter: &mut Meter) -> Result<Vec<u16>, Stop>
+    pub(crate) fn verdict(
+        &self,
+        scratch: &mut Scratch,
+        chunks: &[Chunk],
+        meter: &mut Meter,
+    ) -> Result<Vec<u16>, Stop>
         ensures verdict { IsVerdictOf (judged_input self.now chunks.now) result }
         ensures metered { IsMeteredOf (judged_input self.now chunks.now) meter.old meter.new result }
     {
-        let judged = verify_read(
+        let judged = scratch.verify(
             self.alloc,
             self.caps,
             &[],

@@ -21,6 +21,7 @@ mod records;
 mod refusals;
 mod row_reads;
 mod rows;
+mod scratch;
 pub mod shapes;
 mod tightening;
 mod verdicts;
@@ -37,5 +38,6 @@ pub use records::{
     CPlace, CPools, CRow, CStep, CSwitch,
 };
 pub use refusals::told;
+pub use scratch::Scratch;
 pub use tightening::declare;
 pub use verdicts::verdict;

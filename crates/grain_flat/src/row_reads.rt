@@ -1,5 +1,5 @@
 //! What verification reads of a flat form, where it stands: no pools are made of it.
-ghost use Rattle.std.specs.Prelude.{◌≡◌, ◌+◌, ◌≤◌, ◌<◌, ◌^◌, ◌++◌, ◌∷◌, [], IfNone, IfOk, OnOk, Some, length, map, option_map, drop, slice_get, sum_by, take};
+ghost use Rattle.std.specs.Prelude.{◌≡◌, ◌+◌, ◌≤◌, ◌<◌, ◌^◌, ◌++◌, ◌∷◌, [], IfNone, OnOk, Some, length, map, option_map, drop, slice_get, sum_by, take};
 ghost use Rattle.std.specs.List.{flat_map};
 ghost use Rattle.std.specs.Option.{option_to_list};
 ghost use Rattle.std.specs.Str.{IsUtf8};
@@ -11,7 +11,7 @@ ghost use Rattle.grain.specs.Names.{names_in, span};
 ghost use Rattle.grain_flat.specs.Flat.{IsFlat};
 ghost use Rattle.grain_flat.specs.RowFacts.{part_begins, chain_told, chains_told, facts_told, leads_of, parts, root_asked, root_told};
 ghost use Rattle.grain_flat.specs.RowFacts.{step_asked, step_told, tail_told, taken};
-ghost use Rattle.grain_flat.specs.RowTables.{left_of};
+ghost use Rattle.grain_flat.specs.RowTables.{AreTables, left_of};
 
 use crate::records::{CCase, CChain, CPools, CStep, CSwitch};
 use crate::shapes::{ASSIGN_THROUGH, INDEX, LOCAL, NAMED, PROPERTY, READ, TEMPORARY, THIS};
@@ -29,12 +29,41 @@ pub(crate) struct ArmsBegin {
     ranges: usize,
 }
 
+/// Where the steps of each chain and the arms of each switch begin.
+#[derive(Drop)]
+pub(crate) struct Tables {
+    pub(crate) steps: Vec<usize>,
+    pub(crate) arms: Vec<ArmsBegin>,
+}
+
+impl Tables {
+    /// Of no chains and no switches. They take no memory.
+    #[inline(always)]
+    pub(crate) fn new(alloc: Global) -> Tables {
+        Tables {
+            steps: Vec::new(alloc),
+            arms: Vec::new(alloc),
+        }
+    }
+
+    /// Fills them for a flat form.
+    ///
+    /// # Errors
+    /// [`AllocError`] where the memory was refused.
+    pub(crate) fn fill(&mut self, pools: &CPools<'_>) -> Result<(), AllocError>
+        requires { IsFlat pools.now }
+        ensures { OnOk result (AreTables pools.now self.new.steps.items self.new.arms.items) }
+    {
+        fill_steps(&mut self.steps, pools.chains)?;
+        fill_arms(&mut self.arms, pools.switches)
+    }
+}
+
 /// A flat form, with where the steps of each chain and the arms of each switch begin.
 #[derive(Drop)]
 pub(crate) struct Rows<'a> {
     pools: CPools<'a>,
-    steps: Vec<usize>,
-    arms: Vec<ArmsBegin>,
+    tables: Tables,
 }
 
 impl<'a> Model for Rows<'a> {
@@ -45,33 +74,36 @@ impl<'a> Model for Rows<'a> {
 
     ghost view = { λ r. r.pools };
 
-    ghost invariant = { λ r. AreTables r.pools r.steps.items r.arms.items };
+    ghost invariant = { λ r. AreTables r.pools r.tables.steps.items r.tables.arms.items };
 }
 
 /// Where the steps of each chain begin.
-fn step_begins(alloc: Global, rows: &[CChain]) -> Result<Vec<usize>, AllocError>
+fn fill_steps(begins: &mut Vec<usize>, rows: &[CChain]) -> Result<(), AllocError>
     requires { sum_by (λ (c : CChain). c.steps) rows.now < 2 ^ 64 }
-    ensures { IfOk result (λ v. v.items ≡ part_begins (λ (c : CChain). c.steps) 0 rows.now) }
+    ensures { OnOk result
+        (begins.new.items ≡ part_begins (λ (c : CChain). c.steps) 0 rows.now) }
 {
-    let mut begins = Vec::with_capacity(alloc, rows.len())?;
+    begins.clear();
+    begins.try_reserve_exact(rows.len())?;
     let mut from = 0;
     for row in rows {
         begins.push(from)?;
         from += row.steps as usize;
     }
-    Ok(begins)
+    Ok(())
 }
 
 /// Where the arms of each switch begin.
-fn arm_begins(alloc: Global, rows: &[CSwitch]) -> Result<Vec<ArmsBegin>, AllocError>
+fn fill_arms(begins: &mut Vec<ArmsBegin>, rows: &[CSwitch]) -> Result<(), AllocError>
     requires cases { sum_by (λ (s : CSwitch). s.cases) rows.now < 2 ^ 64 }
     requires ranges { sum_by (λ (s : CSwitch). s.ranges) rows.now < 2 ^ 64 }
-    ensures cases { IfOk result (λ v. map (λ (b : ArmsBegin). b.cases) v.items
+    ensures cases { OnOk result (map (λ (b : ArmsBegin). b.cases) begins.new.items
         ≡ part_begins (λ (s : CSwitch). s.cases) 0 rows.now) }
-    ensures ranges { IfOk result (λ v. map (λ (b : ArmsBegin). b.ranges) v.items
+    ensures ranges { OnOk result (map (λ (b : ArmsBegin). b.ranges) begins.new.items
         ≡ part_begins (λ (s : CSwitch). s.ranges) 0 rows.now) }
 {
-    let mut begins = Vec::with_capacity(alloc, rows.len())?;
+    begins.clear();
+    begins.try_reserve_exact(rows.len())?;
     let mut cases = 0;
     let mut ranges = 0;
     for row in rows {
@@ -79,7 +111,7 @@ fn arm_begins(alloc: Global, rows: &[CSwitch]) -> Result<Vec<ArmsBegin>, AllocEr
         cases += row.cases as usize;
         ranges += row.ranges as usize;
     }
-    Ok(begins)
+    Ok(())
 }
 
 /// What a root asks.
@@ -174,22 +206,22 @@ fn start_at(starts: &[u32], at: usize) -> Option<usize>
 }
 
 impl<'a> Rows<'a> {
-    /// The pools of this flat form.
-    ///
-    /// # Errors
-    /// [`AllocError`] where the memory for the tables was refused.
-    pub(crate) fn new(alloc: Global, pools: &CPools<'a>) -> Result<Rows<'a>, AllocError>
-        requires { IsFlat pools.now }
-        ensures same { IfOk result (λ r. r ≡ pools.now) }
-        ensures small { OnOk result (length pools.now.steps.now < 2 ^ 63) }
+    /// The pools of this flat form, beside its tables.
+    pub(crate) fn new(pools: &CPools<'a>, tables: Tables) -> Rows<'a>
+        requires { AreTables pools.now tables.steps.items tables.arms.items }
+        ensures same { result ≡ pools.now }
+        ensures small { length pools.now.steps.now < 2 ^ 63 }
     {
-        let steps = step_begins(alloc, pools.chains)?;
-        let arms = arm_begins(alloc, pools.switches)?;
-        Ok(Rows {
+        Rows {
             pools: *pools,
-            steps,
-            arms,
-        })
+            tables,
+        }
+    }
+
+    /// The memory of its tables.
+    pub(crate) fn into_tables(self) -> Tables {
+        let Rows { tables, .. } = self;
+        tables
     }
 
     /// The name at an index, if there is one.
@@ -210,7 +242,7 @@ impl<'a> Rows<'a> {
     {
         let index = index as usize;
         let row = entry_at(self.pools.chains, index)?;
-        let from = self.steps[index];
+        let from = self.tables.steps[index];
         Some((row, part(self.pools.steps, from, row.steps)))
     }
 
@@ -220,7 +252,7 @@ impl<'a> Rows<'a> {
         ensures { slice_get (parts (λ (s : CSwitch). s.cases) self.now.switches.now
             self.now.cases.now) index ≡ Some result.now }
     {
-        let from = self.arms[index];
+        let from = self.tables.arms[index];
         part(self.pools.cases, from.cases, row.cases)
     }
 
@@ -230,7 +262,7 @@ impl<'a> Rows<'a> {
         ensures { slice_get (parts (λ (s : CSwitch). s.ranges) self.now.switches.now
             self.now.ranges.now) index ≡ Some result.now }
     {
-        let from = self.arms[index];
+        let from = self.tables.arms[index];
         part(self.pools.ranges, from.ranges, row.ranges)
     }
 

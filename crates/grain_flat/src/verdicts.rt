@@ -1,5 +1,5 @@
 //! The verdict on all that has a flat form.
-ghost use Rattle.std.specs.Prelude.{◌≡◌, All, IfOk, length};
+ghost use Rattle.std.specs.Prelude.{◌≡◌, All, OnOk, length};
 ghost use Rattle.std.specs.Result.{IsErrOf};
 ghost use Rattle.grain_flat.specs.Flat.{IsFlat};
 ghost use Rattle.grain_flat.specs.Asking.{RowPasses};
@@ -9,9 +9,11 @@ ghost use Rattle.grain_flat.specs.declared.judge.Stop.{Stop};
 use crate::asking::first_refused;
 use crate::judge::{Judge, Stop};
 use crate::records::{CChunk, CPools};
-use crate::row_reads::Rows;
+use crate::row_reads::{Rows, Tables};
+use crate::scratch::Scratch;
 use grain::{Caps, Chunk, FnAccess, Function, Meter, Refusal, VerifyError};
 use std::alloc::{AllocError, Global};
+use std::mem;
 
 /// A chunk as it is verified.
 fn chunk_of(chunk: &CChunk) -> Chunk
@@ -20,15 +22,16 @@ fn chunk_of(chunk: &CChunk) -> Chunk
     Chunk::new(chunk.entry, chunk.end, chunk.max_stack)
 }
 
-/// The chunks as they are verified.
-fn chunks_of(alloc: Global, chunks: &[CChunk]) -> Result<Vec<Chunk>, AllocError>
-    ensures { IfOk result (λ v. v.items ≡ chunks.now) }
+/// Lists the chunks as they are verified.
+fn list_chunks(made: &mut Vec<Chunk>, chunks: &[CChunk]) -> Result<(), AllocError>
+    ensures { OnOk result (made.new.items ≡ chunks.now) }
 {
-    let mut made = Vec::with_capacity(alloc, chunks.len())?;
+    made.clear();
+    made.try_reserve_exact(chunks.len())?;
     for chunk in chunks {
         made.push(chunk_of(chunk))?;
     }
-    Ok(made)
+    Ok(())
 }
 
 /// A function, which stands for any number of them: all that is asked is whether there are some.
@@ -54,6 +57,8 @@ fn as_many(count: usize, some: &[Function]) -> &[Function]
 #[inline(never)]
 fn verdict_with(
     alloc: Global,
+    walks: &mut grain::Scratch,
+    tables: &mut Tables,
     caps: Caps,
     code: &[u8],
     chunks: &[Chunk],
@@ -67,19 +72,24 @@ fn verdict_with(
         caps.0 code.now chunks.now pools.now meter.old meter.new result }
 {
     let functions = [some_function(alloc)];
-    let rows = Rows::new(alloc, pools)?;
-    let judge = Judge {
+    let mut room = mem::replace(tables, Tables::new(alloc));
+    room.fill(pools)?;
+    let rows = Rows::new(pools, room);
+    let judged = Judge {
         alloc,
         caps,
         code,
         functions: as_many(pools.functions, &functions),
         rows: &rows,
-    };
-    judge.verdict(chunks, meter)
+    }
+    .verdict(walks, chunks, meter);
+    *tables = rows.into_tables();
+    judged
 }
 
 /// The verdict on all programs whose pools have this flat form, the first constant first of which not all that it asks is
-/// there. The meter rises as it does in [`grain::verify_metered`].
+/// there. The meter rises as it does in [`grain::verify_metered`]. Whatever the scratch was used for before, the answer is
+/// this one.
 ///
 /// # Errors
 ///
@@ -87,6 +97,7 @@ fn verdict_with(
 /// refused.
 pub fn verdict(
     alloc: Global,
+    scratch: &mut Scratch,
     caps: Caps,
     code: &[u8],
     chunks: &[CChunk],
@@ -110,10 +121,16 @@ pub fn verdict(
             },
         }));
     }
+    let Scratch {
+        walks,
+        tables,
+        chunks: listed,
+    } = scratch;
     // Of one chunk no list is made.
     if let [chunk] = chunks {
-        return verdict_with(alloc, caps, code, &[chunk_of(chunk)], pools, meter);
+        let chunks = [chunk_of(chunk)];
+        return verdict_with(alloc, walks, tables, caps, code, &chunks, pools, meter);
     }
-    let chunks = chunks_of(alloc, chunks)?;
-    verdict_with(alloc, caps, code, &chunks, pools, meter)
+    list_chunks(listed, chunks)?;
+    verdict_with(alloc, walks, tables, caps, code, listed, pools, meter)
 }

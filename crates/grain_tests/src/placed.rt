@@ -1,6 +1,7 @@
 use crate::samples::{assert_same, made, pools};
 use grain::{
-    Caps, Chunk, Flags, Meter, NoPools, Refusal, Strings, VerifyError, verify_placed, verify_read,
+    Caps, Chunk, Flags, Meter, NoPools, Refusal, Scratch, Strings, VerifyError, verify_placed,
+    verify_read,
 };
 use std::alloc::Global;
 use std::test::Fail;
@@ -62,4 +63,35 @@ fn code_is_verified_beside_no_pools(rt: HostRuntime) {
         said_beside_none(rt.alloc(), &[1, 0, 0, 0x13], 4),
         Err(refusal),
     );
+}
+
+/// What is said of the code with a chunk from its start to here, in a scratch.
+fn said_with(alloc: Global, scratch: &mut Scratch, code: &[u8], end: u32) -> Result<u16, Refusal> {
+    let chunks = [Chunk::new(0, end, 8)];
+    let mut meter = Meter::new();
+    let caps = Caps::all();
+    let numbers = scratch.verify(alloc, caps, &[], code, &[], &chunks, &NoPools, &mut meter)?;
+    let number = numbers.last().copied().unwrap_or(0);
+    scratch.keep(numbers);
+    Ok(number)
+}
+
+#[test]
+fn a_scratch_serves_one_program_after_another(rt: HostRuntime) {
+    let refusal = Refusal {
+        place: Some(0),
+        error: VerifyError::HandlerUnderflow { at: 0 },
+    };
+    let mut scratch = Scratch::new(rt.alloc());
+    assert_same(
+        &rt,
+        said_with(rt.alloc(), &mut scratch, &CODE[..2], 2),
+        Ok(1),
+    );
+    assert_same(
+        &rt,
+        said_with(rt.alloc(), &mut scratch, &CODE[2..], 2),
+        Err(refusal),
+    );
+    assert_same(&rt, said_with(rt.alloc(), &mut scratch, &CODE, 2), Ok(1));
 }

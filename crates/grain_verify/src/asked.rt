@@ -13,7 +13,7 @@ use std::alloc::{AllocError, Global};
 /// What names and chains ask of the host, as far as it is known.
 ///
 /// It is read where code names one first, so that an operation costs no more where its name or its chain is long, and one
-/// that no code names costs nothing.
+/// that no code names takes no time. Memory is taken for all names where code names one, and so for chains.
 #[derive(Drop)]
 pub(crate) struct Asked {
     names: Vec<Option<Caps>>,
@@ -21,15 +21,22 @@ pub(crate) struct Asked {
 }
 
 impl Asked {
-    /// Nothing is known. It takes no memory until code names a name or a chain.
-    #[tactic(auto, using(crate::proofs::Knowing::nothing_known))]
-    pub(crate) fn new(alloc: Global) -> Asked
-        ensures { (facts : Facts) → Knows facts result }
-    {
+    /// It takes no memory until code names a name or a chain.
+    #[inline(always)]
+    pub(crate) fn new(alloc: Global) -> Asked {
         Asked {
             names: Vec::new(alloc),
             chains: Vec::new(alloc),
         }
+    }
+
+    /// Nothing is known any more. What memory there is stays for what other pools ask.
+    #[tactic(auto, using(crate::proofs::Knowing::nothing_known))]
+    pub(crate) fn forget(&mut self)
+        ensures { (facts : Facts) → Knows facts self.new }
+    {
+        self.names.clear();
+        self.chains.clear();
     }
 
     /// What an operation asks.

@@ -5,7 +5,6 @@ ghost use Rattle.grain_rules.specs.Code.{coded};
 ghost use Rattle.grain_rules.specs.Flaw.{ChunkFlaw};
 ghost use Rattle.grain_rules.specs.Typing.{HasTyping, IsDeepest};
 ghost use Rattle.grain_verify.specs.Asked.{Knows};
-ghost use Rattle.grain_verify.specs.Lists.{IsShared};
 ghost use Rattle.grain_verify.specs.Progress.{Fits, IsMeteredChunk};
 ghost use Rattle.grain_verify.specs.Visits.{RefusesChunk};
 ghost use Rattle.grain_verify.specs.Walk.{IsReady};
@@ -78,7 +77,6 @@ pub(crate) fn verify_chunk<P: Read>(
 ) -> Result<u16, VerifyError>
     requires ready { IsReady prepared.now }
     requires fits { Fits prepared.now traversal.old }
-    requires shared { IsShared lists.old }
     requires knows { Knows prepared.now.code.setting.facts asked.old }
     ensures passes { OnOk result (ChunkPasses prepared.now.code chunk.now) }
     ensures typed { IfOk result (λ n. HasTyping (coded prepared.now.code) chunk.now n) }
@@ -89,7 +87,6 @@ pub(crate) fn verify_chunk<P: Read>(
     ensures metered { IsMeteredChunk prepared.now.code
         prepared.now.starts chunk.now meter.old meter.new result }
     ensures fits { OnOk result (Fits prepared.now traversal.new) }
-    ensures shared { OnOk result (IsShared lists.new) }
     ensures knows { OnOk result (Knows prepared.now.code.setting.facts asked.new) }
 {
     let ordinal = check_frame(prepared, chunk)?;

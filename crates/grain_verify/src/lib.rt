@@ -13,6 +13,7 @@ mod flow;
 mod lists;
 mod meter;
 mod refusal;
+mod scratch;
 mod sinking;
 mod state;
 mod states;
@@ -21,5 +22,6 @@ mod walk;
 
 pub use meter::Meter;
 pub use refusal::Refusal;
+pub use scratch::Scratch;
 pub use sinking::is_quiet;
 pub use verifier::{verify, verify_metered, verify_placed, verify_read};

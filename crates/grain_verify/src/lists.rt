@@ -40,6 +40,7 @@ pub(crate) struct Lists {
 
 impl Lists {
     /// No list but the empty one. It takes no memory.
+    #[inline(always)]
     pub(crate) fn new(alloc: Global) -> Lists
         ensures shared { IsShared result }
         ensures size { list_count result ≡ 0 }
@@ -55,7 +56,6 @@ impl Lists {
     /// Forgets all lists but the empty one.
     #[inline(never)]
     pub(crate) fn clear(&mut self)
-        requires { IsShared self.old }
         ensures shared { IsShared self.new }
         ensures size { list_count self.new ≡ 0 }
     {

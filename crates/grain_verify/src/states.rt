@@ -1,5 +1,5 @@
 //! The states with which a chunk's walk has visited things that are numbered.
-ghost use Rattle.std.specs.Prelude.{◌≡◌, ◌<◌, IfOk, None, Some, get_or, length, replicate, slice_set};
+ghost use Rattle.std.specs.Prelude.{◌≡◌, ◌<◌, OnOk, None, Some, get_or, length, replicate, slice_set};
 
 use crate::state::State;
 use std::alloc::{AllocError, Global};
@@ -44,18 +44,23 @@ impl Model for States {
 }
 
 impl States {
-    /// Room for the states of so many things, none of which was visited.
+    /// Room for no states. It takes no memory.
+    #[inline(always)]
+    pub(crate) fn new(alloc: Global) -> States {
+        States {
+            chunk: u32::MAX - 1,
+            entries: Vec::new(alloc),
+        }
+    }
+
+    /// Makes room for the states of so many things. Which of them were visited is known once a chunk begins.
     ///
     /// # Errors
     /// [`AllocError`] where the memory was refused: 16 bytes for each of them.
-    pub(crate) fn new(alloc: Global, count: usize) -> Result<States, AllocError>
-        ensures { IfOk result (λ s. s ≡ replicate count None) }
+    pub(crate) fn fit(&mut self, count: usize) -> Result<(), AllocError>
+        ensures { OnOk result (length self.new ≡ count) }
     {
-        let entries = vec![in alloc; Entry::NONE; count]?;
-        Ok(States {
-            chunk: u32::MAX - 1,
-            entries,
-        })
+        self.entries.resize(count, Entry::NONE)
     }
 
     /// Begins the next chunk, in which nothing was visited. Once the numbers of chunks are used up, the entries are

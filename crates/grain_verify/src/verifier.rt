@@ -15,14 +15,15 @@ ghost use Rattle.grain_rules.specs.Verdict.{IsVerdict, ReachesChunks};
 ghost use Rattle.grain_verify.specs.Walk.{IsReady};
 
 use crate::chunk::verify_chunk;
-use crate::lists::Lists;
 use crate::meter::Meter;
 use crate::refusal::Refusal;
+use crate::scratch::Scratch;
 use crate::walk::Prepared;
 use grain_base::{Caps, Dynamic};
 use grain_bytecode::{Chunk, Function, Starts};
 use grain_rules::{Pools, Read, VerifyError, check_code, check_constants, check_functions};
 use std::alloc::Global;
+use std::mem;
 
 /// The tests before the chunks: of the constants, of the code and its indices, and of the functions. They take no
 /// memory.
@@ -49,48 +50,49 @@ fn check_before_chunks<P: Read>(
     check_functions(caps, functions)
 }
 
-/// The deepest operand stack of each chunk, or why the first is refused that is.
+/// Writes down the deepest operand stack of each chunk, or says why the first is refused that is.
 fn walk_chunks<P: Read>(
-    alloc: Global,
     prepared: &Prepared<'_, P>,
     chunks: &[Chunk],
+    scratch: &mut Scratch,
     meter: &mut Meter,
-) -> Result<Vec<u16>, Refusal>
+) -> Result<(), Refusal>
     requires { IsReady prepared.now }
     ensures passes { OnOk result (All (ChunkPasses prepared.now.code) chunks.now) }
-    ensures typed { IfOk result (λ v. AllZip (HasTyping (coded prepared.now.code))
-        chunks.now v.items) }
-    ensures deepest { IfOk result (λ v. AllZip (IsDeepest (coded prepared.now.code))
-        chunks.now v.items) }
+    ensures typed { OnOk result (AllZip (HasTyping (coded prepared.now.code))
+        chunks.now scratch.new.deepest.items) }
+    ensures deepest { OnOk result (AllZip (IsDeepest (coded prepared.now.code))
+        chunks.now scratch.new.deepest.items) }
     ensures accepts { All (ChunkPasses prepared.now.code) chunks.now
         → IfErr result (λ r. r.error ≡ VerifyError.OutOfMemory) }
     ensures flaws { IfErr result (IsChunkRefusal prepared.now.code chunks.now) }
     ensures metered { AreMeteredChunks prepared.now.code prepared.now.starts
         chunks.now meter.old meter.new result }
 {
-    let mut traversal = prepared.traversal(alloc)?;
-    let mut asked = prepared.asked(alloc);
-    let mut lists = Lists::new(alloc);
-    let mut deepest = Vec::with_capacity(alloc, chunks.len())?;
+    prepared.fit(&mut scratch.traversal)?;
+    scratch.asked.forget();
+    scratch.deepest.clear();
+    scratch.deepest.try_reserve_exact(chunks.len())?;
     for (place, chunk) in chunks.iter().enumerate() {
         match verify_chunk(
             prepared,
             chunk,
-            &mut lists,
-            &mut traversal,
-            &mut asked,
+            &mut scratch.lists,
+            &mut scratch.traversal,
+            &mut scratch.asked,
             meter,
         ) {
-            Ok(needed) => deepest.push_reserved(needed),
+            Ok(needed) => scratch.deepest.push_reserved(needed),
             Err(error) => return Err(Refusal::of_chunk(place, error)),
         }
     }
-    Ok(deepest)
+    Ok(())
 }
 
 /// The deepest operand stack of each chunk of code that is whole instructions, or why the first is refused that is.
 fn verify_chunks<P: Read>(
     alloc: Global,
+    scratch: &mut Scratch,
     caps: Caps,
     code: &[u8],
     pools: &P,
@@ -113,10 +115,13 @@ fn verify_chunks<P: Read>(
         (bytecode_beside caps.0 (P.facts pools.now) (P.leads pools.now) code.now)
         starts chunks.now meter.old meter.new result }
 {
-    let starts = Starts::of(alloc, code)?;
+    let room = mem::replace(&mut scratch.starts, Starts::none(alloc));
+    let starts = room.again(code)?;
     let prepared = Prepared::new(caps, code, pools, starts);
-    let deepest = walk_chunks(alloc, &prepared, chunks, meter)?;
-    Ok(deepest)
+    let walked = walk_chunks(&prepared, chunks, scratch, meter);
+    scratch.starts = prepared.into_starts();
+    walked?;
+    Ok(mem::replace(&mut scratch.deepest, Vec::new(alloc)))
 }
 
 /// The greatest operand count that any run of each chunk reaches, chunk by chunk, or why the program is refused.
@@ -243,8 +248,41 @@ pub fn verify_read<P: Read>(
         chunks.now (P.facts pools.now) (P.leads pools.now))
         meter.old meter.new (without_place result) }
 {
-    match check_before_chunks(caps, consts, code, functions, pools) {
-        Ok(()) => verify_chunks(alloc, caps, code, pools, chunks, meter),
-        Err(error) => Err(Refusal::of_whole(error)),
+    let mut scratch = Scratch::new(alloc);
+    scratch.verify(alloc, caps, consts, code, functions, chunks, pools, meter)
+}
+
+impl Scratch {
+    /// Verifies as [`verify_read`] does, in the memory that is here, whatever was verified before. The numbers leave it;
+    /// [`Scratch::keep`] takes them back.
+    ///
+    /// # Errors
+    /// Those of [`verify_placed`].
+    pub fn verify<P: Read>(
+        &mut self,
+        alloc: Global,
+        caps: Caps,
+        consts: &[Dynamic],
+        code: &[u8],
+        functions: &[Function],
+        chunks: &[Chunk],
+        pools: &P,
+        meter: &mut Meter,
+    ) -> Result<Vec<u16>, Refusal>
+        ensures verdict { IsVerdict (input_beside caps.0 consts.now code.now functions.now
+            chunks.now (P.facts pools.now) (P.leads pools.now)) (without_place result) }
+        ensures placed { IfErr result (IsPlacedRefusal (input_beside caps.0 consts.now
+            code.now functions.now chunks.now (P.facts pools.now) (P.leads pools.now))) }
+        ensures memory { IfErr result (λ r. r.error ≡ VerifyError.OutOfMemory
+            → ReachesChunks (input_beside caps.0 consts.now code.now functions.now chunks.now
+            (P.facts pools.now) (P.leads pools.now))) }
+        ensures metered { IsMetered (input_beside caps.0 consts.now code.now functions.now
+            chunks.now (P.facts pools.now) (P.leads pools.now))
+            meter.old meter.new (without_place result) }
+    {
+        match check_before_chunks(caps, consts, code, functions, pools) {
+            Ok(()) => verify_chunks(alloc, self, caps, code, pools, chunks, meter),
+            Err(error) => Err(Refusal::of_whole(error)),
+        }
     }
 }

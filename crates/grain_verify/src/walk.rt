@@ -74,25 +74,26 @@ pub(crate) struct Traversal {
 }
 
 impl Traversal {
-    /// Room for walks over so many instructions and switches.
+    /// Room for no walk. It takes no memory.
+    #[inline(always)]
+    pub(crate) fn new(alloc: Global) -> Traversal {
+        Traversal {
+            states: States::new(alloc),
+            sent: States::new(alloc),
+            work: Vec::new(alloc),
+        }
+    }
+
+    /// Makes room for walks over so many instructions and switches.
     ///
     /// # Errors
     /// [`AllocError`] where the memory was refused.
-    pub(crate) fn new(
-        alloc: Global,
-        instructions: usize,
-        switches: usize,
-    ) -> Result<Traversal, AllocError>
-        ensures states { IfOk result (λ t. length t.states ≡ instructions) }
-        ensures sent { IfOk result (λ t. length t.sent ≡ switches) }
+    fn fit(&mut self, instructions: usize, switches: usize) -> Result<(), AllocError>
+        ensures states { OnOk result (length self.new.states ≡ instructions) }
+        ensures sent { OnOk result (length self.new.sent ≡ switches) }
     {
-        let states = States::new(alloc, instructions)?;
-        let sent = States::new(alloc, switches)?;
-        Ok(Traversal {
-            states,
-            sent,
-            work: Vec::new(alloc),
-        })
+        self.states.fit(instructions)?;
+        self.sent.fit(switches)
     }
 
     /// Begins the next chunk, in which nothing was visited. A state that stayed from another chunk would pass for a visit in
@@ -262,21 +263,20 @@ impl<'a, P: Read> Prepared<'a, P> {
         self.starts.ordinal(at)
     }
 
-    /// Room for walks over all chunks, of which none has begun.
+    /// Makes room for walks over all chunks.
     ///
     /// # Errors
     /// [`AllocError`] where the memory was refused.
-    pub(crate) fn traversal(&self, alloc: Global) -> Result<Traversal, AllocError>
-        ensures { IfOk result (Fits self.now) }
+    pub(crate) fn fit(&self, traversal: &mut Traversal) -> Result<(), AllocError>
+        ensures { OnOk result (Fits self.now traversal.new) }
     {
-        Traversal::new(alloc, self.starts.count(), self.pools.switches())
+        traversal.fit(self.starts.count(), self.pools.switches())
     }
 
-    /// What names and chains ask, of which nothing is known.
-    pub(crate) fn asked(&self, alloc: Global) -> Asked
-        ensures { Knows self.now.code.setting.facts result }
-    {
-        Asked::new(alloc)
+    /// Where the instructions begin, once all walks are over.
+    pub(crate) fn into_starts(self) -> Starts {
+        let Prepared { starts, .. } = self;
+        starts
     }
 
     /// The instruction that stands at an address, where its head is known.
@@ -617,7 +617,6 @@ impl<'a, P: Read> Prepared<'a, P> {
         requires holds { chunk.now.entry < chunk.now.end }
         requires place { slice_get self.now.starts ordinal ≡ Some chunk.now.entry }
         requires fits { Fits self.now traversal.old }
-        requires shared { IsShared lists.old }
         requires none { visits.old ≡ 0 }
         ensures typed { IfOk result (λ n. HasTyping (coded self.now.code) chunk.now n) }
         ensures deepest { IfOk result (λ n. IsDeepest (coded self.now.code) chunk.now n) }
@@ -627,7 +626,6 @@ impl<'a, P: Read> Prepared<'a, P> {
         ensures knows { OnOk result (Knows self.now.code.setting.facts asked.new) }
         ensures err { IfErr result (RefusesChunk self.now.code chunk.now) }
         ensures fits { OnOk result (Fits self.now traversal.new) }
-        ensures shared { OnOk result (IsShared lists.new) }
     {
         // The walk reads its end at each instruction.
         let chunk = *chunk;

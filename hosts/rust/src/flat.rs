@@ -58,6 +58,11 @@ impl<'a> FlatPools<'a> {
         }
     }
 
+    /// Whether there are at most so many names, chains and switches.
+    pub(crate) const fn are_within(&self, most: usize) -> bool {
+        self.starts.len() <= most && self.chains.len() <= most && self.switches.len() <= most
+    }
+
     /// With these constants.
     #[must_use]
     pub const fn constants(mut self, constants: &'a [Constant]) -> FlatPools<'a> {

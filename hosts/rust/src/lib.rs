@@ -45,6 +45,7 @@ mod program;
 mod raw;
 mod rows;
 mod tables;
+mod verifier;
 
 pub use capabilities::{Caps, CapsIter, HostCaps, UnknownCap};
 pub use code::{
@@ -62,6 +63,7 @@ pub use tables::{
     check_stream, check_table, site, stream_site, stream_sites, stream_sites_into, table_entries,
     table_entries_into, Entry, ReadError, Site, TableFlaw,
 };
+pub use verifier::Verifier;
 
 /// A part of the code that is run by itself.
 #[repr(C)]
@@ -109,6 +111,8 @@ pub fn verify<'a>(
 /// Verifies as [`verify`] does, writes the numbers into the front of a list of the caller's, and answers how many places
 /// the chunks reach, each for itself: so many instructions were visited, which bounds what scripts cost their host.
 ///
+/// A thread keeps the memory in which it verified small programs, less than 64 KiB. [`Verifier`] does so for larger ones.
+///
 /// # Errors
 /// Those of [`verify`], and [`Cause::TooFewNumbers`] where there are fewer numbers than chunks; then nothing is written.
 pub fn verify_into<'a>(
@@ -118,25 +122,7 @@ pub fn verify_into<'a>(
     pools: impl Into<FlatPools<'a>>,
     numbers: &mut [u16],
 ) -> Result<u64, Fault> {
-    let pools = pools.into();
-    let (mut fault, mut looked) = (raw::Fault::default(), 0);
-    // SAFETY: each pointer and length are those of one slice that is borrowed for the call, those that are written to
-    // without another reader; the record of the pools points into lists that `pools` borrows.
-    let answer = unsafe {
-        raw::grain_verify(
-            caps.into().bits(),
-            code.as_ptr(),
-            code.len(),
-            chunks.as_ptr(),
-            chunks.len(),
-            &pools.raw(),
-            numbers.as_mut_ptr(),
-            numbers.len(),
-            &mut fault,
-            &mut looked,
-        )
-    };
-    verdict(answer, fault, looked, &pools)
+    verifier::judge(caps.into(), code, chunks, &pools.into(), numbers)
 }
 
 /// Verifies as [`verify`] does, has each chunk declare its number, and answers what [`verify_into`] does.
@@ -151,7 +137,8 @@ pub fn tighten<'a>(
 ) -> Result<u64, Fault> {
     let pools = pools.into();
     let (mut fault, mut looked) = (raw::Fault::default(), 0);
-    // SAFETY: as in `verify_into`; the chunks are borrowed without another reader.
+    // SAFETY: each pointer and length are those of one slice that is borrowed for the call, those that are written to
+    // without another reader; the record of the pools points into lists that `pools` borrows.
     let answer = unsafe {
         raw::grain_tighten(
             caps.into().bits(),

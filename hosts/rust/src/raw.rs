@@ -86,6 +86,23 @@ pub(crate) struct Explained {
     pub(crate) bases: usize,
 }
 
+/// What the library keeps between calls, if anything.
+#[repr(C)]
+#[derive(Debug)]
+pub(crate) struct Scratch {
+    pub(crate) made: bool,
+    pub(crate) block: *mut u8,
+}
+
+impl Scratch {
+    /// One that keeps nothing.
+    pub(crate) const NONE: Scratch = Scratch {
+        made: false,
+        block: std::ptr::null_mut(),
+    };
+}
+
+const _: () = assert!(std::mem::size_of::<Scratch>() == 16);
 const _: () = assert!(std::mem::size_of::<Chunk>() == 12);
 const _: () = assert!(std::mem::size_of::<Constant>() == 4);
 const _: () = assert!(std::mem::size_of::<ChainRow>() == 24);
@@ -114,6 +131,20 @@ extern "C" {
         fault: *mut Fault,
         looked: *mut u64,
     ) -> u32;
+    pub(crate) fn grain_verify_with(
+        scratch: *mut Scratch,
+        caps: u16,
+        code: *const u8,
+        code_len: usize,
+        chunks: *const Chunk,
+        chunks_len: usize,
+        pools: *const Pools,
+        numbers: *mut u16,
+        numbers_len: usize,
+        fault: *mut Fault,
+        looked: *mut u64,
+    ) -> u32;
+    pub(crate) fn grain_scratch_free(scratch: *mut Scratch);
     pub(crate) fn grain_tighten(
         caps: u16,
         code: *const u8,

@@ -4,7 +4,7 @@ mod common;
 use common::chance::Chance;
 use common::model::{Model, Table};
 use common::programs::{built, program, Program};
-use grain::{explain, tighten, verify, verify_into, Cause, Explained, Fault, Pools, Row};
+use grain::{explain, tighten, verify, verify_into, Cause, Explained, Fault, Pools, Row, Verifier};
 use std::collections::BTreeMap;
 
 /// What came of some programs: how many were accepted, and how many refused by each cause.
@@ -15,15 +15,27 @@ struct Tally {
 }
 
 fn judged(program: &Program, pools: &Pools) -> Result<(Vec<u16>, u64), Fault> {
-    let mut numbers = vec![0; program.chunks.len()];
-    let looked = verify_into(
-        program.caps,
-        &program.code,
-        &program.chunks,
-        pools,
-        &mut numbers,
-    )?;
+    let Program {
+        caps, code, chunks, ..
+    } = program;
+    let mut numbers = vec![0; chunks.len()];
+    let looked = verify_into(*caps, code, chunks, pools, &mut numbers)?;
     Ok((numbers, looked))
+}
+
+/// The verdict in memory in which all programs before it were verified, which is the same.
+fn judge_again(
+    verifier: &mut Verifier,
+    program: &Program,
+    pools: &Pools,
+    said: &Result<(Vec<u16>, u64), Fault>,
+) {
+    let Program {
+        caps, code, chunks, ..
+    } = program;
+    let mut numbers = vec![0; chunks.len()];
+    let again = verifier.verify_into(*caps, code, chunks, pools, &mut numbers);
+    assert_eq!(&again.map(|looked| (numbers, looked)), said, "{program:?}");
 }
 
 /// The first word of a cause.
@@ -32,7 +44,7 @@ fn word(cause: &Cause) -> String {
     text.split([' ', '(']).next().unwrap().to_string()
 }
 
-fn compare(program: &Program, table: &Table, tally: &mut Tally) {
+fn compare(program: &Program, table: &Table, verifier: &mut Verifier, tally: &mut Tally) {
     let pools = built(&program.pools);
     let model = Model {
         table,
@@ -41,7 +53,9 @@ fn compare(program: &Program, table: &Table, tally: &mut Tally) {
         chunks: &program.chunks,
         pools: &program.pools,
     };
-    match (judged(program, &pools), model.verdict()) {
+    let said = judged(program, &pools);
+    judge_again(verifier, program, &pools, &said);
+    match (said, model.verdict()) {
         (Ok(said), Ok(wanted)) => {
             assert_eq!(said, wanted, "{program:?}");
             tighten_well(program, &pools, &said.0);
@@ -145,9 +159,10 @@ fn place_well(program: &Program, pools: &Pools, fault: &Fault) {
 
 fn compare_many(seed: u64, many: usize) -> Tally {
     let (table, mut chance) = (Table::read(), Chance(seed));
-    let mut tally = Tally::default();
+    let (mut verifier, mut tally) = (Verifier::new(), Tally::default());
     for _ in 0..many {
-        compare(&program(&mut chance, &table), &table, &mut tally);
+        let program = program(&mut chance, &table);
+        compare(&program, &table, &mut verifier, &mut tally);
     }
     tally
 }

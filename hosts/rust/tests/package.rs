@@ -6,7 +6,7 @@ use grain::{
     instruction, instructions, mnemonic, stream_sites, stream_sites_into, table_entries,
     table_entries_into, tighten, verify, verify_into, Asks, AttachError, Caps, Case, Cause,
     ChainPart, ChainRow, Chunk, Constant, Entry, FlatPools, Kind, Pools, Program, ReadError, Root,
-    Sidecar, Site, Step, StepRow, SwitchRow, TableFlaw, Tail,
+    Sidecar, Site, Step, StepRow, SwitchRow, TableFlaw, Tail, Verifier,
 };
 
 const NAMES: &[u8] = b"lenage";
@@ -194,6 +194,25 @@ fn the_part_of_a_chain_that_is_refused_is_found() {
             index: 0
         }
     );
+}
+
+#[test]
+fn a_verifier_serves_one_program_after_another() {
+    let mut verifier = Verifier::new();
+    let none = Pools::new();
+    let (good, bad) = (bytes("02020b0b0213"), bytes("0b13"));
+    for round in 0..3 {
+        let said = verifier.verify(Caps::NONE, &good, &whole(&good), &none);
+        assert_eq!(said, Ok(&[2][..]), "round {round}");
+        let fault = verifier.verify(Caps::NONE, &bad, &whole(&bad), &none);
+        let alone = verify(Caps::NONE, &bad, &whole(&bad), &none);
+        assert_eq!(fault.unwrap_err(), alone.unwrap_err(), "round {round}");
+        if round == 1 {
+            verifier.release();
+        }
+    }
+    // It may go to another thread.
+    std::thread::spawn(move || drop(verifier)).join().unwrap();
 }
 
 #[test]

@@ -1,4 +1,4 @@
-use Rattle.std.proofs.Common.{◌≡◌, ◌+◌, ◌<◌, get_or, ◌∙◌, arith}
+use Rattle.std.proofs.Common.{get_or, ◌∙◌, arith}
 use Rattle.grain_code.proofs.Widths.{row_is, standing_fits, standing_wide}
 use Rattle.grain_code.proofs.tag_widths.standing_width.Goals as goal
 

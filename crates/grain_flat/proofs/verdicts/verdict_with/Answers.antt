@@ -6,12 +6,12 @@ use Rattle.grain_flat.proofs.verdicts.verdict_with.Goals as goal
 
 pub returns-clause-verdict : goal.returns-clause-verdict
 returns-clause-verdict c =
-    let at = λ (q : CPools). IsVerdictOf (over c.args.caps.0 c.args.code.now c.args.chunks.now q c.as_many.result.now) c.verdict.result in
-    rows_verdict c.args.caps.0 c.args.code.now c.args.chunks.now c.args.pools.now c.as_many.result.now c.requires.flat c.in_ok-rows.ensures.small c.as_many.ensures c.requires.constants c.verdict.result
-    (subst at c.in_ok-rows.ensures.same c.verdict.ensures.verdict)
+    let at = λ (q : CPools). IsVerdictOf (over c.args.caps.0 c.args.code.now c.args.chunks.now q c.as_many.result.now) c.verdict-judged.result in
+    rows_verdict c.args.caps.0 c.args.code.now c.args.chunks.now c.args.pools.now c.as_many.result.now c.requires.flat c.new-rows.ensures.small c.as_many.ensures c.requires.constants c.verdict-judged.result
+    (subst at c.new-rows.ensures.same c.verdict-judged.ensures.verdict)
 
 pub returns-clause-metered : goal.returns-clause-metered
 returns-clause-metered c =
-    let at = λ (q : CPools). IsMeteredOf (over c.args.caps.0 c.args.code.now c.args.chunks.now q c.as_many.result.now) c.args.meter.now c.verdict.new.meter c.verdict.result in
-    rows_metered c.args.caps.0 c.args.code.now c.args.chunks.now c.args.pools.now c.as_many.result.now c.requires.flat c.in_ok-rows.ensures.small c.as_many.ensures c.args.meter.now c.verdict.new.meter c.verdict.result
-    (subst at c.in_ok-rows.ensures.same c.verdict.ensures.metered)
+    let at = λ (q : CPools). IsMeteredOf (over c.args.caps.0 c.args.code.now c.args.chunks.now q c.as_many.result.now) c.args.meter.now c.verdict-judged.new.meter c.verdict-judged.result in
+    rows_metered c.args.caps.0 c.args.code.now c.args.chunks.now c.args.pools.now c.as_many.result.now c.requires.flat c.new-rows.ensures.small c.as_many.ensures c.args.meter.now c.verdict-judged.new.meter c.verdict-judged.result
+    (subst at c.new-rows.ensures.same c.verdict-judged.ensures.metered)

@@ -4,31 +4,31 @@ use Rattle.grain_code.specs.Split.{Split, starts_from}
 use Rattle.grain_code.specs.Starts.{Front}
 use Rattle.grain_verify.proofs.verifier.verify_chunks.Goals as goal
 
-pub walk_chunks-requires : goal.walk_chunks-requires
-walk_chunks-requires g c =
+pub walk_chunks-walked-requires : goal.walk_chunks-walked-requires
+walk_chunks-walked-requires g c =
     let whole = c.requires in
     let split : Split c.args.code.now (starts_from 0 whole.0) = (whole.0, whole.1, refl) in
     let known = c.in_ok-starts.ensures.whole (starts_from 0 whole.0) split in
     rw c.new-prepared.ensures (record { starts = subst (Split c.args.code.now) (sym (ap (λ (f : Front). f.starts) known)) split })
 
-pub returns-in_err-deepest-clause-metered : goal.returns-in_err-deepest-clause-metered
-returns-in_err-deepest-clause-metered g c starts split =
-    let p = err_from_is_err_and c.from_residual-in_err-deepest.result c.from_residual-in_err-deepest.ensures.1 in
+pub returns-in_err-walked-clause-metered : goal.returns-in_err-walked-clause-metered
+returns-in_err-walked-clause-metered g c starts split =
+    let p = err_from_is_err_and c.from_residual-in_err-walked.result c.from_residual-in_err-walked.ensures.1 in
     let same = ap (λ (f : Front). f.starts) (c.in_ok-starts.ensures.whole starts split) in
-    let m = rw c.new-prepared.ensures at c.in_err-deepest.ensures.metered in
+    let m = rw c.new-prepared.ensures at c.in_err-walked.ensures.metered in
     rw (p.1, p.2, ← same) (record { visits = m.visits; within = m.within; counted = m.counted; reached = tt })
 
 pub returns-clause-metered : goal.returns-clause-metered
 returns-clause-metered g c starts split =
     let same = ap (λ (f : Front). f.starts) (c.in_ok-starts.ensures.whole starts split) in
-    let m = rw c.new-prepared.ensures at c.in_ok-deepest.ensures.metered in
+    let m = rw c.new-prepared.ensures at c.in_ok-walked.ensures.metered in
     rw (← same) (record { visits = m.visits; within = m.within; counted = m.counted; reached = m.reached })
 
-pub returns-in_err-deepest-clause-accepts : goal.returns-in_err-deepest-clause-accepts
-returns-in_err-deepest-clause-accepts g c all =
-    let p = err_from_is_err_and c.from_residual-in_err-deepest.result c.from_residual-in_err-deepest.ensures.1 in
-    let accepts = rw c.new-prepared.ensures at c.in_err-deepest.ensures.accepts in
+pub returns-in_err-walked-clause-accepts : goal.returns-in_err-walked-clause-accepts
+returns-in_err-walked-clause-accepts g c all =
+    let p = err_from_is_err_and c.from_residual-in_err-walked.result c.from_residual-in_err-walked.ensures.1 in
+    let accepts = rw c.new-prepared.ensures at c.in_err-walked.ensures.accepts in
     rw (p.1, p.2) (accepts all)
 
 pub returns-clause-passes : goal.returns-clause-passes
-returns-clause-passes g c = rw c.new-prepared.ensures at c.in_ok-deepest.ensures.passes
+returns-clause-passes g c = rw c.new-prepared.ensures at c.in_ok-walked.ensures.passes

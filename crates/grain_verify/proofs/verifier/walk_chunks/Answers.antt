@@ -1,7 +1,8 @@
-use Rattle.std.proofs.Common.{◌∙◌, arith}
+use Rattle.std.proofs.Common.{[], ◌∙◌, refl, arith}
 use Rattle.grain_rules.specs.Code.{coded}
 use Rattle.grain_rules.specs.Typing.{HasTyping, IsDeepest}
 use Rattle.grain_verify.proofs.Metering.{counted_more, counted_refused}
+use Rattle.grain_verify.proofs.Ticks.{counted_nothing}
 use Rattle.grain_verify.proofs.Chunks.{passes_more, passes_there, refused_at, number_more}
 use Rattle.grain_verify.proofs.verifier.walk_chunks.Goals as goal
 
@@ -27,19 +28,33 @@ loop-place-preserved g c =
     let code = c.args.prepared.now.code in
     record {
       fits = v.fits;
-      shared = v.shared;
       knows = v.knows;
       one_each = omega (arith, c.push_reserved.ensures.len, c.loop-place.invariant.one_each);
       reserved = omega (arith, c.push_reserved.ensures.capacity, c.loop-place.invariant.reserved);
       counted = counted_more code c.args.prepared.now.starts c.args.chunks.now c.loop-place.place c.index-chunks-place.result c.args.meter.now c.loop-place.meter
           c.verify_chunk.new.meter c.loop-place-test.true c.index-chunks-place.is c.loop-place.invariant.counted c.in-Ok.needed v.metered;
       passes = passes_more code c.args.chunks.now c.loop-place.place c.index-chunks-place.result c.loop-place-test.true c.index-chunks-place.is c.loop-place.invariant.passes v.passes;
-      deepest = rw c.push_reserved.ensures.items (number_more (IsDeepest (coded code)) c.args.chunks.now c.loop-place.deepest.items c.loop-place.place c.index-chunks-place.result
+      deepest = rw c.push_reserved.ensures.items (number_more (IsDeepest (coded code)) c.args.chunks.now c.loop-place.scratch.deepest.items c.loop-place.place c.index-chunks-place.result
           c.in-Ok.needed c.loop-place-test.true c.index-chunks-place.is c.loop-place.invariant.deepest v.deepest);
-      typed = rw c.push_reserved.ensures.items (number_more (HasTyping (coded code)) c.args.chunks.now c.loop-place.deepest.items c.loop-place.place c.index-chunks-place.result
+      typed = rw c.push_reserved.ensures.items (number_more (HasTyping (coded code)) c.args.chunks.now c.loop-place.scratch.deepest.items c.loop-place.place c.index-chunks-place.result
           c.in-Ok.needed c.loop-place-test.true c.index-chunks-place.is c.loop-place.invariant.typed v.typed);
     }
 
 pub returns-clause-passes : goal.returns-clause-passes
 returns-clause-passes g c k d l =
     c.loop-place.invariant.passes k d (omega arith) (let h = c.loop-place-test.false in omega arith)
+
+pub loop-place-init : goal.loop-place-init
+loop-place-init g c =
+    let room = c.in_ok-try_reserve_exact.ensures in
+    let none = room.items ∙ c.clear.ensures.items in
+    record {
+      fits = c.in_ok-fit.ensures;
+      knows = c.forget.ensures c.args.prepared.now.code.setting.facts;
+      counted = record { visits = 0; within = omega arith; counted = counted_nothing c.args.meter.now; reached = ([], tt, refl) };
+      one_each = room.len ∙ c.clear.ensures.len;
+      reserved = let empty = room.len ∙ c.clear.ensures.len in omega (arith, room.ok, empty);
+      passes = λ k d from below. absurd (omega (arith, below));
+      typed = rw none tt;
+      deepest = rw none tt;
+    }

@@ -15,22 +15,22 @@ pub index-from-requires : goal.index-from-requires
 index-from-requires c =
     let p = c.self.inside.pools in
     let there : slice_get p.chains.now c.args.index ≡ Some c.in_ok-row.row.now = search rules in
-    let begun = chain_begun p c.self.inside.steps.items c.self.inside.arms.items c.self.invariant c.args.index c.in_ok-row.row.now there in
+    let begun = chain_begun p c.self.inside.tables.steps.items c.self.inside.tables.arms.items c.self.invariant c.args.index c.in_ok-row.row.now there in
     omega (arith, begun)
 
 pub part-requires : goal.part-requires
 part-requires c =
     let p = c.self.inside.pools in
     let there : slice_get p.chains.now c.args.index ≡ Some c.in_ok-row.row.now = search rules in
-    let begun = chain_begun p c.self.inside.steps.items c.self.inside.arms.items c.self.invariant c.args.index c.in_ok-row.row.now there in
-    let at = slice_get_read c.self.inside.steps.items _ c.args.index c.index-from.result.now refl begun c.index-from.ensures in
-    (steps_there p c.self.inside.steps.items c.self.inside.arms.items c.self.invariant c.args.index c.in_ok-row.row.now c.index-from.result.now there at).within
+    let begun = chain_begun p c.self.inside.tables.steps.items c.self.inside.tables.arms.items c.self.invariant c.args.index c.in_ok-row.row.now there in
+    let at = slice_get_read c.self.inside.tables.steps.items _ c.args.index c.index-from.result.now refl begun c.index-from.ensures in
+    (steps_there p c.self.inside.tables.steps.items c.self.inside.tables.arms.items c.self.invariant c.args.index c.in_ok-row.row.now c.index-from.result.now there at).within
 
 pub returns : goal.returns
 returns c =
     let p = c.self.inside.pools in
     let there : slice_get p.chains.now c.args.index ≡ Some c.in_ok-row.row.now = search rules in
-    let begun = chain_begun p c.self.inside.steps.items c.self.inside.arms.items c.self.invariant c.args.index c.in_ok-row.row.now there in
-    let at = slice_get_read c.self.inside.steps.items _ c.args.index c.index-from.result.now refl begun c.index-from.ensures in
-    let part = steps_there p c.self.inside.steps.items c.self.inside.arms.items c.self.invariant c.args.index c.in_ok-row.row.now c.index-from.result.now there at in
+    let begun = chain_begun p c.self.inside.tables.steps.items c.self.inside.tables.arms.items c.self.invariant c.args.index c.in_ok-row.row.now there in
+    let at = slice_get_read c.self.inside.tables.steps.items _ c.args.index c.index-from.result.now refl begun c.index-from.ensures in
+    let part = steps_there p c.self.inside.tables.steps.items c.self.inside.tables.arms.items c.self.invariant c.args.index c.in_ok-row.row.now c.index-from.result.now there at in
     ap (λ (own : List CStep). Some (chain_told c.in_ok-row.row.now own)) c.part.ensures ∙ rw (← c.self.view_is) (sym (chain_there p.chains.now p.steps.now _ c.args.index c.in_ok-row.row.now there part.told))

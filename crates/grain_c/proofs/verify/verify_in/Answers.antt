@@ -1,7 +1,7 @@
 use Rattle.std.proofs.Common.{subst}
 use Rattle.grain_flat.specs.Answers.{Looks}
 use Rattle.grain_c.proofs.Counting.{shows}
-use Rattle.grain_c.proofs.verify.grain_verify.Goals as goal
+use Rattle.grain_c.proofs.verify.verify_in.Goals as goal
 
 pub returns-in-Ok-clause-looked : goal.returns-in-Ok-clause-looked
 returns-in-Ok-clause-looked c is =

@@ -2,7 +2,7 @@ use Rattle.std.proofs.Common.{◌≡◌, take}
 use Rattle.std.specs.Prelude.{sum_by}
 use Rattle.grain_flat.specs.RowFacts.{part_begins}
 use Rattle.grain_flat.specs.declared.records.CChain.{CChain}
-use Rattle.grain_flat.proofs.row_reads.step_begins.Given as goal
+use Rattle.grain_flat.proofs.row_reads.fill_steps.Given as goal
 
 abbrev pub invariant-loop-row : goal.invariant-loop-row
 invariant-loop-row l = record {

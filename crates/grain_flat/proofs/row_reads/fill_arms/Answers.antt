@@ -1,7 +1,7 @@
 use Rattle.std.proofs.Common.{arith}
 use Rattle.std.proofs.lemmas.Grind.{common_steps}
 use Rattle.grain_flat.proofs.RowParts.{begins_more}
-use Rattle.grain_flat.proofs.row_reads.arm_begins.Goals as goal
+use Rattle.grain_flat.proofs.row_reads.fill_arms.Goals as goal
 
 pub loop-row-preserved : goal.loop-row-preserved
 loop-row-preserved c = record {

@@ -3,7 +3,7 @@ use Rattle.std.specs.Prelude.{sum_by}
 use Rattle.grain_flat.specs.RowFacts.{part_begins}
 use Rattle.grain_flat.specs.declared.records.CSwitch.{CSwitch}
 use Rattle.grain_flat.specs.declared.row_reads.ArmsBegin.{ArmsBegin}
-use Rattle.grain_flat.proofs.row_reads.arm_begins.Given as goal
+use Rattle.grain_flat.proofs.row_reads.fill_arms.Given as goal
 
 abbrev pub invariant-loop-row : goal.invariant-loop-row
 invariant-loop-row l = record {

@@ -4,7 +4,7 @@ use Rattle.grain_rules.specs.Accepted.{input_beside}
 use Rattle.grain_rules.proofs.Verdicts.{memory_before, refused_before}
 use Rattle.grain_verify.proofs.Metering.{metered_before, metered_placed}
 use Rattle.grain_verify.proofs.Placing.{memory_placed, placed_before, placed_chunks, placed_verdict}
-use Rattle.grain_verify.proofs.verifier.verify_read.Goals as goal
+use Rattle.grain_verify.proofs.scratch.Scratch.verify.Goals as goal
 
 pub returns-in-Err-clause-verdict : goal.returns-in-Err-clause-verdict
 returns-in-Err-clause-verdict g c =

@@ -1,21 +1,23 @@
-use Rattle.std.proofs.Common.{[], refl, arith}
+use Rattle.std.proofs.Common.{[], ◌∙◌, refl, arith}
 use Rattle.std.proofs.Math.Nat.{div-add-mod}
 use Rattle.grain_code.specs.Split.{starts_from}
 use Rattle.grain_code.proofs.Filling.{filled, filling_none, filling_word}
 use Rattle.grain_code.proofs.Fronts.{whole_front}
-use Rattle.grain_code.proofs.starts.Starts.of.Goals as goal
+use Rattle.grain_code.proofs.starts.Starts.again.Goals as goal
 
 pub loop-front-init : goal.loop-front-init
 loop-front-init c =
-    let none = c.in_ok-words.ensures in
+    let room = c.in_ok-try_reserve_exact.ensures in
+    let none = room.items ∙ c.clear.ensures.items in
     let read = c.read_word-front.ensures in
+    let empty = room.len ∙ c.clear.ensures.len in
     record {
       in_code = read.inside;
       few = read.few;
-      room = omega (arith, none.capacity);
-      opened = let e = none.len in omega arith;
-      read = rw none.items (read.read [] (omega arith) refl ([], record { each = tt; whole = refl }, filling_none));
-      ended = λ early. read.ended (let e = none.len in omega (arith, early));
+      room = omega (arith, room.ok);
+      opened = omega (arith, empty);
+      read = rw none (read.read [] (omega arith) refl ([], record { each = tt; whole = refl }, filling_none));
+      ended = λ early. read.ended (omega (arith, empty, early));
     }
 
 pub loop-front-preserved : goal.loop-front-preserved

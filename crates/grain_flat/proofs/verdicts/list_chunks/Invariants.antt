@@ -1,5 +1,5 @@
 use Rattle.std.proofs.Common.{◌≡◌, take}
-use Rattle.grain_flat.proofs.verdicts.chunks_of.Given as goal
+use Rattle.grain_flat.proofs.verdicts.list_chunks.Given as goal
 
 abbrev pub invariant-loop-chunk : goal.invariant-loop-chunk
 invariant-loop-chunk l = l.made.items ≡ take l.chunk-index l.chunks

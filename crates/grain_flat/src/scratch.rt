@@ -1,0 +1,35 @@
+//! Memory that one verification of flat pools after another uses.
+
+use crate::row_reads::Tables;
+use grain::Chunk;
+use std::alloc::Global;
+
+/// What verification of flat pools writes as it goes, kept so that its memory serves one program after another.
+///
+/// [`verdict`](crate::verdict) takes memory only where there isn't enough here, and no answer depends on what was verified
+/// before.
+#[derive(Drop)]
+pub struct Scratch {
+    pub(crate) walks: grain::Scratch,
+    pub(crate) tables: Tables,
+    /// The chunks of a program that has several, as they are verified.
+    pub(crate) chunks: Vec<Chunk>,
+}
+
+impl Scratch {
+    /// It takes no memory until a program is verified.
+    #[must_use]
+    #[inline(always)]
+    pub fn new(alloc: Global) -> Scratch {
+        Scratch {
+            walks: grain::Scratch::new(alloc),
+            tables: Tables::new(alloc),
+            chunks: Vec::new(alloc),
+        }
+    }
+
+    /// Takes a list whose memory is for the numbers of the next program. What it lists is forgotten.
+    pub fn keep(&mut self, numbers: Vec<u16>) {
+        self.walks.keep(numbers);
+    }
+}

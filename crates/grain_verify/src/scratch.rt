@@ -1,0 +1,42 @@
+//! Memory that one verification after another uses.
+
+use crate::asked::Asked;
+use crate::lists::Lists;
+use crate::walk::Traversal;
+use grain_bytecode::Starts;
+use std::alloc::Global;
+
+/// What verification writes as it goes, kept so that its memory serves one program after another.
+///
+/// [`Scratch::verify`] takes memory only where there isn't enough here, and no answer depends on what was verified before.
+/// What it takes stays until the scratch is dropped: as much as the largest program wanted that was verified with it
+/// (docs/COSTS.md).
+#[derive(Drop)]
+pub struct Scratch {
+    pub(crate) starts: Starts,
+    pub(crate) traversal: Traversal,
+    pub(crate) lists: Lists,
+    pub(crate) asked: Asked,
+    /// The numbers of the chunks.
+    pub(crate) deepest: Vec<u16>,
+}
+
+impl Scratch {
+    /// It takes no memory until a program is verified.
+    #[must_use]
+    #[inline(always)]
+    pub fn new(alloc: Global) -> Scratch {
+        Scratch {
+            starts: Starts::none(alloc),
+            traversal: Traversal::new(alloc),
+            lists: Lists::new(alloc),
+            asked: Asked::new(alloc),
+            deepest: Vec::new(alloc),
+        }
+    }
+
+    /// Takes a list whose memory is for the numbers of the next program. What it lists is forgotten.
+    pub fn keep(&mut self, numbers: Vec<u16>) {
+        self.deepest = numbers;
+    }
+}
