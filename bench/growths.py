@@ -79,6 +79,7 @@ CALLS = {
     },
     "grain": {
         "verify": "`verify`",
+        "scratch": "`Scratch::verify`, twice",
         "verify_flaw": "`verify`, `Undecodable`",
         "verify_metered": "`verify_metered`",
         "program_verify": "`Program::verify`",

@@ -1,5 +1,5 @@
 -- How the verdicts on cases, and the count of the cases, grow.
-use Rattle.std.specs.Prelude.{◌≡◌, ℕ, ◌+◌, ◌-◌, ◌^◌, min, length, List, [], ◌++◌, map, filter}
+use Rattle.std.specs.Prelude.{◌≡◌, ℕ, length, List, [], ◌++◌, map, filter}
 use Rattle.std.specs.Prelude.{count_by}
 use Rattle.std.specs.Str.Lines.{strip_carriage_return}
 use Rattle.grain_cases.specs.Lines.{AreLines, is_case}

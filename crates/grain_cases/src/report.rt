@@ -13,14 +13,17 @@ use crate::case::case_of;
 use crate::lines::{is_case, without_return};
 use crate::outcome::Summary;
 use crate::stream::{Failed, Sink, send};
-use crate::verdict::write_verdict;
+use crate::verdict::write_verdict_with;
 use crate::words::split_at_byte;
+use grain::Scratch;
 use std::alloc::{AllocError, Global};
 use std::marker::Model;
 
 /// The verdicts that haven't been sent yet, and the count of all cases.
 #[derive(Drop)]
 struct Verdicts {
+    /// The memory in which programs are verified.
+    scratch: Scratch,
     text: String,
     summary: Summary,
 }
@@ -36,6 +39,7 @@ impl Verdicts {
         ensures { result ≡ none_written }
     {
         Verdicts {
+            scratch: Scratch::new(alloc),
             text: String::new(alloc),
             summary: Summary { cases: 0, bad: 0 },
         }
@@ -49,7 +53,7 @@ impl Verdicts {
             return Ok(());
         }
         let case = case_of(alloc, line)?;
-        write_verdict(alloc, &mut self.text, &case)?;
+        write_verdict_with(alloc, &mut self.scratch, &mut self.text, &case)?;
         self.text.push_str("\n")?;
         self.summary.count(case.is_none());
         Ok(())

@@ -9,7 +9,7 @@ ghost use Rattle.grain_cases.specs.Verdict.{Adds, CodeVerdict, IsJudged, IsVerdi
 ghost use Rattle.grain_cases.specs.Verdict.{VerifyVerdict, accepted_text, program};
 
 use crate::case::Case;
-use grain::{Caps, Chunk, Pools, Strings, VerifyError, count_instructions, pos, verify};
+use grain::{Caps, Chunk, Meter, NoPools, Scratch, VerifyError, count_instructions, pos};
 use std::alloc::{AllocError, Global};
 
 /// Writes the verdict on code behind the text.
@@ -50,30 +50,29 @@ pub fn write_accepted(text: &mut String, numbers: &[u16]) -> Result<(), AllocErr
 
 /// The greatest operand count that any run of each chunk reaches, or why the program is refused. It
 /// has no constants and no functions, and all its pools are empty.
-fn judged(alloc: Global, caps: Caps, code: &[u8], chunks: &[Chunk]) -> Result<Vec<u16>, VerifyError>
+fn judged(
+    alloc: Global,
+    scratch: &mut Scratch,
+    caps: Caps,
+    code: &[u8],
+    chunks: &[Chunk],
+) -> Result<Vec<u16>, VerifyError>
     ensures accepted { IfOk result (λ numbers.
         IsJudged (program (set_of caps) code.now chunks.now) (Ok numbers.items)) }
     ensures refused { IfErr result (λ error. error ≢ VerifyError.OutOfMemory
         → IsJudged (program (set_of caps) code.now chunks.now) (Err error)) }
 {
-    let Ok(names) = Strings::new(alloc, &[]) else {
-        return Err(VerifyError::OutOfMemory);
-    };
-    let pools = Pools {
-        consts: 0,
-        names: &names,
-        tokens: 0,
-        assign_ops: 0,
-        residuals: 0,
-        chains: &[],
-        switches: &[],
-    };
-    verify(alloc, caps, &[], code, &[], chunks, &pools)
+    let mut meter = Meter::new();
+    match scratch.verify(alloc, caps, &[], code, &[], chunks, &NoPools, &mut meter) {
+        Ok(numbers) => Ok(numbers),
+        Err(refusal) => Err(refusal.error),
+    }
 }
 
 /// Writes the verdict on a program behind the text, and nothing for want of memory.
 fn write_judged(
     alloc: Global,
+    scratch: &mut Scratch,
     text: &mut String,
     caps: Caps,
     code: &[u8],
@@ -82,14 +81,41 @@ fn write_judged(
     ensures { OnOk result (Adds (VerifyVerdict (program (set_of caps) code.now chunks.now))
         (string_bytes text.old) (string_bytes text.new)) }
 {
-    match judged(alloc, caps, code, chunks) {
-        Ok(numbers) => write_accepted(text, &numbers)?,
+    match judged(alloc, scratch, caps, code, chunks) {
+        Ok(numbers) => {
+            write_accepted(text, &numbers)?;
+            scratch.keep(numbers);
+        }
         Err(error) => match error {
             VerifyError::OutOfMemory => return Err(AllocError),
             _ => write!(text, "refused {error}")?,
         },
     }
     Ok(())
+}
+
+/// Writes the verdict on a case behind the text, or `bad case` for a line without a form, in the
+/// memory of a scratch, whatever that was used for before.
+///
+/// # Errors
+/// [`AllocError`] where memory was refused, to the text or to the verifier.
+pub(crate) fn write_verdict_with(
+    alloc: Global,
+    scratch: &mut Scratch,
+    text: &mut String,
+    case: &Option<Case>,
+) -> Result<(), AllocError>
+    ensures { OnOk result (Adds (IsVerdictOn (option_map as_asked case.now))
+        (string_bytes text.old) (string_bytes text.new)) }
+{
+    match case {
+        Some(Case::Code { code }) => write_count(text, code),
+        Some(Case::Site { table, address }) => write_site(text, table, *address),
+        Some(Case::Verify { caps, code, chunks }) => {
+            write_judged(alloc, scratch, text, *caps, code, chunks)
+        }
+        None => text.push_str("bad case"),
+    }
 }
 
 /// Writes the verdict on a case behind the text, or `bad case` for a line without a form.
@@ -104,12 +130,5 @@ pub fn write_verdict(
     ensures { OnOk result (Adds (IsVerdictOn (option_map as_asked case.now))
         (string_bytes text.old) (string_bytes text.new)) }
 {
-    match case {
-        Some(Case::Code { code }) => write_count(text, code),
-        Some(Case::Site { table, address }) => write_site(text, table, *address),
-        Some(Case::Verify { caps, code, chunks }) => {
-            write_judged(alloc, text, *caps, code, chunks)
-        }
-        None => text.push_str("bad case"),
-    }
+    write_verdict_with(alloc, &mut Scratch::new(alloc), text, case)
 }

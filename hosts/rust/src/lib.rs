@@ -3,7 +3,7 @@
 //! [`verify`] says whether a program may be run in place, and how many operands each of its chunks needs. It accepts
 //! exactly the programs that the written rules accept, want of memory aside, which is proved. This package is what a Rust
 //! program needs around the library's C functions: it owes what they ask of their callers, and has no `unsafe` beyond
-//! these calls.
+//! these calls. A host that verifies many programs keeps a [`Verifier`].
 //!
 //! # What a host owes
 //! The promise and the numbers are those of *kept* runs, in which a fault that a handler catches finds at least what stood

@@ -9,4 +9,4 @@ returns c =
     let new : Written = record { text = string_bytes c.push_str.new.self; summary = c.count.new.self } in
     subst (λ old. Answers (filter is_case (c.args.line.now ∷ [])) old new) c.self.view_is
     (answers_one c.args.line.now _ _ new c.in_ok-case.case c.is_none.result (sym c.if-not-is_case.ensures) c.in_ok-case.ensures.ok c.is_none.ensures
-    c.in_ok-write_verdict.ensures c.in_ok-push_str.ensures.bytes c.count.ensures.cases c.count.ensures.bad)
+    c.in_ok-write_verdict_with.ensures c.in_ok-push_str.ensures.bytes c.count.ensures.cases c.count.ensures.bad)
