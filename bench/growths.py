@@ -21,6 +21,7 @@ run builds the tests anew, which takes half a minute to a minute; N runs are mad
 """
 import argparse
 import pathlib
+import re
 import shutil
 import subprocess
 import sys
@@ -147,6 +148,25 @@ def scratch_copy(room):
         parent = source.joinpath(*place[:-1]).with_suffix(".rt") if place[1:] else source / "lib.rt"
         with parent.open("a") as text:
             text.write(f"\n#[cfg(test)]\nmod {module.stem};\n")
+    for tests in set(TESTS.values()):
+        leave_out_others(room / "crates" / tests / "src")
+
+
+def leave_out_others(source):
+    """Of a crate of tests leaves the modules of growths, those that stand around them, and what these use."""
+    lib = source / "lib.rt"
+    kept, open_ends = set(), {path.relative_to(source).parts[0].removesuffix(".rt") for path in source.rglob("growths.rt")}
+    while open_ends - kept:
+        name = (open_ends - kept).pop()
+        kept.add(name)
+        for path in [source / f"{name}.rt", *(source / name).rglob("*.rt")]:
+            open_ends |= set(re.findall(r"\bcrate::(\w+)", path.read_text()))
+    text = lib.read_text()
+    for name in set(re.findall(r"^mod (\w+);$", text, re.M)) - kept:
+        text = text.replace(f"#[cfg(test)]\nmod {name};\n", "")
+        (source / f"{name}.rt").unlink()
+        shutil.rmtree(source / name, ignore_errors=True)
+    lib.write_text(text)
 
 
 def run(folder, number):
