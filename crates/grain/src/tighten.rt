@@ -62,7 +62,7 @@ impl Program {
     fn chunks(&self) -> Result<Vec<Chunk>, AllocError>
         ensures { IfOk result (λ v. v.items ≡ chunks_of self.now) }
     {
-        let mut chunks = Vec::new(self.alloc);
+        let mut chunks = Vec::with_capacity(self.alloc, self.functions.len() + 1)?;
         chunks.push(self.main)?;
         for function in &self.functions {
             chunks.push(function.chunk)?;
