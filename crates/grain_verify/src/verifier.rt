@@ -14,11 +14,13 @@ ghost use Rattle.grain_rules.specs.Typing.{HasTyping, IsDeepest};
 ghost use Rattle.grain_rules.specs.Verdict.{IsVerdict, ReachesChunks};
 ghost use Rattle.grain_verify.specs.Walk.{IsReady};
 
+use crate::asked::Asked;
 use crate::chunk::verify_chunk;
+use crate::lists::Lists;
 use crate::meter::Meter;
 use crate::refusal::Refusal;
 use crate::scratch::Scratch;
-use crate::walk::Prepared;
+use crate::walk::{Prepared, Traversal};
 use grain_base::{Caps, Dynamic};
 use grain_bytecode::{Chunk, Function, Starts};
 use grain_rules::{Pools, Read, VerifyError, check_code, check_constants, check_functions};
@@ -51,7 +53,44 @@ fn check_before_chunks<P: Read>(
 }
 
 /// Writes down the deepest operand stack of each chunk, or says why the first is refused that is.
+#[inline(always)]
+fn walk_each<P: Read>(
+    prepared: &Prepared<'_, P>,
+    chunks: &[Chunk],
+    lists: &mut Lists,
+    traversal: &mut Traversal,
+    asked: &mut Asked,
+    deepest: &mut Vec<u16>,
+    meter: &mut Meter,
+) -> Result<(), Refusal>
+    requires { IsReady prepared.now }
+    ensures passes { OnOk result (All (ChunkPasses prepared.now.code) chunks.now) }
+    ensures typed { OnOk result (AllZip (HasTyping (coded prepared.now.code))
+        chunks.now deepest.new.items) }
+    ensures deepest { OnOk result (AllZip (IsDeepest (coded prepared.now.code))
+        chunks.now deepest.new.items) }
+    ensures accepts { All (ChunkPasses prepared.now.code) chunks.now
+        → IfErr result (λ r. r.error ≡ VerifyError.OutOfMemory) }
+    ensures flaws { IfErr result (IsChunkRefusal prepared.now.code chunks.now) }
+    ensures metered { AreMeteredChunks prepared.now.code prepared.now.starts
+        chunks.now meter.old meter.new result }
+{
+    prepared.fit(traversal)?;
+    asked.forget();
+    deepest.clear();
+    deepest.try_reserve_exact(chunks.len())?;
+    for (place, chunk) in chunks.iter().enumerate() {
+        match verify_chunk(prepared, chunk, lists, traversal, asked, meter) {
+            Ok(needed) => deepest.push_reserved(needed),
+            Err(error) => return Err(Refusal::of_chunk(place, error)),
+        }
+    }
+    Ok(())
+}
+
+/// Writes down the deepest operand stack of each chunk, or says why the first is refused that is.
 fn walk_chunks<P: Read>(
+    alloc: Global,
     prepared: &Prepared<'_, P>,
     chunks: &[Chunk],
     scratch: &mut Scratch,
@@ -69,24 +108,23 @@ fn walk_chunks<P: Read>(
     ensures metered { AreMeteredChunks prepared.now.code prepared.now.starts
         chunks.now meter.old meter.new result }
 {
-    prepared.fit(&mut scratch.traversal)?;
-    scratch.asked.forget();
-    scratch.deepest.clear();
-    scratch.deepest.try_reserve_exact(chunks.len())?;
-    for (place, chunk) in chunks.iter().enumerate() {
-        match verify_chunk(
-            prepared,
-            chunk,
-            &mut scratch.lists,
-            &mut scratch.traversal,
-            &mut scratch.asked,
-            meter,
-        ) {
-            Ok(needed) => scratch.deepest.push_reserved(needed),
-            Err(error) => return Err(Refusal::of_chunk(place, error)),
-        }
-    }
-    Ok(())
+    // Walks write into variables of this call, and not behind the scratch.
+    let mut traversal = mem::replace(&mut scratch.traversal, Traversal::new(alloc));
+    let mut lists = mem::replace(&mut scratch.lists, Lists::new(alloc));
+    let deepest = &mut scratch.deepest;
+    let asked = &mut scratch.asked;
+    let walked = walk_each(
+        prepared,
+        chunks,
+        &mut lists,
+        &mut traversal,
+        asked,
+        deepest,
+        meter,
+    );
+    scratch.traversal = traversal;
+    scratch.lists = lists;
+    walked
 }
 
 /// The deepest operand stack of each chunk of code that is whole instructions, or why the first is refused that is.
@@ -118,7 +156,7 @@ fn verify_chunks<P: Read>(
     let room = mem::replace(&mut scratch.starts, Starts::none(alloc));
     let starts = room.again(code)?;
     let prepared = Prepared::new(caps, code, pools, starts);
-    let walked = walk_chunks(&prepared, chunks, scratch, meter);
+    let walked = walk_chunks(alloc, &prepared, chunks, scratch, meter);
     scratch.starts = prepared.into_starts();
     walked?;
     Ok(mem::replace(&mut scratch.deepest, Vec::new(alloc)))

@@ -4,7 +4,7 @@ use Rattle.grain_rules.specs.Typing.{HasTyping, IsDeepest}
 use Rattle.grain_verify.proofs.Metering.{counted_more, counted_refused}
 use Rattle.grain_verify.proofs.Ticks.{counted_nothing}
 use Rattle.grain_verify.proofs.Chunks.{passes_more, passes_there, refused_at, number_more}
-use Rattle.grain_verify.proofs.verifier.walk_chunks.Goals as goal
+use Rattle.grain_verify.proofs.verifier.walk_each.Goals as goal
 
 pub returns-in-Err-clause-accepts : goal.returns-in-Err-clause-accepts
 returns-in-Err-clause-accepts g c all =
@@ -34,9 +34,9 @@ loop-place-preserved g c =
       counted = counted_more code c.args.prepared.now.starts c.args.chunks.now c.loop-place.place c.index-chunks-place.result c.args.meter.now c.loop-place.meter
           c.verify_chunk.new.meter c.loop-place-test.true c.index-chunks-place.is c.loop-place.invariant.counted c.in-Ok.needed v.metered;
       passes = passes_more code c.args.chunks.now c.loop-place.place c.index-chunks-place.result c.loop-place-test.true c.index-chunks-place.is c.loop-place.invariant.passes v.passes;
-      deepest = rw c.push_reserved.ensures.items (number_more (IsDeepest (coded code)) c.args.chunks.now c.loop-place.scratch.deepest.items c.loop-place.place c.index-chunks-place.result
+      deepest = rw c.push_reserved.ensures.items (number_more (IsDeepest (coded code)) c.args.chunks.now c.loop-place.deepest.items c.loop-place.place c.index-chunks-place.result
           c.in-Ok.needed c.loop-place-test.true c.index-chunks-place.is c.loop-place.invariant.deepest v.deepest);
-      typed = rw c.push_reserved.ensures.items (number_more (HasTyping (coded code)) c.args.chunks.now c.loop-place.scratch.deepest.items c.loop-place.place c.index-chunks-place.result
+      typed = rw c.push_reserved.ensures.items (number_more (HasTyping (coded code)) c.args.chunks.now c.loop-place.deepest.items c.loop-place.place c.index-chunks-place.result
           c.in-Ok.needed c.loop-place-test.true c.index-chunks-place.is c.loop-place.invariant.typed v.typed);
     }
 

@@ -6,16 +6,16 @@ use Rattle.grain_rules.specs.Code.{coded}
 use Rattle.grain_verify.specs.Asked.{Knows}
 use Rattle.grain_verify.specs.Progress.{AreCounted, Fits}
 use Rattle.grain_rules.specs.Typing.{HasTyping, IsDeepest}
-use Rattle.grain_verify.proofs.verifier.walk_chunks.Given as goal
+use Rattle.grain_verify.proofs.verifier.walk_each.Given as goal
 
 abbrev pub invariant-loop-place : goal.invariant-loop-place
 invariant-loop-place g l = record {
-  fits : Fits l.prepared l.scratch.traversal;
-  knows : Knows l.prepared.code.setting.facts l.scratch.asked;
+  fits : Fits l.prepared l.traversal;
+  knows : Knows l.prepared.code.setting.facts l.asked;
   counted : AreCounted l.prepared.code l.prepared.starts (take l.place l.chunks) l.initial.meter l.meter;
-  one_each : vec_len l.scratch.deepest ≡ l.place;
-  reserved : length l.chunks ≤ vec_capacity l.scratch.deepest;
+  one_each : vec_len l.deepest ≡ l.place;
+  reserved : length l.chunks ≤ vec_capacity l.deepest;
   passes : AllWithin (ChunkPasses l.prepared.code) l.chunks 0 l.place;
-  typed : AllZip (HasTyping (coded l.prepared.code)) (take l.place l.chunks) l.scratch.deepest.items;
-  deepest : AllZip (IsDeepest (coded l.prepared.code)) (take l.place l.chunks) l.scratch.deepest.items;
+  typed : AllZip (HasTyping (coded l.prepared.code)) (take l.place l.chunks) l.deepest.items;
+  deepest : AllZip (IsDeepest (coded l.prepared.code)) (take l.place l.chunks) l.deepest.items;
 }
