@@ -393,8 +393,8 @@ uint32_t grain_verify(uint16_t caps, const uint8_t *code, size_t code_len, const
                       uint64_t *looked);
 
 /* Verifies a program as grain_verify does, with the same answers, in the memory that the scratch keeps, whatever it was used
- * for before. Once a program was verified with it, one that isn't larger takes no memory; what it keeps is as much as the
- * largest program wanted, until grain_scratch_free is called. Where memory was wanted it may keep less than before. */
+ * for before. It takes memory only where the scratch keeps less than the program wants, and the scratch keeps as much as
+ * programs wanted most, until grain_scratch_free is called. Where memory was refused it may keep less than before. */
 uint32_t grain_verify_with(grain_scratch *scratch, uint16_t caps, const uint8_t *code, size_t code_len,
                            const grain_chunk *chunks, size_t chunks_len, const grain_pools *pools, uint16_t *numbers,
                            size_t numbers_len, grain_fault *fault, uint64_t *looked);

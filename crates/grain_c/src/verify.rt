@@ -148,8 +148,8 @@ pub extern "C" fn grain_verify(
 
 /// Verifies a program as `grain_verify` does, in the memory that the scratch keeps, whatever it was used for before.
 ///
-/// Once a program was verified with it, one that isn't larger takes no memory. It keeps as much as the largest program
-/// wanted, until `grain_scratch_free` is called.
+/// It takes memory only where the scratch keeps less than the program wants, and the scratch keeps as much as programs wanted
+/// most, until `grain_scratch_free` is called.
 #[unsafe(no_mangle)]
 pub extern "C" fn grain_verify_with(
     alloc: Global,

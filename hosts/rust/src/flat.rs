@@ -58,9 +58,14 @@ impl<'a> FlatPools<'a> {
         }
     }
 
-    /// Whether there are at most so many names, chains and switches.
+    /// Whether each list by whose length verification takes memory has at most so many items: a switch that is reached takes
+    /// some for each of its cases and ranges.
     pub(crate) const fn are_within(&self, most: usize) -> bool {
-        self.starts.len() <= most && self.chains.len() <= most && self.switches.len() <= most
+        self.starts.len() <= most
+            && self.chains.len() <= most
+            && self.switches.len() <= most
+            && self.cases.len() <= most
+            && self.ranges.len() <= most
     }
 
     /// With these constants.

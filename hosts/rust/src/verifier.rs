@@ -5,8 +5,8 @@ use std::cell::RefCell;
 /// Verifies one program after another in memory that it keeps.
 ///
 /// No answer depends on what was verified before: each is that of [`verify`](crate::verify), which is proved of the library.
-/// Once it has verified a program, one that isn't larger takes no memory. What it keeps is as much as the largest program
-/// wanted (docs/COSTS.md), until it is dropped or [`Verifier::release`] is called.
+/// It takes memory only where it keeps less than a program wants, and keeps as much as programs wanted most (docs/COSTS.md),
+/// until it is dropped or [`Verifier::release`] is called.
 ///
 /// ```
 /// use grain::{Caps, Chunk, Pools, Verifier};
