@@ -3,7 +3,7 @@ use Rattle.std.proofs.Common.{◌≡◌, ℕ, ◌≤◌, zero, suc, List, [], �
 use Rattle.std.specs.List.{All, AllZip}
 use Rattle.std.proofs.lemmas.List.{length-map}
 use Rattle.grain_base.specs.CapBits.{FUNCTION}
-use Rattle.grain_code.specs.Span.{Span}
+use Rattle.grain_code.specs.Span.{Span, undeclared_chunk}
 use Rattle.grain_code.specs.declared.function.Function.{Function}
 use Rattle.grain_code.specs.declared.op.Op.{Op}
 use Rattle.grain_rules.specs.Accepted.{AreDeepest, AreTyped, ChunkPasses, CodePasses, ConstantsPass, IsAccepted, IsFramed}
@@ -11,7 +11,7 @@ use Rattle.grain_rules.specs.Capabilities.{Allows}
 use Rattle.grain_rules.specs.Code.{Bytecode, Code, coded}
 use Rattle.grain_rules.specs.Counts.{Counts}
 use Rattle.grain.specs.Program.{Program, chunks_of, declared_by, input_of}
-use Rattle.grain.specs.Tightened.{IsTightened, undeclared, undeclared_chunk, undeclared_function}
+use Rattle.grain.specs.Tightened.{IsTightened, undeclared, undeclared_function}
 use Rattle.grain_rules.specs.Typing.{HasTyping, IsDeepest, Passes, Reached, begin, onward}
 use Rattle.grain_rules.proofs.Law.{typing_covers}
 

@@ -1,14 +1,10 @@
 -- Chunks that declare as many operands as they stack, and no more.
 use Rattle.std.specs.Prelude.{◌≡◌, ◌≤◌, map}
 use Rattle.std.specs.List.{AllZip}
-use Rattle.grain_code.specs.Span.{Span}
+use Rattle.grain_code.specs.Span.{Span, undeclared_chunk}
 use Rattle.grain_code.specs.declared.function.Function.{Function}
 use Rattle.grain_rules.specs.Accepted.{AreDeepest, IsAccepted}
 use Rattle.grain.specs.Program.{Program, declared_by, input_of}
-
--- the chunk with nothing declared
-abbrev pub undeclared_chunk : Span → Span
-undeclared_chunk chunk = record chunk { max_stack = 0 }
 
 -- the function with nothing declared
 abbrev pub undeclared_function : Function → Function

@@ -1,6 +1,6 @@
 -- What is wrong with bytes that are no stream has a number of its own.
 use Rattle.std.proofs.Common.{◌≡◌, ℕ, List, arith}
-use Rattle.grain.specs.ChainStream.{StreamFlaw}
+use Rattle.grain_bytecode.specs.ChainStream.{StreamFlaw}
 use Rattle.grain_bytecode.specs.declared.sites.StreamError.{StreamError}
 use Rattle.grain_bytecode.specs.declared.sites.StreamError.TheVariants as stream_error
 use Rattle.grain_c.specs.Flaws.{stream_flaw}

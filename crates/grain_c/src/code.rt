@@ -1,16 +1,17 @@
 //! Code, instruction by instruction.
 ghost use Rattle.std.specs.Prelude.{◌≡◌, ◌+◌, List, Ok, Err, cond, sum_by};
 ghost use Rattle.std.specs.Bool.{OnFalse, OnTrue};
-ghost use Rattle.grain.specs.InstructionTable.{form};
-ghost use Rattle.grain.specs.Rows.{is_quiet};
-ghost use Rattle.grain.specs.Split.{IsCount, NoneStandsAt, StandsAt};
+ghost use Rattle.grain_bytecode.specs.InstructionTable.{form};
+ghost use Rattle.grain_rules.specs.Rows.{is_quiet};
+ghost use Rattle.grain_bytecode.specs.Split.{IsCount, NoneStandsAt, StandsAt};
 ghost use Rattle.grain_bytecode.specs.declared.Op.{Op};
 ghost use Rattle.grain_flat.specs.Instruction.{field_size, instruction_row};
 
 use crate::answers::INTERFACE;
-use grain::{count_instructions, decode, is_quiet};
+use grain_bytecode::{count_instructions, decode};
 use grain_flat::kinds::{COUNT, NOTHING, TARGET};
 use grain_flat::{CField, CInstruction, fields_of};
+use grain_verify::is_quiet;
 
 /// Counts the instructions of the whole code, or gives the address of the first thing that is none.
 #[unsafe(no_mangle)]

@@ -1,13 +1,14 @@
 //! Why a chunk is accepted or refused.
 ghost use Rattle.std.specs.Prelude.{◌≡◌, ◌≢◌, ◌≤◌, ◌↔◌, Some, None};
-ghost use Rattle.grain.specs.declared.ExplainedChunk.{ExplainedChunk};
-ghost use Rattle.grain.specs.declared.ExplainedRefusal.{Refusal};
+ghost use Rattle.grain_explain.specs.declared.refusal.ExplainedChunk.{ExplainedChunk};
+ghost use Rattle.grain_explain.specs.declared.refusal.Refusal.{Refusal};
 ghost use Rattle.grain_flat.specs.Answers.{told};
 ghost use Rattle.grain_flat.specs.Explaining.{ExplainsChunk, IsToldIn};
 ghost use Rattle.grain_flat.specs.Flat.{Pooled};
 
 use crate::answers::{ACCEPTED, NOT_FLAT, OUT_OF_MEMORY, REFUSED, SHORT, UNEXPLAINED};
-use grain::{Caps, ExplainError, ExplainedChunk, Flags};
+use grain_base::{Caps, Flags};
+use grain_explain::{ExplainError, ExplainedChunk};
 use grain_flat::{
     CBase, CChunk, CExplained, CFault, CPools, CRow, explain_chunk, fill, is_flat, rows_of, told,
 };

@@ -1,8 +1,8 @@
 //! Address tables, and streams of the positions of chains.
 ghost use Rattle.std.specs.Prelude.{◌≡◌, ◌≢◌, ◌↔◌, List, Option, Some, None, cond, length, map};
 ghost use Rattle.std.specs.Bool.{OnFalse, OnTrue};
-ghost use Rattle.grain.specs.AddressTable.{Entry, FirstFlaw, LongestFront, Table, site_at};
-ghost use Rattle.grain.specs.ChainStream.{Records, Stream, StreamFlaw};
+ghost use Rattle.grain_base.specs.AddressTable.{Entry, FirstFlaw, LongestFront, Table, site_at};
+ghost use Rattle.grain_bytecode.specs.ChainStream.{Records, Stream, StreamFlaw};
 ghost use Rattle.grain_base.specs.declared.pos.Error.{Error as TableError};
 ghost use Rattle.grain_base.specs.declared.pos.Site.{Site};
 ghost use Rattle.grain_bytecode.specs.declared.sites.StreamError.{StreamError};
@@ -12,9 +12,10 @@ ghost use Rattle.grain_flat.specs.Listing.{entry_row, filled, place_row};
 
 use crate::answers::{NO_STREAM, SHORT, WRITTEN};
 use crate::flaws::{OUT_OF_ORDER, OVERFLOW, SOUND, TRAILING_BYTES, TRUNCATED};
-use grain::pos::Error as TableError;
-use grain::sites::StreamError;
-use grain::{pos, sites};
+use grain_base::pos;
+use grain_base::pos::Error as TableError;
+use grain_bytecode::sites;
+use grain_bytecode::sites::StreamError;
 use grain_flat::{CEntry, CPlace, list_entries, list_sites};
 
 /// A flaw of an address table, and the address or the count that it names, or 0.

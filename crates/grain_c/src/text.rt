@@ -1,8 +1,8 @@
 //! Refusals and instructions as texts, without memory.
 ghost use Rattle.std.specs.Prelude.{◌≡◌, ◌≢◌, ◌<◌, ◌≤◌, ◌↔◌, ◌++◌, IfNone, IfSome, ℕ, List, drop, length};
-ghost use Rattle.grain.specs.Split.{NoneStandsAt, StandsAt};
-ghost use Rattle.grain.specs.Texts.{verify_error_text};
-ghost use Rattle.grain.specs.declared.VerifyError.{VerifyError};
+ghost use Rattle.grain_bytecode.specs.Split.{NoneStandsAt, StandsAt};
+ghost use Rattle.grain_rules.specs.Texts.{verify_error_text};
+ghost use Rattle.grain_rules.specs.declared.error.VerifyError.{VerifyError};
 ghost use Rattle.grain_bytecode.specs.declared.Op.{Op};
 ghost use Rattle.grain_c.specs.Written.{IsWritten};
 ghost use Rattle.grain_flat.specs.Answers.{TellsRefusal, word_kind};
@@ -10,7 +10,8 @@ ghost use Rattle.grain_flat.specs.InstructionTexts.{instruction_text};
 ghost use Rattle.grain_flat.specs.declared.kinds.TheConstants.{NOTHING};
 
 use crate::answers::{NO_INSTRUCTION, NO_REFUSAL, SHORT, WRITTEN};
-use grain::{Caps, Flags, VerifyError, decode};
+use grain_base::{Caps, Flags};
+use grain_bytecode::decode;
 use grain_flat::faults::{
     BAD_INDEX, CHUNK_OUT_OF_RANGE, DEPTH_CONFLICT, FALLS_OFF_THE_END, HANDLER_UNDERFLOW,
     ITERATOR_UNDERFLOW, JUMP_INTO_AN_INSTRUCTION, JUMP_OUT_OF_RANGE, MISSING_CAPS,
@@ -20,6 +21,7 @@ use grain_flat::kinds::{
     CHAIN, CONSTANT, FRAGMENT, NAME, OP_ASSIGNMENT, OPERAND, OPERATOR, SWITCH, SYNTAX_SITE,
 };
 use grain_flat::{CFault, instruction_text, refusal_text};
+use grain_rules::VerifyError;
 
 /// What a refusal calls an index of this kind, if it is one that a refusal names.
 fn word_of(kind: u32) -> Option<&'static str>

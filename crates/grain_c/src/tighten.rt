@@ -1,6 +1,6 @@
 //! Chunks that declare their numbers.
 ghost use Rattle.std.specs.Prelude.{◌≡◌, ◌≢◌, ◌-◌, ◌^◌, ◌≤◌, ◌↔◌, ℕ, All, Option, min};
-ghost use Rattle.grain.specs.declared.VerifyError.{VerifyError};
+ghost use Rattle.grain_rules.specs.declared.error.VerifyError.{VerifyError};
 ghost use Rattle.grain_flat.specs.Answers.{Looks, LooksWithin, Refuses, told};
 ghost use Rattle.grain_flat.specs.Asking.{RowPasses};
 ghost use Rattle.grain_flat.specs.Flat.{Pooled};
@@ -8,8 +8,9 @@ ghost use Rattle.grain_flat.specs.Tightening.{Tightens};
 
 use crate::answers::{ACCEPTED, NOT_FLAT, OUT_OF_MEMORY, REFUSED, SHORT};
 use crate::verify::shown;
-use grain::{Caps, Flags, Meter};
+use grain_base::{Caps, Flags};
 use grain_flat::{CChunk, CFault, CPools, Scratch, Stop, declare, is_flat, told, verdict};
+use grain_verify::Meter;
 use std::alloc::Global;
 
 /// Verifies a program as `grain_verify` does, and has each chunk declare its number.

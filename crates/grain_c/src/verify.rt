@@ -1,14 +1,15 @@
 //! Verification, over pools in their flat form.
 ghost use Rattle.std.specs.Prelude.{◌≡◌, ◌≢◌, ◌-◌, ◌^◌, ◌<◌, ◌≤◌, ◌↔◌, ◌++◌, ℕ, All, List, Option, drop, length, min};
-ghost use Rattle.grain.specs.declared.VerifyError.{VerifyError};
+ghost use Rattle.grain_rules.specs.declared.error.VerifyError.{VerifyError};
 ghost use Rattle.grain_flat.specs.Answers.{Accepts, Looks, LooksWithin, Refuses, told};
 ghost use Rattle.grain_flat.specs.Asking.{RowPasses};
 ghost use Rattle.grain_flat.specs.Flat.{Pooled};
 
 use crate::answers::{ACCEPTED, NOT_FLAT, OUT_OF_MEMORY, REFUSED, SHORT};
 use crate::handle::{CScratch, keep, take};
-use grain::{Caps, Flags, Meter};
+use grain_base::{Caps, Flags};
 use grain_flat::{CChunk, CFault, CPools, Scratch, Stop, is_flat, told, verdict};
+use grain_verify::Meter;
 use std::alloc::Global;
 
 /// What a meter shows in 64 bits.

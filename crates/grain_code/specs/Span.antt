@@ -14,3 +14,7 @@ body s code = cond (nat_le s.entry s.end && nat_le s.end (length code)) (slice_r
 -- the code up to the end of the span, which is empty where the code ends before
 abbrev pub front : Span → List ℕ → List ℕ
 front s code = cond (nat_le s.end (length code)) (take s.end code) []
+
+-- the chunk with nothing declared
+abbrev pub undeclared_chunk : Span → Span
+undeclared_chunk chunk = record chunk { max_stack = 0 }

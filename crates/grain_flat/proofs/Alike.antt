@@ -1,18 +1,18 @@
 -- Code is judged alike beside pools that operations find alike.
 use Rattle.std.proofs.Common.{◌≡◌, ℕ, ◌+◌, ◌-◌, ◌≤◌, inl, inr, List, [], ◌∷◌, Option, subst, sym, ap, ◌∙◌}
 use Rattle.std.specs.List.{Contains}
-use Rattle.grain.specs.Accepted.{ChunkPasses, IsFramed, IsSafe}
-use Rattle.grain.specs.Capabilities.{Allows}
-use Rattle.grain.specs.Code.{Bytecode, Code, coded}
-use Rattle.grain.specs.Counts.{Counts, last_base}
-use Rattle.grain.specs.Effects.{Edge, Meets, after_fall, after_jump, iterators_needed, targets}
-use Rattle.grain.specs.Rows.{Row, caps_of, flow_of, row}
-use Rattle.grain.specs.FlowFields.{fall_for, jump_for}
-use Rattle.grain.specs.Machine.{Catches, Finds, Flows, IsKeptRun, IsRunKeptAtQuiet, Machine, Moves, MovesKeptAtQuiet, Steps}
-use Rattle.grain.specs.Setting.{Setting}
-use Rattle.grain.specs.Sinking.{FallsShortOf, ReachesUpTo, Sinks, Stays}
-use Rattle.grain.specs.Span.{Span}
-use Rattle.grain.specs.Typing.{HasTyping, IsDeepest, IsReachedCount, IsTyping, Passes, Reached, StandsIn, begin, onward}
+use Rattle.grain_rules.specs.Accepted.{ChunkPasses, IsFramed, IsSafe}
+use Rattle.grain_rules.specs.Capabilities.{Allows}
+use Rattle.grain_rules.specs.Code.{Bytecode, Code, coded}
+use Rattle.grain_rules.specs.Counts.{Counts, last_base}
+use Rattle.grain_rules.specs.Effects.{Edge, Meets, after_fall, after_jump, iterators_needed, targets}
+use Rattle.grain_rules.specs.Rows.{Row, caps_of, flow_of, row}
+use Rattle.grain_rules.specs.FlowFields.{fall_for, jump_for}
+use Rattle.grain_rules.specs.Machine.{Catches, Finds, Flows, IsKeptRun, IsRunKeptAtQuiet, Machine, Moves, MovesKeptAtQuiet, Steps}
+use Rattle.grain_rules.specs.Setting.{Setting}
+use Rattle.grain_rules.specs.Sinking.{FallsShortOf, ReachesUpTo, Sinks, Stays}
+use Rattle.grain_bytecode.specs.Span.{Span}
+use Rattle.grain_rules.specs.Typing.{HasTyping, IsDeepest, IsReachedCount, IsTyping, Passes, Reached, StandsIn, begin, onward}
 use Rattle.grain_bytecode.specs.declared.Op.{Op}
 
 -- the same capabilities, and the same of each operation: its row, and where it leads

@@ -1,13 +1,13 @@
 -- Code is refused alike beside pools that operations find alike.
 use Rattle.std.proofs.Common.{◌≡◌, ℕ, inl, inr, List, ap, ◌∙◌}
-use Rattle.grain.specs.Rows.{Row, caps_of}
-use Rattle.grain.specs.CapBits.{missing}
-use Rattle.grain.specs.Code.{Bytecode}
-use Rattle.grain.specs.Flaw.{ChunkFlaw, Comes, ComesAllowed, Conflicts, FallsOff, Leads}
-use Rattle.grain.specs.Setting.{Setting}
-use Rattle.grain.specs.Span.{Span}
-use Rattle.grain.specs.declared.VerifyError.{VerifyError}
-use Rattle.grain.specs.declared.VerifyError.TheVariants as errors
+use Rattle.grain_rules.specs.Rows.{Row, caps_of}
+use Rattle.grain_base.specs.CapBits.{missing}
+use Rattle.grain_rules.specs.Code.{Bytecode}
+use Rattle.grain_rules.specs.Flaw.{ChunkFlaw, Comes, ComesAllowed, Conflicts, FallsOff, Leads}
+use Rattle.grain_rules.specs.Setting.{Setting}
+use Rattle.grain_bytecode.specs.Span.{Span}
+use Rattle.grain_rules.specs.declared.error.VerifyError.{VerifyError}
+use Rattle.grain_rules.specs.declared.error.VerifyError.TheVariants as errors
 use Rattle.grain_bytecode.specs.declared.Op.{Op}
 use Rattle.grain_flat.proofs.Alike.{Alike, allowed, code, deepest, framed, meets, passes, reached, sinks, stands, typed}
 

@@ -5,9 +5,9 @@ use Rattle.std.specs.List.{flat_map}
 use Rattle.std.proofs.lemmas.List.Concat.{flat_map-cons}
 use Rattle.std.proofs.lemmas.List.{length-map}
 use Rattle.std.proofs.Math.Seq.{drop-append_seam, take-append_seam}
-use Rattle.grain.specs.Capabilities.{chain_caps, joined, root_caps, step_caps}
-use Rattle.grain.specs.Chain.{assigns, consumed, roots_on_stack}
-use Rattle.grain.specs.Facts.{chain_facts, root_mentions, step_mentions, tail_mentions}
+use Rattle.grain_rules.specs.Capabilities.{chain_caps, joined, root_caps, step_caps}
+use Rattle.grain_bytecode.specs.Chain.{assigns, consumed, roots_on_stack}
+use Rattle.grain_rules.specs.Facts.{chain_facts, root_mentions, step_mentions, tail_mentions}
 use Rattle.grain_bytecode.specs.declared.Chain.{Chain}
 use Rattle.grain_bytecode.specs.declared.Root.{Root}
 use Rattle.grain_bytecode.specs.declared.Root.TheVariants as roots

@@ -2,13 +2,13 @@
 use Rattle.std.proofs.Common.{◌≡◌, ℕ, List, [], ◌∷◌, ◌++◌, length, map, ap, refl, subst, ◌∙◌, arith}
 use Rattle.std.specs.List.{AllZip}
 use Rattle.std.proofs.lemmas.List.{length-append}
-use Rattle.grain.specs.Code.{Bytecode, bytecode_beside, switch_targets}
-use Rattle.grain.specs.Dispatch.{arms, arm_targets}
-use Rattle.grain.specs.Facts.{case_consts, facts_with}
-use Rattle.grain.specs.Names.{names_in}
-use Rattle.grain.specs.Explaining.{IsExact, IsExplained}
-use Rattle.grain.specs.Span.{Span}
-use Rattle.grain.specs.declared.ExplainedChunk.{ExplainedChunk}
+use Rattle.grain_rules.specs.Code.{Bytecode, bytecode_beside, switch_targets}
+use Rattle.grain_bytecode.specs.Dispatch.{arms, arm_targets}
+use Rattle.grain_rules.specs.Facts.{case_consts, facts_with}
+use Rattle.grain_bytecode.specs.Names.{names_in}
+use Rattle.grain_explain.specs.Explaining.{IsExact, IsExplained}
+use Rattle.grain_bytecode.specs.Span.{Span}
+use Rattle.grain_explain.specs.declared.refusal.ExplainedChunk.{ExplainedChunk}
 use Rattle.grain_bytecode.specs.declared.Chain.{Chain}
 use Rattle.grain_bytecode.specs.declared.Switch.{Switch}
 use Rattle.grain_flat.specs.Flat.{arm_constants, code_with}

@@ -4,7 +4,7 @@ use Rattle.std.specs.Prelude.{sum_by}
 use Rattle.grain_bytecode.specs.declared.Field.{Field}
 use Rattle.grain_bytecode.specs.declared.Field.TheVariants.{Index, Slot, Count, Target}
 use Rattle.grain_bytecode.specs.declared.Pool.TheVariants as pools
-use Rattle.grain.specs.InstructionTable.{size_of}
+use Rattle.grain_bytecode.specs.InstructionTable.{size_of}
 use Rattle.grain_flat.specs.Instruction.{field_row, field_size}
 use Rattle.grain_flat.specs.declared.records.CField.{CField}
 

@@ -2,13 +2,13 @@
 use Rattle.std.proofs.Common.{◌≡◌, ℕ, List, [], ◌∷◌, ◌++◌, false, get_or, map, refl, subst, sym, ap, ◌∙◌}
 use Rattle.std.specs.List.{AllZip, Contains, flat_map}
 use Rattle.std.proofs.lemmas.List.Concat.{flat_map-cons}
-use Rattle.grain.specs.Dispatch.{Arms, Case, listed, arm_targets}
-use Rattle.grain.specs.Facts.{ChainFacts, chain_facts}
-use Rattle.grain.specs.Flow as flows
-use Rattle.grain.specs.Flow.{Falls, Flow}
-use Rattle.grain.specs.Rows.{does, flow_of, row}
-use Rattle.grain.specs.FlowFields.{targets_for}
-use Rattle.grain.specs.Setting.{Setting}
+use Rattle.grain_bytecode.specs.Dispatch.{Arms, Case, listed, arm_targets}
+use Rattle.grain_rules.specs.Facts.{ChainFacts, chain_facts}
+use Rattle.grain_rules.specs.Flow as flows
+use Rattle.grain_rules.specs.Flow.{Falls, Flow}
+use Rattle.grain_rules.specs.Rows.{does, flow_of, row}
+use Rattle.grain_rules.specs.FlowFields.{targets_for}
+use Rattle.grain_rules.specs.Setting.{Setting}
 use Rattle.grain_bytecode.specs.declared.Chain.{Chain}
 use Rattle.grain_bytecode.specs.declared.Op.{Op}
 use Rattle.grain_bytecode.specs.declared.Op.TheVariants as ops

@@ -3,10 +3,10 @@ use Rattle.std.proofs.Common.{◌≡◌, ℕ, ◌<◌, ◌≤◌, inl, inr, List
 use Rattle.std.specs.List.{AllByRecursion, Contains, flat_map}
 use Rattle.std.proofs.lemmas.List.{length-map}
 use Rattle.std.proofs.lemmas.Slice.Zip.{AllZip-long}
-use Rattle.grain.specs.Dispatch.{Arms}
-use Rattle.grain.specs.Indices.{Indexed, IsOut, IsPassed, case_constants, cases_of, entry_name, further, mentions_of, own_mentions, size, test_of, tests_of}
-use Rattle.grain.specs.Facts.{ChainFacts, Mention, Entry, Operand}
-use Rattle.grain.specs.Setting.{Setting}
+use Rattle.grain_bytecode.specs.Dispatch.{Arms}
+use Rattle.grain_rules.specs.Indices.{Indexed, IsOut, IsPassed, case_constants, cases_of, entry_name, further, mentions_of, own_mentions, size, test_of, tests_of}
+use Rattle.grain_rules.specs.Facts.{ChainFacts, Mention, Entry, Operand}
+use Rattle.grain_rules.specs.Setting.{Setting}
 use Rattle.grain_bytecode.specs.declared.Chain.{Chain}
 use Rattle.grain_bytecode.specs.declared.Pool.{Pool}
 use Rattle.grain_bytecode.specs.declared.Pool.TheVariants as pools

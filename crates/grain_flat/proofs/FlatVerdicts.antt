@@ -3,9 +3,9 @@ use Rattle.std.proofs.Common.{◌≡◌, ◌<◌, ◌^◌, ℕ, List, [], length
 use Rattle.std.specs.List.{All}
 use Rattle.std.specs.declared.alloc.Global.{Global}
 use Rattle.std.proofs.lemmas.Slice.Zip.{AllZip-long}
-use Rattle.grain.specs.Accepted.{Input, input_beside}
-use Rattle.grain.specs.Dispatch.{Arms}
-use Rattle.grain.specs.Span.{Span}
+use Rattle.grain_rules.specs.Accepted.{Input, input_beside}
+use Rattle.grain_bytecode.specs.Dispatch.{Arms}
+use Rattle.grain_bytecode.specs.Span.{Span}
 use Rattle.grain_bytecode.specs.declared.Chain.{Chain}
 use Rattle.grain_bytecode.specs.declared.Function.{Function}
 use Rattle.grain_flat.specs.Flat.{AreChains, IsFlat}

@@ -2,7 +2,7 @@
 use Rattle.std.proofs.Common.{◌≡◌, ⊎_elim, nat_eq, ℕ, suc, ◌-◌, ◌/◌, ◌%◌, ◌<◌, Bool, true, false, cond, List, [], ◌∷◌, ◌++◌, length, replicate, refl, ap, ◌∙◌, arith}
 use Rattle.std.specs.Fmt.{digit_glyph, digits, digits_onto}
 use Rattle.std.proofs.lemmas.Bool.{eq-eqb, ne_eqb, cases_lt}
-use Rattle.grain.specs.Texts.{four_digits}
+use Rattle.grain_rules.specs.Texts.{four_digits}
 
 -- one more digit, by whether it is the first
 onto_suc : (k n : ℕ) (acc : List ℕ) (t : Bool) → nat_eq (n / 16) 0 ≡ t

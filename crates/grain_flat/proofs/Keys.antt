@@ -8,8 +8,8 @@ use Rattle.std.specs.declared.hash.FoldHasher.{FoldHasher}
 use Rattle.grain_base.specs.declared.value.Dynamic.{Dynamic, fold-roll-Dynamic}
 use Rattle.grain_base.specs.declared.value.Dynamic.TheVariants.{Int, rolls-Int}
 use Rattle.grain_base.specs.declared.value.Dynamic.TheOpen as layers
-use Rattle.grain.specs.Content.{Content, same, integer}
-use Rattle.grain.specs.View.{content, content_step, pointer_step}
+use Rattle.grain_base.specs.Content.{Content, same, integer}
+use Rattle.grain_base.specs.View.{content, content_step, pointer_step}
 
 -- the maps of cases, and when two of their keys are equal
 abbrev pub Cases : Type 0

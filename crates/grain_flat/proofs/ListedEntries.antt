@@ -1,7 +1,7 @@
 -- How many entries an address table has in front of its first damage.
 use Rattle.std.proofs.Common.{◌≡◌, ℕ, suc, ◌+◌, ◌^◌, ◌<◌, ⊎_elim, List, [], ◌∷◌, ◌++◌, length, sym, ap, ◌∙◌, arith, append_assoc}
 use Rattle.std.proofs.lemmas.List.{length-append}
-use Rattle.grain.specs.AddressTable.{Entry, Holds}
+use Rattle.grain_base.specs.AddressTable.{Entry, Holds}
 use Rattle.grain_base.proofs.Entries.{front, front_is}
 
 -- their number fits u32, as the count does that stands before them

@@ -2,12 +2,11 @@
 use Rattle.std.proofs.Common.{◌≡◌, ℕ, ◌+◌, ◌<◌, zero, suc, List, [], ◌∷◌, ◌++◌, length, get_or, map, slice_set, take, refl, sym, ap, subst, ◌∙◌, arith}
 use Rattle.std.specs.List.{All, AllZip}
 use Rattle.std.proofs.lemmas.List.{map-append, take_more, take_more_set}
-use Rattle.grain.specs.Accepted.{ChunkPasses, Input, IsAccepted, IsFramed}
-use Rattle.grain.specs.Code.{Bytecode, Code, coded}
-use Rattle.grain.specs.Counts.{Counts}
-use Rattle.grain.specs.Span.{Span}
-use Rattle.grain.specs.Tightened.{undeclared_chunk}
-use Rattle.grain.specs.Typing.{HasTyping, Passes}
+use Rattle.grain_rules.specs.Accepted.{ChunkPasses, Input, IsAccepted, IsFramed}
+use Rattle.grain_rules.specs.Code.{Bytecode, Code, coded}
+use Rattle.grain_rules.specs.Counts.{Counts}
+use Rattle.grain_bytecode.specs.Span.{Span, undeclared_chunk}
+use Rattle.grain_rules.specs.Typing.{HasTyping, Passes}
 use Rattle.grain_bytecode.specs.declared.Op.{Op}
 use Rattle.grain_flat.specs.Answers.{Accepts}
 use Rattle.grain_flat.specs.Flat.{flat_input, rest_input}

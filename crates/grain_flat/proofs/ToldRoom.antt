@@ -1,6 +1,6 @@
 -- What is told of a chunk, in room that a caller has.
 use Rattle.std.proofs.Common.{◌≡◌, ◌∙◌, List, ap}
-use Rattle.grain.specs.declared.ExplainedChunk.{ExplainedChunk}
+use Rattle.grain_explain.specs.declared.refusal.ExplainedChunk.{ExplainedChunk}
 use Rattle.grain_flat.specs.Explaining.{IsMadeOfRows, IsToldIn}
 use Rattle.grain_flat.specs.Listing.{filled}
 use Rattle.grain_flat.specs.declared.explaining.ToldRows.{ToldRows}

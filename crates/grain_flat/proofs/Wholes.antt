@@ -2,17 +2,17 @@
 use Rattle.std.proofs.Common.{◌≡◌, ℕ, ◌<◌, inl, List, [], ◌∷◌, Option, Some, None, get_or, length, map, refl, subst, sym, ap, ◌∙◌, arith}
 use Rattle.std.specs.List.{All, AllZip}
 use Rattle.std.proofs.lemmas.List.{get_or-map, length-map}
-use Rattle.grain.specs.Accepted.{AllowsConst, AreIndexed, AreDeepest, AreSafe, AreTyped, ChunkPasses, CodePasses, ConstantPasses, FunctionsPass, Input, IsAccepted, IsSafe}
-use Rattle.grain.specs.Code.{coded}
-use Rattle.grain.specs.ConstCaps.{const_caps}
-use Rattle.grain.specs.Dispatch.{Arms, arm_targets}
-use Rattle.grain.specs.Flaw.{CodeFlaw, ConstantAsks, Flaw, FlawAt, IsFirstFlaw, IsFlawOfChunks, PassesTo, bad_index, of_chunk, of_code, of_constant, of_functions, undecodable}
-use Rattle.grain.specs.Setting.{Setting}
-use Rattle.grain.specs.Span.{Span}
-use Rattle.grain.specs.Meter.{AreReached}
-use Rattle.grain.specs.Typing.{HasTyping, IsDeepest, IsReachedCount}
-use Rattle.grain.specs.declared.VerifyError.{VerifyError}
-use Rattle.grain.specs.declared.VerifyError.TheVariants as errors
+use Rattle.grain_rules.specs.Accepted.{AllowsConst, AreIndexed, AreDeepest, AreSafe, AreTyped, ChunkPasses, CodePasses, ConstantPasses, FunctionsPass, Input, IsAccepted, IsSafe}
+use Rattle.grain_rules.specs.Code.{coded}
+use Rattle.grain_rules.specs.ConstCaps.{const_caps}
+use Rattle.grain_bytecode.specs.Dispatch.{Arms, arm_targets}
+use Rattle.grain_rules.specs.Flaw.{CodeFlaw, ConstantAsks, Flaw, FlawAt, IsFirstFlaw, IsFlawOfChunks, PassesTo, bad_index, of_chunk, of_code, of_constant, of_functions, undecodable}
+use Rattle.grain_rules.specs.Setting.{Setting}
+use Rattle.grain_bytecode.specs.Span.{Span}
+use Rattle.grain_verify.specs.Meter.{AreReached}
+use Rattle.grain_rules.specs.Typing.{HasTyping, IsDeepest, IsReachedCount}
+use Rattle.grain_rules.specs.declared.error.VerifyError.{VerifyError}
+use Rattle.grain_rules.specs.declared.error.VerifyError.TheVariants as errors
 use Rattle.grain_base.specs.declared.caps.Caps.{Caps}
 use Rattle.grain_base.specs.declared.value.Dynamic.{Dynamic}
 use Rattle.grain_base.specs.declared.value.Dynamic.TheVariants as values

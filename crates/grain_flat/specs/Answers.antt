@@ -2,13 +2,13 @@
 use Rattle.std.specs.Prelude.{◌≡◌, ◌≢◌, ◌⊎◌, ⊤, ℕ, ◌<◌, ◌≤◌, ◌^◌, List, Option, Some, None, codes, sum_by, if◌then◌else◌}
 use Rattle.std.specs.List.{All}
 use Rattle.std.specs.Str.{bytes_eq}
-use Rattle.grain.specs.Accepted.{AreDeepest, AreSafe, AreTyped, IsAccepted}
-use Rattle.grain.specs.Flaw.{FlawAt}
-use Rattle.grain.specs.Meter.{AreReached, starts_within}
-use Rattle.grain.specs.Span.{Span}
-use Rattle.grain.specs.Split.{Split}
-use Rattle.grain.specs.declared.VerifyError.{VerifyError}
-use Rattle.grain.specs.declared.VerifyError.TheVariants as errors
+use Rattle.grain_rules.specs.Accepted.{AreDeepest, AreSafe, AreTyped, IsAccepted}
+use Rattle.grain_rules.specs.Flaw.{FlawAt}
+use Rattle.grain_verify.specs.Meter.{AreReached, starts_within}
+use Rattle.grain_bytecode.specs.Span.{Span}
+use Rattle.grain_bytecode.specs.Split.{Split}
+use Rattle.grain_rules.specs.declared.error.VerifyError.{VerifyError}
+use Rattle.grain_rules.specs.declared.error.VerifyError.TheVariants as errors
 use Rattle.grain_base.specs.declared.caps.Caps.{Caps}
 use Rattle.grain_flat.specs.Asking.{IsFirstRefusedRow, RowPasses}
 use Rattle.grain_flat.specs.Flat.{Rest, Whole, flat_input, rest_input}

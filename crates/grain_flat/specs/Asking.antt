@@ -1,8 +1,8 @@
 -- What the rows of constants ask.
 use Rattle.std.specs.Prelude.{◌≡◌, ℕ, ◌<◌, List, length, Option, Some}
 use Rattle.std.specs.List.{AllWithin, HoldsAt}
-use Rattle.grain.specs.Accepted.{AllowsConst}
-use Rattle.grain.specs.Capabilities.{Allows}
+use Rattle.grain_rules.specs.Accepted.{AllowsConst}
+use Rattle.grain_rules.specs.Capabilities.{Allows}
 use Rattle.grain_flat.specs.Flat.{asked_row}
 use Rattle.grain_flat.specs.declared.records.CConstant.{CConstant}
 

@@ -2,13 +2,13 @@
 use Rattle.std.specs.Prelude.{◌≡◌, ℕ, List, [], ◌++◌, map, zip, length, Option, Some, None}
 use Rattle.std.specs.List.{flat_map}
 use Rattle.std.specs.Option.{unwrap_or}
-use Rattle.grain.specs.Counts.{Base}
-use Rattle.grain.specs.Dispatch.{Arms}
-use Rattle.grain.specs.Explaining.{IsExact, IsExplained}
-use Rattle.grain.specs.Span.{Span}
-use Rattle.grain.specs.declared.ExplainedChunk.{ExplainedChunk}
-use Rattle.grain.specs.declared.ExplainedRefusal.{Refusal}
-use Rattle.grain.specs.declared.Row.{Row}
+use Rattle.grain_rules.specs.Counts.{Base}
+use Rattle.grain_bytecode.specs.Dispatch.{Arms}
+use Rattle.grain_explain.specs.Explaining.{IsExact, IsExplained}
+use Rattle.grain_bytecode.specs.Span.{Span}
+use Rattle.grain_explain.specs.declared.refusal.ExplainedChunk.{ExplainedChunk}
+use Rattle.grain_explain.specs.declared.refusal.Refusal.{Refusal}
+use Rattle.grain_explain.specs.declared.row.Row.{Row}
 use Rattle.grain_bytecode.specs.declared.Chain.{Chain}
 use Rattle.grain_flat.specs.Listing.{filled}
 use Rattle.grain_flat.specs.Flat.{AreChains, AreSwitches, code_with}

@@ -2,16 +2,16 @@
 use Rattle.std.specs.Prelude.{◌≡◌, ℕ, List, [], map, length, sum_by, Option, Some, None}
 use Rattle.std.specs.List.{All, AllZip, flat_map}
 use Rattle.std.specs.List.Sorted.{IsPermutation}
-use Rattle.grain.specs.Accepted.{Input}
-use Rattle.grain.specs.Capabilities.{name_caps}
-use Rattle.grain.specs.Code.{Bytecode, bytecode_beside}
-use Rattle.grain.specs.Facts.{chain_facts}
-use Rattle.grain.specs.ConstCaps.{const_caps}
-use Rattle.grain.specs.Span.{Span}
+use Rattle.grain_rules.specs.Accepted.{Input}
+use Rattle.grain_rules.specs.Capabilities.{name_caps}
+use Rattle.grain_rules.specs.Code.{Bytecode, bytecode_beside}
+use Rattle.grain_rules.specs.Facts.{chain_facts}
+use Rattle.grain_rules.specs.ConstCaps.{const_caps}
+use Rattle.grain_bytecode.specs.Span.{Span}
 use Rattle.grain_base.specs.declared.value.Dynamic.{Dynamic}
 use Rattle.grain_bytecode.specs.declared.Function.{Function}
-use Rattle.grain.specs.Dispatch.{Arms, Case, listed, arm_targets}
-use Rattle.grain.specs.Names.{first_flaw, names_in}
+use Rattle.grain_bytecode.specs.Dispatch.{Arms, Case, listed, arm_targets}
+use Rattle.grain_bytecode.specs.Names.{first_flaw, names_in}
 use Rattle.grain_bytecode.specs.declared.Chain.{Chain}
 use Rattle.grain_bytecode.specs.declared.Root.{Root}
 use Rattle.grain_bytecode.specs.declared.Root.TheVariants as roots

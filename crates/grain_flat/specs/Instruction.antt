@@ -1,6 +1,6 @@
 -- An instruction as it crosses to C.
 use Rattle.std.specs.Prelude.{ℕ, List, [], ◌∷◌, ◌++◌, map, take, ◌==◌, if◌then◌else◌}
-use Rattle.grain.specs.InstructionTable.{form, width_of}
+use Rattle.grain_bytecode.specs.InstructionTable.{form, width_of}
 use Rattle.grain_bytecode.specs.declared.Field.{Field}
 use Rattle.grain_bytecode.specs.declared.Field.TheVariants.{Index, Slot, Count, Target}
 use Rattle.grain_bytecode.specs.declared.Pool.{Pool}

@@ -1,12 +1,12 @@
 -- What the parts of `grain_verify` promise each other.
 use Rattle.std.specs.Prelude.{◌≡◌, ⊤, ℕ, IfErr, IfOk, List, [], length, map, Result, Vec}
 use Rattle.std.specs.declared.alloc.Global.{Global}
-use Rattle.grain.specs.Accepted.{AreDeepest, AreSafe, AreTyped, Input, IsAccepted, input_beside}
-use Rattle.grain.specs.Dispatch.{Arms, arms}
-use Rattle.grain.specs.Flaw.{FlawAt}
-use Rattle.grain.specs.Meter.{AreReached, HasCounted, IsWithinAll}
-use Rattle.grain.specs.Names.{names_in}
-use Rattle.grain.specs.Span.{Span}
+use Rattle.grain_rules.specs.Accepted.{AreDeepest, AreSafe, AreTyped, Input, IsAccepted, input_beside}
+use Rattle.grain_bytecode.specs.Dispatch.{Arms, arms}
+use Rattle.grain_rules.specs.Flaw.{FlawAt}
+use Rattle.grain_verify.specs.Meter.{AreReached, HasCounted, IsWithinAll}
+use Rattle.grain_bytecode.specs.Names.{names_in}
+use Rattle.grain_bytecode.specs.Span.{Span}
 use Rattle.grain_bytecode.specs.declared.Chain.{Chain}
 use Rattle.grain_bytecode.specs.declared.Function.{Function}
 use Rattle.grain_flat.specs.Answers.{Accepts, Looks, LooksWithin, Refuses}

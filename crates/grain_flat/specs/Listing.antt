@@ -1,6 +1,6 @@
 -- Lists as they are written into room that a caller has.
 use Rattle.std.specs.Prelude.{List, ◌++◌, drop, length, take, Option, Some, None}
-use Rattle.grain.specs.AddressTable.{Entry}
+use Rattle.grain_base.specs.AddressTable.{Entry}
 use Rattle.grain_base.specs.declared.pos.Site.{Site}
 use Rattle.grain_flat.specs.declared.records.CEntry.{CEntry}
 use Rattle.grain_flat.specs.declared.records.CPlace.{CPlace}

@@ -1,13 +1,13 @@
 //! What constants ask of the host, by their rows.
 ghost use Rattle.std.specs.Prelude.{◌≡◌, ◌↔◌, IfNone, IfSome, IsTrue, MatchOption, Some};
 ghost use Rattle.std.specs.List.{All};
-ghost use Rattle.grain.specs.Capabilities.{Allows};
+ghost use Rattle.grain_rules.specs.Capabilities.{Allows};
 ghost use Rattle.grain_flat.specs.Flat.{asked_row};
 ghost use Rattle.grain_flat.specs.Asking.{IsFirstRefusedRow, RowPasses};
 
 use crate::records::CConstant;
 use crate::rows::asked_of;
-use grain::{Caps, Flags};
+use grain_base::{Caps, Flags};
 
 /// Whether all that is asked is there.
 pub(crate) fn allows(caps: Caps, asked: Caps) -> bool

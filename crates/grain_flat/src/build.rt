@@ -2,14 +2,15 @@
 ghost use Rattle.std.specs.Prelude.{◌≡◌, IfOk, None, length, map, option_map, sum_by};
 ghost use Rattle.std.specs.List.{All};
 ghost use Rattle.std.specs.List.Sorted.{IsPermutation};
-ghost use Rattle.grain.specs.Dispatch.{arms, listed};
-ghost use Rattle.grain.specs.Names.{first_flaw, names_in};
+ghost use Rattle.grain_bytecode.specs.Dispatch.{arms, listed};
+ghost use Rattle.grain_bytecode.specs.Names.{first_flaw, names_in};
 ghost use Rattle.grain_flat.specs.Flat.{AreChains, AreSwitches, IsChainRow, IsFlat, IsStepRow, case_row, case_rows, chain_row, arm_range_targets, step_row, switch_row};
 ghost use Rattle.grain_flat.specs.Judging.{IsMadeOf};
 
 use crate::records::{CCase, CChain, CPools, CStep, CSwitch};
 use crate::rows::{root_of, step_of, tail_of};
-use grain::{Chain, Dynamic, Step, Strings, Switch, SwitchRange};
+use grain_base::Dynamic;
+use grain_bytecode::{Chain, Step, Strings, Switch, SwitchRange};
 use std::alloc::{AllocError, Global};
 use std::collections::HashMap;
 

@@ -7,9 +7,12 @@ ghost use Rattle.grain_flat.specs.Flat.{IsFlat};
 use crate::build::make;
 use crate::kinds::NO_ADDRESS;
 use crate::records::{CBase, CChunk, CExplained, CPools, CRow};
-use grain::{
-    Base, Caps, Chunk, ExplainError, ExplainedChunk, ExplainedRefusal, Pools, Row, explain_chunks,
+use grain_base::Caps;
+use grain_bytecode::Chunk;
+use grain_explain::{
+    Base, ExplainError, ExplainedChunk, Refusal as ExplainedRefusal, Row, explain_chunks,
 };
+use grain_rules::Pools;
 use std::alloc::{AllocError, Global};
 
 /// Why a chunk whose pools have this flat form is accepted or refused, as [`explain_chunks`] says.

@@ -2,7 +2,10 @@
 ghost use Rattle.grain_flat.specs.Judging.{IsMeteredOf, IsVerdictOf, judged_input};
 
 use crate::row_reads::Rows;
-use grain::{Caps, Chunk, Function, Meter, Refusal, Scratch, VerifyError};
+use grain_base::Caps;
+use grain_bytecode::{Chunk, Function};
+use grain_rules::VerifyError;
+use grain_verify::{Meter, Refusal, Scratch};
 use std::alloc::{AllocError, Global};
 
 /// What is verified, but its chunks.

@@ -1,7 +1,7 @@
 //! Texts without memory: no text that is written here has more than 128 bytes.
 ghost use Rattle.std.specs.Prelude.{◌≡◌, ◌<◌, ◌≤◌, ◌+◌, ◌++◌, false, length};
 ghost use Rattle.std.specs.Fmt.{digit_glyph};
-ghost use Rattle.grain.specs.Texts.{four_digits, named};
+ghost use Rattle.grain_rules.specs.Texts.{four_digits, named};
 
 use arrayvec::ArrayVec;
 use itoa::Buffer;

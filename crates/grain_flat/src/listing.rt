@@ -1,13 +1,14 @@
 //! The entries of address tables and the sites of streams, written into room of the caller's. No call takes memory.
 ghost use Rattle.std.specs.Prelude.{◌≡◌, ◌<◌, ◌≤◌, ℕ, List, Option, [], ◌∷◌, IfErr, IfNone, IfOk, IfSome, OnOk, cond, drop, length, map, nat_lt, slice_set};
-ghost use Rattle.grain.specs.AddressTable.{Entry, LongestFront};
-ghost use Rattle.grain.specs.ChainStream.{Stream, site_of};
+ghost use Rattle.grain_base.specs.AddressTable.{Entry, LongestFront};
+ghost use Rattle.grain_bytecode.specs.ChainStream.{Stream, site_of};
 ghost use Rattle.grain_base.specs.Varint.{BeginsNumbers, U32Flaw};
 ghost use Rattle.grain_base.specs.declared.pos.Site.{Site};
 ghost use Rattle.grain_flat.specs.Listing.{entry_row, filled, place_row};
 
 use crate::records::{CEntry, CPlace};
-use grain::{pos, sites, varint};
+use grain_base::{pos, varint};
+use grain_bytecode::sites;
 
 /// Writes items in front of the room, as many as it has places for.
 pub fn fill<T: Copy>(room: &mut [T], items: &[T])

@@ -1,6 +1,6 @@
 //! The texts of instructions and of refusals.
 ghost use Rattle.std.specs.Prelude.{◌≡◌, ◌≤◌, ◌+◌, ◌++◌, length};
-ghost use Rattle.grain.specs.Texts.{named, verify_error_text};
+ghost use Rattle.grain_rules.specs.Texts.{named, verify_error_text};
 ghost use Rattle.grain_flat.specs.Answers.{IsToldRefusal};
 ghost use Rattle.grain_flat.specs.InstructionTexts.{field_text, instruction_text};
 
@@ -10,7 +10,9 @@ use crate::line::{Line, hex_digits, put, put_named};
 use crate::mnemonics::mnemonic;
 use crate::records::CField;
 use arrayvec::ArrayVec;
-use grain::{Flags, Op, VerifyError};
+use grain_base::Flags;
+use grain_bytecode::Op;
+use grain_rules::VerifyError;
 
 /// Adds a space and a field's number, where there is a field.
 fn put_field(line: &mut Line, field: CField)

@@ -11,7 +11,8 @@ use crate::kinds::{
     CHAIN, CONSTANT, FRAGMENT, NAME, NOTHING, OP_ASSIGNMENT, OPERAND, OPERATOR, SWITCH, SYNTAX_SITE,
 };
 use crate::records::CFault;
-use grain::{Flags, VerifyError};
+use grain_base::Flags;
+use grain_rules::VerifyError;
 
 /// The place of a chunk as a number, or that there is none.
 fn chunk_number(place: Option<usize>) -> u64

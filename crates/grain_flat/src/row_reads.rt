@@ -3,11 +3,11 @@ ghost use Rattle.std.specs.Prelude.{◌≡◌, ◌+◌, ◌≤◌, ◌<◌, ◌^
 ghost use Rattle.std.specs.List.{flat_map};
 ghost use Rattle.std.specs.Option.{option_to_list};
 ghost use Rattle.std.specs.Str.{IsUtf8};
-ghost use Rattle.grain.specs.Dispatch.{first_past};
-ghost use Rattle.grain.specs.Facts.{Entry};
-ghost use Rattle.grain.specs.FirstOut.{alone, first_out, refused};
-ghost use Rattle.grain.specs.Indices.{size, test_of};
-ghost use Rattle.grain.specs.Names.{names_in, span};
+ghost use Rattle.grain_bytecode.specs.Dispatch.{first_past};
+ghost use Rattle.grain_rules.specs.Facts.{Entry};
+ghost use Rattle.grain_rules.specs.FirstOut.{alone, first_out, refused};
+ghost use Rattle.grain_rules.specs.Indices.{size, test_of};
+ghost use Rattle.grain_bytecode.specs.Names.{names_in, span};
 ghost use Rattle.grain_flat.specs.Flat.{IsFlat};
 ghost use Rattle.grain_flat.specs.RowFacts.{part_begins, chain_told, chains_told, facts_told, leads_of, parts, root_asked, root_told};
 ghost use Rattle.grain_flat.specs.RowFacts.{step_asked, step_told, tail_told, taken};
@@ -15,7 +15,9 @@ ghost use Rattle.grain_flat.specs.RowTables.{AreTables, left_of};
 
 use crate::records::{CCase, CChain, CPools, CStep, CSwitch};
 use crate::shapes::{ASSIGN_THROUGH, INDEX, LOCAL, NAMED, PROPERTY, READ, TEMPORARY, THIS};
-use grain::{BadIndex, Caps, Flags, Pool, Read, Targets, check_among, check_below, name_caps};
+use grain_base::{Caps, Flags};
+use grain_bytecode::Pool;
+use grain_rules::{BadIndex, Read, Targets, check_among, check_below, name_caps};
 use std::alloc::{AllocError, Global};
 use std::marker::Model;
 use std::str;

@@ -9,7 +9,8 @@ use crate::records::{CConstant, CStep};
 use crate::shapes::{
     ASSIGN, ASSIGN_THROUGH, INDEX, LOCAL, METHOD, NAMED, PROPERTY, READ, TEMPORARY, THIS,
 };
-use grain::{Position, Root, Step, StepFlags, Tail};
+use grain_base::Position;
+use grain_bytecode::{Root, Step, StepFlags, Tail};
 
 /// What a constant with this row asks, or that it can't be said, if there is such a constant's row.
 pub(crate) fn asked_of(row: &CConstant) -> Option<Option<u16>>

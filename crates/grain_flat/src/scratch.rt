@@ -1,7 +1,7 @@
 //! Memory that one verification of flat pools after another uses.
 
 use crate::row_reads::Tables;
-use grain::Chunk;
+use grain_bytecode::Chunk;
 use std::alloc::Global;
 
 /// What verification of flat pools writes as it goes, kept so that its memory serves one program after another.
@@ -10,7 +10,7 @@ use std::alloc::Global;
 /// before.
 #[derive(Drop)]
 pub struct Scratch {
-    pub(crate) walks: grain::Scratch,
+    pub(crate) walks: grain_verify::Scratch,
     pub(crate) tables: Tables,
     /// The chunks of a program that has several, as they are verified.
     pub(crate) chunks: Vec<Chunk>,
@@ -22,7 +22,7 @@ impl Scratch {
     #[inline(always)]
     pub fn new(alloc: Global) -> Scratch {
         Scratch {
-            walks: grain::Scratch::new(alloc),
+            walks: grain_verify::Scratch::new(alloc),
             tables: Tables::new(alloc),
             chunks: Vec::new(alloc),
         }

@@ -11,7 +11,10 @@ use crate::judge::{Judge, Stop};
 use crate::records::{CChunk, CPools};
 use crate::row_reads::{Rows, Tables};
 use crate::scratch::Scratch;
-use grain::{Caps, Chunk, FnAccess, Function, Meter, Refusal, VerifyError};
+use grain_base::{Caps, FnAccess};
+use grain_bytecode::{Chunk, Function};
+use grain_rules::VerifyError;
+use grain_verify::{Meter, Refusal};
 use std::alloc::{AllocError, Global};
 use std::mem;
 
@@ -57,7 +60,7 @@ fn as_many(count: usize, some: &[Function]) -> &[Function]
 #[inline(never)]
 fn verdict_with(
     alloc: Global,
-    walks: &mut grain::Scratch,
+    walks: &mut grain_verify::Scratch,
     tables: &mut Tables,
     caps: Caps,
     code: &[u8],
@@ -88,7 +91,7 @@ fn verdict_with(
 }
 
 /// The verdict on all programs whose pools have this flat form, the first constant first of which not all that it asks is
-/// there. The meter rises as it does in [`grain::verify_metered`]. Whatever the scratch was used for before, the answer is
+/// there. The meter rises as it does in [`grain_verify::verify_metered`]. Whatever the scratch was used for before, the answer is
 /// this one.
 ///
 /// # Errors

@@ -1,18 +1,14 @@
-//! The tests of `grain`, which call it as a host does, and of `grain_explain` and `grain_cases`: a test that changes has no
-//! crate proved again but this one.
+//! The tests of `grain`, which call it as a host does, and of `grain_cases`: a test that changes has no crate proved again but
+//! this one.
 //!
-//! `host` shows how a host calls the verifier. `changes` has code that was changed on its way, `large` what is deep, long or
-//! many. `rows` has the tests of what is explained, `run` those of lines and their verdicts.
+//! `host` shows how a host calls the verifier. `changes` has code that was changed on its way, `large` what is many. `run` has
+//! the tests of lines and their verdicts.
 #![tactic(auto)]
 
 #[cfg(test)]
 mod builder;
 #[cfg(test)]
 mod changes;
-#[cfg(test)]
-mod constants;
-#[cfg(test)]
-mod error;
 #[cfg(test)]
 mod explaining;
 #[cfg(test)]
@@ -22,13 +18,7 @@ mod large;
 #[cfg(test)]
 mod lookup;
 #[cfg(test)]
-mod meter;
-#[cfg(test)]
-mod placed;
-#[cfg(test)]
 mod program;
-#[cfg(test)]
-mod rows;
 #[cfg(test)]
 mod run;
 #[cfg(test)]

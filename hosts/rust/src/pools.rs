@@ -203,6 +203,7 @@ impl Pools {
     }
 
     /// The lists, to which items are added as to a `Vec`.
+    #[inline]
     fn lists_mut(&mut self) -> &mut Lists {
         if self.lists.is_empty() {
             self.lists.push(Lists::new());
@@ -220,6 +221,7 @@ impl Pools {
 
     /// One more constant, by what it [asks](crate::Asks): [`Asks`](crate::Asks), [`Caps`](crate::Caps), or in the older form
     /// an `Option` of a number, which is `None` for what can't be named.
+    #[inline]
     #[must_use]
     pub fn constant(mut self, asks: impl Into<Constant>) -> Pools {
         let lists = self.lists_mut();
@@ -229,6 +231,7 @@ impl Pools {
     }
 
     /// One more name.
+    #[inline]
     #[must_use]
     pub fn name(mut self, name: &str) -> Pools {
         let lists = self.lists_mut();
@@ -243,6 +246,7 @@ impl Pools {
     }
 
     /// So many operators.
+    #[inline]
     #[must_use]
     pub fn operators(mut self, operators: usize) -> Pools {
         self.set_operators(operators);
@@ -250,6 +254,7 @@ impl Pools {
     }
 
     /// So many op-assignments.
+    #[inline]
     #[must_use]
     pub fn op_assignments(mut self, op_assignments: usize) -> Pools {
         self.set_op_assignments(op_assignments);
@@ -257,6 +262,7 @@ impl Pools {
     }
 
     /// So many fragments of syntax.
+    #[inline]
     #[must_use]
     pub fn fragments(mut self, fragments: usize) -> Pools {
         self.set_fragments(fragments);
@@ -264,6 +270,7 @@ impl Pools {
     }
 
     /// So many functions.
+    #[inline]
     #[must_use]
     pub fn functions(mut self, functions: usize) -> Pools {
         self.set_functions(functions);
@@ -271,6 +278,7 @@ impl Pools {
     }
 
     /// One more chain, whose steps take so many operands.
+    #[inline]
     #[must_use]
     pub fn chain(mut self, root: Root, steps: &[Step], tail: Tail, operands: u16) -> Pools {
         let lists = self.lists_mut();
@@ -283,6 +291,7 @@ impl Pools {
     }
 
     /// One more switch: its cases, where each of its ranges leads, and where all other subjects lead.
+    #[inline]
     #[must_use]
     pub fn switch(mut self, cases: &[Case], ranges: &[u32], otherwise: u32) -> Pools {
         let lists = self.lists_mut();

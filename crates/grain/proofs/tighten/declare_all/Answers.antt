@@ -1,9 +1,9 @@
 use Rattle.std.proofs.Common.{◌<◌, ◌∙◌, length, slice_index_or, ap, arith}
 use Rattle.std.proofs.Math.Seq.{map-set_same}
 use Rattle.std.proofs.lemmas.List.{length-set}
-use Rattle.grain_code.specs.Span.{Span}
+use Rattle.grain_code.specs.Span.{Span, undeclared_chunk}
 use Rattle.grain_code.specs.declared.function.Function.{Function}
-use Rattle.grain.specs.Tightened.{undeclared_chunk, undeclared_function}
+use Rattle.grain.specs.Tightened.{undeclared_function}
 use Rattle.grain.proofs.Declared.{declared_next}
 use Rattle.grain.proofs.tighten.declare_all.Goals as goal
 

@@ -1,6 +1,6 @@
 use Rattle.std.proofs.Common.{arith, map}
 use Rattle.std.proofs.lemmas.Grind.{common_steps}
-use Rattle.grain.specs.Dispatch.{arms}
+use Rattle.grain_bytecode.specs.Dispatch.{arms}
 use Rattle.grain_flat.proofs.Pieces.{one_more}
 use Rattle.grain_flat.proofs.build.switches_of.Goals as goal
 

@@ -1,7 +1,7 @@
 use Rattle.std.proofs.Common.{◌≡◌, ◌++◌, drop, length, map, take}
 use Rattle.std.specs.Prelude.{sum_by}
 use Rattle.std.specs.List.{flat_map}
-use Rattle.grain.specs.Dispatch.{arms}
+use Rattle.grain_bytecode.specs.Dispatch.{arms}
 use Rattle.grain_flat.specs.Flat.{arm_range_targets, switch_row}
 use Rattle.grain_flat.proofs.Pieces.{AreCases}
 use Rattle.grain_flat.proofs.build.switches_of.Given as goal

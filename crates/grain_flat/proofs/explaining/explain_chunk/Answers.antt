@@ -1,5 +1,5 @@
 use Rattle.std.proofs.Common.{◌≡◌, map, rules}
-use Rattle.grain.specs.Dispatch.{arms}
+use Rattle.grain_bytecode.specs.Dispatch.{arms}
 use Rattle.grain_flat.proofs.Explained.{beside_made, one_explained}
 use Rattle.grain_flat.proofs.explaining.explain_chunk.Goals as goal
 

@@ -1,6 +1,6 @@
 use Rattle.std.proofs.Common.{◌≡◌, ◌++◌, ◌∷◌, [], List, refl, sym, ap, subst, ◌∙◌, arith, rules, append-nil}
 use Rattle.std.proofs.lemmas.List.{length-append}
-use Rattle.grain.specs.AddressTable.{Entry, LongestFront}
+use Rattle.grain_base.specs.AddressTable.{Entry, LongestFront}
 use Rattle.grain_base.proofs.Drained.{all_left, left, left_more, left_none}
 use Rattle.grain_base.proofs.Entries.{front, front_is}
 use Rattle.grain_flat.specs.Listing.{entry_row}

@@ -1,5 +1,5 @@
 use Rattle.std.proofs.Common.{◌≡◌, ◌++◌, List, length, map}
-use Rattle.grain.specs.AddressTable.{Entry}
+use Rattle.grain_base.specs.AddressTable.{Entry}
 use Rattle.grain_base.proofs.Entries.{front}
 use Rattle.grain_base.proofs.Drained.{left}
 use Rattle.grain_flat.specs.Listing.{entry_row, filled}

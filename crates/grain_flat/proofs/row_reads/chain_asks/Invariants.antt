@@ -1,5 +1,5 @@
 use Rattle.std.proofs.Common.{◌≡◌, drop, map}
-use Rattle.grain.specs.Capabilities.{joined}
+use Rattle.grain_rules.specs.Capabilities.{joined}
 use Rattle.grain_flat.specs.RowFacts.{root_asked, step_asked}
 use Rattle.grain_flat.proofs.row_reads.chain_asks.Given as goal
 

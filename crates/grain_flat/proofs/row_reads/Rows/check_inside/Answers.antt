@@ -2,8 +2,8 @@ use Rattle.std.proofs.Common.{List, ℕ, Option, ◌++◌, ap, map, sym, ◌∙�
 use Rattle.std.specs.List.{flat_map}
 use Rattle.std.specs.Option.{option_or}
 use Rattle.std.proofs.lemmas.Result.{err_from_is_err_and}
-use Rattle.grain.specs.FirstOut.{alone, first_out}
-use Rattle.grain.specs.Indices.{test_of}
+use Rattle.grain_rules.specs.FirstOut.{alone, first_out}
+use Rattle.grain_rules.specs.Indices.{test_of}
 use Rattle.grain_flat.specs.RowFacts.{facts_told, root_told, step_told, tail_told}
 use Rattle.grain_flat.proofs.RowTests.{mentions_append}
 use Rattle.grain_flat.proofs.row_reads.Rows.check_inside.Goals as goal

@@ -1,7 +1,7 @@
 use Rattle.std.proofs.Common.{◌≡◌, drop, map}
 use Rattle.std.specs.List.{flat_map}
-use Rattle.grain.specs.FirstOut.{alone, first_out}
-use Rattle.grain.specs.Indices.{test_of}
+use Rattle.grain_rules.specs.FirstOut.{alone, first_out}
+use Rattle.grain_rules.specs.Indices.{test_of}
 use Rattle.grain_flat.specs.RowFacts.{facts_told, step_told}
 use Rattle.grain_flat.proofs.row_reads.Rows.check_steps.Given as goal
 

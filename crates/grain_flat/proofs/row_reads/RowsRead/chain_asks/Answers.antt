@@ -1,5 +1,5 @@
 use Rattle.std.proofs.Common.{rules, ◌≡◌, None, slice_get, sym, ◌∙◌}
-use Rattle.grain.specs.Facts.{ChainFacts}
+use Rattle.grain_rules.specs.Facts.{ChainFacts}
 use Rattle.grain_flat.specs.RowFacts.{chains_told}
 use Rattle.grain_flat.proofs.RowEntries.{nothing_past}
 use Rattle.grain_flat.proofs.row_reads.RowsRead.chain_asks.Goals as goal

@@ -1,7 +1,7 @@
 use Rattle.std.proofs.Common.{rules, ◌≡◌, List, [], None, slice_get, ap, map, sym}
-use Rattle.grain.specs.Facts.{ChainFacts, Mention}
-use Rattle.grain.specs.FirstOut.{alone, first_out}
-use Rattle.grain.specs.Indices.{test_of}
+use Rattle.grain_rules.specs.Facts.{ChainFacts, Mention}
+use Rattle.grain_rules.specs.FirstOut.{alone, first_out}
+use Rattle.grain_rules.specs.Indices.{test_of}
 use Rattle.grain_flat.specs.RowFacts.{chains_told, facts_told}
 use Rattle.grain_flat.proofs.RowEntries.{nothing_past}
 use Rattle.grain_flat.proofs.row_reads.RowsRead.check_chain.Goals as goal

@@ -1,9 +1,9 @@
 //! README's loops, and its code with a handler, explained and checked.
 use crate::samples::{assert_same, made, pools};
-use grain::{
-    Caps, Chunk, ExplainError, ExplainedChunk, Flags, Row, Strings, TypingError, VerifyError,
-    check_typing, explain_chunks,
-};
+use grain_base::{Caps, Flags};
+use grain_bytecode::{Chunk, Strings};
+use grain_explain::{ExplainError, ExplainedChunk, Row, TypingError, check_typing, explain_chunks};
+use grain_rules::VerifyError;
 use std::alloc::{AllocError, Global};
 use std::test::Fail;
 

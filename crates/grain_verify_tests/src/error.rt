@@ -1,5 +1,6 @@
 use crate::samples::{assert_same, made};
-use grain::{Caps, Flags, VerifyError};
+use grain_base::{Caps, Flags};
+use grain_rules::VerifyError;
 use std::test::Fail;
 
 fn refusal(number: usize) -> VerifyError {

@@ -1,5 +1,7 @@
 use crate::samples::{Answer, assert_same, made, of_one_chunk, pools};
-use grain::{Caps, Chunk, Flags, Meter, Strings, verify_metered};
+use grain_base::{Caps, Flags};
+use grain_bytecode::{Chunk, Strings};
+use grain_verify::{Meter, verify_metered};
 use std::alloc::Global;
 use std::test::Fail;
 

@@ -1,8 +1,8 @@
 use crate::samples::{assert_same, made, pools};
-use grain::{
-    Caps, Chunk, Flags, Meter, NoPools, Refusal, Scratch, Strings, VerifyError, verify_placed,
-    verify_read,
-};
+use grain_base::{Caps, Flags};
+use grain_bytecode::{Chunk, Strings};
+use grain_rules::{NoPools, VerifyError};
+use grain_verify::{Meter, Refusal, Scratch, verify_placed, verify_read};
 use std::alloc::Global;
 use std::test::Fail;
 

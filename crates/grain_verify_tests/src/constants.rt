@@ -1,5 +1,8 @@
 use crate::samples::{Answer, assert_same, made, of_one_chunk, pools};
-use grain::{Caps, Chunk, Dynamic, Flags, FnPtr, Strings, VerifyError, constant_caps, verify};
+use grain_base::{Caps, Dynamic, Flags, FnPtr};
+use grain_bytecode::{Chunk, Strings};
+use grain_rules::{VerifyError, constant_caps};
+use grain_verify::verify;
 use std::alloc::{AllocError, Global};
 use std::collections::BTreeMap;
 use std::test::Fail;
