@@ -4,6 +4,7 @@ use crate::rows::{Case, ChainRow, Constant, Root, Step, StepRow, SwitchRow, Tail
 use std::collections::TryReserveError;
 use std::fmt;
 use std::hash::{Hash, Hasher};
+use std::mem::size_of;
 
 /// Why an item isn't added to pools. They are as they were then.
 #[derive(Clone, Copy, Debug, PartialEq, Eq, Hash)]
@@ -113,11 +114,14 @@ fn extend<T>(list: &mut Vec<T>, items: impl IntoIterator<Item = T>) -> Result<us
     added.map(|()| list.len() - before)
 }
 
-/// Room for the first items of a list, so that few of them don't have it grow again and again.
+/// How many bytes a list has room for at first, so that it seldom grows.
+const FIRST_ROOM: usize = 1024;
+
+/// Room for the first items of a list, where it has none.
 #[inline]
-fn begin<T>(list: &mut Vec<T>, room: usize) {
+fn begin<T>(list: &mut Vec<T>) {
     if list.capacity() == 0 {
-        list.reserve(room);
+        list.reserve(FIRST_ROOM / size_of::<T>());
     }
 }
 
@@ -225,7 +229,7 @@ impl Pools {
     #[must_use]
     pub fn constant(mut self, asks: impl Into<Constant>) -> Pools {
         let lists = self.lists_mut();
-        begin(&mut lists.constants, 16);
+        begin(&mut lists.constants);
         lists.constants.push(asks.into());
         self
     }
@@ -235,8 +239,8 @@ impl Pools {
     #[must_use]
     pub fn name(mut self, name: &str) -> Pools {
         let lists = self.lists_mut();
-        begin(&mut lists.names, 128);
-        begin(&mut lists.starts, 16);
+        begin(&mut lists.names);
+        begin(&mut lists.starts);
         lists.names.extend_from_slice(name.as_bytes());
         if lists.starts.is_empty() {
             lists.starts.push(0);
@@ -282,8 +286,8 @@ impl Pools {
     #[must_use]
     pub fn chain(mut self, root: Root, steps: &[Step], tail: Tail, operands: u16) -> Pools {
         let lists = self.lists_mut();
-        begin(&mut lists.chains, 8);
-        begin(&mut lists.steps, 16);
+        begin(&mut lists.chains);
+        begin(&mut lists.steps);
         let row = ChainRow::new(root, count(steps.len()), tail, operands);
         lists.chains.push(row);
         lists.steps.extend(steps.iter().copied().map(StepRow::from));
@@ -295,8 +299,9 @@ impl Pools {
     #[must_use]
     pub fn switch(mut self, cases: &[Case], ranges: &[u32], otherwise: u32) -> Pools {
         let lists = self.lists_mut();
-        begin(&mut lists.switches, 8);
-        begin(&mut lists.cases, 16);
+        begin(&mut lists.switches);
+        begin(&mut lists.cases);
+        begin(&mut lists.ranges);
         lists.switches.push(SwitchRow {
             cases: count(cases.len()),
             ranges: count(ranges.len()),
