@@ -114,7 +114,7 @@ fn extend<T>(list: &mut Vec<T>, items: impl IntoIterator<Item = T>) -> Result<us
     added.map(|()| list.len() - before)
 }
 
-/// How many bytes a list has room for at first, so that it seldom grows.
+/// How many bytes a list has room for at first where calls are chained, so that it seldom grows.
 const FIRST_ROOM: usize = 1024;
 
 /// Room for the first items of a list, where it has none.
