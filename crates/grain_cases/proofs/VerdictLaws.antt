@@ -1,10 +1,10 @@
 -- What each way of writing a verdict adds.
 use Rattle.std.proofs.Common.{◌≡◌, ℕ, List, ◌++◌, Option, Result, Ok, Err, refl, ap}
-use Rattle.grain.specs.AddressTable.{Entry, LongestFront, site_at}
-use Rattle.grain.specs.Split.{IsCount}
-use Rattle.grain.specs.Site.{Site}
-use Rattle.grain.specs.Accepted.{Input}
-use Rattle.grain.specs.declared.VerifyError.{VerifyError}
+use Rattle.grain_base.specs.AddressTable.{Entry, LongestFront, site_at}
+use Rattle.grain_bytecode.specs.Split.{IsCount}
+use Rattle.grain_base.specs.declared.pos.Site.{Site}
+use Rattle.grain_rules.specs.Accepted.{Input}
+use Rattle.grain_rules.specs.declared.error.VerifyError.{VerifyError}
 use Rattle.grain_cases.specs.Verdict.{Adds, IsJudged, VerifyVerdict, accepted_text, refused_text, code_text, site_text, CodeVerdict, SiteVerdict}
 
 pub adds_count : (bytes old new : List ℕ) (counted : Result ℕ ℕ) → IsCount bytes counted → new ≡ old ++ code_text counted → Adds (CodeVerdict bytes) old new

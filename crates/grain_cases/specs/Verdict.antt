@@ -2,15 +2,15 @@
 use Rattle.std.specs.Prelude.{◌≡◌, ℕ, List, [], ◌++◌, codes, decimal, Option, Some, None, Result}
 use Rattle.std.specs.Prelude.{Ok, Err, flat_map}
 use Rattle.std.specs.List.{AllZip}
-use Rattle.grain.specs.Accepted.{AreDeepest, Input, IsAccepted, input_beside}
-use Rattle.grain.specs.AddressTable.{Entry, LongestFront, site_at}
-use Rattle.grain.specs.Flaw.{Flaw}
-use Rattle.grain.specs.Setting.{unset}
-use Rattle.grain.specs.Split.{IsCount}
-use Rattle.grain.specs.Span.{Span}
-use Rattle.grain.specs.Site.{Site}
-use Rattle.grain.specs.Texts.{verify_error_text}
-use Rattle.grain.specs.declared.VerifyError.{VerifyError}
+use Rattle.grain_rules.specs.Accepted.{AreDeepest, Input, IsAccepted, input_beside}
+use Rattle.grain_base.specs.AddressTable.{Entry, LongestFront, site_at}
+use Rattle.grain_rules.specs.Flaw.{Flaw}
+use Rattle.grain_rules.specs.Setting.{unset}
+use Rattle.grain_bytecode.specs.Split.{IsCount}
+use Rattle.grain_bytecode.specs.Span.{Span}
+use Rattle.grain_base.specs.declared.pos.Site.{Site}
+use Rattle.grain_rules.specs.Texts.{verify_error_text}
+use Rattle.grain_rules.specs.declared.error.VerifyError.{VerifyError}
 use Rattle.grain_cases.specs.Case.{Asked, asked, code, site, verify}
 use Rattle.grain_cases.specs.Lines.{ended_lines}
 

@@ -15,7 +15,7 @@ use crate::outcome::Summary;
 use crate::stream::{Failed, Sink, send};
 use crate::verdict::write_verdict_with;
 use crate::words::split_at_byte;
-use grain::Scratch;
+use grain_verify::Scratch;
 use std::alloc::{AllocError, Global};
 use std::marker::Model;
 

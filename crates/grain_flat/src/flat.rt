@@ -135,15 +135,24 @@ fn are_names(blob: &[u8], starts: &[u32]) -> bool
     from == blob.len()
 }
 
-/// Whether kinds are known, unused fields are 0, counts add up and names are cut.
-fn follows_rules(pools: &CPools<'_>) -> bool
-    ensures flat { IsTrue result ↔ IsFlat pools.now }
+/// Whether kinds are known and unused fields are 0.
+fn are_rows(pools: &CPools<'_>) -> bool
+    ensures rows { IsTrue result ↔ (All IsAskedRow pools.now.constants.now
+        × All IsChainRow pools.now.chains.now × All IsStepRow pools.now.steps.now) }
     ensures small { OnTrue result (length pools.now.steps.now < 2 ^ 63) }
 {
     if !are_asked_rows(pools.constants) || !are_chain_rows(pools.chains) {
         return false;
     }
-    if !are_step_rows(pools.steps) || !count_steps(pools.chains, pools.steps.len()) {
+    are_step_rows(pools.steps)
+}
+
+/// Whether kinds are known, unused fields are 0, counts add up and names are cut.
+fn follows_rules(pools: &CPools<'_>) -> bool
+    ensures flat { IsTrue result ↔ IsFlat pools.now }
+    ensures small { OnTrue result (length pools.now.steps.now < 2 ^ 63) }
+{
+    if !are_rows(pools) || !count_steps(pools.chains, pools.steps.len()) {
         return false;
     }
     if !count_arms(pools.switches, pools.cases.len(), pools.ranges.len()) {

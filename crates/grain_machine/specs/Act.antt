@@ -7,6 +7,14 @@ use Rattle.grain_rules.specs.Rows.{flow_of, gives, is_quiet, needs, takes}
 use Rattle.grain_rules.specs.Setting.{Setting}
 use Rattle.grain_machine.specs.declared.act.Act.{Act}
 use Rattle.grain_machine.specs.declared.act.Act.TheVariants as acts
+use Rattle.grain_machine.specs.declared.act.Guards.{Guards}
+use Rattle.grain_machine.specs.declared.act.Guards.TheVariants as guards
+use Rattle.grain_machine.specs.declared.act.Iterates.{Iterates}
+use Rattle.grain_machine.specs.declared.act.Iterates.TheVariants as iterates
+use Rattle.grain_machine.specs.declared.act.Leads.{Leads}
+use Rattle.grain_machine.specs.declared.act.Leads.TheVariants as leads
+use Rattle.grain_machine.specs.declared.act.Stacks.{Stacks}
+use Rattle.grain_machine.specs.declared.act.Stacks.TheVariants as stacks
 
 -- an operation that takes and gives operands, falls through and may fail
 pub record IsForHost (s : Setting) (op : Op) (needed taken given : ℕ) : Type 0 where
@@ -16,24 +24,40 @@ pub record IsForHost (s : Setting) (op : Op) (needed taken given : ℕ) : Type 0
   pub falls : flow_of op ≡ flows.Falls
   pub sounds : is_quiet op ≡ false
 
+-- the operation that does so with operands or local variables
+abbrev pub stacking : Stacks → Op
+stacking stacks.Unit = ops.Unit
+stacking (stacks.Truth value) = ops.Bool value
+stacking stacks.Pop = ops.Pop
+stacking (stacks.Rotate depth) = ops.Rotate depth
+stacking (stacks.Unwind depth) = ops.UnwindTo depth
+
+-- the operation behind which the run goes on there
+abbrev pub leading : Leads → Op
+leading (leads.Jump target) = ops.Jump target
+leading (leads.JumpIf target true) = ops.JumpIfTrue target
+leading (leads.JumpIf target false) = ops.JumpIfFalse target
+leading (leads.Skip target) = ops.SkipIfNotUnit target
+leading (leads.Switch index) = ops.Switch index
+leading leads.Return = ops.Return
+leading leads.Throw = ops.Throw
+
+-- the operation that does so with iterators
+abbrev pub iterating : Iterates → Op
+iterating iterates.Begin = ops.IterInit
+iterating (iterates.Advance exit counter) = ops.IterNext exit counter
+iterating iterates.End = ops.IterDrop
+
+-- the operation that does so with handlers
+abbrev pub guarding : Guards → Op
+guarding (guards.Arm target name) = ops.PushHandler target name
+guarding guards.Disarm = ops.PopHandler
+
 -- this is what is to be done with the operation
 abbrev pub Does : Setting → Op → Act → Type 0
 Does s op (acts.Gives takes) = IsForHost s op takes takes 1
 Does s op (acts.Takes needs takes) = IsForHost s op needs takes 0
-Does s op acts.Unit = op ≡ ops.Unit
-Does s op (acts.Truth value) = op ≡ ops.Bool value
-Does s op acts.Pop = op ≡ ops.Pop
-Does s op (acts.Rotate depth) = op ≡ ops.Rotate depth
-Does s op (acts.Unwind depth) = op ≡ ops.UnwindTo depth
-Does s op (acts.Jump target) = op ≡ ops.Jump target
-Does s op (acts.JumpIf target true) = op ≡ ops.JumpIfTrue target
-Does s op (acts.JumpIf target false) = op ≡ ops.JumpIfFalse target
-Does s op (acts.Skip target) = op ≡ ops.SkipIfNotUnit target
-Does s op (acts.Switch index) = op ≡ ops.Switch index
-Does s op acts.Return = op ≡ ops.Return
-Does s op acts.Throw = op ≡ ops.Throw
-Does s op acts.Begin = op ≡ ops.IterInit
-Does s op (acts.Advance exit counter) = op ≡ ops.IterNext exit counter
-Does s op acts.End = op ≡ ops.IterDrop
-Does s op (acts.Arm target name) = op ≡ ops.PushHandler target name
-Does s op acts.Disarm = op ≡ ops.PopHandler
+Does s op (acts.Stacks act) = op ≡ stacking act
+Does s op (acts.Leads act) = op ≡ leading act
+Does s op (acts.Iterates act) = op ≡ iterating act
+Does s op (acts.Guards act) = op ≡ guarding act

@@ -13,6 +13,19 @@ pub(crate) enum Act {
     Gives { takes: usize },
     /// The host is shown so many operands, takes so many of them and gives no value.
     Takes { needs: usize, takes: usize },
+    /// Operands or local variables come or go, and no fault can.
+    Stacks(Stacks),
+    /// The run goes on elsewhere, or ends.
+    Leads(Leads),
+    /// An iterator begins, goes on or ends.
+    Iterates(Iterates),
+    /// A handler is armed or disarmed.
+    Guards(Guards),
+}
+
+/// What is done with operands or local variables.
+#[derive(Clone, Copy)]
+pub(crate) enum Stacks {
     /// Pushes the unit value.
     Unit,
     /// Pushes a truth value.
@@ -23,6 +36,11 @@ pub(crate) enum Act {
     Rotate { depth: usize },
     /// Drops local variables down to so many.
     Unwind { depth: u16 },
+}
+
+/// Where the run goes on.
+#[derive(Clone, Copy)]
+pub(crate) enum Leads {
     /// Jumps.
     Jump { target: u32 },
     /// Pops a condition, and jumps where it is so.
@@ -35,12 +53,22 @@ pub(crate) enum Act {
     Return,
     /// Pops a value, which is the fault.
     Throw,
+}
+
+/// What is done with iterators.
+#[derive(Clone, Copy)]
+pub(crate) enum Iterates {
     /// Pops a value and begins to go over it.
     Begin,
     /// Pushes the next item, or ends the iterator and jumps.
     Advance { exit: u32, counter: Option<u16> },
     /// Ends an iterator.
     End,
+}
+
+/// What is done with handlers.
+#[derive(Clone, Copy)]
+pub(crate) enum Guards {
     /// Arms a handler.
     Arm { target: u32, name: Option<u32> },
     /// Disarms a handler.
@@ -119,34 +147,34 @@ impl Act {
             | Op::Tick
             | Op::Checkpoint
             | Op::Statement { .. } => Act::Takes { needs: 0, takes: 0 },
-            Op::Unit => Act::Unit,
-            Op::Bool(value) => Act::Truth { value },
-            Op::Pop => Act::Pop,
-            Op::Rotate(depth) => Act::Rotate {
+            Op::Unit => Act::Stacks(Stacks::Unit),
+            Op::Bool(value) => Act::Stacks(Stacks::Truth { value }),
+            Op::Pop => Act::Stacks(Stacks::Pop),
+            Op::Rotate(depth) => Act::Stacks(Stacks::Rotate {
                 depth: usize::from(depth),
-            },
-            Op::UnwindTo(depth) => Act::Unwind { depth },
-            Op::Jump(target) => Act::Jump { target },
-            Op::JumpIfTrue { target } => Act::JumpIf { target, when: true },
-            Op::JumpIfFalse { target } => Act::JumpIf {
+            }),
+            Op::UnwindTo(depth) => Act::Stacks(Stacks::Unwind { depth }),
+            Op::Jump(target) => Act::Leads(Leads::Jump { target }),
+            Op::JumpIfTrue { target } => Act::Leads(Leads::JumpIf { target, when: true }),
+            Op::JumpIfFalse { target } => Act::Leads(Leads::JumpIf {
                 target,
                 when: false,
-            },
-            Op::SkipIfNotUnit { target } => Act::Skip { target },
-            Op::Switch(index) => Act::Switch { index },
-            Op::Return => Act::Return,
-            Op::Throw => Act::Throw,
-            Op::IterInit => Act::Begin,
-            Op::IterNext { exit, counter_slot } => Act::Advance {
+            }),
+            Op::SkipIfNotUnit { target } => Act::Leads(Leads::Skip { target }),
+            Op::Switch(index) => Act::Leads(Leads::Switch { index }),
+            Op::Return => Act::Leads(Leads::Return),
+            Op::Throw => Act::Leads(Leads::Throw),
+            Op::IterInit => Act::Iterates(Iterates::Begin),
+            Op::IterNext { exit, counter_slot } => Act::Iterates(Iterates::Advance {
                 exit,
                 counter: counter_slot,
-            },
-            Op::IterDrop => Act::End,
-            Op::PushHandler { target, catch_var } => Act::Arm {
+            }),
+            Op::IterDrop => Act::Iterates(Iterates::End),
+            Op::PushHandler { target, catch_var } => Act::Guards(Guards::Arm {
                 target,
                 name: catch_var,
-            },
-            Op::PopHandler => Act::Disarm,
+            }),
+            Op::PopHandler => Act::Guards(Guards::Disarm),
         }
     }
 }

@@ -1,7 +1,7 @@
 //! One operation at a time.
 ghost use Rattle.std.specs.Prelude.{◌≡◌, ◌≤◌, IfErr, IfOk, OnOk};
 ghost use Rattle.grain_code.specs.declared.op.Op.{Op};
-ghost use Rattle.grain_machine.specs.Act.{IsForHost};
+ghost use Rattle.grain_machine.specs.Act.{IsForHost, guarding, iterating, leading, stacking};
 ghost use Rattle.grain.specs.Program.{setting_of};
 ghost use Rattle.grain_machine.specs.Ends.{IsFault, MayEnd};
 ghost use Rattle.grain_machine.specs.Asked.{program_code};
@@ -9,7 +9,7 @@ ghost use Rattle.grain_machine.specs.Standing.{DoesTurn};
 ghost use Rattle.grain_machine.specs.State.{MakesMove, IsAt, IsUnderWay, Lands};
 
 use crate::accepted::Runnable;
-use crate::act::Act;
+use crate::act::{Act, Guards, Iterates, Leads, Stacks};
 use crate::frame::Frame;
 use crate::host::{Host, Request};
 use grain::{Op, decode_standing};
@@ -82,39 +82,131 @@ impl<'a> Runnable<'a> {
     {
         let (op, next) = self.read(frame);
         match Act::of(&op, self.program) {
-            Act::Gives { takes } => return self.give(frame, host, &op, next, takes),
-            Act::Takes { needs, takes } => self.take(frame, host, &op, next, needs, takes)?,
-            Act::Unit => {
+            Act::Gives { takes } => self.give(frame, host, &op, next, takes),
+            Act::Takes { needs, takes } => {
+                self.take(frame, host, &op, next, needs, takes)?;
+                Ok(Turn::Moved)
+            }
+            Act::Stacks(act) => {
+                self.stack(frame, host, next, act);
+                Ok(Turn::Moved)
+            }
+            Act::Leads(act) => {
+                self.lead(frame, host, next, act)?;
+                Ok(Turn::Moved)
+            }
+            Act::Iterates(act) => {
+                self.iterate(frame, host, next, act)?;
+                Ok(Turn::Moved)
+            }
+            Act::Guards(act) => {
+                self.guard(frame, next, act)?;
+                Ok(Turn::Moved)
+            }
+        }
+    }
+
+    #[inline(always)]
+    fn stack<H: Host>(
+        &self,
+        frame: &mut Frame<H::Value, H::Iterator>,
+        host: &mut H,
+        next: usize,
+        act: Stacks,
+    )
+        requires { IsAt self.now frame.old (stacking act) next }
+        ensures { MakesMove self.now frame.old frame.new }
+    {
+        match act {
+            Stacks::Unit => {
                 let value = host.unit();
                 self.unit(frame, next, value);
             }
-            Act::Truth { value } => {
+            Stacks::Truth { value } => {
                 let truth = host.boolean(value);
                 self.truth(frame, next, value, truth);
             }
-            Act::Pop => self.pop(frame, next),
-            Act::Rotate { depth } => self.rotate(frame, next, depth),
-            Act::Unwind { depth } => {
+            Stacks::Pop => self.pop(frame, next),
+            Stacks::Rotate { depth } => self.rotate(frame, next, depth),
+            Stacks::Unwind { depth } => {
                 host.unwind_to(depth);
                 self.unwind(frame, next, depth);
             }
-            Act::Jump { target } => self.jump(frame, next, target),
-            Act::JumpIf { target, when: true } => self.jump_if_true(frame, host, next, target)?,
-            Act::JumpIf {
+        }
+    }
+
+    #[inline(always)]
+    fn lead<H: Host>(
+        &self,
+        frame: &mut Frame<H::Value, H::Iterator>,
+        host: &mut H,
+        next: usize,
+        act: Leads,
+    ) -> Result<(), How<H::Value, H::Fault>>
+        requires { IsAt self.now frame.old (leading act) next }
+        ensures goes { OnOk result (MakesMove self.now frame.old frame.new) }
+        ensures ends { IfErr result (MayEnd (program_code self.now.program) frame.old.machine) }
+    {
+        match act {
+            Leads::Jump { target } => {
+                self.jump(frame, next, target);
+                Ok(())
+            }
+            Leads::JumpIf { target, when: true } => self.jump_if_true(frame, host, next, target),
+            Leads::JumpIf {
                 target,
                 when: false,
-            } => self.jump_if_false(frame, host, next, target)?,
-            Act::Skip { target } => self.skip(frame, host, next, target),
-            Act::Switch { index } => self.switch(frame, host, next, index)?,
-            Act::Return => return Err(How::Returned(frame.result())),
-            Act::Throw => self.throw(frame, host, next)?,
-            Act::Begin => self.begin(frame, host, next)?,
-            Act::Advance { exit, counter } => self.advance(frame, host, next, exit, counter)?,
-            Act::End => self.end(frame, next),
-            Act::Arm { target, name } => self.arm(frame, next, target, name)?,
-            Act::Disarm => self.disarm(frame, next),
+            } => self.jump_if_false(frame, host, next, target),
+            Leads::Skip { target } => {
+                self.skip(frame, host, next, target);
+                Ok(())
+            }
+            Leads::Switch { index } => self.switch(frame, host, next, index),
+            Leads::Return => Err(How::Returned(frame.result())),
+            Leads::Throw => self.throw(frame, host, next),
         }
-        Ok(Turn::Moved)
+    }
+
+    #[inline(always)]
+    fn iterate<H: Host>(
+        &self,
+        frame: &mut Frame<H::Value, H::Iterator>,
+        host: &mut H,
+        next: usize,
+        act: Iterates,
+    ) -> Result<(), How<H::Value, H::Fault>>
+        requires { IsAt self.now frame.old (iterating act) next }
+        ensures goes { OnOk result (MakesMove self.now frame.old frame.new) }
+        ensures ends { IfErr result (MayEnd (program_code self.now.program) frame.old.machine) }
+    {
+        match act {
+            Iterates::Begin => self.begin(frame, host, next),
+            Iterates::Advance { exit, counter } => self.advance(frame, host, next, exit, counter),
+            Iterates::End => {
+                self.end(frame, next);
+                Ok(())
+            }
+        }
+    }
+
+    #[inline(always)]
+    fn guard<V: Drop, I: Drop, F: Drop>(
+        &self,
+        frame: &mut Frame<V, I>,
+        next: usize,
+        act: Guards,
+    ) -> Result<(), How<V, F>>
+        requires { IsAt self.now frame.old (guarding act) next }
+        ensures goes { OnOk result (MakesMove self.now frame.old frame.new) }
+        ensures ends { IfErr result (MayEnd (program_code self.now.program) frame.old.machine) }
+    {
+        match act {
+            Guards::Arm { target, name } => self.arm(frame, next, target, name),
+            Guards::Disarm => {
+                self.disarm(frame, next);
+                Ok(())
+            }
+        }
     }
 
     #[inline(always)]
