@@ -158,10 +158,7 @@ impl Program {
     pub fn source(&self) -> Option<&str>
         ensures { option_map (λ source. source.now) result ≡ self.now.source }
     {
-        match &self.parts.source {
-            Some(source) => Some(source.as_str()),
-            None => None,
-        }
+        self.parts.source.as_deref()
     }
 
     /// Says what the source text is called.

@@ -65,6 +65,24 @@ fn read_line<R: BufRead>(reader: &mut R, line: &mut Vec<u8>) -> Result<bool, Run
     }
 }
 
+/// Writes the listing of a case, and says whether the case is bad.
+///
+/// # Errors
+/// [`RunError::Write`] where a write failed, [`RunError::OutOfMemory`] where memory was refused.
+fn answer<W: Write>(
+    alloc: Global,
+    form: Form,
+    case: &[u8],
+    writer: &mut W,
+) -> Result<bool, RunError> {
+    let listing = Listing::of(alloc, case)?;
+    let bytes = listing_bytes(alloc, form, &listing)?;
+    if writer.write_all(&bytes).is_err() || writer.flush().is_err() {
+        return Err(RunError::Write);
+    }
+    Ok(listing.is_bad())
+}
+
 /// Reads lines to the end, and writes a listing for each case once its line has been read.
 ///
 /// # Errors
@@ -86,12 +104,8 @@ pub fn run<R: BufRead, W: Write>(
         if !is_case(case) {
             continue;
         }
-        let listing = Listing::of(alloc, case)?;
-        let bytes = listing_bytes(alloc, form, &listing)?;
-        if writer.write_all(&bytes).is_err() || writer.flush().is_err() {
-            return Err(RunError::Write);
-        }
-        summary.count(listing.is_bad());
+        let is_bad = answer(alloc, form, case, writer)?;
+        summary.count(is_bad);
     }
     Err(RunError::Read)
 }

@@ -13,7 +13,7 @@ pub(crate) enum Act {
     Gives { takes: usize },
     /// The host is shown so many operands, takes so many of them and gives no value.
     Takes { needs: usize, takes: usize },
-    /// Operands or local variables come or go, and no fault can.
+    /// Operands or local variables change, which can't fail.
     Stacks(Stacks),
     /// The run goes on elsewhere, or ends.
     Leads(Leads),

@@ -1,10 +1,11 @@
 //! What a program has beside its code and its chunks, built up item by item.
 use crate::flat::FlatPools;
 use crate::rows::{Case, ChainRow, Constant, Root, Step, StepRow, SwitchRow, Tail};
+use std::cell::Cell;
 use std::collections::TryReserveError;
 use std::fmt;
 use std::hash::{Hash, Hasher};
-use std::mem::size_of;
+use std::mem::{size_of, take};
 
 /// Why an item isn't added to pools. They are as they were then.
 #[derive(Clone, Copy, Debug, PartialEq, Eq, Hash)]
@@ -37,7 +38,8 @@ impl From<TryReserveError> for PoolError {
 ///
 /// It is built up item by item, in the order of their indices: by calls that are chained and take memory as a `Vec` does, or
 /// by calls on it where it stands, which answer the index of the item, and an error where memory is wanted. Cleared, it keeps
-/// its memory for the next program.
+/// its memory for the next program. Dropped, it leaves it to the next pools of its thread, where no list has room for more
+/// than 1 KiB.
 ///
 /// ```
 /// use grain::{verify, Asks, Caps, Chunk, Pools, Root, Step, Tail};
@@ -125,6 +127,21 @@ fn begin<T>(list: &mut Vec<T>) {
     }
 }
 
+/// Whether a list has no more room than that.
+fn is_small<T>(list: &Vec<T>) -> bool {
+    list.capacity() <= FIRST_ROOM / size_of::<T>()
+}
+
+thread_local! {
+    /// The small lists of the pools that were dropped last in the thread, without their items.
+    static SPARE: Cell<Vec<Lists>> = const { Cell::new(Vec::new()) };
+}
+
+/// Those lists, or nothing where there are none or the thread is about to end.
+fn spare() -> Vec<Lists> {
+    SPARE.try_with(Cell::take).unwrap_or_default()
+}
+
 impl Lists {
     const fn new() -> Lists {
         Lists {
@@ -137,6 +154,17 @@ impl Lists {
             cases: Vec::new(),
             ranges: Vec::new(),
         }
+    }
+
+    fn are_small(&self) -> bool {
+        is_small(&self.constants)
+            && is_small(&self.names)
+            && is_small(&self.starts)
+            && is_small(&self.chains)
+            && is_small(&self.steps)
+            && is_small(&self.switches)
+            && is_small(&self.cases)
+            && is_small(&self.ranges)
     }
 
     fn clear(&mut self) {
@@ -210,6 +238,9 @@ impl Pools {
     #[inline]
     fn lists_mut(&mut self) -> &mut Lists {
         if self.lists.is_empty() {
+            self.lists = spare();
+        }
+        if self.lists.is_empty() {
             self.lists.push(Lists::new());
         }
         &mut self.lists[0]
@@ -217,6 +248,9 @@ impl Pools {
 
     /// The same, and an error where memory is wanted.
     fn try_lists(&mut self) -> Result<&mut Lists, PoolError> {
+        if self.lists.is_empty() {
+            self.lists = spare();
+        }
         if self.lists.is_empty() {
             self.lists.try_reserve_exact(1)?;
         }
@@ -461,6 +495,18 @@ impl Pools {
             self.functions,
         ];
         (self.lists(), counts)
+    }
+}
+
+impl Drop for Pools {
+    fn drop(&mut self) {
+        let mut lists = take(&mut self.lists);
+        match lists.first_mut() {
+            Some(first) if first.are_small() => first.clear(),
+            _ => return,
+        }
+        // Nothing keeps them where the thread is about to end.
+        let _ = SPARE.try_with(|spare| spare.set(lists));
     }
 }
 

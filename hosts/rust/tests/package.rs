@@ -119,6 +119,24 @@ fn pools_are_cleared_and_built_again() {
 }
 
 #[test]
+fn pools_that_are_dropped_leave_no_items() {
+    let (code, _) = sample();
+    for _ in 0..3 {
+        let (_, again) = sample();
+        assert_eq!(verify(Caps::ALL, &code, &whole(&code), &again), Ok(vec![2]));
+        drop(again);
+        let name = "x".repeat(2000);
+        assert_eq!(
+            Pools::new().name(&name).name("y"),
+            Pools::new().name(&name).name("y")
+        );
+        let mut fresh = Pools::new();
+        assert_eq!(fresh.add_name("len"), Ok(0));
+        assert_eq!(fresh, Pools::new().name("len"));
+    }
+}
+
+#[test]
 fn a_constant_that_asks_what_cannot_be_named_passes() {
     let pools = Pools::new()
         .constant(Asks::Unknown)
