@@ -85,8 +85,8 @@ def read(revision):
                 given[crate] |= set(re.findall(r"(?m)^pub mod (\w+);", text))
             if crate in FACADES and rest.startswith("src/laws"):
                 given[crate] |= {f"laws::{it}" for it in re.findall(r"(?m)^pub fn (\w+)", text)}
-                for uses in re.findall(r"(?s)pub use [^;]*laws::\{([^}]*)\}", text):
-                    given[crate] |= {f"laws::{it.strip()}" for it in uses.split(",") if it.strip()}
+                for uses in re.findall(r"(?s)pub use [^;]*laws::(\{[^}]*\}|\w+);", text):
+                    given[crate] |= {f"laws::{it.strip()}" for it in uses.strip("{}").split(",") if it.strip()}
         elif rest.startswith("specs/") and name.endswith(".antt"):
             definitions.update(definitions_of(text))
     return contracts, definitions, given

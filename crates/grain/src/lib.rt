@@ -12,11 +12,6 @@
 mod builder;
 mod explanation;
 pub mod laws;
-mod lookup;
-mod program;
-mod sidecar;
-mod slots;
-mod tighten;
 
 pub use builder::{BuildError, Cut, Head, build};
 pub use explanation::{Explained, explain};
@@ -35,6 +30,7 @@ pub use grain_explain::{
     Base, ExplainError, ExplainedChunk, Refusal as ExplainedRefusal, Row, TypingError,
     check_typing, explain_chunks,
 };
+pub use grain_program::{Parts, Program, Sidecar};
 pub use grain_rules::{
     Asks, BadIndex, Bound, Effect, Flow, NoPools, Pools, Read, Targets, VerifyError, asked_beside,
     check_among, check_below, constant_caps, name_caps,
@@ -42,5 +38,3 @@ pub use grain_rules::{
 pub use grain_verify::{
     Meter, Refusal, Scratch, is_quiet, verify, verify_metered, verify_placed, verify_read,
 };
-pub use program::{Parts, Program};
-pub use sidecar::Sidecar;

@@ -1,19 +1,9 @@
-//! The ground that Rhai Grain bytecode stands on: numbers, the address table, values, the capabilities that a program
-//! may ask of its host, source positions and operator tokens.
+//! The ground that Rhai Grain bytecode stands on: numbers, the address table, and, from `grain_values`, values, the capabilities
+//! that a program may ask of its host, source positions and operator tokens.
 #![tactic(auto)]
 
-mod access;
-mod caps;
 pub mod laws;
 pub mod pos;
-mod position;
-mod token;
-mod value;
 pub mod varint;
 
-pub use access::FnAccess;
-pub use bitflags::Flags;
-pub use caps::Caps;
-pub use position::Position;
-pub use token::Token;
-pub use value::{Dynamic, FnPtr, HostValue};
+pub use grain_values::{Caps, Dynamic, Flags, FnAccess, FnPtr, HostValue, Position, Token};

@@ -3,13 +3,9 @@ pub mod Again
 pub mod Ahead
 pub mod Appending
 pub mod Arriving
-pub mod Cuts
-pub mod Dispatching
 pub mod Entering
-pub mod Growing
+pub mod Flaws
 pub mod KnownFlags
 pub mod LastOperands
-pub mod Left
 pub mod Printed
 pub mod Streams
-pub mod Tables

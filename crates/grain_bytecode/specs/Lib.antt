@@ -1,8 +1,5 @@
 pub mod ChainStream
-pub mod Names
-pub mod NamesLeft
 pub mod Positions
-pub mod Qualified
 -- definitions of the crates below, of every call that this crate re-exports
 pub use Rattle.grain_code.specs.Assembly
 pub use Rattle.grain_pools.specs.AssembleErrors
@@ -13,9 +10,12 @@ pub use Rattle.grain_pools.specs.Dispatch
 pub use Rattle.grain_code.specs.Fields
 pub use Rattle.grain_code.specs.InstructionTable
 pub use Rattle.grain_pools.specs.LookedUp
+pub use Rattle.grain_names.specs.Names
+pub use Rattle.grain_names.specs.NamesLeft
 pub use Rattle.grain_code.specs.Numbers
 pub use Rattle.grain_code.specs.OperationTexts
 pub use Rattle.grain_pools.specs.Pools
+pub use Rattle.grain_names.specs.Qualified
 pub use Rattle.grain_code.specs.Span
 pub use Rattle.grain_code.specs.Split
 pub use Rattle.grain_code.specs.Starts

@@ -2,7 +2,7 @@
 
 ghost use Rattle.std.specs.Prelude.{◌≡◌, ◌≢◌, ◌++◌, Ok, Err, IfErr, IfOk, OnOk, string_bytes};
 ghost use Rattle.std.specs.Option.{option_map};
-ghost use Rattle.grain_base.specs.CapBits.{set_of};
+ghost use Rattle.grain_values.specs.CapBits.{set_of};
 ghost use Rattle.grain_rules.specs.declared.error.VerifyError.{VerifyError};
 ghost use Rattle.grain_cases.specs.Case.{as_asked};
 ghost use Rattle.grain_cases.specs.Verdict.{Adds, CodeVerdict, IsJudged, IsVerdictOn, SiteVerdict};

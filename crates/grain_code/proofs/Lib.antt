@@ -2,7 +2,6 @@ pub mod Boundaries
 pub mod Canonical
 pub mod Drained
 pub mod Filling
-pub mod Flaws
 pub mod Fronts
 pub mod Instructions
 pub mod Placed

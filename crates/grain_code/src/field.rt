@@ -32,7 +32,8 @@ pub enum Pool {
 
 impl Pool {
     /// What an error calls the pool.
-    pub(crate) fn name(self) -> &'static str
+    #[must_use]
+    pub fn name(self) -> &'static str
         ensures { result.now ≡ name_of self }
     {
         match self {
@@ -101,7 +102,8 @@ impl Op {
 }
 
 /// How many bytes an operation takes once it is written.
-pub(crate) fn width_of(op: &Op) -> u32
+#[must_use]
+pub fn width_of(op: &Op) -> u32
     ensures { result ≡ width_of op.now }
 {
     let (tag, _fields) = layout(op);
@@ -109,7 +111,8 @@ pub(crate) fn width_of(op: &Op) -> u32
 }
 
 /// The tag of an operation and its fields: the instruction table (docs/FORMAT.md, "Instructions").
-pub(crate) fn layout(op: &Op) -> (u8, Fields)
+#[must_use]
+pub fn layout(op: &Op) -> (u8, Fields)
     ensures { (result.0, field_list result.1) ≡ form op.now }
 {
     match *op {

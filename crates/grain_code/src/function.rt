@@ -1,7 +1,7 @@
 //! Functions of a program.
 
 use crate::chunk::Chunk;
-use grain_base::FnAccess;
+use grain_values::FnAccess;
 
 /// A function of a program. Names are indices of the name pool.
 #[derive(Debug, Drop)]

@@ -1,12 +1,11 @@
-//! The instruction set of Rhai Grain bytecode, as bytes and as values: reading code, counting and disassembling it, where
-//! its instructions begin, and assembling it.
+//! The instruction set of Rhai Grain bytecode, as bytes and as values: reading code, counting and disassembling it, and
+//! where its instructions begin.
 //!
 //! Code is a sequence of instructions of one to seven bytes: a tag and its fields (docs/FORMAT.md).
 //! `specs/InstructionTable.antt` is the instruction table that every contract on code speaks of. A host uses
-//! `grain_bytecode` or `grain`, which give out all that is public here.
+//! `grain_bytecode` or `grain`, which give out all that is public here but how an operation is laid out.
 #![tactic(auto)]
 
-mod assembler;
 mod chunk;
 mod code;
 mod decoder;
@@ -21,11 +20,10 @@ mod tag_table;
 mod tag_widths;
 mod text;
 
-pub use assembler::assemble;
 pub use chunk::Chunk;
 pub use code::{count_instructions, decode, u16_at, u32_at};
 pub use disassembly::{Disassembly, disassemble};
-pub use field::{Field, Fields, Pool};
+pub use field::{Field, Fields, Pool, layout, width_of};
 pub use function::Function;
 pub use instruction::{Instruction, decode_standing};
 pub use op::{Op, Receiver};

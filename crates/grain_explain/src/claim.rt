@@ -13,9 +13,9 @@ use crate::error::TypingError;
 use crate::frame::boundary_from;
 use crate::needs::{Lack, check_needs};
 use crate::row::Row;
-use grain_base::Caps;
-use grain_bytecode::{Chunk, count_instructions, decode, width};
+use grain_code::{Chunk, count_instructions, decode, width};
 use grain_rules::Pools;
+use grain_values::Caps;
 
 /// Rows that somebody hands in, and the chunk of which they are to be a typing.
 #[derive(Clone, Copy)]

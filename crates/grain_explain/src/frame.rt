@@ -3,7 +3,7 @@ ghost use Rattle.std.specs.Prelude.{◌≡◌, ◌≤◌, ℕ, List};
 ghost use Rattle.grain_code.specs.Split.{Split};
 ghost use Rattle.grain_rules.specs.Layout.{IsBoundary};
 
-use grain_bytecode::width;
+use grain_code::width;
 
 /// The first boundary of whole instructions that isn't below an address, from a boundary on; where there is none, the
 /// end of the code.

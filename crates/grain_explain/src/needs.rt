@@ -7,9 +7,9 @@ ghost use Rattle.grain_explain.specs.Lacking.{DoesTo, HasAll, IsReserve, FindsLa
 ghost use Rattle.grain_explain.specs.RowView.{counts_of};
 
 use crate::row::{Base, Row};
-use grain_base::{Caps, Flags};
-use grain_bytecode::Op;
+use grain_code::Op;
 use grain_rules::{Effect, Pools, asked_beside, missing};
+use grain_values::{Caps, Flags};
 
 /// What an operation finds lacking.
 #[derive(Clone, Copy)]

@@ -6,9 +6,9 @@ ghost use Rattle.grain_explain.specs.Claimed.{targets_of_cases, targets_of_range
 ghost use Rattle.grain_rules.specs.EffectView.{flow_view};
 
 use crate::targets::switch_at;
-use grain_base::Dynamic;
-use grain_bytecode::{Switch, SwitchRange};
+use grain_pools::{Switch, SwitchRange};
 use grain_rules::{Flow, Pools};
+use grain_values::Dynamic;
 use std::alloc::{AllocError, Global};
 use std::collections::HashMap;
 

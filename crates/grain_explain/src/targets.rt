@@ -13,9 +13,9 @@ use crate::claim::Claim;
 use crate::edge::OnEdge;
 use crate::error::TypingError;
 use crate::row::Row;
-use grain_base::Dynamic;
-use grain_bytecode::{Switch, SwitchRange};
+use grain_pools::{Switch, SwitchRange};
 use grain_rules::{Effect, Flow};
+use grain_values::Dynamic;
 use std::collections::HashMap;
 
 impl Claim<'_> {

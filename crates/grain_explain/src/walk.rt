@@ -19,7 +19,7 @@ use crate::refusal::{ExplainError, Refusal};
 use crate::row::Row;
 use crate::scene::Scene;
 use crate::switches::targets_of;
-use grain_bytecode::{decode, width};
+use grain_code::{decode, width};
 use grain_rules::{Effect, VerifyError};
 
 /// What a walk has come to, by the distance from the chunk's entry, and what waits.

@@ -1,7 +1,7 @@
 -- Code is refused alike beside pools that operations find alike.
 use Rattle.std.proofs.Common.{◌≡◌, ℕ, inl, inr, List, ap, ◌∙◌}
 use Rattle.grain_rules.specs.Rows.{Row, caps_of}
-use Rattle.grain_base.specs.CapBits.{missing}
+use Rattle.grain_values.specs.CapBits.{missing}
 use Rattle.grain_rules.specs.Code.{Bytecode}
 use Rattle.grain_rules.specs.Flaw.{ChunkFlaw, Comes, ComesAllowed, Conflicts, FallsOff, Leads}
 use Rattle.grain_rules.specs.Setting.{Setting}

@@ -5,7 +5,7 @@ use Rattle.std.proofs.lemmas.List.{length-append}
 use Rattle.grain_rules.specs.Code.{Bytecode, bytecode_beside, switch_targets}
 use Rattle.grain_bytecode.specs.Dispatch.{arms, arm_targets}
 use Rattle.grain_rules.specs.Facts.{case_consts, facts_with}
-use Rattle.grain_bytecode.specs.Names.{names_in}
+use Rattle.grain_names.specs.Names.{names_in}
 use Rattle.grain_explain.specs.Explaining.{IsExact, IsExplained}
 use Rattle.grain_bytecode.specs.Span.{Span}
 use Rattle.grain_explain.specs.declared.refusal.ExplainedChunk.{ExplainedChunk}

@@ -12,7 +12,7 @@ use Rattle.std.proofs.lemmas.List.Elements.{All-append, All-drop, All-take}
 use Rattle.std.proofs.lemmas.List.Sorted.{IsPermutation-refl, length_permutation}
 use Rattle.std.proofs.lemmas.List.Sums.{sum_by-cons}
 use Rattle.grain_bytecode.specs.Dispatch.{Arms, Case}
-use Rattle.grain_base.specs.declared.value.Dynamic.TheVariants as values
+use Rattle.grain_values.specs.declared.value.Dynamic.TheVariants as values
 use Rattle.grain_bytecode.specs.declared.Chain.{Chain}
 use Rattle.grain_bytecode.specs.declared.Step.{Step}
 use Rattle.grain_bytecode.specs.declared.SwitchRange.{SwitchRange}

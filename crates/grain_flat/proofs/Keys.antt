@@ -5,11 +5,11 @@ use Rattle.std.specs.Ordering.{int_eq}
 use Rattle.std.proofs.lemmas.Bool.Decides.{Decides-int_eq}
 use Rattle.std.specs.declared.hash.BuildHasherDefault.{BuildHasherDefault}
 use Rattle.std.specs.declared.hash.FoldHasher.{FoldHasher}
-use Rattle.grain_base.specs.declared.value.Dynamic.{Dynamic, fold-roll-Dynamic}
-use Rattle.grain_base.specs.declared.value.Dynamic.TheVariants.{Int, rolls-Int}
-use Rattle.grain_base.specs.declared.value.Dynamic.TheOpen as layers
-use Rattle.grain_base.specs.Content.{Content, same, integer}
-use Rattle.grain_base.specs.View.{content, content_step, pointer_step}
+use Rattle.grain_values.specs.declared.value.Dynamic.{Dynamic, fold-roll-Dynamic}
+use Rattle.grain_values.specs.declared.value.Dynamic.TheVariants.{Int, rolls-Int}
+use Rattle.grain_values.specs.declared.value.Dynamic.TheOpen as layers
+use Rattle.grain_values.specs.Content.{Content, same, integer}
+use Rattle.grain_values.specs.View.{content, content_step, pointer_step}
 
 -- the maps of cases, and when two of their keys are equal
 abbrev pub Cases : Type 0

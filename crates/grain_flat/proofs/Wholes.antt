@@ -13,9 +13,9 @@ use Rattle.grain_verify.specs.Meter.{AreReached}
 use Rattle.grain_rules.specs.Typing.{HasTyping, IsDeepest, IsReachedCount}
 use Rattle.grain_rules.specs.declared.error.VerifyError.{VerifyError}
 use Rattle.grain_rules.specs.declared.error.VerifyError.TheVariants as errors
-use Rattle.grain_base.specs.declared.caps.Caps.{Caps}
-use Rattle.grain_base.specs.declared.value.Dynamic.{Dynamic}
-use Rattle.grain_base.specs.declared.value.Dynamic.TheVariants as values
+use Rattle.grain_values.specs.declared.caps.Caps.{Caps}
+use Rattle.grain_values.specs.declared.value.Dynamic.{Dynamic}
+use Rattle.grain_values.specs.declared.value.Dynamic.TheVariants as values
 use Rattle.grain_bytecode.specs.declared.Chain.{Chain}
 use Rattle.grain_bytecode.specs.declared.Function.{Function}
 use Rattle.grain_flat.specs.Answers.{Refuses}

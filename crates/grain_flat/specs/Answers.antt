@@ -9,7 +9,7 @@ use Rattle.grain_bytecode.specs.Span.{Span}
 use Rattle.grain_bytecode.specs.Split.{Split}
 use Rattle.grain_rules.specs.declared.error.VerifyError.{VerifyError}
 use Rattle.grain_rules.specs.declared.error.VerifyError.TheVariants as errors
-use Rattle.grain_base.specs.declared.caps.Caps.{Caps}
+use Rattle.grain_values.specs.declared.caps.Caps.{Caps}
 use Rattle.grain_flat.specs.Asking.{IsFirstRefusedRow, RowPasses}
 use Rattle.grain_flat.specs.Flat.{Rest, Whole, flat_input, rest_input}
 use Rattle.grain_flat.specs.declared.faults.TheConstants.{NO_CHUNK, MISSING_CAPS, UNDECODABLE, TRAILING_BYTES, CHUNK_OUT_OF_RANGE, JUMP_OUT_OF_RANGE, JUMP_INTO_AN_INSTRUCTION}

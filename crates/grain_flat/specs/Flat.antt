@@ -8,10 +8,10 @@ use Rattle.grain_rules.specs.Code.{Bytecode, bytecode_beside}
 use Rattle.grain_rules.specs.Facts.{chain_facts}
 use Rattle.grain_rules.specs.ConstCaps.{const_caps}
 use Rattle.grain_bytecode.specs.Span.{Span}
-use Rattle.grain_base.specs.declared.value.Dynamic.{Dynamic}
+use Rattle.grain_values.specs.declared.value.Dynamic.{Dynamic}
 use Rattle.grain_bytecode.specs.declared.Function.{Function}
 use Rattle.grain_bytecode.specs.Dispatch.{Arms, Case, listed, arm_targets}
-use Rattle.grain_bytecode.specs.Names.{first_flaw, names_in}
+use Rattle.grain_names.specs.Names.{first_flaw, names_in}
 use Rattle.grain_bytecode.specs.declared.Chain.{Chain}
 use Rattle.grain_bytecode.specs.declared.Root.{Root}
 use Rattle.grain_bytecode.specs.declared.Root.TheVariants as roots

@@ -5,7 +5,7 @@ use Rattle.grain_rules.specs.Accepted.{AreDeepest, AreSafe, AreTyped, Input, IsA
 use Rattle.grain_bytecode.specs.Dispatch.{Arms, arms}
 use Rattle.grain_rules.specs.Flaw.{FlawAt}
 use Rattle.grain_verify.specs.Meter.{AreReached, HasCounted, IsWithinAll}
-use Rattle.grain_bytecode.specs.Names.{names_in}
+use Rattle.grain_names.specs.Names.{names_in}
 use Rattle.grain_bytecode.specs.Span.{Span}
 use Rattle.grain_bytecode.specs.declared.Chain.{Chain}
 use Rattle.grain_bytecode.specs.declared.Function.{Function}

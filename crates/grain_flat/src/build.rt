@@ -3,7 +3,7 @@ ghost use Rattle.std.specs.Prelude.{◌≡◌, IfOk, None, length, map, option_m
 ghost use Rattle.std.specs.List.{All};
 ghost use Rattle.std.specs.List.Sorted.{IsPermutation};
 ghost use Rattle.grain_bytecode.specs.Dispatch.{arms, listed};
-ghost use Rattle.grain_bytecode.specs.Names.{first_flaw, names_in};
+ghost use Rattle.grain_names.specs.Names.{first_flaw, names_in};
 ghost use Rattle.grain_flat.specs.Flat.{AreChains, AreSwitches, IsChainRow, IsFlat, IsStepRow, case_row, case_rows, chain_row, arm_range_targets, step_row, switch_row};
 ghost use Rattle.grain_flat.specs.Judging.{IsMadeOf};
 

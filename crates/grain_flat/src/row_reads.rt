@@ -7,7 +7,7 @@ ghost use Rattle.grain_bytecode.specs.Dispatch.{first_past};
 ghost use Rattle.grain_rules.specs.Facts.{Entry};
 ghost use Rattle.grain_rules.specs.FirstOut.{alone, first_out, refused};
 ghost use Rattle.grain_rules.specs.Indices.{size, test_of};
-ghost use Rattle.grain_bytecode.specs.Names.{names_in, span};
+ghost use Rattle.grain_names.specs.Names.{names_in, span};
 ghost use Rattle.grain_flat.specs.Flat.{IsFlat};
 ghost use Rattle.grain_flat.specs.RowFacts.{part_begins, chain_told, chains_told, facts_told, leads_of, parts, root_asked, root_told};
 ghost use Rattle.grain_flat.specs.RowFacts.{step_asked, step_told, tail_told, taken};
@@ -17,10 +17,10 @@ use crate::records::{CCase, CChain, CPools, CStep, CSwitch};
 use crate::shapes::{ASSIGN_THROUGH, INDEX, LOCAL, NAMED, PROPERTY, READ, TEMPORARY, THIS};
 use grain_base::{Caps, Flags};
 use grain_bytecode::Pool;
+use grain_names::{start_at, text_in};
 use grain_rules::{BadIndex, Read, Targets, check_among, check_below, name_caps};
 use std::alloc::{AllocError, Global};
 use std::marker::Model;
-use std::str;
 
 /// Where the arms of a switch begin, among those of all switches.
 #[derive(Clone, Copy)]
@@ -156,16 +156,6 @@ fn taken(row: &CChain) -> u32
     u32::from(row.operands) + u32::from(row.root == TEMPORARY) + u32::from(row.tail != READ)
 }
 
-/// The text from one start to the next, which was tested to be one.
-fn text_in(blob: &[u8], from: usize, to: usize) -> &str
-    requires in_order { from ≤ to }
-    requires inside { to ≤ length blob.now }
-    requires text { IsUtf8 (span blob.now from to) }
-    ensures { result.now ≡ span blob.now from to }
-{
-    unsafe { str::from_utf8_unchecked(&blob[from..to]) }
-}
-
 /// How many a pool has; of custom syntax sites there are none.
 #[inline(always)]
 #[tactic(auto, using(crate::proofs::RowEntries::names_long, crate::proofs::RowEntries::chains_long, crate::proofs::RowEntries::cases_long))]
@@ -199,12 +189,6 @@ fn part<T>(all: &[T], from: usize, count: u32) -> &[T]
     ensures { result.now ≡ take count (drop from all.now) }
 {
     &all[from..from + count as usize]
-}
-
-fn start_at(starts: &[u32], at: usize) -> Option<usize>
-    ensures { result ≡ slice_get starts.now at }
-{
-    starts.get(at).map(|start| *start as usize)
 }
 
 impl<'a> Rows<'a> {

@@ -2,7 +2,7 @@
 //! values.
 //!
 //! The operand stack of each call has its room from the start, and what it takes of operands, iterators and handlers is proved to be there:
-//! what [`grain::verify`] accepted is why none of it can lack. What it is to lack is defined in the crate `grain_rules`,
+//! what [`verify`](grain_verify::verify) accepted is why none of it can lack. What it is to lack is defined in the crate `grain_rules`,
 //! `specs/Machine.antt`.
 #![tactic(auto)]
 

@@ -1,4 +1,5 @@
 pub mod CaseOrder
+pub mod Dispatching
 pub mod Missing
 pub mod Past
 pub mod Slots

@@ -1,11 +1,11 @@
 //! Switches: where each subject leads.
 ghost use Rattle.std.specs.Prelude.{◌≡◌, ℕ, map, length, OnOk, IfErr};
 ghost use Rattle.std.specs.List.{All};
-ghost use Rattle.grain_base.specs.View.{content};
+ghost use Rattle.grain_values.specs.View.{content};
 ghost use Rattle.grain_pools.specs.Dispatch.{contains, dispatched, by_cases, by_ranges, arms, listed, arm_targets, first_past, AreWithin, offset_at, resolved, resolved_case, resolved_range, IsFirstPast};
 
 use crate::error::AssembleError;
-use grain_base::Dynamic;
+use grain_values::Dynamic;
 use std::collections::HashMap;
 
 /// A range of integers that leads to one target.

@@ -5,14 +5,14 @@ use Rattle.std.proofs.Math.Seq.{take-add}
 use Rattle.std.proofs.lemmas.Bool.Decides.{nat_tests}
 use Rattle.std.proofs.lemmas.List.{append-nil, drop-drop}
 use Rattle.std.proofs.lemmas.List.Concat.{flat_map-cons}
-use Rattle.grain_base.specs.Content.{Content}
+use Rattle.grain_values.specs.Content.{Content}
 use Rattle.grain_pools.specs.Dispatch.{Arms, dispatched, arm_targets}
 use Rattle.grain_code.specs.Span.{Span, body}
 use Rattle.grain_code.specs.Split.{AreInstructions}
 use Rattle.grain_code.specs.InstructionTable.{spelling, width_of}
 use Rattle.grain_code.specs.declared.op.Op.{Op}
 use Rattle.grain_code.specs.declared.op.Op.TheVariants as ops
-use Rattle.grain_bytecode.proofs.Dispatching.{dispatched_among}
+use Rattle.grain_pools.proofs.Dispatching.{dispatched_among}
 use Rattle.grain_code.proofs.Splits.{instr_is}
 use Rattle.grain_rules.specs.Accepted.{ChunkPasses}
 use Rattle.grain_rules.specs.Code.{Bytecode, coded}

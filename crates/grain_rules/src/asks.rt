@@ -6,9 +6,9 @@ ghost use Rattle.grain_rules.specs.Setting.{pools_with};
 
 use crate::pools::Pools;
 use crate::read::Read;
-use grain_base::{Caps, Flags};
-use grain_bytecode::names::split_qualified;
-use grain_bytecode::{Chain, Root, Step};
+use grain_names::names::split_qualified;
+use grain_pools::{Chain, Root, Step};
+use grain_values::{Caps, Flags};
 
 /// What an operation asks of the host. What a name or a chain asks is told by the pools that it stands in.
 #[derive(Clone, Copy, Debug, PartialEq, Eq)]

@@ -3,7 +3,7 @@ ghost use Rattle.std.specs.Prelude.{◌≡◌, ◌∷◌, [], codes};
 ghost use Rattle.grain_rules.specs.FirstOut.{bound_word, first_out, refused};
 ghost use Rattle.grain_rules.specs.Indices.{entry_name};
 
-use grain_bytecode::Pool;
+use grain_code::Pool;
 
 /// What an index has to be below.
 #[derive(Clone, Copy)]

@@ -8,8 +8,8 @@ ghost use Rattle.grain_rules.specs.declared.asks.Asks.TheVariants.{Nothing};
 use crate::asks::Asks;
 use crate::flow::Flow;
 use crate::read::Read;
-use grain_base::{Caps, Flags};
-use grain_bytecode::{Op, Receiver};
+use grain_code::{Op, Receiver};
+use grain_values::{Caps, Flags};
 
 /// What an operation does: its row of the instruction table (docs/FORMAT.md, "Instructions").
 #[derive(Clone, Copy, Debug, PartialEq, Eq)]

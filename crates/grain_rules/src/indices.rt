@@ -16,7 +16,7 @@ use crate::error::VerifyError;
 use crate::passed::{FEW_WORDS, Passed, WORDS, add_passed, has_passed};
 use crate::read::Read;
 use crate::unindexed::unindexed_width;
-use grain_bytecode::{Instruction, Op, Pool, Receiver};
+use grain_code::{Instruction, Op, Pool, Receiver};
 
 /// Tests an index against the size of its pool.
 fn check<P: Read>(pools: &P, pool: Pool, index: u32) -> Result<(), BadIndex>

@@ -1,6 +1,7 @@
 //! The pools that instructions point into.
 
-use grain_bytecode::{Chain, Strings, Switch};
+use grain_names::Strings;
+use grain_pools::{Chain, Switch};
 
 /// The pools of a program, as the verifier asks them: what it has to look into, and how many there are of all else.
 #[derive(Drop)]

@@ -6,7 +6,7 @@ ghost use Rattle.grain_code.specs.declared.op.Op.{Op};
 ghost use Rattle.grain_rules.specs.Indices.{Indexed};
 ghost use Rattle.grain_rules.specs.Setting.{Setting};
 
-use grain_bytecode::tag_row;
+use grain_code::tag_row;
 
 /// How many bytes the instruction at an address takes, where one stands there that is known to have no index, so that it
 /// needn't be decoded.

@@ -11,8 +11,10 @@ use crate::pointers::{
 };
 use crate::variables::{Variables, taken};
 use crate::walk::Walk;
-use grain::{Chain, Dynamic, Op, Program, Receiver, Root, Switch, Tail};
+use grain_bytecode::{Chain, Op, Receiver, Root, Switch, Tail};
 use grain_machine::{CallError, Given, Host, Request, dispatch};
+use grain_program::Program;
+use grain_values::Dynamic;
 use std::alloc::{AllocError, Global};
 
 /// The state of a script that runs.

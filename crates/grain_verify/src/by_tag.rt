@@ -12,7 +12,7 @@ ghost use Rattle.grain_verify.specs.declared.lists.Lists.{Lists};
 use crate::effects::Effect;
 use crate::flow::Flow;
 use crate::state::{Arrival, State};
-use grain_bytecode::{Head, Instruction, TagFlow, TagRow, tag_row};
+use grain_code::{Head, Instruction, TagFlow, TagRow, tag_row};
 
 /// What the table of tags tells of the instructions with a tag.
 #[inline(always)]

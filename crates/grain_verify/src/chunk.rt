@@ -13,7 +13,7 @@ use crate::asked::Asked;
 use crate::lists::Lists;
 use crate::meter::Meter;
 use crate::walk::{Prepared, Traversal};
-use grain_bytecode::Chunk;
+use grain_code::Chunk;
 use grain_rules::{Read, VerifyError};
 
 /// How many instructions stand before the chunk's entry, where the chunk lies in the code and begins and ends where

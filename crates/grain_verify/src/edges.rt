@@ -11,7 +11,7 @@ ghost use Rattle.grain_verify.specs.Lists.{Grows, IsShared, list_count, list_of}
 use crate::lists::Lists;
 use crate::state::{Arrival, State, check_same};
 use crate::states::States;
-use grain_bytecode::{Chunk, Starts};
+use grain_code::{Chunk, Starts};
 use grain_rules::{Read, Targets, VerifyError};
 
 /// How many instructions stand before a target, which has to be a start of the chunk: elsewhere a run would come to code that

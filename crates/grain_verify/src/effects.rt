@@ -8,9 +8,9 @@ ghost use Rattle.grain_rules.specs.Setting.{Setting};
 
 use crate::asked::Asked;
 use crate::flow::Flow;
-use grain_base::{Caps, Flags};
-use grain_bytecode::{Op, TagRow};
+use grain_code::{Op, TagRow};
 use grain_rules::Read;
+use grain_values::{Caps, Flags};
 use std::alloc::AllocError;
 
 /// What an operation does: what it asks of the host, how many operands it needs, how many of them it takes, how many it

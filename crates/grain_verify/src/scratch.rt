@@ -3,7 +3,7 @@
 use crate::asked::Asked;
 use crate::lists::Lists;
 use crate::walk::Traversal;
-use grain_bytecode::Starts;
+use grain_code::Starts;
 use std::alloc::Global;
 
 /// What verification writes as it goes, kept so that its memory serves one program after another.

@@ -15,7 +15,7 @@ ghost use Rattle.grain_verify.specs.SinkingView.{RefusesSinking};
 use crate::effects::Effect;
 use crate::lists::{Base, Lists};
 use crate::state::{Arrival, State};
-use grain_bytecode::{Instruction, tag_row};
+use grain_code::{Instruction, tag_row};
 use grain_rules::VerifyError;
 
 /// Whether the instruction is quiet, or else leaves what stood when the last handler was armed. Where it faults, that handler's

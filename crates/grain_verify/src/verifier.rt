@@ -21,9 +21,9 @@ use crate::meter::Meter;
 use crate::refusal::Refusal;
 use crate::scratch::Scratch;
 use crate::walk::{Prepared, Traversal};
-use grain_base::{Caps, Dynamic};
-use grain_bytecode::{Chunk, Function, Starts};
+use grain_code::{Chunk, Function, Starts};
 use grain_rules::{Pools, Read, VerifyError, check_code, check_constants, check_functions};
+use grain_values::{Caps, Dynamic};
 use std::alloc::Global;
 use std::mem;
 

@@ -1,5 +1,5 @@
 use Rattle.std.proofs.Common.{◌≡◌, drop}
-use Rattle.grain_bytecode.specs.Names.{first_flaw, flaw_from}
+use Rattle.grain_names.specs.Names.{first_flaw, flaw_from}
 use Rattle.grain_flat.proofs.flat.are_names.Given as goal
 
 -- what is left to read decides

@@ -1,0 +1,4 @@
+pub mod Cuts
+pub mod Growing
+pub mod Left
+pub mod Tables

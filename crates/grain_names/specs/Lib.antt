@@ -1,0 +1,3 @@
+pub mod Names
+pub mod NamesLeft
+pub mod Qualified

@@ -1,0 +1,2 @@
+pub mod KnownCaps
+pub mod Parts
