@@ -59,12 +59,15 @@ impl From<TryReserveError> for PoolError {
 #[derive(Clone, Default)]
 pub struct Pools {
     /// The lists, or nothing where there is no item: behind one pointer, so that a chained call moves little.
-    lists: Vec<Lists>,
+    lists: Option<Own>,
     operators: usize,
     op_assignments: usize,
     fragments: usize,
     functions: usize,
 }
+
+/// Lists behind one pointer: a box of one, since a `Vec` can be asked for memory that may be refused, and a box of it made.
+type Own = Box<[Lists; 1]>;
 
 /// The lists of pools.
 #[derive(Clone, Debug, PartialEq, Eq, Hash)]
@@ -116,15 +119,12 @@ fn extend<T>(list: &mut Vec<T>, items: impl IntoIterator<Item = T>) -> Result<us
     added.map(|()| list.len() - before)
 }
 
-/// How many bytes a list has room for at first where calls are chained, so that it seldom grows.
+/// How many bytes each list has room for at first where calls are chained, so that it seldom grows.
 const FIRST_ROOM: usize = 1024;
 
-/// Room for the first items of a list, where it has none.
-#[inline]
-fn begin<T>(list: &mut Vec<T>) {
-    if list.capacity() == 0 {
-        list.reserve(FIRST_ROOM / size_of::<T>());
-    }
+/// A list with that room.
+fn first_room<T>() -> Vec<T> {
+    Vec::with_capacity(FIRST_ROOM / size_of::<T>())
 }
 
 /// Whether a list has no more room than that.
@@ -134,12 +134,29 @@ fn is_small<T>(list: &Vec<T>) -> bool {
 
 thread_local! {
     /// The small lists of the pools that were dropped last in the thread, without their items.
-    static SPARE: Cell<Vec<Lists>> = const { Cell::new(Vec::new()) };
+    static SPARE: Cell<Option<Own>> = const { Cell::new(None) };
 }
 
 /// Those lists, or nothing where there are none or the thread is about to end.
-fn spare() -> Vec<Lists> {
-    SPARE.try_with(Cell::take).unwrap_or_default()
+fn spare() -> Option<Own> {
+    SPARE.try_with(Cell::take).ok().flatten()
+}
+
+/// Those lists, or new ones with room for the first items of each.
+#[cold]
+fn begin() -> Own {
+    spare().unwrap_or_else(|| Box::new([Lists::with_room()]))
+}
+
+/// Those lists, or new ones without room, and an error where memory is wanted.
+fn try_begin() -> Result<Own, PoolError> {
+    if let Some(own) = spare() {
+        return Ok(own);
+    }
+    let mut own = Vec::new();
+    own.try_reserve_exact(1)?;
+    own.push(Lists::new());
+    Own::try_from(own).map_err(|_| PoolError::OutOfMemory)
 }
 
 impl Lists {
@@ -153,6 +170,19 @@ impl Lists {
             switches: Vec::new(),
             cases: Vec::new(),
             ranges: Vec::new(),
+        }
+    }
+
+    fn with_room() -> Lists {
+        Lists {
+            constants: first_room(),
+            names: first_room(),
+            starts: first_room(),
+            chains: first_room(),
+            steps: first_room(),
+            switches: first_room(),
+            cases: first_room(),
+            ranges: first_room(),
         }
     }
 
@@ -213,7 +243,7 @@ impl Pools {
     #[must_use]
     pub const fn new() -> Pools {
         Pools {
-            lists: Vec::new(),
+            lists: None,
             operators: 0,
             op_assignments: 0,
             fragments: 0,
@@ -223,7 +253,7 @@ impl Pools {
 
     /// Takes all out, and keeps the memory for what comes next.
     pub fn clear(&mut self) {
-        if let Some(lists) = self.lists.first_mut() {
+        if let Some([lists]) = self.lists.as_deref_mut() {
             lists.clear();
         }
         (self.operators, self.op_assignments) = (0, 0);
@@ -231,28 +261,20 @@ impl Pools {
     }
 
     fn lists(&self) -> &Lists {
-        self.lists.first().unwrap_or(&NO_LISTS)
+        self.lists.as_deref().map_or(&NO_LISTS, |[lists]| lists)
     }
 
     /// The lists, to which items are added as to a `Vec`.
     #[inline]
     fn lists_mut(&mut self) -> &mut Lists {
-        if self.lists.is_empty() {
-            self.lists = spare();
-        }
-        if self.lists.is_empty() {
-            self.lists.push(Lists::new());
-        }
-        &mut self.lists[0]
+        let [lists] = &mut **self.lists.get_or_insert_with(begin);
+        lists
     }
 
     /// The same, and an error where memory is wanted.
     fn try_lists(&mut self) -> Result<&mut Lists, PoolError> {
-        if self.lists.is_empty() {
-            self.lists = spare();
-        }
-        if self.lists.is_empty() {
-            self.lists.try_reserve_exact(1)?;
+        if self.lists.is_none() {
+            self.lists = Some(try_begin()?);
         }
         Ok(self.lists_mut())
     }
@@ -263,7 +285,6 @@ impl Pools {
     #[must_use]
     pub fn constant(mut self, asks: impl Into<Constant>) -> Pools {
         let lists = self.lists_mut();
-        begin(&mut lists.constants);
         lists.constants.push(asks.into());
         self
     }
@@ -273,8 +294,6 @@ impl Pools {
     #[must_use]
     pub fn name(mut self, name: &str) -> Pools {
         let lists = self.lists_mut();
-        begin(&mut lists.names);
-        begin(&mut lists.starts);
         lists.names.extend_from_slice(name.as_bytes());
         if lists.starts.is_empty() {
             lists.starts.push(0);
@@ -320,8 +339,6 @@ impl Pools {
     #[must_use]
     pub fn chain(mut self, root: Root, steps: &[Step], tail: Tail, operands: u16) -> Pools {
         let lists = self.lists_mut();
-        begin(&mut lists.chains);
-        begin(&mut lists.steps);
         let row = ChainRow::new(root, count(steps.len()), tail, operands);
         lists.chains.push(row);
         lists.steps.extend(steps.iter().copied().map(StepRow::from));
@@ -333,9 +350,6 @@ impl Pools {
     #[must_use]
     pub fn switch(mut self, cases: &[Case], ranges: &[u32], otherwise: u32) -> Pools {
         let lists = self.lists_mut();
-        begin(&mut lists.switches);
-        begin(&mut lists.cases);
-        begin(&mut lists.ranges);
         lists.switches.push(SwitchRow {
             cases: count(cases.len()),
             ranges: count(ranges.len()),
@@ -500,13 +514,15 @@ impl Pools {
 
 impl Drop for Pools {
     fn drop(&mut self) {
-        let mut lists = take(&mut self.lists);
-        match lists.first_mut() {
-            Some(first) if first.are_small() => first.clear(),
-            _ => return,
+        let Some(mut own) = take(&mut self.lists) else {
+            return;
+        };
+        let [lists] = &mut *own;
+        if lists.are_small() {
+            lists.clear();
+            // Nothing keeps them where the thread is about to end.
+            let _ = SPARE.try_with(|spare| spare.set(Some(own)));
         }
-        // Nothing keeps them where the thread is about to end.
-        let _ = SPARE.try_with(|spare| spare.set(lists));
     }
 }
 

@@ -111,9 +111,9 @@ impl Drop for Verifier {
 }
 
 /// Of a program with at most so many bytes of code, chunks, and entries of a list in its pools, what a thread keeps stays
-/// below 64 KiB.
-const SMALL_CODE: usize = 512;
-const SMALL_LIST: usize = 64;
+/// below 256 KiB.
+const SMALL_CODE: usize = 3072;
+const SMALL_LIST: usize = 128;
 
 thread_local! {
     /// What verifies the small programs of the thread.

@@ -17,6 +17,9 @@ const HIGH: &[u8] = &[2, 0xff, 0xff, 0xff, 0xff, 0x0f, 1, 1, 1, 1, 1];
 /// A count that is as great as may be, and nothing behind it.
 const COUNT: &[u8] = &[0xff, 0xff, 0xff, 0xff, 0x0f];
 
+/// A table, and the address, line and column of each of its entries.
+type Entries<'a> = (&'a [u8], &'a [(u32, u32, u32)]);
+
 fn place(line: u32, column: u32) -> Option<Site> {
     Some(Site { line, column })
 }
@@ -46,7 +49,7 @@ fn addresses_have_sites() {
 
 #[test]
 fn tables_have_entries() {
-    let rows: [(&[u8], &[(u32, u32, u32)]); 9] = [
+    let rows: [Entries<'_>; 9] = [
         (TABLE, &[(0, 1, 5), (3, 1, 11), (40, 7, 2), (41, 9, 0)]),
         (&[4, 0, 1, 5, 3], &[(0, 1, 5)]),
         (&[2, 0, 1, 1, 0, 2, 2], &[(0, 1, 1), (0, 2, 2)]),
