@@ -111,8 +111,8 @@ pub fn verify<'a>(
 /// Verifies as [`verify`] does, writes the numbers into the front of a list of the caller's, and answers how many places
 /// the chunks reach, each for itself: so many instructions were visited, which bounds what scripts cost their host.
 ///
-/// A thread keeps the memory in which it verified small programs, of some thousand instructions at most: less than 256 KiB.
-/// [`Verifier`] does so for larger ones.
+/// A thread keeps the memory in which it verified small programs, with up to 3 KiB of code: less than 256 KiB. [`Verifier`] does
+/// so for larger ones.
 ///
 /// # Errors
 /// Those of [`verify`], and [`Cause::TooFewNumbers`] where there are fewer numbers than chunks; then nothing is written.

@@ -36,8 +36,9 @@ impl From<TryReserveError> for PoolError {
 
 /// What a program has beside its code and its chunks, as far as verification looks at it.
 ///
-/// It is built up item by item, in the order of their indices: by calls that are chained and take memory as a `Vec` does, or
-/// by calls on it where it stands, which answer the index of the item, and an error where memory is wanted. Cleared, it keeps
+/// It is built up item by item, in the order of their indices: by calls that are chained and take memory as a `Vec` does, 1 KiB
+/// for each of the eight lists with the first item, or by calls on it where it stands, which answer the index of the item, and
+/// an error where memory is wanted. Cleared, it keeps
 /// its memory for the next program. Dropped, it leaves it to the next pools of its thread, where no list has room for more
 /// than 1 KiB.
 ///
@@ -66,7 +67,7 @@ pub struct Pools {
     functions: usize,
 }
 
-/// Lists behind one pointer: a box of one, since a `Vec` can be asked for memory that may be refused, and a box of it made.
+/// Lists behind one pointer. They are an array of one: a `Vec` can say that memory is wanted, and becomes a box of an array.
 type Own = Box<[Lists; 1]>;
 
 /// The lists of pools.
