@@ -9,9 +9,9 @@ use Rattle.std.proofs.lemmas.List.Sums.{sum_by-cons}
 use Rattle.std.proofs.lemmas.Grind.{flat_map-append}
 use Rattle.grain_code.specs.declared.op.Op.{Op}
 use Rattle.grain_code.specs.InstructionTable.{spelling, width_of}
-use Rattle.grain_code.specs.Split.{IsInstruction, AreInstructions, starts_from, Split, IsSplitBoundary, FrontEnds}
+use Rattle.grain_code.specs.Split.{IsInstruction, AreInstructions, StandsAt, starts_from, Split, IsSplitBoundary, FrontEnds}
 use Rattle.grain_code.proofs.Instructions.{spelling_width}
-use Rattle.grain_code.proofs.Splits.{one_front}
+use Rattle.grain_code.proofs.Splits.{one_front, one_more}
 
 pub spellings_width : (ops : List Op) → length (flat_map spelling ops) ≡ sum_by width_of ops
 spellings_width [] = refl
@@ -72,3 +72,11 @@ pub next_start : (code : List ℕ) (at : ℕ) (ops : List Op) (op : Op) → at �
 next_start code at ops op inside are =
     let long : 0 + sum_by width_of ops ≡ at = omega (arith, length-take-le at code inside, ap length are.whole, spellings_width ops) in
     starts-push 0 ops op ∙ ap (λ n. starts_from 0 ops ++ n ∷ []) long
+
+-- a front that splits, and the instruction that stands behind it
+pub split_more : (code starts : List ℕ) (at next : ℕ) (op : Op) → at ≤ length code → Split (take at code) starts → StandsAt code at op → next ≡ at + width_of op → Split (take next code) (starts ++ at ∷ [])
+split_more code starts at next op inside split stands is = (
+  split.0 ++ op ∷ [],
+  subst (λ n. AreInstructions (take n code) (split.0 ++ op ∷ [])) (sym is) (one_more code at split.0 op split.1 stands),
+  ap (λ xs. xs ++ at ∷ []) split.2 ∙ sym (next_start code at split.0 op inside split.1),
+)

@@ -19,9 +19,9 @@ filling_none = record {
 }
 
 -- a start more, in the word that is open
-pub filling_start : (words : List Word) (before bits count at width : ℕ) (starts : List ℕ) → length words ≡ at / 64 → 0 < width → Filling words before bits count at starts
-    → Filling words before (bit_or bits (1 * 2 ^ (at % 64) % 2 ^ 64)) (count + 1) (at + width) (starts ++ at ∷ [])
-filling_start words before bits count at width starts last some filling =
+pub filling_start : (words : List Word) (before bits count at next : ℕ) (starts : List ℕ) → length words ≡ at / 64 → at < next → Filling words before bits count at starts
+    → Filling words before (bit_or bits (1 * 2 ^ (at % 64) % 2 ^ 64)) (count + 1) next (starts ++ at ∷ [])
+filling_start words before bits count at next starts last ahead filling =
     let old = all_bits words bits in
     let new = all_bits words (bit_or bits (1 * 2 ^ (at % 64) % 2 ^ 64)) in
     let long : length (bits_of words) ≡ at / 64 = length-map words (λ (w : Word). w.bits) ∙ last in
@@ -30,7 +30,7 @@ filling_start words before bits count at width starts last some filling =
     let kept : (n : ℕ) → n ≤ at → set_below new n ≡ set_below old n = λ n fits. alike new old n (λ b lower. other b (omega arith)) in
     let open_fits : 64 * length words ≤ at = omega (arith, last, div-add-mod at 64) in
     record {
-      below = gap new (at + 1) (at + width) (omega arith) (λ b from. clear b (omega arith)) ∙ rw add-one (below_set new at (set_here (bits_of words) bits at long))
+      below = gap new (at + 1) next (omega arith) (λ b from. clear b (omega arith)) ∙ rw add-one (below_set new at (set_here (bits_of words) bits at long))
           ∙ ap (λ xs. xs ++ at ∷ []) (kept at (omega arith) ∙ filling.below);
       clear = λ b from. clear b (omega arith);
       closed = λ i word is. filling.closed i word is ∙ ap length (sym (kept (64 * i) (omega (arith, open_fits, slice_get_within words i word is))));

@@ -1,5 +1,5 @@
 -- The starts of code as contracts see them, and how bits stand for them.
-use Rattle.std.specs.Prelude.{◌≡◌, ℕ, ◌*◌, ◌/◌, ◌%◌, ◌≤◌, ◌==◌, ◌++◌, ◌∷◌, [], Bool, false, List, map, length, take, filter, slice_get, slice_index, Some}
+use Rattle.std.specs.Prelude.{◌≡◌, ℕ, ◌*◌, ◌/◌, ◌%◌, ◌≤◌, ◌<◌, ◌==◌, ◌++◌, ◌∷◌, [], Bool, false, List, map, length, take, filter, slice_get, slice_index, Some}
 use Rattle.std.specs.Int.{bit_at}
 use Rattle.std.specs.List.{range_with_len}
 use Rattle.grain_code.specs.Split.{AreInstructions, Split, NoneStandsAt, starts_from}
@@ -53,3 +53,17 @@ pub record Filling (words : List Word) (before bits count at : ℕ) (starts : Li
 -- code is read up to an address, and the starts up to there are in these words and the open one
 abbrev pub ReadTo : List ℕ → List Word → ℕ → ℕ → ℕ → ℕ → Type 0
 ReadTo code words before bits count at = (ops : List Op) × AreInstructions (take at code) ops × Filling words before bits count at (starts_from 0 ops)
+
+-- the starts of a front as far as they are written down: where it ends, where its instructions begin, and how many words of
+-- 64 addresses there is room for
+pub record Growth : Type 0 where
+  pub end : ℕ
+  pub starts : List ℕ
+  pub room : ℕ
+
+-- the words are full up to the one that the end lies in, which is open, and there is room for it
+pub record IsGrowing (words : List Word) (before bits count end capacity : ℕ) : Type 0 where
+  pub filling : Filling words before bits count end (set_below (all_bits words bits) end)
+  pub opened : length words ≡ end / 64
+  pub room : end / 64 < capacity
+  pub few : count ≤ end

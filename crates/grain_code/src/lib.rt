@@ -3,7 +3,8 @@
 //!
 //! Code is a sequence of instructions of one to seven bytes: a tag and its fields (docs/FORMAT.md).
 //! `specs/InstructionTable.antt` is the instruction table that every contract on code speaks of. A host uses
-//! `grain_bytecode` or `grain`, which give out all that is public here but how an operation is laid out.
+//! `grain_bytecode` or `grain`, which give out all that is public here but how an operation is laid out and how starts are
+//! written down.
 #![tactic(auto)]
 
 mod chunk;
@@ -27,6 +28,6 @@ pub use field::{Field, Fields, Pool, layout, width_of};
 pub use function::Function;
 pub use instruction::{Instruction, decode_standing};
 pub use op::{Op, Receiver};
-pub use starts::Starts;
+pub use starts::{Growing, Starts};
 pub use tag_table::{TagFlow, TagRow, tag_row};
 pub use tag_widths::{Head, width};

@@ -1,8 +1,8 @@
 //! Where the instructions of code begin: a bit for each address.
-ghost use Rattle.std.specs.Prelude.{◌≡◌, ◌↔◌, ◌≤◌, ◌<◌, ◌+◌, ◌*◌, [], ℕ, List, IsTrue, IfOk, IfSome, Some, length, count_by, nat_lt, slice_get};
+ghost use Rattle.std.specs.Prelude.{◌≡◌, ◌↔◌, ◌<◌, ◌≤◌, ◌+◌, ◌*◌, ◌/◌, ◌++◌, ◌∷◌, [], ℕ, List, IsTrue, IfErr, IfOk, IfSome, Some, length, count_by, nat_lt, slice_get, vec_capacity};
 ghost use Rattle.std.specs.List.{Contains};
 ghost use Rattle.grain_code.specs.Split.{NoneStandsAt, Split};
-ghost use Rattle.grain_code.specs.Starts.{ReadTo};
+ghost use Rattle.grain_code.specs.Starts.{Filling, ReadTo};
 
 use crate::tag_widths::width;
 use std::alloc::{AllocError, Global};
@@ -36,6 +36,141 @@ impl Model for Starts {
     ghost view = { λ s. record { end = s.end; starts = starts_in s.words.items } };
 
     ghost invariant = { λ s. IsCounted s.words.items s.count };
+}
+
+/// The starts of a front as far as they are written down, from the first on, in memory with room for more: a verifier tests
+/// each instruction as it writes down where it begins.
+///
+/// No call takes memory. Contracts see where the front ends, the list of its starts, and how many words of 64 addresses
+/// there is room for.
+#[derive(Drop)]
+pub struct Growing {
+    /// The words that are full.
+    words: Vec<Word>,
+    /// The one that the end of the front lies in.
+    word: Word,
+    end: usize,
+    count: usize,
+}
+
+impl Model for Growing {
+    ghost use Rattle.std.specs.Vec.{vec_capacity};
+    ghost use Rattle.grain_code.specs.Starts.{Growth, IsGrowing, all_bits, set_below};
+
+    ghost Value = { Growth };
+
+    ghost view = { λ g. record {
+      end = g.end;
+      starts = set_below (all_bits g.words.items g.word.bits) g.end;
+      room = vec_capacity g.words;
+    } };
+
+    ghost invariant = { λ g. IsGrowing
+        g.words.items g.word.before g.word.bits g.count g.end (vec_capacity g.words) };
+}
+
+/// Closes each word that lies before the end of the front, the open one first, and answers the one that is open then.
+#[inline(always)]
+fn close(words: &mut Vec<Word>, word: Word, count: usize, end: usize) -> Word
+    requires room { end / 64 < vec_capacity words.old }
+    requires behind { length words.old.items ≤ end / 64 }
+    ensures room { vec_capacity words.new ≡ vec_capacity words.old }
+    ensures opened { length words.new.items ≡ end / 64 }
+    ensures filling { (starts : List ℕ)
+        → Filling words.old.items word.before word.bits count end starts
+        → Filling words.new.items result.before result.bits count end starts }
+{
+    let mut current = word;
+    while words.len() < end / 64 {
+        words.push_reserved(current);
+        current = Word {
+            before: count,
+            bits: 0,
+        };
+    }
+    current
+}
+
+impl Growing {
+    /// None so far, in the memory of these words.
+    #[inline(always)]
+    fn begin(mut words: Vec<Word>) -> Growing
+        requires { 0 < vec_capacity words }
+        ensures { result ≡ record { end = 0; starts = []; room = vec_capacity words } }
+    {
+        words.clear();
+        Growing {
+            words,
+            word: Word { before: 0, bits: 0 },
+            end: 0,
+            count: 0,
+        }
+    }
+
+    /// None so far, in the memory of these starts, where it suffices for code of so many bytes.
+    ///
+    /// # Errors
+    ///
+    /// The starts, as they were, where their memory doesn't suffice.
+    #[inline(always)]
+    pub fn within(starts: Starts, bytes: usize) -> Result<Growing, Starts>
+        ensures begun { IfOk result (λ g. (g.end ≡ 0) × (g.starts ≡ [])) }
+        ensures room { IfOk result (λ g. bytes / 64 < g.room) }
+        ensures lacking { IfErr result (λ s. s ≡ starts) }
+    {
+        let Starts { words, end, count } = starts;
+        if words.capacity() <= bytes / 64 {
+            return Err(Starts { words, end, count });
+        }
+        Ok(Growing::begin(words))
+    }
+
+    /// Where the front ends: behind the instruction that was written down last.
+    ///
+    /// It takes constant time.
+    #[inline(always)]
+    #[must_use]
+    pub fn end(&self) -> usize
+        ensures { result ≡ self.now.end }
+    {
+        self.end
+    }
+
+    /// One instruction more, which begins where the front ended, and the address behind it.
+    ///
+    /// It takes constant time, and time by the words in between where the instruction has more than 64 bytes.
+    #[inline(always)]
+    pub fn push(&mut self, next: usize)
+        requires further { self.old.end < next }
+        requires room { next / 64 < self.old.room }
+        ensures { self.new ≡ record {
+          end = next;
+          starts = self.old.starts ++ self.old.end ∷ [];
+          room = self.old.room;
+        } }
+    {
+        let Word { before, bits } = self.word;
+        let bits = bits | 1u64 << (self.end % 64);
+        self.count += 1;
+        self.end = next;
+        self.word = close(&mut self.words, Word { before, bits }, self.count, next);
+    }
+
+    /// The starts that were written down, and the end of their front.
+    #[inline(always)]
+    #[must_use]
+    pub fn finish(self) -> Starts
+        ensures { result ≡ record { end = self.end; starts = self.starts } }
+    {
+        let Growing {
+            mut words,
+            word,
+            end,
+            count,
+        } = self;
+        words.push_reserved(word);
+        Starts { words, end, count }
+    }
 }
 
 /// A front as far as it was read: its last word, where it ends, and how many starts it has.

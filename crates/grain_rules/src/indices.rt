@@ -1,9 +1,12 @@
 //! Indices into pools and among the operands of chains.
-ghost use Rattle.std.specs.Prelude.{◌≡◌, [], ◌∷◌, ◌<◌, ◌≤◌, IfErr, IfOk, OnOk, ℕ, get_or, length, map, take};
+ghost use Rattle.std.specs.Prelude.{◌≡◌, [], ◌∷◌, ◌+◌, ◌<◌, ◌≤◌, IfErr, IfOk, OnOk, ℕ, get_or, length, map, take};
 ghost use Rattle.std.specs.Option.{option_to_list};
 ghost use Rattle.grain_rules.specs.Facts.{Entry};
 ghost use Rattle.grain_pools.specs.Dispatch.{first_past};
+ghost use Rattle.grain_code.specs.InstructionTable.{width_of};
+ghost use Rattle.grain_code.specs.Split.{StandsAt};
 ghost use Rattle.grain_code.specs.declared.field.Pool.{Pool};
+ghost use Rattle.grain_code.specs.declared.op.Op.{Op};
 ghost use Rattle.grain_rules.specs.Accepted.{AreIndexed};
 ghost use Rattle.grain_rules.specs.Flaw.{CodeFlaw};
 ghost use Rattle.grain_rules.specs.FirstOut.{CasesPass, ChainsPass, HavePassed, alone, bound_word, first_out};
@@ -148,6 +151,7 @@ fn bad_constant_of<P: Read>(pools: &P, passed: &mut [u64], op: &Op) -> Option<u3
 
 /// Tests every index of an operation: its own, those inside the chain that it names, and those of the cases of its switch.
 #[tactic(auto, using(crate::proofs::Testing::indexed, crate::proofs::Testing::index_out, crate::proofs::Testing::case_out))]
+#[inline(always)]
 fn check_op<P: Read, const N: usize>(
     pools: &P,
     passed: &mut Passed<N>,
@@ -186,7 +190,8 @@ fn skip_unindexed(code: &[u8], from: usize) -> usize
 }
 
 /// Where the next instruction begins, once the one at an address has been tested.
-fn check_at<P: Read, const N: usize>(
+#[inline(always)]
+pub(crate) fn check_at<P: Read, const N: usize>(
     pools: &P,
     passed: &mut Passed<N>,
     code: &[u8],
@@ -198,6 +203,8 @@ fn check_at<P: Read, const N: usize>(
     ensures passed { HavePassed (P.facts pools.now) passed.new.chains passed.new.switches }
     ensures further { IfOk result (λ next. (at < next) × (next ≤ length code.now)) }
     ensures ok { IfOk result (λ next. AreIndexed (alone (P.facts pools.now)) (take next code.now)) }
+    ensures stands { IfOk result (λ next. (op : Op) × StandsAt code.now at op
+        × (next ≡ at + width_of op)) }
     ensures err { IfErr result (λ e. CodeFlaw (alone (P.facts pools.now)) code.now e) }
 {
     let Some(instruction) = Instruction::at(code, at) else {

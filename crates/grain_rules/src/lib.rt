@@ -19,6 +19,7 @@ mod passed;
 mod pool_reads;
 mod pools;
 mod read;
+mod starting;
 mod unindexed;
 
 pub use asks::{Asks, asked_beside, chain_caps, name_caps};
@@ -33,3 +34,4 @@ pub use indices::check_code;
 pub use pool_reads::{NoPools, SwitchTargets};
 pub use pools::Pools;
 pub use read::{Read, Targets};
+pub use starting::{Started, start_code};

@@ -1,11 +1,11 @@
 //! The verifier.
-ghost use Rattle.std.specs.Prelude.{◌≡◌, ℕ, IfErr, IfOk, List, OnOk};
+ghost use Rattle.std.specs.Prelude.{◌≡◌, ℕ, IfErr, IfOk, IfSome, IsTrue, List, OnOk};
 ghost use Rattle.std.specs.List.{All, AllZip};
 ghost use Rattle.grain_code.specs.Span.{Span};
 ghost use Rattle.grain_code.specs.Split.{Split};
 ghost use Rattle.grain_rules.specs.Accepted.{AreIndexed, ChunkPasses, input, input_beside};
 ghost use Rattle.grain_rules.specs.Code.{bytecode_beside, coded};
-ghost use Rattle.grain_rules.specs.Flaw.{Flaw};
+ghost use Rattle.grain_rules.specs.Flaw.{CodeFlaw, Flaw};
 ghost use Rattle.grain_verify.specs.Meter.{IsMetered};
 ghost use Rattle.grain_verify.specs.Progress.{AreMeteredChunks};
 ghost use Rattle.grain_verify.specs.Refusals.{IsChunkRefusal, IsPlacedRefusal, without_place};
@@ -21,26 +21,108 @@ use crate::meter::Meter;
 use crate::refusal::Refusal;
 use crate::scratch::Scratch;
 use crate::walk::{Prepared, Traversal};
-use grain_code::{Chunk, Function, Starts};
-use grain_rules::{Pools, Read, VerifyError, check_code, check_constants, check_functions};
+use grain_code::{Chunk, Function, Growing, Starts};
+use grain_rules::{
+    Pools, Read, VerifyError, check_code, check_constants, check_functions, start_code,
+};
 use grain_values::{Caps, Dynamic};
-use std::alloc::Global;
+use std::alloc::{AllocError, Global};
 use std::mem;
 
+/// Code of fewer bytes is read twice, for its indices and for its starts: to read it once would take longer.
+const SHORT_CODE: usize = 64;
+
+/// Tests the code and its indices while its starts are written down, where their memory suffices, or `None`. It is compiled
+/// apart, so that the walk has the registers that it would have without.
+#[inline(never)]
+fn start_within<P: Read>(
+    alloc: Global,
+    starts: &mut Starts,
+    code: &[u8],
+    pools: &P,
+) -> Option<Result<(), VerifyError>>
+    ensures ok { IfSome result (λ tested. OnOk tested
+        ((caps : ℕ) → AreIndexed (with_caps caps (P.facts pools.now)) code.now)) }
+    ensures known { IfSome result (λ tested. OnOk tested
+        (Split code.now starts.new.starts)) }
+    ensures err { IfSome result (λ tested. IfErr tested
+        (λ e. (caps : ℕ) → CodeFlaw (with_caps caps (P.facts pools.now)) code.now e)) }
+{
+    let room = mem::replace(starts, Starts::none(alloc));
+    match Growing::within(room, code.len()) {
+        Ok(growing) => {
+            let started = start_code(pools, code, growing);
+            *starts = started.starts;
+            Some(started.tested)
+        }
+        Err(room) => {
+            *starts = room;
+            None
+        }
+    }
+}
+
+/// Does the same of code that isn't short.
+#[inline(always)]
+fn check_and_start<P: Read>(
+    alloc: Global,
+    starts: &mut Starts,
+    code: &[u8],
+    pools: &P,
+) -> Option<Result<(), VerifyError>>
+    ensures ok { IfSome result (λ tested. OnOk tested
+        ((caps : ℕ) → AreIndexed (with_caps caps (P.facts pools.now)) code.now)) }
+    ensures known { IfSome result (λ tested. OnOk tested
+        (Split code.now starts.new.starts)) }
+    ensures err { IfSome result (λ tested. IfErr tested
+        (λ e. (caps : ℕ) → CodeFlaw (with_caps caps (P.facts pools.now)) code.now e)) }
+{
+    if code.len() < SHORT_CODE {
+        return None;
+    }
+    start_within(alloc, starts, code, pools)
+}
+
+/// Tests the code and its indices, and says whether the starts are those of the code now.
+fn check_code_within<P: Read>(
+    alloc: Global,
+    starts: &mut Starts,
+    code: &[u8],
+    pools: &P,
+) -> Result<bool, VerifyError>
+    ensures ok { OnOk result
+        ((caps : ℕ) → AreIndexed (with_caps caps (P.facts pools.now)) code.now) }
+    ensures known { IfOk result (λ known. IsTrue known → Split code.now starts.new.starts) }
+    ensures err { IfErr result
+        (λ e. (caps : ℕ) → CodeFlaw (with_caps caps (P.facts pools.now)) code.now e) }
+{
+    match check_and_start(alloc, starts, code, pools) {
+        Some(Ok(())) => Ok(true),
+        Some(Err(error)) => Err(error),
+        None => match check_code(pools, code) {
+            Ok(()) => Ok(false),
+            Err(error) => Err(error),
+        },
+    }
+}
+
 /// The tests before the chunks: of the constants, of the code and its indices, and of the functions. They take no
-/// memory.
+/// memory. Whether the starts are those of the code then, it answers: it makes them so where they have room for it.
 ///
 /// # Errors
 /// The first of them that fails, by its name.
 fn check_before_chunks<P: Read>(
+    alloc: Global,
+    starts: &mut Starts,
     caps: Caps,
     consts: &[Dynamic],
     code: &[u8],
     functions: &[Function],
     pools: &P,
-) -> Result<(), VerifyError>
+) -> Result<bool, VerifyError>
     ensures ok { (chunks : List Span) → OnOk result (ReachesChunks (input_beside caps.0 consts.now
         code.now functions.now chunks (P.facts pools.now) (P.leads pools.now))) }
+    ensures known { IfOk result (λ known. IsTrue known → Split code.now starts.new.starts) }
     ensures refused { (chunks : List Span) → ReachesChunks (input_beside caps.0 consts.now
         code.now functions.now chunks (P.facts pools.now) (P.leads pools.now))
         → IfErr result (λ _. ⊥) }
@@ -48,8 +130,9 @@ fn check_before_chunks<P: Read>(
         code.now functions.now chunks (P.facts pools.now) (P.leads pools.now))) }
 {
     check_constants(caps, consts)?;
-    check_code(pools, code)?;
-    check_functions(caps, functions)
+    let is_known = check_code_within(alloc, starts, code, pools)?;
+    check_functions(caps, functions)?;
+    Ok(is_known)
 }
 
 /// Writes down the deepest operand stack of each chunk, or says why the first is refused that is.
@@ -127,17 +210,33 @@ fn walk_chunks<P: Read>(
     walked
 }
 
+/// The starts of code that is whole instructions: those that are known, or else in their memory.
+///
+/// # Errors
+/// [`AllocError`] where the memory was refused.
+#[inline(always)]
+fn starts_of(room: Starts, is_known: bool, code: &[u8]) -> Result<Starts, AllocError>
+    requires { IsTrue is_known → Split code.now room.starts }
+    ensures { (starts : List ℕ) → Split code.now starts
+        → IfOk result (λ s. s.starts ≡ starts) }
+{
+    if is_known { Ok(room) } else { room.again(code) }
+}
+
 /// The deepest operand stack of each chunk of code that is whole instructions, or why the first is refused that is.
+/// `is_known` says that the scratch has the starts of the code.
 fn verify_chunks<P: Read>(
     alloc: Global,
     scratch: &mut Scratch,
+    is_known: bool,
     caps: Caps,
     code: &[u8],
     pools: &P,
     chunks: &[Chunk],
     meter: &mut Meter,
 ) -> Result<Vec<u16>, Refusal>
-    requires { AreIndexed (with_caps caps.0 (P.facts pools.now)) code.now }
+    requires indexed { AreIndexed (with_caps caps.0 (P.facts pools.now)) code.now }
+    requires known { IsTrue is_known → Split code.now scratch.old.starts.starts }
     ensures passes { OnOk result (All (ChunkPasses (bytecode_beside caps.0
         (P.facts pools.now) (P.leads pools.now) code.now)) chunks.now) }
     ensures typed { IfOk result (λ v. AllZip (HasTyping (coded (bytecode_beside caps.0
@@ -154,7 +253,7 @@ fn verify_chunks<P: Read>(
         starts chunks.now meter.old meter.new result }
 {
     let room = mem::replace(&mut scratch.starts, Starts::none(alloc));
-    let starts = room.again(code)?;
+    let starts = starts_of(room, is_known, code)?;
     let prepared = Prepared::new(caps, code, pools, starts);
     let walked = walk_chunks(alloc, &prepared, chunks, scratch, meter);
     scratch.starts = prepared.into_starts();
@@ -318,8 +417,9 @@ impl Scratch {
             chunks.now (P.facts pools.now) (P.leads pools.now))
             meter.old meter.new (without_place result) }
     {
-        match check_before_chunks(caps, consts, code, functions, pools) {
-            Ok(()) => verify_chunks(alloc, self, caps, code, pools, chunks, meter),
+        let starts = &mut self.starts;
+        match check_before_chunks(alloc, starts, caps, consts, code, functions, pools) {
+            Ok(is_known) => verify_chunks(alloc, self, is_known, caps, code, pools, chunks, meter),
             Err(error) => Err(Refusal::of_whole(error)),
         }
     }

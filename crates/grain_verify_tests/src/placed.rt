@@ -95,3 +95,27 @@ fn a_scratch_serves_one_program_after_another(rt: HostRuntime) {
     );
     assert_same(&rt, said_with(rt.alloc(), &mut scratch, &CODE, 2), Ok(1));
 }
+
+/// 130 ticks, a unit value and that tag, in a scratch.
+fn said_of_long_code(alloc: Global, scratch: &mut Scratch, last: u8) -> Result<u16, Refusal> {
+    let mut code = vec![in alloc; 0x12; 130]?;
+    code.extend_from_slice(&[0x02, last])?;
+    said_with(alloc, scratch, &code, 132)
+}
+
+#[test]
+fn long_code_in_a_scratch_that_has_room(rt: HostRuntime) {
+    let refusal = Refusal {
+        place: None,
+        error: VerifyError::Undecodable { at: 131 },
+    };
+    let mut scratch = Scratch::new(rt.alloc());
+    for _ in 0..2 {
+        let said = said_of_long_code(rt.alloc(), &mut scratch, 0x13);
+        assert_same(&rt, said, Ok(1));
+    }
+    let said = said_of_long_code(rt.alloc(), &mut scratch, 0xff);
+    assert_same(&rt, said, Err(refusal));
+    let said = said_of_long_code(rt.alloc(), &mut scratch, 0x13);
+    assert_same(&rt, said, Ok(1));
+}

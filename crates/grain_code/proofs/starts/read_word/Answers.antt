@@ -21,6 +21,6 @@ loop-at-preserved c =
           let ops = front.0 ++ found.0 ∷ [] in
           let are = subst (λ n. AreInstructions (take (s.at + n) code) ops) (sym found.2) (one_more code s.at front.0 found.0 front.1 found.1) in
           let here : length words ≡ s.at / 64 = let f = s.invariant.further in omega (arith, begun, limit, c.loop-at-test.true, div-add-mod s.at 64) in
-          let filling = filling_start words c.args.before s.bits s.count s.at c.in-Some.width (starts_from 0 front.0) here fits.0 front.2 in
+          let filling = filling_start words c.args.before s.bits s.count s.at (s.at + c.in-Some.width) (starts_from 0 front.0) here (omega (arith, fits.0)) front.2 in
           (ops, are, rw (next_start code s.at front.0 found.0 s.invariant.in_code front.1) filling);
     }

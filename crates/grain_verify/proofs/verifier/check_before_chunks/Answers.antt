@@ -1,5 +1,5 @@
 use Rattle.std.proofs.Common.{refl}
-use Rattle.std.proofs.lemmas.Result.{err_from_is_err_and, IfErr-weaker}
+use Rattle.std.proofs.lemmas.Result.{err_from_is_err_and}
 use Rattle.grain_rules.specs.Flaw.{of_code, of_constant, of_functions}
 use Rattle.grain_rules.specs.Setting.{with_caps}
 use Rattle.grain_rules.proofs.Whole.{none_asks, no_code_flaw}
@@ -16,18 +16,19 @@ returns-in_err-check_constants-clause-flaws g c chunks =
     let (asked, is, asks) = c.in_err-check_constants.ensures.err in
     rw (p.1, p.2, is) (of_constant refl asks)
 
-pub returns-in_err-check_code-clause-refused : goal.returns-in_err-check_code-clause-refused
-returns-in_err-check_code-clause-refused g c chunks a =
-    absurd (no_code_flaw (with_caps c.args.caps.0 (g.P.Read.facts c.args.pools.now)) c.args.code.now c.in_err-check_code.field-0.0 a.code (c.in_err-check_code.ensures.err c.args.caps.0))
+pub returns-in_err-is_known-clause-refused : goal.returns-in_err-is_known-clause-refused
+returns-in_err-is_known-clause-refused g c chunks a =
+    absurd (no_code_flaw (with_caps c.args.caps.0 (g.P.Read.facts c.args.pools.now)) c.args.code.now c.in_err-is_known.field-0.0 a.code (c.in_err-is_known.ensures.err c.args.caps.0))
 
-pub returns-in_err-check_code-clause-flaws : goal.returns-in_err-check_code-clause-flaws
-returns-in_err-check_code-clause-flaws g c chunks =
-    let p = err_from_is_err_and c.from_residual-in_err-check_code.result c.from_residual-in_err-check_code.ensures.1 in
-    rw (p.1, p.2) (of_code c.in_ok-check_constants.ensures.ok (c.in_err-check_code.ensures.err c.args.caps.0))
+pub returns-in_err-is_known-clause-flaws : goal.returns-in_err-is_known-clause-flaws
+returns-in_err-is_known-clause-flaws g c chunks =
+    let p = err_from_is_err_and c.from_residual-in_err-is_known.result c.from_residual-in_err-is_known.ensures.1 in
+    rw (p.1, p.2) (of_code c.in_ok-check_constants.ensures.ok (c.in_err-is_known.ensures.err c.args.caps.0))
 
-pub returns-clause-flaws : goal.returns-clause-flaws
-returns-clause-flaws g c chunks =
+pub returns-in_err-check_functions-clause-flaws : goal.returns-in_err-check_functions-clause-flaws
+returns-in_err-check_functions-clause-flaws g c chunks =
+    let p = err_from_is_err_and c.from_residual-in_err-check_functions.result c.from_residual-in_err-check_functions.ensures.1 in
+    let (asked, is, some, what, refused) = c.in_err-check_functions.ensures.err in
     let constants = c.in_ok-check_constants.ensures.ok in
-    let code = c.in_ok-check_code.ensures.ok c.args.caps.0 in
-    IfErr-weaker c.check_functions.result _ _ (λ e (asked, is, some, what, refused).
-    rw is (of_functions refl (record { constants = constants; code = code; functions = some; what = what; refused = refused }))) c.check_functions.ensures.err
+    let code = c.in_ok-is_known.ensures.ok c.args.caps.0 in
+    rw (p.1, p.2, is) (of_functions refl (record { constants = constants; code = code; functions = some; what = what; refused = refused }))

@@ -25,7 +25,7 @@ returns-in-Err-clause-memory g c =
     rw c.of_whole.ensures.error (memory_before i c.in-Err.error (c.in-Err.ensures.flaws c.args.chunks.now))
 
 pub verify_chunks-requires : goal.verify_chunks-requires
-verify_chunks-requires g c = (c.in-Ok.ensures.ok c.args.chunks.now).code
+verify_chunks-requires g c = record { indexed = (c.in-Ok.ensures.ok c.args.chunks.now).code; known = c.in-Ok.ensures.known }
 
 pub returns-in-Ok-clause-verdict : goal.returns-in-Ok-clause-verdict
 returns-in-Ok-clause-verdict g c =
