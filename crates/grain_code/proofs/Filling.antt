@@ -5,7 +5,7 @@ use Rattle.std.proofs.lemmas.Nat.{mod_below}
 use Rattle.std.proofs.lemmas.Option.{slice_get_within}
 use Rattle.std.proofs.Math.Nat.{div-add-mod}
 use Rattle.grain_code.specs.declared.starts.Word.{Word}
-use Rattle.grain_code.specs.Starts.{Filling, all_bits, is_set, set_below, bits_of, starts_in, IsCounted}
+use Rattle.grain_code.specs.Starts.{Filling, IsGrowing, all_bits, is_set, set_below, bits_of, starts_in, IsCounted}
 use Rattle.grain_code.proofs.SetBelow.{below_set, gap, alike, listed_cases}
 use Rattle.grain_code.proofs.Words.{past, no_bits, set_here, set_elsewhere}
 
@@ -37,6 +37,11 @@ filling_start words before bits count at next starts last ahead filling =
       opened = filling.opened ∙ ap length (sym (kept (64 * length words) open_fits));
       counted = omega (arith, filling.counted, length_push starts at);
     }
+
+-- a start more behind the front, before the words that end in front of it are closed
+pub grown_start : (words : List Word) (before bits count at next capacity : ℕ) → at < next → IsGrowing words before bits count at capacity
+    → Filling words before (bit_or bits (1 * 2 ^ (at % 64) % 2 ^ 64)) (count + 1) next (set_below (all_bits words bits) at ++ at ∷ [])
+grown_start words before bits count at next capacity ahead grown = filling_start words before bits count at next (set_below (all_bits words bits) at) grown.opened ahead grown.filling
 
 -- with the open word closed, each word counts those before it
 closed_more : (words : List Word) (before bits count at : ℕ) (starts : List ℕ) → Filling words before bits count at starts

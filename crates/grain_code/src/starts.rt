@@ -109,6 +109,8 @@ impl Growing {
 
     /// None so far, in the memory of these starts, where it suffices for code of so many bytes.
     ///
+    /// It takes constant time.
+    ///
     /// # Errors
     ///
     /// The starts, as they were, where their memory doesn't suffice.
@@ -157,6 +159,8 @@ impl Growing {
     }
 
     /// The starts that were written down, and the end of their front.
+    ///
+    /// It takes constant time.
     #[inline(always)]
     #[must_use]
     pub fn finish(self) -> Starts

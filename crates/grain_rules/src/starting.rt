@@ -16,7 +16,7 @@ use grain_code::{Growing, Pool, Starts};
 /// What [`start_code`] comes to.
 #[derive(Drop)]
 pub struct Started {
-    /// The starts of the code, where it passes. Else those of a front of it.
+    /// The starts of the code, where it passes.
     pub starts: Starts,
     /// Whether the code passes.
     pub tested: Result<(), VerifyError>,

@@ -107,7 +107,8 @@ fn check_code_within<P: Read>(
 }
 
 /// The tests before the chunks: of the constants, of the code and its indices, and of the functions. They take no
-/// memory. Whether the starts are those of the code then, it answers: it makes them so where they have room for it.
+/// memory. It answers whether the starts are those of the code then: it makes them so where the code isn't short and they
+/// have room for it.
 ///
 /// # Errors
 /// The first of them that fails, by its name.
