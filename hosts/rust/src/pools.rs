@@ -5,7 +5,7 @@ use std::cell::Cell;
 use std::collections::TryReserveError;
 use std::fmt;
 use std::hash::{Hash, Hasher};
-use std::mem::{size_of, take};
+use std::mem::size_of;
 
 /// Why an item isn't added to pools. They are as they were then.
 #[derive(Clone, Copy, Debug, PartialEq, Eq, Hash)]
@@ -513,16 +513,22 @@ impl Pools {
     }
 }
 
+/// Leaves small lists to the next pools of the thread.
+fn leave(mut own: Own) {
+    let [lists] = &mut *own;
+    if lists.are_small() {
+        lists.clear();
+        // Nothing keeps them where the thread is about to end.
+        let _ = SPARE.try_with(|spare| spare.set(Some(own)));
+    }
+}
+
 impl Drop for Pools {
+    // As a call it would want the pools in memory, and then each chained call would write and read all of them.
+    #[inline(always)]
     fn drop(&mut self) {
-        let Some(mut own) = take(&mut self.lists) else {
-            return;
-        };
-        let [lists] = &mut *own;
-        if lists.are_small() {
-            lists.clear();
-            // Nothing keeps them where the thread is about to end.
-            let _ = SPARE.try_with(|spare| spare.set(Some(own)));
+        if let Some(own) = self.lists.take() {
+            leave(own);
         }
     }
 }
