@@ -1,5 +1,6 @@
 -- Rows that are a typing are not refused.
 use Rattle.std.proofs.Common.{◌≡◌, inl, inr, ℕ, ◌≤◌, List, Some, length, slice_get, sym, ap, subst, ◌∙◌, arith}
+use Rattle.std.proofs.lemmas.Option.{get_or_from_slice_get, slice_get_within}
 use Rattle.grain_code.specs.Span.{Span}
 use Rattle.grain_code.specs.declared.op.Op.{Op}
 use Rattle.grain_code.proofs.Splits.{no_front_inside}
@@ -12,14 +13,15 @@ use Rattle.grain_rules.specs.Sinking.{FallsShortOf, ReachesUpTo, untouched}
 use Rattle.grain_rules.specs.Typing.{IsInChunk, Passes}
 use Rattle.grain_rules.proofs.Once.{stands_once}
 use Rattle.grain_explain.specs.Certificate.{IsCertificate, RowLacks, RowsFlaw}
-use Rattle.grain_explain.specs.Claimed.{ArePlaced, AreSound, code_claimed, span_claimed}
+use Rattle.grain_explain.specs.Claimed.{ArePlaced, AreSound, IsLaid, code_claimed, span_claimed}
 use Rattle.grain_explain.specs.Lacking.{FindsLacking}
-use Rattle.grain_explain.specs.RowView.{AreAscending, counts_of, typing_of}
+use Rattle.grain_explain.specs.RowView.{AreAscending, counts_of, no_base, typing_of}
 use Rattle.grain_explain.specs.declared.claim.Claim.{Claim}
 use Rattle.grain_explain.specs.declared.error.TypingError.{TypingError}
 use Rattle.grain_explain.specs.declared.error.TypingError.TheVariants as errors
 use Rattle.grain_explain.specs.declared.needs.Lack.{Lack}
 use Rattle.grain_explain.specs.declared.needs.Lack.TheVariants as lacks
+use Rattle.grain_explain.specs.declared.row.LinkedBase.{LinkedBase}
 use Rattle.grain_explain.specs.declared.row.Row.{Row}
 use Rattle.grain_explain.proofs.Typings.{row_typed, typed_by}
 
@@ -51,61 +53,69 @@ lacks_nothing code chunk at c op lacks.Iterators p (a, l) = let h = p.meets.iter
 lacks_nothing code chunk at c op lacks.Handlers p (a, l) = let h = p.meets.handlers in omega arith
 lacks_nothing code chunk at c op (lacks.Reserve need have) p (a, meets, (loud, short)) = enough_left (last_base c.bases) (untouched code.setting op c) need have (p.stays loud) short
 
-module _ (code : Bytecode) (chunk : Span) (rows : List Row) (sure : IsCertificate code chunk rows) where
-  met_here : (k : ℕ) (r : Row) → slice_get rows k ≡ Some r → (op : Op) × Passes (coded code) chunk r.at (counts_of r) op
-  met_here k r is = sure.typing.met r.at (counts_of r) (row_typed rows k r sure.ascending is)
+module _ (code : Bytecode) (chunk : Span) (bases : List LinkedBase) (rows : List Row) (sure : IsCertificate code chunk bases rows) where
+  met_here : (k : ℕ) (r : Row) → slice_get rows k ≡ Some r → (op : Op) × Passes (coded code) chunk r.at (counts_of bases r) op
+  met_here k r is = sure.typing.met r.at (counts_of bases r) (row_typed bases rows k r sure.ascending is)
 
-  no_row_lacks : (k : ℕ) (lack : Lack) → RowLacks code rows k lack → ⊥
+  no_row_lacks : (k : ℕ) (lack : Lack) → RowLacks code bases rows k lack → ⊥
   no_row_lacks k lack h =
       let met = met_here k h.row h.here.is in
       let same = stands_once code.bytes h.row.at met.0 h.op met.1.stands.is h.here.stands in
-      lacks_nothing code chunk h.row.at (counts_of h.row) h.op lack (subst (λ (o : Op). Passes (coded code) chunk h.row.at (counts_of h.row) o) same met.1) h.lacks
+      lacks_nothing code chunk h.row.at (counts_of bases h.row) h.op lack (subst (λ (o : Op). Passes (coded code) chunk h.row.at (counts_of bases h.row) o) same met.1) h.lacks
 
-  pub no_rows_flaw : (e : TypingError) → RowsFlaw code chunk rows e → ⊥
+  pub no_rows_flaw : (e : TypingError) → RowsFlaw code chunk bases rows e → ⊥
   no_rows_flaw (errors.Undecodable at) (l, f) = no_front_inside code.bytes at sure.framed.entry.starts l f sure.framed.entry.split
   no_rows_flaw errors.ChunkOutOfRange (inl l) = let h = sure.framed.inside in omega arith
   no_rows_flaw errors.ChunkOutOfRange (inr l) = let h = sure.framed.ordered in omega arith
   no_rows_flaw errors.EndsInside h = h sure.framed.end
+  no_rows_flaw (errors.Unlinked base) (here, is, l) =
+      let inside = slice_get_within bases base here is in
+      let same = ap (λ (b : LinkedBase). b.next) (get_or_from_slice_get bases base here no_base is) in
+      let p = sure.linked base inside in
+      omega arith
+  no_rows_flaw (errors.NoList row) (here, is, l) = let h = sure.listed row here is in omega arith
   no_rows_flaw (errors.NotAscending row) (before, here, k, next, eb, eh, l) = let h = sure.ascending k row before here (omega arith) eb eh in omega arith
   no_rows_flaw (errors.OutsideChunk row) (here, is, inl l) = let h = (met_here row here is).1.stands.within.entry in omega arith
   no_rows_flaw (errors.OutsideChunk row) (here, is, inr l) = let h = (met_here row here is).1.stands.within.end in omega arith
   no_rows_flaw (errors.NoStart row) (here, is, none) = none (met_here row here is).1.stands.within.place
   no_rows_flaw errors.BadEntry h = h sure.typing.entry
-  no_rows_flaw (errors.TooDeep row) (here, is, l) = let h = sure.typing.shallow here.at (counts_of here) (row_typed rows row here sure.ascending is) in omega arith
+  no_rows_flaw (errors.TooDeep row) (here, is, l) = let h = sure.typing.shallow here.at (counts_of bases here) (row_typed bases rows row here sure.ascending is) in omega arith
   no_rows_flaw (errors.MissingCaps row absent) h = no_row_lacks row (lacks.Capabilities absent) h
   no_rows_flaw (errors.Underflow row need) h = no_row_lacks row (lacks.Operands need) h
   no_rows_flaw (errors.IteratorUnderflow row) h = no_row_lacks row lacks.Iterators h
   no_rows_flaw (errors.HandlerUnderflow row) h = no_row_lacks row lacks.Handlers h
   no_rows_flaw (errors.SinksBelowHandler row need have) h = no_row_lacks row (lacks.Reserve need have) h
   no_rows_flaw (errors.Unmatched row target) h =
-      h.astray (sure.typing.closed h.row.at (counts_of h.row) h.op target h.counts (row_typed rows row h.row sure.ascending h.here.is) h.here.stands h.edge)
+      h.astray (sure.typing.closed h.row.at (counts_of bases h.row) h.op target h.counts (row_typed bases rows row h.row sure.ascending h.here.is) h.here.stands h.edge)
 
 -- what the tests of the rows find is that they are a typing
-pub certified : (g : Claim) → g.chunk.now.entry ≤ g.chunk.now.end → g.chunk.now.end ≤ length g.code.now → IsBoundary g.code.now g.chunk.now.end → AreAscending g.rows.now → ArePlaced g
-    → typing_of g.rows.now g.chunk.now.entry ≡ Some nothing → AreSound g → IsCertificate (code_claimed g) (span_claimed g) g.rows.now
-certified g ordered inside end up placed entry sound =
-    let first = typed_by g.rows.now g.chunk.now.entry nothing entry in
+pub certified : (g : Claim) → g.chunk.now.entry ≤ g.chunk.now.end → g.chunk.now.end ≤ length g.code.now → IsBoundary g.code.now g.chunk.now.end → IsLaid g → ArePlaced g
+    → typing_of g.bases.now g.rows.now g.chunk.now.entry ≡ Some nothing → AreSound g → IsCertificate (code_claimed g) (span_claimed g) g.bases.now g.rows.now
+certified g ordered inside end laid placed entry sound =
+    let first = typed_by g.bases.now g.rows.now g.chunk.now.entry nothing entry in
     let there : IsInChunk (coded (code_claimed g)) g.chunk.now g.chunk.now.entry = subst (IsInChunk (coded (code_claimed g)) g.chunk.now) first.at_is (placed first.place first.row first.is) in
     record {
       framed = record { ordered = ordered; inside = inside; entry = there.place; end = end };
-      ascending = up;
+      linked = laid.linked;
+      listed = laid.listed;
+      ascending = laid.ascending;
       typing = record {
         entry = entry;
-        shallow = λ at c e. (let h = typed_by g.rows.now at c e in let s = (sound h.place h.row h.is).shallow in let k = ap (λ (x : Counts). x.operands) h.counts in omega arith);
+        shallow = λ at c e. (let h = typed_by g.bases.now g.rows.now at c e in let s = (sound h.place h.row h.is).shallow in let k = ap (λ (x : Counts). x.operands) h.counts in omega arith);
         met = λ at c e. (
-            let h = typed_by g.rows.now at c e in
+            let h = typed_by g.bases.now g.rows.now at c e in
             let s = sound h.place h.row h.is in
-            (s.op, respanned (code_claimed g) g.chunk.now g.most at c s.op (passes_there (code_claimed g) g.chunk.now h.row.at at (counts_of h.row) c s.op h.at_is h.counts s.passes))
+            (s.op, respanned (code_claimed g) g.chunk.now g.most at c s.op (passes_there (code_claimed g) g.chunk.now h.row.at at (counts_of g.bases.now h.row) c s.op h.at_is h.counts s.passes))
             );
         closed = λ at c op b d e reads edge. (
-            let h = typed_by g.rows.now at c e in
+            let h = typed_by g.bases.now g.rows.now at c e in
             let s = sound h.place h.row h.is in
-            let p = passes_there (code_claimed g) g.chunk.now h.row.at at (counts_of h.row) c s.op h.at_is h.counts s.passes in
+            let p = passes_there (code_claimed g) g.chunk.now h.row.at at (counts_of g.bases.now h.row) c s.op h.at_is h.counts s.passes in
             let same = stands_once g.code.now at op s.op reads p.stands.is in
-            s.closed b d (edge_there (code_claimed g) h.row.at at (counts_of h.row) c s.op b d h.at_is h.counts (subst (λ (o : Op). Edge (coded (code_claimed g)) o at c b d) same edge))
+            s.closed b d (edge_there (code_claimed g) h.row.at at (counts_of g.bases.now h.row) c s.op b d h.at_is h.counts (subst (λ (o : Op). Edge (coded (code_claimed g)) o at c b d) same edge))
             );
       };
     }
 
-pub chunk_passes : (code : Bytecode) (chunk : Span) (rows : List Row) → IsCertificate code chunk rows → ChunkPasses code chunk
-chunk_passes code chunk rows sure = record { framed = sure.framed; typed = (typing_of rows, sure.typing) }
+pub chunk_passes : (code : Bytecode) (chunk : Span) (bases : List LinkedBase) (rows : List Row) → IsCertificate code chunk bases rows → ChunkPasses code chunk
+chunk_passes code chunk bases rows sure = record { framed = sure.framed; typed = (typing_of bases rows, sure.typing) }

@@ -12,6 +12,7 @@ use Rattle.grain_explain.specs.Explaining.{IsExact, IsExplained, IsTypedBy}
 use Rattle.grain_explain.specs.Ways.{IsShownRefusal}
 use Rattle.grain_explain.specs.declared.refusal.ExplainedChunk.{ExplainedChunk}
 use Rattle.grain_explain.specs.declared.refusal.Refusal.{Refusal}
+use Rattle.grain_explain.specs.declared.row.LinkedBase.{LinkedBase}
 use Rattle.grain_explain.specs.declared.row.Row.{Row}
 use Rattle.grain_explain.proofs.Certified.{chunk_passes}
 use Rattle.grain_explain.proofs.Sceneries.{zip_push}
@@ -22,12 +23,12 @@ pub chunk_more : {Y : Type 0} (R : Span → Y → Type 0) (chunks : List Span) (
 chunk_more {Y} R chunks ys i x y l e h r =
     subst (λ (zs : List Span). AllZip R zs (ys ++ y ∷ [])) (sym (take_more chunks i x l)) (zip_push R (take i chunks) ys (get_or chunks i x) y h (subst (λ (z : Span). R z y) e r))
 
-exact_by : (code : Bytecode) (chunk : Span) (rows : List Row) (o : Option Refusal) → MatchOption o (IsTypedBy code chunk rows) (IsShownRefusal code chunk) → (o ≡ None) ↔ ChunkPasses code chunk
-exact_by code chunk rows None h = (λ e. chunk_passes code chunk rows h.certificate, λ p. refl)
-exact_by code chunk rows (Some r) h = (λ e. absurd (none-some r (sym e)), λ p. absurd (no_flaw code chunk r.error p h.flaw))
+exact_by : (code : Bytecode) (chunk : Span) (bases : List LinkedBase) (rows : List Row) (o : Option Refusal) → MatchOption o (IsTypedBy code chunk bases rows) (IsShownRefusal code chunk bases) → (o ≡ None) ↔ ChunkPasses code chunk
+exact_by code chunk bases rows None h = (λ e. chunk_passes code chunk bases rows h.certificate, λ p. refl)
+exact_by code chunk bases rows (Some r) h = (λ e. absurd (none-some r (sym e)), λ p. absurd (no_flaw code chunk r.error p h.flaw))
 
 pub all_exact : (code : Bytecode) (chunks : List Span) (xs : List ExplainedChunk) → AllZip (IsExplained code) chunks xs → AllZip (IsExact code) chunks xs
 all_exact code [] [] h = tt
 all_exact code [] (x ∷ xs) h = absurd h
 all_exact code (c ∷ cs) [] h = absurd h
-all_exact code (c ∷ cs) (x ∷ xs) h = (exact_by code c x.rows.items x.refusal h.0.explains, all_exact code cs xs h.1)
+all_exact code (c ∷ cs) (x ∷ xs) h = (exact_by code c x.bases.items x.rows.items x.refusal h.0.explains, all_exact code cs xs h.1)

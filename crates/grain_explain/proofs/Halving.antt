@@ -10,6 +10,7 @@ use Rattle.std.proofs.lemmas.Cmp.{ranked}
 use Rattle.std.proofs.lemmas.Option.{get_or_from_slice_get, same_Some, slice_get-get_or, slice_get_within}
 use Rattle.grain_rules.specs.Counts.{Counts}
 use Rattle.grain_explain.specs.RowView.{AreAscending, counts_of, typing_of}
+use Rattle.grain_explain.specs.declared.row.LinkedBase.{LinkedBase}
 use Rattle.grain_explain.specs.declared.row.Row.{Row}
 use Rattle.grain_explain.proofs.Typings.{none_typed, row_typed}
 
@@ -27,15 +28,15 @@ module _ (rows : List Row) (up : AreAscending rows) (at : ℕ) where
   comparisons_rise i j d le l = index_rises (get_or rows i d).at (get_or rows j d).at at (addresses_rise i j d le l)
 
   -- the row that was found says what the typing does
-  pub row_found : (place : ℕ) (row : Row) (c : Counts) (b : Bool) → slice_get rows place ≡ Some row → nat_cmp row.at at ≡ Equal → (IsTrue b ↔ (counts_of row ≡ c)) → IsTrue b ↔ (typing_of rows at ≡ Some c)
-  row_found place row c b is same h =
+  pub row_found : (bases : List LinkedBase) (place : ℕ) (row : Row) (c : Counts) (b : Bool) → slice_get rows place ≡ Some row → nat_cmp row.at at ≡ Equal → (IsTrue b ↔ (counts_of bases row ≡ c)) → IsTrue b ↔ (typing_of bases rows at ≡ Some c)
+  row_found bases place row c b is same h =
       let there : row.at ≡ at = ranked row.at at _ (sym same) in
-      let typed : typing_of rows at ≡ Some (counts_of row) = subst (λ n. typing_of rows n ≡ Some (counts_of row)) there (row_typed rows place row up is) in
-      (λ t. typed ∙ ap Some (h.0 t), λ e. h.1 (same_Some (counts_of row) c (sym typed ∙ e)))
+      let typed : typing_of bases rows at ≡ Some (counts_of bases row) = subst (λ n. typing_of bases rows n ≡ Some (counts_of bases row)) there (row_typed bases rows place row up is) in
+      (λ t. typed ∙ ap Some (h.0 t), λ e. h.1 (same_Some (counts_of bases row) c (sym typed ∙ e)))
 
   -- where none is found, none has the address
-  pub row_missing : (place : ℕ) → IsBinarySearchResult (λ row. nat_cmp row.at at) rows (Err place) → typing_of rows at ≡ None
-  row_missing place parted = none_typed rows at (λ k r is same.
+  pub row_missing : (bases : List LinkedBase) (place : ℕ) → IsBinarySearchResult (λ row. nat_cmp row.at at) rows (Err place) → typing_of bases rows at ≡ None
+  row_missing bases place parted = none_typed bases rows at (λ k r is same.
       let l = slice_get_within rows k r is in
       let e : (get_or rows k r).at ≡ at = ap (λ (x : Row). x.at) (get_or_from_slice_get rows k r r is) ∙ same in
       elim (cases_lt k place) [

@@ -1,8 +1,15 @@
 -- Rows by their numbers.
 use Rattle.std.proofs.Common.{◌≡◌, ℕ, ◌+◌, ◌-◌, ◌<◌, inl, inr, List, Some, length, get_or, slice_get, refl, sym, ap, subst, ◌∙◌, arith}
 use Rattle.std.proofs.lemmas.Bool.{cases_lt}
-use Rattle.std.proofs.lemmas.Option.{same_Some, slice_get_read, slice_get_within}
+use Rattle.std.proofs.lemmas.Option.{same_Some, slice_get-get_or, slice_get_read, slice_get_within}
 use Rattle.grain_explain.specs.declared.row.Row.{Row}
+
+-- the row at a number, as it is read
+abbrev pub row_of : List Row → ℕ → Row
+row_of rows i = get_or rows i (record { at = 0; operands = 0; iterators = 0; bases = 0 })
+
+pub row_there : (rows : List Row) (i : ℕ) → i < length rows → slice_get rows i ≡ Some (row_of rows i)
+row_there rows i l = slice_get-get_or rows i _ l
 
 pub row_read : (rows : List Row) (i : ℕ) (r : Row) → i < length rows → r ≡ get_or rows i r → slice_get rows i ≡ Some r
 row_read rows i r l e = slice_get_read rows (length rows) i r refl l e

@@ -2,7 +2,9 @@ pub mod Typings
 pub mod Boundaries
 pub mod Matching
 pub mod Certified
+pub mod SharedLists
 pub mod Bases
+pub mod Extending
 pub mod Laying
 pub mod Halving
 pub mod Sceneries

@@ -28,6 +28,7 @@ use Rattle.grain_explain.specs.declared.error.TypingError.{TypingError}
 use Rattle.grain_explain.specs.declared.claim.Claim.{Claim}
 use Rattle.grain_explain.specs.declared.needs.Lack.{Lack}
 use Rattle.grain_explain.specs.declared.needs.Lack.TheVariants as lacks
+use Rattle.grain_explain.specs.declared.row.LinkedBase.{LinkedBase}
 use Rattle.grain_explain.specs.declared.row.Row.{Row}
 
 -- some of these have been found to be so, in their order, and the others are left
@@ -67,17 +68,21 @@ misses_right g e ts us h = (h.0, Contains-append_right ts us h.0 h.1, h.2)
 pub left_known : (s : Setting) (op : Op) (e : Effect) (n : ℕ) → DoesTo s op e → left_by e n ≡ operands_after s op n
 left_known s op e n d = ap (λ (x : ℕ × ℕ × ℕ). n - x.1 + x.2) d.numbers
 
-module _ (s : Setting) (op : Op) (r : Row) (e : Effect) (d : DoesTo s op e) where
-  pub jumping_known : jumping r e ≡ after_jump s op (counts_of r)
-  jumping_known = ap (λ (f : Flow). jump_for f (left_by e r.operands) (counts_of r)) d.flow ∙ ap (λ n. jump_for (flow_of op) n (counts_of r)) (left_known s op e r.operands d)
+module _ (s : Setting) (op : Op) (bases : List LinkedBase) (r : Row) (e : Effect) (d : DoesTo s op e) where
+  pub jumping_known : jumping bases r e ≡ after_jump s op (counts_of bases r)
+  jumping_known = ap (λ (f : Flow). jump_for f (left_by e r.operands) (counts_of bases r)) d.flow ∙ ap (λ n. jump_for (flow_of op) n (counts_of bases r)) (left_known s op e r.operands d)
 
-  pub falling_known : falling_on r e ≡ after_fall s op (counts_of r)
-  falling_known = ap (λ (f : Flow). fall_for f (left_by e r.operands) (counts_of r)) d.flow ∙ ap (λ n. fall_for (flow_of op) n (counts_of r)) (left_known s op e r.operands d)
+  pub falling_known : falling_on bases r e ≡ after_fall s op (counts_of bases r)
+  falling_known = ap (λ (f : Flow). fall_for f (left_by e r.operands) (counts_of bases r)) d.flow ∙ ap (λ n. fall_for (flow_of op) n (counts_of bases r)) (left_known s op e r.operands d)
 
 -- what follows from success, and from each refusal
 pub on_ok : {A E P Q : Type 0} (r : Result A E) → (P → Q) → OnOk r P → OnOk r Q
 on_ok (Ok x) f h = f h
 on_ok (Err e) f h = tt
+
+pub both_ok : {A E P Q S : Type 0} (r : Result A E) → (P → Q → S) → OnOk r P → OnOk r Q → OnOk r S
+both_ok (Ok x) f g h = f g h
+both_ok (Err e) f g h = tt
 
 pub on_err : {A E : Type 0} {P Q : E → Type 0} (r : Result A E) → ((e : E) → P e → Q e) → IfErr r P → IfErr r Q
 on_err (Ok x) f h = tt
@@ -97,12 +102,12 @@ module _ (g : Claim) (r : Row) (e : Effect) (op : Op) (d : DoesTo (code_claimed 
   falls_known = ap falls_for d.flow
 
   -- each edge of a row leads to a row with its counts
-  pub closed_by : AreMatched g r e (r.at + width_of op) → (b : ℕ) (c : Counts) → Edge (coded (code_claimed g)) op r.at (counts_of r) b c → typing_of g.rows.now b ≡ Some c
+  pub closed_by : AreMatched g r e (r.at + width_of op) → (b : ℕ) (c : Counts) → Edge (coded (code_claimed g)) op r.at (counts_of g.bases.now r) b c → typing_of g.bases.now g.rows.now b ≡ Some c
   closed_by m b c (inl (named, is)) =
-      let P : ℕ → Type 0 = λ t. typing_of g.rows.now t ≡ Some (jumping r e) in
-      All-contains P (targets (code_claimed g).switches op) b (subst (All P) targets_known m.targets) named ∙ ap Some (jumping_known (code_claimed g).setting op r e d ∙ sym is)
+      let P : ℕ → Type 0 = λ t. typing_of g.bases.now g.rows.now t ≡ Some (jumping g.bases.now r e) in
+      All-contains P (targets (code_claimed g).switches op) b (subst (All P) targets_known m.targets) named ∙ ap Some (jumping_known (code_claimed g).setting op g.bases.now r e d ∙ sym is)
   closed_by m b c (inr (goes, there, is)) =
-      subst (λ n. typing_of g.rows.now n ≡ Some c) (sym there) (m.falls (falls_known ∙ goes) ∙ ap Some (falling_known (code_claimed g).setting op r e d ∙ sym is))
+      subst (λ n. typing_of g.bases.now g.rows.now n ≡ Some c) (sym there) (m.falls (falls_known ∙ goes) ∙ ap Some (falling_known (code_claimed g).setting op g.bases.now r e d ∙ sym is))
 
   -- one that doesn't is a flaw
   pub astray_flaw : (number : ℕ) (error : TypingError) → StandsInRow (code_claimed g) g.rows.now number r op → IsAstray g number r e (r.at + width_of op) error → RefusesRows g error
@@ -112,14 +117,14 @@ module _ (g : Claim) (r : Row) (e : Effect) (op : Op) (d : DoesTo (code_claimed 
     counts = h.counts;
     here = here;
     edge = elim h.edge [
-      | inl j ↦ inl (subst (λ (ts : List ℕ). Contains ts h.at) targets_known j.0, j.1 ∙ jumping_known (code_claimed g).setting op r e d)
-      | inr f ↦ inr (sym falls_known ∙ f.0, f.1, f.2 ∙ falling_known (code_claimed g).setting op r e d)
+      | inl j ↦ inl (subst (λ (ts : List ℕ). Contains ts h.at) targets_known j.0, j.1 ∙ jumping_known (code_claimed g).setting op g.bases.now r e d)
+      | inr f ↦ inr (sym falls_known ∙ f.0, f.1, f.2 ∙ falling_known (code_claimed g).setting op g.bases.now r e d)
     ];
     astray = h.astray;
   })
 
 -- a row whose instruction lacks something is one
-pub lack_flaw : (g : Claim) (number : ℕ) (lack : Lack) → RowLacks (code_claimed g) g.rows.now number lack → RefusesRows g (lack_named number lack)
+pub lack_flaw : (g : Claim) (number : ℕ) (lack : Lack) → RowLacks (code_claimed g) g.bases.now g.rows.now number lack → RefusesRows g (lack_named number lack)
 lack_flaw g number (lacks.Capabilities absent) h = h
 lack_flaw g number (lacks.Operands need) h = h
 lack_flaw g number lacks.Iterators h = h

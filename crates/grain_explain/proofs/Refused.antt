@@ -19,27 +19,28 @@ use Rattle.grain_explain.specs.Scenes.{MissesTarget, code_seen, error_lacking}
 use Rattle.grain_explain.specs.Ways.{NamesTarget, Shows, Stop, row_stop}
 use Rattle.grain_explain.specs.declared.needs.Lack.{Lack}
 use Rattle.grain_explain.specs.declared.needs.Lack.TheVariants as lacks
+use Rattle.grain_explain.specs.declared.row.LinkedBase.{LinkedBase}
 use Rattle.grain_explain.specs.declared.row.Row.{Row}
 use Rattle.grain_explain.specs.declared.scene.Scene.{Scene}
 use Rattle.grain_explain.proofs.Typings.{typed_by}
 
 -- what an instruction lacks is shown by the row that it finds, and is a flaw
-pub lacking_shows : (s : Scene) (row : Row) (op : Op) (lack : Lack) → StandsIn (coded (code_seen s)) s.chunk.now row.at op → FindsLacking (code_seen s).setting op (counts_of row) lack
-    → Shows (code_seen s) s.chunk.now (row_stop row) (error_lacking s.caps row lack)
-lacking_shows s row op (lacks.Capabilities absent) stands (e, ne) = (refl, refl, (op, stands, e, ne))
-lacking_shows s row op (lacks.Operands need) stands (a, e, l) = (refl, (op, stands, a, e, refl, l))
-lacking_shows s row op lacks.Iterators stands (a, l) = (refl, (op, stands, a, l))
-lacking_shows s row op lacks.Handlers stands (a, l) = (refl, (op, stands, a, l))
-lacking_shows s row op (lacks.Reserve need have) stands (a, meets, sinks) = (refl, (op, stands, a, meets, sinks))
+pub lacking_shows : (s : Scene) (bases : List LinkedBase) (row : Row) (op : Op) (lack : Lack) → StandsIn (coded (code_seen s)) s.chunk.now row.at op → FindsLacking (code_seen s).setting op (counts_of bases row) lack
+    → Shows (code_seen s) s.chunk.now (row_stop bases row) (error_lacking s.caps row lack)
+lacking_shows s bases row op (lacks.Capabilities absent) stands (e, ne) = (refl, refl, (op, stands, e, ne))
+lacking_shows s bases row op (lacks.Operands need) stands (a, e, l) = (refl, (op, stands, a, e, refl, l))
+lacking_shows s bases row op lacks.Iterators stands (a, l) = (refl, (op, stands, a, l))
+lacking_shows s bases row op lacks.Handlers stands (a, l) = (refl, (op, stands, a, l))
+lacking_shows s bases row op (lacks.Reserve need have) stands (a, meets, sinks) = (refl, (op, stands, a, meets, sinks))
 
-pub lacking_flaw : (s : Scene) (row : Row) (op : Op) (lack : Lack) → IsFramed (code_seen s) s.chunk.now → Reached (coded (code_seen s)) s.chunk.now row.at (counts_of row)
-    → StandsIn (coded (code_seen s)) s.chunk.now row.at op → FindsLacking (code_seen s).setting op (counts_of row) lack → ChunkFlaw (code_seen s) s.chunk.now (error_lacking s.caps row lack)
-lacking_flaw s row op (lacks.Capabilities absent) f r stands (e, ne) = (f, refl, (op, counts_of row, record { reached = r; stands = stands }, e, ne))
-lacking_flaw s row op (lacks.Operands need) f r stands (a, e, l) = (f, (op, counts_of row, record { comes = record { reached = r; stands = stands }; allowed = a }, e, refl, l))
-lacking_flaw s row op lacks.Iterators f r stands (a, l) = (f, (op, counts_of row, record { comes = record { reached = r; stands = stands }; allowed = a }, l))
-lacking_flaw s row op lacks.Handlers f r stands (a, l) = (f, (op, counts_of row, record { comes = record { reached = r; stands = stands }; allowed = a }, l))
-lacking_flaw s row op (lacks.Reserve need have) f r stands (a, meets, sinks) =
-    (f, (op, counts_of row, record { comes = record { reached = r; stands = stands }; allowed = a }, meets, sinks))
+pub lacking_flaw : (s : Scene) (bases : List LinkedBase) (row : Row) (op : Op) (lack : Lack) → IsFramed (code_seen s) s.chunk.now → Reached (coded (code_seen s)) s.chunk.now row.at (counts_of bases row)
+    → StandsIn (coded (code_seen s)) s.chunk.now row.at op → FindsLacking (code_seen s).setting op (counts_of bases row) lack → ChunkFlaw (code_seen s) s.chunk.now (error_lacking s.caps row lack)
+lacking_flaw s bases row op (lacks.Capabilities absent) f r stands (e, ne) = (f, refl, (op, counts_of bases row, record { reached = r; stands = stands }, e, ne))
+lacking_flaw s bases row op (lacks.Operands need) f r stands (a, e, l) = (f, (op, counts_of bases row, record { comes = record { reached = r; stands = stands }; allowed = a }, e, refl, l))
+lacking_flaw s bases row op lacks.Iterators f r stands (a, l) = (f, (op, counts_of bases row, record { comes = record { reached = r; stands = stands }; allowed = a }, l))
+lacking_flaw s bases row op lacks.Handlers f r stands (a, l) = (f, (op, counts_of bases row, record { comes = record { reached = r; stands = stands }; allowed = a }, l))
+lacking_flaw s bases row op (lacks.Reserve need have) f r stands (a, meets, sinks) =
+    (f, (op, counts_of bases row, record { comes = record { reached = r; stands = stands }; allowed = a }, meets, sinks))
 
 -- a target that is none
 pub target_flaw : (s : Scene) (x : Stop) (t : ℕ) (e : VerifyError) → IsFramed (code_seen s) s.chunk.now → Reached (coded (code_seen s)) s.chunk.now x.0 x.1 → NamesTarget (code_seen s) s.chunk.now x t
@@ -58,14 +59,14 @@ pub all_at : (P : Row → Type 0) (rows : List Row) (k : ℕ) (r : Row) → All 
 all_at P rows k r all is = subst P (get_or_from_slice_get rows k r r is) (all k r (slice_get_within rows k r is))
 
 -- rows that are a typing, each of which is reached, are just what is reached
-pub typed_rows : (code : Bytecode) (chunk : Span) (rows : List Row) → IsCertificate code chunk rows → All (IsReachedRow code chunk) rows → IsTypedBy code chunk rows
-typed_rows code chunk rows sure all = record {
+pub typed_rows : (code : Bytecode) (chunk : Span) (bases : List LinkedBase) (rows : List Row) → IsCertificate code chunk bases rows → All (IsReachedRow code chunk bases) rows → IsTypedBy code chunk bases rows
+typed_rows code chunk bases rows sure all = record {
   certificate = sure;
   just = λ at c. (
-    typing_covers (coded code) chunk chunk.max_stack (typing_of rows) sure.typing at c,
+    typing_covers (coded code) chunk chunk.max_stack (typing_of bases rows) sure.typing at c,
     λ e. (
-        let h = typed_by rows at c e in
-        subst (λ (x : Counts). Reached (coded code) chunk at x) h.counts (subst (λ n. Reached (coded code) chunk n (counts_of h.row)) h.at_is (all_at (IsReachedRow code chunk) rows h.place h.row all h.is))
+        let h = typed_by bases rows at c e in
+        subst (λ (x : Counts). Reached (coded code) chunk at x) h.counts (subst (λ n. Reached (coded code) chunk n (counts_of bases h.row)) h.at_is (all_at (IsReachedRow code chunk bases) rows h.place h.row all h.is))
         ),
   );
 }
@@ -88,15 +89,15 @@ unspanned code chunk k m typing h = record {
 }
 
 -- the greatest count of a row that is reached
-pub deepest_row : (code : Bytecode) (chunk : Span) (k n : ℕ) (rows : List Row) → IsCertificate code (record chunk { max_stack = k }) rows → All (λ (r : Row). r.operands ≤ n) rows
-    → (row : Row) → IsReachedRow code chunk row → row.operands ≡ n → IsDeepest (coded code) chunk n
-deepest_row code chunk k n rows sure all row r is = record {
+pub deepest_row : (code : Bytecode) (chunk : Span) (k n : ℕ) (bases : List LinkedBase) (rows : List Row) → IsCertificate code (record chunk { max_stack = k }) bases rows → All (λ (r : Row). r.operands ≤ n) rows
+    → (row : Row) → IsReachedRow code chunk bases row → row.operands ≡ n → IsDeepest (coded code) chunk n
+deepest_row code chunk k n bases rows sure all row r is = record {
   most = λ at c reached. (
-      let e = typing_covers (coded code) chunk k (typing_of rows) (unspanned code chunk k k (typing_of rows) sure.typing) at c reached in
-      let h = typed_by rows at c e in
+      let e = typing_covers (coded code) chunk k (typing_of bases rows) (unspanned code chunk k k (typing_of bases rows) sure.typing) at c reached in
+      let h = typed_by bases rows at c e in
       let l = all_at (λ (x : Row). x.operands ≤ n) rows h.place h.row all h.is in
       let same = ap (λ (x : Counts). x.operands) h.counts in
       omega arith
       );
-  attained = (row.at, (counts_of row, r, is));
+  attained = (row.at, (counts_of bases row, r, is));
 }

@@ -13,7 +13,7 @@ use Rattle.grain_rules.specs.Typing.{IsInChunk, Passes}
 use Rattle.grain_explain.specs.Certificate.{RowsFlaw}
 use Rattle.grain_rules.specs.EffectView.{flow_view}
 use Rattle.grain_explain.specs.OnEdges.{counts_on, left_by}
-use Rattle.grain_explain.specs.RowView.{counts_of, typing_of}
+use Rattle.grain_explain.specs.RowView.{AreAscending, AreLinked, AreListed, counts_of, typing_of}
 use Rattle.grain_explain.specs.declared.edge.OnEdge.{OnEdge}
 use Rattle.grain_rules.specs.declared.effect.Effect.{Effect}
 use Rattle.grain_explain.specs.declared.error.TypingError.{TypingError}
@@ -21,6 +21,7 @@ use Rattle.grain_explain.specs.declared.error.TypingError.TheVariants as errors
 use Rattle.grain_explain.specs.declared.claim.Claim.{Claim}
 use Rattle.grain_explain.specs.declared.needs.Lack.{Lack}
 use Rattle.grain_explain.specs.declared.needs.Lack.TheVariants as lacks
+use Rattle.grain_explain.specs.declared.row.LinkedBase.{LinkedBase}
 use Rattle.grain_explain.specs.declared.row.Row.{Row}
 
 -- the code, in its setting
@@ -33,7 +34,13 @@ span_claimed g = record g.chunk.now { max_stack = g.most }
 
 -- the refusal says what is so of the rows
 abbrev pub RefusesRows : Claim → TypingError → Type 0
-RefusesRows g e = RowsFlaw (code_claimed g) (span_claimed g) g.rows.now e
+RefusesRows g e = RowsFlaw (code_claimed g) (span_claimed g) g.bases.now g.rows.now e
+
+-- the lists that rows name are there, and the rows are in the order of their addresses
+pub record IsLaid (g : Claim) : Type 0 where
+  pub linked : AreLinked g.bases.now
+  pub listed : AreListed g.bases.now g.rows.now
+  pub ascending : AreAscending g.rows.now
 
 -- each row is at a start of the chunk
 abbrev pub ArePlaced : Claim → Type 0
@@ -41,7 +48,7 @@ ArePlaced g = (k : ℕ) (r : Row) → slice_get g.rows.now k ≡ Some r → IsIn
 
 -- the row at an address has the counts of an edge
 abbrev pub HasRow : Claim → OnEdge → ℕ → Type 0
-HasRow g e at = typing_of g.rows.now at ≡ Some (counts_on e)
+HasRow g e at = typing_of g.bases.now g.rows.now at ≡ Some (counts_on g.bases.now e)
 
 -- the refusal names a row and an address whose row, if it has one, hasn't the counts of the edge
 abbrev pub IsUnmatched : Claim → OnEdge → ℕ → ℕ → TypingError → Type 0
@@ -58,31 +65,31 @@ abbrev pub targets_of_ranges : List SwitchRange → List ℕ
 targets_of_ranges ranges = map (λ (r : SwitchRange). r.target) ranges
 
 -- the counts of a row on its edges, where its operation has this effect
-abbrev pub jumping : Row → Effect → Counts
-jumping r e = jump_for (flow_view e.flow) (left_by e r.operands) (counts_of r)
+abbrev pub jumping : List LinkedBase → Row → Effect → Counts
+jumping bases r e = jump_for (flow_view e.flow) (left_by e r.operands) (counts_of bases r)
 
-abbrev pub falling_on : Row → Effect → Counts
-falling_on r e = fall_for (flow_view e.flow) (left_by e r.operands) (counts_of r)
+abbrev pub falling_on : List LinkedBase → Row → Effect → Counts
+falling_on bases r e = fall_for (flow_view e.flow) (left_by e r.operands) (counts_of bases r)
 
 -- the rows at the targets, and at the next address where the operation falls through, have the counts of the edges
 pub record AreMatched (g : Claim) (r : Row) (e : Effect) (next : ℕ) : Type 0 where
-  pub targets : All (λ t. typing_of g.rows.now t ≡ Some (jumping r e)) (targets_for (code_claimed g).switches (flow_view e.flow))
-  pub falls : falls_for (flow_view e.flow) ≡ true → typing_of g.rows.now next ≡ Some (falling_on r e)
+  pub targets : All (λ t. typing_of g.bases.now g.rows.now t ≡ Some (jumping g.bases.now r e)) (targets_for (code_claimed g).switches (flow_view e.flow))
+  pub falls : falls_for (flow_view e.flow) ≡ true → typing_of g.bases.now g.rows.now next ≡ Some (falling_on g.bases.now r e)
 
 -- the refusal names the row, and the address of an edge whose counts the row there hasn't
 pub record IsAstray (g : Claim) (number : ℕ) (r : Row) (e : Effect) (next : ℕ) (error : TypingError) : Type 0 where
   pub at : ℕ
   pub counts : Counts
   pub is : error ≡ errors.Unmatched number at
-  pub edge : (Contains (targets_for (code_claimed g).switches (flow_view e.flow)) at × (counts ≡ jumping r e))
-      ⊎ ((falls_for (flow_view e.flow) ≡ true) × (at ≡ next) × (counts ≡ falling_on r e))
-  pub astray : typing_of g.rows.now at ≡ Some counts → ⊥
+  pub edge : (Contains (targets_for (code_claimed g).switches (flow_view e.flow)) at × (counts ≡ jumping g.bases.now r e))
+      ⊎ ((falls_for (flow_view e.flow) ≡ true) × (at ≡ next) × (counts ≡ falling_on g.bases.now r e))
+  pub astray : typing_of g.bases.now g.rows.now at ≡ Some counts → ⊥
 
 -- a row passes, and each of its edges leads to a row with the very counts
 pub record IsSound (g : Claim) (r : Row) : Type 0 where
   pub op : Op
-  pub passes : Passes (coded (code_claimed g)) g.chunk.now r.at (counts_of r) op
-  pub closed : (b : ℕ) (d : Counts) → Edge (coded (code_claimed g)) op r.at (counts_of r) b d → typing_of g.rows.now b ≡ Some d
+  pub passes : Passes (coded (code_claimed g)) g.chunk.now r.at (counts_of g.bases.now r) op
+  pub closed : (b : ℕ) (d : Counts) → Edge (coded (code_claimed g)) op r.at (counts_of g.bases.now r) b d → typing_of g.bases.now g.rows.now b ≡ Some d
   pub shallow : r.operands ≤ g.most
 
 -- each row is sound

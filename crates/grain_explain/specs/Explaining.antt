@@ -10,28 +10,29 @@ use Rattle.grain_explain.specs.Certificate.{IsCertificate}
 use Rattle.grain_explain.specs.RowView.{counts_of, typing_of}
 use Rattle.grain_explain.specs.Ways.{Follows, IsShownRefusal, first_stop, row_stop}
 use Rattle.grain_explain.specs.declared.refusal.ExplainedChunk.{ExplainedChunk}
+use Rattle.grain_explain.specs.declared.row.LinkedBase.{LinkedBase}
 use Rattle.grain_explain.specs.declared.row.Row.{Row}
 
 -- the row's counts are reached at its address
-abbrev pub IsReachedRow : Bytecode → Span → Row → Type 0
-IsReachedRow code chunk r = Reached (coded code) chunk r.at (counts_of r)
+abbrev pub IsReachedRow : Bytecode → Span → List LinkedBase → Row → Type 0
+IsReachedRow code chunk bases r = Reached (coded code) chunk r.at (counts_of bases r)
 
 -- the row is what the chunk begins with, or an edge leads to it from what is reached at this address
-abbrev pub IsOrigin : Bytecode → Span → Row → Option ℕ → Type 0
-IsOrigin code chunk r origin = MatchOption origin (row_stop r ≡ first_stop chunk)
-    (λ p. (c : Counts) × Reached (coded code) chunk p c × Follows code chunk (p, c) (row_stop r))
+abbrev pub IsOrigin : Bytecode → Span → List LinkedBase → Row → Option ℕ → Type 0
+IsOrigin code chunk bases r origin = MatchOption origin (row_stop bases r ≡ first_stop chunk)
+    (λ p. (c : Counts) × Reached (coded code) chunk p c × Follows code chunk (p, c) (row_stop bases r))
 
 -- the rows are a stack typing within the declared stack, and just what is reached
-pub record IsTypedBy (code : Bytecode) (chunk : Span) (rows : List Row) : Type 0 where
-  pub certificate : IsCertificate code chunk rows
-  pub just : (at : ℕ) (c : Counts) → Reached (coded code) chunk at c ↔ (typing_of rows at ≡ Some c)
+pub record IsTypedBy (code : Bytecode) (chunk : Span) (bases : List LinkedBase) (rows : List Row) : Type 0 where
+  pub certificate : IsCertificate code chunk bases rows
+  pub just : (at : ℕ) (c : Counts) → Reached (coded code) chunk at c ↔ (typing_of bases rows at ≡ Some c)
 
 -- Each row is reached, from where it says; and the rows are a typing and just what is reached, or else the chunk has the flaw
 -- that is named, and its ways show it.
 pub record IsExplained (code : Bytecode) (chunk : Span) (x : ExplainedChunk) : Type 0 where
-  pub reached : All (IsReachedRow code chunk) x.rows.items
-  pub origins : AllZip (IsOrigin code chunk) x.rows.items x.origins.items
-  pub explains : MatchOption x.refusal (IsTypedBy code chunk x.rows.items) (IsShownRefusal code chunk)
+  pub reached : All (IsReachedRow code chunk x.bases.items) x.rows.items
+  pub origins : AllZip (IsOrigin code chunk x.bases.items) x.rows.items x.origins.items
+  pub explains : MatchOption x.refusal (IsTypedBy code chunk x.bases.items x.rows.items) (IsShownRefusal code chunk x.bases.items)
 
 -- it isn't refused exactly where the chunk passes
 abbrev pub IsExact : Bytecode → Span → ExplainedChunk → Type 0

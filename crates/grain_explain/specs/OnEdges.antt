@@ -1,16 +1,25 @@
 -- Counts on the edges on which an operation is left, as the code of this crate has them.
-use Rattle.std.specs.Prelude.{ℕ, ◌+◌, ◌-◌, List, ◌∷◌, Option, None, Some}
+use Rattle.std.specs.Prelude.{ℕ, ◌+◌, ◌-◌, ◌≤◌, List, ◌∷◌, length}
 use Rattle.grain_rules.specs.Counts.{Base, Counts}
+use Rattle.grain_explain.specs.RowView.{base_of, list_in}
+use Rattle.grain_explain.specs.declared.edge.Handlers.{Handlers}
+use Rattle.grain_explain.specs.declared.edge.Handlers.TheVariants.{Kept, Pushed}
 use Rattle.grain_explain.specs.declared.edge.OnEdge.{OnEdge}
+use Rattle.grain_explain.specs.declared.row.LinkedBase.{LinkedBase}
 use Rattle.grain_rules.specs.declared.effect.Effect.{Effect}
 
--- the bases with that of a handler that has just been armed, if one has been
-abbrev pub with_armed : Option Base → List Base → List Base
-with_armed None bases = bases
-with_armed (Some base) bases = base ∷ bases
+-- the bases of the handlers that are armed on an edge
+abbrev pub handlers_in : List LinkedBase → Handlers → List Base
+handlers_in bases (Kept list) = list_in bases list
+handlers_in bases (Pushed b) = base_of b ∷ list_in bases b.next
 
-abbrev pub counts_on : OnEdge → Counts
-counts_on e = record { operands = e.operands; iterators = e.iterators; bases = with_armed e.armed e.bases.now }
+-- the list that they name is there
+abbrev pub IsListedIn : List LinkedBase → Handlers → Type 0
+IsListedIn bases (Kept list) = list ≤ length bases
+IsListedIn bases (Pushed b) = b.next ≤ length bases
+
+abbrev pub counts_on : List LinkedBase → OnEdge → Counts
+counts_on bases e = record { operands = e.operands; iterators = e.iterators; bases = handlers_in bases e.handlers }
 
 -- the operands that are left of so many
 abbrev pub left_by : Effect → ℕ → ℕ

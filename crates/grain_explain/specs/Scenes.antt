@@ -1,5 +1,5 @@
 -- What the walk over a chunk has come to.
-use Rattle.std.specs.Prelude.{◌≡◌, ◌⊎◌, ℕ, ◌+◌, ◌<◌, ◌≤◌, List, Option, None, Some, MatchOption, get_or}
+use Rattle.std.specs.Prelude.{◌≡◌, ◌⊎◌, ℕ, ◌+◌, ◌<◌, ◌≤◌, List, ◌++◌, Option, None, Some, MatchOption, get_or, length}
 use Rattle.std.specs.List.{All, Contains}
 use Rattle.grain_values.specs.declared.caps.Caps.{Caps}
 use Rattle.grain_code.specs.InstructionTable.{width_of}
@@ -12,16 +12,23 @@ use Rattle.grain_rules.specs.Typing.{Passes, Reached}
 use Rattle.grain_rules.specs.declared.error.VerifyError.{VerifyError}
 use Rattle.grain_rules.specs.declared.error.VerifyError.TheVariants as flaws
 use Rattle.grain_explain.specs.Lacking.{DoesTo}
-use Rattle.grain_explain.specs.RowView.{counts_of}
+use Rattle.grain_rules.specs.Counts.{Counts}
+use Rattle.grain_rules.specs.declared.effect.Effect.{Effect}
+use Rattle.grain_explain.specs.Claimed.{falling_on, jumping}
+use Rattle.grain_explain.specs.RowView.{AreLinked, counts_of, list_in}
 use Rattle.grain_explain.specs.Ways.{Follows, IsShownRefusal, arrival_stop, first_stop}
 use Rattle.grain_explain.specs.declared.arrival.Arrival.{Arrival}
 use Rattle.grain_explain.specs.declared.needs.Lack.{Lack}
 use Rattle.grain_explain.specs.declared.needs.Lack.TheVariants as lacks
 use Rattle.grain_explain.specs.declared.refusal.Refusal.{Refusal}
+use Rattle.grain_explain.specs.declared.row.LinkedBase.{LinkedBase}
 use Rattle.grain_explain.specs.declared.row.Row.{Row}
 use Rattle.grain_explain.specs.declared.scene.Scene.{Scene}
+use Rattle.grain_explain.specs.declared.stacks.Leaving.{Leaving}
+use Rattle.grain_explain.specs.declared.stacks.Stacks.{Stacks}
 use Rattle.grain_explain.specs.declared.walk.Departure.{Departure}
 use Rattle.grain_explain.specs.declared.walk.Search.{Search}
+use Rattle.grain_explain.specs.declared.walk.Visited.{Visited}
 
 -- the code, in its setting
 abbrev pub code_seen : Scene → Bytecode
@@ -47,31 +54,62 @@ MissesTarget s at target e =
 abbrev pub MissesTargetOf : Scene → ℕ → List ℕ → VerifyError → Type 0
 MissesTargetOf s at ts e = (t : ℕ) × Contains ts t × MissesTarget s at t e
 
--- an arrival is reached, and is what the chunk begins with, or comes along an edge of what is in its place
-pub record IsCome (s : Scene) (slots : List (Option Arrival)) (a : Arrival) : Type 0 where
-  pub reached : Reached (coded (code_seen s)) s.chunk.now a.row.at (counts_of a.row)
-  pub origin : MatchOption a.from (arrival_stop a ≡ first_stop s.chunk.now)
-      (λ k. (y : Arrival) × (get_or slots k None ≡ Some y) × Follows (code_seen s) s.chunk.now (arrival_stop y) (arrival_stop a))
+-- An arrival names a list that is there; it is reached, and is what the chunk begins with, or comes along an edge of what is in
+-- its place.
+pub record IsCome (s : Scene) (bases : List LinkedBase) (slots : List (Option Arrival)) (a : Arrival) : Type 0 where
+  pub listed : a.row.bases ≤ length bases
+  pub reached : Reached (coded (code_seen s)) s.chunk.now a.row.at (counts_of bases a.row)
+  pub origin : MatchOption a.from (arrival_stop bases a ≡ first_stop s.chunk.now)
+      (λ k. (y : Arrival) × (get_or slots k None ≡ Some y) × Follows (code_seen s) s.chunk.now (arrival_stop bases y) (arrival_stop bases a))
 
-abbrev pub AreCome : Scene → List (Option Arrival) → Type 0
-AreCome s slots = (k : ℕ) (a : Arrival) → get_or slots k None ≡ Some a → IsCome s slots a
+abbrev pub AreCome : Scene → List LinkedBase → List (Option Arrival) → Type 0
+AreCome s bases slots = (k : ℕ) (a : Arrival) → get_or slots k None ≡ Some a → IsCome s bases slots a
 
--- so is all that was come to, and all that waits
+-- the same of what a walk has visited
+abbrev pub Comes : Scene → Visited → Arrival → Type 0
+Comes s v a = IsCome s v.bases.now v.slots.now a
+
+abbrev pub AreHeld : Scene → Visited → Type 0
+AreHeld s v = AreCome s v.bases.now v.slots.now
+
+-- so is all that was visited, and all that waits
 pub record IsSearching (s : Scene) (x : Search) : Type 0 where
-  pub held : AreCome s x.slots.items
-  pub waits : All (IsCome s x.slots.items) x.work.items
+  pub linked : AreLinked x.arming.bases.items
+  pub held : AreCome s x.arming.bases.items x.slots.items
+  pub waits : All (IsCome s x.arming.bases.items x.slots.items) x.work.items
 
-abbrev pub IsRefusalAt : Scene → Refusal → Type 0
-IsRefusalAt s r = IsShownRefusal (code_seen s) s.chunk.now r
+abbrev pub IsRefusalAt : Scene → List LinkedBase → Refusal → Type 0
+IsRefusalAt s bases r = IsShownRefusal (code_seen s) s.chunk.now bases r
 
--- an instruction that passes is left: this is what it does, and where the next one stands
+-- the counts that stacks are
+abbrev pub stacks_in : List LinkedBase → Stacks → Counts
+stacks_in bases s = record { operands = s.operands; iterators = s.iterators; bases = list_in bases s.bases }
+
+-- bases are added to others
+pub record Extends (old new : List LinkedBase) : Type 0 where
+  pub more : List LinkedBase
+  pub is : new ≡ old ++ more
+  pub linked : AreLinked new
+
+-- what stands on an edge, and names a list that is there
+pub record Lands (bases : List LinkedBase) (s : Stacks) (c : Counts) : Type 0 where
+  pub listed : s.bases ≤ length bases
+  pub is : stacks_in bases s ≡ c
+
+-- what stands on the edges to the targets of an operation that finds a row, and on that to the next
+pub record Leaves (bases : List LinkedBase) (row : Row) (e : Effect) (l : Leaving) : Type 0 where
+  pub jump : Lands bases l.jump (jumping bases row e)
+  pub fall : Lands bases l.fall (falling_on bases row e)
+
+-- an instruction that passes is left: this is what it does, what stands on its edges, and where the next one stands
 pub record IsLeft (s : Scene) (d : Departure) : Type 0 where
   pub op : Op
   pub does : DoesTo (code_seen s).setting op d.effect.now
-  pub passes : Passes (coded (code_seen s)) s.chunk.now d.here.now.row.at (counts_of d.here.now.row) op
+  pub passes : Passes (coded (code_seen s)) s.chunk.now d.here.now.row.at (counts_of d.visited.bases.now d.here.now.row) op
   pub next : d.next ≡ d.here.now.row.at + width_of op
-  pub come : AreCome s d.slots.now
-  pub held : get_or d.slots.now d.place None ≡ Some d.here.now
+  pub come : AreHeld s d.visited
+  pub held : get_or d.visited.slots.now d.place None ≡ Some d.here.now
+  pub leaves : Leaves d.visited.bases.now d.here.now.row d.effect.now d.leaving
 
 -- the refusal of an instruction that finds a row and lacks this
 abbrev pub error_lacking : Caps → Row → Lack → VerifyError

@@ -19,20 +19,21 @@ use Rattle.grain_rules.specs.declared.error.VerifyError.TheVariants as flaws
 use Rattle.grain_explain.specs.RowView.{counts_of}
 use Rattle.grain_explain.specs.declared.arrival.Arrival.{Arrival}
 use Rattle.grain_explain.specs.declared.refusal.Refusal.{Refusal}
+use Rattle.grain_explain.specs.declared.row.LinkedBase.{LinkedBase}
 use Rattle.grain_explain.specs.declared.row.Row.{Row}
 
 -- a state of a walk: an address with its counts
 abbrev pub Stop : Type 0
 Stop = ℕ × Counts
 
-abbrev pub row_stop : Row → Stop
-row_stop r = (r.at, counts_of r)
+abbrev pub row_stop : List LinkedBase → Row → Stop
+row_stop bases r = (r.at, counts_of bases r)
 
-abbrev pub arrival_stop : Arrival → Stop
-arrival_stop a = row_stop a.row
+abbrev pub arrival_stop : List LinkedBase → Arrival → Stop
+arrival_stop bases a = row_stop bases a.row
 
-abbrev pub stops_of : List Row → List Stop
-stops_of rows = map row_stop rows
+abbrev pub stops_of : List LinkedBase → List Row → List Stop
+stops_of bases rows = map (row_stop bases) rows
 
 -- what a chunk's walk begins with
 abbrev pub first_stop : Span → Stop
@@ -105,6 +106,6 @@ pub data IsWitness (code : Bytecode) (chunk : Span) : List Stop → List Stop �
       → expected ≡ x.1.operands → found ≡ y.1.operands → IsWitness code chunk way other (flaws.DepthConflict at expected found)
 
 -- the refusal names a flaw of the chunk, and its ways show it
-pub record IsShownRefusal (code : Bytecode) (chunk : Span) (r : Refusal) : Type 0 where
+pub record IsShownRefusal (code : Bytecode) (chunk : Span) (bases : List LinkedBase) (r : Refusal) : Type 0 where
   pub flaw : ChunkFlaw code chunk r.error
-  pub witness : IsWitness code chunk (stops_of r.way.items) (stops_of r.other.items) r.error
+  pub witness : IsWitness code chunk (stops_of bases r.way.items) (stops_of bases r.other.items) r.error

@@ -6,22 +6,28 @@ ghost use Rattle.grain_explain.specs.Certificate.{IsCertificate, RowsFlaw};
 
 use crate::claim::Claim;
 use crate::error::TypingError;
-use crate::row::Row;
+use crate::row::{LinkedBase, Row};
 use grain_code::Chunk;
 use grain_rules::Pools;
 use grain_values::Caps;
 
 /// Whether rows are a stack typing of a chunk within the operands that it declares.
 ///
-/// The rows are those of the addresses that the typing covers, in ascending order. The answer is yes exactly where the chunk
-/// lies in the code and ends at a boundary of instructions, and the rows are a typing of it: the entry has a row with nothing
-/// on the stacks; each row is at an instruction of the chunk, which finds there what it asks and needs and doesn't sink
-/// below the last handler; and each edge leads to a row with the very counts of the edge. So it is yes of a chunk of
-/// accepted code with the rows that a compiler or a verifier ships, and no of all else. Whether constants, indices and
-/// functions pass is for other tests.
+/// The rows are those of the addresses that the typing covers, in ascending order, and name lists of `bases`. The answer is yes
+/// exactly where
 ///
-/// It reads the code once and the rows once, looks for the row of each edge among them by halves, and takes no memory. An
-/// instruction that names a name or a chain costs by its length, and one with a switch by the number of its arms.
+/// - the chunk lies in the code and ends at a boundary of instructions;
+/// - each base names a list before it, and each row a list that is there;
+/// - the entry has a row with nothing on the stacks;
+/// - each row is at an instruction of the chunk, which finds what it needs there and leaves what stood when the last handler was
+///   armed;
+/// - each edge leads to a row with the very counts of the edge.
+///
+/// Whether constants, indices and functions pass is for other tests.
+///
+/// It reads the code once and the rows once, finds the row of each edge by binary search, and takes no memory. Lists with equal
+/// numbers are equal at once; others are compared base by base. An instruction that names a name or a chain costs by its
+/// length, and one with a switch by the number of its arms.
 ///
 /// # Errors
 /// What is wrong with the rows, and of which of them.
@@ -30,20 +36,23 @@ pub fn check_typing(
     code: &[u8],
     chunk: &Chunk,
     pools: &Pools<'_>,
+    bases: &[LinkedBase],
     rows: &[Row],
 ) -> Result<(), TypingError>
     ensures yes { OnOk result
-        (IsCertificate (bytecode caps pools.now code.now) chunk.now rows.now) }
+        (IsCertificate (bytecode caps pools.now code.now) chunk.now bases.now rows.now) }
     ensures passes { OnOk result (ChunkPasses (bytecode caps pools.now code.now) chunk.now) }
-    ensures no { IsCertificate (bytecode caps pools.now code.now) chunk.now rows.now
+    ensures no { IsCertificate (bytecode caps pools.now code.now) chunk.now bases.now rows.now
         → IfErr result (λ _. ⊥) }
-    ensures flaw { IfErr result (RowsFlaw (bytecode caps pools.now code.now) chunk.now rows.now) }
+    ensures flaw { IfErr result
+        (RowsFlaw (bytecode caps pools.now code.now) chunk.now bases.now rows.now) }
 {
     let claim = Claim {
         caps,
         code,
         chunk,
         pools,
+        bases,
         rows,
         most: u32::from(chunk.max_stack()),
     };

@@ -3,16 +3,17 @@ ghost use Rattle.std.specs.Prelude.{◌≡◌, ◌≤◌, ◌<◌, ◌↔◌, �
 ghost use Rattle.std.specs.Prelude.{IfErr, OnOk, IsTrue};
 ghost use Rattle.grain_code.specs.Split.{Split};
 ghost use Rattle.grain_rules.specs.Layout.{IsBoundary};
-ghost use Rattle.grain_explain.specs.Claimed.{ArePlaced, AreSound, HasRow, IsSound};
+ghost use Rattle.grain_explain.specs.Claimed.{ArePlaced, AreSound, HasRow, IsLaid, IsSound};
+ghost use Rattle.grain_explain.specs.OnEdges.{IsListedIn};
 ghost use Rattle.grain_explain.specs.Certificate.{IsCertificate};
 ghost use Rattle.grain_explain.specs.Claimed.{RefusesRows, code_claimed, lack_named, span_claimed};
-ghost use Rattle.grain_explain.specs.RowView.{AreAscending};
+ghost use Rattle.grain_explain.specs.RowView.{AreAscending, AreLinked, AreListed};
 
 use crate::edge::OnEdge;
 use crate::error::TypingError;
 use crate::frame::boundary_from;
 use crate::needs::{Lack, check_needs};
-use crate::row::Row;
+use crate::row::{LinkedBase, Row};
 use grain_code::{Chunk, count_instructions, decode, width};
 use grain_rules::Pools;
 use grain_values::Caps;
@@ -24,12 +25,45 @@ pub(crate) struct Claim<'a> {
     pub(crate) code: &'a [u8],
     pub(crate) chunk: &'a Chunk,
     pub(crate) pools: &'a Pools<'a>,
+    pub(crate) bases: &'a [LinkedBase],
     pub(crate) rows: &'a [Row],
     /// How many operands a row may have.
     pub(crate) most: u32,
 }
 
 impl Claim<'_> {
+    /// Tests that each base names a list before it.
+    ///
+    /// # Errors
+    /// `Unlinked`, of the first that doesn't.
+    fn check_bases(&self) -> Result<(), TypingError>
+        ensures ok { OnOk result (AreLinked self.now.bases.now) }
+        ensures err { IfErr result (RefusesRows self.now) }
+    {
+        for base in 0..self.bases.len() {
+            if self.bases[base].next as usize > base {
+                return Err(TypingError::Unlinked { base });
+            }
+        }
+        Ok(())
+    }
+
+    /// Tests that each row names a list that is there.
+    ///
+    /// # Errors
+    /// `NoList`, of the first that doesn't.
+    fn check_lists(&self) -> Result<(), TypingError>
+        ensures ok { OnOk result (AreListed self.now.bases.now self.now.rows.now) }
+        ensures err { IfErr result (RefusesRows self.now) }
+    {
+        for (row, here) in self.rows.iter().enumerate() {
+            if here.bases as usize > self.bases.len() {
+                return Err(TypingError::NoList { row });
+            }
+        }
+        Ok(())
+    }
+
     /// Tests that each row is above the one before it.
     ///
     /// # Errors
@@ -80,12 +114,13 @@ impl Claim<'_> {
     }
 
     /// Whether the row at an address, if there is one, has the counts of an edge.
-    pub(crate) fn has_row(&self, at: usize, edge: &OnEdge<'_>) -> bool
-        requires { AreAscending self.now.rows.now }
+    pub(crate) fn has_row(&self, at: usize, edge: &OnEdge) -> bool
+        requires laid { IsLaid self.now }
+        requires listed { IsListedIn self.now.bases.now edge.now.handlers }
         ensures { IsTrue result ↔ HasRow self.now edge.now at }
     {
         match self.rows.binary_search_by_key(&at, |row| row.at as usize) {
-            Ok(place) => edge.is_at(&self.rows[place]),
+            Ok(place) => edge.is_at(self.bases, &self.rows[place]),
             Err(_) => false,
         }
     }
@@ -95,7 +130,7 @@ impl Claim<'_> {
     /// # Errors
     /// The first test that fails, by its name.
     fn check_row(&self, number: usize, row: &Row) -> Result<(), TypingError>
-        requires ascending { AreAscending self.now.rows.now }
+        requires laid { IsLaid self.now }
         requires placed { ArePlaced self.now }
         requires here { slice_get self.now.rows.now number ≡ Some row.now }
         ensures sound { OnOk result (IsSound self.now row.now) }
@@ -111,7 +146,7 @@ impl Claim<'_> {
         let Some(width) = width(self.code, at) else {
             return Err(TypingError::NoStart { row: number });
         };
-        match check_needs(self.caps, self.pools, &op, row) {
+        match check_needs(self.caps, self.pools, &op, self.bases, row) {
             Ok(effect) => self.check_edges(number, row, &effect, at + width),
             Err(lack) => Err(TypingError::of_row(number, lack)),
         }
@@ -123,7 +158,8 @@ impl Claim<'_> {
     /// The first test that fails, by its name.
     pub(crate) fn check(&self) -> Result<(), TypingError>
         ensures yes { OnOk result
-            (IsCertificate (code_claimed self.now) (span_claimed self.now) self.now.rows.now) }
+            (IsCertificate (code_claimed self.now) (span_claimed self.now)
+            self.now.bases.now self.now.rows.now) }
         ensures err { IfErr result (RefusesRows self.now) }
     {
         if let Err(at) = count_instructions(self.code) {
@@ -133,10 +169,13 @@ impl Claim<'_> {
         if end as usize > self.code.len() || self.chunk.entry() > end {
             return Err(TypingError::ChunkOutOfRange);
         }
+        self.check_bases()?;
+        self.check_lists()?;
         self.check_from(0)
     }
 
-    /// The same of a chunk in range, in code that is whole instructions, where the code is read from a boundary on.
+    /// The same of a chunk in range and of lists that are there, in code that is whole instructions, where the code is read
+    /// from a boundary on.
     ///
     /// # Errors
     /// The first test that fails, by its name.
@@ -146,8 +185,11 @@ impl Claim<'_> {
         requires before { from ≤ self.now.chunk.now.entry }
         requires ordered { self.now.chunk.now.entry ≤ self.now.chunk.now.end }
         requires inside { self.now.chunk.now.end ≤ length self.now.code.now }
+        requires linked { AreLinked self.now.bases.now }
+        requires listed { AreListed self.now.bases.now self.now.rows.now }
         ensures yes { OnOk result
-            (IsCertificate (code_claimed self.now) (span_claimed self.now) self.now.rows.now) }
+            (IsCertificate (code_claimed self.now) (span_claimed self.now)
+            self.now.bases.now self.now.rows.now) }
         ensures err { IfErr result (RefusesRows self.now) }
     {
         self.check_ascending()?;
@@ -163,7 +205,7 @@ impl Claim<'_> {
     /// # Errors
     /// That of the first row that is refused.
     fn check_rows(&self) -> Result<(), TypingError>
-        requires ascending { AreAscending self.now.rows.now }
+        requires laid { IsLaid self.now }
         requires placed { ArePlaced self.now }
         ensures sound { OnOk result (AreSound self.now) }
         ensures err { IfErr result (RefusesRows self.now) }

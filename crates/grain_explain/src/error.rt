@@ -17,6 +17,16 @@ pub enum TypingError {
     ChunkOutOfRange,
     /// The chunk ends inside an instruction.
     EndsInside,
+    /// A base names a list that isn't before it.
+    Unlinked {
+        /// The index of the base.
+        base: usize,
+    },
+    /// A row names a list that isn't there.
+    NoList {
+        /// The row.
+        row: usize,
+    },
     /// A row isn't above the one before it.
     NotAscending {
         /// The row.
@@ -87,6 +97,8 @@ impl fmt::Display for TypingError {
             TypingError::Undecodable { at } => write!(f, "undecodable at={at}"),
             TypingError::ChunkOutOfRange => write!(f, "chunk-out-of-range"),
             TypingError::EndsInside => write!(f, "ends-inside"),
+            TypingError::Unlinked { base } => write!(f, "unlinked base={base}"),
+            TypingError::NoList { row } => write!(f, "no-list row={row}"),
             TypingError::NotAscending { row } => write!(f, "not-ascending row={row}"),
             TypingError::OutsideChunk { row } => write!(f, "outside-chunk row={row}"),
             TypingError::NoStart { row } => write!(f, "no-start row={row}"),

@@ -19,8 +19,8 @@ use std::alloc::Global;
 /// of the chunk, with the way along edges to a state that shows it, to a conflict two ways, and where the stack is too deep the way to
 /// the greatest. So a chunk isn't refused here exactly where it passes, but which of its flaws is named is left open.
 ///
-/// All chunks are explained, those behind a refused one too. It takes memory and time by the number of instructions that are
-/// reached, with each its list of bases, by the length of each chunk, and for each switch by its arms.
+/// All chunks are explained, those behind a refused one too. Time and memory grow with the length of each chunk, with the
+/// number of its instructions that are visited, and with the arms of their switches. Rows share their lists of bases.
 ///
 /// # Errors
 /// `BadCode` where the code isn't such code; `OutOfMemory`; `Unfinished`.

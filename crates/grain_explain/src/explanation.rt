@@ -1,19 +1,21 @@
 //! Why a chunk is accepted or refused.
-ghost use Rattle.std.specs.Prelude.{◌≡◌, ◌≤◌, None, IfOk, IfSome, MatchOption};
+ghost use Rattle.std.specs.Prelude.{◌≡◌, ◌≤◌, None, length, IfOk, IfSome, MatchOption};
 ghost use Rattle.std.specs.List.{All, AllZip};
 ghost use Rattle.grain_rules.specs.Flaw.{ChunkFlaw};
 ghost use Rattle.grain_explain.specs.Explaining.{IsExplained, IsOrigin, IsReachedRow, IsTypedBy};
-ghost use Rattle.grain_explain.specs.Scenes.{AreCome, IsCome, IsReadyScene, IsRefusalAt};
+ghost use Rattle.grain_explain.specs.Scenes.{AreHeld, Comes, IsReadyScene, IsRefusalAt};
 ghost use Rattle.grain_explain.specs.Scenes.{IsSearching, IsStarted, code_seen};
+ghost use Rattle.grain_explain.specs.RowView.{AreLinked};
 ghost use Rattle.grain_explain.specs.Ways.{IsFrameFlaw};
 
 use crate::arrival::Arrival;
 use crate::claim::Claim;
 use crate::error::TypingError;
 use crate::refusal::{ExplainError, ExplainedChunk, Refusal};
-use crate::row::Row;
+use crate::row::{LinkedBase, Row};
 use crate::scene::Scene;
-use crate::walk::Search;
+use crate::stacks::Arming;
+use crate::walk::{Search, Visited};
 use grain_rules::VerifyError;
 
 /// The rows of what was come to, and where each was come from.
@@ -37,14 +39,25 @@ impl Scene<'_> {
         }
         let mut search = self.begin()?;
         let found = self.run(&mut search)?;
-        let Rows { rows, origins } = self.rows_of(&search.slots)?;
+        let Search {
+            slots,
+            work: _,
+            arming,
+        } = search;
+        let bases = arming.into_bases();
+        let visited = Visited {
+            slots: &slots,
+            bases: &bases,
+        };
+        let Rows { rows, origins } = self.rows_of(&visited)?;
         let refusal = match found {
             Some(refusal) => Some(refusal),
-            None => self.certify(&search.slots, &rows)?,
+            None => self.certify(&visited, &rows)?,
         };
         Ok(ExplainedChunk {
             rows,
             origins,
+            bases,
             refusal,
         })
     }
@@ -58,6 +71,7 @@ impl Scene<'_> {
         ExplainedChunk {
             rows: Vec::new(self.alloc),
             origins: Vec::new(self.alloc),
+            bases: Vec::new(self.alloc),
             refusal: Some(Refusal {
                 error,
                 way: Vec::new(self.alloc),
@@ -79,7 +93,7 @@ impl Scene<'_> {
                 at: self.chunk.entry(),
                 operands: 0,
                 iterators: 0,
-                bases: Vec::new(self.alloc),
+                bases: 0,
             },
             from: None,
         })?;
@@ -87,6 +101,7 @@ impl Scene<'_> {
         Ok(Search {
             slots: self.free_slots(length)?,
             work,
+            arming: Arming::new(self.alloc),
         })
     }
 
@@ -105,20 +120,23 @@ impl Scene<'_> {
     ///
     /// # Errors
     /// `OutOfMemory`, `Unfinished`.
-    fn rows_of(&self, slots: &[Option<Arrival>]) -> Result<Rows, ExplainError>
-        requires { AreCome self.now slots.now }
-        ensures reached { IfOk result
-            (λ x. All (IsReachedRow (code_seen self.now) self.now.chunk.now) x.rows.items) }
-        ensures origins { IfOk result (λ x.
-            AllZip (IsOrigin (code_seen self.now) self.now.chunk.now)
+    fn rows_of(&self, visited: &Visited<'_>) -> Result<Rows, ExplainError>
+        requires { AreHeld self.now visited.now }
+        ensures reached { IfOk result (λ x. All
+            (IsReachedRow (code_seen self.now) self.now.chunk.now visited.now.bases.now)
+            x.rows.items) }
+        ensures origins { IfOk result (λ x. AllZip
+            (IsOrigin (code_seen self.now) self.now.chunk.now visited.now.bases.now)
             x.rows.items x.origins.items) }
+        ensures listed { IfOk result (λ x. All
+            (λ r. r.bases ≤ length visited.now.bases.now) x.rows.items) }
     {
         let mut rows = Vec::new(self.alloc);
         let mut origins = Vec::new(self.alloc);
-        for slot in slots {
+        for slot in visited.slots {
             if let Some(arrival) = slot {
-                let origin = self.origin_of(slots, arrival)?;
-                rows.push(arrival.row.copied(self.alloc)?)?;
+                let origin = self.origin_of(visited, arrival)?;
+                rows.push(arrival.row)?;
                 origins.push(origin)?;
             }
         }
@@ -131,18 +149,18 @@ impl Scene<'_> {
     /// `Unfinished`.
     fn origin_of(
         &self,
-        slots: &[Option<Arrival>],
+        visited: &Visited<'_>,
         arrival: &Arrival,
     ) -> Result<Option<u32>, ExplainError>
-        requires come { AreCome self.now slots.now }
-        requires arrival { IsCome self.now slots.now arrival.now }
-        ensures { IfOk result
-            (IsOrigin (code_seen self.now) self.now.chunk.now arrival.now.row) }
+        requires come { AreHeld self.now visited.now }
+        requires arrival { Comes self.now visited.now arrival.now }
+        ensures { IfOk result (IsOrigin
+            (code_seen self.now) self.now.chunk.now visited.now.bases.now arrival.now.row) }
     {
         let Some(place) = arrival.from else {
             return Ok(None);
         };
-        match slots.get(place) {
+        match visited.slots.get(place) {
             Some(Some(before)) => Ok(Some(before.row.at)),
             _ => Err(ExplainError::Unfinished),
         }
@@ -152,32 +170,33 @@ impl Scene<'_> {
     ///
     /// # Errors
     /// `OutOfMemory`, `Unfinished`.
-    fn certify(
-        &self,
-        slots: &[Option<Arrival>],
-        rows: &[Row],
-    ) -> Result<Option<Refusal>, ExplainError>
+    fn certify(&self, visited: &Visited<'_>, rows: &[Row]) -> Result<Option<Refusal>, ExplainError>
         requires ready { IsReadyScene self.now }
-        requires come { AreCome self.now slots.now }
-        requires reached { All (IsReachedRow (code_seen self.now) self.now.chunk.now) rows.now }
+        requires linked { AreLinked visited.now.bases.now }
+        requires listed { All (λ r. r.bases ≤ length visited.now.bases.now) rows.now }
+        requires come { AreHeld self.now visited.now }
+        requires reached { All (IsReachedRow
+            (code_seen self.now) self.now.chunk.now visited.now.bases.now) rows.now }
         ensures { IfOk result (λ r. MatchOption r
-            (IsTypedBy (code_seen self.now) self.now.chunk.now rows.now) (IsRefusalAt self.now)) }
+            (IsTypedBy (code_seen self.now) self.now.chunk.now visited.now.bases.now rows.now)
+            (IsRefusalAt self.now visited.now.bases.now)) }
     {
-        let claim = self.claim(rows, u32::from(self.chunk.max_stack()));
+        let claim = self.claim(visited.bases, rows, u32::from(self.chunk.max_stack()));
         match claim.check_from(self.chunk.entry() as usize) {
             Ok(()) => Ok(None),
-            Err(TypingError::TooDeep { .. }) => Ok(Some(self.too_deep(slots, rows)?)),
+            Err(TypingError::TooDeep { .. }) => Ok(Some(self.too_deep(visited, rows)?)),
             Err(_) => Err(ExplainError::Unfinished),
         }
     }
 
     /// Rows with the chunk, of which each may have so many operands.
-    fn claim<'a>(&'a self, rows: &'a [Row], most: u32) -> Claim<'a>
+    fn claim<'a>(&'a self, bases: &'a [LinkedBase], rows: &'a [Row], most: u32) -> Claim<'a>
         ensures { result ≡ record {
           caps = self.now.caps;
           code = self.now.code;
           chunk = self.now.chunk;
           pools = self.now.pools;
+          bases = bases.entry;
           rows = rows.entry;
           most = most;
         } }
@@ -187,6 +206,7 @@ impl Scene<'_> {
             code: self.code,
             chunk: self.chunk,
             pools: self.pools,
+            bases,
             rows,
             most,
         }
@@ -196,38 +216,41 @@ impl Scene<'_> {
     ///
     /// # Errors
     /// `OutOfMemory`, `Unfinished`.
-    fn too_deep(&self, slots: &[Option<Arrival>], rows: &[Row]) -> Result<Refusal, ExplainError>
+    fn too_deep(&self, visited: &Visited<'_>, rows: &[Row]) -> Result<Refusal, ExplainError>
         requires ready { IsReadyScene self.now }
-        requires come { AreCome self.now slots.now }
-        requires reached { All (IsReachedRow (code_seen self.now) self.now.chunk.now) rows.now }
-        ensures { IfOk result (IsRefusalAt self.now) }
+        requires linked { AreLinked visited.now.bases.now }
+        requires listed { All (λ r. r.bases ≤ length visited.now.bases.now) rows.now }
+        requires come { AreHeld self.now visited.now }
+        requires reached { All (IsReachedRow
+            (code_seen self.now) self.now.chunk.now visited.now.bases.now) rows.now }
+        ensures { IfOk result (IsRefusalAt self.now visited.now.bases.now) }
     {
         let needed = greatest(rows);
         let declared = self.chunk.max_stack();
-        let claim = self.claim(rows, u32::MAX);
+        let claim = self.claim(visited.bases, rows, u32::MAX);
         let checked = claim.check_from(self.chunk.entry() as usize);
         if needed <= u32::from(declared) || checked.is_err() {
             return Err(ExplainError::Unfinished);
         }
-        match self.deepest(slots, needed) {
+        match self.deepest(visited, needed) {
             Some(here) => {
                 let error = VerifyError::StackExceedsDeclared {
                     needed: needed as usize,
                     declared,
                 };
-                self.refuse(slots, here, error)
+                self.refuse(visited, here, error)
             }
             None => Err(ExplainError::Unfinished),
         }
     }
 
     /// What was come to with so many operands.
-    fn deepest<'a>(&self, slots: &'a [Option<Arrival>], operands: u32) -> Option<&'a Arrival>
-        requires { AreCome self.now slots.now }
-        ensures come { IfSome result (λ a. IsCome self.now slots.now a.now) }
+    fn deepest<'a>(&self, visited: &Visited<'a>, operands: u32) -> Option<&'a Arrival>
+        requires { AreHeld self.now visited.now }
+        ensures come { IfSome result (λ a. Comes self.now visited.now a.now) }
         ensures deep { IfSome result (λ a. a.now.row.operands ≡ operands) }
     {
-        for slot in slots {
+        for slot in visited.slots {
             if let Some(arrival) = slot {
                 if arrival.row.operands == operands {
                     return Some(arrival);

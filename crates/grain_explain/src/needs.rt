@@ -1,15 +1,17 @@
 //! What an operation finds lacking.
-ghost use Rattle.std.specs.Prelude.{◌≡◌, IfErr, IfOk, OnOk};
+ghost use Rattle.std.specs.Prelude.{◌≡◌, ◌≤◌, IfErr, IfOk, OnOk, length};
 ghost use Rattle.grain_rules.specs.Counts.{last_base};
 ghost use Rattle.grain_rules.specs.Setting.{setting};
 ghost use Rattle.grain_rules.specs.Sinking.{ReachesUpTo};
 ghost use Rattle.grain_explain.specs.Lacking.{DoesTo, HasAll, IsReserve, FindsLacking};
-ghost use Rattle.grain_explain.specs.RowView.{counts_of};
+ghost use Rattle.grain_explain.specs.RowView.{AreLinked, base_of, counts_of, list_in};
 
-use crate::row::{Base, Row};
+use crate::lists::first_base;
+use crate::row::{LinkedBase, Row};
 use grain_code::Op;
 use grain_rules::{Effect, Pools, asked_beside, missing};
 use grain_values::{Caps, Flags};
+use std::marker::Model;
 
 /// What an operation finds lacking.
 #[derive(Clone, Copy)]
@@ -31,11 +33,20 @@ pub(crate) enum Lack {
 ///
 /// # Errors
 /// What it finds lacking first.
-pub(crate) fn check_needs(caps: Caps, pools: &Pools<'_>, op: &Op, row: &Row) -> Result<Effect, Lack>
-    ensures has { OnOk result (HasAll (setting caps pools.now) op.now (counts_of row.now)) }
+pub(crate) fn check_needs(
+    caps: Caps,
+    pools: &Pools<'_>,
+    op: &Op,
+    bases: &[LinkedBase],
+    row: &Row,
+) -> Result<Effect, Lack>
+    requires linked { AreLinked bases.now }
+    requires listed { row.now.bases ≤ length bases.now }
+    ensures has { OnOk result
+        (HasAll (setting caps pools.now) op.now (counts_of bases.now row.now)) }
     ensures does { IfOk result (DoesTo (setting caps pools.now) op.now) }
     ensures lacks { IfErr result
-        (FindsLacking (setting caps pools.now) op.now (counts_of row.now)) }
+        (FindsLacking (setting caps pools.now) op.now (counts_of bases.now row.now)) }
 {
     let effect = Effect::of(op, pools);
     let absent = missing(caps, asked_beside(pools, effect.asks));
@@ -48,26 +59,52 @@ pub(crate) fn check_needs(caps: Caps, pools: &Pools<'_>, op: &Op, row: &Row) -> 
     if row.iterators < effect.flow.iterators_needed() {
         return Err(Lack::Iterators);
     }
-    if row.bases.len() < effect.flow.handlers_needed() {
+    let last = first_base(bases, row.bases);
+    if last.is_none() && effect.flow.handlers_needed() > 0 {
         return Err(Lack::Handlers);
     }
     if !effect.quiet {
-        let left = Base::new(
-            row.operands.saturating_sub(effect.takes),
-            row.iterators.saturating_sub(effect.flow.iterators_needed()),
-        );
-        check_reserve(last_base(&row.bases), left)?;
+        let left = Reserve {
+            operands: row.operands.saturating_sub(effect.takes),
+            iterators: row.iterators.saturating_sub(effect.flow.iterators_needed()),
+        };
+        check_reserve(last_reserve(bases, row.bases), left)?;
     }
     Ok(effect)
 }
 
+/// How much of the stacks is to be left, or is left.
+#[derive(Clone, Copy)]
+pub(crate) struct Reserve {
+    pub(crate) operands: u32,
+    pub(crate) iterators: u32,
+}
+
+impl Model for Reserve {
+    ghost use Rattle.grain_rules.specs.Counts as counts;
+
+    ghost Value = { counts.Base };
+
+    ghost view = { λ b. record { operands = b.operands; iterators = b.iterators } };
+
+    ghost inverse = { λ v. record { operands = v.operands; iterators = v.iterators } };
+}
+
 /// The base of the handler that was armed last; where none is armed, that of empty stacks.
-fn last_base(bases: &[Base]) -> Base
-    ensures { result ≡ last_base bases.now }
+fn last_reserve(bases: &[LinkedBase], list: u32) -> Reserve
+    requires linked { AreLinked bases.now }
+    requires listed { list ≤ length bases.now }
+    ensures { result ≡ last_base (list_in bases.now list) }
 {
-    match bases {
-        [] => Base::new(0, 0),
-        [last, ..] => *last,
+    match first_base(bases, list) {
+        Some(last) => Reserve {
+            operands: last.operands,
+            iterators: last.iterators,
+        },
+        None => Reserve {
+            operands: 0,
+            iterators: 0,
+        },
     }
 }
 
@@ -75,15 +112,15 @@ fn last_base(bases: &[Base]) -> Base
 ///
 /// # Errors
 /// The operands that they lack, or where there are enough, the iterators.
-fn check_reserve(base: Base, left: Base) -> Result<(), Lack>
+fn check_reserve(base: Reserve, left: Reserve) -> Result<(), Lack>
     ensures ok { OnOk result (ReachesUpTo base left) }
     ensures err { IfErr result (IsReserve base left) }
 {
-    if left.operands() < base.operands() {
-        return Err(Lack::Reserve(base.operands(), left.operands()));
+    if left.operands < base.operands {
+        return Err(Lack::Reserve(base.operands, left.operands));
     }
-    if left.iterators() < base.iterators() {
-        return Err(Lack::Reserve(base.iterators(), left.iterators()));
+    if left.iterators < base.iterators {
+        return Err(Lack::Reserve(base.iterators, left.iterators));
     }
     Ok(())
 }

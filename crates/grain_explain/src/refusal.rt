@@ -2,7 +2,7 @@
 ghost use Rattle.std.specs.Prelude.{◌≡◌};
 ghost use Rattle.grain_explain.specs.declared.refusal.ExplainError.TheVariants.{OutOfMemory};
 
-use crate::row::Row;
+use crate::row::{LinkedBase, Row};
 use grain_rules::VerifyError;
 use std::alloc::{AllocError, AllocFailed};
 use std::fmt;
@@ -27,6 +27,8 @@ pub struct ExplainedChunk {
     pub rows: Vec<Row>,
     /// Of each row the address from which it was come to first; `None` at the entry.
     pub origins: Vec<Option<u32>>,
+    /// The bases of armed handlers, whose lists the rows name.
+    pub bases: Vec<LinkedBase>,
     /// Why the chunk is refused.
     pub refusal: Option<Refusal>,
 }

@@ -1,56 +1,22 @@
-//! Rows of a stack typing.
-ghost use Rattle.std.specs.Prelude.{◌≡◌};
+//! Rows of a stack typing, and the lists of bases that they name.
 
-use std::marker::Model;
-
-/// The base of an armed handler: how many operands and iterators stood when it was armed.
-#[derive(Clone, Copy, Debug, PartialEq, Eq)]
-pub struct Base {
-    operands: u32,
-    iterators: u32,
-}
-
-impl Model for Base {
-    ghost use Rattle.grain_rules.specs.Counts as counts;
-
-    ghost Value = { counts.Base };
-
-    ghost view = { λ b. record { operands = b.operands; iterators = b.iterators } };
-
-    ghost inverse = { λ v. record { operands = v.operands; iterators = v.iterators } };
-}
-
-impl Base {
-    /// The base of a handler that was armed where so many operands and iterators stood.
-    #[must_use]
-    pub fn new(operands: u32, iterators: u32) -> Base
-        ensures { result ≡ record { operands = operands; iterators = iterators } }
-    {
-        Base {
-            operands,
-            iterators,
-        }
-    }
-
+/// The base of an armed handler, in front of a list of bases: how many operands and iterators stood when the handler was armed,
+/// and the list of those that were armed before.
+///
+/// A number names a list: 0 the empty one, and `k + 1` the one whose first base stands at index `k`. So lists with equal
+/// ends share them, and many rows with deep lists take little memory.
+#[derive(Clone, Copy, Debug, PartialEq, Eq, PartialOrd, Ord)]
+pub struct LinkedBase {
     /// How many operands stood.
-    #[must_use]
-    pub fn operands(&self) -> u32
-        ensures { result ≡ self.now.operands }
-    {
-        self.operands
-    }
-
+    pub operands: u32,
     /// How many iterators stood.
-    #[must_use]
-    pub fn iterators(&self) -> u32
-        ensures { result ≡ self.now.iterators }
-    {
-        self.iterators
-    }
+    pub iterators: u32,
+    /// The list behind it.
+    pub next: u32,
 }
 
-/// What stands where a run comes to an instruction.
-#[derive(Debug, PartialEq, Eq, Drop)]
+/// What stands where a run reaches an instruction.
+#[derive(Clone, Copy, Debug, PartialEq, Eq)]
 pub struct Row {
     /// The address of the instruction.
     pub at: u32,
@@ -58,6 +24,6 @@ pub struct Row {
     pub operands: u32,
     /// How many iterators there are.
     pub iterators: u32,
-    /// The bases of the armed handlers, that of the last first.
-    pub bases: Vec<Base>,
+    /// The list of the bases of the armed handlers, that of the last first (see [`LinkedBase`]).
+    pub bases: u32,
 }

@@ -1,13 +1,13 @@
 //! Whether the edges of a row lead to rows with their counts.
-ghost use Rattle.std.specs.Prelude.{◌≡◌, [], get_or, map, IfErr, IfNone, IfSome, OnOk};
+ghost use Rattle.std.specs.Prelude.{◌≡◌, ◌≤◌, [], get_or, length, map, IfErr, IfNone, IfSome, OnOk};
 ghost use Rattle.std.specs.List.{All};
 ghost use Rattle.grain_rules.specs.Code.{switch_targets};
 ghost use Rattle.grain_rules.specs.FlowFields.{targets_for};
 ghost use Rattle.grain_rules.specs.EffectView.{flow_view};
-ghost use Rattle.grain_explain.specs.Claimed.{AreMatched, HasRow, IsAstray, IsUnmatched};
+ghost use Rattle.grain_explain.specs.Claimed.{AreMatched, HasRow, IsAstray, IsLaid, IsUnmatched};
 ghost use Rattle.grain_explain.specs.Claimed.{MissesOne, code_claimed};
 ghost use Rattle.grain_explain.specs.Claimed.{targets_of_cases, targets_of_ranges};
-ghost use Rattle.grain_explain.specs.RowView.{AreAscending};
+ghost use Rattle.grain_explain.specs.OnEdges.{IsListedIn};
 
 use crate::claim::Claim;
 use crate::edge::OnEdge;
@@ -23,13 +23,9 @@ impl Claim<'_> {
     ///
     /// # Errors
     /// `Unmatched`.
-    fn check_target(
-        &self,
-        number: usize,
-        target: usize,
-        edge: &OnEdge<'_>,
-    ) -> Result<(), TypingError>
-        requires { AreAscending self.now.rows.now }
+    fn check_target(&self, number: usize, target: usize, edge: &OnEdge) -> Result<(), TypingError>
+        requires laid { IsLaid self.now }
+        requires listed { IsListedIn self.now.bases.now edge.now.handlers }
         ensures ok { OnOk result (HasRow self.now edge.now target) }
         ensures err { IfErr result (IsUnmatched self.now edge.now number target) }
     {
@@ -47,9 +43,10 @@ impl Claim<'_> {
         &self,
         number: usize,
         cases: &HashMap<Dynamic, (u32, u32)>,
-        edge: &OnEdge<'_>,
+        edge: &OnEdge,
     ) -> Result<(), TypingError>
-        requires { AreAscending self.now.rows.now }
+        requires laid { IsLaid self.now }
+        requires listed { IsListedIn self.now.bases.now edge.now.handlers }
         ensures ok { OnOk result
             (All (HasRow self.now edge.now) (targets_of_cases cases.now.entries)) }
         ensures err { IfErr result
@@ -65,9 +62,10 @@ impl Claim<'_> {
         &self,
         number: usize,
         ranges: &[SwitchRange],
-        edge: &OnEdge<'_>,
+        edge: &OnEdge,
     ) -> Result<(), TypingError>
-        requires { AreAscending self.now.rows.now }
+        requires laid { IsLaid self.now }
+        requires listed { IsListedIn self.now.bases.now edge.now.handlers }
         ensures ok { OnOk result (All (HasRow self.now edge.now) (targets_of_ranges ranges.now)) }
         ensures err { IfErr result
             (MissesOne self.now edge.now number (targets_of_ranges ranges.now)) }
@@ -82,13 +80,9 @@ impl Claim<'_> {
     ///
     /// # Errors
     /// `Unmatched`, of one that doesn't match.
-    fn check_switch(
-        &self,
-        number: usize,
-        switch: &Switch,
-        edge: &OnEdge<'_>,
-    ) -> Result<(), TypingError>
-        requires { AreAscending self.now.rows.now }
+    fn check_switch(&self, number: usize, switch: &Switch, edge: &OnEdge) -> Result<(), TypingError>
+        requires laid { IsLaid self.now }
+        requires listed { IsListedIn self.now.bases.now edge.now.handlers }
         ensures ok { OnOk result (All (HasRow self.now edge.now) (switch_targets switch.now)) }
         ensures err { IfErr result
             (MissesOne self.now edge.now number (switch_targets switch.now)) }
@@ -104,8 +98,9 @@ impl Claim<'_> {
     ///
     /// # Errors
     /// `Unmatched`, of one that doesn't match.
-    fn check_targets(&self, number: usize, flow: Flow, edge: &OnEdge<'_>) -> Result<(), TypingError>
-        requires { AreAscending self.now.rows.now }
+    fn check_targets(&self, number: usize, flow: Flow, edge: &OnEdge) -> Result<(), TypingError>
+        requires laid { IsLaid self.now }
+        requires listed { IsListedIn self.now.bases.now edge.now.handlers }
         ensures ok { OnOk result (All (HasRow self.now edge.now)
             (targets_for (code_claimed self.now).switches (flow_view flow))) }
         ensures err { IfErr result (MissesOne self.now edge.now number
@@ -139,13 +134,16 @@ impl Claim<'_> {
         effect: &Effect,
         next: usize,
     ) -> Result<(), TypingError>
-        requires ascending { AreAscending self.now.rows.now }
+        requires laid { IsLaid self.now }
+        requires listed { row.now.bases ≤ length self.now.bases.now }
         ensures ok { OnOk result (AreMatched self.now row.now effect.now next) }
         ensures err { IfErr result (IsAstray self.now number row.now effect.now next) }
     {
-        self.check_targets(number, effect.flow, &OnEdge::to_targets(row, effect))?;
+        let edge = OnEdge::to_targets(row, effect);
+        self.check_targets(number, effect.flow, &edge)?;
         if effect.flow.falls() {
-            self.check_target(number, next, &OnEdge::to_next(row, effect))?;
+            let edge = OnEdge::to_next(self.bases, row, effect);
+            self.check_target(number, next, &edge)?;
         }
         Ok(())
     }

@@ -1,41 +1,51 @@
-//! The walk over one chunk: what it comes to, how, and the flaw that it meets.
+//! The walk over one chunk: what it visits, on which path, and the flaw that it meets.
 ghost use Rattle.std.specs.Prelude.{◌≡◌, ◌<◌, None, Some, get_or, length, true};
 ghost use Rattle.std.specs.Prelude.{IfErr, IfOk, IfSome, OnOk};
 ghost use Rattle.std.specs.List.{All};
 ghost use Rattle.grain_rules.specs.Flaw.{ChunkFlaw};
 ghost use Rattle.grain_rules.specs.FlowFields.{falls_for, targets_for};
 ghost use Rattle.grain_rules.specs.EffectView.{flow_view};
-ghost use Rattle.grain_explain.specs.OnEdges.{counts_on};
-ghost use Rattle.grain_explain.specs.Claimed.{jumping};
-ghost use Rattle.grain_explain.specs.Scenes.{AreCome, IsCome, IsReadyScene, IsRefusalAt};
+ghost use Rattle.grain_explain.specs.Scenes.{AreCome, AreHeld, Comes, IsCome, IsReadyScene};
+ghost use Rattle.grain_explain.specs.Scenes.{IsRefusalAt};
 ghost use Rattle.grain_explain.specs.Scenes.{IsSearching};
-ghost use Rattle.grain_explain.specs.Scenes.{IsLeft, MissesTargetOf, code_seen, error_lacking};
+ghost use Rattle.grain_explain.specs.Scenes.{Extends, IsLeft, MissesTargetOf, code_seen, error_lacking};
+ghost use Rattle.grain_explain.specs.RowView.{AreLinked};
 ghost use Rattle.grain_explain.specs.Ways.{IsWayTo, Shows, arrival_stop, stops_of};
 
 use crate::arrival::Arrival;
 use crate::edge::OnEdge;
 use crate::needs::{Lack, check_needs};
 use crate::refusal::{ExplainError, Refusal};
-use crate::row::Row;
+use crate::row::{LinkedBase, Row};
 use crate::scene::Scene;
+use crate::stacks::{Arming, Leaving};
 use crate::switches::targets_of;
 use grain_code::{decode, width};
 use grain_rules::{Effect, VerifyError};
 
-/// What a walk has come to, by the distance from the chunk's entry, and what waits.
+/// What a walk has visited, by the distance from the chunk's entry, what waits, and the handlers that it has seen armed.
 #[derive(Drop)]
 pub(crate) struct Search {
     pub(crate) slots: Vec<Option<Arrival>>,
     pub(crate) work: Vec<Arrival>,
+    pub(crate) arming: Arming,
 }
 
-/// An instruction that is left: what is there, its place, what it does, and the address behind it.
+/// What a walk has visited, by the distance from the chunk's entry, and the bases whose lists are named there.
+#[derive(Clone, Copy)]
+pub(crate) struct Visited<'a> {
+    pub(crate) slots: &'a [Option<Arrival>],
+    pub(crate) bases: &'a [LinkedBase],
+}
+
+/// An instruction that is left: what is there, its place, what it does, what stands on its edges, and the address behind it.
 #[derive(Clone, Copy)]
 pub(crate) struct Departure<'a> {
-    pub(crate) slots: &'a [Option<Arrival>],
+    pub(crate) visited: Visited<'a>,
     pub(crate) here: &'a Arrival,
     pub(crate) place: usize,
     pub(crate) effect: &'a Effect,
+    pub(crate) leaving: Leaving,
     pub(crate) next: usize,
 }
 
@@ -47,8 +57,11 @@ impl Scene<'_> {
     pub(crate) fn run(&self, search: &mut Search) -> Result<Option<Refusal>, ExplainError>
         requires ready { IsReadyScene self.now }
         requires searching { IsSearching self.now search.old }
-        ensures come { OnOk result (AreCome self.now search.new.slots.items) }
-        ensures refusal { IfOk result (λ r. IfSome r (IsRefusalAt self.now)) }
+        ensures come { OnOk result
+            (AreCome self.now search.new.arming.bases.items search.new.slots.items) }
+        ensures linked { OnOk result (AreLinked search.new.arming.bases.items) }
+        ensures refusal { IfOk result
+            (λ r. IfSome r (IsRefusalAt self.now search.new.arming.bases.items)) }
     {
         for _ in 0..u64::MAX {
             let Some(arrival) = search.work.pop() else {
@@ -69,13 +82,21 @@ impl Scene<'_> {
     fn arrive(&self, search: &mut Search, arrival: Arrival) -> Result<Option<Refusal>, ExplainError>
         requires ready { IsReadyScene self.now }
         requires searching { IsSearching self.now search.old }
-        requires come { IsCome self.now search.old.slots.items arrival }
+        requires come { IsCome self.now search.old.arming.bases.items
+            search.old.slots.items arrival }
         ensures searching { OnOk result (IsSearching self.now search.new) }
-        ensures refusal { IfOk result (λ r. IfSome r (IsRefusalAt self.now)) }
+        ensures refusal { IfOk result
+            (λ r. IfSome r (IsRefusalAt self.now search.new.arming.bases.items)) }
     {
         let place = (arrival.row.at as usize).saturating_sub(self.chunk.entry() as usize);
         match search.slots.get(place) {
-            Some(Some(before)) => self.compare(&search.slots, before, &arrival),
+            Some(Some(before)) => {
+                let visited = Visited {
+                    slots: &search.slots,
+                    bases: &search.arming.bases,
+                };
+                self.compare(&visited, before, &arrival)
+            }
             Some(None) => self.visit(search, place, arrival),
             None => Err(ExplainError::Unfinished),
         }
@@ -87,21 +108,22 @@ impl Scene<'_> {
     /// `OutOfMemory`, `Unfinished`.
     fn compare(
         &self,
-        slots: &[Option<Arrival>],
+        visited: &Visited<'_>,
         before: &Arrival,
         arrival: &Arrival,
     ) -> Result<Option<Refusal>, ExplainError>
         requires ready { IsReadyScene self.now }
-        requires come { AreCome self.now slots.now }
-        requires before { IsCome self.now slots.now before.now }
-        requires arrival { IsCome self.now slots.now arrival.now }
-        ensures { IfOk result (λ r. IfSome r (IsRefusalAt self.now)) }
+        requires linked { AreLinked visited.now.bases.now }
+        requires come { AreHeld self.now visited.now }
+        requires before { Comes self.now visited.now before.now }
+        requires arrival { Comes self.now visited.now arrival.now }
+        ensures { IfOk result (λ r. IfSome r (IsRefusalAt self.now visited.now.bases.now)) }
     {
         let at = before.row.at;
         if at != arrival.row.at || self.check_target(at, at).is_err() {
             return Err(ExplainError::Unfinished);
         }
-        if OnEdge::at(&before.row).is_at(&arrival.row) {
+        if OnEdge::at(&before.row).is_at(visited.bases, &arrival.row) {
             return Ok(None);
         }
         Ok(Some(Refusal {
@@ -110,8 +132,8 @@ impl Scene<'_> {
                 expected: before.row.operands as usize,
                 found: arrival.row.operands as usize,
             },
-            way: self.way_to(slots, before)?,
-            other: self.way_to(slots, arrival)?,
+            way: self.way_to(visited, before)?,
+            other: self.way_to(visited, arrival)?,
         }))
     }
 
@@ -127,20 +149,25 @@ impl Scene<'_> {
     ) -> Result<Option<Refusal>, ExplainError>
         requires ready { IsReadyScene self.now }
         requires searching { IsSearching self.now search.old }
-        requires come { IsCome self.now search.old.slots.items arrival }
+        requires come { IsCome self.now search.old.arming.bases.items
+            search.old.slots.items arrival }
         requires inside { place < length search.old.slots.items }
         requires free { get_or search.old.slots.items place None ≡ None }
         ensures searching { OnOk result (IsSearching self.now search.new) }
-        ensures refusal { IfOk result (λ r. IfSome r (IsRefusalAt self.now)) }
+        ensures refusal { IfOk result
+            (λ r. IfSome r (IsRefusalAt self.now search.new.arming.bases.items)) }
     {
         search.slots[place] = Some(arrival);
-        match &search.slots[place] {
-            Some(here) => self.look(&search.slots, place, here, &mut search.work),
-            None => Ok(None),
-        }
+        self.look(
+            &search.slots,
+            place,
+            &arrival,
+            &mut search.arming,
+            &mut search.work,
+        )
     }
 
-    /// Tests what an instruction asks and needs, and sends counts along its edges.
+    /// Tests what an instruction needs, and sends counts along its edges.
     ///
     /// # Errors
     /// `OutOfMemory`, `Unfinished`.
@@ -149,14 +176,19 @@ impl Scene<'_> {
         slots: &[Option<Arrival>],
         place: usize,
         here: &Arrival,
+        arming: &mut Arming,
         work: &mut Vec<Arrival>,
     ) -> Result<Option<Refusal>, ExplainError>
         requires ready { IsReadyScene self.now }
-        requires come { AreCome self.now slots.now }
+        requires linked { AreLinked arming.old.bases.items }
+        requires come { AreCome self.now arming.old.bases.items slots.now }
         requires held { get_or slots.now place None ≡ Some here.now }
-        requires waits { All (IsCome self.now slots.now) work.old.items }
-        ensures waits { OnOk result (All (IsCome self.now slots.now) work.new.items) }
-        ensures refusal { IfOk result (λ r. IfSome r (IsRefusalAt self.now)) }
+        requires waits { All (IsCome self.now arming.old.bases.items slots.now) work.old.items }
+        ensures extends { OnOk result (Extends arming.old.bases.items arming.new.bases.items) }
+        ensures waits { OnOk result
+            (All (IsCome self.now arming.new.bases.items slots.now) work.new.items) }
+        ensures refusal { IfOk result
+            (λ r. IfSome r (IsRefusalAt self.now arming.new.bases.items)) }
     {
         let row = &here.row;
         let at = row.at as usize;
@@ -169,18 +201,30 @@ impl Scene<'_> {
         if self.check_target(row.at, row.at).is_err() {
             return Err(ExplainError::Unfinished);
         }
-        match check_needs(self.caps, self.pools, &op, row) {
+        match check_needs(self.caps, self.pools, &op, &arming.bases, row) {
             Ok(effect) => {
+                let leaving = arming.leave(row, &effect)?;
                 let departure = Departure {
-                    slots,
+                    visited: Visited {
+                        slots,
+                        bases: &arming.bases,
+                    },
                     here,
                     place,
                     effect: &effect,
+                    leaving,
                     next: at + width,
                 };
                 self.send(&departure, work)
             }
-            Err(lack) => Ok(Some(self.refuse(slots, here, self.lack_error(row, lack))?)),
+            Err(lack) => {
+                let visited = Visited {
+                    slots,
+                    bases: &arming.bases,
+                };
+                let error = self.lack_error(row, lack);
+                Ok(Some(self.refuse(&visited, here, error)?))
+            }
         }
     }
 
@@ -221,18 +265,19 @@ impl Scene<'_> {
     ) -> Result<Option<Refusal>, ExplainError>
         requires ready { IsReadyScene self.now }
         requires left { IsLeft self.now departure.now }
-        requires waits { All (IsCome self.now departure.now.slots.now) work.old.items }
-        ensures waits { OnOk result (All (IsCome self.now departure.now.slots.now) work.new.items) }
-        ensures refusal { IfOk result (λ r. IfSome r (IsRefusalAt self.now)) }
+        requires waits { All (Comes self.now departure.now.visited) work.old.items }
+        ensures waits { OnOk result (All (Comes self.now departure.now.visited) work.new.items) }
+        ensures refusal { IfOk result
+            (λ r. IfSome r (IsRefusalAt self.now departure.now.visited.bases.now)) }
     {
         let here = departure.here;
         let effect = departure.effect;
         let targets = targets_of(self.alloc, self.pools, effect.flow)?;
         if let Err(error) = self.check_targets(here.row.at, &targets) {
-            return Ok(Some(self.refuse(departure.slots, here, error)?));
+            let refusal = self.refuse(&departure.visited, here, error)?;
+            return Ok(Some(refusal));
         }
-        let edge = OnEdge::to_targets(&here.row, effect);
-        self.push_all(departure, &targets, &edge, work)?;
+        self.push_all(departure, &targets, work)?;
         if effect.flow.falls() {
             self.fall(departure, work)
         } else {
@@ -252,27 +297,22 @@ impl Scene<'_> {
         requires ready { IsReadyScene self.now }
         requires left { IsLeft self.now departure.now }
         requires falls { falls_for (flow_view departure.now.effect.now.flow) ≡ true }
-        requires waits { All (IsCome self.now departure.now.slots.now) work.old.items }
-        ensures waits { OnOk result (All (IsCome self.now departure.now.slots.now) work.new.items) }
-        ensures refusal { IfOk result (λ r. IfSome r (IsRefusalAt self.now)) }
+        requires waits { All (Comes self.now departure.now.visited) work.old.items }
+        ensures waits { OnOk result (All (Comes self.now departure.now.visited) work.new.items) }
+        ensures refusal { IfOk result
+            (λ r. IfSome r (IsRefusalAt self.now departure.now.visited.bases.now)) }
     {
-        let Departure {
-            slots,
-            here,
-            place,
-            effect,
-            next,
-        } = *departure;
-        if next == self.chunk.end() as usize {
-            return Ok(Some(self.refuse(slots, here, VerifyError::FallsOffTheEnd)?));
+        if departure.next == self.chunk.end() as usize {
+            let error = VerifyError::FallsOffTheEnd;
+            let refusal = self.refuse(&departure.visited, departure.here, error)?;
+            return Ok(Some(refusal));
         }
-        let Ok(at) = u32::try_from(next) else {
+        let Ok(at) = u32::try_from(departure.next) else {
             return Err(ExplainError::Unfinished);
         };
-        let row = Row::behind(self.alloc, at, &OnEdge::to_next(&here.row, effect))?;
         work.push(Arrival {
-            row,
-            from: Some(place),
+            row: departure.leaving.fall.at(at),
+            from: Some(departure.place),
         })?;
         Ok(None)
     }
@@ -291,29 +331,25 @@ impl Scene<'_> {
         Ok(())
     }
 
-    /// Sends the counts of an edge to targets.
+    /// Sends what stands on the edges to targets to each of these.
     ///
     /// # Errors
-    /// `OutOfMemory`, `Unfinished`.
+    /// `OutOfMemory`.
     fn push_all(
         &self,
         departure: &Departure<'_>,
         targets: &[u32],
-        edge: &OnEdge<'_>,
         work: &mut Vec<Arrival>,
     ) -> Result<(), ExplainError>
         requires left { IsLeft self.now departure.now }
-        requires edge { counts_on edge.now
-            ≡ jumping departure.now.here.now.row departure.now.effect.now }
         requires targets { targets.now ≡ targets_for (code_seen self.now).switches
             (flow_view departure.now.effect.now.flow) }
-        requires waits { All (IsCome self.now departure.now.slots.now) work.old.items }
-        ensures { OnOk result (All (IsCome self.now departure.now.slots.now) work.new.items) }
+        requires waits { All (Comes self.now departure.now.visited) work.old.items }
+        ensures { OnOk result (All (Comes self.now departure.now.visited) work.new.items) }
     {
         for target in targets {
-            let row = Row::behind(self.alloc, *target, edge)?;
             work.push(Arrival {
-                row,
+                row: departure.leaving.jump.at(*target),
                 from: Some(departure.place),
             })?;
         }
@@ -326,20 +362,20 @@ impl Scene<'_> {
     /// `OutOfMemory`, `Unfinished`.
     pub(crate) fn refuse(
         &self,
-        slots: &[Option<Arrival>],
+        visited: &Visited<'_>,
         here: &Arrival,
         error: VerifyError,
     ) -> Result<Refusal, ExplainError>
-        requires come { AreCome self.now slots.now }
-        requires here { IsCome self.now slots.now here.now }
+        requires come { AreHeld self.now visited.now }
+        requires here { Comes self.now visited.now here.now }
         requires shows { Shows (code_seen self.now) self.now.chunk.now
-            (arrival_stop here.now) error }
+            (arrival_stop visited.now.bases.now here.now) error }
         requires flaw { ChunkFlaw (code_seen self.now) self.now.chunk.now error }
-        ensures { IfOk result (IsRefusalAt self.now) }
+        ensures { IfOk result (IsRefusalAt self.now visited.now.bases.now) }
     {
         Ok(Refusal {
             error,
-            way: self.way_to(slots, here)?,
+            way: self.way_to(visited, here)?,
             other: Vec::new(self.alloc),
         })
     }
@@ -348,20 +384,21 @@ impl Scene<'_> {
     ///
     /// # Errors
     /// `OutOfMemory`, `Unfinished`.
-    fn way_to(&self, slots: &[Option<Arrival>], last: &Arrival) -> Result<Vec<Row>, ExplainError>
-        requires come { AreCome self.now slots.now }
-        requires last { IsCome self.now slots.now last.now }
+    fn way_to(&self, visited: &Visited<'_>, last: &Arrival) -> Result<Vec<Row>, ExplainError>
+        requires come { AreHeld self.now visited.now }
+        requires last { Comes self.now visited.now last.now }
         ensures { IfOk result (λ v. IsWayTo (code_seen self.now) self.now.chunk.now
-            (arrival_stop last.now) (stops_of v.items)) }
+            (arrival_stop visited.now.bases.now last.now)
+            (stops_of visited.now.bases.now v.items)) }
     {
         let mut way = Vec::new(self.alloc);
         let mut here = last;
-        for _ in 0..=slots.len() {
-            way.push(here.row.copied(self.alloc)?)?;
+        for _ in 0..=visited.slots.len() {
+            way.push(here.row)?;
             let Some(place) = here.from else {
                 return Ok(way);
             };
-            let Some(Some(before)) = slots.get(place) else {
+            let Some(Some(before)) = visited.slots.get(place) else {
                 return Err(ExplainError::Unfinished);
             };
             here = before;

@@ -9,10 +9,10 @@ returns-in_err-check_targets-clause-err c =
     let (at, named, (is, none)) = c.in_err-check_targets.ensures.err in
     rw (p.1, p.2) (record {
       at = at;
-      counts = jumping c.args.row.now c.args.effect.now;
+      counts = jumping c.args.self.now.bases.now c.args.row.now c.args.effect.now;
       is = is;
       edge = inl (named, refl);
-      astray = λ e. none (e ∙ ap Some (sym c.to_targets.ensures));
+      astray = λ e. none (e ∙ ap Some (sym (c.to_targets-edge.ensures.counts c.args.self.now.bases.now)));
     })
 
 pub returns-in_err-check_target-clause-err : goal.returns-in_err-check_target-clause-err
@@ -21,8 +21,8 @@ returns-in_err-check_target-clause-err c =
     let (is, none) = c.in_err-check_target.ensures.err in
     rw (p.1, p.2) (record {
       at = c.args.next;
-      counts = falling_on c.args.row.now c.args.effect.now;
+      counts = falling_on c.args.self.now.bases.now c.args.row.now c.args.effect.now;
       is = is;
       edge = inr (sym c.falls.ensures ∙ c.if-falls.true, refl, refl);
-      astray = λ e. none (e ∙ ap Some (sym c.to_next.ensures));
+      astray = λ e. none (e ∙ ap Some (sym c.to_next-edge.ensures.counts));
     })

@@ -5,12 +5,16 @@ use Rattle.grain_explain.proofs.Certified.{certified}
 use Rattle.grain_explain.proofs.Matching.{on_ok}
 use Rattle.grain_explain.proofs.claim.Claim.check_from.Goals as goal
 
+pub has_row-requires-clause-listed : goal.has_row-requires-clause-listed
+has_row-requires-clause-listed c = c.nothing.ensures.listed c.args.self.now.bases.now
+
 pub returns-clause-yes : goal.returns-clause-yes
 returns-clause-yes c =
     let claim = c.args.self.now in
     let rows = claim.rows.now in
-    let entry : typing_of rows claim.chunk.now.entry ≡ Some nothing =
-    subst (λ n. typing_of rows n ≡ Some nothing) c.entry.ensures (c.has_row.ensures.0 c.if-not-has_row.false ∙ ap Some c.nothing.ensures) in
+    let bases = claim.bases.now in
+    let entry : typing_of bases rows claim.chunk.now.entry ≡ Some nothing =
+    subst (λ n. typing_of bases rows n ≡ Some nothing) c.entry.ensures (c.has_row.ensures.0 c.if-not-has_row.false ∙ ap Some (c.nothing.ensures.counts bases)) in
     on_ok c.check_rows.result
-    (λ sound. certified claim c.requires.ordered c.requires.inside c.in_ok-check_places.ensures.ends c.in_ok-check_ascending.ensures.ok c.in_ok-check_places.ensures.placed entry sound)
+    (λ sound. certified claim c.requires.ordered c.requires.inside c.in_ok-check_places.ensures.ends (record { linked = c.requires.linked; listed = c.requires.listed; ascending = c.in_ok-check_ascending.ensures.ok }) c.in_ok-check_places.ensures.placed entry sound)
     c.check_rows.ensures.sound

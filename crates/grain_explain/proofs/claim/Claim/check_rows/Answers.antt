@@ -1,12 +1,12 @@
-use Rattle.grain_explain.specs.Claimed.{IsSound}
 use Rattle.std.proofs.Common.{arith}
-use Rattle.grain_explain.proofs.Laying.{row_inside, row_read, rows_more}
+use Rattle.grain_explain.specs.Claimed.{IsSound}
+use Rattle.grain_explain.proofs.Laying.{row_inside, row_of, row_there, rows_more}
 use Rattle.grain_explain.proofs.claim.Claim.check_rows.Goals as goal
 
 pub loop-number-preserved : goal.loop-number-preserved
 loop-number-preserved c =
     let rows = c.args.self.now.rows.now in
-    rows_more (IsSound c.args.self.now) rows c.loop-number.number c.row-item.result (row_read rows c.loop-number.number c.row-item.result c.loop-number-test.true c.row-item.is)
+    rows_more (IsSound c.args.self.now) rows c.loop-number.number (row_of rows c.loop-number.number) (row_there rows c.loop-number.number c.loop-number-test.true)
     c.in_ok-check_row.ensures.sound c.loop-number.invariant
 
 pub returns-clause-sound : goal.returns-clause-sound

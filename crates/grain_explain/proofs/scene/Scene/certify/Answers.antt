@@ -10,6 +10,7 @@ pub returns-in-Ok : goal.returns-in-Ok
 returns-in-Ok c =
     let code = code_seen c.args.self.now in
     let chunk = c.args.self.now.chunk.now in
-    let claimed = subst (λ (g : Claim). IsCertificate (code_claimed g) (span_claimed g) g.rows.now) c.claim-claim.ensures c.in-Ok.ensures.yes in
-    let declared : IsCertificate code chunk c.args.rows.now = subst (λ m. IsCertificate code (record chunk { max_stack = m }) c.args.rows.now) (c.from.ensures ∙ c.max_stack.ensures) claimed in
-    typed_rows code chunk c.args.rows.now declared c.requires.reached
+    let claimed = subst (λ (g : Claim). IsCertificate (code_claimed g) (span_claimed g) g.bases.now g.rows.now) c.claim-claim.ensures c.in-Ok.ensures.yes in
+    let bases = c.args.visited.now.bases.now in
+    let declared : IsCertificate code chunk bases c.args.rows.now = subst (λ m. IsCertificate code (record chunk { max_stack = m }) bases c.args.rows.now) (c.from.ensures ∙ c.max_stack.ensures) claimed in
+    typed_rows code chunk bases c.args.rows.now declared c.requires.reached

@@ -1,6 +1,7 @@
-use Rattle.std.proofs.Common.{◌≡◌, ℕ, true, refl, sym, subst, ◌∙◌}
+use Rattle.std.proofs.Common.{◌≡◌, ℕ, true, ap, refl, sym, subst, ◌∙◌}
 use Rattle.grain_rules.specs.Code.{coded}
 use Rattle.grain_rules.specs.Typing.{Reached}
+use Rattle.grain_explain.specs.OnEdges.{counts_on}
 use Rattle.grain_explain.specs.RowView.{counts_of}
 use Rattle.grain_explain.specs.Scenes.{code_seen}
 use Rattle.grain_explain.specs.Ways.{arrival_stop, of_conflict}
@@ -9,24 +10,25 @@ use Rattle.grain_explain.proofs.scene.Scene.compare.Goals as goal
 
 pub returns : goal.returns
 returns c =
+    let bases = c.args.visited.now.bases.now in
     let before = c.args.before.now in
     let arrival = c.args.arrival.now in
     let there = c.if-at-arrival.false in
     let inside = not_err c.check_target.result (sym c.is_err.ensures.value ∙ c.if-is_err.false) c.check_target.ensures.inside in
-    let unlike : counts_of before.row ≡ counts_of arrival.row → ⊥ = λ e. (let t : c.is_at.result ≡ true = c.is_at.ensures.1 (sym e ∙ sym c.at.ensures) in let f = c.if-is_at.false in cc) in
+    let unlike : counts_of bases before.row ≡ counts_of bases arrival.row → ⊥ = λ e. (let t : c.is_at.result ≡ true = c.is_at.ensures.1 (sym e ∙ sym (ap (counts_on bases) c.at.ensures)) in let f = c.if-is_at.false in cc) in
     record {
       flaw = (
         c.requires.ready.framed,
         inside,
         record {
-          one = counts_of before.row;
-          other = counts_of arrival.row;
+          one = counts_of bases before.row;
+          other = counts_of bases arrival.row;
           one_reached = c.requires.before.reached;
-          other_reached = subst (λ (n : ℕ). Reached (coded (code_seen c.args.self.now)) c.args.self.now.chunk.now n (counts_of arrival.row)) (sym there) c.requires.arrival.reached;
+          other_reached = subst (λ (n : ℕ). Reached (coded (code_seen c.args.self.now)) c.args.self.now.chunk.now n (counts_of bases arrival.row)) (sym there) c.requires.arrival.reached;
           unlike = unlike;
           expected_is = refl;
           found_is = refl;
         },
       );
-      witness = of_conflict (arrival_stop before) (arrival_stop arrival) c.in_ok-way_to.ensures c.in_ok-way_to-2.ensures refl (sym there) unlike refl refl;
+      witness = of_conflict (arrival_stop bases before) (arrival_stop bases arrival) c.in_ok-way_to.ensures c.in_ok-way_to-2.ensures refl (sym there) unlike refl refl;
     }

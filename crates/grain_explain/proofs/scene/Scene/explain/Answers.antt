@@ -1,9 +1,13 @@
-use Rattle.std.proofs.Common.{subst, sym}
-use Rattle.grain_explain.specs.Scenes.{AreCome}
+use Rattle.std.proofs.Common.{List, ap, ◌∙◌}
+use Rattle.std.proofs.Common.{Vec, Global}
+use Rattle.grain_explain.specs.declared.row.LinkedBase.{LinkedBase}
+use Rattle.grain_explain.proofs.Sceneries.{held_read}
 use Rattle.grain_explain.proofs.scene.Scene.explain.Goals as goal
 
 pub rows_of-requires : goal.rows_of-requires
-rows_of-requires c = subst (AreCome c.args.self.now) (sym c.deref.ensures.value) c.in_ok-found.ensures.come
+rows_of-requires c =
+    held_read c.args.self.now _ _ _ _ (c.deref-2.ensures.value ∙ ap (λ (v : Vec LinkedBase Global). v.items) c.into_bases-bases.ensures) c.deref.ensures.value c.in_ok-found.ensures.come
 
 pub certify-requires-clause-come : goal.certify-requires-clause-come
-certify-requires-clause-come c = subst (AreCome c.args.self.now) (sym c.deref-in-None.ensures.value) c.in_ok-found.ensures.come
+certify-requires-clause-come c =
+    held_read c.args.self.now _ _ _ _ (c.deref-2.ensures.value ∙ ap (λ (v : Vec LinkedBase Global). v.items) c.into_bases-bases.ensures) c.deref.ensures.value c.in_ok-found.ensures.come

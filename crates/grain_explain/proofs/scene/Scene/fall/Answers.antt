@@ -1,7 +1,7 @@
 use Rattle.std.proofs.Common.{◌≡◌, arith, refl}
 use Rattle.std.proofs.lemmas.List.Elements.{All-push}
-use Rattle.grain_explain.specs.OnEdges.{counts_on}
-use Rattle.grain_explain.specs.Scenes.{IsCome}
+use Rattle.grain_explain.specs.Scenes.{Comes, stacks_in}
+use Rattle.grain_explain.specs.declared.row.Row.{Row}
 use Rattle.grain_explain.proofs.Sceneries.{along_come, fall_edge}
 use Rattle.grain_explain.proofs.scene.Scene.fall.Goals as goal
 
@@ -14,5 +14,7 @@ returns-clause-waits c =
     let d = c.args.departure.now in
     let e = c.in-Ok.ensures in
     let same : c.in-Ok.at ≡ d.next = omega arith in
-    let edge = fall_edge s d c.requires.left c.in_ok-row.row c.in-Ok.at (counts_on c.to_next.result) c.in_ok-row.ensures same c.requires.falls c.to_next.ensures in
-    rw c.in_ok-push.ensures.items (All-push (IsCome s d.slots.now) c.args.work.now.items _ c.requires.waits (along_come s d c.requires.left _ refl edge))
+    let fall = c.requires.left.leaves.fall in
+    let row : Row = record { at = c.in-Ok.at; operands = d.leaving.fall.operands; iterators = d.leaving.fall.iterators; bases = d.leaving.fall.bases } in
+    let edge = fall_edge s d c.requires.left row c.in-Ok.at (stacks_in d.visited.bases.now d.leaving.fall) refl same c.requires.falls fall.is in
+    rw (c.in_ok-push.ensures.items, c.at.ensures) (All-push (Comes s d.visited) c.args.work.now.items _ c.requires.waits (along_come s d c.requires.left _ fall.listed refl edge))

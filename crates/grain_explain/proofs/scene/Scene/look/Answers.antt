@@ -1,41 +1,91 @@
-use Rattle.std.proofs.Common.{◌+◌, ℕ, ap, subst, sym, ◌∙◌}
+use Rattle.std.proofs.Common.{◌≡◌, ◌+◌, ◌≤◌, ℕ, List, ap, length, subst, sym, ◌∙◌}
+use Rattle.std.specs.List.{All}
+use Rattle.grain_rules.specs.Code.{coded}
+use Rattle.grain_rules.specs.Counts.{Counts}
 use Rattle.grain_rules.specs.Flaw.{ChunkFlaw}
+use Rattle.grain_rules.specs.Typing.{Passes}
 use Rattle.grain_rules.proofs.Once.{wide}
-use Rattle.grain_explain.specs.Scenes.{code_seen}
+use Rattle.grain_explain.specs.Lacking.{FindsLacking, HasAll}
+use Rattle.grain_explain.specs.RowView.{counts_of}
+use Rattle.grain_explain.specs.Scenes.{AreCome, IsCome, Leaves, code_seen}
 use Rattle.grain_explain.specs.Ways.{Shows, arrival_stop}
+use Rattle.grain_explain.specs.declared.row.LinkedBase.{LinkedBase}
+use Rattle.grain_explain.proofs.Extending.{counts_kept, held_more, waits_more}
 use Rattle.grain_explain.proofs.Refused.{lacking_flaw, lacking_shows}
 use Rattle.grain_explain.proofs.Sceneries.{not_err}
 use Rattle.grain_explain.proofs.scene.Scene.look.Goals as goal
 
+pub check_needs-requires-clause-listed : goal.check_needs-requires-clause-listed
+check_needs-requires-clause-listed c =
+    subst (λ (bases : List LinkedBase). c.args.here.now.row.bases ≤ length bases) (sym c.deref.ensures.value) (c.requires.come c.args.place c.args.here.now c.requires.held).listed
+
+pub leave-requires-clause-listed : goal.leave-requires-clause-listed
+leave-requires-clause-listed c = (c.requires.come c.args.place c.args.here.now c.requires.held).listed
+
 pub send-requires-clause-left : goal.send-requires-clause-left
 send-requires-clause-left c =
+    let s = c.args.self.now in
+    let slots = c.args.slots.now in
     let row = c.args.here.now.row in
     let op = c.in-Some.op in
-    let has = c.in-Ok.ensures.has in
+    let effect = c.in-Ok.effect in
+    let old = c.args.arming.now.bases.items in
+    let new = c.leave.new.self.bases.items in
+    let extends = c.in_ok-leaving-in-Ok.ensures.extends in
+    let kept = counts_kept old new c.requires.linked extends row (c.requires.come c.args.place c.args.here.now c.requires.held).listed in
+    let has = subst (λ (bases : List LinkedBase). HasAll (code_seen s).setting op (counts_of bases row)) c.deref.ensures.value c.in-Ok.ensures.has in
     let inside = not_err c.check_target.result (sym c.is_err.ensures.value ∙ c.if-is_err.false) c.check_target.ensures.inside in
+    let passes : Passes (coded (code_seen s)) s.chunk.now row.at (counts_of old row) op =
+        record { stands = record { within = inside; is = c.in-Some.ensures.found }; meets = has.meets; allowed = has.allowed; stays = has.stays } in
+    let back = sym c.deref-in-Ok.ensures.value in
     record {
       op = op;
       does = c.in-Ok.ensures.does;
-      passes = record { stands = record { within = inside; is = c.in-Some.ensures.found }; meets = has.meets; allowed = has.allowed; stays = has.stays };
-      next = ap (λ (n : ℕ). row.at + n) (wide c.args.self.now.code.now row.at c.in-Some-width.width op c.in-Some-width.ensures.found c.in-Some.ensures.found);
-      come = c.requires.come;
+      passes = subst (λ (bases : List LinkedBase). Passes (coded (code_seen s)) s.chunk.now row.at (counts_of bases row) op) back
+          (subst (λ (x : Counts). Passes (coded (code_seen s)) s.chunk.now row.at x op) (sym kept) passes);
+      next = ap (λ (n : ℕ). row.at + n) (wide s.code.now row.at c.in-Some-width.width op c.in-Some-width.ensures.found c.in-Some.ensures.found);
+      come = subst (λ (bases : List LinkedBase). AreCome s bases slots) back (held_more old new c.requires.linked extends s slots c.requires.come);
       held = c.requires.held;
+      leaves = subst (λ (bases : List LinkedBase). Leaves bases row effect c.in_ok-leaving-in-Ok.leaving) back c.in_ok-leaving-in-Ok.ensures.leaves;
     }
 
+pub send-requires-clause-waits : goal.send-requires-clause-waits
+send-requires-clause-waits c =
+    let s = c.args.self.now in
+    let slots = c.args.slots.now in
+    let work = c.args.work.now.items in
+    let old = c.args.arming.now.bases.items in
+    let new = c.leave.new.self.bases.items in
+    subst (λ (bases : List LinkedBase). All (IsCome s bases slots) work) (sym c.deref-in-Ok.ensures.value)
+    (waits_more old new c.requires.linked c.in_ok-leaving-in-Ok.ensures.extends s slots c.requires.come work c.requires.waits)
+
+pub refuse-requires-clause-come : goal.refuse-requires-clause-come
+refuse-requires-clause-come c = subst (λ (bases : List LinkedBase). AreCome c.args.self.now bases c.args.slots.now) (sym c.deref-in-Err.ensures.value) c.requires.come
+
 pub refuse-requires-clause-here : goal.refuse-requires-clause-here
-refuse-requires-clause-here c = c.requires.come c.args.place c.args.here.now c.requires.held
+refuse-requires-clause-here c =
+    subst (λ (bases : List LinkedBase). IsCome c.args.self.now bases c.args.slots.now c.args.here.now) (sym c.deref-in-Err.ensures.value) (c.requires.come c.args.place c.args.here.now c.requires.held)
 
 pub refuse-requires-clause-shows : goal.refuse-requires-clause-shows
 refuse-requires-clause-shows c =
     let s = c.args.self.now in
+    let row = c.args.here.now.row in
+    let op = c.in-Some.op in
+    let old = c.args.arming.now.bases.items in
+    let lacks = subst (λ (bases : List LinkedBase). FindsLacking (code_seen s).setting op (counts_of bases row) c.in-Err.lack) c.deref.ensures.value c.in-Err.ensures.lacks in
     let inside = not_err c.check_target.result (sym c.is_err.ensures.value ∙ c.if-is_err.false) c.check_target.ensures.inside in
-    subst (Shows (code_seen s) s.chunk.now (arrival_stop c.args.here.now)) (sym c.lack_error.ensures)
-    (lacking_shows s c.args.here.now.row c.in-Some.op c.in-Err.lack (record { within = inside; is = c.in-Some.ensures.found }) c.in-Err.ensures.lacks)
+    subst (λ (bases : List LinkedBase). Shows (code_seen s) s.chunk.now (arrival_stop bases c.args.here.now) c.lack_error-error.result) (sym c.deref-in-Err.ensures.value)
+    (subst (Shows (code_seen s) s.chunk.now (arrival_stop old c.args.here.now)) (sym c.lack_error-error.ensures)
+    (lacking_shows s old row op c.in-Err.lack (record { within = inside; is = c.in-Some.ensures.found }) lacks))
 
 pub refuse-requires-clause-flaw : goal.refuse-requires-clause-flaw
 refuse-requires-clause-flaw c =
     let s = c.args.self.now in
+    let row = c.args.here.now.row in
+    let op = c.in-Some.op in
+    let old = c.args.arming.now.bases.items in
+    let lacks = subst (λ (bases : List LinkedBase). FindsLacking (code_seen s).setting op (counts_of bases row) c.in-Err.lack) c.deref.ensures.value c.in-Err.ensures.lacks in
     let inside = not_err c.check_target.result (sym c.is_err.ensures.value ∙ c.if-is_err.false) c.check_target.ensures.inside in
     let come = c.requires.come c.args.place c.args.here.now c.requires.held in
-    subst (ChunkFlaw (code_seen s) s.chunk.now) (sym c.lack_error.ensures)
-    (lacking_flaw s c.args.here.now.row c.in-Some.op c.in-Err.lack c.requires.ready.framed come.reached (record { within = inside; is = c.in-Some.ensures.found }) c.in-Err.ensures.lacks)
+    subst (ChunkFlaw (code_seen s) s.chunk.now) (sym c.lack_error-error.ensures)
+    (lacking_flaw s old row op c.in-Err.lack c.requires.ready.framed come.reached (record { within = inside; is = c.in-Some.ensures.found }) lacks)

@@ -16,5 +16,5 @@ refuse-requires-clause-flaw c =
     let come = left.come c.args.departure.now.place c.args.departure.now.here.now left.held in
     let (t, named, misses) = c.in-Err.ensures in
     let there = c.deref.ensures.value ∙ (c.in_ok-targets.ensures ∙ ap (targets_for (code_seen s).switches) left.does.flow) in
-    target_flaw s (arrival_stop c.args.departure.now.here.now) t c.in-Err.error c.requires.ready.framed come.reached
+    target_flaw s (arrival_stop c.args.departure.now.visited.bases.now c.args.departure.now.here.now) t c.in-Err.error c.requires.ready.framed come.reached
     (record { op = left.op; passes = left.passes; names = subst (λ (ts : List ℕ). Contains ts t) there named }) misses

@@ -13,13 +13,13 @@ refuse-requires-clause-flaw c =
     let code = code_seen c.args.self.now in
     let chunk = c.args.self.now.chunk.now in
     let rows = c.args.rows.now in
-    let yes = subst (λ (g : Claim). OnOk c.check_from-checked.result (IsCertificate (code_claimed g) (span_claimed g) g.rows.now)) c.claim-claim.ensures c.check_from-checked.ensures.yes in
+    let yes = subst (λ (g : Claim). OnOk c.check_from-checked.result (IsCertificate (code_claimed g) (span_claimed g) g.bases.now g.rows.now)) c.claim-claim.ensures c.check_from-checked.ensures.yes in
     let sure = not_err c.check_from-checked.result (sym c.is_err.ensures.value ∙ c.if-is_err.false) yes in
     let low = c.if-needed-from.false in
     let from = c.from.ensures in (
       c.requires.ready.framed,
       c.max_stack-declared.ensures,
       omega arith,
-      deepest_row code chunk _ c.greatest-needed.result rows sure c.greatest-needed.ensures c.in-Some.here.now.row c.in-Some.ensures.come.reached c.in-Some.ensures.deep,
-      (_, (typing_of rows, unspanned code chunk _ _ (typing_of rows) sure.typing)),
+      deepest_row code chunk _ c.greatest-needed.result c.args.visited.now.bases.now rows sure c.greatest-needed.ensures c.in-Some.here.now.row c.in-Some.ensures.come.reached c.in-Some.ensures.deep,
+      (_, (typing_of c.args.visited.now.bases.now rows, unspanned code chunk _ _ (typing_of c.args.visited.now.bases.now rows) sure.typing)),
     )

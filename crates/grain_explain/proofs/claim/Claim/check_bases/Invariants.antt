@@ -1,0 +1,7 @@
+use Rattle.std.proofs.Common.{ℕ, ◌<◌, ◌≤◌, slice_index_or}
+use Rattle.grain_explain.specs.RowView.{no_base}
+use Rattle.grain_explain.specs.declared.row.LinkedBase.{LinkedBase}
+use Rattle.grain_explain.proofs.claim.Claim.check_bases.Given as goal
+
+abbrev pub invariant-loop-base : goal.invariant-loop-base
+invariant-loop-base l = (k : ℕ) → k < l.base → (slice_index_or l.self.bases.now k no_base).next ≤ k
