@@ -1,5 +1,5 @@
 -- Starts, frames and arrivals.
-use Rattle.std.proofs.Common.{◌≡◌, ◌⊎◌, inl, inr, ℕ, ◌<◌, ◌≤◌, List, [], length, get_or, Option, Some, None, set, zero, suc, true, false, nat_lt, Result, Ok, Err, OnOk}
+use Rattle.std.proofs.Common.{◌≡◌, ◌⊎◌, inl, inr, ℕ, ◌<◌, ◌≤◌, List, [], length, get_or, Option, Some, None, set, zero, suc, true, false, nat_lt, Result, Ok, Err, OnOk, IfErr}
 use Rattle.std.proofs.Common.{refl, sym, ap, subst, ◌∙◌, arith, ◌++◌, ◌∷◌}
 use Rattle.std.specs.List.{All, AllZip, Contains}
 use Rattle.std.specs.Result.{is_err}
@@ -103,6 +103,11 @@ zip_push R (u ∷ us) (v ∷ vs) x y h r = (h.0, zip_push R us vs x y h.1 r)
 pub not_err : {A E P : Type 0} (r : Result A E) → is_err r ≡ false → OnOk r P → P
 not_err (Ok x) e h = h
 not_err (Err x) e h = absurd (cc)
+
+-- the error of a failure, with what holds of it
+pub of_err : {A E : Type 0} {P : E → Type 0} (r : Result A E) → is_err r ≡ true → IfErr r P → (e : E) × P e
+of_err (Ok x) e h = absurd (cc)
+of_err (Err x) e h = (x, h)
 
 -- what is in a list of places after one was set
 set_place : {A : Type 0} (xs : List (Option A)) (j k : ℕ) (a b : A) → get_or (set xs j (Some a)) k None ≡ Some b → ((k ≡ j) × (a ≡ b)) ⊎ (get_or xs k None ≡ Some b)

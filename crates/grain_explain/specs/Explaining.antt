@@ -1,14 +1,16 @@
 -- What explaining answers of a chunk and of a program.
-use Rattle.std.specs.Prelude.{◌≡◌, ◌↔◌, ℕ, List, Option, None, Some, MatchOption}
+use Rattle.std.specs.Prelude.{◌≡◌, ◌≢◌, ◌↔◌, ℕ, List, Option, None, Some, MatchOption}
 use Rattle.std.specs.List.{All, AllZip}
 use Rattle.grain_code.specs.Span.{Span}
-use Rattle.grain_rules.specs.Accepted.{ChunkPasses}
+use Rattle.grain_rules.specs.Accepted.{AreIndexed, ChunkPasses}
 use Rattle.grain_rules.specs.Code.{Bytecode, coded}
 use Rattle.grain_rules.specs.Counts.{Counts}
 use Rattle.grain_rules.specs.Typing.{Reached}
 use Rattle.grain_explain.specs.Certificate.{IsCertificate}
 use Rattle.grain_explain.specs.RowView.{counts_of, typing_of}
 use Rattle.grain_explain.specs.Ways.{Follows, IsShownRefusal, first_stop, row_stop}
+use Rattle.grain_explain.specs.declared.refusal.ExplainError.{ExplainError}
+use Rattle.grain_explain.specs.declared.refusal.ExplainError.TheVariants.{BadCode}
 use Rattle.grain_explain.specs.declared.refusal.ExplainedChunk.{ExplainedChunk}
 use Rattle.grain_explain.specs.declared.row.LinkedBase.{LinkedBase}
 use Rattle.grain_explain.specs.declared.row.Row.{Row}
@@ -37,3 +39,8 @@ pub record IsExplained (code : Bytecode) (chunk : Span) (x : ExplainedChunk) : T
 -- it isn't refused exactly where the chunk passes
 abbrev pub IsExact : Bytecode → Span → ExplainedChunk → Type 0
 IsExact code chunk x = (x.refusal ≡ None) ↔ ChunkPasses code chunk
+
+-- bad code is named as such, and other code isn't
+pub record IsCause (code : Bytecode) (e : ExplainError) : Type 0 where
+  pub bad : e ≡ BadCode → AreIndexed code.setting code.bytes → ⊥
+  pub good : e ≢ BadCode → AreIndexed code.setting code.bytes

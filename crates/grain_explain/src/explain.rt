@@ -1,8 +1,8 @@
 //! Why a program is accepted or refused, chunk by chunk.
-ghost use Rattle.std.specs.Prelude.{IfOk};
+ghost use Rattle.std.specs.Prelude.{IfErr, IfOk};
 ghost use Rattle.std.specs.List.{AllZip};
 ghost use Rattle.grain_rules.specs.Code.{bytecode};
-ghost use Rattle.grain_explain.specs.Explaining.{IsExact, IsExplained};
+ghost use Rattle.grain_explain.specs.Explaining.{IsCause, IsExact, IsExplained};
 
 use crate::refusal::{ExplainError, ExplainedChunk};
 use crate::scene::Scene;
@@ -23,7 +23,7 @@ use std::alloc::Global;
 /// number of its instructions that are visited, and with the arms of their switches. Rows share their lists of bases.
 ///
 /// # Errors
-/// `BadCode` where the code isn't such code; `OutOfMemory`; `Unfinished`.
+/// `BadCode` exactly where the code isn't such code; `OutOfMemory`; `Unfinished`.
 pub fn explain_chunks(
     alloc: Global,
     caps: Caps,
@@ -35,6 +35,7 @@ pub fn explain_chunks(
         (λ v. AllZip (IsExplained (bytecode caps pools.now code.now)) chunks.now v.items) }
     ensures exact { IfOk result
         (λ v. AllZip (IsExact (bytecode caps pools.now code.now)) chunks.now v.items) }
+    ensures cause { IfErr result (IsCause (bytecode caps pools.now code.now)) }
 {
     if check_code(pools, code).is_err() {
         return Err(ExplainError::BadCode);

@@ -11,7 +11,7 @@ ghost use Rattle.grain_explain.specs.Ways.{IsFrameFlaw};
 use crate::arrival::Arrival;
 use crate::claim::Claim;
 use crate::error::TypingError;
-use crate::refusal::{ExplainError, ExplainedChunk, Refusal};
+use crate::refusal::{ExplainedChunk, Refusal, SearchError};
 use crate::row::{LinkedBase, Row};
 use crate::scene::Scene;
 use crate::stacks::Arming;
@@ -30,7 +30,7 @@ impl Scene<'_> {
     ///
     /// # Errors
     /// `OutOfMemory`, `Unfinished`.
-    pub(crate) fn explain(&self) -> Result<ExplainedChunk, ExplainError>
+    pub(crate) fn explain(&self) -> Result<ExplainedChunk, SearchError>
         requires { IsStarted self.now }
         ensures { IfOk result (IsExplained (code_seen self.now) self.now.chunk.now) }
     {
@@ -84,7 +84,7 @@ impl Scene<'_> {
     ///
     /// # Errors
     /// `OutOfMemory`.
-    fn begin(&self) -> Result<Search, ExplainError>
+    fn begin(&self) -> Result<Search, SearchError>
         ensures { IfOk result (IsSearching self.now) }
     {
         let mut work = Vec::new(self.alloc);
@@ -106,7 +106,7 @@ impl Scene<'_> {
     }
 
     /// So many places to which nothing has come.
-    fn free_slots(&self, length: usize) -> Result<Vec<Option<Arrival>>, ExplainError>
+    fn free_slots(&self, length: usize) -> Result<Vec<Option<Arrival>>, SearchError>
         ensures { IfOk result (λ v. All (λ slot. slot ≡ None) v.items) }
     {
         let mut slots = Vec::new(self.alloc);
@@ -120,7 +120,7 @@ impl Scene<'_> {
     ///
     /// # Errors
     /// `OutOfMemory`, `Unfinished`.
-    fn rows_of(&self, visited: &Visited<'_>) -> Result<Rows, ExplainError>
+    fn rows_of(&self, visited: &Visited<'_>) -> Result<Rows, SearchError>
         requires { AreHeld self.now visited.now }
         ensures reached { IfOk result (λ x. All
             (IsReachedRow (code_seen self.now) self.now.chunk.now visited.now.bases.now)
@@ -151,7 +151,7 @@ impl Scene<'_> {
         &self,
         visited: &Visited<'_>,
         arrival: &Arrival,
-    ) -> Result<Option<u32>, ExplainError>
+    ) -> Result<Option<u32>, SearchError>
         requires come { AreHeld self.now visited.now }
         requires arrival { Comes self.now visited.now arrival.now }
         ensures { IfOk result (IsOrigin
@@ -162,7 +162,7 @@ impl Scene<'_> {
         };
         match visited.slots.get(place) {
             Some(Some(before)) => Ok(Some(before.row.at)),
-            _ => Err(ExplainError::Unfinished),
+            _ => Err(SearchError::Unfinished),
         }
     }
 
@@ -170,7 +170,7 @@ impl Scene<'_> {
     ///
     /// # Errors
     /// `OutOfMemory`, `Unfinished`.
-    fn certify(&self, visited: &Visited<'_>, rows: &[Row]) -> Result<Option<Refusal>, ExplainError>
+    fn certify(&self, visited: &Visited<'_>, rows: &[Row]) -> Result<Option<Refusal>, SearchError>
         requires ready { IsReadyScene self.now }
         requires linked { AreLinked visited.now.bases.now }
         requires listed { All (λ r. r.bases ≤ length visited.now.bases.now) rows.now }
@@ -185,7 +185,7 @@ impl Scene<'_> {
         match claim.check_from(self.chunk.entry() as usize) {
             Ok(()) => Ok(None),
             Err(TypingError::TooDeep { .. }) => Ok(Some(self.too_deep(visited, rows)?)),
-            Err(_) => Err(ExplainError::Unfinished),
+            Err(_) => Err(SearchError::Unfinished),
         }
     }
 
@@ -216,7 +216,7 @@ impl Scene<'_> {
     ///
     /// # Errors
     /// `OutOfMemory`, `Unfinished`.
-    fn too_deep(&self, visited: &Visited<'_>, rows: &[Row]) -> Result<Refusal, ExplainError>
+    fn too_deep(&self, visited: &Visited<'_>, rows: &[Row]) -> Result<Refusal, SearchError>
         requires ready { IsReadyScene self.now }
         requires linked { AreLinked visited.now.bases.now }
         requires listed { All (λ r. r.bases ≤ length visited.now.bases.now) rows.now }
@@ -230,7 +230,7 @@ impl Scene<'_> {
         let claim = self.claim(visited.bases, rows, u32::MAX);
         let checked = claim.check_from(self.chunk.entry() as usize);
         if needed <= u32::from(declared) || checked.is_err() {
-            return Err(ExplainError::Unfinished);
+            return Err(SearchError::Unfinished);
         }
         match self.deepest(visited, needed) {
             Some(here) => {
@@ -240,7 +240,7 @@ impl Scene<'_> {
                 };
                 self.refuse(visited, here, error)
             }
-            None => Err(ExplainError::Unfinished),
+            None => Err(SearchError::Unfinished),
         }
     }
 

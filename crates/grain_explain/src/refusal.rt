@@ -1,6 +1,6 @@
 //! What explaining answers.
 ghost use Rattle.std.specs.Prelude.{◌≡◌};
-ghost use Rattle.grain_explain.specs.declared.refusal.ExplainError.TheVariants.{OutOfMemory};
+ghost use Rattle.grain_explain.specs.declared.refusal.ExplainError.TheVariants.{BadCode, OutOfMemory};
 
 use crate::row::{LinkedBase, Row};
 use grain_rules::VerifyError;
@@ -45,6 +45,15 @@ pub enum ExplainError {
     Unfinished,
 }
 
+/// Why a walk ends without an answer.
+#[derive(Clone, Copy)]
+pub(crate) enum SearchError {
+    /// A growth was refused.
+    OutOfMemory,
+    /// What it found isn't what it has to be.
+    Unfinished,
+}
+
 impl fmt::Display for ExplainError {
     fn fmt<W: fmt::Write>(&self, f: &mut fmt::Formatter<W>) -> fmt::Result {
         f.write_str(match *self {
@@ -56,6 +65,19 @@ impl fmt::Display for ExplainError {
 }
 
 impl std::error::Error for ExplainError {}
+
+impl From<SearchError> for ExplainError {
+    ghost use Rattle.std.specs.Prelude.{◌≢◌};
+
+    ghost from_gives = { λ _ e. e ≢ BadCode };
+
+    fn from(error: SearchError) -> ExplainError {
+        match error {
+            SearchError::OutOfMemory => ExplainError::OutOfMemory,
+            SearchError::Unfinished => ExplainError::Unfinished,
+        }
+    }
+}
 
 impl From<AllocError> for ExplainError {
     ghost from_gives = { λ _ e. e ≡ OutOfMemory };
@@ -70,5 +92,17 @@ impl<T: Drop> From<AllocFailed<T>> for ExplainError {
 
     fn from(_: AllocFailed<T>) -> ExplainError {
         ExplainError::OutOfMemory
+    }
+}
+
+impl From<AllocError> for SearchError {
+    fn from(_: AllocError) -> SearchError {
+        SearchError::OutOfMemory
+    }
+}
+
+impl<T: Drop> From<AllocFailed<T>> for SearchError {
+    fn from(_: AllocFailed<T>) -> SearchError {
+        SearchError::OutOfMemory
     }
 }

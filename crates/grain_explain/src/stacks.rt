@@ -6,7 +6,7 @@ ghost use Rattle.grain_explain.specs.Scenes.{Extends, Lands, Leaves};
 
 use crate::edge::{Handlers, OnEdge};
 use crate::lists::is_headed_by;
-use crate::refusal::ExplainError;
+use crate::refusal::SearchError;
 use crate::row::{LinkedBase, Row};
 use grain_rules::Effect;
 use std::alloc::Global;
@@ -86,7 +86,7 @@ impl Arming {
     ///
     /// # Errors
     /// `OutOfMemory`; `Unfinished` where there are more bases than numbers.
-    fn with_base(&mut self, base: LinkedBase) -> Result<u32, ExplainError>
+    fn with_base(&mut self, base: LinkedBase) -> Result<u32, SearchError>
         requires linked { AreLinked self.old.bases.items }
         requires listed { base.next ≤ length self.old.bases.items }
         ensures extends { OnOk result (Extends self.old.bases.items self.new.bases.items) }
@@ -99,7 +99,7 @@ impl Arming {
         }
         self.bases.push(base)?;
         let Ok(list) = u32::try_from(self.bases.len()) else {
-            return Err(ExplainError::Unfinished);
+            return Err(SearchError::Unfinished);
         };
         self.numbers.insert(base, list)?;
         Ok(list)
@@ -109,7 +109,7 @@ impl Arming {
     ///
     /// # Errors
     /// Those of [`Arming::with_base`].
-    fn list_on(&mut self, handlers: Handlers) -> Result<u32, ExplainError>
+    fn list_on(&mut self, handlers: Handlers) -> Result<u32, SearchError>
         requires linked { AreLinked self.old.bases.items }
         requires listed { IsListedIn self.old.bases.items handlers }
         ensures extends { OnOk result (Extends self.old.bases.items self.new.bases.items) }
@@ -127,7 +127,7 @@ impl Arming {
     ///
     /// # Errors
     /// `OutOfMemory`; `Unfinished` where a count is too large for a row.
-    fn land(&mut self, edge: &OnEdge) -> Result<Stacks, ExplainError>
+    fn land(&mut self, edge: &OnEdge) -> Result<Stacks, SearchError>
         requires linked { AreLinked self.old.bases.items }
         requires listed { IsListedIn self.old.bases.items edge.now.handlers }
         ensures extends { OnOk result (Extends self.old.bases.items self.new.bases.items) }
@@ -138,7 +138,7 @@ impl Arming {
             u32::try_from(edge.operands),
             u32::try_from(edge.iterators),
         ) else {
-            return Err(ExplainError::Unfinished);
+            return Err(SearchError::Unfinished);
         };
         let bases = self.list_on(edge.handlers)?;
         Ok(Stacks {
@@ -152,7 +152,7 @@ impl Arming {
     ///
     /// # Errors
     /// `OutOfMemory`, `Unfinished`.
-    pub(crate) fn leave(&mut self, row: &Row, effect: &Effect) -> Result<Leaving, ExplainError>
+    pub(crate) fn leave(&mut self, row: &Row, effect: &Effect) -> Result<Leaving, SearchError>
         requires linked { AreLinked self.old.bases.items }
         requires listed { row.now.bases ≤ length self.old.bases.items }
         ensures extends { OnOk result (Extends self.old.bases.items self.new.bases.items) }

@@ -15,7 +15,7 @@ ghost use Rattle.grain_explain.specs.Ways.{IsWayTo, Shows, arrival_stop, stops_o
 use crate::arrival::Arrival;
 use crate::edge::OnEdge;
 use crate::needs::{Lack, check_needs};
-use crate::refusal::{ExplainError, Refusal};
+use crate::refusal::{Refusal, SearchError};
 use crate::row::{LinkedBase, Row};
 use crate::scene::Scene;
 use crate::stacks::{Arming, Leaving};
@@ -54,7 +54,7 @@ impl Scene<'_> {
     ///
     /// # Errors
     /// `OutOfMemory`, `Unfinished`.
-    pub(crate) fn run(&self, search: &mut Search) -> Result<Option<Refusal>, ExplainError>
+    pub(crate) fn run(&self, search: &mut Search) -> Result<Option<Refusal>, SearchError>
         requires ready { IsReadyScene self.now }
         requires searching { IsSearching self.now search.old }
         ensures come { OnOk result
@@ -72,14 +72,14 @@ impl Scene<'_> {
                 return Ok(refusal);
             }
         }
-        Err(ExplainError::Unfinished)
+        Err(SearchError::Unfinished)
     }
 
     /// Takes an arrival: visits the instruction where none was come to, else compares what is there.
     ///
     /// # Errors
     /// `OutOfMemory`, `Unfinished`.
-    fn arrive(&self, search: &mut Search, arrival: Arrival) -> Result<Option<Refusal>, ExplainError>
+    fn arrive(&self, search: &mut Search, arrival: Arrival) -> Result<Option<Refusal>, SearchError>
         requires ready { IsReadyScene self.now }
         requires searching { IsSearching self.now search.old }
         requires come { IsCome self.now search.old.arming.bases.items
@@ -98,7 +98,7 @@ impl Scene<'_> {
                 self.compare(&visited, before, &arrival)
             }
             Some(None) => self.visit(search, place, arrival),
-            None => Err(ExplainError::Unfinished),
+            None => Err(SearchError::Unfinished),
         }
     }
 
@@ -111,7 +111,7 @@ impl Scene<'_> {
         visited: &Visited<'_>,
         before: &Arrival,
         arrival: &Arrival,
-    ) -> Result<Option<Refusal>, ExplainError>
+    ) -> Result<Option<Refusal>, SearchError>
         requires ready { IsReadyScene self.now }
         requires linked { AreLinked visited.now.bases.now }
         requires come { AreHeld self.now visited.now }
@@ -121,7 +121,7 @@ impl Scene<'_> {
     {
         let at = before.row.at;
         if at != arrival.row.at || self.check_target(at, at).is_err() {
-            return Err(ExplainError::Unfinished);
+            return Err(SearchError::Unfinished);
         }
         if OnEdge::at(&before.row).is_at(visited.bases, &arrival.row) {
             return Ok(None);
@@ -146,7 +146,7 @@ impl Scene<'_> {
         search: &mut Search,
         place: usize,
         arrival: Arrival,
-    ) -> Result<Option<Refusal>, ExplainError>
+    ) -> Result<Option<Refusal>, SearchError>
         requires ready { IsReadyScene self.now }
         requires searching { IsSearching self.now search.old }
         requires come { IsCome self.now search.old.arming.bases.items
@@ -178,7 +178,7 @@ impl Scene<'_> {
         here: &Arrival,
         arming: &mut Arming,
         work: &mut Vec<Arrival>,
-    ) -> Result<Option<Refusal>, ExplainError>
+    ) -> Result<Option<Refusal>, SearchError>
         requires ready { IsReadyScene self.now }
         requires linked { AreLinked arming.old.bases.items }
         requires come { AreCome self.now arming.old.bases.items slots.now }
@@ -193,13 +193,13 @@ impl Scene<'_> {
         let row = &here.row;
         let at = row.at as usize;
         let Some(op) = decode(self.code, at) else {
-            return Err(ExplainError::Unfinished);
+            return Err(SearchError::Unfinished);
         };
         let Some(width) = width(self.code, at) else {
-            return Err(ExplainError::Unfinished);
+            return Err(SearchError::Unfinished);
         };
         if self.check_target(row.at, row.at).is_err() {
-            return Err(ExplainError::Unfinished);
+            return Err(SearchError::Unfinished);
         }
         match check_needs(self.caps, self.pools, &op, &arming.bases, row) {
             Ok(effect) => {
@@ -262,7 +262,7 @@ impl Scene<'_> {
         &self,
         departure: &Departure<'_>,
         work: &mut Vec<Arrival>,
-    ) -> Result<Option<Refusal>, ExplainError>
+    ) -> Result<Option<Refusal>, SearchError>
         requires ready { IsReadyScene self.now }
         requires left { IsLeft self.now departure.now }
         requires waits { All (Comes self.now departure.now.visited) work.old.items }
@@ -293,7 +293,7 @@ impl Scene<'_> {
         &self,
         departure: &Departure<'_>,
         work: &mut Vec<Arrival>,
-    ) -> Result<Option<Refusal>, ExplainError>
+    ) -> Result<Option<Refusal>, SearchError>
         requires ready { IsReadyScene self.now }
         requires left { IsLeft self.now departure.now }
         requires falls { falls_for (flow_view departure.now.effect.now.flow) ≡ true }
@@ -308,7 +308,7 @@ impl Scene<'_> {
             return Ok(Some(refusal));
         }
         let Ok(at) = u32::try_from(departure.next) else {
-            return Err(ExplainError::Unfinished);
+            return Err(SearchError::Unfinished);
         };
         work.push(Arrival {
             row: departure.leaving.fall.at(at),
@@ -340,7 +340,7 @@ impl Scene<'_> {
         departure: &Departure<'_>,
         targets: &[u32],
         work: &mut Vec<Arrival>,
-    ) -> Result<(), ExplainError>
+    ) -> Result<(), SearchError>
         requires left { IsLeft self.now departure.now }
         requires targets { targets.now ≡ targets_for (code_seen self.now).switches
             (flow_view departure.now.effect.now.flow) }
@@ -365,7 +365,7 @@ impl Scene<'_> {
         visited: &Visited<'_>,
         here: &Arrival,
         error: VerifyError,
-    ) -> Result<Refusal, ExplainError>
+    ) -> Result<Refusal, SearchError>
         requires come { AreHeld self.now visited.now }
         requires here { Comes self.now visited.now here.now }
         requires shows { Shows (code_seen self.now) self.now.chunk.now
@@ -384,7 +384,7 @@ impl Scene<'_> {
     ///
     /// # Errors
     /// `OutOfMemory`, `Unfinished`.
-    fn way_to(&self, visited: &Visited<'_>, last: &Arrival) -> Result<Vec<Row>, ExplainError>
+    fn way_to(&self, visited: &Visited<'_>, last: &Arrival) -> Result<Vec<Row>, SearchError>
         requires come { AreHeld self.now visited.now }
         requires last { Comes self.now visited.now last.now }
         ensures { IfOk result (λ v. IsWayTo (code_seen self.now) self.now.chunk.now
@@ -399,10 +399,10 @@ impl Scene<'_> {
                 return Ok(way);
             };
             let Some(Some(before)) = visited.slots.get(place) else {
-                return Err(ExplainError::Unfinished);
+                return Err(SearchError::Unfinished);
             };
             here = before;
         }
-        Err(ExplainError::Unfinished)
+        Err(SearchError::Unfinished)
     }
 }

@@ -5,9 +5,10 @@ use Rattle.grain_code.specs.Span.{Span}
 use Rattle.grain_code.specs.Split.{Split, starts_from}
 use Rattle.grain_code.specs.Starts.{Front}
 use Rattle.grain_rules.specs.Code.{bytecode}
+use Rattle.grain_rules.proofs.Whole.{no_code_flaw}
 use Rattle.grain_explain.specs.Explaining.{IsExplained}
 use Rattle.grain_explain.proofs.Chunkwise.{all_exact, chunk_more}
-use Rattle.grain_explain.proofs.Sceneries.{not_err}
+use Rattle.grain_explain.proofs.Sceneries.{not_err, of_err}
 use Rattle.grain_explain.proofs.explain.explain_chunks.Goals as goal
 
 pub explain-requires : goal.explain-requires
@@ -16,6 +17,15 @@ explain-requires c =
     let split : Split c.args.code.now (starts_from 0 whole.0) = (whole.0, whole.1, refl) in
     let known = c.in_ok-starts.ensures.whole (starts_from 0 whole.0) split in
     subst (Split c.args.code.now) (sym (ap (λ (f : Front). f.starts) known)) split
+
+pub returns-then-is_err-clause-cause : goal.returns-then-is_err-clause-cause
+returns-then-is_err-clause-cause c =
+    let flawed = of_err c.check_code.result (sym c.is_err.ensures.value ∙ c.if-is_err.true) c.check_code.ensures.err in
+    let code = bytecode c.args.caps c.args.pools.now c.args.code.now in
+    record {
+      bad = λ e indexed. no_code_flaw code.setting code.bytes flawed.0 indexed (flawed.1 c.args.caps.0);
+      good = λ unlike. absurd (unlike refl);
+    }
 
 pub loop-chunk-preserved : goal.loop-chunk-preserved
 loop-chunk-preserved c =

@@ -9,10 +9,9 @@ returns c =
     let here = c.in-Some.here in
     let there = c.in-Some-first_base.there in
     let left = c.in-Some.ensures in
-    let right = c.in-Some-first_base.ensures in
-    (
+    let right = c.in-Some-first_base.ensures in (
       ends_same (base_of here) (base_of there) (list_in bases here.next) (list_in bases there.next) (list_in bases c.args.left) (list_in bases c.args.right) left.0 right.0
-      (base_ext (base_of here) (base_of there) c.if-here-there.false c.if-here-there-2.false),
+          (base_ext (base_of here) (base_of there) c.if-here-there.false c.if-here-there-2.false),
       left.1,
       right.1,
     )

@@ -36,7 +36,7 @@ send-requires-clause-left c =
     let has = subst (λ (bases : List LinkedBase). HasAll (code_seen s).setting op (counts_of bases row)) c.deref.ensures.value c.in-Ok.ensures.has in
     let inside = not_err c.check_target.result (sym c.is_err.ensures.value ∙ c.if-is_err.false) c.check_target.ensures.inside in
     let passes : Passes (coded (code_seen s)) s.chunk.now row.at (counts_of old row) op =
-        record { stands = record { within = inside; is = c.in-Some.ensures.found }; meets = has.meets; allowed = has.allowed; stays = has.stays } in
+    record { stands = record { within = inside; is = c.in-Some.ensures.found }; meets = has.meets; allowed = has.allowed; stays = has.stays } in
     let back = sym c.deref-in-Ok.ensures.value in
     record {
       op = op;
