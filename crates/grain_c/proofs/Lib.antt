@@ -1,4 +1,3 @@
-mod Counting
 mod Streams
 mod Tags
 pub mod Words
