@@ -1,3 +1,5 @@
+mod Judged
+mod Printing
 mod Streams
 mod Tags
 pub mod Words

@@ -26,4 +26,4 @@ mod SwitchTold
 mod Texts
 pub mod ToldRoom
 mod Wholes
-pub mod Work
+pub mod VisitBounds

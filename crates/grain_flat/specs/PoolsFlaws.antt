@@ -77,9 +77,9 @@ pub record AreArmed (p : CPools) : Type 0 where
 
 -- The first list that is wrong, and its first entry that is.
 pub data PoolsFlaw (p : CPools) : CPoolsFlaw → Type 0 where
-  constant : {index : ℕ} → IsFirstOther IsAskedRow p.constants.now index → PoolsFlaw p (record { list = CONSTANTS; index = index })
-  chain : {index : ℕ} → All IsAskedRow p.constants.now → IsFirstOther IsChainRow p.chains.now index → PoolsFlaw p (record { list = CHAINS; index = index })
-  step : {index : ℕ} → All IsAskedRow p.constants.now → All IsChainRow p.chains.now → IsFirstOther IsStepRow p.steps.now index → PoolsFlaw p (record { list = STEPS; index = index })
-  steps : {flaw : CPoolsFlaw} → AreRows p → StepsFlaw p.chains.now (length p.steps.now) flaw → PoolsFlaw p flaw
-  arms : {flaw : CPoolsFlaw} → AreStepped p → ArmsFlaw p.switches.now (length p.cases.now) (length p.ranges.now) flaw → PoolsFlaw p flaw
-  name : {index : ℕ} → AreArmed p → IsFirstBadName p.names.now p.starts.now index → PoolsFlaw p (record { list = NAMES; index = index })
+  wrong_constant : {index : ℕ} → IsFirstOther IsAskedRow p.constants.now index → PoolsFlaw p (record { list = CONSTANTS; index = index })
+  wrong_chain : {index : ℕ} → All IsAskedRow p.constants.now → IsFirstOther IsChainRow p.chains.now index → PoolsFlaw p (record { list = CHAINS; index = index })
+  wrong_step : {index : ℕ} → All IsAskedRow p.constants.now → All IsChainRow p.chains.now → IsFirstOther IsStepRow p.steps.now index → PoolsFlaw p (record { list = STEPS; index = index })
+  wrong_steps : {flaw : CPoolsFlaw} → AreRows p → StepsFlaw p.chains.now (length p.steps.now) flaw → PoolsFlaw p flaw
+  wrong_arms : {flaw : CPoolsFlaw} → AreStepped p → ArmsFlaw p.switches.now (length p.cases.now) (length p.ranges.now) flaw → PoolsFlaw p flaw
+  wrong_name : {index : ℕ} → AreArmed p → IsFirstBadName p.names.now p.starts.now index → PoolsFlaw p (record { list = NAMES; index = index })

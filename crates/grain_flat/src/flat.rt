@@ -168,7 +168,7 @@ fn names_flaw(blob: &[u8], starts: &[u32]) -> Option<usize>
         }
         from = to;
     }
-    if from < blob.len() {
+    if from != blob.len() {
         return Some(rest.len());
     }
     None

@@ -2,7 +2,7 @@
 use Rattle.std.proofs.Common.{◌≡◌, ◌≢◌, ℕ, ◌+◌, ◌-◌, ◌<◌, ◌≤◌, ◌^◌, ◌⊎◌, suc, zero, inl, inr, max, min, Bool, true, false, List, [], ◌∷◌, Option, Some, None, Vec, length, nat_eq, nat_le, nat_lt, ◌&&◌, cond, replicate, refl, sym, subst, arith}
 use Rattle.std.specs.Prelude.{sum_by}
 use Rattle.std.specs.List.{All, AllByRecursion, AllZip, Contains, IsDistinct}
-use Rattle.std.proofs.lemmas.Bool.{cases_le}
+use Rattle.std.proofs.lemmas.Bool.{cases_lt}
 use Rattle.std.proofs.lemmas.Bool.Decides.{nat_tests}
 use Rattle.std.proofs.lemmas.List.{length-replicate}
 use Rattle.std.proofs.lemmas.List.Sums.{sum_by-cons}
@@ -46,9 +46,9 @@ all_few code starts h (x ∷ xs) =
 -- of a refused program
 pub refused_within : (code : List ℕ) (chunks : List Span) (n : ℕ) → VisitsWithin code chunks n → n ≤ work_of code chunks
 refused_within code chunks n h =
-    elim (cases_le n (work_of code chunks)) [
-      | inl few ↦ few
-      | inr many ↦
+    elim (cases_lt (work_of code chunks) n) [
+      | inr few ↦ few
+      | inl many ↦
           let none : n ≡ 0 = h.nowhere (λ starts split. let most = h.starts starts split in let few = all_few code starts (split_splits code starts split) chunks in omega arith) in
           omega arith
     ]
@@ -68,30 +68,29 @@ above low high (x ∷ xs) apart inside = (
   above low high xs apart.1 inside.1,
 )
 
+one_without : (low high x : ℕ) (xs : List ℕ) → IsDistinct nat_eq (x ∷ xs) → AllByRecursion (λ y. (low ≤ y) × (y < high)) (x ∷ xs) → Without low high xs → (b : Bool) → nat_eq low x ≡ b → Without low high (x ∷ xs)
+one_without low high x xs once inside more true is =
+    let same : x ≡ low = grind (arith, nat_tests, is) in
+    record {
+      others = xs;
+      long = omega arith;
+      once = IsDistinct-tail nat_eq x xs once;
+      inside = above low high xs (subst (λ (y : ℕ). AllByRecursion (λ z. nat_eq y z ≡ false) xs) same (IsDistinct-head nat_eq x xs once)) inside.1;
+      kept = λ P h. h.1;
+    }
+one_without low high x xs once inside more false is =
+    let low_x : suc low ≤ x = let a = inside.0.0 in grind (arith, nat_tests, is, a) in
+    record {
+      others = x ∷ more.others;
+      long = let l = more.long in omega arith;
+      once = IsDistinct-cons nat_eq x more.others (more.kept (λ y. nat_eq x y ≡ false) (IsDistinct-head nat_eq x xs once)) more.once;
+      inside = ((low_x, inside.0.1), more.inside);
+      kept = λ P h. (h.0, more.kept P h.1);
+    }
+
 without : (low high : ℕ) (xs : List ℕ) → IsDistinct nat_eq xs → AllByRecursion (λ x. (low ≤ x) × (x < high)) xs → Without low high xs
 without low high [] once inside = record { others = []; long = omega arith; once = once; inside = tt; kept = λ P h. tt }
-without low high (x ∷ xs) once inside = by_test (nat_eq low x) refl
-  where
-    by_test : (b : Bool) → nat_eq low x ≡ b → Without low high (x ∷ xs)
-    by_test true is =
-        let same : x ≡ low = grind (arith, nat_tests, is) in
-        record {
-          others = xs;
-          long = omega arith;
-          once = IsDistinct-tail nat_eq x xs once;
-          inside = above low high xs (subst (λ (y : ℕ). AllByRecursion (λ z. nat_eq y z ≡ false) xs) same (IsDistinct-head nat_eq x xs once)) inside.1;
-          kept = λ P h. h.1;
-        }
-    by_test false is =
-        let rest = without low high xs (IsDistinct-tail nat_eq x xs once) inside.1 in
-        let low_x : suc low ≤ x = let a = inside.0.0 in grind (arith, nat_tests, is, a) in
-        record {
-          others = x ∷ rest.others;
-          long = let l = rest.long in omega arith;
-          once = IsDistinct-cons nat_eq x rest.others (rest.kept (λ y. nat_eq x y ≡ false) (IsDistinct-head nat_eq x xs once)) rest.once;
-          inside = ((low_x, inside.0.1), rest.inside);
-          kept = λ P h. (h.0, rest.kept P h.1);
-        }
+without low high (x ∷ xs) once inside = one_without low high x xs once inside (without low high xs (IsDistinct-tail nat_eq x xs once) inside.1) (nat_eq low x) refl
 
 -- distinct numbers of a range are no more than it has
 few : (size low : ℕ) (xs : List ℕ) → IsDistinct nat_eq xs → AllByRecursion (λ x. (low ≤ x) × (x < low + size)) xs → length xs ≤ size
