@@ -1,4 +1,5 @@
-mod Counting
+mod Judged
+mod Printing
 mod Streams
 mod Tags
 pub mod Words

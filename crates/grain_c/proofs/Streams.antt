@@ -3,7 +3,7 @@ use Rattle.std.proofs.Common.{◌≡◌, ℕ, List, arith}
 use Rattle.grain_bytecode.specs.ChainStream.{StreamFlaw}
 use Rattle.grain_bytecode.specs.declared.sites.StreamError.{StreamError}
 use Rattle.grain_bytecode.specs.declared.sites.StreamError.TheVariants as stream_error
-use Rattle.grain_c.specs.Flaws.{stream_flaw}
+use Rattle.grain_c.specs.TableFlaws.{stream_flaw}
 
 pub is_some : (bytes : List ℕ) (e : StreamError) (n : ℕ) → StreamFlaw bytes e → n ≡ (stream_flaw e).0 → n ≡ 0 → ⊥
 is_some bytes stream_error.Truncated n h is e = omega arith

@@ -1,4 +1,5 @@
-pub mod Flaws
+pub mod Answers
+pub mod TableFlaws
 pub mod Written
 -- what the parts of an export promise each other
 pub mod Keeps

@@ -1,12 +1,9 @@
--- Texts and lists as they are written into room of the caller's.
-use Rattle.std.specs.Prelude.{◌≡◌, ◌⊎◌, ◌<◌, ◌≤◌, ℕ, List, ◌++◌, drop, length}
-use Rattle.grain_c.specs.declared.answers.TheConstants.{SHORT, WRITTEN}
+-- Texts as they are written into room of the caller's.
+use Rattle.std.specs.Prelude.{◌≡◌, ◌⊎◌, ℕ, ◌+◌, ◌-◌, ◌<◌, List, ◌∷◌, ◌++◌, drop, length, take}
 
--- How many bytes the text has is told. It stands in front of the room; or the room has fewer bytes, and stays as it was.
-pub record IsWritten (text room : List ℕ) (answer : ℕ) (written : List ℕ) (size : ℕ) : Type 0 where
-  pub size_is : size ≡ length text
-  pub outcome : ((answer ≡ WRITTEN) × (length text ≤ length room) × (written ≡ text ++ drop (length text) room)) ⊎ ((answer ≡ SHORT) × (length room < length text) × (written ≡ room))
-
--- whether a list of so many items had room
-abbrev pub HadRoom : ℕ → ℕ → ℕ → Type 0
-HadRoom count room answer = ((answer ≡ WRITTEN) × (count ≤ room)) ⊎ ((answer ≡ SHORT) × (room < count))
+-- The text stands in front of the room, as far as there is room for it and for the 0 that ends it, and the rest of the room
+-- is as it was. Where there is no room, nothing is written.
+abbrev pub IsPrinted : List ℕ → List ℕ → List ℕ → Type 0
+IsPrinted text room written =
+    ((length room ≡ 0) × (written ≡ room))
+    ⊎ ((0 < length room) × (written ≡ take (length room - 1) text ++ 0 ∷ drop (length text + 1) room))

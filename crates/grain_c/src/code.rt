@@ -1,5 +1,5 @@
 //! Code, instruction by instruction.
-ghost use Rattle.std.specs.Prelude.{◌≡◌, ◌+◌, List, Ok, Err, cond, sum_by};
+ghost use Rattle.std.specs.Prelude.{◌≡◌, ◌+◌, Ok, Err, sum_by};
 ghost use Rattle.std.specs.Bool.{OnFalse, OnTrue};
 ghost use Rattle.grain_bytecode.specs.InstructionTable.{form};
 ghost use Rattle.grain_rules.specs.Rows.{is_quiet};
@@ -7,16 +7,23 @@ ghost use Rattle.grain_bytecode.specs.Split.{IsCount, NoneStandsAt, StandsAt};
 ghost use Rattle.grain_bytecode.specs.declared.Op.{Op};
 ghost use Rattle.grain_flat.specs.Instruction.{field_size, instruction_row};
 
-use crate::answers::INTERFACE;
+use crate::status::INTERFACE;
 use grain_bytecode::{count_instructions, decode};
 use grain_flat::kinds::{COUNT, NOTHING, TARGET};
 use grain_flat::{CField, CInstruction, fields_of};
 use grain_verify::is_quiet;
 
-/// Counts the instructions of the whole code, or gives the address of the first thing that is none.
+/// Counts the instructions of the code. False: it isn't whole instructions, and `damage` is the address of the first thing that is
+/// none.
 #[unsafe(no_mangle)]
-pub extern "C" fn grain_count_instructions(code: &[u8], count: &mut usize) -> bool
-    ensures { IsCount code.now (cond result (Ok count.new) (Err count.new)) }
+pub extern "C" fn grain_proved_count_instructions(
+    code: &[u8],
+    count: &mut usize,
+    damage: &mut usize,
+) -> bool
+    ensures counted { OnTrue result (IsCount code.now (Ok count.new) × (damage.new ≡ damage.old)) }
+    ensures damaged { OnFalse result (IsCount code.now (Err damage.new)
+        × (count.new ≡ count.old)) }
 {
     match count_instructions(code) {
         Ok(instructions) => {
@@ -24,16 +31,16 @@ pub extern "C" fn grain_count_instructions(code: &[u8], count: &mut usize) -> bo
             true
         }
         Err(at) => {
-            *count = at;
+            *damage = at;
             false
         }
     }
 }
 
-/// Whether instructions that begin with this byte are quiet: a machine has to fault at them never, or only with at least what
-/// stood when the last handler was armed. Of a byte with which none begins nothing is said.
+/// Whether instructions that begin with this byte are quiet: there a machine must never fault, or only with at least what stood
+/// when the last handler was armed. Nothing is said of a byte with which none begins.
 #[unsafe(no_mangle)]
-pub extern "C" fn grain_is_quiet(tag: u8) -> bool
+pub extern "C" fn grain_proved_is_quiet(tag: u8) -> bool
     ensures { (op : Op) → (form op).0 ≡ tag → result ≡ is_quiet op }
 {
     is_quiet(tag)
@@ -41,7 +48,7 @@ pub extern "C" fn grain_is_quiet(tag: u8) -> bool
 
 /// The number of the interface of this library.
 #[unsafe(no_mangle)]
-pub extern "C" fn grain_interface() -> u32
+pub extern "C" fn grain_proved_interface() -> u32
     ensures { result ≡ INTERFACE }
 {
     INTERFACE
@@ -68,7 +75,11 @@ fn width_of(fields: &[CField; 3]) -> u8
 
 /// The instruction at an address. False where none stands there, and then nothing is written.
 #[unsafe(no_mangle)]
-pub extern "C" fn grain_instruction(code: &[u8], at: usize, instruction: &mut CInstruction) -> bool
+pub extern "C" fn grain_proved_instruction(
+    code: &[u8],
+    at: usize,
+    instruction: &mut CInstruction,
+) -> bool
     ensures found { OnTrue result ((op : Op) × StandsAt code.now at op
         × (instruction.new ≡ instruction_row op)) }
     ensures none { OnFalse result (NoneStandsAt code.now at × (instruction.new ≡ instruction.old)) }

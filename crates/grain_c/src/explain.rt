@@ -6,11 +6,11 @@ ghost use Rattle.grain_flat.specs.Answers.{told};
 ghost use Rattle.grain_flat.specs.Explaining.{ExplainsChunk, IsToldIn};
 ghost use Rattle.grain_flat.specs.Flat.{Pooled};
 
-use crate::answers::{ACCEPTED, NOT_FLAT, OUT_OF_MEMORY, REFUSED, SHORT, UNEXPLAINED};
+use crate::status::{ACCEPTED, BAD_CODE, NOT_FLAT, OUT_OF_MEMORY, REFUSED, SHORT, UNFINISHED};
 use grain_base::{Caps, Flags};
 use grain_explain::{ExplainError, ExplainedChunk};
 use grain_flat::{
-    CBase, CChunk, CExplained, CFault, CPools, CRow, explain_chunk, fill, is_flat, rows_of, told,
+    CBase, CChunk, CExplained, CPools, CRefusal, CRow, explain_chunk, fill, is_flat, rows_of, told,
 };
 use std::alloc::Global;
 
@@ -19,10 +19,10 @@ use std::alloc::Global;
 ///
 /// 0 where it passes: then the rows are a stack typing of it, and just what is reached. 1 where it is refused: then why is
 /// written, of no chunk by its place. In both cases as many rows and bases are written as there is room for, and how many there
-/// are. 3 where memory was wanted, 4 where no pools have this flat form, which is tested first, 5 where nothing is explained, as
-/// it is where the code isn't whole instructions whose indices are in bounds. Constants and functions aren't looked at.
+/// are. 3 where memory was wanted, 4 where no pools have this flat form, which is tested first, 7 where the code isn't whole
+/// instructions whose indices are in bounds, 8 where nothing is explained. Constants and functions aren't looked at.
 #[unsafe(no_mangle)]
-pub extern "C" fn grain_explain(
+pub extern "C" fn grain_proved_explain(
     alloc: Global,
     caps: u16,
     code: &[u8],
@@ -31,7 +31,7 @@ pub extern "C" fn grain_explain(
     rows: &mut [CRow],
     bases: &mut [CBase],
     explained: &mut CExplained,
-    fault: &mut CFault,
+    fault: &mut CRefusal,
 ) -> u32
     // With pools of this flat form beside the code.
     ensures accepted { result ≡ ACCEPTED → (x : ExplainedChunk)
@@ -44,7 +44,7 @@ pub extern "C" fn grain_explain(
 
     // Which of the other answers comes when.
     ensures not_flat { (result ≡ NOT_FLAT) ↔ (Pooled pools.now → ⊥) }
-    ensures answers { (result ≤ 5) × (result ≢ SHORT) }
+    ensures answers { (result ≤ 8) × (result ≢ SHORT) }
 
     // What isn't written stays as it was.
     ensures kept { result ≢ ACCEPTED → result ≢ REFUSED → (rows.new ≡ rows.old)
@@ -57,7 +57,8 @@ pub extern "C" fn grain_explain(
     let found = match explain_chunk(alloc, Caps::from_bits_retain(caps), code, chunk, pools) {
         Ok(found) => found,
         Err(ExplainError::OutOfMemory) => return OUT_OF_MEMORY,
-        Err(ExplainError::BadCode | ExplainError::Unfinished) => return UNEXPLAINED,
+        Err(ExplainError::BadCode) => return BAD_CODE,
+        Err(ExplainError::Unfinished) => return UNFINISHED,
     };
     let Ok(made) = rows_of(alloc, &found) else {
         return OUT_OF_MEMORY;

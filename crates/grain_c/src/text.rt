@@ -1,18 +1,17 @@
 //! Refusals and instructions as texts, without memory.
-ghost use Rattle.std.specs.Prelude.{◌≡◌, ◌≢◌, ◌<◌, ◌≤◌, ◌↔◌, ◌++◌, IfNone, IfSome, ℕ, List, drop, length};
+ghost use Rattle.std.specs.Prelude.{◌≡◌, ◌≢◌, ◌≤◌, ◌↔◌, IfNone, IfSome, ℕ, List, length};
 ghost use Rattle.grain_bytecode.specs.Split.{NoneStandsAt, StandsAt};
 ghost use Rattle.grain_rules.specs.Texts.{verify_error_text};
 ghost use Rattle.grain_rules.specs.declared.error.VerifyError.{VerifyError};
 ghost use Rattle.grain_bytecode.specs.declared.Op.{Op};
-ghost use Rattle.grain_c.specs.Written.{IsWritten};
+ghost use Rattle.grain_c.specs.Written.{IsPrinted};
 ghost use Rattle.grain_flat.specs.Answers.{TellsRefusal, word_kind};
 ghost use Rattle.grain_flat.specs.InstructionTexts.{instruction_text};
 ghost use Rattle.grain_flat.specs.declared.kinds.TheConstants.{NOTHING};
 
-use crate::answers::{NO_INSTRUCTION, NO_REFUSAL, SHORT, WRITTEN};
 use grain_base::{Caps, Flags};
 use grain_bytecode::decode;
-use grain_flat::faults::{
+use grain_flat::flaws::{
     BAD_INDEX, CHUNK_OUT_OF_RANGE, DEPTH_CONFLICT, FALLS_OFF_THE_END, HANDLER_UNDERFLOW,
     ITERATOR_UNDERFLOW, JUMP_INTO_AN_INSTRUCTION, JUMP_OUT_OF_RANGE, MISSING_CAPS,
     SINKS_BELOW_HANDLER, STACK_EXCEEDS_DECLARED, TRAILING_BYTES, UNDECODABLE, UNDERFLOW,
@@ -20,7 +19,7 @@ use grain_flat::faults::{
 use grain_flat::kinds::{
     CHAIN, CONSTANT, FRAGMENT, NAME, OP_ASSIGNMENT, OPERAND, OPERATOR, SWITCH, SYNTAX_SITE,
 };
-use grain_flat::{CFault, instruction_text, refusal_text};
+use grain_flat::{CRefusal, instruction_text, refusal_text};
 use grain_rules::VerifyError;
 
 /// What a refusal calls an index of this kind, if it is one that a refusal names.
@@ -44,12 +43,12 @@ fn word_of(kind: u32) -> Option<&'static str>
 }
 
 /// The refusal that a record tells, if it tells one.
-fn error_of(fault: &CFault) -> Option<VerifyError>
-    ensures some { IfSome result (TellsRefusal fault.now) }
-    ensures none { IfNone result ((e : VerifyError) → TellsRefusal fault.now e → ⊥) }
+fn error_of(refusal: &CRefusal) -> Option<VerifyError>
+    ensures some { IfSome result (TellsRefusal refusal.now) }
+    ensures none { IfNone result ((e : VerifyError) → TellsRefusal refusal.now e → ⊥) }
 {
-    let at = fault.at as usize;
-    match (fault.kind, fault.at, fault.first, fault.second) {
+    let at = refusal.at as usize;
+    match (refusal.flaw, refusal.at, refusal.first, refusal.second) {
         (MISSING_CAPS, _, missing, artifact) => Some(VerifyError::MissingCaps {
             artifact: Caps::from_bits_retain(u16::try_from(artifact).ok()?),
             missing: Caps::from_bits_retain(u16::try_from(missing).ok()?),
@@ -104,68 +103,49 @@ fn error_of(fault: &CFault) -> Option<VerifyError>
     }
 }
 
-/// Writes bytes in front of the room, and leaves the rest of it.
-fn put(room: &mut [u8], bytes: &[u8])
-    requires { length bytes.now ≤ length room.old }
-    ensures { room.new ≡ bytes.now ++ drop (length bytes.now) room.old }
+/// Writes a text as far as there is room for it and for the 0 that ends it, and answers how long it is.
+fn print(room: &mut [u8], text: &[u8]) -> usize
+    ensures printed { IsPrinted text.now room.old room.new }
+    ensures size { result ≡ length text.now }
 {
-    room[..bytes.len()].copy_from_slice(bytes);
-}
-
-/// Writes how many bytes a text has, and the text in front of the room, if that has as many.
-fn put_text(room: &mut [u8], size: &mut usize, text: &[u8]) -> u32
-    ensures { IsWritten text.now room.old result room.new size.new }
-{
-    *size = text.len();
-    if room.len() < text.len() {
-        return SHORT;
+    if let Some(most) = room.len().checked_sub(1) {
+        let count = text.len().min(most);
+        room[..count].copy_from_slice(&text[..count]);
+        room[count] = 0;
     }
-    put(room, text);
-    WRITTEN
+    text.len()
 }
 
-/// The text of a refusal, in ASCII, as the line program has it behind `refused`. It takes no memory.
-///
-/// 0 where it is written, and how many bytes it has; 1 where the record tells no refusal; 2 where the text is longer than
-/// the room, and then only how many bytes it has is written. No text is longer than 128 bytes.
+/// Writes a refusal as the line program prints it, in ASCII, as far as there is room for it, and answers how long it is. 0: the
+/// record is no refusal, and nothing is written. No text is longer than 128 bytes. It takes no memory.
 #[unsafe(no_mangle)]
-pub extern "C" fn grain_fault_text(fault: &CFault, text: &mut [u8], size: &mut usize) -> u32
-    ensures told { result ≢ NO_REFUSAL → (e : VerifyError) × TellsRefusal fault.now e
-        × IsWritten (verify_error_text e) text.old result text.new size.new }
-    ensures no_refusal { (result ≡ NO_REFUSAL) ↔ ((e : VerifyError) → TellsRefusal fault.now e → ⊥) }
-
-    // What isn't written stays as it was.
-    ensures kept { result ≡ NO_REFUSAL → (text.new ≡ text.old) × (size.new ≡ size.old) }
-    ensures short { result ≢ NO_REFUSAL → size.new ≤ 128 }
+pub extern "C" fn grain_proved_refusal_text(refusal: &CRefusal, text: &mut [u8]) -> usize
+    ensures text { result ≢ 0 → (e : VerifyError) × TellsRefusal refusal.now e
+        × (result ≡ length (verify_error_text e))
+        × IsPrinted (verify_error_text e) text.old text.new }
+    ensures no_refusal { (result ≡ 0) ↔ ((e : VerifyError) → TellsRefusal refusal.now e → ⊥) }
+    ensures kept { result ≡ 0 → text.new ≡ text.old }
+    ensures short { result ≤ 128 }
 {
-    let Some(error) = error_of(fault) else {
-        return NO_REFUSAL;
+    let Some(error) = error_of(refusal) else {
+        return 0;
     };
-    put_text(text, size, refusal_text(&error).as_slice())
+    print(text, refusal_text(&error).as_slice())
 }
 
-/// The text of the instruction at an address, in ASCII: what it is called, and its fields in order, as `CALL 3 2`. It takes no
-/// memory.
-///
-/// 0 where it is written, and how many bytes it has; 1 where no instruction stands there; 2 where the text is longer than the
-/// room, and then only how many bytes it has is written. No text is longer than 128 bytes.
+/// Writes the instruction at an address, in ASCII: its name and its fields in order, such as `CALL 3 2`; as far as there is room
+/// for it, and answers how long it is. 0: no instruction stands there, and nothing is written. No text is longer than 128 bytes.
+/// It takes no memory.
 #[unsafe(no_mangle)]
-pub extern "C" fn grain_instruction_text(
-    code: &[u8],
-    at: usize,
-    text: &mut [u8],
-    size: &mut usize,
-) -> u32
-    ensures told { result ≢ NO_INSTRUCTION → (op : Op) × StandsAt code.now at op
-        × IsWritten (instruction_text op) text.old result text.new size.new }
-    ensures no_instruction { result ≡ NO_INSTRUCTION → NoneStandsAt code.now at }
-
-    // What isn't written stays as it was.
-    ensures kept { result ≡ NO_INSTRUCTION → (text.new ≡ text.old) × (size.new ≡ size.old) }
-    ensures short { result ≢ NO_INSTRUCTION → size.new ≤ 128 }
+pub extern "C" fn grain_proved_instruction_text(code: &[u8], at: usize, text: &mut [u8]) -> usize
+    ensures text { result ≢ 0 → (op : Op) × StandsAt code.now at op
+        × (result ≡ length (instruction_text op)) × IsPrinted (instruction_text op) text.old text.new }
+    ensures no_instruction { (result ≡ 0) ↔ NoneStandsAt code.now at }
+    ensures kept { result ≡ 0 → text.new ≡ text.old }
+    ensures short { result ≤ 128 }
 {
     let Some(op) = decode(code, at) else {
-        return NO_INSTRUCTION;
+        return 0;
     };
-    put_text(text, size, instruction_text(&op).as_slice())
+    print(text, instruction_text(&op).as_slice())
 }

@@ -1,79 +1,92 @@
-//! Chunks that declare their numbers.
-ghost use Rattle.std.specs.Prelude.{◌≡◌, ◌≢◌, ◌-◌, ◌^◌, ◌≤◌, ◌↔◌, ℕ, All, Option, min};
-ghost use Rattle.grain_rules.specs.declared.error.VerifyError.{VerifyError};
-ghost use Rattle.grain_flat.specs.Answers.{Looks, LooksWithin, Refuses, told};
-ghost use Rattle.grain_flat.specs.Asking.{RowPasses};
-ghost use Rattle.grain_flat.specs.Flat.{Pooled};
+//! Verification, and chunks that declare their depths.
+ghost use Rattle.std.specs.Prelude.{◌≡◌, ◌≢◌, ◌++◌, List, drop, length};
+ghost use Rattle.grain_bytecode.specs.Span.{Span};
+ghost use Rattle.grain_c.specs.Answers.{IsAnswer};
 ghost use Rattle.grain_flat.specs.Tightening.{Tightens};
 
-use crate::answers::{ACCEPTED, NOT_FLAT, OUT_OF_MEMORY, REFUSED, SHORT};
-use crate::verify::shown;
-use grain_base::{Caps, Flags};
-use grain_flat::{CChunk, CFault, CPools, Scratch, Stop, declare, is_flat, told, verdict};
-use grain_verify::Meter;
+use crate::handle::{CScratch, keep, take};
+use crate::judge::judge;
+use crate::status::ACCEPTED;
+use grain_flat::{CChunk, CProgram, CReport, Scratch, tighten};
 use std::alloc::Global;
 
-/// Verifies a program as `grain_verify` does, and has each chunk declare its number.
-///
-/// 0 where it is accepted: then each chunk declares its number. 1 where it is refused: then why is written. In both cases how
-/// many instructions were looked at is written too. 3 where memory was wanted, as it is only where the constants pass, 4
-/// where no pools have this flat form, which is tested first.
-#[unsafe(no_mangle)]
-pub extern "C" fn grain_tighten(
+/// Verifies a program and tightens its chunks, in the memory of a scratch, whatever that was used for before.
+#[inline(always)]
+fn tighten_in(
     alloc: Global,
+    scratch: &mut Scratch,
     caps: u16,
-    code: &[u8],
-    chunks: &mut [CChunk],
-    pools: &CPools<'_>,
-    fault: &mut CFault,
-    looked: &mut u64,
+    limit: u64,
+    program: &CProgram<'_>,
+    tightened: &mut [CChunk],
+    report: &mut CReport,
 ) -> u32
-    // The headline, of all that has this flat form, of which all else is as it was.
-    ensures accepted { result ≡ ACCEPTED → Tightens caps code.now chunks.old chunks.new pools.now }
-    ensures refused { result ≡ REFUSED → (place : Option ℕ) × (e : VerifyError)
-        × (fault.new ≡ told place e) × Refuses caps code.now chunks.old pools.now place e }
-
-    // The meter shows how many places the chunks reach, each for itself, and of what is refused no more than their starts.
-    ensures looked { result ≡ ACCEPTED → (n : ℕ) × Looks caps code.now chunks.old pools.now n
-        × (looked.new ≡ min n (2 ^ 64 - 1)) }
-    ensures looked_within { result ≡ REFUSED → (n : ℕ) × LooksWithin code.now chunks.old n
-        × (looked.new ≡ min n (2 ^ 64 - 1)) }
-
-    // Which of the other answers comes when.
-    ensures not_flat { (result ≡ NOT_FLAT) ↔ (Pooled pools.now → ⊥) }
-    ensures memory { result ≡ OUT_OF_MEMORY → All (RowPasses caps) pools.now.constants.now }
-    ensures answers { (result ≤ 4) × (result ≢ SHORT) }
-
-    // What isn't written stays as it was.
-    ensures chunks_kept { result ≢ ACCEPTED → chunks.new ≡ chunks.old }
-    ensures fault_kept { result ≢ REFUSED → fault.new ≡ fault.old }
-    ensures looked_kept { result ≢ ACCEPTED → result ≢ REFUSED → looked.new ≡ looked.old }
+    ensures accepted { result ≡ ACCEPTED → (tight : List Span)
+        × (tightened.new ≡ tight ++ drop (length tight) tightened.old)
+        × (length tight ≡ length program.now.chunks.now)
+        × Tightens caps program.now.code.now program.now.chunks.now tight program.now.pools }
+    ensures answer { IsAnswer
+        caps limit program.now (length tightened.old) report.old report.new result }
+    ensures kept { result ≢ ACCEPTED → tightened.new ≡ tightened.old }
 {
-    if !is_flat(pools) {
-        return NOT_FLAT;
-    }
-    let caps = Caps::from_bits_retain(caps);
-    let mut meter = Meter::new();
-    let judged = verdict(
+    match judge(
         alloc,
-        &mut Scratch::new(alloc),
+        scratch,
         caps,
-        code,
-        chunks,
-        pools,
-        &mut meter,
-    );
-    match judged {
+        limit,
+        program,
+        tightened.len(),
+        report,
+    ) {
         Ok(found) => {
-            declare(chunks, &found);
-            *looked = shown(&meter);
+            tighten(tightened, program.chunks, &found);
+            scratch.keep(found);
             ACCEPTED
         }
-        Err(Stop::OutOfMemory) => OUT_OF_MEMORY,
-        Err(Stop::Refused(refusal)) => {
-            *fault = told(refusal.place, &refusal.error);
-            *looked = shown(&meter);
-            REFUSED
+        Err(status) => status,
+    }
+}
+
+/// Verifies a program as `grain_proved_verify_with` does. Where it is accepted, its chunks are written, each declaring its depth.
+/// With these it is accepted again.
+#[unsafe(no_mangle)]
+pub extern "C" fn grain_proved_tighten(
+    alloc: Global,
+    scratch: &mut CScratch,
+    caps: u16,
+    limit: u64,
+    program: &CProgram<'_>,
+    tightened: &mut [CChunk],
+    report: &mut CReport,
+) -> u32
+    // The headline, of all that has this flat form.
+    ensures accepted { result ≡ ACCEPTED → (tight : List Span)
+        × (tightened.new ≡ tight ++ drop (length tight) tightened.old)
+        × (length tight ≡ length program.now.chunks.now)
+        × Tightens caps program.now.code.now program.now.chunks.now tight program.now.pools }
+
+    // Refusals, the other answers, and the report.
+    ensures answer { IsAnswer
+        caps limit program.now (length tightened.old) report.old report.new result }
+
+    // What isn't written stays as it was.
+    ensures kept { result ≢ ACCEPTED → tightened.new ≡ tightened.old }
+{
+    match take(alloc, scratch).or_else(|| Box::new(alloc, Scratch::new(alloc)).ok()) {
+        Some(mut kept) => {
+            let status = tighten_in(alloc, &mut kept, caps, limit, program, tightened, report);
+            keep(alloc, scratch, kept);
+            status
         }
+        // Without memory for what is kept, nothing is.
+        None => tighten_in(
+            alloc,
+            &mut Scratch::new(alloc),
+            caps,
+            limit,
+            program,
+            tightened,
+            report,
+        ),
     }
 }

@@ -101,7 +101,7 @@ steps_of (row ∷ rows) h =
     (one.step ∷ others.0, cc (own, others.1))
 
 -- a vector of these elements
-abbrev vector : {A : Type 0} (xs : List A) → length xs < 2 ^ 63 → Vec A Global
+abbrev pub vector : {A : Type 0} (xs : List A) → length xs < 2 ^ 63 → Vec A Global
 vector xs small = record { ptr = null_ptr; len = length xs; cap = length xs; alloc = record { memory = record { seal = tt } }; items = xs; ok = (refl, omega arith); small = small }
 
 -- a chain with this row and these steps

@@ -16,6 +16,7 @@ mod ListedEntries
 mod Members
 mod Pieces
 pub mod Redeclared
+mod PoolsFlaws
 mod RowEntries
 mod RowParts
 mod RowTests
@@ -25,3 +26,4 @@ mod SwitchTold
 mod Texts
 pub mod ToldRoom
 mod Wholes
+pub mod VisitBounds

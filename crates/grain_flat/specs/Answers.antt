@@ -12,10 +12,10 @@ use Rattle.grain_rules.specs.declared.error.VerifyError.TheVariants as errors
 use Rattle.grain_values.specs.declared.caps.Caps.{Caps}
 use Rattle.grain_flat.specs.Asking.{IsFirstRefusedRow, RowPasses}
 use Rattle.grain_flat.specs.Flat.{Rest, Whole, flat_input, rest_input}
-use Rattle.grain_flat.specs.declared.faults.TheConstants.{NO_CHUNK, MISSING_CAPS, UNDECODABLE, TRAILING_BYTES, CHUNK_OUT_OF_RANGE, JUMP_OUT_OF_RANGE, JUMP_INTO_AN_INSTRUCTION}
-use Rattle.grain_flat.specs.declared.faults.TheConstants.{DEPTH_CONFLICT, UNDERFLOW, FALLS_OFF_THE_END, STACK_EXCEEDS_DECLARED, ITERATOR_UNDERFLOW, HANDLER_UNDERFLOW, SINKS_BELOW_HANDLER, BAD_INDEX}
+use Rattle.grain_flat.specs.declared.flaws.TheConstants.{WHOLE_PROGRAM, MISSING_CAPS, UNDECODABLE, TRAILING_BYTES, CHUNK_OUT_OF_RANGE, JUMP_OUT_OF_RANGE, JUMP_INTO_AN_INSTRUCTION}
+use Rattle.grain_flat.specs.declared.flaws.TheConstants.{DEPTH_CONFLICT, UNDERFLOW, FALLS_OFF_THE_END, STACK_EXCEEDS_DECLARED, ITERATOR_UNDERFLOW, HANDLER_UNDERFLOW, SINKS_BELOW_HANDLER, BAD_INDEX}
 use Rattle.grain_flat.specs.declared.kinds.TheConstants.{NOTHING, CONSTANT, NAME, OPERATOR, OP_ASSIGNMENT, FRAGMENT, CHAIN, SWITCH, SYNTAX_SITE, OPERAND}
-use Rattle.grain_flat.specs.declared.records.CFault.{CFault}
+use Rattle.grain_flat.specs.declared.records.CRefusal.{CRefusal}
 use Rattle.grain_flat.specs.declared.records.CPools.{CPools}
 
 -- All with this flat form is accepted, and the numbers of the chunks are right. The rows of constants are judged by what
@@ -29,11 +29,11 @@ pub record Accepts (caps : ℕ) (bytes : List ℕ) (chunks : List Span) (p : CPo
   pub safe : (rest : Rest p) → AreSafe (rest_input caps bytes chunks p rest) numbers
 
 -- so many places are reached by all chunks, each for itself
-abbrev pub Looks : ℕ → List ℕ → List Span → CPools → ℕ → Type 0
-Looks caps bytes chunks p n = (rest : Rest p) → AreReached (rest_input caps bytes chunks p rest).code chunks n
+abbrev pub Visits : ℕ → List ℕ → List Span → CPools → ℕ → Type 0
+Visits caps bytes chunks p n = (rest : Rest p) → AreReached (rest_input caps bytes chunks p rest).code chunks n
 
 -- no more than all chunks have starts, each for itself; none where the code isn't whole instructions
-pub record LooksWithin (bytes : List ℕ) (chunks : List Span) (n : ℕ) : Type 0 where
+pub record VisitsWithin (bytes : List ℕ) (chunks : List Span) (n : ℕ) : Type 0 where
   pub starts : (starts : List ℕ) → Split bytes starts → n ≤ sum_by (starts_within starts) chunks
   pub nowhere : ((starts : List ℕ) → Split bytes starts → ⊥) → n ≡ 0
 
@@ -74,26 +74,26 @@ word_kind what =
 
 -- the place of a chunk, or that there is none
 abbrev pub chunk_number : Option ℕ → ℕ
-chunk_number None = NO_CHUNK
+chunk_number None = WHOLE_PROGRAM
 chunk_number (Some place) = place
 
 -- a refusal as a record: what it is, the chunk's place, the address, and two more numbers
-abbrev pub told : Option ℕ → VerifyError → CFault
-told place (errors.MissingCaps artifact missing at) = record { kind = MISSING_CAPS; chunk = chunk_number place; at = at; first = missing.0; second = artifact.0 }
-told place (errors.Undecodable at) = record { kind = UNDECODABLE; chunk = chunk_number place; at = at; first = 0; second = 0 }
-told place (errors.TrailingBytes at len) = record { kind = TRAILING_BYTES; chunk = chunk_number place; at = at; first = len; second = 0 }
-told place (errors.ChunkOutOfRange entry end len) = record { kind = CHUNK_OUT_OF_RANGE; chunk = chunk_number place; at = entry; first = end; second = len }
-told place (errors.JumpOutOfRange at target) = record { kind = JUMP_OUT_OF_RANGE; chunk = chunk_number place; at = at; first = target; second = 0 }
-told place (errors.JumpIntoAnInstruction at target) = record { kind = JUMP_INTO_AN_INSTRUCTION; chunk = chunk_number place; at = at; first = target; second = 0 }
-told place (errors.DepthConflict at expected found) = record { kind = DEPTH_CONFLICT; chunk = chunk_number place; at = at; first = expected; second = found }
-told place (errors.Underflow at need have) = record { kind = UNDERFLOW; chunk = chunk_number place; at = at; first = need; second = have }
-told place errors.FallsOffTheEnd = record { kind = FALLS_OFF_THE_END; chunk = chunk_number place; at = 0; first = 0; second = 0 }
-told place (errors.StackExceedsDeclared needed declared) = record { kind = STACK_EXCEEDS_DECLARED; chunk = chunk_number place; at = 0; first = needed; second = declared }
-told place (errors.IteratorUnderflow at) = record { kind = ITERATOR_UNDERFLOW; chunk = chunk_number place; at = at; first = 0; second = 0 }
-told place (errors.HandlerUnderflow at) = record { kind = HANDLER_UNDERFLOW; chunk = chunk_number place; at = at; first = 0; second = 0 }
-told place (errors.SinksBelowHandler at need have) = record { kind = SINKS_BELOW_HANDLER; chunk = chunk_number place; at = at; first = need; second = have }
-told place (errors.BadIndex at what index) = record { kind = BAD_INDEX; chunk = chunk_number place; at = at; first = index; second = word_kind what.now }
-told place errors.OutOfMemory = record { kind = NOTHING; chunk = chunk_number place; at = 0; first = 0; second = 0 }
+abbrev pub told : Option ℕ → VerifyError → CRefusal
+told place (errors.MissingCaps artifact missing at) = record { flaw = MISSING_CAPS; chunk = chunk_number place; at = at; first = missing.0; second = artifact.0 }
+told place (errors.Undecodable at) = record { flaw = UNDECODABLE; chunk = chunk_number place; at = at; first = 0; second = 0 }
+told place (errors.TrailingBytes at len) = record { flaw = TRAILING_BYTES; chunk = chunk_number place; at = at; first = len; second = 0 }
+told place (errors.ChunkOutOfRange entry end len) = record { flaw = CHUNK_OUT_OF_RANGE; chunk = chunk_number place; at = entry; first = end; second = len }
+told place (errors.JumpOutOfRange at target) = record { flaw = JUMP_OUT_OF_RANGE; chunk = chunk_number place; at = at; first = target; second = 0 }
+told place (errors.JumpIntoAnInstruction at target) = record { flaw = JUMP_INTO_AN_INSTRUCTION; chunk = chunk_number place; at = at; first = target; second = 0 }
+told place (errors.DepthConflict at expected found) = record { flaw = DEPTH_CONFLICT; chunk = chunk_number place; at = at; first = expected; second = found }
+told place (errors.Underflow at need have) = record { flaw = UNDERFLOW; chunk = chunk_number place; at = at; first = need; second = have }
+told place errors.FallsOffTheEnd = record { flaw = FALLS_OFF_THE_END; chunk = chunk_number place; at = 0; first = 0; second = 0 }
+told place (errors.StackExceedsDeclared needed declared) = record { flaw = STACK_EXCEEDS_DECLARED; chunk = chunk_number place; at = 0; first = needed; second = declared }
+told place (errors.IteratorUnderflow at) = record { flaw = ITERATOR_UNDERFLOW; chunk = chunk_number place; at = at; first = 0; second = 0 }
+told place (errors.HandlerUnderflow at) = record { flaw = HANDLER_UNDERFLOW; chunk = chunk_number place; at = at; first = 0; second = 0 }
+told place (errors.SinksBelowHandler at need have) = record { flaw = SINKS_BELOW_HANDLER; chunk = chunk_number place; at = at; first = need; second = have }
+told place (errors.BadIndex at what index) = record { flaw = BAD_INDEX; chunk = chunk_number place; at = at; first = index; second = word_kind what.now }
+told place errors.OutOfMemory = record { flaw = NOTHING; chunk = chunk_number place; at = 0; first = 0; second = 0 }
 
 -- a refusal as it is told: its numbers fit their types, and what it calls an index is known
 abbrev pub IsToldRefusal : VerifyError → Type 0
@@ -114,6 +114,6 @@ IsToldRefusal (errors.BadIndex at what index) = (index < 2 ^ 32) × (word_kind w
 IsToldRefusal errors.OutOfMemory = ⊥
 
 -- the record tells this refusal, of whichever chunk
-pub record TellsRefusal (fault : CFault) (e : VerifyError) : Type 0 where
+pub record TellsRefusal (refusal : CRefusal) (e : VerifyError) : Type 0 where
   pub is : IsToldRefusal e
-  pub told_is : record fault { chunk = NO_CHUNK } ≡ told None e
+  pub told_is : record refusal { chunk = WHOLE_PROGRAM } ≡ told None e

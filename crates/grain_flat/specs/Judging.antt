@@ -9,7 +9,7 @@ use Rattle.grain_names.specs.Names.{names_in}
 use Rattle.grain_bytecode.specs.Span.{Span}
 use Rattle.grain_bytecode.specs.declared.Chain.{Chain}
 use Rattle.grain_bytecode.specs.declared.Function.{Function}
-use Rattle.grain_flat.specs.Answers.{Accepts, Looks, LooksWithin, Refuses}
+use Rattle.grain_flat.specs.Answers.{Accepts, Visits, VisitsWithin, Refuses}
 use Rattle.grain_flat.specs.Flat.{AreChains, AreSwitches, code_with}
 use Rattle.grain_flat.specs.RowFacts.{facts_told, leads_of}
 use Rattle.grain_flat.specs.declared.build.Made.{Made}
@@ -65,8 +65,8 @@ pub record IsFlatVerdict (caps : ℕ) (bytes : List ℕ) (chunks : List Span) (p
 
 -- the meter counts what the accepted chunks of all with the flat form reach, and of others no more than their starts
 pub record IsFlatMetered (caps : ℕ) (bytes : List ℕ) (chunks : List Span) (p : CPools) (old new : ℕ) (result : Result (Vec ℕ Global) Stop) : Type 0 where
-  pub accepted : IfOk result (λ _. (n : ℕ) × Looks caps bytes chunks p n × HasCounted old new n)
-  pub refused : IfErr result (λ _. (n : ℕ) × LooksWithin bytes chunks n × HasCounted old new n)
+  pub accepted : IfOk result (λ _. (n : ℕ) × Visits caps bytes chunks p n × HasCounted old new n)
+  pub refused : IfErr result (λ _. (n : ℕ) × VisitsWithin bytes chunks n × HasCounted old new n)
 
 -- functions are there exactly where some are counted
 pub record AreSome (count : ℕ) (functions : List Function) : Type 0 where

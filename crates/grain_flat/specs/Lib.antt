@@ -6,7 +6,9 @@ pub mod Instruction
 pub mod InstructionTexts
 pub mod Judging
 pub mod Listing
+pub mod PoolsFlaws
 pub mod RowFacts
 pub mod RowTables
 pub mod TagNames
 pub mod Tightening
+pub mod Work

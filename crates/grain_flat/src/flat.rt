@@ -1,12 +1,14 @@
 //! Whether pools are flat. No test takes memory.
-ghost use Rattle.std.specs.Prelude.{◌≡◌, ◌<◌, ◌^◌, ◌↔◌, IsTrue, MatchBool, None, length, sum_by};
+ghost use Rattle.std.specs.Prelude.{◌≡◌, ◌<◌, ◌^◌, ◌↔◌, IfNone, IfSome, IsTrue, MatchBool, MatchOption, None, length};
 ghost use Rattle.std.specs.Bool.{OnTrue};
 ghost use Rattle.std.specs.List.{All};
 ghost use Rattle.std.specs.Str.{IsAscii, is_utf8};
 ghost use Rattle.grain_names.specs.Names.{first_flaw, span_flaw};
 ghost use Rattle.grain_flat.specs.Flat.{IsAskedRow, IsChainRow, IsFlat, IsStepRow, Pooled};
+ghost use Rattle.grain_flat.specs.PoolsFlaws.{ArmsFlaw, IsFirstBadName, IsFirstOther, PoolsFlaw, StepsFlaw, all_cases, all_ranges, all_steps};
 
-use crate::records::{CChain, CConstant, CPools, CStep, CSwitch};
+use crate::lists::{CASES, CHAINS, CONSTANTS, NAMES, RANGES, STEPS, SWITCHES};
+use crate::records::{CChain, CConstant, CPools, CPoolsFlaw, CStep, CSwitch};
 use crate::rows::{asked_of, root_of, step_of, tail_of};
 use std::str;
 
@@ -28,62 +30,95 @@ fn is_step_row(row: &CStep) -> bool
     step_of(row).is_some()
 }
 
-fn are_asked_rows(rows: &[CConstant]) -> bool
-    ensures { IsTrue result ↔ All IsAskedRow rows.now }
+/// The entry of a list.
+fn flaw_at(list: u32, index: usize) -> CPoolsFlaw
+    ensures { result ≡ record { list = list; index = index } }
 {
-    rows.iter().all(is_asked_row)
+    CPoolsFlaw {
+        list,
+        index: index as u64,
+    }
 }
 
-fn are_chain_rows(rows: &[CChain]) -> bool
-    ensures { IsTrue result ↔ All IsChainRow rows.now }
+fn first_other_constant(rows: &[CConstant]) -> Option<usize>
+    ensures none { IfNone result (All IsAskedRow rows.now) }
+    ensures some { IfSome result (IsFirstOther IsAskedRow rows.now) }
 {
-    rows.iter().all(is_chain_row)
-}
-
-fn are_step_rows(rows: &[CStep]) -> bool
-    ensures steps { IsTrue result ↔ All IsStepRow rows.now }
-    ensures small { length rows.now < 2 ^ 63 }
-{
-    for row in rows {
-        if !is_step_row(row) {
-            return false;
+    for (index, row) in rows.iter().enumerate() {
+        if !is_asked_row(row) {
+            return Some(index);
         }
     }
-    true
+    None
 }
 
-/// Whether the numbers of the steps of chains add up to this number.
-fn count_steps(rows: &[CChain], steps: usize) -> bool
-    ensures { IsTrue result ↔ (sum_by (λ c. c.steps) rows.now ≡ steps) }
+fn first_other_chain(rows: &[CChain]) -> Option<usize>
+    ensures none { IfNone result (All IsChainRow rows.now) }
+    ensures some { IfSome result (IsFirstOther IsChainRow rows.now) }
+{
+    for (index, row) in rows.iter().enumerate() {
+        if !is_chain_row(row) {
+            return Some(index);
+        }
+    }
+    None
+}
+
+fn first_other_step(rows: &[CStep]) -> Option<usize>
+    ensures none { IfNone result (All IsStepRow rows.now) }
+    ensures some { IfSome result (IsFirstOther IsStepRow rows.now) }
+    ensures small { length rows.now < 2 ^ 63 }
+{
+    for (index, row) in rows.iter().enumerate() {
+        if !is_step_row(row) {
+            return Some(index);
+        }
+    }
+    None
+}
+
+/// Where the numbers of the steps of chains don't add up to this number.
+fn steps_flaw(rows: &[CChain], steps: usize) -> Option<CPoolsFlaw>
+    ensures none { IfNone result (all_steps rows.now ≡ steps) }
+    ensures some { IfSome result (StepsFlaw rows.now steps) }
 {
     let mut left = steps;
-    for row in rows {
+    for (index, row) in rows.iter().enumerate() {
         let Some(fewer) = left.checked_sub(row.steps as usize) else {
-            return false;
+            return Some(flaw_at(CHAINS, index));
         };
         left = fewer;
     }
-    left == 0
+    if left > 0 {
+        return Some(flaw_at(STEPS, steps - left));
+    }
+    None
 }
 
-/// Whether the numbers of the cases and of the ranges of switches add up to these numbers.
-fn count_arms(rows: &[CSwitch], cases: usize, ranges: usize) -> bool
-    ensures { IsTrue result ↔ (sum_by (λ s. s.cases) rows.now ≡ cases)
-        × (sum_by (λ s. s.ranges) rows.now ≡ ranges) }
+/// Where the numbers of the cases and of the ranges of switches don't add up to these numbers.
+fn arms_flaw(rows: &[CSwitch], cases: usize, ranges: usize) -> Option<CPoolsFlaw>
+    ensures none { IfNone result ((all_cases rows.now ≡ cases) × (all_ranges rows.now ≡ ranges)) }
+    ensures some { IfSome result (ArmsFlaw rows.now cases ranges) }
 {
     let mut cases_left = cases;
     let mut ranges_left = ranges;
-    for row in rows {
+    for (index, row) in rows.iter().enumerate() {
         let Some(fewer_cases) = cases_left.checked_sub(row.cases as usize) else {
-            return false;
+            return Some(flaw_at(SWITCHES, index));
         };
         let Some(fewer_ranges) = ranges_left.checked_sub(row.ranges as usize) else {
-            return false;
+            return Some(flaw_at(SWITCHES, index));
         };
         cases_left = fewer_cases;
         ranges_left = fewer_ranges;
     }
-    cases_left == 0 && ranges_left == 0
+    if cases_left > 0 {
+        return Some(flaw_at(CASES, cases - cases_left));
+    }
+    if ranges_left > 0 {
+        return Some(flaw_at(RANGES, ranges - ranges_left));
+    }
+    None
 }
 
 fn is_text(bytes: &[u8]) -> bool
@@ -116,49 +151,55 @@ fn is_name(blob: &[u8], ascii: bool, from: usize, to: usize) -> bool
     ascii || is_text(&blob[from..to])
 }
 
-/// Whether the starts cut the blob into names.
-fn are_names(blob: &[u8], starts: &[u32]) -> bool
-    ensures { IsTrue result ↔ (first_flaw blob.now starts.now ≡ None) }
+/// The first name that the starts don't cut from the blob, or how many names there are where bytes are left.
+fn names_flaw(blob: &[u8], starts: &[u32]) -> Option<usize>
+    ensures none { IfNone result (first_flaw blob.now starts.now ≡ None) }
+    ensures some { IfSome result (IsFirstBadName blob.now starts.now) }
 {
     let [0, rest @ ..] = starts else {
-        return false;
+        return Some(0);
     };
     let ascii = is_ascii(blob);
     let mut from = 0;
-    for start in rest {
+    for (index, start) in rest.iter().enumerate() {
         let to = *start as usize;
         if !is_name(blob, ascii, from, to) {
-            return false;
+            return Some(index);
         }
         from = to;
     }
-    from == blob.len()
+    if from != blob.len() {
+        return Some(rest.len());
+    }
+    None
 }
 
-/// Whether kinds are known and unused fields are 0.
-fn are_rows(pools: &CPools<'_>) -> bool
-    ensures rows { IsTrue result ↔ (All IsAskedRow pools.now.constants.now
-        × All IsChainRow pools.now.chains.now × All IsStepRow pools.now.steps.now) }
-    ensures small { OnTrue result (length pools.now.steps.now < 2 ^ 63) }
+/// The first entry of the first list that isn't as it has to be, where no pools have this form: tested are the constants,
+/// the chains and the steps, then the counts of steps, of cases and of ranges, and then the names.
+pub fn pools_flaw(pools: &CPools<'_>) -> Option<CPoolsFlaw>
+    ensures flat { IfNone result (IsFlat pools.now) }
+    ensures pooled { MatchOption result (Pooled pools.now) (λ flaw. PoolsFlaw pools.now flaw
+        × (Pooled pools.now → ⊥)) }
 {
-    if !are_asked_rows(pools.constants) || !are_chain_rows(pools.chains) {
-        return false;
+    if let Some(index) = first_other_constant(pools.constants) {
+        return Some(flaw_at(CONSTANTS, index));
     }
-    are_step_rows(pools.steps)
-}
-
-/// Whether kinds are known, unused fields are 0, counts add up and names are cut.
-fn follows_rules(pools: &CPools<'_>) -> bool
-    ensures flat { IsTrue result ↔ IsFlat pools.now }
-    ensures small { OnTrue result (length pools.now.steps.now < 2 ^ 63) }
-{
-    if !are_rows(pools) || !count_steps(pools.chains, pools.steps.len()) {
-        return false;
+    if let Some(index) = first_other_chain(pools.chains) {
+        return Some(flaw_at(CHAINS, index));
     }
-    if !count_arms(pools.switches, pools.cases.len(), pools.ranges.len()) {
-        return false;
+    if let Some(index) = first_other_step(pools.steps) {
+        return Some(flaw_at(STEPS, index));
     }
-    are_names(pools.names, pools.starts)
+    if let Some(flaw) = steps_flaw(pools.chains, pools.steps.len()) {
+        return Some(flaw);
+    }
+    if let Some(flaw) = arms_flaw(pools.switches, pools.cases.len(), pools.ranges.len()) {
+        return Some(flaw);
+    }
+    if let Some(index) = names_flaw(pools.names, pools.starts) {
+        return Some(flaw_at(NAMES, index));
+    }
+    None
 }
 
 /// Whether some pools have this flat form.
@@ -166,5 +207,5 @@ pub fn is_flat(pools: &CPools<'_>) -> bool
     ensures flat { OnTrue result (IsFlat pools.now) }
     ensures pooled { MatchBool result (Pooled pools.now) (Pooled pools.now → ⊥) }
 {
-    follows_rules(pools)
+    pools_flaw(pools).is_none()
 }

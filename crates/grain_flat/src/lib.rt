@@ -8,13 +8,14 @@
 mod asking;
 mod build;
 mod explaining;
-pub mod faults;
 mod fields;
 mod flat;
+pub mod flaws;
 mod judge;
 pub mod kinds;
 mod line;
 mod listing;
+pub mod lists;
 mod mnemonics;
 mod printing;
 mod records;
@@ -25,19 +26,21 @@ mod scratch;
 pub mod shapes;
 mod tightening;
 mod verdicts;
+mod work;
 
 pub use explaining::{ToldRows, explain_chunk, rows_of};
 pub use fields::fields_of;
-pub use flat::is_flat;
+pub use flat::{is_flat, pools_flaw};
 pub use judge::Stop;
 pub use line::Line;
 pub use listing::{fill, list_entries, list_sites};
 pub use printing::{instruction_text, refusal_text};
 pub use records::{
-    CBase, CCase, CChain, CChunk, CConstant, CEntry, CExplained, CFault, CField, CInstruction,
-    CPlace, CPools, CRow, CStep, CSwitch,
+    CBase, CCase, CChain, CChunk, CConstant, CEntry, CExplained, CField, CInstruction, CPlace,
+    CPools, CPoolsFlaw, CProgram, CRefusal, CReport, CRow, CStep, CSwitch,
 };
 pub use refusals::told;
 pub use scratch::Scratch;
-pub use tightening::declare;
+pub use tightening::tighten;
 pub use verdicts::verdict;
+pub use work::is_within;

@@ -1,5 +1,5 @@
 //! What instructions are called.
-ghost use Rattle.std.specs.Prelude.{◌≡◌, ◌≤◌, length};
+ghost use Rattle.std.specs.Prelude.{◌≡◌, ◌<◌, ◌≤◌, length};
 ghost use Rattle.grain_flat.specs.InstructionTexts.{mnemonic};
 
 use grain_bytecode::{Op, Receiver};
@@ -7,6 +7,7 @@ use grain_bytecode::{Op, Receiver};
 /// What an operation is called: its tag's name in docs/FORMAT.md ("Instructions").
 pub(crate) fn mnemonic(op: &Op) -> &'static str
     ensures name { result.now ≡ mnemonic op.now }
+    ensures some { 0 < length result.now }
     ensures short { length result.now ≤ 20 }
 {
     match *op {

@@ -1,8 +1,8 @@
 //! The texts of instructions and of refusals.
-ghost use Rattle.std.specs.Prelude.{◌≡◌, ◌≤◌, ◌+◌, ◌++◌, length};
+ghost use Rattle.std.specs.Prelude.{◌≡◌, ◌<◌, ◌≤◌, ◌+◌, ◌++◌, length};
 ghost use Rattle.grain_rules.specs.Texts.{named, verify_error_text};
 ghost use Rattle.grain_flat.specs.Answers.{IsToldRefusal};
-ghost use Rattle.grain_flat.specs.InstructionTexts.{field_text, instruction_text};
+ghost use Rattle.grain_flat.specs.InstructionTexts.{field_text, instruction_text, mnemonic};
 
 use crate::fields::fields_of;
 use crate::kinds::NOTHING;
@@ -27,7 +27,8 @@ fn put_field(line: &mut Line, field: CField)
 
 /// The text of an instruction: what it is called, and its fields in order.
 pub fn instruction_text(op: &Op) -> Line
-    ensures { result.items ≡ instruction_text op.now }
+    ensures text { result.items ≡ instruction_text op.now }
+    ensures some { 0 < length (mnemonic op.now) }
 {
     let mut line = ArrayVec::new();
     put(&mut line, mnemonic(op).as_bytes());

@@ -148,10 +148,10 @@ pub struct CPools<'a> {
 /// Why a program is refused.
 #[repr(C)]
 #[derive(Clone, Copy)]
-pub struct CFault {
-    /// What is wrong, by a number of [`crate::faults`].
-    pub kind: u32,
-    /// The place of the chunk that is refused, or [`crate::faults::NO_CHUNK`].
+pub struct CRefusal {
+    /// What is wrong, by a number of [`crate::flaws`].
+    pub flaw: u32,
+    /// The place of the chunk that is refused, or [`crate::flaws::WHOLE_PROGRAM`].
     pub chunk: u64,
     /// The address of an instruction, where the refusal names one.
     pub at: u64,
@@ -159,6 +159,38 @@ pub struct CFault {
     pub first: u64,
     /// What else the refusal names.
     pub second: u64,
+}
+
+/// A program: its code, its chunks, and its pools.
+#[repr(C)]
+#[derive(Clone, Copy)]
+pub struct CProgram<'a> {
+    /// The code.
+    pub code: &'a [u8],
+    /// The chunks.
+    pub chunks: &'a [CChunk],
+    /// What it has beside them.
+    pub pools: CPools<'a>,
+}
+
+/// What a verification found.
+#[repr(C)]
+#[derive(Clone, Copy)]
+pub struct CReport {
+    /// Why the program is refused.
+    pub refusal: CRefusal,
+    /// How many instructions the walks visited, counted for each chunk apart.
+    pub visited: u64,
+}
+
+/// Where pools aren't flat.
+#[repr(C)]
+#[derive(Clone, Copy)]
+pub struct CPoolsFlaw {
+    /// The list, by a number of [`crate::lists`].
+    pub list: u32,
+    /// The index of the entry, or the length of the list where entries are missing.
+    pub index: u64,
 }
 
 /// An entry of an address table.

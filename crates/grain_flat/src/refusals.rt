@@ -2,15 +2,16 @@
 ghost use Rattle.std.specs.Prelude.{◌≡◌};
 ghost use Rattle.grain_flat.specs.Answers.{chunk_number, told, word_kind};
 
-use crate::faults::{
+use crate::flaws::{
     BAD_INDEX, CHUNK_OUT_OF_RANGE, DEPTH_CONFLICT, FALLS_OFF_THE_END, HANDLER_UNDERFLOW,
-    ITERATOR_UNDERFLOW, JUMP_INTO_AN_INSTRUCTION, JUMP_OUT_OF_RANGE, MISSING_CAPS, NO_CHUNK,
+    ITERATOR_UNDERFLOW, JUMP_INTO_AN_INSTRUCTION, JUMP_OUT_OF_RANGE, MISSING_CAPS,
     SINKS_BELOW_HANDLER, STACK_EXCEEDS_DECLARED, TRAILING_BYTES, UNDECODABLE, UNDERFLOW,
+    WHOLE_PROGRAM,
 };
 use crate::kinds::{
     CHAIN, CONSTANT, FRAGMENT, NAME, NOTHING, OP_ASSIGNMENT, OPERAND, OPERATOR, SWITCH, SYNTAX_SITE,
 };
-use crate::records::CFault;
+use crate::records::CRefusal;
 use grain_base::Flags;
 use grain_rules::VerifyError;
 
@@ -20,7 +21,7 @@ fn chunk_number(place: Option<usize>) -> u64
 {
     match place {
         Some(place) => place as u64,
-        None => NO_CHUNK,
+        None => WHOLE_PROGRAM,
     }
 }
 
@@ -43,12 +44,12 @@ fn word_kind(what: &str) -> u32
 }
 
 /// A refusal as a record.
-pub fn told(place: Option<usize>, error: &VerifyError) -> CFault
+pub fn told(place: Option<usize>, error: &VerifyError) -> CRefusal
     ensures { result ≡ told place error.now }
 {
     let chunk = chunk_number(place);
-    let fault = |kind: u32, at: u64, first: u64, second: u64| CFault {
-        kind,
+    let refusal = |flaw: u32, at: u64, first: u64, second: u64| CRefusal {
+        flaw,
         chunk,
         at,
         first,
@@ -59,59 +60,59 @@ pub fn told(place: Option<usize>, error: &VerifyError) -> CFault
             artifact,
             missing,
             at,
-        } => fault(
+        } => refusal(
             MISSING_CAPS,
             at as u64,
             u64::from(missing.bits()),
             u64::from(artifact.bits()),
         ),
-        VerifyError::Undecodable { at } => fault(UNDECODABLE, at as u64, 0, 0),
+        VerifyError::Undecodable { at } => refusal(UNDECODABLE, at as u64, 0, 0),
         VerifyError::TrailingBytes { at, len } => {
-            fault(TRAILING_BYTES, at as u64, len as u64, 0)
+            refusal(TRAILING_BYTES, at as u64, len as u64, 0)
         }
-        VerifyError::ChunkOutOfRange { entry, end, len } => fault(
+        VerifyError::ChunkOutOfRange { entry, end, len } => refusal(
             CHUNK_OUT_OF_RANGE,
             u64::from(entry),
             u64::from(end),
             len as u64,
         ),
         VerifyError::JumpOutOfRange { at, target } => {
-            fault(JUMP_OUT_OF_RANGE, at as u64, u64::from(target), 0)
+            refusal(JUMP_OUT_OF_RANGE, at as u64, u64::from(target), 0)
         }
         VerifyError::JumpIntoAnInstruction { at, target } => {
-            fault(JUMP_INTO_AN_INSTRUCTION, at as u64, u64::from(target), 0)
+            refusal(JUMP_INTO_AN_INSTRUCTION, at as u64, u64::from(target), 0)
         }
         VerifyError::DepthConflict {
             at,
             expected,
             found,
-        } => fault(DEPTH_CONFLICT, at as u64, expected as u64, found as u64),
+        } => refusal(DEPTH_CONFLICT, at as u64, expected as u64, found as u64),
         VerifyError::Underflow { at, need, have } => {
-            fault(UNDERFLOW, at as u64, need as u64, have as u64)
+            refusal(UNDERFLOW, at as u64, need as u64, have as u64)
         }
-        VerifyError::FallsOffTheEnd => fault(FALLS_OFF_THE_END, 0, 0, 0),
+        VerifyError::FallsOffTheEnd => refusal(FALLS_OFF_THE_END, 0, 0, 0),
         VerifyError::StackExceedsDeclared { needed, declared } => {
-            fault(
+            refusal(
                 STACK_EXCEEDS_DECLARED,
                 0,
                 needed as u64,
                 u64::from(declared),
             )
         }
-        VerifyError::IteratorUnderflow { at } => fault(ITERATOR_UNDERFLOW, at as u64, 0, 0),
-        VerifyError::HandlerUnderflow { at } => fault(HANDLER_UNDERFLOW, at as u64, 0, 0),
-        VerifyError::SinksBelowHandler { at, need, have } => fault(
+        VerifyError::IteratorUnderflow { at } => refusal(ITERATOR_UNDERFLOW, at as u64, 0, 0),
+        VerifyError::HandlerUnderflow { at } => refusal(HANDLER_UNDERFLOW, at as u64, 0, 0),
+        VerifyError::SinksBelowHandler { at, need, have } => refusal(
             SINKS_BELOW_HANDLER,
             at as u64,
             need as u64,
             have as u64,
         ),
-        VerifyError::BadIndex { at, what, index } => fault(
+        VerifyError::BadIndex { at, what, index } => refusal(
             BAD_INDEX,
             at as u64,
             u64::from(index),
             u64::from(word_kind(what)),
         ),
-        VerifyError::OutOfMemory => fault(NOTHING, 0, 0, 0),
+        VerifyError::OutOfMemory => refusal(NOTHING, 0, 0, 0),
     }
 }

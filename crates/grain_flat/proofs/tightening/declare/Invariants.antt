@@ -6,6 +6,6 @@ use Rattle.grain_flat.proofs.tightening.declare.Given as goal
 abbrev pub invariant-loop-index : goal.invariant-loop-index
 invariant-loop-index l = record {
   long : length l.chunks ≡ length l.initial.chunks;
-  declared : map (λ chunk. chunk.max_stack) (take l.index l.chunks) ≡ take l.index l.numbers;
+  declared : map (λ chunk. chunk.max_stack) (take l.index l.chunks) ≡ take l.index l.depths;
   rest : map undeclared_chunk l.chunks ≡ map undeclared_chunk l.initial.chunks;
 }

@@ -1,0 +1,48 @@
+-- What a verification answers.
+use Rattle.std.specs.Prelude.{◌≡◌, ◌≢◌, ◌⊎◌, ◌↔◌, ℕ, ◌<◌, ◌≤◌, All, List, Option, Result, Ok, Err, Vec, length}
+use Rattle.std.specs.declared.alloc.Global.{Global}
+use Rattle.grain_rules.specs.declared.error.VerifyError.{VerifyError}
+use Rattle.grain_flat.specs.Answers.{Refuses, Visits, VisitsWithin, told}
+use Rattle.grain_flat.specs.Asking.{RowPasses}
+use Rattle.grain_flat.specs.Flat.{Pooled}
+use Rattle.grain_flat.specs.Work.{work_of}
+use Rattle.grain_flat.specs.declared.records.CProgram.{CProgram}
+use Rattle.grain_flat.specs.declared.records.CReport.{CReport}
+use Rattle.grain_c.specs.declared.status.TheConstants.{ACCEPTED, REFUSED, SHORT, OUT_OF_MEMORY, NOT_FLAT, TOO_MUCH_WORK}
+
+-- What a verification answers, beside what it writes for an accepted program: when which status, and what the report says.
+-- The room is how many places the caller has for chunks or depths.
+pub record IsAnswer (caps limit : ℕ) (program : CProgram) (room : ℕ) (old new : CReport) (status : ℕ) : Type 0 where
+  -- the refusal is a flaw of all programs whose pools have this flat form
+  pub refused : status ≡ REFUSED → (place : Option ℕ) × (e : VerifyError) × (new.refusal ≡ told place e) × Refuses caps program.code.now program.chunks.now program.pools place e
+  -- how many places the chunks reach, each for itself; of a refused program no more than their starts
+  pub visited : status ≡ ACCEPTED → Visits caps program.code.now program.chunks.now program.pools new.visited
+  pub visited_within : status ≡ REFUSED → VisitsWithin program.code.now program.chunks.now new.visited
+  pub bounded : (status ≡ ACCEPTED) ⊎ (status ≡ REFUSED) → new.visited ≤ limit
+  -- when each other status is answered
+  pub not_flat : (status ≡ NOT_FLAT) ↔ (Pooled program.pools → ⊥)
+  pub short : (status ≡ SHORT) ↔ (Pooled program.pools × (room < length program.chunks.now))
+  pub limited : (status ≡ TOO_MUCH_WORK) ↔ (Pooled program.pools × (length program.chunks.now ≤ room) × (limit < work_of program.code.now program.chunks.now))
+  pub memory : status ≡ OUT_OF_MEMORY → All (RowPasses caps) program.pools.constants.now
+  pub answers : status ≤ TOO_MUCH_WORK
+  -- what stays as it was
+  pub refusal_kept : status ≢ REFUSED → new.refusal ≡ old.refusal
+  pub visited_kept : status ≢ ACCEPTED → status ≢ REFUSED → new.visited ≡ old.visited
+
+-- where depths are found, the program is accepted
+abbrev pub status_of : Result (Vec ℕ Global) ℕ → ℕ
+status_of (Ok depths) = ACCEPTED
+status_of (Err status) = status
+
+-- what a call answers before any verification, if it does
+pub record IsBar (limit : ℕ) (program : CProgram) (room : ℕ) (status : ℕ) : Type 0 where
+  pub not_flat : (status ≡ NOT_FLAT) ↔ (Pooled program.pools → ⊥)
+  pub short : (status ≡ SHORT) ↔ (Pooled program.pools × (room < length program.chunks.now))
+  pub limited : (status ≡ TOO_MUCH_WORK) ↔ (Pooled program.pools × (length program.chunks.now ≤ room) × (limit < work_of program.code.now program.chunks.now))
+  pub one_of : (status ≡ NOT_FLAT) ⊎ (status ≡ SHORT) ⊎ (status ≡ TOO_MUCH_WORK)
+
+-- nothing bars a verification
+pub record IsClear (limit : ℕ) (program : CProgram) (room : ℕ) : Type 0 where
+  pub pooled : Pooled program.pools
+  pub fits : length program.chunks.now ≤ room
+  pub within : work_of program.code.now program.chunks.now ≤ limit
