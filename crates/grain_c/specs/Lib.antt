@@ -1,4 +1,5 @@
 pub mod Answers
+pub mod Explained
 pub mod TableFlaws
 pub mod Written
 -- what the parts of an export promise each other

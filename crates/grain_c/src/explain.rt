@@ -1,60 +1,93 @@
 //! Why a chunk is accepted or refused.
-ghost use Rattle.std.specs.Prelude.{◌≡◌, ◌≢◌, ◌≤◌, ◌↔◌, Some, None};
+ghost use Rattle.std.specs.Prelude.{◌≡◌, ◌≢◌, ◌≤◌, ◌↔◌, Some, None, length};
 ghost use Rattle.grain_explain.specs.declared.refusal.ExplainedChunk.{ExplainedChunk};
 ghost use Rattle.grain_explain.specs.declared.refusal.Refusal.{Refusal};
+ghost use Rattle.grain_c.specs.Explained.{ExplainsAt};
 ghost use Rattle.grain_flat.specs.Answers.{told};
-ghost use Rattle.grain_flat.specs.Explaining.{ExplainsChunk, IsToldIn};
+ghost use Rattle.grain_flat.specs.Explaining.{Beside, IsIndexedBeside, IsToldIn};
 ghost use Rattle.grain_flat.specs.Flat.{Pooled};
 
-use crate::status::{ACCEPTED, BAD_CODE, NOT_FLAT, OUT_OF_MEMORY, REFUSED, SHORT, UNFINISHED};
+use crate::status::{
+    ACCEPTED, BAD_CODE, NO_CHUNK, NOT_FLAT, OUT_OF_MEMORY, REFUSED, SHORT, TOO_MUCH_WORK, UNFINISHED,
+};
 use grain_base::{Caps, Flags};
 use grain_explain::{ExplainError, ExplainedChunk};
 use grain_flat::{
-    CBase, CChunk, CExplained, CPools, CRefusal, CRow, explain_chunk, fill, is_flat, rows_of, told,
+    CBase, CExplanation, CProgram, CRow, ToldRows, explain_chunk, fill, is_flat, rows_of, told,
 };
 use std::alloc::Global;
 
-/// Explains a chunk of a program: what stands at each instruction that ways along its edges come to, of a refused one at
-/// those that were come to until then; and where it is refused the way to its flaw, of a conflict another way too.
+/// What is said of an explained chunk, whose rows are these.
+fn counts_of(found: &ExplainedChunk, made: &ToldRows, before: &CExplanation) -> CExplanation
+    ensures visited { result.rows ≡ made.now.visited }
+    ensures path { result.path ≡ made.now.path }
+    ensures other { result.other ≡ made.now.other }
+    ensures bases { result.bases ≡ length made.now.bases.items }
+    ensures kept { found.now.refusal ≡ None → result.refusal ≡ before.now.refusal }
+    ensures refusal { (r : Refusal) → found.now.refusal ≡ Some r
+        → result.refusal ≡ told None r.error }
+{
+    let refusal = match &found.refusal {
+        None => before.refusal,
+        Some(refusal) => told(None, &refusal.error),
+    };
+    CExplanation {
+        rows: made.visited,
+        path: made.path,
+        other: made.other,
+        bases: made.bases.len(),
+        refusal,
+    }
+}
+
+/// Explains the chunk of a program with this index: what stands at each instruction that is visited, and where the chunk is
+/// refused a path to its flaw, for a conflict another path too.
 ///
-/// 0 where it passes: then the rows are a stack typing of it, and just what is reached. 1 where it is refused: then why is
-/// written, of no chunk by its place. In both cases as many rows and bases are written as there is room for, and how many there
-/// are. 3 where memory was wanted, 4 where no pools have this flat form, which is tested first, 7 where the code isn't whole
-/// instructions whose indices are in bounds, 8 where nothing is explained. Constants and functions aren't looked at.
+/// Where it passes the rows are a stack typing of it, and just what is reached. Where it is refused, why is written. In both
+/// cases as many rows and bases are written as there is room for, and how many there are. That the pools are flat is tested
+/// first, and then the index. Constants and functions aren't looked at.
 #[unsafe(no_mangle)]
 pub extern "C" fn grain_proved_explain(
     alloc: Global,
     caps: u16,
-    code: &[u8],
-    chunk: &CChunk,
-    pools: &CPools<'_>,
+    program: &CProgram<'_>,
+    chunk: usize,
     rows: &mut [CRow],
     bases: &mut [CBase],
-    explained: &mut CExplained,
-    fault: &mut CRefusal,
+    explanation: &mut CExplanation,
 ) -> u32
     // With pools of this flat form beside the code.
     ensures accepted { result ≡ ACCEPTED → (x : ExplainedChunk)
-        × ExplainsChunk caps code.now chunk.now pools.now x × (x.refusal ≡ None)
-        × IsToldIn x rows.old rows.new bases.old bases.new explained.new }
+        × ExplainsAt caps program.now chunk x × (x.refusal ≡ None)
+        × IsToldIn x rows.old rows.new bases.old bases.new explanation.new
+        × (explanation.new.refusal ≡ explanation.old.refusal) }
     ensures refused { result ≡ REFUSED → (x : ExplainedChunk) × (r : Refusal)
-        × ExplainsChunk caps code.now chunk.now pools.now x × (x.refusal ≡ Some r)
-        × (fault.new ≡ told None r.error)
-        × IsToldIn x rows.old rows.new bases.old bases.new explained.new }
+        × ExplainsAt caps program.now chunk x × (x.refusal ≡ Some r)
+        × IsToldIn x rows.old rows.new bases.old bases.new explanation.new
+        × (explanation.new.refusal ≡ told None r.error) }
 
-    // Which of the other answers comes when.
-    ensures not_flat { (result ≡ NOT_FLAT) ↔ (Pooled pools.now → ⊥) }
-    ensures answers { (result ≤ 8) × (result ≢ SHORT) }
+    // When each other status is answered.
+    ensures not_flat { (result ≡ NOT_FLAT) ↔ (Pooled program.now.pools → ⊥) }
+    ensures no_chunk { (result ≡ NO_CHUNK)
+        ↔ (Pooled program.now.pools × (length program.now.chunks.now ≤ chunk)) }
+    ensures bad_code { result ≡ BAD_CODE → (beside : Beside program.now.pools)
+        × (IsIndexedBeside caps program.now.code.now program.now.pools beside → ⊥) }
+    ensures unfinished { result ≡ UNFINISHED → (beside : Beside program.now.pools)
+        × IsIndexedBeside caps program.now.code.now program.now.pools beside }
+    ensures answers { (result ≤ UNFINISHED) × (result ≢ SHORT) × (result ≢ TOO_MUCH_WORK) }
 
-    // What isn't written stays as it was.
+    // What stays as it was.
     ensures kept { result ≢ ACCEPTED → result ≢ REFUSED → (rows.new ≡ rows.old)
-        × (bases.new ≡ bases.old) × (explained.new ≡ explained.old) }
-    ensures fault_kept { result ≢ REFUSED → fault.new ≡ fault.old }
+        × (bases.new ≡ bases.old) × (explanation.new ≡ explanation.old) }
 {
-    if !is_flat(pools) {
+    if !is_flat(&program.pools) {
         return NOT_FLAT;
     }
-    let found = match explain_chunk(alloc, Caps::from_bits_retain(caps), code, chunk, pools) {
+    let Some(span) = program.chunks.get(chunk) else {
+        return NO_CHUNK;
+    };
+    let caps = Caps::from_bits_retain(caps);
+    let found = match explain_chunk(alloc, caps, program.code, span, &program.pools) {
         Ok(found) => found,
         Err(ExplainError::OutOfMemory) => return OUT_OF_MEMORY,
         Err(ExplainError::BadCode) => return BAD_CODE,
@@ -65,12 +98,9 @@ pub extern "C" fn grain_proved_explain(
     };
     fill(rows, &made.rows);
     fill(bases, &made.bases);
-    *explained = made.explained;
+    *explanation = counts_of(&found, &made, explanation);
     match &found.refusal {
         None => ACCEPTED,
-        Some(refusal) => {
-            *fault = told(None, &refusal.error);
-            REFUSED
-        }
+        Some(_) => REFUSED,
     }
 }

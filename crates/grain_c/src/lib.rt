@@ -18,7 +18,7 @@ mod tighten;
 mod verify;
 
 pub use grain_flat::{
-    CBase, CCase, CChain, CChunk, CConstant, CEntry, CExplained, CField, CInstruction, CPlace,
+    CBase, CCase, CChain, CChunk, CConstant, CEntry, CExplanation, CField, CInstruction, CPlace,
     CPools, CPoolsFlaw, CProgram, CRefusal, CReport, CRow, CStep, CSwitch,
 };
 pub use handle::CScratch;

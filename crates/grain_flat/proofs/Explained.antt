@@ -1,16 +1,19 @@
 -- One chunk that is explained, beside the pools that are made of a flat form.
-use Rattle.std.proofs.Common.{◌≡◌, ℕ, List, [], ◌∷◌, ◌++◌, length, map, ap, refl, subst, ◌∙◌, arith}
+use Rattle.std.proofs.Common.{◌≡◌, ℕ, List, [], ◌∷◌, ◌++◌, length, map, ap, refl, sym, subst, ◌∙◌, arith}
 use Rattle.std.specs.List.{AllZip}
 use Rattle.std.proofs.lemmas.List.{length-append}
 use Rattle.grain_rules.specs.Code.{Bytecode, bytecode_beside, switch_targets}
 use Rattle.grain_bytecode.specs.Dispatch.{arms, arm_targets}
 use Rattle.grain_rules.specs.Facts.{case_consts, facts_with}
 use Rattle.grain_names.specs.Names.{names_in}
-use Rattle.grain_explain.specs.Explaining.{IsExact, IsExplained}
+use Rattle.grain_rules.specs.Accepted.{AreIndexed}
+use Rattle.grain_explain.specs.Explaining.{IsCause, IsExact, IsExplained}
 use Rattle.grain_bytecode.specs.Span.{Span}
+use Rattle.grain_explain.specs.declared.refusal.ExplainError.{ExplainError}
 use Rattle.grain_explain.specs.declared.refusal.ExplainedChunk.{ExplainedChunk}
 use Rattle.grain_bytecode.specs.declared.Chain.{Chain}
 use Rattle.grain_bytecode.specs.declared.Switch.{Switch}
+use Rattle.grain_flat.specs.Explaining.{Beside, IsFlatCause}
 use Rattle.grain_flat.specs.Flat.{arm_constants, code_with}
 use Rattle.grain_flat.specs.declared.records.CPools.{CPools}
 use Rattle.grain_flat.proofs.ChainRows.{map_told}
@@ -36,3 +39,10 @@ beside_made caps bytes p names chains made switches given names_are chains_are s
     let cases = ap (map case_consts) switches_are ∙ map_told case_consts arms arm_constants (λ s. refl) given in
     let leads = ap (map switch_targets) switches_are ∙ map_told switch_targets arms arm_targets (λ s. refl) given in
     λ k. bytecode_beside caps (record (facts_with (length p.constants.now) (names_are k) p.operators p.op_assignments p.fragments (chains_are k) []) { cases = cases k }) (leads k) bytes
+
+-- why nothing is explained, of the flat form
+pub flat_cause : (caps : ℕ) (bytes : List ℕ) (p : CPools) (beside : Beside p) (code : Bytecode) (e : ExplainError) → code ≡ code_with caps bytes p beside.chains beside.switches → IsCause code e → IsFlatCause caps bytes p e
+flat_cause caps bytes p beside code e is cause = record {
+  bad = λ named. (beside, λ indexed. cause.bad named (subst (λ (b : Bytecode). AreIndexed b.setting b.bytes) (sym is) indexed));
+  good = λ named. (beside, subst (λ (b : Bytecode). AreIndexed b.setting b.bytes) is (cause.good (λ bad. cc)));
+}

@@ -1,16 +1,16 @@
 //! Why a chunk is accepted or refused, as rows that cross to C.
-ghost use Rattle.std.specs.Prelude.{◌≡◌, ◌++◌, IfOk, OnOk, map, zip};
-ghost use Rattle.grain_flat.specs.Explaining.{ExplainsChunk, IsMadeOfRows, base_told, bases_told, way_told};
-ghost use Rattle.grain_flat.specs.Explaining.{other_of, row_told, way_of};
+ghost use Rattle.std.specs.Prelude.{◌≡◌, ◌++◌, IfErr, IfOk, OnOk, map, reverse, zip};
+ghost use Rattle.grain_flat.specs.Explaining.{ExplainsChunk, IsFlatCause, IsMadeOfRows, base_row};
+ghost use Rattle.grain_flat.specs.Explaining.{list_place, other_of, path_row, row_told, way_of};
 ghost use Rattle.grain_flat.specs.Flat.{IsFlat};
 
 use crate::build::make;
-use crate::kinds::NO_ADDRESS;
-use crate::records::{CBase, CChunk, CExplained, CPools, CRow};
+use crate::kinds::{NO_ADDRESS, NO_BASE};
+use crate::records::{CBase, CChunk, CPools, CRow};
 use grain_base::Caps;
 use grain_bytecode::Chunk;
 use grain_explain::{
-    Base, ExplainError, ExplainedChunk, Refusal as ExplainedRefusal, Row, explain_chunks,
+    ExplainError, ExplainedChunk, LinkedBase, Refusal as ExplainedRefusal, Row, explain_chunks,
 };
 use grain_rules::Pools;
 use std::alloc::{AllocError, Global};
@@ -27,9 +27,12 @@ pub fn explain_chunk(
     pools: &CPools<'_>,
 ) -> Result<ExplainedChunk, ExplainError>
     requires { IsFlat pools.now }
-    ensures { IfOk result (ExplainsChunk caps.0 code.now chunk.now pools.now) }
+    ensures explained { IfOk result (ExplainsChunk caps.0 code.now chunk.now pools.now) }
+    ensures cause { IfErr result (IsFlatCause caps.0 code.now pools.now) }
 {
-    let made = make(alloc, pools)?;
+    let Ok(made) = make(alloc, pools) else {
+        return Err(ExplainError::OutOfMemory);
+    };
     let given = Pools {
         consts: pools.constants.len(),
         names: &made.names,
@@ -40,14 +43,24 @@ pub fn explain_chunk(
         switches: &made.switches,
     };
     let chunks = [Chunk::new(chunk.entry, chunk.end, chunk.max_stack)];
-    let mut explained = explain_chunks(alloc, caps, code, &chunks, &given)?;
+    let mut explained = match explain_chunks(alloc, caps, code, &chunks, &given) {
+        Ok(explained) => explained,
+        Err(error) => return Err(error),
+    };
     match explained.pop() {
         Some(explained) => Ok(explained),
-        None => Err(ExplainError::Unfinished),
+        None => unreachable!(),
     }
 }
 
-/// What stands at an instruction, and from where that was come to first.
+/// The place of the first base of a list, or that there is none.
+fn place_of(list: u32) -> u32
+    ensures { result ≡ list_place list }
+{
+    if list == 0 { NO_BASE } else { list - 1 }
+}
+
+/// What stands at an instruction, and from where an edge leads there.
 fn row_of(row: &Row, from: Option<u32>) -> CRow
     ensures { result ≡ row_told (row.now, from) }
 {
@@ -56,51 +69,36 @@ fn row_of(row: &Row, from: Option<u32>) -> CRow
         operands: row.operands,
         iterators: row.iterators,
         from: from.unwrap_or(NO_ADDRESS),
-        bases: row.bases.len(),
+        base: place_of(row.bases),
     }
 }
 
-fn base_of(base: &Base) -> CBase
-    ensures { result ≡ base_told base.now }
+fn base_of(base: &LinkedBase) -> CBase
+    ensures { result ≡ base_row base.now }
 {
     CBase {
-        operands: base.operands(),
-        iterators: base.iterators(),
+        operands: base.operands,
+        iterators: base.iterators,
+        next: place_of(base.next),
     }
 }
 
-/// What is told of a chunk.
+/// An explained chunk as rows.
 #[derive(Drop)]
 pub struct ToldRows {
-    /// The rows, and then those of the ways.
+    /// What stands at each instruction that was visited, and then the rows of the paths.
     pub rows: Vec<CRow>,
-    /// The bases of all rows.
+    /// The bases.
     pub bases: Vec<CBase>,
-    /// How many of each there are.
-    pub explained: CExplained,
+    /// How many rows say what stands at an instruction.
+    pub visited: usize,
+    /// How many rows the path to the flaw has.
+    pub path: usize,
+    /// How many rows the other path has.
+    pub other: usize,
 }
 
-/// Adds bases.
-fn add_bases(told: &mut Vec<CBase>, bases: &[Base]) -> Result<(), AllocError>
-    ensures { OnOk result (told.new.items ≡ told.old.items ++ map base_told bases.now) }
-{
-    for base in bases {
-        told.push(base_of(base))?;
-    }
-    Ok(())
-}
-
-/// Adds the bases of rows.
-fn add_all_bases(told: &mut Vec<CBase>, rows: &[Row]) -> Result<(), AllocError>
-    ensures { OnOk result (told.new.items ≡ told.old.items ++ bases_told rows.now) }
-{
-    for row in rows {
-        add_bases(told, &row.bases)?;
-    }
-    Ok(())
-}
-
-/// The rows, each with the address from which it was come to first.
+/// The rows, each with an address from which an edge leads there.
 fn rows_alone(alloc: Global, rows: &[Row], origins: &[Option<u32>]) -> Result<Vec<CRow>, AllocError>
     ensures { IfOk result (λ told. told.items ≡ map row_told (zip rows.now origins.now)) }
 {
@@ -110,11 +108,18 @@ fn rows_alone(alloc: Global, rows: &[Row], origins: &[Option<u32>]) -> Result<Ve
         .collect(alloc)
 }
 
-/// Adds the rows of a way.
-fn add_way(told: &mut Vec<CRow>, way: &[Row]) -> Result<(), AllocError>
-    ensures { OnOk result (told.new.items ≡ told.old.items ++ map way_told way.now) }
+/// The bases as they cross.
+fn bases_of(alloc: Global, bases: &[LinkedBase]) -> Result<Vec<CBase>, AllocError>
+    ensures { IfOk result (λ told. told.items ≡ map base_row bases.now) }
 {
-    for row in way {
+    bases.iter().map(base_of).collect(alloc)
+}
+
+/// Adds the rows of a way, from its first state on: it is listed from the last.
+fn add_path(told: &mut Vec<CRow>, way: &[Row]) -> Result<(), AllocError>
+    ensures { OnOk result (told.new.items ≡ told.old.items ++ map path_row (reverse way.now)) }
+{
+    for row in way.iter().rev() {
         told.push(row_of(row, None))?;
     }
     Ok(())
@@ -140,7 +145,7 @@ fn other_of(refusal: &Option<ExplainedRefusal>) -> &[Row]
     }
 }
 
-/// What is told of an explained chunk.
+/// An explained chunk as rows.
 ///
 /// # Errors
 /// A growth was refused.
@@ -149,22 +154,15 @@ pub fn rows_of(alloc: Global, chunk: &ExplainedChunk) -> Result<ToldRows, AllocE
 {
     let (way, other) = (way_of(&chunk.refusal), other_of(&chunk.refusal));
     let mut rows = rows_alone(alloc, &chunk.rows, &chunk.origins)?;
-    let count = rows.len();
-    add_way(&mut rows, way)?;
-    add_way(&mut rows, other)?;
-    let mut bases = Vec::new(alloc);
-    add_all_bases(&mut bases, &chunk.rows)?;
-    add_all_bases(&mut bases, way)?;
-    add_all_bases(&mut bases, other)?;
-    let explained = CExplained {
-        rows: count,
-        way: way.len(),
-        other: other.len(),
-        bases: bases.len(),
-    };
+    let visited = rows.len();
+    add_path(&mut rows, way)?;
+    add_path(&mut rows, other)?;
+    let bases = bases_of(alloc, &chunk.bases)?;
     Ok(ToldRows {
         rows,
         bases,
-        explained,
+        visited,
+        path: way.len(),
+        other: other.len(),
     })
 }

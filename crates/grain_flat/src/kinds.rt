@@ -41,3 +41,6 @@ pub const TARGET: u32 = 12;
 
 /// There is no address: that of an instruction is less.
 pub const NO_ADDRESS: u32 = 0xffff_ffff;
+
+/// There is no base: an index of one is less.
+pub const NO_BASE: u32 = 0xffff_ffff;

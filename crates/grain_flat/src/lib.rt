@@ -36,7 +36,7 @@ pub use line::Line;
 pub use listing::{fill, list_entries, list_sites};
 pub use printing::{instruction_text, refusal_text};
 pub use records::{
-    CBase, CCase, CChain, CChunk, CConstant, CEntry, CExplained, CField, CInstruction, CPlace,
+    CBase, CCase, CChain, CChunk, CConstant, CEntry, CExplanation, CField, CInstruction, CPlace,
     CPools, CPoolsFlaw, CProgram, CRefusal, CReport, CRow, CStep, CSwitch,
 };
 pub use refusals::told;

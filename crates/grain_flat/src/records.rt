@@ -215,7 +215,7 @@ pub struct CPlace {
     pub column: u32,
 }
 
-/// What stands at an instruction, or on a way to a flaw.
+/// What stands at an instruction when a run reaches it.
 #[repr(C)]
 #[derive(Clone, Copy)]
 pub struct CRow {
@@ -225,10 +225,10 @@ pub struct CRow {
     pub operands: u32,
     /// How many iterators there are.
     pub iterators: u32,
-    /// The address from which it was come to first, or [`crate::kinds::NO_ADDRESS`]: at the entry, and on a way.
+    /// An address from which an edge leads here, or [`crate::kinds::NO_ADDRESS`]: at the entry, and on a path.
     pub from: u32,
-    /// How many handlers are armed. So many bases are its own, that of the last handler first.
-    pub bases: usize,
+    /// The base of the last armed handler, an index into the bases, or [`crate::kinds::NO_BASE`].
+    pub base: u32,
 }
 
 /// The base of an armed handler.
@@ -239,18 +239,22 @@ pub struct CBase {
     pub operands: u32,
     /// How many iterators stood.
     pub iterators: u32,
+    /// The base of the handler that was armed before, an index into the bases, or [`crate::kinds::NO_BASE`].
+    pub next: u32,
 }
 
-/// How much is told of a chunk.
+/// What an explanation has.
 #[repr(C)]
 #[derive(Clone, Copy)]
-pub struct CExplained {
-    /// How many rows there are.
+pub struct CExplanation {
+    /// How many rows say what stands at each instruction that was visited.
     pub rows: usize,
-    /// How many rows of the way to the flaw stand behind them, the last state first; none where there is no flaw.
-    pub way: usize,
-    /// How many rows of another way stand behind those; none but of a conflict.
+    /// How many rows of the path to the flaw stand behind them, from the entry on; none where there is no flaw.
+    pub path: usize,
+    /// How many rows of another path stand behind those; none except for a conflict.
     pub other: usize,
-    /// How many bases all of these have.
+    /// How many bases there are.
     pub bases: usize,
+    /// Why the chunk is refused, where it is.
+    pub refusal: CRefusal,
 }
