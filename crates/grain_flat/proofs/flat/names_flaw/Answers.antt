@@ -1,4 +1,4 @@
-use Rattle.std.proofs.Common.{◌≡◌, ℕ, None, ap, subst, sym, ◌∙◌, get_or, ◌+◌}
+use Rattle.std.proofs.Common.{◌≡◌, ℕ, None, subst, ◌∙◌, get_or}
 use Rattle.grain_names.specs.Names.{span_flaw}
 use Rattle.grain_flat.proofs.PoolsFlaws.{cut_more, flaw_after, flaw_none, next_start, rest_of}
 use Rattle.grain_flat.proofs.flat.names_flaw.Goals as goal
@@ -15,8 +15,8 @@ loop-index-preserved c =
       same = before.same ∙ flaw_after blob (rest_of starts) c.loop-index.from i c.loop-index-test.true cut;
       from_is = next;
       earlier = cut_more blob starts i before.earlier (
-        subst (λ (to : ℕ). span_flaw blob (get_or starts i 0) to ≡ None) next (subst (λ (from : ℕ). span_flaw blob from (get_or (rest_of starts) i 0) ≡ None) before.from_is cut)
-      );
+          subst (λ (to : ℕ). span_flaw blob (get_or starts i 0) to ≡ None) next (subst (λ (from : ℕ). span_flaw blob from (get_or (rest_of starts) i 0) ≡ None) before.from_is cut)
+          );
     }
 
 pub returns-clause-none : goal.returns-clause-none
