@@ -1,5 +1,5 @@
 -- What a verification answers.
-use Rattle.std.specs.Prelude.{◌≡◌, ◌≢◌, ◌⊎◌, ◌↔◌, ℕ, ◌<◌, ◌≤◌, All, List, Option, Result, Ok, Err, Vec, length}
+use Rattle.std.specs.Prelude.{◌≡◌, ◌≢◌, ◌⊎◌, ◌↔◌, ℕ, ◌<◌, ◌≤◌, All, Option, Result, Ok, Err, Vec, length}
 use Rattle.std.specs.declared.alloc.Global.{Global}
 use Rattle.grain_rules.specs.declared.error.VerifyError.{VerifyError}
 use Rattle.grain_flat.specs.Answers.{Refuses, Visits, VisitsWithin, told}

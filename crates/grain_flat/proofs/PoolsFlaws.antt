@@ -1,6 +1,6 @@
 -- Where an entry is wrong, the form isn't flat.
-use Rattle.std.proofs.Common.{◌≡◌, ℕ, ◌+◌, ◌-◌, ◌<◌, ◌≤◌, suc, zero, inl, inr, List, [], ◌∷◌, Bool, true, false, Option, Some, None, get_or, add-one, length, take, drop, cond, nat_eq, nat_lt, refl, subst, sym, ap, ◌∙◌, arith}
-use Rattle.std.specs.Prelude.{is_some, not, sum_by, MatchBool, MatchOption}
+use Rattle.std.proofs.Common.{◌≡◌, ℕ, ◌+◌, ◌-◌, ◌<◌, ◌≤◌, suc, zero, inl, inr, List, [], ◌∷◌, Bool, true, false, Option, Some, None, get_or, add-one, length, take, drop, cond, nat_eq, refl, subst, sym, ap, ◌∙◌, arith}
+use Rattle.std.specs.Prelude.{is_some, not, MatchBool, MatchOption}
 use Rattle.std.specs.List.{All, AllWithin}
 use Rattle.std.specs.Option.{option_or}
 use Rattle.std.proofs.lemmas.Bool.{cases_lt}
@@ -10,7 +10,7 @@ use Rattle.std.proofs.lemmas.List.Sums.{sum_by-take-le}
 use Rattle.grain_names.specs.Names.{first_flaw, flaw_from, span_flaw}
 use Rattle.grain_names.specs.declared.strings.BadTable.{BadTable}
 use Rattle.grain_flat.specs.Flat.{IsFlat, Pooled}
-use Rattle.grain_flat.specs.PoolsFlaws.{ArmsFlaw, IsBadName, IsCut, IsFirstBadName, IsFirstOther, PoolsFlaw, StepsFlaw, all_cases, all_ranges, all_steps, chain_overruns, step_left, switch_overruns, case_left, range_left, wrong_constant, wrong_chain, wrong_step, wrong_steps, wrong_arms, wrong_name}
+use Rattle.grain_flat.specs.PoolsFlaws.{ArmsFlaw, IsBadName, IsCut, IsFirstOther, PoolsFlaw, StepsFlaw, all_cases, all_ranges, all_steps, chain_overruns, step_left, switch_overruns, case_left, range_left, wrong_constant, wrong_chain, wrong_step, wrong_steps, wrong_arms, wrong_name}
 use Rattle.grain_flat.specs.declared.records.CPools.{CPools}
 use Rattle.grain_flat.specs.declared.records.CPoolsFlaw.{CPoolsFlaw}
 use Rattle.grain_flat.specs.declared.records.CChain.{CChain}

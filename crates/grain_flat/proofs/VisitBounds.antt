@@ -1,5 +1,5 @@
 -- No more instructions are visited than the chunks span bytes of the code.
-use Rattle.std.proofs.Common.{◌≡◌, ◌≢◌, ℕ, ◌+◌, ◌-◌, ◌<◌, ◌≤◌, ◌^◌, ◌⊎◌, suc, zero, inl, inr, max, min, Bool, true, false, List, [], ◌∷◌, Option, Some, None, Vec, length, nat_eq, nat_le, nat_lt, ◌&&◌, cond, replicate, refl, sym, subst, arith}
+use Rattle.std.proofs.Common.{◌≡◌, ℕ, ◌+◌, ◌-◌, ◌<◌, ◌≤◌, suc, zero, inl, inr, max, min, Bool, true, false, List, [], ◌∷◌, None, length, nat_eq, nat_le, nat_lt, ◌&&◌, cond, replicate, refl, subst, arith}
 use Rattle.std.specs.Prelude.{sum_by}
 use Rattle.std.specs.List.{All, AllByRecursion, AllZip, Contains, IsDistinct}
 use Rattle.std.proofs.lemmas.Bool.{cases_lt}
@@ -8,17 +8,15 @@ use Rattle.std.proofs.lemmas.List.{length-replicate}
 use Rattle.std.proofs.lemmas.List.Sums.{sum_by-cons}
 use Rattle.std.proofs.lemmas.Map.Keys.{IsDistinct-cons, IsDistinct-head, IsDistinct-tail}
 use Rattle.grain_bytecode.specs.Span.{Span}
-use Rattle.grain_bytecode.specs.Split.{Split}
 use Rattle.grain_bytecode.specs.InstructionTable.{width_of}
 use Rattle.grain_bytecode.specs.declared.Function.{Function}
 use Rattle.grain_values.specs.declared.access.FnAccess.TheVariants as access
 use Rattle.grain_rules.specs.Accepted.{ChunkPasses}
 use Rattle.grain_rules.specs.Code.{Bytecode, coded}
-use Rattle.grain_rules.specs.Counts.{Counts}
-use Rattle.grain_rules.specs.Typing.{HasTyping, IsReachedCount, Reached}
+use Rattle.grain_rules.specs.Typing.{IsReachedCount}
 use Rattle.grain_rules.proofs.Law.{typing_covers}
 use Rattle.grain_rules.proofs.Splits.{SplitsFrom, in_head, in_tail, split_splits, width_pos}
-use Rattle.grain_verify.specs.Meter.{AreReached, starts_within}
+use Rattle.grain_verify.specs.Meter.{starts_within}
 use Rattle.grain_flat.specs.Answers.{Accepts, Visits, VisitsWithin}
 use Rattle.grain_flat.specs.Flat.{Pooled, Rest, rest_input}
 use Rattle.grain_flat.specs.Work.{spanned, work_of}

@@ -1,6 +1,5 @@
 use Rattle.std.proofs.Common.{◌≡◌, ℕ, rules, subst, sym}
 use Rattle.grain_flat.specs.Answers.{Accepts, Refuses, Visits, told}
-use Rattle.grain_flat.specs.Judging.{IsStop}
 use Rattle.grain_flat.specs.declared.records.CRefusal.{CRefusal}
 use Rattle.grain_c.specs.Answers.{IsAnswer}
 use Rattle.grain_c.specs.declared.status.TheConstants.{ACCEPTED, REFUSED}
@@ -21,7 +20,7 @@ returns-in-Ok-clause-answer c =
     let visits = subst (λ (caps : ℕ). Visits caps p.code.now p.chunks.now p.pools counted.0) same counted.1 in
     let within = accepted_visits c.args.caps limit p room old clear found counted.0 accepts visits in
     let shown : c.shown-report.result ≡ counted.0 =
-      shows c.new-meter.result c.verdict-judged.new.meter counted.0 limit c.shown-report.result c.new-meter.ensures counted.2 c.shown-report.ensures within c.ranges.limit.fits in
+    shows c.new-meter.result c.verdict-judged.new.meter counted.0 limit c.shown-report.result c.new-meter.ensures counted.2 c.shown-report.ensures within c.ranges.limit.fits in
     subst (λ (n : ℕ). IsAnswer c.args.caps limit p room old (record old { visited = n }) ACCEPTED) (sym shown) (accepted c.args.caps limit p room old clear found counted.0 accepts visits)
 
 pub returns-in-Err-Refused-clause-answer : goal.returns-in-Err-Refused-clause-answer
@@ -39,7 +38,7 @@ returns-in-Err-Refused-clause-answer c =
     let refuses = subst (λ (caps : ℕ). Refuses caps p.code.now p.chunks.now p.pools place error) same stopped in
     let within = refused_visits c.args.caps limit p room old clear counted.0 counted.1 in
     let shown : c.shown.result ≡ counted.0 =
-      shows c.new-meter.result c.verdict-judged.new.meter counted.0 limit c.shown.result c.new-meter.ensures counted.2 c.shown.ensures within c.ranges.limit.fits in
+    shows c.new-meter.result c.verdict-judged.new.meter counted.0 limit c.shown.result c.new-meter.ensures counted.2 c.shown.ensures within c.ranges.limit.fits in
     subst (λ (r : CRefusal). IsAnswer c.args.caps limit p room old (record { refusal = r; visited = c.shown.result }) REFUSED) (sym c.told.ensures)
     (subst (λ (n : ℕ). IsAnswer c.args.caps limit p room old (record { refusal = told place error; visited = n }) REFUSED) (sym shown)
     (refused c.args.caps limit p room old clear place error counted.0 refuses counted.1))

@@ -1,4 +1,4 @@
-use Rattle.std.proofs.Common.{◌≡◌, ◌-◌, ◌<◌, ℕ, min, inr, List, ◌++◌, length, set, take, drop, ap, ◌∙◌, arith}
+use Rattle.std.proofs.Common.{◌≡◌, ◌-◌, ◌<◌, ℕ, min, inr, List, ◌++◌, length, set, drop, ap, ◌∙◌, arith}
 use Rattle.grain_c.proofs.Printing.{ended}
 use Rattle.grain_c.proofs.text.print.Goals as goal
 

@@ -1,4 +1,4 @@
-use Rattle.std.proofs.Common.{◌≡◌, ◌+◌, ◌≤◌, ◌<◌, List, take, subst, sym, arith}
+use Rattle.std.proofs.Common.{◌≡◌, ◌+◌, List, take, subst, sym, arith}
 use Rattle.std.proofs.lemmas.List.Sums.{sum_by_more}
 use Rattle.std.proofs.lemmas.List.{take_all}
 use Rattle.grain_flat.specs.PoolsFlaws.{ArmsFlaw, all_cases, all_ranges, switch_overruns, case_left, range_left}

@@ -1,5 +1,5 @@
 use Rattle.std.proofs.Common.{subst, sym}
-use Rattle.grain_flat.specs.PoolsFlaws.{AreArmed, AreRows, AreStepped, PoolsFlaw, wrong_constant, wrong_chain, wrong_step, wrong_steps, wrong_arms, wrong_name}
+use Rattle.grain_flat.specs.PoolsFlaws.{AreArmed, AreRows, PoolsFlaw, wrong_constant, wrong_chain, wrong_step, wrong_steps, wrong_arms, wrong_name}
 use Rattle.grain_flat.proofs.Flatness.{pooled}
 use Rattle.grain_flat.proofs.PoolsFlaws.{not_pooled}
 use Rattle.grain_flat.proofs.flat.pools_flaw.Goals as goal
