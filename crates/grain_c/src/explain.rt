@@ -1,5 +1,5 @@
 //! Why a chunk is accepted or refused.
-ghost use Rattle.std.specs.Prelude.{◌≡◌, ◌≢◌, ◌≤◌, ◌↔◌, Some, None, length};
+ghost use Rattle.std.specs.Prelude.{◌≡◌, ◌≢◌, ◌<◌, ◌≤◌, ◌↔◌, IfNone, IfSome, Some, None, length, slice_get};
 ghost use Rattle.grain_explain.specs.declared.refusal.ExplainedChunk.{ExplainedChunk};
 ghost use Rattle.grain_explain.specs.declared.refusal.Refusal.{Refusal};
 ghost use Rattle.grain_c.specs.Explained.{ExplainsAt};
@@ -8,14 +8,25 @@ ghost use Rattle.grain_flat.specs.Explaining.{Beside, IsIndexedBeside, IsToldIn}
 ghost use Rattle.grain_flat.specs.Flat.{Pooled};
 
 use crate::status::{
-    ACCEPTED, BAD_CODE, NO_CHUNK, NOT_FLAT, OUT_OF_MEMORY, REFUSED, SHORT, TOO_MUCH_WORK, UNFINISHED,
+    ACCEPTED, BAD_CODE, NO_CHUNK, NOT_FLAT, OUT_OF_MEMORY, REFUSED, SHORT, TOO_MUCH_WORK,
+    UNFINISHED,
 };
 use grain_base::{Caps, Flags};
 use grain_explain::{ExplainError, ExplainedChunk};
 use grain_flat::{
-    CBase, CExplanation, CProgram, CRow, ToldRows, explain_chunk, fill, is_flat, rows_of, told,
+    CBase, CChunk, CExplanation, CProgram, CRow, ToldRows, explain_chunk, fill, is_flat, rows_of,
+    told,
 };
 use std::alloc::Global;
+
+/// The chunk with an index, if there is one.
+fn chunk_at(chunks: &[CChunk], index: usize) -> Option<&CChunk>
+    ensures some { IfSome result (λ chunk. slice_get chunks.now index ≡ Some chunk.now) }
+    ensures none { IfNone result (length chunks.now ≤ index) }
+    ensures inside { IfSome result (λ _. index < length chunks.now) }
+{
+    chunks.get(index)
+}
 
 /// What is said of an explained chunk, whose rows are these.
 fn counts_of(found: &ExplainedChunk, made: &ToldRows, before: &CExplanation) -> CExplanation
@@ -83,7 +94,7 @@ pub extern "C" fn grain_proved_explain(
     if !is_flat(&program.pools) {
         return NOT_FLAT;
     }
-    let Some(span) = program.chunks.get(chunk) else {
+    let Some(span) = chunk_at(program.chunks, chunk) else {
         return NO_CHUNK;
     };
     let caps = Caps::from_bits_retain(caps);
