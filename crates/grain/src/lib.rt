@@ -27,7 +27,7 @@ pub use grain_bytecode::{
     tag_row, u16_at, u32_at, width,
 };
 pub use grain_explain::{
-    Base, ExplainError, ExplainedChunk, Refusal as ExplainedRefusal, Row, TypingError,
+    ExplainError, ExplainedChunk, LinkedBase, Refusal as ExplainedRefusal, Row, TypingError,
     check_typing, explain_chunks,
 };
 pub use grain_program::{Parts, Program, Sidecar};

@@ -8,6 +8,7 @@ ghost use Rattle.grain_list.specs.Listed.{Explains, IsShown};
 
 use crate::code::CodeListing;
 use crate::explained::{explained_of, write_explained};
+use crate::handlers::all_depths;
 use crate::problem::Problem;
 use grain::{Chunk, Explained};
 use grain_cases::{Case, case_of, write_verdict};
@@ -22,6 +23,8 @@ pub struct ProgramListing {
     pub chunks: Vec<Chunk>,
     /// Its verdict, and where the tests before the chunks pass each chunk explained.
     pub explained: Explained,
+    /// For each explained chunk, how many bases are in each of its lists.
+    pub depths: Vec<Vec<usize>>,
 }
 
 /// What is shown behind the verdict.
@@ -80,11 +83,15 @@ fn body_of(
         Some(Case::Verify { code, chunks, .. }) => {
             let code = CodeListing::of(alloc, code)?;
             match explained {
-                Some(explained) => Ok(Body::Program(ProgramListing {
-                    code,
-                    chunks,
-                    explained,
-                })),
+                Some(explained) => {
+                    let depths = all_depths(alloc, &explained.chunks)?;
+                    Ok(Body::Program(ProgramListing {
+                        code,
+                        chunks,
+                        explained,
+                        depths,
+                    }))
+                }
                 None => Ok(Body::Unexplained(code)),
             }
         }

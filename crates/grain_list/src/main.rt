@@ -9,6 +9,7 @@
 mod code;
 mod driver;
 mod explained;
+mod handlers;
 mod listing;
 mod object;
 mod paint;

@@ -1,12 +1,19 @@
 //! A listing as a line of JSON, for programs.
 
 use crate::code::{CodeListing, flow_of, target_of};
+use crate::handlers::{Handlers, SHOWN};
 use crate::listing::{Body, Listing, ProgramListing};
 use crate::sentence::{rule, write_wrong};
-use crate::text::{row_at, write_hex};
-use grain::{Base, Chunk, ExplainedChunk, ExplainedRefusal, Flow, Op, Row, VerifyError};
+use crate::text::{depths_at, row_at, write_hex};
+use grain::{Chunk, ExplainedChunk, ExplainedRefusal, Flow, LinkedBase, Op, Row, VerifyError};
 use json::Writer;
 use std::alloc::{AllocError, Global};
+
+/// Those of what has no rows.
+const NO_HANDLERS: Handlers<'static> = Handlers {
+    bases: &[],
+    depths: &[],
+};
 
 fn write_number(name: &str, number: u64, json: &mut Writer) -> Result<(), AllocError> {
     json.key(name)?;
@@ -49,46 +56,62 @@ fn begin_object(name: &str, json: &mut Writer) -> Result<(), AllocError> {
 }
 
 /// Writes the base of an armed handler.
-fn write_base(base: &Base, json: &mut Writer) -> Result<(), AllocError> {
+fn write_base(base: &LinkedBase, json: &mut Writer) -> Result<(), AllocError> {
     json.begin_object()?;
-    write_number("operands", u64::from(base.operands()), json)?;
-    write_number("iterators", u64::from(base.iterators()), json)?;
+    write_number("operands", u64::from(base.operands), json)?;
+    write_number("iterators", u64::from(base.iterators), json)?;
     json.end_object()
 }
 
-fn write_bases(bases: &[Base], json: &mut Writer) -> Result<(), AllocError> {
+/// Writes how many handlers are armed, and the bases of the last of them.
+fn write_bases(handlers: Handlers<'_>, list: u32, json: &mut Writer) -> Result<(), AllocError> {
+    write_number("handlers", handlers.count(list) as u64, json)?;
     begin_array("bases", json)?;
-    for base in bases {
+    let mut rest = list;
+    for _ in 0..SHOWN {
+        let Some(base) = handlers.last(rest) else {
+            break;
+        };
         write_base(base, json)?;
+        rest = base.next;
     }
     json.end_array()
 }
 
 /// Writes what stands at an address.
-fn write_state(row: &Row, json: &mut Writer) -> Result<(), AllocError> {
+fn write_state(handlers: Handlers<'_>, row: &Row, json: &mut Writer) -> Result<(), AllocError> {
     json.begin_object()?;
     write_number("at", u64::from(row.at), json)?;
     write_number("operands", u64::from(row.operands), json)?;
     write_number("iterators", u64::from(row.iterators), json)?;
-    write_bases(&row.bases, json)?;
+    write_bases(handlers, row.bases, json)?;
     json.end_object()
 }
 
 /// Writes a way, the chunk's entry first.
-fn write_way(name: &str, way: &[Row], json: &mut Writer) -> Result<(), AllocError> {
+fn write_way(
+    name: &str,
+    handlers: Handlers<'_>,
+    way: &[Row],
+    json: &mut Writer,
+) -> Result<(), AllocError> {
     begin_array(name, json)?;
     for row in way.iter().rev() {
-        write_state(row, json)?;
+        write_state(handlers, row, json)?;
     }
     json.end_array()
 }
 
 /// Writes what stands at an instruction, and from where that was come to.
-fn write_found(found: Option<(&Row, Option<u32>)>, json: &mut Writer) -> Result<(), AllocError> {
+fn write_found(
+    handlers: Handlers<'_>,
+    found: Option<(&Row, Option<u32>)>,
+    json: &mut Writer,
+) -> Result<(), AllocError> {
     match found {
         Some((row, from)) => {
             json.key("state")?;
-            write_state(row, json)?;
+            write_state(handlers, row, json)?;
             write_option("from", from, json)
         }
         None => {
@@ -123,6 +146,7 @@ fn write_item(
     alloc: Global,
     code: &CodeListing,
     item: &(usize, Op),
+    handlers: Handlers<'_>,
     found: Option<(&Row, Option<u32>)>,
     json: &mut Writer,
 ) -> Result<(), AllocError> {
@@ -132,7 +156,7 @@ fn write_item(
     write_bytes(alloc, code.bytes_at(*at), json)?;
     write_op(alloc, op, json)?;
     write_flow(flow_of(op), json)?;
-    write_found(found, json)?;
+    write_found(handlers, found, json)?;
     json.end_object()
 }
 
@@ -159,6 +183,7 @@ fn write_sentence(
 fn write_refusal(
     alloc: Global,
     error: &VerifyError,
+    handlers: Handlers<'_>,
     way: &[Row],
     other: &[Row],
     json: &mut Writer,
@@ -167,20 +192,21 @@ fn write_refusal(
     write_error(alloc, error, json)?;
     write_sentence(alloc, error, way, other, json)?;
     write_words("rule", rule(error), json)?;
-    write_way("way", way, json)?;
-    write_way("other", other, json)?;
+    write_way("way", handlers, way, json)?;
+    write_way("other", handlers, other, json)?;
     json.end_object()
 }
 
 /// Writes why a chunk is refused, if it is.
 fn write_chunk_refusal(
     alloc: Global,
+    handlers: Handlers<'_>,
     refusal: &Option<ExplainedRefusal>,
     json: &mut Writer,
 ) -> Result<(), AllocError> {
     match refusal {
         Some(ExplainedRefusal { error, way, other }) => {
-            write_refusal(alloc, error, way, other, json)
+            write_refusal(alloc, error, handlers, way, other, json)
         }
         None => write_null("refusal", json),
     }
@@ -192,11 +218,12 @@ fn write_chunk_items(
     code: &CodeListing,
     chunk: &Chunk,
     explained: &ExplainedChunk,
+    handlers: Handlers<'_>,
     json: &mut Writer,
 ) -> Result<(), AllocError> {
     begin_array("items", json)?;
     for item in code.between(chunk.entry() as usize, chunk.end() as usize) {
-        write_item(alloc, code, item, row_at(explained, item.0), json)?;
+        write_item(alloc, code, item, handlers, row_at(explained, item.0), json)?;
     }
     json.end_array()
 }
@@ -206,14 +233,19 @@ fn write_chunk(
     code: &CodeListing,
     chunk: &Chunk,
     explained: &ExplainedChunk,
+    depths: &[usize],
     json: &mut Writer,
 ) -> Result<(), AllocError> {
+    let handlers = Handlers {
+        bases: &explained.bases,
+        depths,
+    };
     json.begin_object()?;
     write_number("entry", u64::from(chunk.entry()), json)?;
     write_number("end", u64::from(chunk.end()), json)?;
     write_number("declared", u64::from(chunk.max_stack()), json)?;
-    write_chunk_refusal(alloc, &explained.refusal, json)?;
-    write_chunk_items(alloc, code, chunk, explained, json)?;
+    write_chunk_refusal(alloc, handlers, &explained.refusal, json)?;
+    write_chunk_items(alloc, code, chunk, explained, handlers, json)?;
     json.end_object()
 }
 
@@ -245,7 +277,7 @@ fn write_early_refusal(alloc: Global, body: &Body, json: &mut Writer) -> Result<
         Body::Bad(_) | Body::Site | Body::Code(_) | Body::Unexplained(_) => None,
     };
     match error {
-        Some(error) => write_refusal(alloc, error, &[], &[], json),
+        Some(error) => write_refusal(alloc, error, NO_HANDLERS, &[], &[], json),
         None => write_null("refusal", json),
     }
 }
@@ -264,7 +296,7 @@ fn write_items(alloc: Global, body: &Body, json: &mut Writer) -> Result<(), Allo
     begin_array("items", json)?;
     if let Some(code) = bare_code(body) {
         for item in &code.items {
-            write_item(alloc, code, item, None, json)?;
+            write_item(alloc, code, item, NO_HANDLERS, None, json)?;
         }
     }
     json.end_array()
@@ -273,8 +305,10 @@ fn write_items(alloc: Global, body: &Body, json: &mut Writer) -> Result<(), Allo
 fn write_chunks(alloc: Global, body: &Body, json: &mut Writer) -> Result<(), AllocError> {
     begin_array("chunks", json)?;
     if let Body::Program(program) = body {
-        for (chunk, explained) in program.chunks.iter().zip(program.explained.chunks.iter()) {
-            write_chunk(alloc, &program.code, chunk, explained, json)?;
+        let pairs = program.chunks.iter().zip(program.explained.chunks.iter());
+        for (place, (chunk, explained)) in pairs.enumerate() {
+            let depths = depths_at(program, place);
+            write_chunk(alloc, &program.code, chunk, explained, depths, json)?;
         }
     }
     json.end_array()

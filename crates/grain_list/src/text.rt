@@ -1,10 +1,11 @@
 //! A listing as text, for people.
 
 use crate::code::{CodeListing, flow_of, target_of};
+use crate::handlers::{Handlers, SHOWN};
 use crate::listing::{Body, Listing, ProgramListing};
 use crate::paint::{Kind, Paint};
 use crate::sentence::{rule, write_wrong};
-use grain::{Base, Chunk, ExplainedChunk, ExplainedRefusal, Flow, Op, Row, VerifyError};
+use grain::{Chunk, ExplainedChunk, ExplainedRefusal, Flow, Op, Row, VerifyError};
 use std::alloc::AllocError;
 
 /// How wide the column of bytes is at least.
@@ -12,9 +13,6 @@ const BYTES: usize = 14;
 
 /// How wide the columns of operands, iterators and bases are at least, with what is between them.
 const STATE: usize = 30;
-
-/// How many bases of a row are shown.
-const SHOWN_BASES: usize = 4;
 
 /// What stands behind the instruction at which a flaw is.
 const HERE: &str = "  <== here";
@@ -45,19 +43,24 @@ fn write_place(code: &CodeListing, at: usize, text: &mut String) -> Result<(), A
 }
 
 /// Writes the bases of armed handlers, that of the last first, and of many only the first of them.
-fn write_bases(bases: &[Base], text: &mut String) -> Result<(), AllocError> {
-    if bases.is_empty() {
+fn write_bases(handlers: Handlers<'_>, list: u32, text: &mut String) -> Result<(), AllocError> {
+    if list == 0 {
         return text.push_str("-");
     }
-    for (place, base) in bases.iter().take(SHOWN_BASES).enumerate() {
+    let mut rest = list;
+    for place in 0..SHOWN {
+        let Some(base) = handlers.last(rest) else {
+            break;
+        };
         if place > 0 {
             text.push_str(" ")?;
         }
-        let operands = base.operands();
-        let iterators = base.iterators();
+        let operands = base.operands;
+        let iterators = base.iterators;
         write!(text, "{operands}/{iterators}")?;
+        rest = base.next;
     }
-    let hidden = bases.len().saturating_sub(SHOWN_BASES);
+    let hidden = handlers.count(rest);
     if hidden > 0 {
         write!(text, " and {hidden} more")?;
     }
@@ -65,12 +68,12 @@ fn write_bases(bases: &[Base], text: &mut String) -> Result<(), AllocError> {
 }
 
 /// Writes what stands at an instruction, in columns.
-fn write_state(row: &Row, text: &mut String) -> Result<(), AllocError> {
+fn write_state(handlers: Handlers<'_>, row: &Row, text: &mut String) -> Result<(), AllocError> {
     let before = text.len();
     let operands = row.operands;
     let iterators = row.iterators;
     write!(text, "{operands:>8} {iterators:>9}  ")?;
-    write_bases(&row.bases, text)?;
+    write_bases(handlers, row.bases, text)?;
     pad(text.len().saturating_sub(before), STATE, text)
 }
 
@@ -124,6 +127,7 @@ fn unreached(chunk: &ExplainedChunk) -> &'static str {
 /// Writes a line of a chunk's table, without its end.
 fn write_item(
     code: &CodeListing,
+    handlers: Handlers<'_>,
     chunk: &ExplainedChunk,
     item: &(usize, Op),
     text: &mut String,
@@ -131,7 +135,7 @@ fn write_item(
     let (at, op) = item;
     write_place(code, *at, text)?;
     match row_at(chunk, *at) {
-        Some((row, _)) => write_state(row, text)?,
+        Some((row, _)) => write_state(handlers, row, text)?,
         None => {
             let said = unreached(chunk);
             text.push_str(said)?;
@@ -160,6 +164,7 @@ fn kind_of(chunk: &ExplainedChunk, at: usize) -> Kind {
 fn write_table(
     paint: Paint,
     code: &CodeListing,
+    handlers: Handlers<'_>,
     items: &[(usize, Op)],
     chunk: &ExplainedChunk,
     text: &mut String,
@@ -172,7 +177,7 @@ fn write_table(
     for item in items {
         let kind = kind_of(chunk, item.0);
         paint.begin(kind, text)?;
-        write_item(code, chunk, item, text)?;
+        write_item(code, handlers, chunk, item, text)?;
         paint.end(kind, text)?;
         text.push_str("\n")?;
     }
@@ -200,6 +205,7 @@ fn write_sentences(
 fn write_way(
     title: &str,
     code: &CodeListing,
+    handlers: Handlers<'_>,
     way: &[Row],
     text: &mut String,
 ) -> Result<(), AllocError> {
@@ -207,7 +213,7 @@ fn write_way(
     for row in way.iter().rev() {
         let at = row.at as usize;
         write_place(code, at, text)?;
-        write_state(row, text)?;
+        write_state(handlers, row, text)?;
         if let Some(op) = code.op_at(at) {
             write_op(op, text)?;
         }
@@ -220,6 +226,7 @@ fn write_way(
 fn write_refusal(
     paint: Paint,
     code: &CodeListing,
+    handlers: Handlers<'_>,
     refusal: &ExplainedRefusal,
     text: &mut String,
 ) -> Result<(), AllocError> {
@@ -229,10 +236,10 @@ fn write_refusal(
         return Ok(());
     }
     if other.is_empty() {
-        return write_way("The way there:", code, way, text);
+        return write_way("The way there:", code, handlers, way, text);
     }
-    write_way("One way there:", code, way, text)?;
-    write_way("The other:", code, other, text)
+    write_way("One way there:", code, handlers, way, text)?;
+    write_way("The other:", code, handlers, other, text)
 }
 
 /// Writes a chunk: its instructions with what stands there, and why it is refused, if it is.
@@ -242,8 +249,13 @@ fn write_chunk(
     place: usize,
     chunk: &Chunk,
     explained: &ExplainedChunk,
+    depths: &[usize],
     text: &mut String,
 ) -> Result<(), AllocError> {
+    let handlers = Handlers {
+        bases: &explained.bases,
+        depths,
+    };
     let entry = chunk.entry();
     let end = chunk.end();
     let declared = chunk.max_stack();
@@ -258,10 +270,10 @@ fn write_chunk(
     text.push_str("\n")?;
     let items = code.between(entry as usize, end as usize);
     if !items.is_empty() {
-        write_table(paint, code, items, explained, text)?;
+        write_table(paint, code, handlers, items, explained, text)?;
     }
     match &explained.refusal {
-        Some(refusal) => write_refusal(paint, code, refusal, text),
+        Some(refusal) => write_refusal(paint, code, handlers, refusal, text),
         None => Ok(()),
     }
 }
@@ -289,6 +301,14 @@ fn write_code(paint: Paint, code: &CodeListing, text: &mut String) -> Result<(),
     Ok(())
 }
 
+/// How many bases are in each list of the chunk at a place.
+pub fn depths_at(program: &ProgramListing, place: usize) -> &[usize] {
+    match program.depths.get(place) {
+        Some(depths) => depths,
+        None => &[],
+    }
+}
+
 /// Writes a program: its chunks, or its code and why it is refused, where it is refused before its chunks.
 fn write_program(
     paint: Paint,
@@ -305,7 +325,8 @@ fn write_program(
     }
     let pairs = program.chunks.iter().zip(explained.chunks.iter());
     for (place, (chunk, explained)) in pairs.enumerate() {
-        write_chunk(paint, &program.code, place, chunk, explained, text)?;
+        let depths = depths_at(program, place);
+        write_chunk(paint, &program.code, place, chunk, explained, depths, text)?;
     }
     Ok(())
 }

@@ -2,7 +2,9 @@
 use crate::samples::{assert_same, made, pools};
 use grain_base::{Caps, Flags};
 use grain_bytecode::{Chunk, Strings};
-use grain_explain::{ExplainError, ExplainedChunk, Row, TypingError, check_typing, explain_chunks};
+use grain_explain::{
+    ExplainError, ExplainedChunk, LinkedBase, Row, TypingError, check_typing, explain_chunks,
+};
 use grain_rules::VerifyError;
 use std::alloc::{AllocError, Global};
 use std::test::Fail;
@@ -42,7 +44,7 @@ fn are(rows: &[Row], wanted: &[Counts]) -> bool {
         return false;
     }
     for (row, counts) in rows.iter().zip(wanted.iter()) {
-        if (row.at, row.operands, row.iterators) != *counts || !row.bases.is_empty() {
+        if (row.at, row.operands, row.iterators) != *counts || row.bases != 0 {
             return false;
         }
     }
@@ -71,7 +73,7 @@ fn rows(alloc: Global, count: usize) -> Result<Vec<Row>, AllocError> {
             at,
             operands,
             iterators,
-            bases: Vec::new(alloc),
+            bases: 0,
         })?;
     }
     Ok(rows)
@@ -104,7 +106,7 @@ fn a_loop_has_these_rows(rt: HostRuntime) {
 fn checked(alloc: Global, declared: u16, rows: &[Row]) -> Result<Result<(), TypingError>, Fail> {
     let names = Strings::new(alloc, &[])?;
     let (pools, chunk) = (pools(&names), Chunk::new(0, 15, declared));
-    Ok(check_typing(Caps::empty(), &LOOP, &chunk, &pools, rows))
+    Ok(check_typing(Caps::empty(), &LOOP, &chunk, &pools, &[], rows))
 }
 
 /// The same of so many rows.
@@ -167,4 +169,52 @@ fn an_instruction_sinks_below_its_handler(rt: HostRuntime) {
     };
     assert_same(&rt, flaw_of(&chunks), Some(&flaw));
     assert_same(&rt, length_of_way(&chunks), Some(4));
+}
+
+/// `PushHandler` to what follows, three times, which the code below pops again.
+const NESTED: [u8; 20] = [
+    35, 18, 0, 0, 0, 35, 18, 0, 0, 0, 35, 18, 0, 0, 0, 34, 34, 34, 2, 19,
+];
+
+/// How many bases the first chunk has, and which list its row at an address names.
+fn lists_at(chunks: &[ExplainedChunk], at: u32) -> Option<(usize, u32)> {
+    let first = chunks.first()?;
+    let row = first.rows.iter().find(|row| row.at == at)?;
+    Some((first.bases.len(), row.bases))
+}
+
+#[test]
+fn nested_handlers_share_their_bases(rt: HostRuntime) {
+    let chunks = made(&rt, explained(rt.alloc(), Caps::all(), &NESTED, 20));
+    assert_same(&rt, lists_at(&chunks, 15), Some((3, 3)));
+}
+
+/// What is said of the first row of the loop where it names this list of these bases.
+fn checked_lists(
+    alloc: Global,
+    bases: &[LinkedBase],
+    list: u32,
+) -> Result<Result<(), TypingError>, Fail> {
+    let names = Strings::new(alloc, &[])?;
+    let (pools, chunk) = (pools(&names), Chunk::new(0, 15, 8));
+    let row = Row {
+        at: 0,
+        operands: 0,
+        iterators: 0,
+        bases: list,
+    };
+    Ok(check_typing(Caps::empty(), &LOOP, &chunk, &pools, bases, &[row]))
+}
+
+#[test]
+fn lists_have_to_be_there(rt: HostRuntime) {
+    let base = LinkedBase {
+        operands: 0,
+        iterators: 0,
+        next: 1,
+    };
+    let found = made(&rt, checked_lists(rt.alloc(), &[base], 0));
+    assert_same(&rt, found, Err(TypingError::Unlinked { base: 0 }));
+    let found = made(&rt, checked_lists(rt.alloc(), &[], 1));
+    assert_same(&rt, found, Err(TypingError::NoList { row: 0 }));
 }
