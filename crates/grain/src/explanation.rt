@@ -28,8 +28,7 @@ pub struct Explained {
 /// both, and memory as [`explain_chunks`] does.
 ///
 /// # Errors
-/// `OutOfMemory` where memory was refused; `Unfinished` as [`explain_chunks`] says. Both come only where the tests before the
-/// chunks pass, and `BadCode` never.
+/// `OutOfMemory` where memory was refused; `Unfinished` as [`explain_chunks`] says.
 #[tactic(auto, using(crate::proofs::Refusing::placed_explained, crate::proofs::Refusing::accepted_explained))]
 pub fn explain(
     alloc: Global,
