@@ -61,7 +61,7 @@ macro_rules! opcodes {
         /// assert_eq!((opcode.fields(), opcode.width()), (&[Kind::Target][..], 5));
         /// assert_eq!((opcode.flow(), opcode.is_quiet()), (Flow::Branches, false));
         /// assert_eq!(Opcode::decode(&code, 5), Some((Opcode::Return, [0; 3])));
-        /// assert_eq!(Opcode::decode(&code, 1), None);
+        /// assert_eq!(Opcode::decode(&[0xff], 0), None);
         /// ```
         #[derive(Clone, Copy, Debug, PartialEq, Eq, PartialOrd, Ord, Hash)]
         #[non_exhaustive]
