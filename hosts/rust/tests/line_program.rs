@@ -5,7 +5,7 @@ mod common;
 
 use common::chance::Chance;
 use common::line_of;
-use grain::{caps, Chunk};
+use grain::{Caps, Chunk};
 use std::collections::BTreeSet;
 use std::fmt::Write as _;
 use std::io::Write as _;
@@ -94,11 +94,8 @@ fn chunks(chance: &mut Chance, starts: &[usize], len: usize) -> Vec<Chunk> {
             let entry = if is_whole { 0 } else { chance.one_of(starts) };
             let end = if is_whole { len } else { chance.one_of(starts) };
             let odd = usize::from(chance.below(25) == 0);
-            Chunk {
-                entry: (entry + odd) as u32,
-                end: end as u32,
-                max_stack: chance.below(6) as u16,
-            }
+            let max_stack = chance.below(6) as u16;
+            Chunk::new((entry + odd) as u32, end as u32, max_stack)
         })
         .collect()
 }
@@ -108,9 +105,9 @@ fn case(chance: &mut Chance) -> (String, String) {
     let (code, starts) = code(chance);
     let chunks = chunks(chance, &starts, code.len());
     let caps = if chance.below(4) == 0 {
-        chance.next() as u16 & caps::ALL
+        Caps::from_bits_truncate(chance.next() as u16)
     } else {
-        caps::ALL
+        Caps::ALL
     };
     let mut line = format!("verify {caps:04x} ");
     for byte in &code {
