@@ -246,7 +246,7 @@ pub fn count_instructions(code: &[u8]) -> Result<usize, usize> {
 
 /// The instruction at an address, or `None` where none stands there.
 ///
-/// It asks the proved library. A machine decodes faster by [`Opcode::decode`].
+/// The proved library decodes it. A machine decodes faster by [`Opcode::decode`].
 #[must_use]
 pub fn instruction(code: &[u8], address: u32) -> Option<Instruction> {
     let at = address as usize;

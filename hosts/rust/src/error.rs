@@ -30,7 +30,7 @@ pub enum VerifyError {
     TooMuchWork,
     /// The code, or a list of the pools, is longer than 32 bits can say.
     TooLarge,
-    /// No pools have the flat form that was lent.
+    /// No pools have the flat form of the caller's lists.
     NotFlat(PoolsFlaw),
     /// There are fewer places for depths than chunks.
     TooFewDepths,
@@ -52,7 +52,7 @@ impl VerifyError {
     }
 }
 
-/// What is wrong in one word or two. The [source](Error::source) says more: a [`Refusal`] or a [`PoolsFlaw`].
+/// What is wrong, in a few words. The [source](Error::source) says more: a [`Refusal`] or a [`PoolsFlaw`].
 impl fmt::Display for VerifyError {
     fn fmt(&self, f: &mut fmt::Formatter<'_>) -> fmt::Result {
         f.pad(match self {
@@ -110,7 +110,7 @@ pub enum ExplainError {
     TooMuchWork,
     /// The code, or a list of the pools, is longer than 32 bits can say.
     TooLarge,
-    /// No pools have the flat form that was lent.
+    /// No pools have the flat form of the caller's lists.
     NotFlat(PoolsFlaw),
     /// The walk through the chunk found no end. No test has met this; it isn't excluded.
     Unfinished,

@@ -197,7 +197,7 @@ impl FusedIterator for Bases<'_> {}
 /// Explains a chunk of a program, by its index, or what a [`Refusal`] refuses: what stands at each reached instruction, and a
 /// path to the flaw; for a conflict, two. What is outside the chunks is tested too, and a refusal for it is shown first.
 ///
-/// Time and memory grow with the chunk; the code is read through once. No call ends the process where the allocator refuses.
+/// Memory grows with the chunk, and time with the chunk and the code. The process never ends where the allocator refuses.
 ///
 /// ```
 /// use grain::{explain, verify, Caps, Chunk, Flaw, Pools};
@@ -311,7 +311,7 @@ impl Explained<'_> {
     ) -> Result<(), ExplainError> {
         let (mut rows, mut bases) = (span, span);
         for _ in 0..2 {
-            let (status, found) = self.ask(caps, program, index, rows, bases)?;
+            let (status, found) = self.explain_into(caps, program, index, rows, bases)?;
             if !matches!(status, raw::ACCEPTED | raw::REFUSED) {
                 return Err(self.failure(status, index));
             }
@@ -331,7 +331,7 @@ impl Explained<'_> {
         Err(ExplainError::Unknown(raw::SHORT))
     }
 
-    fn ask(
+    fn explain_into(
         &mut self,
         caps: Caps,
         program: &raw::Program,
@@ -339,7 +339,7 @@ impl Explained<'_> {
         rows: usize,
         bases: usize,
     ) -> Result<(u32, raw::Explanation), ExplainError> {
-        // What is there of a first try goes before the second takes memory.
+        // What a first try took is freed before the second takes memory.
         (self.rows, self.bases) = (Vec::new(), Vec::new());
         (self.rows, self.bases) = (zeroed(rows)?, zeroed(bases)?);
         let mut found = raw::Explanation::default();

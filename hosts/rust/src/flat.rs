@@ -1,4 +1,4 @@
-//! Pools in their flat form, lent by the caller.
+//! Pools in their flat form: lists of the caller's.
 use crate::pools::Pools;
 use crate::raw;
 use crate::rows::{Case, ChainRow, Constant, StepRow, SwitchRow};

@@ -1,10 +1,10 @@
 //! The proved verifier for untrusted Rhai Grain bytecode, in the host's process.
 //!
-//! A host that is given a compiled script asks [`verify`], or [`Program::into_verified`], whether it may run the script in
-//! place. A yes comes with the depth of each chunk: no run takes an operand, an iterator or a handler that isn't there, needs
-//! more operands than that, or leaves the instructions of its chunk. The library behind this package is written in Rattle and
-//! proved to accept exactly the programs that FORMAT.md describes; the package itself is plain Rust around the library's C
-//! functions, tested and not proved.
+//! It says whether a compiled script may run in place: [`verify`] and [`Program::into_verified`] answer yes with the depth of
+//! each chunk, or why not. No run of an accepted program takes an operand, an iterator or a handler that isn't there, needs more
+//! operands than the depth, or leaves the instructions of its chunk. The library behind this package is proved to accept exactly
+//! the programs that FORMAT.md describes; the package itself is plain Rust around the library's C functions, tested and not
+//! proved.
 //!
 //! ```
 //! use grain::{Caps, Case, Chunk, Pools, Program, Root, Step, Tail};
@@ -64,6 +64,10 @@
 //! GRAIN_LIB_DIR names, else `lib/libgrain.a` inside the package, else one beside the package, in `../lib` or `../out`. A library
 //! of another interface doesn't link.
 #![warn(missing_docs)]
+
+#[cfg(doctest)]
+#[doc = include_str!("../README.md")]
+struct Readme;
 
 mod capabilities;
 mod code;

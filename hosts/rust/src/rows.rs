@@ -9,7 +9,7 @@ pub enum Root {
         /// The index of its name.
         name: u32,
     },
-    /// At a variable that is looked up by its name.
+    /// At a variable that is found by its name.
     Named {
         /// The index of its name.
         name: u32,

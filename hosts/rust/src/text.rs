@@ -47,7 +47,7 @@ const LONGEST: usize = crate::raw::TEXT_SIZE - 1;
 
 /// A short text that takes no memory: a line of the line program ([`Refusal::line`](crate::Refusal::line)).
 ///
-/// It is a `str` wherever one is wanted.
+/// It dereferences to a `str`.
 #[derive(Clone, Copy)]
 pub struct Text(Buffer<LONGEST>);
 

@@ -1,4 +1,4 @@
-//! Pools of garbage at the edge of a page: behind each list that the library is lent stands a page that nobody may read, so
+//! Pools of garbage at the edge of a page: behind each list that the library reads stands a page that nobody may read, so
 //! that a read past a list ends the test.
 #![cfg(all(target_os = "linux", target_pointer_width = "64"))]
 mod common;
@@ -64,7 +64,7 @@ impl Pages {
         assert!(bytes <= self.length && self.length % std::mem::align_of::<T>() == 0);
         assert_eq!(std::mem::size_of::<T>() % std::mem::align_of::<T>(), 0);
         // SAFETY: the place lies in the pages, is aligned since sizes are whole numbers of alignments, and is written before
-        // it is lent; the pages are borrowed as long as the list is.
+        // it is borrowed; the pages are borrowed as long as the list is.
         unsafe {
             let place = self.start.add(self.length - bytes).cast::<T>();
             std::ptr::copy_nonoverlapping(list.as_ptr(), place, list.len());
@@ -92,7 +92,7 @@ impl Pages {
 
 impl Drop for Pages {
     fn drop(&mut self) {
-        // SAFETY: the mapping is this one's, and nothing of it is lent any more.
+        // SAFETY: the mapping is this one's, and nothing of it is borrowed any more.
         unsafe { munmap(self.start.cast(), self.length + PAGE) };
     }
 }
@@ -263,7 +263,7 @@ fn no_code_or_table_is_read_past_its_end() {
     }
 }
 
-/// Reads one item past a list, where the test below asks for it.
+/// Reads one item past a list, where the test below sets the variable.
 #[test]
 fn a_read_past_a_list() {
     if std::env::var_os("GRAIN_READ_PAST").is_some() {

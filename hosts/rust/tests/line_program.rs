@@ -136,7 +136,7 @@ fn answered(lines: String) -> String {
 }
 
 #[test]
-#[ignore = "compares with the line program, which GRAIN_CHECK has to name"]
+#[ignore = "compares with the line program, which GRAIN_CHECK must name"]
 fn generated_programs_are_judged_alike() {
     let mut chance = Chance(1);
     let (lines, said): (Vec<_>, Vec<_>) = (0..PROGRAMS).map(|_| case(&mut chance)).unzip();
@@ -163,7 +163,7 @@ fn generated_programs_are_judged_alike() {
 
 /// The line program reads into a buffer, which the first three lines end about.
 #[test]
-#[ignore = "asks the line program, which GRAIN_CHECK has to name"]
+#[ignore = "runs the line program, which GRAIN_CHECK must name"]
 fn long_code_is_counted() {
     for count in [32764, 32765, 32766, 100_000] {
         let lines = format!("code {}\ncode 0213\n", "02".repeat(count));
@@ -186,7 +186,7 @@ fn long_verify(tail: &str) -> String {
 }
 
 #[test]
-#[ignore = "asks the line program, which GRAIN_CHECK has to name"]
+#[ignore = "runs the line program, which GRAIN_CHECK must name"]
 fn many_branches_are_verified() {
     for (tail, verdict) in [
         ("0213", "accepted 1"),
@@ -208,7 +208,7 @@ fn many_branches_are_verified() {
 }
 
 #[test]
-#[ignore = "asks the line program, which GRAIN_CHECK has to name"]
+#[ignore = "runs the line program, which GRAIN_CHECK must name"]
 fn more_operands_than_can_be_declared_are_counted() {
     let line = format!("verify 7fff {}13 0:65537:65535", "02".repeat(65536));
     assert_eq!(
@@ -219,7 +219,7 @@ fn more_operands_than_can_be_declared_are_counted() {
 
 /// 2000 chunks, and one that ends past the code.
 #[test]
-#[ignore = "asks the line program, which GRAIN_CHECK has to name"]
+#[ignore = "runs the line program, which GRAIN_CHECK must name"]
 fn many_chunks_are_verified() {
     let line = format!("verify 7fff 0213{} 0:9:8", " 0:2:8".repeat(2000));
     assert_eq!(
@@ -230,7 +230,7 @@ fn many_chunks_are_verified() {
 
 /// An address table of 1200 entries, at the addresses 0 to 1199.
 #[test]
-#[ignore = "asks the line program, which GRAIN_CHECK has to name"]
+#[ignore = "runs the line program, which GRAIN_CHECK must name"]
 fn sites_are_found_in_a_large_table() {
     for (address, verdict) in [
         ("0", "site 1:2"),

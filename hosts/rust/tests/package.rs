@@ -38,7 +38,7 @@ fn sample() -> (Vec<u8>, Pools) {
 }
 
 #[test]
-fn lent_lists_are_verified_as_built_pools() {
+fn lists_of_the_caller_are_verified_as_built_pools() {
     let (code, pools) = sample();
     let constants = [Constant::from(Needs::Unknown), Constant::from(Caps::ARRAY)];
     let chains = [ChainRow::new(Root::Temporary, 1, Tail::Read, 0)];

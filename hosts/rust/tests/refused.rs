@@ -85,7 +85,7 @@ unsafe extern "C" fn grain_realloc(
     size: usize,
     alignment: usize,
 ) -> *mut c_void {
-    // SAFETY: the library gives back what it got, with the size that it asked.
+    // SAFETY: the library gives back what it got, with the size that it requested.
     unsafe {
         ALLOCATOR
             .realloc(block.cast(), layout(old_size, alignment), size.max(1))
@@ -95,7 +95,7 @@ unsafe extern "C" fn grain_realloc(
 
 #[no_mangle]
 unsafe extern "C" fn grain_dealloc(block: *mut c_void, size: usize, alignment: usize) {
-    // SAFETY: the library gives back what it got, with the size that it asked.
+    // SAFETY: the library gives back what it got, with the size that it requested.
     unsafe { ALLOCATOR.dealloc(block.cast(), layout(size, alignment)) }
 }
 
