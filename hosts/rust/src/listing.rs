@@ -61,7 +61,7 @@ impl Explained<'_> {
             Bytes::at(self.code, address, found.as_ref())
         )?;
         self.write_instruction(f, found.as_ref())?;
-        f.write_str("   <== here\n")
+        f.write_str("  <== here\n")
     }
 
     /// All instructions of the chunk, also those that aren't reached.
@@ -75,9 +75,7 @@ impl Explained<'_> {
             f,
             "chunk {index} from {entry} to {end}, which declares {max_stack} operands"
         )?;
-        f.write_str(
-            "  address  bytes           operands iterators  bases            instruction\n",
-        )?;
+        f.write_str("  address  bytes           operands iterators  bases     instruction\n")?;
         let body = &self.code[..self.code.len().min(end as usize)];
         let here = self.refusal_of_chunk().and_then(Refusal::address);
         let mut rows = self.rows().iter().peekable();
@@ -118,15 +116,24 @@ impl Explained<'_> {
         match row {
             Some(row) => write!(
                 f,
-                "{:>9} {:>9}  {:<16} ",
+                "{:>9} {:>9}  {:<9} ",
                 row.operands(),
                 row.iterators(),
                 &*self.bases_text(row)?
             )?,
-            None => write!(f, "{:>19}  {:<16} ", "not reached", "")?,
+            None => write!(f, "   {:<28}", self.not_here())?,
         }
         self.write_instruction(f, found)?;
-        f.write_str(if is_here { "   <== here\n" } else { "\n" })
+        f.write_str(if is_here { "  <== here\n" } else { "\n" })
+    }
+
+    /// What is said of an instruction without a row: the walk through a refused chunk ends at its flaw.
+    fn not_here(&self) -> &'static str {
+        if self.refusal_of_chunk().is_some() {
+            "not visited"
+        } else {
+            "not reached"
+        }
     }
 
     /// The innermost bases, and how many more there are.

@@ -38,7 +38,8 @@ fn a_conflict_has_two_paths() {
     for part in [
         "refused: chunk 0: two paths meet at 2, one with 0 operands, the other with 1\n",
         "chunk 0 from 0 to 14, which declares 8 operands\n",
-        "        2  1e0c000000             0         1  -                ITER_NEXT 12   <== here\n",
+        "        2  1e0c000000             0         1  -         ITER_NEXT 12  <== here\n",
+        "       13  13                not visited                 RETURN\n",
         "\none path from the entry:\n",
         "\nanother path from the entry:\n",
     ] {
@@ -80,9 +81,7 @@ fn bases_are_shared_and_the_innermost_first() {
     assert_eq!(bases, [base(3, 0), base(1, 0)]);
     assert_eq!(explained.bases(last).len(), 2);
     assert_eq!(explained.bases(&explained.rows()[0]).len(), 0);
-    assert!(explained
-        .to_string()
-        .contains("  3/0 1/0          RETURN\n"));
+    assert!(explained.to_string().contains("  3/0 1/0   RETURN\n"));
 }
 
 #[test]
@@ -140,7 +139,7 @@ fn bad_code_is_shown_by_its_refusal() {
     let refused = refusal(verify(Caps::ALL, &code, &whole(&code), &pools));
     let explained = explain(Caps::ALL, &code, &whole(&code), &pools, refused).unwrap();
     let text = "refused: the instruction at 1 has index 0 of a chain, which isn't there\n        \
-                1  160000         CHAIN 0   <== here\n";
+                1  160000         CHAIN 0  <== here\n";
     assert_eq!(explained.to_string(), text);
     // Whatever the host has, a chunk isn't explained for the bad code.
     for caps in [Caps::ALL, Caps::NONE] {
@@ -155,7 +154,7 @@ fn bad_code_is_shown_by_its_refusal() {
     let explained = explain(Caps::ALL, &code, &[], FlatPools::new(), refused).unwrap();
     let text = explained.to_string();
     assert!(
-        text.ends_with("        2  ff             no instruction   <== here\n"),
+        text.ends_with("        2  ff             no instruction  <== here\n"),
         "{text}"
     );
 }
@@ -247,10 +246,10 @@ fn what_is_not_reached_is_marked() {
     let explained = explain(Caps::ALL, &code, &whole(&code), &pools, 0).unwrap();
     let wanted = "chunk 0 passes\n\
         chunk 0 from 0 to 3, which declares 8 operands\n  \
-        address  bytes           operands iterators  bases            instruction\n        \
-        0  13                     0         0  -                RETURN\n        \
-        1  02                     not reached                   UNIT\n        \
-        2  13                     not reached                   RETURN\n";
+        address  bytes           operands iterators  bases     instruction\n        \
+        0  13                     0         0  -         RETURN\n        \
+        1  02                not reached                 UNIT\n        \
+        2  13                not reached                 RETURN\n";
     assert_eq!(explained.to_string(), wanted);
     assert!(explained.refusal().is_none());
 }
