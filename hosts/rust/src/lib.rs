@@ -1,10 +1,10 @@
 //! The proved verifier for untrusted Rhai Grain bytecode, in the host's process.
 //!
 //! It says whether a compiled script may run in place: [`verify`] and [`Program::into_verified`] answer yes with the depth of
-//! each chunk, or why not. No run of an accepted program takes an operand, an iterator or a handler that isn't there, needs more
-//! operands than the depth, or leaves the instructions of its chunk. The library behind this package is proved to accept exactly
-//! the programs that FORMAT.md describes; the package itself is plain Rust around the library's C functions, tested and not
-//! proved.
+//! each chunk, or why not. On a machine that does [what a host owes](crate#what-a-host-owes), no run of an accepted program takes
+//! an operand, an iterator or a handler that isn't there, needs more operands than the depth, or leaves the instructions of its
+//! chunk. The library behind this package is proved to accept exactly the programs that FORMAT.md describes, where memory
+//! suffices; the package itself is plain Rust around the library's C functions, tested and not proved.
 //!
 //! ```
 //! use grain::{Caps, Case, Chunk, Pools, Program, Root, Step, Tail};
@@ -40,14 +40,17 @@
 //!
 //! # What a host owes
 //!
-//! - It runs only what was accepted, unchanged, with stacks of at least the depth of each chunk.
-//! - It has the capabilities for which the program was verified.
+//! - It runs only what was accepted, unchanged, with room for as many operands as the depth of each chunk. [`Verified`] keeps
+//!   the program and the depths together.
+//! - Its constants, names, functions, chains and switches are those that the verified pools describe, by the same indices.
+//! - It has the capabilities for which the program was verified, and knows what constants can do that are [`Needs::Unknown`].
 //! - Its machine steps as FORMAT.md says ("Verification").
-//! - Where a handler catches a fault, at least what stood on the stacks when the handler was armed must still stand. Accepted
-//!   code ensures this at every instruction except the eight quiet ones: `UNIT`, `FALSE` and `TRUE`, `POP`, `ROTATE`,
-//!   `POP_HANDLER`, `ITER_DROP`, `UNWIND_TO` and `RETURN` ([`Opcode::is_quiet`]). At a quiet instruction the machine must never
-//!   fault, or only with at least that much left.
-//! - It knows what constants can do that are [`Needs::Unknown`].
+//! - Where a handler catches a fault, at least what stood on the stacks when the handler was armed still stands. Accepted code
+//!   ensures this at every instruction except the quiet ones: `UNIT`, `FALSE`, `TRUE`, `POP`, `ROTATE`, `POP_HANDLER`,
+//!   `ITER_DROP`, `UNWIND_TO` and `RETURN` ([`Opcode::is_quiet`]). At these the machine must never fault, or only with at least
+//!   that much left.
+//!
+//! A yes says nothing of slots and scopes, of values and their types, of what a call does, and not that a run ends.
 //!
 //! # What to bound for hostile input
 //!

@@ -386,3 +386,85 @@ impl fmt::Debug for Refusal {
 }
 
 impl std::error::Error for Refusal {}
+
+#[cfg(test)]
+mod tests {
+    use super::*;
+
+    /// The sentence of a refusal of chunk 7, at address 3.
+    fn sentence(flaw: u32, first: u64, second: u64) -> String {
+        let record = raw::Refusal {
+            flaw,
+            chunk: 7,
+            at: 3,
+            first,
+            second,
+        };
+        let text = Refusal::new(record, 0).to_string();
+        text.strip_prefix("chunk 7: ").unwrap().to_string()
+    }
+
+    #[test]
+    fn each_flaw_has_a_sentence() {
+        for (flaw, first, second, wanted) in [
+            (1, 0x200, 0x7dff, "the instruction at 3 needs PROPERTY, which the host doesn't have"),
+            (2, 0, 0, "no instruction stands at 3"),
+            (3, 9, 0, "the code of 9 bytes goes on behind its last instruction, at 3"),
+            (4, 9, 5, "the chunk from 3 to 9 doesn't lie in the code, which has 5 bytes"),
+            (5, 9, 0, "the instruction at 3 leads to 9, which is outside the chunk"),
+            (6, 3, 0, "the chunk begins at 3, inside an instruction"),
+            (6, 4, 0, "the instruction at 3 leads, or the chunk that begins there ends, inside an instruction, at 4"),
+            (7, 1, 0, "two paths meet at 3, one with 1 operand, the other with 0"),
+            (7, 2, 2, "two paths meet at 3 with 2 operands each, but with other iterators or handlers"),
+            (8, 2, 1, "the instruction at 3 needs 2 operands, and there are 1"),
+            (9, 0, 0, "a path runs past the end of the chunk, or the chunk is empty"),
+            (10, 3, 2, "3 operands are needed, and 2 declared"),
+            (11, 0, 0, "the instruction at 3 needs an iterator, and there is none"),
+            (12, 0, 0, "the instruction at 3 needs a handler, and none is armed"),
+            (13, 2, 1, "the instruction at 3 leaves 1 of the 2 operands or iterators that stood when the handler was armed"),
+            (14, 9, 4, "the instruction at 3 has index 9 of an op-assignment, which isn't there"),
+            (99, 0, 0, "the library names flaw 99, which this package doesn't know"),
+        ] {
+            assert_eq!(sentence(flaw, first, second), wanted);
+        }
+    }
+
+    #[test]
+    fn the_longest_sentence_is_whole() {
+        let record = raw::Refusal {
+            flaw: 1,
+            chunk: u64::MAX - 1,
+            at: u64::MAX,
+            first: u64::MAX,
+            second: 0,
+        };
+        let text = Refusal::new(record, 0).to_string();
+        assert!(
+            text.ends_with("CUSTOM_SYNTAX, which the host doesn't have"),
+            "{text}"
+        );
+        let long = Refusal::new(
+            raw::Refusal {
+                flaw: 13,
+                first: u64::MAX,
+                ..record
+            },
+            0,
+        );
+        assert!(long.to_string().ends_with("was armed"));
+    }
+
+    #[test]
+    fn numbers_that_are_too_large_stop_at_the_greatest() {
+        let record = raw::Refusal {
+            flaw: 5,
+            chunk: 0,
+            at: 1 << 40,
+            first: 1 << 33,
+            second: 0,
+        };
+        let refusal = Refusal::new(record, 0);
+        assert_eq!(refusal.address(), Some(u32::MAX));
+        assert_eq!(refusal.flaw(), Flaw::JumpOutOfRange { target: u32::MAX });
+    }
+}
