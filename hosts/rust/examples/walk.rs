@@ -207,3 +207,18 @@ fn main() -> Result<(), Box<dyn Error>> {
     }
     Ok(())
 }
+
+#[cfg(test)]
+mod tests {
+    use super::*;
+
+    #[test]
+    fn the_good_script_is_run_and_the_bad_one_refused() {
+        let (good, bad) = (sum(false), sum(true));
+        let verified = good.program().unwrap().into_verified(CAPS).unwrap();
+        assert_eq!(run(&verified, &good, 0), Ok(Value::Int(55)));
+        let rejected = bad.program().unwrap().into_verified(CAPS).unwrap_err();
+        let line = rejected.program().site_of(rejected.refusal().unwrap());
+        assert_eq!(line.map(|site| site.line), Some(2));
+    }
+}

@@ -84,7 +84,7 @@ impl Row {
 
     /// An address from which the instruction is reached; `None` at the entry of the chunk, and on a path.
     #[must_use]
-    pub fn from(&self) -> Option<u32> {
+    pub fn reached_from(&self) -> Option<u32> {
         (self.from != raw::NO_ADDRESS).then_some(self.from)
     }
 }

@@ -174,6 +174,15 @@ pub fn verify<'a>(
 /// A thread keeps the memory in which it verified small programs, with up to 3 KiB of code: less than 256 KiB. [`Verifier`]
 /// keeps it for larger ones.
 ///
+/// ```
+/// use grain::{verify_into, Caps, Chunk, FlatPools};
+///
+/// let mut depths = [0; 1];
+/// let visited = verify_into(Caps::NONE, &[0x02, 0x13], &[Chunk::new(0, 2, 1)], FlatPools::new(), &mut depths)?;
+/// assert_eq!((visited, depths), (2, [1]));
+/// # Ok::<(), grain::VerifyError>(())
+/// ```
+///
 /// # Errors
 /// Those of [`verify`], and [`VerifyError::TooFewDepths`] where there are fewer places than chunks. Then nothing is written.
 pub fn verify_into<'a>(
@@ -188,6 +197,14 @@ pub fn verify_into<'a>(
 
 /// Verifies as [`verify`] does, has each chunk declare its depth, and answers how many instructions were visited. With these
 /// chunks the program is accepted again.
+///
+/// ```
+/// use grain::{tighten, Caps, Chunk, Pools};
+///
+/// let mut chunks = [Chunk::new(0, 2, 100)];
+/// assert_eq!(tighten(Caps::NONE, &[0x02, 0x13], &mut chunks, &Pools::new()), Ok(2));
+/// assert_eq!(chunks[0].max_stack, 1);
+/// ```
 ///
 /// # Errors
 /// Those of [`verify`]; then the chunks stay as they were.

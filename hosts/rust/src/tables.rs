@@ -238,6 +238,14 @@ pub fn stream_sites_into(stream: &[u8], sites: &mut [Site]) -> Result<usize, Tab
 
 /// The sites of a stream, slot by slot.
 ///
+/// ```
+/// use grain::{stream_sites, Site};
+///
+/// let stream = [2, 1, 5, 0, 0]; // 1:5, and a slot without a site
+/// assert_eq!(stream_sites(&stream)?, [Some(Site { line: 1, column: 5 }), None]);
+/// # Ok::<(), grain::ReadError>(())
+/// ```
+///
 /// # Errors
 /// The bytes are no stream; or the allocator refused. It takes ten times as much as the stream has.
 pub fn stream_sites(stream: &[u8]) -> Result<Vec<Option<Site>>, ReadError> {

@@ -33,7 +33,10 @@ fn a_conflict_has_two_paths() {
     let paths = [explained.path(), explained.other_path()];
     let paths = paths.map(|path| path.iter().map(counts).collect::<Vec<_>>());
     assert!(paths.contains(&short.to_vec()) && paths.contains(&long.to_vec()));
-    assert!(explained.path().iter().all(|row| row.from().is_none()));
+    assert!(explained
+        .path()
+        .iter()
+        .all(|row| row.reached_from().is_none()));
     let text = explained.to_string();
     for part in [
         "refused: chunk 0: two paths meet at 2, one with 0 operands, the other with 1\n",
@@ -72,7 +75,7 @@ fn bases_are_shared_and_the_innermost_first() {
     let explained = explain(Caps::ALL, &code, &whole(&code), &pools, 0).unwrap();
     assert!(explained.refusal().is_none(), "{explained}");
     let last = explained.rows().last().unwrap();
-    assert_eq!((last.address(), last.from()), (14, Some(13)));
+    assert_eq!((last.address(), last.reached_from()), (14, Some(13)));
     let bases: Vec<_> = explained.bases(last).collect();
     let base = |operands, iterators| Base {
         operands,

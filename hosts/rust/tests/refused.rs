@@ -21,9 +21,12 @@ thread_local! {
     static LEFT: Cell<Option<usize>> = const { Cell::new(None) };
     /// Whether one has been refused since.
     static IS_REFUSED: Cell<bool> = const { Cell::new(false) };
+    /// How many bytes the largest request has.
+    static LARGEST: Cell<usize> = const { Cell::new(0) };
 }
 
-fn may_allocate() -> bool {
+fn may_allocate(size: usize) -> bool {
+    LARGEST.set(LARGEST.get().max(size));
     match LEFT.get() {
         None => true,
         Some(0) => {
@@ -40,7 +43,7 @@ fn may_allocate() -> bool {
 // SAFETY: all that is granted is the system's.
 unsafe impl GlobalAlloc for Refusing {
     unsafe fn alloc(&self, layout: Layout) -> *mut u8 {
-        if may_allocate() {
+        if may_allocate(layout.size()) {
             // SAFETY: what the caller promises.
             unsafe { System.alloc(layout) }
         } else {
@@ -54,7 +57,7 @@ unsafe impl GlobalAlloc for Refusing {
     }
 
     unsafe fn realloc(&self, block: *mut u8, layout: Layout, size: usize) -> *mut u8 {
-        if may_allocate() {
+        if may_allocate(size) {
             // SAFETY: what the caller promises.
             unsafe { System.realloc(block, layout, size) }
         } else {
@@ -238,6 +241,17 @@ fn explaining_answers_an_error() {
     refuse_each("explain of a constant", || {
         is_unexplained(program.explain(Caps::NONE, refused))
     });
+}
+
+#[test]
+fn an_explanation_takes_memory_for_its_chunk_alone() {
+    let (code, pools) = (vec![0x02; 1 << 20], Pools::new());
+    let chunks = [Chunk::new(0, 2, 8)];
+    LARGEST.set(0);
+    let explained = explain(Caps::ALL, &code, &chunks, &pools, 0).unwrap();
+    assert!(explained.refusal().is_some());
+    // The library keeps a bit for each byte of the code.
+    assert!(LARGEST.get() < code.len() / 2, "{}", LARGEST.get());
 }
 
 #[test]
