@@ -1,10 +1,9 @@
 //! The proved verifier for untrusted Rhai Grain bytecode, in the host's process.
 //!
-//! It says whether a compiled script may run in place: [`verify`] and [`Program::into_verified`] answer yes with the depth of
-//! each chunk, or why not. On a machine that does [what a host owes](crate#what-a-host-owes), no run of an accepted program takes
-//! an operand, an iterator or a handler that isn't there, needs more operands than the depth, or leaves the instructions of its
-//! chunk. The library behind this package is proved to accept exactly the programs that FORMAT.md describes, where memory
-//! suffices; the package itself is plain Rust around the library's C functions, tested and not proved.
+//! [`verify`] and [`Program::into_verified`] say whether a compiled script may run in place, and how many operands each of its
+//! chunks needs. No run of an accepted program lacks an operand, an iterator or a handler, or leaves its chunk, on a machine that
+//! does [what a host owes](crate#what-a-host-owes). The library behind this package is proved to accept exactly the programs of
+//! FORMAT.md, where memory suffices; the package is plain Rust around the library's C functions, tested and not proved.
 //!
 //! ```
 //! use grain::{Caps, Case, Chunk, Pools, Program, Root, Step, Tail};
