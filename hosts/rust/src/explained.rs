@@ -300,8 +300,8 @@ fn zeroed<T: Clone + Default>(length: usize) -> Result<Vec<T>, ExplainError> {
 }
 
 impl Explained<'_> {
-    /// Has the library explain a chunk, first with room for a row and a base at each byte of it, and then with as much as it
-    /// says, where that is more.
+    /// Has the library explain a chunk. The first try has room for a row and a base at each byte of it. The second has as much
+    /// as the library says.
     fn fill(
         &mut self,
         caps: Caps,

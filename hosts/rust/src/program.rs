@@ -221,9 +221,9 @@ impl Program {
         positions.map_or(Ok(Vec::new()), |own| stream_sites(&own.stream))
     }
 
-    /// Gives the program these positions in place of its own. They are tested: the table and the stream must be such, each
-    /// entry must have a line and the address of an instruction (or of the first thing that is none), and there must be a slot
-    /// for each position of the chains.
+    /// Gives the program these positions in place of its own. They are tested: the table and the stream must be such. Each entry
+    /// must have a line, and the address of an instruction or of the first thing that is none. There must be a slot for each
+    /// position of the chains.
     ///
     /// # Errors
     /// The first test that fails; then the program stays as it was.

@@ -179,8 +179,8 @@ fn copied(depths: &[u16]) -> Result<Vec<u16>, VerifyError> {
     Ok(own)
 }
 
-/// Where a program has at most this many bytes of code, and this many chunks and entries of each list in its pools, what a
-/// thread keeps stays below 256 KiB.
+/// A small program has at most this many bytes of code, and this many chunks and entries of each list of its pools. For such, a
+/// thread keeps less than 256 KiB.
 const SMALL_CODE: usize = 3072;
 const SMALL_LIST: usize = 128;
 
