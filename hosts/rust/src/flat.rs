@@ -23,7 +23,7 @@ use std::fmt::{self, Write};
 /// assert_eq!(verify(Caps::ALL, &code, &[Chunk::new(0, 5, 1)], pools), Ok(vec![1]));
 ///
 /// let flaw = pools.chains(&chains, &[]).check().unwrap_err();
-/// assert_eq!(flaw.to_string(), "the list of steps isn't flat at index 0");
+/// assert_eq!(flaw.to_string(), "the list of chains isn't flat at index 0");
 /// ```
 #[derive(Clone, Copy, Debug)]
 pub struct FlatPools<'a> {
@@ -258,7 +258,7 @@ pub enum PoolsList {
 pub struct PoolsFlaw {
     /// The list that is wrong.
     pub list: PoolsList,
-    /// The index of the entry that is wrong, or the length of the list where entries are missing.
+    /// The index of the first entry that is wrong, or the length of the list where entries are missing.
     pub index: u64,
 }
 

@@ -70,12 +70,12 @@ fn lists_of_the_caller_are_verified_as_built_pools() {
     assert_eq!(Step::from(steps[0]), property(1));
     let uneven = lent.chains(&chains, &[]);
     let error = verify(Caps::ALL, &code, &whole(&code), uneven).unwrap_err();
-    let (list, index) = (PoolsList::Steps, 0);
+    let (list, index) = (PoolsList::Chains, 0);
     let flaw = PoolsFlaw { list, index };
     assert_eq!(error, VerifyError::NotFlat(flaw));
     assert_eq!((uneven.check(), lent.check()), (Err(flaw), Ok(())));
     assert_eq!(error.to_string(), "no pools have this flat form");
-    assert_eq!(flaw.to_string(), "the list of steps isn't flat at index 0");
+    assert_eq!(flaw.to_string(), "the list of chains isn't flat at index 0");
     let cut = lent.names(NAMES, &[0, 3]);
     let error = verify(Caps::ALL, &code, &whole(&code), cut).unwrap_err();
     assert!(matches!(error, VerifyError::NotFlat(flaw) if flaw.list == PoolsList::Names));

@@ -21,12 +21,11 @@ thread_local! {
     static LEFT: Cell<Option<usize>> = const { Cell::new(None) };
     /// Whether one has been refused since.
     static IS_REFUSED: Cell<bool> = const { Cell::new(false) };
-    /// How many bytes the largest request has.
+    /// How many bytes the largest request of the package has.
     static LARGEST: Cell<usize> = const { Cell::new(0) };
 }
 
-fn may_allocate(size: usize) -> bool {
-    LARGEST.set(LARGEST.get().max(size));
+fn may_allocate() -> bool {
     match LEFT.get() {
         None => true,
         Some(0) => {
@@ -43,7 +42,8 @@ fn may_allocate(size: usize) -> bool {
 // SAFETY: all that is granted is the system's.
 unsafe impl GlobalAlloc for Refusing {
     unsafe fn alloc(&self, layout: Layout) -> *mut u8 {
-        if may_allocate(layout.size()) {
+        LARGEST.set(LARGEST.get().max(layout.size()));
+        if may_allocate() {
             // SAFETY: what the caller promises.
             unsafe { System.alloc(layout) }
         } else {
@@ -57,7 +57,8 @@ unsafe impl GlobalAlloc for Refusing {
     }
 
     unsafe fn realloc(&self, block: *mut u8, layout: Layout, size: usize) -> *mut u8 {
-        if may_allocate(size) {
+        LARGEST.set(LARGEST.get().max(size));
+        if may_allocate() {
             // SAFETY: what the caller promises.
             unsafe { System.realloc(block, layout, size) }
         } else {
@@ -69,37 +70,43 @@ unsafe impl GlobalAlloc for Refusing {
 #[global_allocator]
 static ALLOCATOR: Refusing = Refusing;
 
-fn layout(size: usize, alignment: usize) -> Layout {
-    Layout::from_size_align(size.max(1), alignment.max(1)).unwrap()
-}
-
 // The library's requests go to these in place of its own.
 
+extern "C" {
+    fn malloc(size: usize) -> *mut c_void;
+    fn realloc(block: *mut c_void, size: usize) -> *mut c_void;
+    fn free(block: *mut c_void);
+}
+
 #[no_mangle]
-extern "C" fn grain_alloc(size: usize, alignment: usize) -> *mut c_void {
-    // SAFETY: the layout isn't empty.
-    unsafe { ALLOCATOR.alloc(layout(size, alignment)).cast() }
+extern "C" fn grain_alloc(size: usize, _alignment: usize) -> *mut c_void {
+    if may_allocate() {
+        // SAFETY: a number is all that the function is given.
+        unsafe { malloc(size) }
+    } else {
+        std::ptr::null_mut()
+    }
 }
 
 #[no_mangle]
 unsafe extern "C" fn grain_realloc(
     block: *mut c_void,
-    old_size: usize,
+    _old_size: usize,
     size: usize,
-    alignment: usize,
+    _alignment: usize,
 ) -> *mut c_void {
-    // SAFETY: the library gives back what it got, with the size that it requested.
-    unsafe {
-        ALLOCATOR
-            .realloc(block.cast(), layout(old_size, alignment), size.max(1))
-            .cast()
+    if may_allocate() {
+        // SAFETY: the library gives back what it got.
+        unsafe { realloc(block, size) }
+    } else {
+        std::ptr::null_mut()
     }
 }
 
 #[no_mangle]
-unsafe extern "C" fn grain_dealloc(block: *mut c_void, size: usize, alignment: usize) {
-    // SAFETY: the library gives back what it got, with the size that it requested.
-    unsafe { ALLOCATOR.dealloc(block.cast(), layout(size, alignment)) }
+unsafe extern "C" fn grain_dealloc(block: *mut c_void, _size: usize, _alignment: usize) {
+    // SAFETY: the library gives back what it got.
+    unsafe { free(block) }
 }
 
 /// Calls again and again, granting no request, one, two and so on, until all are granted. `call` answers whether it ran out of
@@ -244,14 +251,13 @@ fn explaining_answers_an_error() {
 }
 
 #[test]
-fn an_explanation_takes_memory_for_its_chunk_alone() {
+fn the_package_takes_memory_for_the_explained_chunk_alone() {
     let (code, pools) = (vec![0x02; 1 << 20], Pools::new());
     let chunks = [Chunk::new(0, 2, 8)];
     LARGEST.set(0);
     let explained = explain(Caps::ALL, &code, &chunks, &pools, 0).unwrap();
     assert!(explained.refusal().is_some());
-    // The library keeps a bit for each byte of the code.
-    assert!(LARGEST.get() < code.len() / 2, "{}", LARGEST.get());
+    assert!(LARGEST.get() < 100, "{}", LARGEST.get());
 }
 
 #[test]
