@@ -134,8 +134,8 @@ impl<'a> Explained<'a> {
         self.chunk.map(|(index, _)| index)
     }
 
-    /// What stands at the instructions of the chunk, in the order of addresses. Where the chunk passes, these are just the
-    /// reached ones; where it is refused, those that the walk visited until it met the flaw.
+    /// What stands at the reached instructions of the chunk, in the order of addresses: all of them where the chunk passes;
+    /// where it is refused, those that the walk visited until it met the flaw.
     #[must_use]
     pub fn rows(&self) -> &[Row] {
         &self.rows[..self.ends.0]
@@ -283,7 +283,7 @@ fn refusal_outside(
     code: &[u8],
     pools: &FlatPools<'_>,
 ) -> Result<Option<Refusal>, ExplainError> {
-    match verifier::judge_alone(caps, code, &[], pools, &mut []) {
+    match verifier::judge_in(None, raw::NO_LIMIT, caps, code, &[], pools, &mut []) {
         Ok(_) => Ok(None),
         Err(VerifyError::Refused(refusal)) => Ok(Some(refusal)),
         Err(failure) => Err(failure.into()),

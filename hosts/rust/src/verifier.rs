@@ -92,8 +92,8 @@ impl Verifier {
             .map_err(|_| VerifyError::OutOfMemory)?;
         self.depths.resize(chunks.len(), 0);
         let (limit, depths) = (self.limit, &mut self.depths[..]);
-        judge_with(
-            &mut self.scratch,
+        judge_in(
+            Some(&mut self.scratch),
             limit,
             caps,
             code,
@@ -117,8 +117,8 @@ impl Verifier {
         pools: impl Into<FlatPools<'a>>,
         depths: &mut [u16],
     ) -> Result<u64, VerifyError> {
-        judge_with(
-            &mut self.scratch,
+        judge_in(
+            Some(&mut self.scratch),
             self.limit,
             caps,
             code,
@@ -199,53 +199,21 @@ pub(crate) fn judge(
 ) -> Result<u64, VerifyError> {
     if code.len() <= SMALL_CODE && chunks.len() <= SMALL_LIST && pools.are_within(SMALL_LIST) {
         // None where the thread is about to end.
-        let judged = SMALL.try_with(|small| match small.try_borrow_mut() {
-            Ok(mut small) => judge_with(
-                &mut small.scratch,
-                raw::NO_LIMIT,
-                caps,
-                code,
-                chunks,
-                pools,
-                depths,
-            ),
-            Err(_) => judge_alone(caps, code, chunks, pools, depths),
+        let judged = SMALL.try_with(|small| {
+            let mut small = small.try_borrow_mut().ok();
+            let scratch = small.as_mut().map(|small| &mut small.scratch);
+            judge_in(scratch, raw::NO_LIMIT, caps, code, chunks, pools, depths)
         });
         if let Ok(judged) = judged {
             return judged;
         }
     }
-    judge_alone(caps, code, chunks, pools, depths)
+    judge_in(None, raw::NO_LIMIT, caps, code, chunks, pools, depths)
 }
 
-/// The verdict on a program, in memory for this call alone.
-pub(crate) fn judge_alone(
-    caps: Caps,
-    code: &[u8],
-    chunks: &[Chunk],
-    pools: &FlatPools<'_>,
-    depths: &mut [u16],
-) -> Result<u64, VerifyError> {
-    check_length(code)?;
-    let (program, mut report) = (pools.program(code, chunks), raw::Report::default());
-    // SAFETY: the record points to lists that are borrowed for the call, and `depths` is one list without another reader.
-    // There is no scratch.
-    let status = unsafe {
-        raw::grain_verify(
-            std::ptr::null_mut(),
-            caps.bits(),
-            raw::NO_LIMIT,
-            &program,
-            depths.as_mut_ptr(),
-            depths.len(),
-            &mut report,
-        )
-    };
-    verdict(status, &report, pools)
-}
-
-fn judge_with(
-    scratch: &mut raw::Scratch,
+/// The verdict on a program, in the memory of a scratch, or in memory for this call alone.
+pub(crate) fn judge_in(
+    scratch: Option<&mut raw::Scratch>,
     limit: u64,
     caps: Caps,
     code: &[u8],
@@ -255,7 +223,9 @@ fn judge_with(
 ) -> Result<u64, VerifyError> {
     check_length(code)?;
     let (program, mut report) = (pools.program(code, chunks), raw::Report::default());
-    // SAFETY: as in `judge_alone`; the scratch is a verifier's alone, and was made by the library or keeps nothing.
+    let scratch = scratch.map_or(std::ptr::null_mut(), |scratch| scratch as *mut _);
+    // SAFETY: the record points to lists that are borrowed for the call, and `depths` is one list without another reader. The
+    // scratch, if any, is borrowed for the call, and was made by the library or keeps nothing.
     let status = unsafe {
         raw::grain_verify(
             scratch,

@@ -6,7 +6,7 @@ use common::model::{Model, Table};
 use common::programs::{built, program, Program};
 use common::refusal;
 use grain::{
-    explain, tighten, verify, verify_into, Caps, Explained, Flaw, Pools, Refusal, Verifier,
+    explain, tighten, verify, verify_into, Caps, Explained, Flaw, Pools, Refusal, Row, Verifier,
     VerifyError,
 };
 use std::collections::BTreeMap;
@@ -98,16 +98,18 @@ fn explained<'a>(program: &'a Program, pools: &'a Pools, chunk: usize) -> Explai
     explain(*caps, code, chunks, pools, chunk).unwrap()
 }
 
+fn are_in_order(rows: &[Row]) -> bool {
+    rows.windows(2)
+        .all(|two| two[0].address() < two[1].address())
+}
+
 /// The rows of the chunks are what is reached, each once, and the deepest has as many operands as the depth says.
 fn explain_accepted(program: &Program, pools: &Pools, (depths, visited): &(Vec<u16>, u64)) {
     let mut rows = 0;
     for (chunk, depth) in depths.iter().enumerate() {
         let explained = explained(program, pools, chunk);
         assert!(explained.refusal().is_none(), "{explained}");
-        assert!(explained
-            .rows()
-            .windows(2)
-            .all(|two| two[0].address() < two[1].address()));
+        assert!(are_in_order(explained.rows()), "{explained}");
         let most = explained.rows().iter().map(|row| row.operands()).max();
         assert_eq!(most, Some(u32::from(*depth)), "{explained}");
         assert!(explained.to_string().contains("passes"), "{explained}");
@@ -137,6 +139,7 @@ fn explain_refused(program: &Program, pools: &Pools, refusal: &Refusal) {
     for place in 0..chunk {
         assert!(explained(program, pools, place).refusal().is_none());
     }
+    assert!(are_in_order(whole.rows()), "{whole}");
     let is_conflict = matches!(refusal.flaw(), Flaw::DepthConflict { .. });
     assert_eq!(is_conflict, !whole.other_path().is_empty(), "{whole}");
     for path in [whole.path(), whole.other_path()] {
