@@ -3,8 +3,19 @@
 use crate::common::chance::Chance;
 use grain::{Caps, Case, Chunk, Flaw, Kind, Root, Step, Tail};
 use std::collections::{BTreeMap, BTreeSet, VecDeque};
+use std::fs;
+use std::path::Path;
 
-const FORMAT: &str = include_str!("../../../../docs/FORMAT.md");
+/// Where FORMAT.md lies from the package: in the repository, and in a release.
+const FORMATS: [&str; 2] = ["../../docs/FORMAT.md", "../FORMAT.md"];
+
+fn format() -> String {
+    let own = Path::new(env!("CARGO_MANIFEST_DIR"));
+    let mut read = FORMATS
+        .iter()
+        .map(|path| fs::read_to_string(own.join(path)));
+    read.find_map(Result::ok).expect("FORMAT.md")
+}
 
 /// What a program has beside its code and its chunks.
 #[derive(Clone, Debug, Default)]
@@ -56,7 +67,8 @@ pub struct Table(BTreeMap<u8, Row>);
 
 impl Table {
     pub fn read() -> Table {
-        let rows = FORMAT.split("\n## Instructions\n").nth(1).unwrap();
+        let text = format();
+        let rows = text.split("\n## Instructions\n").nth(1).unwrap();
         let rows = rows.split("\n## ").next().unwrap();
         let mut table = BTreeMap::new();
         for line in rows.lines().filter(|line| line.starts_with("| ")) {
