@@ -104,7 +104,7 @@ unsafe extern "C" fn grain_realloc(
 }
 
 #[no_mangle]
-unsafe extern "C" fn grain_dealloc(block: *mut c_void, _size: usize, _alignment: usize) {
+unsafe extern "C" fn grain_dealloc(block: *mut c_void) {
     // SAFETY: the library gives back what it got.
     unsafe { free(block) }
 }
