@@ -9,6 +9,7 @@ tags (crates/grain_code/src/tag.rt), wherever it stands.
   names), and in crates/grain_flat, in specs/TagNames.antt (names by tags) and src/mnemonics.rt (names of operations).
 - The table read from tags to operations is the list `rows` in crates/grain_code/proofs/Rows.antt, which the prover compares
   with the table.
+- The table for machines in Rust is the list of hosts/rust/src/opcode.rs: names, tags, fields, flow and quiet instructions.
 
 .ci/documents asks whether all of it is as this writes it.
 """
@@ -28,6 +29,26 @@ def tags():
     """The name of each tag by its number."""
     text = (TOP / "crates/grain_code/src/tag.rt").read_text()
     return {int(number, 16): name for name, number in re.findall(r"^pub const (\w+): u8 = (0x\w+);$", text, re.M)}
+
+
+# What hosts/rust/src/code.rs and opcode.rs call the letters of fields and the words of the column Flow.
+RUST_KINDS = {
+    "c": "Constant", "n": "Name", "t": "Operator", "o": "OpAssignment", "f": "Fragment", "h": "Chain", "w": "Switch",
+    "y": "SyntaxSite", "s": "Slot", "a": "Count", "j": "Target",
+}
+RUST_FLOWS = {
+    "": "Next", "ends": "Ends", "jumps": "Jumps", "branches": "Branches", "switches": "Switches",
+    "begins an iterator": "BeginsIterator", "advances an iterator": "AdvancesIterator", "ends an iterator": "EndsIterator",
+    "arms a handler": "ArmsHandler", "disarms a handler": "DisarmsHandler",
+}
+
+
+def opcodes():
+    """The instruction table as rows of the macro `opcodes` in Rust."""
+    for tag, name, letters, _, _, _, _, flow, quiet in instruction_table.table():
+        variant = "".join(word.capitalize() for word in name.split("_"))
+        kinds = ", ".join(RUST_KINDS[letter] for letter in letters.split())
+        yield f'    {variant} = 0x{tag}, "{name}", [{kinds}], {RUST_FLOWS[flow]}, {"true" if quiet else "false"};\n'
 
 
 def argument(text):
@@ -95,6 +116,7 @@ def blocks():
         "hosts/c/grain.h": (r'"Instructions"\)\. \*/\n', defines, r"\n/\* The number of this"),
         "hosts/rust/src/mnemonics.rs": (
             r"(?=const MNEMONICS)", f"const MNEMONICS: [(u8, &str); {len(names)}] = [\n{rows}];\n", r"\Z"),
+        "hosts/rust/src/opcode.rs": (r"(?=opcodes! \{)", "opcodes! {\n" + "".join(opcodes()) + "}\n", r"\Z"),
         "crates/grain_code/proofs/Rows.antt": (r"\nrows =\n", "".join(sorted(table_rows())) + "    []\n", r"\nabbrev pub row_of"),
         "crates/grain_flat/specs/TagNames.antt": (r"List \(List ℕ\)\n", by_tag(), r"\Z"),
         "crates/grain_flat/src/mnemonics.rt": (

@@ -1,32 +1,64 @@
-//! Finds `libgrain.a`: where GRAIN_LIB_DIR says, else beside the package, in a release or where `hosts/build` makes it.
+//! Finds `libgrain.a`: in the folder that GRAIN_LIB_DIR names, else inside the package, else beside it.
 use std::env;
 use std::path::{Path, PathBuf};
+use std::process::exit;
 
-/// Where it lies beside the package: in a release, and in the repository.
-const BESIDE: [&str; 2] = ["../lib", "../out"];
+/// Where it lies: inside the package, in a release beside it, and in the repository.
+const PLACES: [&str; 3] = ["lib", "../lib", "../out"];
 
-fn folder() -> PathBuf {
-    if let Some(named) = env::var_os("GRAIN_LIB_DIR") {
-        return PathBuf::from(named);
+fn fail(sentence: &str) -> ! {
+    eprintln!("{sentence}");
+    exit(1)
+}
+
+fn variable(name: &str) -> String {
+    env::var(name).unwrap_or_default()
+}
+
+fn check_target() {
+    let (os, arch) = (
+        variable("CARGO_CFG_TARGET_OS"),
+        variable("CARGO_CFG_TARGET_ARCH"),
+    );
+    if (&*os, &*arch) != ("linux", "x86_64") {
+        fail(&format!("grain is for x86_64 Linux, not for {arch} {os}"));
     }
-    let own = env::var_os("CARGO_MANIFEST_DIR").expect("cargo names the package's folder");
-    let beside = BESIDE.map(|folder| Path::new(&own).join(folder));
-    let found = beside.iter().find(|folder| has_library(folder));
-    found.unwrap_or(&beside[1]).clone()
 }
 
 fn has_library(folder: &Path) -> bool {
     folder.join("libgrain.a").is_file()
 }
 
+fn folder() -> PathBuf {
+    if let Some(named) = env::var_os("GRAIN_LIB_DIR") {
+        let named = PathBuf::from(named);
+        if !has_library(&named) {
+            fail(&format!(
+                "GRAIN_LIB_DIR names {}, where no libgrain.a is",
+                named.display()
+            ));
+        }
+        return named;
+    }
+    let own = variable("CARGO_MANIFEST_DIR");
+    let places = PLACES.map(|place| Path::new(&own).join(place));
+    match places.iter().find(|folder| has_library(folder)) {
+        Some(found) => found.clone(),
+        None => fail(&format!(
+            "no libgrain.a is in {}/lib: set GRAIN_LIB_DIR to the folder that has it",
+            own
+        )),
+    }
+}
+
 fn main() {
     println!("cargo:rerun-if-env-changed=GRAIN_LIB_DIR");
+    println!("cargo:rerun-if-env-changed=DOCS_RS");
+    if env::var_os("DOCS_RS").is_some() {
+        return;
+    }
+    check_target();
     let folder = folder();
-    assert!(
-        has_library(&folder),
-        "{} isn't there: run hosts/build, or name the folder of libgrain.a by GRAIN_LIB_DIR",
-        folder.join("libgrain.a").display()
-    );
     println!(
         "cargo:rerun-if-changed={}",
         folder.join("libgrain.a").display()

@@ -73,7 +73,7 @@ fn after_switches(code: &[u8]) -> Vec<u32> {
     let all = grain::instructions(code);
     let switches = all.filter(|(_, each)| each.tag == 0x18);
     switches
-        .map(|(at, each)| (at + usize::from(each.width)) as u32)
+        .map(|(address, each)| address + u32::from(each.width))
         .collect()
 }
 
@@ -114,11 +114,7 @@ fn least(most: u32, mut call: impl FnMut()) -> f64 {
 }
 
 fn whole(code: &[u8]) -> Chunk {
-    Chunk {
-        entry: 0,
-        end: code.len() as u32,
-        max_stack: 8,
-    }
+    Chunk::new(0, code.len() as u32, 8)
 }
 
 fn programs() {
@@ -130,12 +126,12 @@ fn programs() {
         let code = code(size);
         let names: Vec<String> = (0..size.names).map(|n| format!("name{n}")).collect();
         let targets = after_switches(&code);
-        let (chunks, mut numbers) = ([whole(&code)], [0]);
+        let (chunks, mut depths) = ([whole(&code)], [0]);
         let mut pools = Pools::new();
         build(&mut pools, &names, size, &targets);
         let rounds = (100_000 / size.instructions).clamp(1, 5_000) as u32;
         let mut verify = |pools: &Pools| {
-            verify_into(Caps::ALL, black_box(&code), &chunks, pools, &mut numbers)
+            verify_into(Caps::ALL, black_box(&code), &chunks, pools, &mut depths)
                 .expect("accepted");
         };
         let at_hand = least(rounds, || verify(&pools));
@@ -177,13 +173,13 @@ fn item(what: &str, many: usize, add: Add) {
     let code = [0x02, 0x13];
     let (mut pools, mut chunks) = (Pools::new(), vec![whole(&code)]);
     add(&mut pools, &mut chunks, many);
-    let mut numbers = vec![0; chunks.len()];
+    let mut depths = vec![0; chunks.len()];
     let before = forget_peak();
-    verify_into(Caps::ALL, &code, &chunks, &pools, &mut numbers).expect("accepted");
+    verify_into(Caps::ALL, &code, &chunks, &pools, &mut depths).expect("accepted");
     let bytes = before.and_then(|before| Some(peak()? - before));
     let mut time = |pools: &Pools, chunks: &[Chunk]| {
         least(1, || {
-            verify_into(Caps::ALL, &code, chunks, pools, &mut numbers).expect("accepted");
+            verify_into(Caps::ALL, &code, chunks, pools, &mut depths).expect("accepted");
         })
     };
     let (with, without) = (time(&pools, &chunks), time(&Pools::new(), &chunks[..1]));
@@ -245,7 +241,7 @@ const ITEMS: [(&str, Add); 10] = [
     }),
 ];
 
-/// The name under which a process of its own is told which item to measure, so that each finds memory as it was.
+/// The variable that names the item which a process of its own measures, so that each finds memory as it was.
 const ITEM: &str = "GRAIN_COSTS_ITEM";
 
 fn items() {

@@ -1,5 +1,5 @@
 //! Nanoseconds a call and for each instruction: the least of many rounds.
-use grain::{caps, verify_into, Chunk, Pools};
+use grain::{verify_into, Caps, Chunk, Pools};
 use std::hint::black_box;
 use std::time::{Duration, Instant};
 
@@ -29,7 +29,7 @@ fn branching(instructions: usize) -> Vec<u8> {
     code
 }
 
-/// A handler armed, Unit and Pop, disarmed, and a jump past what is caught, which is taken off; and a Return.
+/// A handler armed, Unit and Pop, the handler disarmed, a jump past where it catches, and there it is disarmed; and a Return.
 fn handlers(instructions: usize) -> Vec<u8> {
     let mut code = Vec::new();
     for _ in 0..(instructions - 1) / 6 {
@@ -46,19 +46,15 @@ fn handlers(instructions: usize) -> Vec<u8> {
 
 /// The least time of a call, in nanoseconds.
 fn least(code: &[u8]) -> f64 {
-    let chunks = [Chunk {
-        entry: 0,
-        end: code.len() as u32,
-        max_stack: 8,
-    }];
-    let (pools, mut numbers) = (Pools::new(), [0]);
+    let chunks = [Chunk::new(0, code.len() as u32, 8)];
+    let (pools, mut depths) = (Pools::new(), [0]);
     let calls = (200_000 / code.len()).clamp(1, 10_000) as u32;
     let mut least = Duration::MAX;
     let until = Instant::now() + Duration::from_millis(700);
     while Instant::now() < until {
         let start = Instant::now();
         for _ in 0..calls {
-            verify_into(caps::ALL, black_box(code), &chunks, &pools, &mut numbers)
+            verify_into(Caps::ALL, black_box(code), &chunks, &pools, &mut depths)
                 .expect("accepted");
         }
         least = least.min(start.elapsed() / calls);

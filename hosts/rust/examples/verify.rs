@@ -1,47 +1,46 @@
-//! Verifies code with a name, a chain and a switch, and prints the numbers of its chunks or why it is refused.
-use grain::{verify, Caps, Case, Chunk, Fault, Pools, Root, Step, Tail};
+//! Verifies a program with a name, a chain and a switch, for a host that has all capabilities, and for one that lacks some.
+use grain::{Caps, Case, Chunk, PoolError, Pools, Program, Root, Step, Tail};
+use std::error::Error;
 
-fn main() -> Result<(), Fault> {
-    let pools = Pools::new()
-        .constant(Caps::NONE)
-        .name("age")
-        .chain(
-            Root::Temporary,
-            &[Step::Property {
-                name: 0,
-                getter: 0,
-                setter: 0,
-            }],
-            Tail::Read,
-            0,
-        )
-        .switch(
-            &[Case {
-                target: 4,
-                constant: 0,
-            }],
-            &[6],
-            6,
-        );
-    let code = [
-        0x02, 0x18, 0, 0, 0x02, 0x13, 0x02, 0x13, 0x02, 0x16, 0, 0, 0x13,
+fn pools() -> Result<Pools, PoolError> {
+    let mut pools = Pools::new();
+    let name = pools.add_name("age")? as u32;
+    let constant = pools.add_constant(Caps::NONE)? as u32;
+    let step = Step::Property {
+        name,
+        getter: name,
+        setter: name,
+    };
+    pools.add_chain(Root::Temporary, [step], Tail::Read, 0)?;
+    let case = Case {
+        target: 4,
+        constant,
+    };
+    pools.add_switch([case], [6], 6)?;
+    Ok(pools)
+}
+
+fn main() -> Result<(), Box<dyn Error>> {
+    let code = vec![
+        0x02, 0x18, 0, 0, 0x02, 0x13, 0x02, 0x13, // the first chunk
+        0x02, 0x16, 0, 0, 0x13, // the second
     ];
-    let chunks = [
-        Chunk {
-            entry: 0,
-            end: 8,
-            max_stack: 2,
-        },
-        Chunk {
-            entry: 8,
-            end: 13,
-            max_stack: 1,
-        },
-    ];
-    println!("accepted {:?}", verify(Caps::ALL, &code, &chunks, &pools)?);
-    match verify(Caps::ALL - Caps::PROPERTY, &code, &chunks, &pools) {
-        Ok(numbers) => println!("accepted {numbers:?}"),
-        Err(fault) => println!("refused {fault}, chunk {:?}", fault.chunk()),
+    let chunks = vec![Chunk::new(0, 8, 2), Chunk::new(8, 13, 1)];
+    let mut program = Program::new(code, chunks, pools()?);
+    for caps in [Caps::ALL - Caps::PROPERTY, Caps::ALL] {
+        match program.into_verified(caps) {
+            Ok(verified) => {
+                println!("accepted {:?}", verified.depths());
+                return Ok(());
+            }
+            Err(rejected) => {
+                if let Some(refusal) = rejected.refusal() {
+                    println!("refused {}", refusal.line());
+                    print!("{}", rejected.program().explain(caps, refusal)?);
+                }
+                program = rejected.into_program();
+            }
+        }
     }
     Ok(())
 }

@@ -1,4 +1,5 @@
-//! Capabilities as a type.
+//! What a program needs of its host.
+use crate::text::Buffer;
 use std::fmt;
 use std::iter::FusedIterator;
 use std::ops::{
@@ -6,10 +7,10 @@ use std::ops::{
 };
 use std::str::FromStr;
 
-/// A set of capabilities, which a host has and code asks.
+/// A set of capabilities: those that a host has, or those that a program needs.
 ///
-/// No set has a bit without a name: [`from_bits`](Caps::from_bits) refuses a number with one. Sets are made by the operators
-/// of sets, and print by their names:
+/// No set has a bit without a name: [`from_bits`](Caps::from_bits) and `TryFrom<u16>` refuse a number with one. The operators
+/// are those of sets. A set prints by its names, or by its bits as `{:04x}`:
 ///
 /// ```
 /// use grain::Caps;
@@ -18,7 +19,9 @@ use std::str::FromStr;
 /// assert!(caps.contains(Caps::ARRAY | Caps::MAP));
 /// assert_eq!((!caps).to_string(), "EXPORT | IMPORT | CUSTOM_SYNTAX");
 /// assert_eq!("ARRAY | MAP".parse(), Ok(Caps::ARRAY | Caps::MAP));
-/// assert_eq!(Caps::from_bits(0x8000), None);
+/// assert_eq!(Caps::try_from(0x000a), Ok(Caps::ARRAY | Caps::MAP));
+/// assert_eq!(format!("{:04x}", Caps::ARRAY | Caps::MAP), "000a");
+/// assert!(Caps::try_from(0x8000).is_err());
 /// ```
 #[derive(Clone, Copy, Default, PartialEq, Eq, PartialOrd, Ord, Hash)]
 pub struct Caps(u16);
@@ -75,7 +78,7 @@ impl Caps {
         Caps(bits & Caps::ALL.0)
     }
 
-    /// Its bits, as docs/FORMAT.md has them ("Capabilities").
+    /// Its bits, as FORMAT.md has them ("Capabilities").
     #[must_use]
     pub const fn bits(self) -> u16 {
         self.0
@@ -99,29 +102,29 @@ impl Caps {
         self.0 & other.0 != 0
     }
 
-    /// All that is in one of them or in both; `|` where constants want it.
+    /// All that is in one of them or in both: `|` for constants.
     #[must_use]
     pub const fn union(self, other: Caps) -> Caps {
         Caps(self.0 | other.0)
     }
 
-    /// All that is in it and not in the other; `-` where constants want it.
+    /// All that is in it and not in the other: `-` for constants.
     #[must_use]
     pub const fn difference(self, other: Caps) -> Caps {
         Caps(self.0 & !other.0)
     }
 
-    /// Puts all of the other into it.
+    /// Adds all of the other to it.
     pub fn insert(&mut self, other: Caps) {
         self.0 |= other.0;
     }
 
-    /// Takes all of the other out of it.
+    /// Removes all of the other from it.
     pub fn remove(&mut self, other: Caps) {
         self.0 &= !other.0;
     }
 
-    /// Its capabilities, each as a set of its own, by their bits.
+    /// Its capabilities, each as a set of its own, the lowest bit first.
     #[must_use]
     pub fn iter(self) -> CapsIter {
         CapsIter(self)
@@ -265,17 +268,26 @@ impl Iterator for CapsIter {
 impl ExactSizeIterator for CapsIter {}
 impl FusedIterator for CapsIter {}
 
-/// The names, with ` | ` between them; `NONE` where nothing is in the set.
+/// The names, with ` | ` between them; `NONE` for the empty set.
 impl fmt::Display for Caps {
     fn fmt(&self, f: &mut fmt::Formatter<'_>) -> fmt::Result {
         if self.is_empty() {
-            return f.write_str("NONE");
+            return f.pad("NONE");
         }
+        // All fifteen names take 140 bytes.
+        let mut text = Buffer::<160>::new();
         for (place, caps) in self.iter().enumerate() {
-            f.write_str(if place == 0 { "" } else { " | " })?;
-            f.write_str(caps.name().unwrap_or_default())?;
+            text.push(if place == 0 { "" } else { " | " });
+            text.push(caps.name().unwrap_or_default());
         }
-        Ok(())
+        f.pad(&text)
+    }
+}
+
+/// The bits, as FORMAT.md writes them with `{:04x}`.
+impl fmt::LowerHex for Caps {
+    fn fmt(&self, f: &mut fmt::Formatter<'_>) -> fmt::Result {
+        fmt::LowerHex::fmt(&self.0, f)
     }
 }
 
@@ -285,18 +297,27 @@ impl fmt::Debug for Caps {
     }
 }
 
-/// A text names no set of capabilities.
+/// A text or a number is no set of capabilities: it has a name or a bit that no capability has.
 #[derive(Clone, Copy, Debug, PartialEq, Eq, Hash)]
 #[non_exhaustive]
 pub struct UnknownCap;
 
 impl fmt::Display for UnknownCap {
     fn fmt(&self, f: &mut fmt::Formatter<'_>) -> fmt::Result {
-        f.write_str("no capability has this name")
+        f.pad("not a set of capabilities")
     }
 }
 
 impl std::error::Error for UnknownCap {}
+
+/// The set with these bits, as [`Caps::from_bits`] makes it.
+impl TryFrom<u16> for Caps {
+    type Error = UnknownCap;
+
+    fn try_from(bits: u16) -> Result<Caps, UnknownCap> {
+        Caps::from_bits(bits).ok_or(UnknownCap)
+    }
+}
 
 /// Reads what [`Caps`] prints, and `ALL`.
 impl FromStr for Caps {
@@ -316,31 +337,6 @@ fn named(word: &str) -> Result<Caps, UnknownCap> {
             .find(|(_, name)| *name == word)
             .map(|(caps, _)| *caps)
             .ok_or(UnknownCap),
-    }
-}
-
-/// The capabilities of a host, as calls take them: [`Caps`], or a number whose bits are those of [`caps`](crate::caps).
-///
-/// A number is taken as it is. A bit in it that has no name is asked by no instruction and no value, so that it does nothing;
-/// [`Caps::from_bits`] refuses it.
-#[derive(Clone, Copy, Debug, PartialEq, Eq, Hash)]
-pub struct HostCaps(u16);
-
-impl HostCaps {
-    pub(crate) fn bits(self) -> u16 {
-        self.0
-    }
-}
-
-impl From<Caps> for HostCaps {
-    fn from(caps: Caps) -> HostCaps {
-        HostCaps(caps.bits())
-    }
-}
-
-impl From<u16> for HostCaps {
-    fn from(bits: u16) -> HostCaps {
-        HostCaps(bits)
     }
 }
 
@@ -389,5 +385,16 @@ mod tests {
         assert_eq!("NONE|ARRAY|MAP".parse(), Ok(some));
         assert_eq!("ARRAYS".parse::<Caps>(), Err(UnknownCap));
         assert_eq!("".parse::<Caps>(), Err(UnknownCap));
+        assert_eq!(
+            format!("{:>8}|{:<6}|{:.3}", Caps::MAP, Caps::NONE, some),
+            "     MAP|NONE  |ARR"
+        );
+        assert_eq!(Caps::ALL.to_string().len(), 140);
+        assert_eq!(Caps::ALL.to_string().parse(), Ok(Caps::ALL));
+        assert_eq!(format!("{some:04x} {:#x}", Caps::ALL), "000a 0x7fff");
+        assert_eq!(
+            (Caps::try_from(0x7fff), Caps::try_from(0xffff)),
+            (Ok(Caps::ALL), Err(UnknownCap))
+        );
     }
 }

@@ -1,28 +1,30 @@
 //! Code, instruction by instruction.
 use crate::mnemonics::mnemonic;
+use crate::opcode::Opcode;
 use crate::raw;
+use crate::text::Text;
 use std::fmt;
 use std::iter::FusedIterator;
 
-/// What a number is: a field of an instruction, or an index that a fault names.
+/// What a number is: a field of an instruction, or the index that a refusal names.
 #[derive(Clone, Copy, Debug, PartialEq, Eq, Hash)]
 #[non_exhaustive]
 pub enum Kind {
-    /// An index of a constant.
+    /// The index of a constant.
     Constant,
-    /// An index of a name.
+    /// The index of a name.
     Name,
-    /// An index of an operator.
+    /// The index of an operator.
     Operator,
-    /// An index of an op-assignment.
+    /// The index of an op-assignment.
     OpAssignment,
-    /// An index of a fragment of syntax.
+    /// The index of a fragment of syntax.
     Fragment,
-    /// An index of a chain.
+    /// The index of a chain.
     Chain,
-    /// An index of a switch.
+    /// The index of a switch.
     Switch,
-    /// An index of a site of custom syntax.
+    /// The index of a site of custom syntax.
     SyntaxSite,
     /// A place among the operands of a chain.
     Operand,
@@ -59,6 +61,27 @@ impl Kind {
     }
 }
 
+/// It prints as words of a sentence: `constant`, `op-assignment`.
+impl fmt::Display for Kind {
+    fn fmt(&self, f: &mut fmt::Formatter<'_>) -> fmt::Result {
+        f.pad(match self {
+            Kind::Constant => "constant",
+            Kind::Name => "name",
+            Kind::Operator => "operator",
+            Kind::OpAssignment => "op-assignment",
+            Kind::Fragment => "fragment of syntax",
+            Kind::Chain => "chain",
+            Kind::Switch => "switch",
+            Kind::SyntaxSite => "site of custom syntax",
+            Kind::Operand => "operand of the chain",
+            Kind::Slot => "slot",
+            Kind::Count => "count",
+            Kind::Target => "target",
+            Kind::Other(_) => "something newer than this package",
+        })
+    }
+}
+
 /// A field of an instruction.
 #[derive(Clone, Copy, Debug, PartialEq, Eq, Hash)]
 pub struct Field {
@@ -68,12 +91,12 @@ pub struct Field {
     pub value: u32,
 }
 
-/// An instruction. It prints as its mnemonic and its fields in order, as `CALL 3 2`.
+/// An instruction. It prints as its name and its fields in order, such as `CALL 3 2`.
 #[derive(Clone, Copy, Debug, PartialEq, Eq, Hash)]
 pub struct Instruction {
     /// The byte with which it begins.
     pub tag: u8,
-    /// How many bytes it takes, its tag among them.
+    /// How many bytes it takes, with its tag.
     pub width: u8,
     fields: [Option<Field>; 3],
     bytes: [u8; MOST_BYTES],
@@ -83,13 +106,27 @@ pub struct Instruction {
 const MOST_BYTES: usize = 7;
 
 impl Instruction {
+    /// Its row of the instruction table; `None` where the library is a newer one and this package doesn't know the tag.
+    #[must_use]
+    pub fn opcode(&self) -> Option<Opcode> {
+        Opcode::from_tag(self.tag)
+    }
+
     /// Its fields, in order.
     pub fn fields(&self) -> impl Iterator<Item = Field> + '_ {
         self.fields.iter().flatten().copied()
     }
 
-    /// Whether it is quiet: a machine has to fault at it never, or only with at least what stood when the last handler was
-    /// armed ([what a host owes](crate#what-a-host-owes)).
+    /// Its field of a kind, the first where it has two.
+    #[must_use]
+    pub fn field(&self, kind: Kind) -> Option<u32> {
+        self.fields()
+            .find(|field| field.kind == kind)
+            .map(|field| field.value)
+    }
+
+    /// Whether it is quiet: a machine must never fault at it, or only with at least what stood when the last handler was armed
+    /// ([what a host owes](crate#what-a-host-owes)).
     #[must_use]
     pub fn is_quiet(&self) -> bool {
         // SAFETY: a number is all that the function is given.
@@ -102,92 +139,84 @@ impl Instruction {
         &self.bytes[..usize::from(self.width).min(MOST_BYTES)]
     }
 
-    /// What it is called in docs/FORMAT.md ("Instructions"); `?` where the library is a newer one and this package has no name
-    /// for it.
+    /// Its name in FORMAT.md ("Instructions"); `?` where the library is a newer one and this package has no name for it.
     #[must_use]
     pub fn mnemonic(&self) -> &'static str {
         mnemonic(self.tag).unwrap_or("?")
-    }
-
-    /// Its field of a kind, the first where it has two.
-    #[must_use]
-    pub fn field(&self, kind: Kind) -> Option<u32> {
-        self.fields()
-            .find(|field| field.kind == kind)
-            .map(|field| field.value)
     }
 }
 
 impl fmt::Display for Instruction {
     fn fmt(&self, f: &mut fmt::Formatter<'_>) -> fmt::Result {
-        let (code, mut text, mut size) = (self.bytes(), [0; 128], 0);
-        // SAFETY: each pointer and length are those of one slice, and `text` and `size` live for the call.
-        let answer = unsafe {
-            raw::grain_instruction_text(
-                code.as_ptr(),
-                code.len(),
-                0,
-                text.as_mut_ptr(),
-                text.len(),
-                &mut size,
-            )
-        };
-        match (answer, std::str::from_utf8(&text[..size.min(text.len())])) {
-            (raw::WRITTEN, Ok(text)) => f.pad(text),
-            _ => f.pad(self.mnemonic()),
+        let code = self.bytes();
+        // SAFETY: the code is one slice, and the room is as large as is said.
+        let text = Text::written_by(|room, size| unsafe {
+            raw::grain_instruction_text(code.as_ptr(), code.len(), 0, room, size)
+        });
+        if text.is_empty() {
+            f.pad(self.mnemonic())
+        } else {
+            f.pad(&text)
         }
     }
 }
 
-/// The instructions of code from its front, each with its address, as far as there are instructions.
+/// The instructions of code from its front, each with its address, up to the first thing that is none.
 ///
 /// ```
 /// use grain::instructions;
 ///
 /// let code = [0x02, 0x0e, 0x07, 0, 0, 0, 0x0b, 0x13, 0x00];
 /// let mut left = instructions(&code);
-/// let lines: Vec<_> = left.by_ref().map(|(at, each)| format!("{at} {each}")).collect();
+/// let lines: Vec<_> = left.by_ref().map(|(address, each)| format!("{address} {each}")).collect();
 /// assert_eq!(lines, ["0 UNIT", "1 JUMP_IF_FALSE 7", "6 POP", "7 RETURN"]);
-/// assert_eq!((left.at(), left.is_whole()), (8, false));
+/// assert_eq!((left.address(), left.is_whole()), (8, false));
 /// ```
 #[must_use]
 pub fn instructions(code: &[u8]) -> Instructions<'_> {
-    Instructions { code, at: 0 }
+    Instructions { code, address: 0 }
 }
 
-/// The instructions of code that are left, in order, each with its address.
+/// The instructions of code that are left, in order, each with its address: what [`instructions`] answers.
 #[derive(Clone, Debug)]
 pub struct Instructions<'a> {
     code: &'a [u8],
-    at: usize,
+    address: u32,
 }
 
-impl Instructions<'_> {
-    /// The address of the next one: behind the last, where no instruction stands any more, that of what is none, or the
-    /// length of the code.
-    #[must_use]
-    pub fn at(&self) -> usize {
-        self.at
+impl<'a> Instructions<'a> {
+    /// Those from an address on.
+    pub(crate) fn from(code: &'a [u8], address: u32) -> Instructions<'a> {
+        Instructions { code, address }
     }
 
-    /// Whether all of the code has been gone through.
+    /// The address of the next one. Behind the last it is the address of the first thing that is no instruction, or the length
+    /// of the code.
+    #[must_use]
+    pub fn address(&self) -> u32 {
+        self.address
+    }
+
+    /// Whether no code is left.
     #[must_use]
     pub fn is_whole(&self) -> bool {
-        self.at == self.code.len()
+        self.address as usize == self.code.len()
     }
 }
 
 impl Iterator for Instructions<'_> {
-    type Item = (usize, Instruction);
+    type Item = (u32, Instruction);
 
-    fn next(&mut self) -> Option<(usize, Instruction)> {
-        let (at, found) = (self.at, instruction(self.code, self.at)?);
-        self.at += usize::from(found.width);
-        Some((at, found))
+    fn next(&mut self) -> Option<(u32, Instruction)> {
+        let (address, found) = (self.address, instruction(self.code, self.address)?);
+        // Code that is longer than an address can say is read no further.
+        self.address = address.checked_add(u32::from(found.width))?;
+        Some((address, found))
     }
 
     fn size_hint(&self) -> (usize, Option<usize>) {
-        (0, Some(self.code.len().saturating_sub(self.at)))
+        let left = self.code.len().saturating_sub(self.address as usize);
+        (0, Some(left))
     }
 }
 
@@ -195,24 +224,34 @@ impl FusedIterator for Instructions<'_> {}
 
 /// How many instructions the whole code is.
 ///
+/// ```
+/// assert_eq!(grain::count_instructions(&[0x02, 0x13]), Ok(2));
+/// assert_eq!(grain::count_instructions(&[0x02, 0xff]), Err(1));
+/// ```
+///
 /// # Errors
-/// The address of the first thing that is none.
+/// The address of the first thing that is no instruction.
 pub fn count_instructions(code: &[u8]) -> Result<usize, usize> {
-    let mut count = 0;
-    // SAFETY: the pointer and the length are those of one slice, and `count` lives for the call.
-    let is_whole = unsafe { raw::grain_count_instructions(code.as_ptr(), code.len(), &mut count) };
+    let (mut count, mut damage) = (0, 0);
+    // SAFETY: the code is one slice, and the numbers live for the call.
+    let is_whole = unsafe {
+        raw::grain_count_instructions(code.as_ptr(), code.len(), &mut count, &mut damage)
+    };
     if is_whole {
         Ok(count)
     } else {
-        Err(count)
+        Err(damage)
     }
 }
 
 /// The instruction at an address, or `None` where none stands there.
+///
+/// The proved library decodes it. A machine decodes faster by [`Opcode::decode`].
 #[must_use]
-pub fn instruction(code: &[u8], at: usize) -> Option<Instruction> {
+pub fn instruction(code: &[u8], address: u32) -> Option<Instruction> {
+    let at = address as usize;
     let mut found = raw::Instruction::default();
-    // SAFETY: the pointer and the length are those of one slice, and `found` lives for the call.
+    // SAFETY: the code is one slice, and `found` lives for the call.
     if !unsafe { raw::grain_instruction(code.as_ptr(), code.len(), at, &mut found) } {
         return None;
     }
@@ -222,8 +261,8 @@ pub fn instruction(code: &[u8], at: usize) -> Option<Instruction> {
             value: field.value,
         })
     });
-    let spelled = code.iter().skip(at).take(usize::from(found.width));
     let mut bytes = [0; MOST_BYTES];
+    let spelled = code.iter().skip(at).take(usize::from(found.width));
     for (byte, own) in bytes.iter_mut().zip(spelled) {
         *byte = *own;
     }

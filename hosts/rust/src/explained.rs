@@ -1,14 +1,50 @@
-//! Why a chunk is accepted or refused.
-use crate::capabilities::HostCaps;
-use crate::code::{instructions, Kind};
-use crate::fault::Fault;
+//! Why a program is accepted or refused.
+use crate::capabilities::Caps;
+use crate::error::{ExplainError, VerifyError};
 use crate::flat::FlatPools;
-use crate::{raw, Chunk};
-use std::fmt;
+use crate::refusal::Refusal;
+use crate::{raw, verifier, Chunk};
+use std::iter::FusedIterator;
+
+/// What is explained: a chunk, by its index, or what a [`Refusal`] refuses.
+#[derive(Clone, Copy, Debug, PartialEq, Eq, Hash)]
+#[non_exhaustive]
+pub enum Subject {
+    /// The chunk with this index.
+    Chunk(usize),
+    /// What is refused: a chunk, or a constant, the code or the functions.
+    Refusal(Refusal),
+}
+
+impl Subject {
+    fn chunk(self) -> Option<usize> {
+        match self {
+            Subject::Chunk(chunk) => Some(chunk),
+            Subject::Refusal(refusal) => refusal.chunk(),
+        }
+    }
+}
+
+impl From<usize> for Subject {
+    fn from(chunk: usize) -> Subject {
+        Subject::Chunk(chunk)
+    }
+}
+
+impl From<Refusal> for Subject {
+    fn from(refusal: Refusal) -> Subject {
+        Subject::Refusal(refusal)
+    }
+}
+
+impl From<&Refusal> for Subject {
+    fn from(refusal: &Refusal) -> Subject {
+        Subject::Refusal(*refusal)
+    }
+}
 
 /// The base of an armed handler: what stood when it was armed.
-#[repr(C)]
-#[derive(Clone, Copy, Debug, Default, PartialEq, Eq, Hash)]
+#[derive(Clone, Copy, Debug, PartialEq, Eq, Hash)]
 pub struct Base {
     /// How many operands there were.
     pub operands: u32,
@@ -16,324 +52,363 @@ pub struct Base {
     pub iterators: u32,
 }
 
-/// What stands at an instruction, or on a way to a flaw.
-#[derive(Clone, Debug, PartialEq, Eq, Hash)]
+/// What stands at an instruction when a run reaches it. Its bases are those of [`Explained::bases`].
+#[repr(C)]
+#[derive(Clone, Copy, Debug, Default, PartialEq, Eq, Hash)]
 pub struct Row {
-    /// The address of the instruction.
-    pub at: u32,
-    /// How many operands there are.
-    pub operands: u32,
-    /// How many iterators there are.
-    pub iterators: u32,
-    /// The address from which it was come to first; `None` at the entry, and on a way.
-    pub from: Option<u32>,
-    /// The bases of the armed handlers, that of the last first.
-    pub bases: Vec<Base>,
+    at: u32,
+    operands: u32,
+    iterators: u32,
+    from: u32,
+    base: u32,
 }
 
-/// What stands at each instruction of a chunk that ways along its edges come to, and why the chunk is refused, if it is.
+impl Row {
+    /// The address of the instruction.
+    #[must_use]
+    pub fn address(&self) -> u32 {
+        self.at
+    }
+
+    /// How many operands there are.
+    #[must_use]
+    pub fn operands(&self) -> u32 {
+        self.operands
+    }
+
+    /// How many iterators there are.
+    #[must_use]
+    pub fn iterators(&self) -> u32 {
+        self.iterators
+    }
+
+    /// An address from which the instruction is reached; `None` at the entry of the chunk, and on a path.
+    #[must_use]
+    pub fn reached_from(&self) -> Option<u32> {
+        (self.from != raw::NO_ADDRESS).then_some(self.from)
+    }
+}
+
+/// What stands at each reached instruction of a chunk, and why the program is refused, if it is.
 ///
-/// It prints as a listing, with what the pools call what instructions name.
+/// It prints as a listing, line by line, with the names that instructions name. What is untrusted in it is escaped: a listing
+/// has no control characters except line feeds, and none that change the direction of text.
 #[derive(Clone, Debug)]
 pub struct Explained<'a> {
-    code: &'a [u8],
-    pools: FlatPools<'a>,
-    chunk: Chunk,
+    pub(crate) code: &'a [u8],
+    pub(crate) pools: FlatPools<'a>,
+    pub(crate) chunk: Option<(usize, Chunk)>,
+    outside: Option<Refusal>,
+    inside: Option<Refusal>,
     rows: Vec<Row>,
-    way: Vec<Row>,
-    other: Vec<Row>,
-    refusal: Option<Fault>,
+    /// How many of the rows are of the chunk, and how many of these and of the path.
+    ends: (usize, usize),
+    bases: Vec<raw::Base>,
+    /// How many bases the list has that begins with each.
+    lengths: Vec<u32>,
 }
 
-impl Explained<'_> {
-    /// The rows, in the order of addresses. Where the chunk passes they are a stack typing of it and just what is reached; else
-    /// those that were come to until its flaw was met.
+impl<'a> Explained<'a> {
+    /// Why the program is refused, as far as is explained: for what is outside the chunks, else for the explained chunk. `None`
+    /// says that neither is refused.
+    #[must_use]
+    pub fn refusal(&self) -> Option<&Refusal> {
+        self.outside.as_ref().or(self.inside.as_ref())
+    }
+
+    /// Why the program is refused for what is outside the chunks: a constant, the code or the functions.
+    #[must_use]
+    pub fn refusal_outside(&self) -> Option<&Refusal> {
+        self.outside.as_ref()
+    }
+
+    /// Why the explained chunk is refused.
+    #[must_use]
+    pub fn refusal_of_chunk(&self) -> Option<&Refusal> {
+        self.inside.as_ref()
+    }
+
+    /// The index of the explained chunk; `None` where a refusal outside the chunks was to be explained.
+    #[must_use]
+    pub fn chunk(&self) -> Option<usize> {
+        self.chunk.map(|(index, _)| index)
+    }
+
+    /// What stands at the reached instructions of the chunk, in the order of addresses: all of them where the chunk passes;
+    /// where it is refused, those that the walk visited until it met the flaw.
     #[must_use]
     pub fn rows(&self) -> &[Row] {
-        &self.rows
+        &self.rows[..self.ends.0]
     }
 
-    /// Why the chunk is refused. Of which chunk it is, the fault doesn't say.
+    /// A path to the flaw, from the entry of the chunk on; its last row shows the flaw. It is empty where there is no flaw, and
+    /// where the chunk itself lies, begins or ends where it may not.
     #[must_use]
-    pub fn refusal(&self) -> Option<&Fault> {
-        self.refusal.as_ref()
+    pub fn path(&self) -> &[Row] {
+        &self.rows[self.ends.0..self.ends.1]
     }
 
-    /// The way to the flaw, from the entry on; its last row shows the flaw. It is empty where there is none, and where the
-    /// chunk itself begins or ends where it can't.
+    /// For a conflict, another path to the same address, with other counts; otherwise empty.
     #[must_use]
-    pub fn way(&self) -> &[Row] {
-        &self.way
+    pub fn other_path(&self) -> &[Row] {
+        &self.rows[self.ends.1..]
     }
 
-    /// Another way to the same address with other counts, of a conflict alone.
-    #[must_use]
-    pub fn other(&self) -> &[Row] {
-        &self.other
-    }
-}
-
-/// Why nothing is explained.
-#[derive(Clone, Copy, Debug, PartialEq, Eq, Hash)]
-#[non_exhaustive]
-pub enum ExplainError {
-    /// The code isn't whole instructions whose indices are in bounds: [`verify`](crate::verify) says what is wrong.
-    Unexplained,
-    /// Memory was wanted.
-    OutOfMemory,
-    /// No pools have the flat form that was lent.
-    NotFlat,
-    /// The library answered a number that this package doesn't know.
-    Unknown(u32),
-}
-
-impl fmt::Display for ExplainError {
-    fn fmt(&self, f: &mut fmt::Formatter<'_>) -> fmt::Result {
-        match self {
-            ExplainError::Unexplained => {
-                f.write_str("the code isn't whole instructions with their indices in bounds")
-            }
-            ExplainError::OutOfMemory => f.write_str("out of memory"),
-            ExplainError::NotFlat => f.write_str("no pools have this flat form"),
-            ExplainError::Unknown(answer) => write!(f, "the library answers {answer}"),
+    /// The bases of the handlers that are armed at a row of this explanation, from the innermost outwards.
+    pub fn bases(&self, row: &Row) -> Bases<'_> {
+        let length = self.lengths.get(row.base as usize);
+        Bases {
+            list: &self.bases,
+            next: row.base,
+            left: length.map_or(0, |length| *length as usize),
         }
     }
 }
 
-impl std::error::Error for ExplainError {}
-
-/// What the library writes of a chunk.
-struct Room {
-    rows: Vec<raw::Row>,
-    bases: Vec<Base>,
-    explained: raw::Explained,
-    fault: raw::Fault,
+/// The bases of armed handlers, from the innermost outwards: what [`Explained::bases`] answers.
+#[derive(Clone, Debug)]
+pub struct Bases<'a> {
+    list: &'a [raw::Base],
+    next: u32,
+    left: usize,
 }
 
-impl Room {
-    fn new(rows: usize, bases: usize) -> Result<Room, ExplainError> {
-        let (mut own, mut own_bases) = (Vec::new(), Vec::new());
-        own.try_reserve_exact(rows)
-            .map_err(|_| ExplainError::OutOfMemory)?;
-        own_bases
-            .try_reserve_exact(bases)
-            .map_err(|_| ExplainError::OutOfMemory)?;
-        own.resize(rows, raw::Row::default());
-        own_bases.resize(bases, Base::default());
-        Ok(Room {
-            rows: own,
-            bases: own_bases,
-            explained: raw::Explained::default(),
-            fault: raw::Fault::default(),
+impl Iterator for Bases<'_> {
+    type Item = Base;
+
+    fn next(&mut self) -> Option<Base> {
+        self.left = self.left.checked_sub(1)?;
+        let base = self.list.get(self.next as usize)?;
+        self.next = base.next;
+        Some(Base {
+            operands: base.operands,
+            iterators: base.iterators,
         })
     }
 
-    fn fill(&mut self, caps: u16, code: &[u8], chunk: &Chunk, pools: &FlatPools<'_>) -> u32 {
-        // SAFETY: each pointer and length are those of one list that is borrowed for the call, those that are written to
-        // without another reader; the record of the pools points into lists that `pools` borrows.
-        unsafe {
-            raw::grain_explain(
-                caps,
-                code.as_ptr(),
-                code.len(),
-                chunk,
-                &pools.raw(),
-                self.rows.as_mut_ptr(),
-                self.rows.len(),
-                self.bases.as_mut_ptr(),
-                self.bases.len(),
-                &mut self.explained,
-                &mut self.fault,
-            )
-        }
-    }
-
-    /// How many rows and bases there are.
-    fn counts(&self) -> (usize, usize) {
-        let raw::Explained {
-            rows,
-            way,
-            other,
-            bases,
-        } = self.explained;
-        (rows + way + other, bases)
-    }
-
-    fn has_all(&self) -> bool {
-        let (rows, bases) = self.counts();
-        rows <= self.rows.len() && bases <= self.bases.len()
+    fn size_hint(&self) -> (usize, Option<usize>) {
+        (self.left, Some(self.left))
     }
 }
 
-/// Explains a chunk: what stands at each instruction that ways along its edges come to, and where it is refused the way to its flaw, of a
-/// conflict two ways. Constants and functions aren't looked at.
+impl ExactSizeIterator for Bases<'_> {}
+impl FusedIterator for Bases<'_> {}
+
+/// Explains a chunk of a program, by its index, or what a [`Refusal`] refuses: what stands at each reached instruction, and a
+/// path to the flaw; for a conflict, two. What is outside the chunks is tested too, and a refusal for it is shown first.
+///
+/// Memory grows with the chunk, and time with the chunk and the code. The process never ends where the allocator refuses.
 ///
 /// ```
-/// use grain::{explain, Caps, Chunk, FlatPools};
+/// use grain::{explain, verify, Caps, Chunk, Flaw, Pools};
 ///
 /// // A loop that leaves an operand each round.
 /// let code = [0x02, 0x1d, 0x1e, 12, 0, 0, 0, 0x0c, 2, 0, 0, 0, 0x02, 0x13];
-/// let chunk = Chunk { entry: 0, end: 14, max_stack: 8 };
-/// let explained = explain(Caps::ALL, &code, chunk, FlatPools::new())?;
-/// let fault = explained.refusal().unwrap();
-/// assert_eq!(fault.to_string(), "depth-conflict at=2 expected=0 found=1");
-/// let ways = [explained.way(), explained.other()];
-/// let ways = ways.map(|way| way.iter().map(|row| (row.at, row.operands)).collect::<Vec<_>>());
-/// assert!(ways.contains(&vec![(0, 0), (1, 1), (2, 0)]));
-/// assert!(ways.contains(&vec![(0, 0), (1, 1), (2, 0), (7, 1), (2, 1)]));
+/// let (chunks, pools) = ([Chunk::new(0, 14, 8)], Pools::new());
+/// let error = verify(Caps::ALL, &code, &chunks, &pools).unwrap_err();
+///
+/// let explained = explain(Caps::ALL, &code, &chunks, &pools, error.refusal().unwrap())?;
+/// let refusal = explained.refusal().unwrap();
+/// assert_eq!((refusal.chunk(), refusal.address()), (Some(0), Some(2)));
+/// let paths = [explained.path(), explained.other_path()];
+/// let paths = paths.map(|path| path.iter().map(|row| (row.address(), row.operands())).collect::<Vec<_>>());
+/// assert!(paths.contains(&vec![(0, 0), (1, 1), (2, 0)]));
+/// assert!(paths.contains(&vec![(0, 0), (1, 1), (2, 0), (7, 1), (2, 1)]));
+/// println!("{explained}");
 /// # Ok::<(), grain::ExplainError>(())
 /// ```
 ///
 /// # Errors
-/// [`ExplainError::Unexplained`] where the code isn't whole instructions whose indices are in bounds; want of memory, and pools
-/// without a flat form.
+/// [`ExplainError::NoChunk`] where the program has no such chunk; [`ExplainError::BadCode`] where a chunk is to be explained of
+/// code that isn't whole instructions with their indices in bounds; the allocator refused; the pools aren't flat.
 pub fn explain<'a>(
-    caps: impl Into<HostCaps>,
+    caps: Caps,
     code: &'a [u8],
-    chunk: Chunk,
+    chunks: &[Chunk],
     pools: impl Into<FlatPools<'a>>,
+    subject: impl Into<Subject>,
 ) -> Result<Explained<'a>, ExplainError> {
-    let (caps, pools) = (caps.into().bits(), pools.into());
-    // No row is without its byte of the chunk, but ways may come to an instruction again; and bases are as many as there are.
-    let mut room = Room::new(code.len().saturating_add(1), code.len().saturating_add(1))?;
-    let mut answer = room.fill(caps, code, &chunk, &pools);
-    if matches!(answer, raw::ACCEPTED | raw::REFUSED) && !room.has_all() {
-        let (rows, bases) = room.counts();
-        room = Room::new(rows, bases)?;
-        answer = room.fill(caps, code, &chunk, &pools);
-    }
-    let refusal = match answer {
-        raw::ACCEPTED => None,
-        raw::REFUSED => Some(Fault::refusal(room.fault, 0)),
-        raw::UNEXPLAINED => return Err(ExplainError::Unexplained),
-        raw::OUT_OF_MEMORY => return Err(ExplainError::OutOfMemory),
-        raw::NOT_FLAT => return Err(ExplainError::NotFlat),
-        other => return Err(ExplainError::Unknown(other)),
-    };
-    let mut rest = &room.bases[..];
-    let mut row = |row: &raw::Row| {
-        let (own, behind) = rest.split_at(row.bases);
-        rest = behind;
-        row.with_bases(own)
-    };
-    let raw::Explained {
-        rows: many,
-        way,
-        other,
-        ..
-    } = room.explained;
-    let (rows, ways) = room.rows.split_at(many);
-    let rows = rows.iter().map(&mut row).collect();
-    let mut from_the_end = |rows: &[raw::Row]| {
-        let mut made: Vec<Row> = rows.iter().map(&mut row).collect();
-        made.reverse();
-        made
-    };
-    let (way, other) = (
-        from_the_end(&ways[..way]),
-        from_the_end(&ways[way..way + other]),
-    );
-    Ok(Explained {
+    explain_within(
+        raw::NO_LIMIT,
+        caps,
         code,
-        pools,
-        chunk,
-        rows,
-        way,
-        other,
-        refusal,
-    })
+        chunks,
+        pools.into(),
+        subject.into(),
+    )
 }
 
-impl raw::Row {
-    fn with_bases(&self, bases: &[Base]) -> Row {
-        Row {
-            at: self.at,
-            operands: self.operands,
-            iterators: self.iterators,
-            from: (self.from != raw::NO_ADDRESS).then_some(self.from),
-            bases: bases.to_vec(),
-        }
+/// The same within a limit on the bytes that the chunk spans.
+pub(crate) fn explain_within<'a>(
+    limit: u64,
+    caps: Caps,
+    code: &'a [u8],
+    chunks: &[Chunk],
+    pools: FlatPools<'a>,
+    subject: Subject,
+) -> Result<Explained<'a>, ExplainError> {
+    let mut explained = Explained {
+        code,
+        pools,
+        chunk: None,
+        outside: refusal_outside(caps, code, &pools)?,
+        inside: None,
+        rows: Vec::new(),
+        ends: (0, 0),
+        bases: Vec::new(),
+        lengths: Vec::new(),
+    };
+    let Some(index) = subject.chunk() else {
+        return Ok(explained);
+    };
+    let chunk = *chunks.get(index).ok_or(ExplainError::NoChunk(index))?;
+    let span = span(code, &chunk);
+    if span as u64 > limit {
+        return Err(ExplainError::TooMuchWork);
     }
+    explained.chunk = Some((index, chunk));
+    explained.fill(caps, &pools.program(code, chunks), index, span)?;
+    Ok(explained)
+}
+
+/// How many bytes of the code a chunk spans.
+fn span(code: &[u8], chunk: &Chunk) -> usize {
+    let end = (chunk.end as usize).min(code.len());
+    end.saturating_sub(chunk.entry as usize)
+}
+
+/// Why a program is refused whatever its chunks are, if it is.
+fn refusal_outside(
+    caps: Caps,
+    code: &[u8],
+    pools: &FlatPools<'_>,
+) -> Result<Option<Refusal>, ExplainError> {
+    match verifier::judge_in(None, raw::NO_LIMIT, caps, code, &[], pools, &mut []) {
+        Ok(_) => Ok(None),
+        Err(VerifyError::Refused(refusal)) => Ok(Some(refusal)),
+        Err(failure) => Err(failure.into()),
+    }
+}
+
+/// A list of this many zeros.
+fn zeroed<T: Clone + Default>(length: usize) -> Result<Vec<T>, ExplainError> {
+    let mut list = Vec::new();
+    list.try_reserve_exact(length)
+        .map_err(|_| ExplainError::OutOfMemory)?;
+    list.resize(length, T::default());
+    Ok(list)
 }
 
 impl Explained<'_> {
-    /// A line of the listing: the address, what stands there, and the instruction with the names that it names.
-    fn write_line(&self, f: &mut fmt::Formatter<'_>, at: usize, row: Option<&Row>) -> fmt::Result {
-        match row {
-            Some(row) => {
-                let bases = row
-                    .bases
-                    .iter()
-                    .map(|base| format!("{}/{}", base.operands, base.iterators));
-                let bases: Vec<_> = bases.collect();
-                let bases = if bases.is_empty() {
-                    "-".into()
-                } else {
-                    bases.join(" ")
-                };
-                write!(
-                    f,
-                    "{at:>9} {:>9} {:>9}  {bases:<9}",
-                    row.operands, row.iterators
-                )?;
+    /// Has the library explain a chunk. The first try has room for a row and a base at each byte of it. The second has as much
+    /// as the library says.
+    fn fill(
+        &mut self,
+        caps: Caps,
+        program: &raw::Program,
+        index: usize,
+        span: usize,
+    ) -> Result<(), ExplainError> {
+        let (mut rows, mut bases) = (span, span);
+        for _ in 0..2 {
+            let (status, found) = self.explain_into(caps, program, index, rows, bases)?;
+            if !matches!(status, raw::ACCEPTED | raw::REFUSED) {
+                return Err(self.failure(status, index));
             }
-            None => write!(f, "{at:>9}       not come to            ")?,
+            let path_end = found.rows.saturating_add(found.path);
+            let end = path_end.saturating_add(found.other);
+            if end <= rows && found.bases <= bases {
+                self.rows.truncate(end);
+                self.bases.truncate(found.bases);
+                self.ends = (found.rows, path_end);
+                self.lengths = lengths(&self.bases)?;
+                self.inside = (status == raw::REFUSED)
+                    .then(|| Refusal::new(found.refusal, found.rows as u64).of_chunk(index));
+                return Ok(());
+            }
+            (rows, bases) = (end, found.bases);
         }
-        let Some(found) = self
-            .code
-            .get(at..)
-            .and_then(|rest| instructions(rest).next())
-        else {
-            return writeln!(f, " no instruction");
-        };
-        write!(f, " {}", found.1)?;
-        let is_name = |field: &crate::Field| field.kind == Kind::Name;
-        for name in found
-            .1
-            .fields()
-            .filter(is_name)
-            .filter_map(|field| self.pools.name(field.value))
-        {
-            write!(f, " `{name}`")?;
-        }
-        writeln!(f)
+        Err(ExplainError::Unknown(raw::SHORT))
     }
 
-    fn write_way(&self, f: &mut fmt::Formatter<'_>, title: &str, way: &[Row]) -> fmt::Result {
-        if way.is_empty() {
-            return Ok(());
+    fn explain_into(
+        &mut self,
+        caps: Caps,
+        program: &raw::Program,
+        index: usize,
+        rows: usize,
+        bases: usize,
+    ) -> Result<(u32, raw::Explanation), ExplainError> {
+        // What a first try took is freed before the second takes memory.
+        (self.rows, self.bases) = (Vec::new(), Vec::new());
+        (self.rows, self.bases) = (zeroed(rows)?, zeroed(bases)?);
+        let mut found = raw::Explanation::default();
+        // SAFETY: the record points to lists that the caller borrows; the lists that are written to are this call's alone.
+        let status = unsafe {
+            raw::grain_explain(
+                caps.bits(),
+                program,
+                index,
+                self.rows.as_mut_ptr(),
+                self.rows.len(),
+                self.bases.as_mut_ptr(),
+                self.bases.len(),
+                &mut found,
+            )
+        };
+        Ok((status, found))
+    }
+
+    fn failure(&self, status: u32, index: usize) -> ExplainError {
+        match status {
+            raw::OUT_OF_MEMORY => ExplainError::OutOfMemory,
+            raw::NOT_FLAT => verifier::not_flat(&self.pools).into(),
+            raw::NO_CHUNK => ExplainError::NoChunk(index),
+            // With all capabilities nothing is refused before the code.
+            raw::BAD_CODE => match refusal_outside(Caps::ALL, self.code, &self.pools) {
+                Ok(Some(refusal)) => ExplainError::BadCode(refusal),
+                Ok(None) => ExplainError::Unknown(status),
+                Err(failure) => failure,
+            },
+            raw::UNFINISHED => ExplainError::Unfinished,
+            status => ExplainError::Unknown(status),
         }
-        writeln!(f, "{title}")?;
-        way.iter()
-            .try_for_each(|row| self.write_line(f, row.at as usize, Some(row)))
     }
 }
 
-impl fmt::Display for Explained<'_> {
-    fn fmt(&self, f: &mut fmt::Formatter<'_>) -> fmt::Result {
-        let Chunk {
-            entry,
-            end,
-            max_stack,
-        } = self.chunk;
-        write!(f, "from {entry} to {end}, which declares {max_stack}: ")?;
-        match &self.refusal {
-            Some(fault) => writeln!(f, "refused {fault}")?,
-            None => writeln!(f, "passes")?,
+/// How many bases the list has that begins with each: each base is gone through twice.
+fn lengths(bases: &[raw::Base]) -> Result<Vec<u32>, ExplainError> {
+    let mut lengths: Vec<u32> = zeroed(bases.len())?;
+    for first in 0..bases.len() {
+        let (mut new, mut next) = (0u32, first);
+        while next < bases.len() && lengths[next] == 0 && (new as usize) < bases.len() {
+            new += 1;
+            next = bases[next].next as usize;
         }
-        writeln!(f, "  address  operands iterators  bases     instruction")?;
-        let body = self.code.get(entry as usize..end as usize).unwrap_or(&[]);
-        for (place, _) in instructions(body) {
-            let at = entry as usize + place;
-            let row = self.rows.binary_search_by_key(&at, |row| row.at as usize);
-            self.write_line(f, at, row.ok().map(|found| &self.rows[found]))?;
+        let known = lengths.get(next).copied().unwrap_or(0);
+        next = first;
+        for place in (1..=new).rev() {
+            lengths[next] = known + place;
+            next = bases[next].next as usize;
         }
-        let title = if self.other.is_empty() {
-            "The way there:"
-        } else {
-            "One way there:"
+    }
+    Ok(lengths)
+}
+
+#[cfg(test)]
+mod tests {
+    use super::*;
+
+    #[test]
+    fn lists_of_bases_are_measured_once() {
+        let base = |next| raw::Base {
+            operands: 0,
+            iterators: 0,
+            next,
         };
-        self.write_way(f, title, &self.way)?;
-        self.write_way(f, "The other:", &self.other)
+        let none = raw::NO_BASE;
+        let bases = [base(none), base(0), base(1), base(0), base(5), base(2)];
+        assert_eq!(lengths(&bases), Ok(vec![1, 2, 3, 2, 5, 4]));
+        assert_eq!(lengths(&[]), Ok(vec![]));
     }
 }

@@ -1,14 +1,17 @@
-//! Pools in their flat form, lent by the caller.
+//! Pools in their flat form: lists of the caller's.
 use crate::pools::Pools;
 use crate::raw;
 use crate::rows::{Case, ChainRow, Constant, StepRow, SwitchRow};
+use crate::text::Buffer;
+use crate::Chunk;
+use std::fmt::{self, Write};
 
 /// Pools in their flat form: lists of the caller's, which are borrowed and not copied. Whoever has such lists needs no
 /// [`Pools`].
 ///
 /// The steps of all chains stand one chain after another, and so do the cases and the ranges of all switches; the numbers in
-/// the rows have to add up to them. Where they don't, or the names aren't cut as [`names`](FlatPools::names) says, no pools
-/// have this form, and the program is refused by [`Cause::NotFlat`](crate::Cause::NotFlat).
+/// the rows must add up to them. Where they don't, or the names aren't cut as [`names`](FlatPools::names) says, no pools have
+/// this form: the answer is [`VerifyError::NotFlat`](crate::VerifyError::NotFlat), and [`check`](FlatPools::check) says the same.
 ///
 /// ```
 /// use grain::{verify, Caps, Case, ChainRow, Chunk, FlatPools, Root, Step, StepRow, SwitchRow, Tail};
@@ -17,8 +20,10 @@ use crate::rows::{Case, ChainRow, Constant, StepRow, SwitchRow};
 /// let chains = [ChainRow::new(Root::Temporary, 1, Tail::Read, 0)];
 /// let pools = FlatPools::new().names(b"lenage", &[0, 3, 6]).chains(&chains, &steps);
 /// let code = [0x02, 0x16, 0, 0, 0x13];
-/// let chunks = [Chunk { entry: 0, end: 5, max_stack: 1 }];
-/// assert_eq!(verify(Caps::ALL, &code, &chunks, pools), Ok(vec![1]));
+/// assert_eq!(verify(Caps::ALL, &code, &[Chunk::new(0, 5, 1)], pools), Ok(vec![1]));
+///
+/// let flaw = pools.chains(&chains, &[]).check().unwrap_err();
+/// assert_eq!(flaw.to_string(), "the list of chains isn't flat at index 0");
 /// ```
 #[derive(Clone, Copy, Debug)]
 pub struct FlatPools<'a> {
@@ -68,6 +73,21 @@ impl<'a> FlatPools<'a> {
             && self.ranges.len() <= most
     }
 
+    /// Tests that some pools have this flat form.
+    ///
+    /// # Errors
+    /// Which list is wrong, and where.
+    pub fn check(&self) -> Result<(), PoolsFlaw> {
+        let mut flaw = raw::PoolsFlaw::default();
+        // SAFETY: the record points to lists that `self` borrows, and both records live for the call.
+        let is_flat = unsafe { raw::grain_check_pools(&self.raw(), &mut flaw) };
+        if is_flat {
+            Ok(())
+        } else {
+            Err(PoolsFlaw::of(flaw))
+        }
+    }
+
     /// With these constants.
     #[must_use]
     pub const fn constants(mut self, constants: &'a [Constant]) -> FlatPools<'a> {
@@ -84,28 +104,28 @@ impl<'a> FlatPools<'a> {
         self
     }
 
-    /// With so many operators.
+    /// With this many operators.
     #[must_use]
     pub const fn operators(mut self, operators: usize) -> FlatPools<'a> {
         self.operators = operators;
         self
     }
 
-    /// With so many op-assignments.
+    /// With this many op-assignments.
     #[must_use]
     pub const fn op_assignments(mut self, op_assignments: usize) -> FlatPools<'a> {
         self.op_assignments = op_assignments;
         self
     }
 
-    /// With so many fragments of syntax.
+    /// With this many fragments of syntax.
     #[must_use]
     pub const fn fragments(mut self, fragments: usize) -> FlatPools<'a> {
         self.fragments = fragments;
         self
     }
 
-    /// With so many functions.
+    /// With this many functions.
     #[must_use]
     pub const fn functions(mut self, functions: usize) -> FlatPools<'a> {
         self.functions = functions;
@@ -164,6 +184,17 @@ impl<'a> FlatPools<'a> {
         }
     }
 
+    /// The record of a program with these pools. It points to lists that the caller and `self` borrow.
+    pub(crate) fn program(&self, code: &[u8], chunks: &[Chunk]) -> raw::Program {
+        raw::Program {
+            code: code.as_ptr(),
+            code_len: code.len(),
+            chunks: chunks.as_ptr(),
+            chunks_len: chunks.len(),
+            pools: self.raw(),
+        }
+    }
+
     pub(crate) fn constant_rows(&self) -> &'a [Constant] {
         self.constants
     }
@@ -173,22 +204,16 @@ impl<'a> FlatPools<'a> {
         self.starts.len().saturating_sub(1)
     }
 
-    /// The name at an index, where it is one.
-    pub(crate) fn name(&self, index: u32) -> Option<&'a str> {
+    /// The bytes of the name at an index, where there is one.
+    pub(crate) fn name(&self, index: u32) -> Option<&'a [u8]> {
         let index = index as usize;
         let (from, to) = (*self.starts.get(index)?, *self.starts.get(index + 1)?);
-        std::str::from_utf8(self.names.get(from as usize..to as usize)?).ok()
+        self.names.get(from as usize..to as usize)
     }
 
     /// The chain at an index, and its steps.
     pub(crate) fn chain(&self, index: usize) -> Option<(ChainRow, &'a [StepRow])> {
-        let chain = *self.chains.get(index)?;
-        let before: usize = self.chains[..index]
-            .iter()
-            .map(|chain| chain.steps() as usize)
-            .sum();
-        let steps = self.steps.get(before..)?.get(..chain.steps() as usize)?;
-        Some((chain, steps))
+        self.all_chains().nth(index)
     }
 
     /// All chains, each with its steps, as far as there are steps.
@@ -202,6 +227,79 @@ impl<'a> FlatPools<'a> {
         })
     }
 }
+
+/// A list of [`FlatPools`].
+#[derive(Clone, Copy, Debug, PartialEq, Eq, Hash)]
+#[non_exhaustive]
+pub enum PoolsList {
+    /// The constants.
+    Constants,
+    /// The names with their starts. An index is that of a name.
+    Names,
+    /// The chains.
+    Chains,
+    /// The steps of all chains.
+    Steps,
+    /// The switches.
+    Switches,
+    /// The cases of all switches.
+    Cases,
+    /// The ranges of all switches.
+    Ranges,
+    /// Something that this package has no name for: the library is a newer one.
+    Other(
+        /// Its number in `grain.h`.
+        u32,
+    ),
+}
+
+/// Where pools aren't flat.
+#[derive(Clone, Copy, Debug, PartialEq, Eq, Hash)]
+pub struct PoolsFlaw {
+    /// The list that is wrong.
+    pub list: PoolsList,
+    /// The index of the first entry that is wrong, or the length of the list where entries are missing.
+    pub index: u64,
+}
+
+impl PoolsFlaw {
+    pub(crate) fn of(flaw: raw::PoolsFlaw) -> PoolsFlaw {
+        let list = match flaw.list {
+            1 => PoolsList::Constants,
+            2 => PoolsList::Names,
+            3 => PoolsList::Chains,
+            4 => PoolsList::Steps,
+            5 => PoolsList::Switches,
+            6 => PoolsList::Cases,
+            7 => PoolsList::Ranges,
+            other => PoolsList::Other(other),
+        };
+        PoolsFlaw {
+            list,
+            index: flaw.index,
+        }
+    }
+}
+
+impl fmt::Display for PoolsFlaw {
+    fn fmt(&self, f: &mut fmt::Formatter<'_>) -> fmt::Result {
+        let list = match self.list {
+            PoolsList::Constants => "the list of constants",
+            PoolsList::Names => "the list of names",
+            PoolsList::Chains => "the list of chains",
+            PoolsList::Steps => "the list of steps",
+            PoolsList::Switches => "the list of switches",
+            PoolsList::Cases => "the list of cases",
+            PoolsList::Ranges => "the list of ranges",
+            PoolsList::Other(_) => "a list that is unknown here",
+        };
+        let mut text = Buffer::<80>::new();
+        write!(text, "{list} isn't flat at index {}", self.index)?;
+        f.pad(&text)
+    }
+}
+
+impl std::error::Error for PoolsFlaw {}
 
 impl Default for FlatPools<'_> {
     fn default() -> Self {

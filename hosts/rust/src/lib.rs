@@ -1,68 +1,115 @@
 //! The proved verifier for untrusted Rhai Grain bytecode, in the host's process.
 //!
-//! [`verify`] says whether a program may be run in place, and how many operands each of its chunks needs. It accepts
-//! exactly the programs that the written rules accept, want of memory aside, which is proved. This package is what a Rust
-//! program needs around the library's C functions: it owes what they ask of their callers, and has no `unsafe` beyond
-//! these calls. A host that verifies many programs keeps a [`Verifier`].
-//!
-//! # What a host owes
-//! The promise and the numbers are those of *kept* runs, in which a fault that a handler catches finds at least what stood
-//! on the stacks when the handler was armed. So a machine has to step as docs/FORMAT.md says ("Verification"), and at the
-//! eight quiet instructions (`Unit`, `Bool`, `Pop`, `Rotate`, `PopHandler`, `IterDrop`, `UnwindTo`, `Return`;
-//! [`Instruction::is_quiet`]) it has to fault never, or only with at least that much left; at all others accepted code
-//! sees to it.
+//! [`verify`] and [`Program::into_verified`] say whether a compiled script may run in place, and how many operands each of its
+//! chunks needs. No run of an accepted program lacks an operand, an iterator or a handler, or leaves its chunk, on a machine that
+//! does [what a host owes](crate#what-a-host-owes). The library behind this package is proved to accept exactly the programs of
+//! FORMAT.md, where memory suffices; the package is plain Rust around the library's C functions, tested and not proved.
 //!
 //! ```
-//! use grain::{verify, Caps, Case, Chunk, Pools, Root, Step, Tail};
+//! use grain::{Caps, Case, Chunk, Pools, Program, Root, Step, Tail};
 //!
 //! let pools = Pools::new()
 //!     .constant(Caps::NONE)
 //!     .name("len")
 //!     .chain(Root::Temporary, &[Step::Property { name: 0, getter: 0, setter: 0 }], Tail::Read, 0)
 //!     .switch(&[Case { target: 4, constant: 0 }], &[], 6);
-//! let code = [0x02, 0x18, 0, 0, 0x02, 0x13, 0x02, 0x13, 0x02, 0x16, 0, 0, 0x13];
-//! let chunks = [Chunk { entry: 0, end: 8, max_stack: 2 }, Chunk { entry: 8, end: 13, max_stack: 1 }];
-//! let numbers = verify(Caps::ALL, &code, &chunks, &pools)?;
-//! assert_eq!(numbers, [2, 1]);
+//! let code = vec![0x02, 0x18, 0, 0, 0x02, 0x13, 0x02, 0x13, 0x02, 0x16, 0, 0, 0x13];
+//! let chunks = vec![Chunk::new(0, 8, 2), Chunk::new(8, 13, 1)];
+//! let program = Program::new(code, chunks, pools);
 //!
-//! let fault = verify(Caps::ALL - Caps::PROPERTY, &code, &chunks, &pools).unwrap_err();
-//! assert_eq!(fault.to_string(), "missing-caps at=9 missing=0200");
-//! assert_eq!((fault.chunk(), fault.at()), (Some(1), Some(9)));
-//! # Ok::<(), grain::Fault>(())
+//! let rejected = program.into_verified(Caps::ALL - Caps::PROPERTY).unwrap_err();
+//! let refusal = rejected.refusal().unwrap();
+//! assert_eq!(refusal.to_string(), "chunk 1: the instruction at 9 needs PROPERTY, which the host doesn't have");
+//! println!("{}", rejected.program().explain(Caps::ALL - Caps::PROPERTY, refusal)?);
+//!
+//! let verified = rejected.into_program().into_verified(Caps::ALL)?;
+//! assert_eq!(verified.depths(), [2, 1]);
+//! # Ok::<(), Box<dyn std::error::Error>>(())
 //! ```
+//!
+//! | To | Use |
+//! |---|---|
+//! | verify one program | [`Program::into_verified`], or [`verify`] where the lists are the host's own |
+//! | verify many, within a limit | [`Verifier`] |
+//! | say why not | [`VerifyError`], [`Refusal`], [`Flaw`] |
+//! | show why not | [`Program::explain`], [`Explained`] |
+//! | fill pools | [`Pools`], or [`FlatPools`] where the lists are the host's own |
+//! | run what is accepted | [`Verified`], [`Opcode`] |
+//! | find lines | [`Program::site`], [`site`], [`stream_site`] |
+//!
+//! # What a host owes
+//!
+//! - It runs only what was accepted, unchanged, with room for as many operands as the depth of each chunk. [`Verified`] keeps
+//!   the program and the depths together.
+//! - Its constants, names, functions, chains and switches are those that the verified pools describe, by the same indices.
+//! - It has the capabilities for which the program was verified, and knows what constants can do that are [`Needs::Unknown`].
+//! - Its machine steps as FORMAT.md says ("Verification").
+//! - Where a handler catches a fault, at least what stood on the stacks when the handler was armed still stands. Accepted code
+//!   ensures this at every instruction except the quiet ones: `UNIT`, `FALSE`, `TRUE`, `POP`, `ROTATE`, `POP_HANDLER`,
+//!   `ITER_DROP`, `UNWIND_TO` and `RETURN` ([`Opcode::is_quiet`]). At these the machine must never fault, or only with at least
+//!   that much left.
+//!
+//! A yes says nothing of slots and scopes, of values and their types, of what a call does, and not that a run ends.
+//!
+//! # What to bound for hostile input
+//!
+//! - The length of the code, and of each list of the pools: time and memory grow with them.
+//! - The work: chunks may overlap, so that many short chunks cost as much as long code. [`Verifier::limit`] bounds it.
+//! - The depth of constants is the host's to bound, where it reads them: verification sees only what they need.
+//!
+//! No call waits or prints. No call ends the process where the allocator refuses, except the chained calls of [`Pools`] and
+//! clones, which take memory as a `Vec` does.
+//!
+//! # Platform
+//!
+//! x86-64 Linux, on processors with `popcnt` (x86-64-v2), and Rust 1.74. The package links `libgrain.a`: that in the folder that
+//! GRAIN_LIB_DIR names, else `lib/libgrain.a` inside the package, else one beside the package, in `../lib` or `../out`. A library
+//! of another interface doesn't link.
 #![warn(missing_docs)]
 
+#[cfg(doctest)]
+#[doc = include_str!("../README.md")]
+struct Readme;
+
 mod capabilities;
-pub mod caps;
 mod code;
+mod error;
 mod explained;
-mod fault;
 mod flat;
+mod listing;
 mod mnemonics;
+mod opcode;
 mod places;
 mod pools;
 mod program;
 mod raw;
+mod refusal;
 mod rows;
 mod tables;
+mod text;
+mod verified;
 mod verifier;
 
-pub use capabilities::{Caps, CapsIter, HostCaps, UnknownCap};
+pub use capabilities::{Caps, CapsIter, UnknownCap};
 pub use code::{
     count_instructions, instruction, instructions, Field, Instruction, Instructions, Kind,
 };
-pub use explained::{explain, Base, ExplainError, Explained, Row};
-pub use fault::{Cause, Fault};
-pub use flat::FlatPools;
+pub use error::{ExplainError, VerifyError};
+pub use explained::{explain, Base, Bases, Explained, Row, Subject};
+pub use flat::{FlatPools, PoolsFlaw, PoolsList};
 pub use mnemonics::mnemonic;
+pub use opcode::{Flow, Opcode};
 pub use places::{ChainPart, ChainPlace};
 pub use pools::{PoolError, Pools};
-pub use program::{AttachError, Program, Sidecar};
-pub use rows::{Asks, Case, ChainRow, Constant, Root, Step, StepRow, SwitchRow, Tail};
+pub use program::{AttachError, Positions, Program};
+pub use refusal::{Flaw, Refusal};
+pub use rows::{Case, ChainRow, Constant, Needs, Root, Step, StepRow, SwitchRow, Tail};
 pub use tables::{
     check_stream, check_table, site, stream_site, stream_sites, stream_sites_into, table_entries,
     table_entries_into, Entry, ReadError, Site, TableFlaw,
 };
+pub use text::Text;
+pub use verified::{Rejected, Verified};
 pub use verifier::Verifier;
 
 /// A part of the code that is run by itself.
@@ -73,101 +120,106 @@ pub struct Chunk {
     pub entry: u32,
     /// The address past the last instruction.
     pub end: u32,
-    /// How many operands the chunk declares that it stacks at most.
+    /// How many operands the chunk declares that it needs at most.
     pub max_stack: u16,
 }
 
-/// Whether the library that is linked has the interface that this package was written for.
-#[must_use]
-pub fn is_own_library() -> bool {
-    // SAFETY: the function is given nothing.
-    unsafe { raw::grain_interface() == raw::INTERFACE }
+impl Chunk {
+    /// A chunk from one address up to another, which declares this many operands.
+    #[must_use]
+    pub const fn new(entry: u32, end: u32, max_stack: u16) -> Chunk {
+        Chunk {
+            entry,
+            end,
+            max_stack,
+        }
+    }
 }
 
-/// The greatest operand count that any run of each chunk reaches, chunk by chunk.
+/// Verifies a program for a host with these capabilities, and answers the depth of each chunk: the greatest number of operands
+/// that any run of it reaches.
 ///
-/// `caps` are the capabilities of the host, [`Caps`] or their number ([`caps`]); `pools` are [`&Pools`](Pools) or
-/// [`FlatPools`]. What is accepted may be run in place on stacks of as many operands, by a machine that does as
-/// [a host owes](crate#what-a-host-owes): no kept run lacks an operand, an iterator or a handler, and none leaves the
-/// instructions.
+/// `pools` are [`&Pools`](Pools) or [`FlatPools`]. What a yes means, and what the machine that runs accepted code must do in
+/// turn, stands at [what a host owes](crate#what-a-host-owes). [`Program::into_verified`] keeps the yes and the program together.
+///
+/// ```
+/// use grain::{verify, Caps, Chunk, Pools};
+///
+/// let code = [0x02, 0x02, 0x0b, 0x13]; // Unit, Unit, Pop, Return
+/// assert_eq!(verify(Caps::NONE, &code, &[Chunk::new(0, 4, 2)], &Pools::new()), Ok(vec![2]));
+/// assert!(verify(Caps::NONE, &code, &[Chunk::new(0, 4, 1)], &Pools::new()).is_err());
+/// ```
 ///
 /// # Errors
-/// Why the program is refused. Want of memory and pools without a flat form are faults too, of which [`Fault::cause`] tells.
+/// [`VerifyError::Refused`] where the program is refused; otherwise what the host failed at.
 pub fn verify<'a>(
-    caps: impl Into<HostCaps>,
+    caps: Caps,
     code: &[u8],
     chunks: &[Chunk],
     pools: impl Into<FlatPools<'a>>,
-) -> Result<Vec<u16>, Fault> {
-    let mut numbers = Vec::new();
-    numbers
+) -> Result<Vec<u16>, VerifyError> {
+    let mut depths = Vec::new();
+    depths
         .try_reserve_exact(chunks.len())
-        .map_err(|_| Fault::out_of_memory())?;
-    numbers.resize(chunks.len(), 0);
-    verify_into(caps, code, chunks, pools, &mut numbers)?;
-    Ok(numbers)
+        .map_err(|_| VerifyError::OutOfMemory)?;
+    depths.resize(chunks.len(), 0);
+    verify_into(caps, code, chunks, pools, &mut depths)?;
+    Ok(depths)
 }
 
-/// Verifies as [`verify`] does, writes the numbers into the front of a list of the caller's, and answers how many places
-/// the chunks reach, each for itself: so many instructions were visited, which bounds what scripts cost their host.
+/// Verifies as [`verify`] does, writes the depths to the front of a list of the caller's, and answers how many instructions
+/// were visited, counted for each chunk apart.
 ///
-/// A thread keeps the memory in which it verified small programs, with up to 3 KiB of code: less than 256 KiB. [`Verifier`] does
-/// so for larger ones.
+/// A thread keeps the memory in which it verified small programs, with up to 3 KiB of code: less than 256 KiB. [`Verifier`]
+/// keeps it for larger ones.
+///
+/// ```
+/// use grain::{verify_into, Caps, Chunk, FlatPools};
+///
+/// let mut depths = [0; 1];
+/// let visited = verify_into(Caps::NONE, &[0x02, 0x13], &[Chunk::new(0, 2, 1)], FlatPools::new(), &mut depths)?;
+/// assert_eq!((visited, depths), (2, [1]));
+/// # Ok::<(), grain::VerifyError>(())
+/// ```
 ///
 /// # Errors
-/// Those of [`verify`], and [`Cause::TooFewNumbers`] where there are fewer numbers than chunks; then nothing is written.
+/// Those of [`verify`], and [`VerifyError::TooFewDepths`] where there are fewer places than chunks. Then nothing is written.
 pub fn verify_into<'a>(
-    caps: impl Into<HostCaps>,
+    caps: Caps,
     code: &[u8],
     chunks: &[Chunk],
     pools: impl Into<FlatPools<'a>>,
-    numbers: &mut [u16],
-) -> Result<u64, Fault> {
-    verifier::judge(caps.into(), code, chunks, &pools.into(), numbers)
+    depths: &mut [u16],
+) -> Result<u64, VerifyError> {
+    verifier::judge(caps, code, chunks, &pools.into(), depths)
 }
 
-/// Verifies as [`verify`] does, has each chunk declare its number, and answers what [`verify_into`] does.
+/// Verifies as [`verify`] does, has each chunk declare its depth, and answers how many instructions were visited. With these
+/// chunks the program is accepted again.
+///
+/// ```
+/// use grain::{tighten, Caps, Chunk, Pools};
+///
+/// let mut chunks = [Chunk::new(0, 2, 100)];
+/// assert_eq!(tighten(Caps::NONE, &[0x02, 0x13], &mut chunks, &Pools::new()), Ok(2));
+/// assert_eq!(chunks[0].max_stack, 1);
+/// ```
 ///
 /// # Errors
-/// Those of [`verify`], and then the chunks are as they were.
+/// Those of [`verify`]; then the chunks stay as they were.
 pub fn tighten<'a>(
-    caps: impl Into<HostCaps>,
+    caps: Caps,
     code: &[u8],
     chunks: &mut [Chunk],
     pools: impl Into<FlatPools<'a>>,
-) -> Result<u64, Fault> {
-    let pools = pools.into();
-    let (mut fault, mut looked) = (raw::Fault::default(), 0);
-    // SAFETY: each pointer and length are those of one slice that is borrowed for the call, those that are written to
-    // without another reader; the record of the pools points into lists that `pools` borrows.
-    let answer = unsafe {
-        raw::grain_tighten(
-            caps.into().bits(),
-            code.as_ptr(),
-            code.len(),
-            chunks.as_mut_ptr(),
-            chunks.len(),
-            &pools.raw(),
-            &mut fault,
-            &mut looked,
-        )
-    };
-    verdict(answer, fault, looked, &pools)
+) -> Result<u64, VerifyError> {
+    verifier::tighten(caps, code, chunks, &pools.into())
 }
 
-/// What the library has answered.
-fn verdict(
-    answer: u32,
-    fault: raw::Fault,
-    looked: u64,
-    pools: &FlatPools<'_>,
-) -> Result<u64, Fault> {
-    match answer {
-        raw::ACCEPTED => Ok(looked),
-        raw::REFUSED => Err(Fault::refusal(fault, looked)),
-        raw::SHORT => Err(Fault::too_few_numbers()),
-        raw::OUT_OF_MEMORY => Err(Fault::out_of_memory()),
-        raw::NOT_FLAT => Err(Fault::not_flat(pools)),
-        other => Err(Fault::unknown(other)),
-    }
+/// The version of the linked library, such as `0.2.0`.
+#[must_use]
+pub fn version() -> &'static str {
+    // SAFETY: the library answers a text that it never changes, ended by 0.
+    let version = unsafe { std::ffi::CStr::from_ptr(raw::grain_version()) };
+    version.to_str().unwrap_or_default()
 }

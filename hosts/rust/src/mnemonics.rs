@@ -1,14 +1,14 @@
-//! The names of tags: those of docs/FORMAT.md ("Instructions") and of `GRAIN_TAG_` in grain.h.
+//! The names of tags: those of FORMAT.md ("Instructions").
 
-/// What instructions are called that begin with a byte, or `None` where none does that this package knows.
+/// The name of the instructions that begin with this byte, or `None` where none does that this package knows.
 ///
 /// ```
 /// assert_eq!(grain::mnemonic(0x13), Some("RETURN"));
 /// assert_eq!(grain::mnemonic(0x00), None);
 /// ```
 #[must_use]
-pub fn mnemonic(tag: u8) -> Option<&'static str> {
-    BY_TAG[usize::from(tag)]
+pub const fn mnemonic(tag: u8) -> Option<&'static str> {
+    BY_TAG[tag as usize]
 }
 
 const BY_TAG: [Option<&str>; 256] = by_tag();

@@ -1,12 +1,12 @@
-//! Where in the pools stands what is refused. The record of a refusal doesn't say it, so it is looked for by the same tests,
-//! in their order (docs/FORMAT.md, "Verification").
+//! Where in the pools stands what is refused. The record of a refusal doesn't say it, so it is searched for by the same tests,
+//! in their order (FORMAT.md, "Verification").
 use crate::capabilities::Caps;
 use crate::code::{instruction, Kind};
-use crate::fault::{Cause, Fault};
 use crate::flat::FlatPools;
+use crate::refusal::{Flaw, Refusal};
 use crate::rows::{ChainRow, Root, Step, StepRow, Tail};
 
-/// A part of a chain.
+/// A part of a chain: where it is refused ([`Refusal::chain_place`]).
 #[derive(Clone, Copy, Debug, PartialEq, Eq, Hash)]
 pub struct ChainPlace {
     /// The index of the chain.
@@ -15,7 +15,7 @@ pub struct ChainPlace {
     pub part: ChainPart,
 }
 
-/// What a chain has.
+/// What a chain consists of.
 #[derive(Clone, Copy, Debug, PartialEq, Eq, Hash)]
 pub enum ChainPart {
     /// Where it begins.
@@ -26,27 +26,30 @@ pub enum ChainPart {
     Tail,
 }
 
-pub(crate) fn constant(fault: &Fault, pools: &FlatPools<'_>) -> Option<usize> {
-    let Cause::MissingCaps { artifact, .. } = fault.cause() else {
+pub(crate) fn constant(refusal: &Refusal, pools: &FlatPools<'_>) -> Option<usize> {
+    let Flaw::MissingCaps { host, .. } = refusal.flaw() else {
         return None;
     };
-    let is_refused = |asked: u16| asked & !artifact != 0;
-    if fault.chunk().is_some() {
+    if refusal.chunk().is_some() {
         return None;
     }
     pools
         .constant_rows()
         .iter()
-        .position(|row| row.asked().is_some_and(is_refused))
+        .position(|row| row.bits().is_some_and(|bits| bits & !host.bits() != 0))
 }
 
-pub(crate) fn chain_place(fault: &Fault, code: &[u8], pools: &FlatPools<'_>) -> Option<ChainPlace> {
-    let found = instruction(code, fault.at()?)?;
+pub(crate) fn chain_place(
+    refusal: &Refusal,
+    code: &[u8],
+    pools: &FlatPools<'_>,
+) -> Option<ChainPlace> {
+    let found = instruction(code, refusal.address()?)?;
     let chain = usize::try_from(found.field(Kind::Chain)?).ok()?;
     let (row, steps) = pools.chain(chain)?;
-    let part = match fault.cause() {
-        Cause::BadIndex { what, .. } if what != Kind::Chain => out_of_bounds(row, steps, pools),
-        Cause::MissingCaps { missing, .. } => asking(row, steps, Caps::from_bits_truncate(missing)),
+    let part = match refusal.flaw() {
+        Flaw::BadIndex { what, .. } if what != Kind::Chain => out_of_bounds(row, steps, pools),
+        Flaw::MissingCaps { missing, .. } => needing(row, steps, missing),
         _ => None,
     }?;
     Some(ChainPlace { chain, part })
@@ -88,18 +91,18 @@ fn out_of_bounds(row: ChainRow, steps: &[StepRow], pools: &FlatPools<'_>) -> Opt
     }
 }
 
-/// The first part that asks one of these capabilities.
-fn asking(row: ChainRow, steps: &[StepRow], missing: Caps) -> Option<ChainPart> {
+/// The first part that needs one of these capabilities.
+fn needing(row: ChainRow, steps: &[StepRow], missing: Caps) -> Option<ChainPart> {
     if row.root() == Root::This && missing.intersects(Caps::THIS) {
         return Some(ChainPart::Root);
     }
-    let asked = |step: Step| match step {
+    let needed = |step: Step| match step {
         Step::Index { .. } => Caps::INDEXING,
         Step::Property { .. } => Caps::PROPERTY,
         Step::Method { .. } => Caps::METHOD,
     };
     steps
         .iter()
-        .position(|step| missing.intersects(asked(Step::from(*step))))
+        .position(|step| missing.intersects(needed(Step::from(*step))))
         .map(ChainPart::Step)
 }

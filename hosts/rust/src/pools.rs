@@ -7,11 +7,11 @@ use std::fmt;
 use std::hash::{Hash, Hasher};
 use std::mem::size_of;
 
-/// Why an item isn't added to pools. They are as they were then.
+/// Why an item isn't added to pools. They stay as they were.
 #[derive(Clone, Copy, Debug, PartialEq, Eq, Hash)]
 #[non_exhaustive]
 pub enum PoolError {
-    /// Memory was wanted.
+    /// The allocator refused.
     OutOfMemory,
     /// A count or a place doesn't fit the flat form, whose numbers have 32 bits.
     TooLarge,
@@ -19,9 +19,9 @@ pub enum PoolError {
 
 impl fmt::Display for PoolError {
     fn fmt(&self, f: &mut fmt::Formatter<'_>) -> fmt::Result {
-        f.write_str(match self {
+        f.pad(match self {
             PoolError::OutOfMemory => "out of memory",
-            PoolError::TooLarge => "too large for its flat form",
+            PoolError::TooLarge => "a list of the pools is too long",
         })
     }
 }
@@ -34,26 +34,29 @@ impl From<TryReserveError> for PoolError {
     }
 }
 
-/// What a program has beside its code and its chunks, as far as verification looks at it.
+/// What a program has beside its code and its chunks, as far as verification reads it.
 ///
-/// It is built up item by item, in the order of their indices: by calls that are chained and take memory as a `Vec` does, 1 KiB
-/// for each of the eight lists with the first item, or by calls on it where it stands, which answer the index of the item, and
-/// an error where memory is wanted. Cleared, it keeps
-/// its memory for the next program. Dropped, it leaves it to the next pools of its thread, where no list has room for more
-/// than 1 KiB.
+/// Items are added one by one, in the order of their indices. There are two ways to do it:
+///
+/// - Chained calls ([`constant`](Pools::constant), [`name`](Pools::name), [`chain`](Pools::chain), [`switch`](Pools::switch))
+///   take memory as a `Vec` does: the process ends where the allocator refuses. So does a clone.
+/// - Calls that begin with `add` or `extend` answer the index of the item, or an error where the allocator refuses. A host that
+///   reads programs of others uses these.
+///
+/// Cleared pools keep their memory for the next program. Small pools that are dropped leave it to the next pools of their thread.
 ///
 /// ```
-/// use grain::{verify, Asks, Caps, Chunk, Pools, Root, Step, Tail};
+/// use grain::{verify, Caps, Chunk, Needs, Pools, Root, Step, Tail};
 ///
 /// let mut pools = Pools::new();
 /// for names in [&["len"][..], &["age", "name"]] {
 ///     pools.clear();
 ///     pools.extend_names(names)?;
-///     pools.extend_constants([Asks::Unknown, Asks::Caps(Caps::ARRAY)])?;
+///     pools.extend_constants([Needs::Unknown, Needs::Caps(Caps::ARRAY)])?;
 ///     let steps = (0..names.len() as u32).map(|name| Step::Property { name, getter: 0, setter: 0 });
 ///     assert_eq!(pools.add_chain(Root::Temporary, steps, Tail::Read, 0)?, 0);
-///     let chunks = [Chunk { entry: 0, end: 5, max_stack: 1 }];
-///     assert_eq!(verify(Caps::ALL, &[0x02, 0x16, 0, 0, 0x13], &chunks, &pools)?, [1]);
+///     let depths = verify(Caps::ALL, &[0x02, 0x16, 0, 0, 0x13], &[Chunk::new(0, 5, 1)], &pools)?;
+///     assert_eq!(depths, [1]);
 /// }
 /// # Ok::<(), Box<dyn std::error::Error>>(())
 /// ```
@@ -67,7 +70,7 @@ pub struct Pools {
     functions: usize,
 }
 
-/// Lists behind one pointer. They are an array of one: a `Vec` can say that memory is wanted, and becomes a box of an array.
+/// Lists behind one pointer. They are an array of one: a `Vec` can say that the allocator refuses, and becomes a box of an array.
 type Own = Box<[Lists; 1]>;
 
 /// The lists of pools.
@@ -86,12 +89,12 @@ struct Lists {
 
 static NO_LISTS: Lists = Lists::new();
 
-/// A count as the flat form has it. One that doesn't fit is told apart there: no sum of counts is what is there.
+/// A count as the flat form has it. One that doesn't fit is found there: then the counts don't add up.
 fn count(length: usize) -> u32 {
     u32::try_from(length).unwrap_or(u32::MAX)
 }
 
-/// A count that has to fit.
+/// A count that must fit.
 fn fitting(length: usize) -> Result<u32, PoolError> {
     u32::try_from(length).map_err(|_| PoolError::TooLarge)
 }
@@ -102,7 +105,7 @@ fn push<T>(list: &mut Vec<T>, item: T) -> Result<(), PoolError> {
     Ok(())
 }
 
-/// Adds items, and says how many they were; adds none where memory is wanted.
+/// Adds items, and answers how many they were; adds none where the allocator refuses.
 fn extend<T>(list: &mut Vec<T>, items: impl IntoIterator<Item = T>) -> Result<usize, PoolError> {
     let (before, items) = (list.len(), items.into_iter());
     let mut added = list
@@ -120,7 +123,7 @@ fn extend<T>(list: &mut Vec<T>, items: impl IntoIterator<Item = T>) -> Result<us
     added.map(|()| list.len() - before)
 }
 
-/// How many bytes each list has room for at first where calls are chained, so that it seldom grows.
+/// For how many bytes each list has room at first where calls are chained, so that it seldom grows.
 const FIRST_ROOM: usize = 1024;
 
 /// A list with that room.
@@ -149,7 +152,7 @@ fn begin() -> Own {
     spare().unwrap_or_else(|| Box::new([Lists::with_room()]))
 }
 
-/// Those lists, or new ones without room, and an error where memory is wanted.
+/// Those lists, or new ones without room; an error where the allocator refuses.
 fn try_begin() -> Result<Own, PoolError> {
     if let Some(own) = spare() {
         return Ok(own);
@@ -252,7 +255,7 @@ impl Pools {
         }
     }
 
-    /// Takes all out, and keeps the memory for what comes next.
+    /// Removes all items, and keeps the memory for the next ones.
     pub fn clear(&mut self) {
         if let Some([lists]) = self.lists.as_deref_mut() {
             lists.clear();
@@ -272,7 +275,7 @@ impl Pools {
         lists
     }
 
-    /// The same, and an error where memory is wanted.
+    /// The same; an error where the allocator refuses.
     fn try_lists(&mut self) -> Result<&mut Lists, PoolError> {
         if self.lists.is_none() {
             self.lists = Some(try_begin()?);
@@ -280,17 +283,16 @@ impl Pools {
         Ok(self.lists_mut())
     }
 
-    /// One more constant, by what it [asks](crate::Asks): [`Asks`](crate::Asks), [`Caps`](crate::Caps), or in the older form
-    /// an `Option` of a number, which is `None` for what can't be named.
+    /// With one more constant: the [`Caps`](crate::Caps) or the [`Needs`](crate::Needs) that it has.
     #[inline]
     #[must_use]
-    pub fn constant(mut self, asks: impl Into<Constant>) -> Pools {
+    pub fn constant(mut self, needs: impl Into<Constant>) -> Pools {
         let lists = self.lists_mut();
-        lists.constants.push(asks.into());
+        lists.constants.push(needs.into());
         self
     }
 
-    /// One more name.
+    /// With one more name.
     #[inline]
     #[must_use]
     pub fn name(mut self, name: &str) -> Pools {
@@ -303,7 +305,7 @@ impl Pools {
         self
     }
 
-    /// So many operators.
+    /// With this many operators.
     #[inline]
     #[must_use]
     pub fn operators(mut self, operators: usize) -> Pools {
@@ -311,7 +313,7 @@ impl Pools {
         self
     }
 
-    /// So many op-assignments.
+    /// With this many op-assignments.
     #[inline]
     #[must_use]
     pub fn op_assignments(mut self, op_assignments: usize) -> Pools {
@@ -319,7 +321,7 @@ impl Pools {
         self
     }
 
-    /// So many fragments of syntax.
+    /// With this many fragments of syntax.
     #[inline]
     #[must_use]
     pub fn fragments(mut self, fragments: usize) -> Pools {
@@ -327,7 +329,7 @@ impl Pools {
         self
     }
 
-    /// So many functions.
+    /// With this many functions.
     #[inline]
     #[must_use]
     pub fn functions(mut self, functions: usize) -> Pools {
@@ -335,7 +337,7 @@ impl Pools {
         self
     }
 
-    /// One more chain, whose steps take so many operands.
+    /// With one more chain, whose steps take this many operands.
     #[inline]
     #[must_use]
     pub fn chain(mut self, root: Root, steps: &[Step], tail: Tail, operands: u16) -> Pools {
@@ -346,7 +348,7 @@ impl Pools {
         self
     }
 
-    /// One more switch: its cases, where each of its ranges leads, and where all other subjects lead.
+    /// With one more switch: its cases, where each of its ranges leads, and where all other subjects lead.
     #[inline]
     #[must_use]
     pub fn switch(mut self, cases: &[Case], ranges: &[u32], otherwise: u32) -> Pools {
@@ -361,64 +363,64 @@ impl Pools {
         self
     }
 
-    /// So many operators.
+    /// Sets how many operators there are.
     #[inline]
     pub fn set_operators(&mut self, operators: usize) {
         self.operators = operators;
     }
 
-    /// So many op-assignments.
+    /// Sets how many op-assignments there are.
     #[inline]
     pub fn set_op_assignments(&mut self, op_assignments: usize) {
         self.op_assignments = op_assignments;
     }
 
-    /// So many fragments of syntax.
+    /// Sets how many fragments of syntax there are.
     #[inline]
     pub fn set_fragments(&mut self, fragments: usize) {
         self.fragments = fragments;
     }
 
-    /// So many functions.
+    /// Sets how many functions there are.
     #[inline]
     pub fn set_functions(&mut self, functions: usize) {
         self.functions = functions;
     }
 
-    /// One more constant, by what it asks, as [`constant`](Pools::constant) takes it; and its index.
+    /// Adds a constant, and answers its index.
     ///
     /// # Errors
-    /// Memory is wanted.
-    pub fn add_constant(&mut self, asks: impl Into<Constant>) -> Result<usize, PoolError> {
+    /// The allocator refused.
+    pub fn add_constant(&mut self, needs: impl Into<Constant>) -> Result<usize, PoolError> {
         let lists = self.try_lists()?;
-        push(&mut lists.constants, asks.into())?;
+        push(&mut lists.constants, needs.into())?;
         Ok(lists.constants.len() - 1)
     }
 
-    /// More constants, by what each asks; and how many they are.
+    /// Adds constants, and answers how many they are.
     ///
     /// # Errors
-    /// Memory is wanted.
+    /// The allocator refused; then none is added.
     pub fn extend_constants<C: Into<Constant>>(
         &mut self,
-        asks: impl IntoIterator<Item = C>,
+        needs: impl IntoIterator<Item = C>,
     ) -> Result<usize, PoolError> {
         let lists = self.try_lists()?;
-        extend(&mut lists.constants, asks.into_iter().map(Into::into))
+        extend(&mut lists.constants, needs.into_iter().map(Into::into))
     }
 
-    /// One more name; and its index.
+    /// Adds a name, and answers its index.
     ///
     /// # Errors
-    /// Memory is wanted, or the names are too long.
+    /// The allocator refused, or the names are too long together.
     pub fn add_name(&mut self, name: &str) -> Result<usize, PoolError> {
         self.try_lists()?.add_name(name)
     }
 
-    /// More names; and how many they are.
+    /// Adds names, and answers how many they are.
     ///
     /// # Errors
-    /// Memory is wanted, or the names are too long.
+    /// The allocator refused, or the names are too long together; then none is added.
     pub fn extend_names<N: AsRef<str>>(
         &mut self,
         names: impl IntoIterator<Item = N>,
@@ -437,10 +439,10 @@ impl Pools {
         Ok(added)
     }
 
-    /// One more chain, whose steps take so many operands; and its index.
+    /// Adds a chain, whose steps take this many operands, and answers its index.
     ///
     /// # Errors
-    /// Memory is wanted, or there are too many steps.
+    /// The allocator refused, or there are too many steps.
     pub fn add_chain(
         &mut self,
         root: Root,
@@ -460,10 +462,10 @@ impl Pools {
         Ok(lists.chains.len() - 1)
     }
 
-    /// One more switch, as [`switch`](Pools::switch) takes it; and its index.
+    /// Adds a switch, as [`switch`](Pools::switch) takes it, and answers its index.
     ///
     /// # Errors
-    /// Memory is wanted, or there are too many cases or ranges.
+    /// The allocator refused, or there are too many cases or ranges.
     pub fn add_switch(
         &mut self,
         cases: impl IntoIterator<Item = Case>,
@@ -480,7 +482,7 @@ impl Pools {
         added.map(|()| lists.switches.len() - 1)
     }
 
-    /// The lists in their flat form, as they are verified.
+    /// The lists in their flat form, borrowed.
     #[must_use]
     pub fn flat(&self) -> FlatPools<'_> {
         let lists = self.lists();
@@ -524,7 +526,7 @@ fn leave(mut own: Own) {
 }
 
 impl Drop for Pools {
-    // As a call it would want the pools in memory, and then each chained call would write and read all of them.
+    // As a call it would need the pools in memory, and then each chained call would write and read all of them.
     #[inline(always)]
     fn drop(&mut self) {
         if let Some(own) = self.lists.take() {

@@ -1,21 +1,25 @@
 //! A program as one value: code, chunks, what it has beside them, and its positions.
-use crate::capabilities::HostCaps;
+use crate::capabilities::Caps;
 use crate::code::{instructions, Instructions};
-use crate::fault::Fault;
+use crate::error::{ExplainError, VerifyError};
+use crate::explained::{explain, Explained, Subject};
 use crate::pools::Pools;
+use crate::refusal::Refusal;
 use crate::rows::{Root, Step};
 use crate::tables::{check_table, site, stream_site, stream_sites, stream_sites_into};
 use crate::tables::{table_entries, Entry, ReadError, Site, TableFlaw};
+use crate::verified::{Rejected, Verified};
 use crate::{tighten, verify, Chunk};
+use std::error::Error;
 use std::fmt;
 
 /// The positions of a program: of its code and of its chains.
 #[derive(Clone, Debug, Default, PartialEq, Eq, Hash)]
-pub struct Sidecar {
+pub struct Positions {
     /// The address table of the positions in the code.
     pub table: Vec<u8>,
-    /// The stream of the positions in the chains, chain by chain: of each that of its root, where it is
-    /// [`Root::Named`] or [`Root::This`], and then step by step, of an index its own and that of its bracket.
+    /// The stream of the positions in the chains, chain by chain: that of the root, where it is [`Root::Named`] or
+    /// [`Root::This`], and then those of the steps. An index has two, its own and that of its bracket.
     pub stream: Vec<u8>,
 }
 
@@ -23,7 +27,7 @@ pub struct Sidecar {
 #[derive(Clone, Copy, Debug, PartialEq, Eq, Hash)]
 #[non_exhaustive]
 pub enum AttachError {
-    /// The address table is none.
+    /// The bytes of the address table are none.
     Table(TableFlaw),
     /// An entry of the table has an address where no instruction of the code begins.
     NoInstruction {
@@ -35,7 +39,7 @@ pub enum AttachError {
         /// Its address.
         at: u32,
     },
-    /// The stream is none.
+    /// The bytes of the stream are none.
     Stream(TableFlaw),
     /// The stream has another number of slots than the chains have positions.
     ChainCount {
@@ -44,41 +48,57 @@ pub enum AttachError {
         /// How many positions the chains have.
         positions: usize,
     },
-    /// Memory was wanted.
+    /// The allocator refused.
     OutOfMemory,
 }
 
 impl fmt::Display for AttachError {
     fn fmt(&self, f: &mut fmt::Formatter<'_>) -> fmt::Result {
         match self {
-            AttachError::Table(flaw) => write!(f, "address table: {flaw}"),
-            AttachError::NoInstruction { at } => write!(f, "no instruction begins at={at}"),
-            AttachError::NoLine { at } => write!(f, "no line is recorded for at={at}"),
-            AttachError::Stream(flaw) => write!(f, "chain stream: {flaw}"),
-            AttachError::ChainCount { slots, positions } => {
-                write!(f, "slots={slots} of a stream for positions={positions}")
+            AttachError::Table(_) => f.write_str("the address table is none"),
+            AttachError::NoInstruction { at } => {
+                write!(
+                    f,
+                    "no instruction begins at {at}, which the address table names"
+                )
             }
+            AttachError::NoLine { at } => write!(f, "the address table has line 0 for {at}"),
+            AttachError::Stream(_) => f.write_str("the stream of positions in chains is none"),
+            AttachError::ChainCount { slots, positions } => write!(
+                f,
+                "the stream has {slots} slots, and the chains have {positions} positions"
+            ),
             AttachError::OutOfMemory => f.write_str("out of memory"),
         }
     }
 }
 
-impl std::error::Error for AttachError {}
+impl Error for AttachError {
+    fn source(&self) -> Option<&(dyn Error + 'static)> {
+        match self {
+            AttachError::Table(flaw) | AttachError::Stream(flaw) => Some(flaw),
+            _ => None,
+        }
+    }
+}
 
-/// A program: its code, its chunks, what it has beside them, and perhaps its positions.
+/// A program: its code, its chunks, its pools, and perhaps its positions.
+///
+/// [`Program::into_verified`] turns it into one that may be run. Where that says no, [`Program::explain`] shows why.
 ///
 /// ```
-/// use grain::{Caps, Chunk, Pools, Program, Sidecar, Site};
+/// use grain::{Caps, Chunk, Pools, Positions, Program, Site};
 ///
-/// let chunks = vec![Chunk { entry: 0, end: 6, max_stack: 8 }];
-/// let mut program = Program::new(vec![0x02, 0x02, 0x0b, 0x0b, 0x02, 0x13], chunks, Pools::new());
-/// program.tighten(Caps::ALL)?;
-/// assert_eq!(program.chunks()[0].max_stack, 2);
+/// let chunks = vec![Chunk::new(0, 6, 8)];
+/// let mut program = Program::new(vec![0x02, 0x02, 0x0b, 0x0b, 0x0b, 0x13], chunks, Pools::new());
+/// program.attach_positions(Positions { table: vec![2, 0, 1, 5, 4, 2, 1], stream: vec![0] })?;
 ///
-/// let sidecar = Sidecar { table: vec![2, 0, 1, 5, 4, 2, 1], stream: vec![0] };
-/// program.attach_positions(sidecar.clone())?;
-/// assert_eq!(program.site(4), Some(Site { line: 2, column: 1 }));
-/// assert_eq!(program.strip_positions(), Some(sidecar));
+/// let rejected = program.into_verified(Caps::ALL).unwrap_err();
+/// let (program, refusal) = (rejected.program(), rejected.refusal().unwrap());
+/// assert_eq!(program.site_of(refusal), Some(Site { line: 2, column: 1 }));
+/// let explained = program.explain(Caps::ALL, refusal)?;
+/// assert_eq!(explained.path().len(), 5);
+/// assert!(explained.to_string().starts_with("refused: chunk 0: the instruction at 4 needs 1 operand"));
 /// # Ok::<(), Box<dyn std::error::Error>>(())
 /// ```
 #[derive(Clone, Debug, Default, PartialEq, Eq, Hash)]
@@ -86,7 +106,7 @@ pub struct Program {
     code: Vec<u8>,
     chunks: Vec<Chunk>,
     pools: Pools,
-    positions: Option<Sidecar>,
+    positions: Option<Positions>,
 }
 
 impl Program {
@@ -113,7 +133,7 @@ impl Program {
         &self.chunks
     }
 
-    /// What it has beside code and chunks.
+    /// Its pools.
     #[must_use]
     pub fn pools(&self) -> &Pools {
         &self.pools
@@ -121,24 +141,54 @@ impl Program {
 
     /// Its positions, where it has them.
     #[must_use]
-    pub fn positions(&self) -> Option<&Sidecar> {
+    pub fn positions(&self) -> Option<&Positions> {
         self.positions.as_ref()
     }
 
-    /// The number of each chunk, as [`verify`](crate::verify) answers.
+    /// Verifies the program, and answers the depth of each chunk, as [`verify`] does.
     ///
     /// # Errors
-    /// Those of [`verify`](crate::verify).
-    pub fn verify(&self, caps: impl Into<HostCaps>) -> Result<Vec<u16>, Fault> {
+    /// Those of [`verify`].
+    pub fn verify(&self, caps: Caps) -> Result<Vec<u16>, VerifyError> {
         verify(caps, &self.code, &self.chunks, &self.pools)
     }
 
-    /// Has each chunk declare its number, as [`tighten`](crate::tighten) does.
+    /// Verifies the program, and turns it into one that may be run.
+    /// [`Verifier::verify_program`](crate::Verifier::verify_program) does the same within a limit.
     ///
     /// # Errors
-    /// Those of [`verify`](crate::verify), and then the chunks are as they were.
-    pub fn tighten(&mut self, caps: impl Into<HostCaps>) -> Result<u64, Fault> {
+    /// The program, and the error of [`Program::verify`].
+    // The error has the program in it; a box would take memory, which may be what is lacking.
+    #[allow(clippy::result_large_err)]
+    pub fn into_verified(self, caps: Caps) -> Result<Verified, Rejected> {
+        let depths = self.verify(caps);
+        Verified::new(self, caps, depths)
+    }
+
+    /// Explains a chunk of the program, by its index, or what a [`Refusal`] refuses, as [`explain`] does.
+    ///
+    /// # Errors
+    /// Those of [`explain`].
+    pub fn explain(
+        &self,
+        caps: Caps,
+        subject: impl Into<Subject>,
+    ) -> Result<Explained<'_>, ExplainError> {
+        explain(caps, &self.code, &self.chunks, &self.pools, subject)
+    }
+
+    /// Has each chunk declare its depth, as [`tighten`] does.
+    ///
+    /// # Errors
+    /// Those of [`verify`]; then the chunks stay as they were.
+    pub fn tighten(&mut self, caps: Caps) -> Result<u64, VerifyError> {
         tighten(caps, &self.code, &mut self.chunks, &self.pools)
+    }
+
+    /// The line and the column that are recorded for the address of a refusal.
+    #[must_use]
+    pub fn site_of(&self, refusal: &Refusal) -> Option<Site> {
+        self.site(refusal.address()?)
     }
 
     /// The line and the column that are recorded for an address of the code.
@@ -156,7 +206,7 @@ impl Program {
     /// The entries of its address table in order; none where it has no positions.
     ///
     /// # Errors
-    /// Memory is wanted.
+    /// The allocator refused.
     pub fn entries(&self) -> Result<Vec<Entry>, ReadError> {
         let positions = self.positions.as_ref();
         Ok(positions.map_or(Ok(Vec::new()), |own| table_entries(&own.table))?)
@@ -165,19 +215,19 @@ impl Program {
     /// The sites of its chains, slot by slot; none where it has no positions.
     ///
     /// # Errors
-    /// Memory is wanted.
+    /// The allocator refused.
     pub fn chain_sites(&self) -> Result<Vec<Option<Site>>, ReadError> {
         let positions = self.positions.as_ref();
         positions.map_or(Ok(Vec::new()), |own| stream_sites(&own.stream))
     }
 
-    /// Gives the program these positions in place of those that it has. The library tests that the table and the stream are
-    /// such; that they are this program's is told by each address being that of an instruction with a line (or of what stands
-    /// where the instructions end before the code does), and by a slot for each position of the chains.
+    /// Gives the program these positions in place of its own. They are tested: the table and the stream must be such. Each entry
+    /// must have a line, and the address of an instruction or of the first thing that is none. There must be a slot for each
+    /// position of the chains.
     ///
     /// # Errors
-    /// The first test that fails, and then the program is as it was.
-    pub fn attach_positions(&mut self, positions: Sidecar) -> Result<(), AttachError> {
+    /// The first test that fails; then the program stays as it was.
+    pub fn attach_positions(&mut self, positions: Positions) -> Result<(), AttachError> {
         check_table(&positions.table).map_err(AttachError::Table)?;
         self.check_entries(&positions.table)?;
         let slots = stream_sites_into(&positions.stream, &mut []).map_err(AttachError::Stream)?;
@@ -192,14 +242,14 @@ impl Program {
         Ok(())
     }
 
-    /// Takes the positions off the program.
-    pub fn strip_positions(&mut self) -> Option<Sidecar> {
+    /// Removes the positions of the program, and answers them.
+    pub fn strip_positions(&mut self) -> Option<Positions> {
         self.positions.take()
     }
 
     /// Its code, its chunks, its pools and its positions, apart.
     #[must_use]
-    pub fn into_parts(self) -> (Vec<u8>, Vec<Chunk>, Pools, Option<Sidecar>) {
+    pub fn into_parts(self) -> (Vec<u8>, Vec<Chunk>, Pools, Option<Positions>) {
         (self.code, self.chunks, self.pools, self.positions)
     }
 
@@ -210,10 +260,9 @@ impl Program {
             if site.known().is_none() {
                 return Err(AttachError::NoLine { at });
             }
-            let place = at as usize;
-            let next = left.by_ref().find(|(start, _)| *start >= place);
+            let next = left.by_ref().find(|(start, _)| *start >= at);
             let arrived = next.map_or_else(|| damage(&left), |(start, _)| Some(start));
-            if arrived != Some(place) {
+            if arrived != Some(at) {
                 return Err(AttachError::NoInstruction { at });
             }
         }
@@ -242,6 +291,6 @@ impl Program {
 }
 
 /// Where the instructions end, if that is before the code does.
-fn damage(left: &Instructions<'_>) -> Option<usize> {
-    (!left.is_whole()).then(|| left.at())
+fn damage(left: &Instructions<'_>) -> Option<u32> {
+    (!left.is_whole()).then(|| left.address())
 }

@@ -1,4 +1,4 @@
-//! The rows of pools in their flat form, as programs in C have them.
+//! The items of pools, and their rows in the flat form.
 use crate::capabilities::Caps;
 
 /// Where a chain begins.
@@ -9,7 +9,7 @@ pub enum Root {
         /// The index of its name.
         name: u32,
     },
-    /// At a variable that is looked up by its name.
+    /// At a variable that is found by its name.
     Named {
         /// The index of its name.
         name: u32,
@@ -51,11 +51,11 @@ pub enum Step {
 /// What a chain does at its end.
 #[derive(Clone, Copy, Debug, PartialEq, Eq, Hash)]
 pub enum Tail {
-    /// It gives the value that it has come to.
+    /// It reads the value at its last step.
     Read,
-    /// It assigns to what it has come to.
+    /// It assigns to the place at its last step.
     Assign,
-    /// It assigns through an op-assignment.
+    /// It assigns to that place through an op-assignment.
     AssignThrough {
         /// The index of the op-assignment.
         op: u32,
@@ -72,26 +72,25 @@ pub struct Case {
     pub constant: u32,
 }
 
-/// What a constant asks of the host.
+/// What a constant needs of the host.
 #[derive(Clone, Copy, Debug, PartialEq, Eq, Hash)]
-pub enum Asks {
-    /// These capabilities, those of its parts among them: an array asks [`Caps::ARRAY`], a blob [`Caps::BLOB`], an object map
-    /// [`Caps::MAP`], a function pointer [`Caps::FN_PTR`], each also what its parts ask; all others nothing.
+pub enum Needs {
+    /// These capabilities. An array needs [`Caps::ARRAY`], a blob [`Caps::BLOB`], an object map [`Caps::MAP`], a function
+    /// pointer [`Caps::FN_PTR`], and each also what its parts need. Other values need nothing.
     Caps(Caps),
-    /// What can't be named: the constant is a shared value or one of the host, or holds one. It passes under any
-    /// capabilities, so that a host that takes such constants answers itself for what they can do.
+    /// Nobody can say: the constant is a value that is shared or the host's own, or holds one. It passes under any
+    /// capabilities, so a host that allows such constants must itself know what they can do.
     Unknown,
 }
 
-impl From<Caps> for Asks {
+impl From<Caps> for Needs {
     #[inline]
-    fn from(caps: Caps) -> Asks {
-        Asks::Caps(caps)
+    fn from(caps: Caps) -> Needs {
+        Needs::Caps(caps)
     }
 }
 
-/// The row of a constant: what it [`Asks`]. It is made of that, of [`Caps`], or of the older form, an `Option` of a number:
-/// `None` for [`Asks::Unknown`], and a number whose bits are those of [`caps`](crate::caps) and are taken as they are.
+/// A constant, as verification sees it: what it needs of the host. It is made from [`Needs`] or [`Caps`].
 #[repr(C)]
 #[derive(Clone, Copy, Debug, PartialEq, Eq, Hash)]
 pub struct Constant {
@@ -100,40 +99,44 @@ pub struct Constant {
 }
 
 impl Constant {
-    /// What it asks, by number, where it can be named.
-    pub(crate) fn asked(self) -> Option<u16> {
+    /// What it needs.
+    #[must_use]
+    pub const fn needs(self) -> Needs {
+        if self.is_known == 0 {
+            Needs::Unknown
+        } else {
+            Needs::Caps(Caps::from_bits_truncate(self.caps))
+        }
+    }
+
+    /// What it needs, by number, where that is known.
+    pub(crate) fn bits(self) -> Option<u16> {
         (self.is_known != 0).then_some(self.caps)
     }
 }
 
-impl From<Option<u16>> for Constant {
+impl From<Needs> for Constant {
     #[inline]
-    fn from(asked: Option<u16>) -> Constant {
+    fn from(needs: Needs) -> Constant {
+        let caps = match needs {
+            Needs::Caps(caps) => Some(caps.bits()),
+            Needs::Unknown => None,
+        };
         Constant {
-            is_known: u16::from(asked.is_some()),
-            caps: asked.unwrap_or(0),
+            is_known: u16::from(caps.is_some()),
+            caps: caps.unwrap_or(0),
         }
-    }
-}
-
-impl From<Asks> for Constant {
-    #[inline]
-    fn from(asks: Asks) -> Constant {
-        Constant::from(match asks {
-            Asks::Caps(caps) => Some(caps.bits()),
-            Asks::Unknown => None,
-        })
     }
 }
 
 impl From<Caps> for Constant {
     #[inline]
     fn from(caps: Caps) -> Constant {
-        Constant::from(Asks::Caps(caps))
+        Constant::from(Needs::Caps(caps))
     }
 }
 
-/// The row of a chain. Its steps stand among the steps of all chains, behind those of the chains before it.
+/// A chain in the flat form. Its steps stand among the steps of all chains, behind those of the chains before it.
 #[repr(C)]
 #[derive(Clone, Copy, Debug, PartialEq, Eq, Hash)]
 pub struct ChainRow {
@@ -146,7 +149,7 @@ pub struct ChainRow {
 }
 
 impl ChainRow {
-    /// A chain of so many steps, which take so many operands.
+    /// A chain with this many steps, which take this many operands.
     #[inline]
     #[must_use]
     pub fn new(root: Root, steps: u32, tail: Tail, operands: u16) -> ChainRow {
@@ -206,7 +209,7 @@ impl ChainRow {
     }
 }
 
-/// The row of a step.
+/// A step in the flat form. It is made from a [`Step`].
 #[repr(C)]
 #[derive(Clone, Copy, Debug, PartialEq, Eq, Hash)]
 pub struct StepRow {
@@ -283,7 +286,7 @@ impl From<StepRow> for Step {
     }
 }
 
-/// The row of a switch. Its cases and ranges stand among those of all switches, behind those of the switches before it.
+/// A switch in the flat form. Its cases and ranges stand among those of all switches, behind those of the switches before it.
 #[repr(C)]
 #[derive(Clone, Copy, Debug, PartialEq, Eq, Hash)]
 pub struct SwitchRow {

@@ -1,23 +1,33 @@
 //! Address tables, and streams of the positions of chains.
 use crate::raw;
+use crate::text::Buffer;
 use std::collections::TryReserveError;
-use std::fmt;
+use std::fmt::{self, Write};
 
-/// A place in a source text.
+/// A place in a source text. It prints as `line:column`.
 #[repr(C)]
 #[derive(Clone, Copy, Debug, Default, PartialEq, Eq, Hash)]
 pub struct Site {
-    /// The line.
+    /// The line, or 0 where none is known.
     pub line: u32,
     /// The column, or 0 for the start of the line.
     pub column: u32,
 }
 
 impl Site {
-    /// The site, or `None` where its line is 0, which says that none is known.
+    /// The site, or `None` where its line is 0.
     #[must_use]
     pub fn known(self) -> Option<Site> {
         (self.line != 0).then_some(self)
+    }
+}
+
+/// It prints as `line:column`.
+impl fmt::Display for Site {
+    fn fmt(&self, f: &mut fmt::Formatter<'_>) -> fmt::Result {
+        let mut text = Buffer::<24>::new();
+        write!(text, "{}:{}", self.line, self.column)?;
+        f.pad(&text)
     }
 }
 
@@ -27,15 +37,15 @@ impl Site {
 pub struct Entry {
     /// The address of an instruction.
     pub address: u32,
-    /// Where it stands in the source text; line 0 says that this isn't known.
+    /// Its place in the source text; line 0 where none is known.
     pub site: Site,
 }
 
-/// What is wrong first with an address table or a stream.
+/// The first thing that is wrong with an address table or a stream.
 #[derive(Clone, Copy, Debug, PartialEq, Eq, Hash)]
 #[non_exhaustive]
 pub enum TableFlaw {
-    /// The bytes end where a number is due or isn't finished.
+    /// The bytes end before or inside a number.
     Truncated,
     /// A number or an address is above 4294967295.
     Overflow,
@@ -58,38 +68,53 @@ pub enum TableFlaw {
 
 impl fmt::Display for TableFlaw {
     fn fmt(&self, f: &mut fmt::Formatter<'_>) -> fmt::Result {
+        let mut text = Buffer::<80>::new();
         match self {
-            TableFlaw::Truncated => f.write_str("truncated"),
-            TableFlaw::Overflow => f.write_str("overflow"),
-            TableFlaw::OutOfOrder { at } => write!(f, "out of order at={at}"),
-            TableFlaw::TrailingBytes { count } => write!(f, "trailing bytes count={count}"),
-            TableFlaw::Other { flaw } => write!(f, "flaw {flaw}"),
+            TableFlaw::Truncated => text.push("the bytes end too early"),
+            TableFlaw::Overflow => text.push("a number is above 4294967295"),
+            TableFlaw::OutOfOrder { at } => write!(text, "the address {at} stands twice")?,
+            TableFlaw::TrailingBytes { count } => write!(text, "{count} bytes too many")?,
+            TableFlaw::Other { flaw } => write!(text, "flaw {flaw}, which is unknown here")?,
         }
+        f.pad(&text)
     }
 }
 
 impl std::error::Error for TableFlaw {}
 
-/// Why the sites of a stream aren't read.
+/// Why entries or sites aren't read.
 #[derive(Clone, Copy, Debug, PartialEq, Eq, Hash)]
 #[non_exhaustive]
 pub enum ReadError {
     /// The bytes are no stream.
     Flaw(TableFlaw),
-    /// Memory was wanted.
+    /// The allocator refused.
     OutOfMemory,
 }
 
 impl fmt::Display for ReadError {
     fn fmt(&self, f: &mut fmt::Formatter<'_>) -> fmt::Result {
+        f.pad(match self {
+            ReadError::Flaw(_) => "the bytes are no stream",
+            ReadError::OutOfMemory => "out of memory",
+        })
+    }
+}
+
+impl std::error::Error for ReadError {
+    fn source(&self) -> Option<&(dyn std::error::Error + 'static)> {
         match self {
-            ReadError::Flaw(flaw) => flaw.fmt(f),
-            ReadError::OutOfMemory => f.write_str("out of memory"),
+            ReadError::Flaw(flaw) => Some(flaw),
+            ReadError::OutOfMemory => None,
         }
     }
 }
 
-impl std::error::Error for ReadError {}
+impl From<TableFlaw> for ReadError {
+    fn from(flaw: TableFlaw) -> ReadError {
+        ReadError::Flaw(flaw)
+    }
+}
 
 impl From<TryReserveError> for ReadError {
     fn from(_: TryReserveError) -> ReadError {
@@ -108,76 +133,74 @@ fn flaw_of(flaw: u32, named: u64) -> Result<(), TableFlaw> {
     }
 }
 
-/// The site of an address in an address table: of the first entry there, in front of the first damage.
+/// The site of an address in an address table: that of the first entry with this address, before the first damage. `None` where
+/// there is no such entry, or its line is 0.
+///
+/// ```
+/// use grain::{site, Site};
+///
+/// let table = [2, 0, 1, 5, 3, 2, 1]; // 0 at 1:5, 3 at 2:1
+/// assert_eq!(site(&table, 3), Some(Site { line: 2, column: 1 }));
+/// assert_eq!(site(&table, 2), None);
+/// ```
 #[must_use]
 pub fn site(table: &[u8], address: u32) -> Option<Site> {
-    let (mut line, mut column) = (0, 0);
-    // SAFETY: the pointer and the length are those of one slice, and the numbers live for the call.
-    let found =
-        unsafe { raw::grain_site(table.as_ptr(), table.len(), address, &mut line, &mut column) };
-    found.then_some(Site { line, column })
+    let mut place = Site::default();
+    // SAFETY: the table is one slice, and the place lives for the call.
+    let found = unsafe { raw::grain_site(table.as_ptr(), table.len(), address, &mut place) };
+    found.then_some(place)
 }
 
 /// Tests that bytes are an address table.
 ///
 /// # Errors
-/// What is wrong first.
+/// The first thing that is wrong.
 pub fn check_table(table: &[u8]) -> Result<(), TableFlaw> {
     let mut named = 0;
-    // SAFETY: the pointer and the length are those of one slice, and `named` lives for the call.
-    flaw_of(
-        unsafe { raw::grain_check_table(table.as_ptr(), table.len(), &mut named) },
-        named,
-    )
+    // SAFETY: the table is one slice, and `named` lives for the call.
+    let flaw = unsafe { raw::grain_check_table(table.as_ptr(), table.len(), &mut named) };
+    flaw_of(flaw, named)
 }
 
 /// The site that a stream records for a slot.
 #[must_use]
 pub fn stream_site(stream: &[u8], slot: u32) -> Option<Site> {
-    let (mut line, mut column) = (0, 0);
-    // SAFETY: the pointer and the length are those of one slice, and the numbers live for the call.
-    let found = unsafe {
-        raw::grain_stream_site(stream.as_ptr(), stream.len(), slot, &mut line, &mut column)
-    };
-    found.then_some(Site { line, column })
+    let mut place = Site::default();
+    // SAFETY: the stream is one slice, and the place lives for the call.
+    let found = unsafe { raw::grain_stream_site(stream.as_ptr(), stream.len(), slot, &mut place) };
+    found.then_some(place)
 }
 
 /// Tests that bytes are a stream.
 ///
 /// # Errors
-/// What is wrong first.
+/// The first thing that is wrong.
 pub fn check_stream(stream: &[u8]) -> Result<(), TableFlaw> {
     let mut named = 0;
-    // SAFETY: the pointer and the length are those of one slice, and `named` lives for the call.
-    flaw_of(
-        unsafe { raw::grain_check_stream(stream.as_ptr(), stream.len(), &mut named) },
-        named,
-    )
+    // SAFETY: the stream is one slice, and `named` lives for the call.
+    let flaw = unsafe { raw::grain_check_stream(stream.as_ptr(), stream.len(), &mut named) };
+    flaw_of(flaw, named)
 }
 
-/// Writes the entries of an address table in order into the front of a list of the caller's, in one pass and without memory,
-/// as many as the list has room for; and answers how many there are. They are those in front of the first damage
-/// ([`check_table`] says whether there is some).
+/// Writes the entries of an address table in order to the front of a list of the caller's, as many as there are places, and
+/// answers how many there are: those before the first damage ([`check_table`] says whether there is some). It takes no memory.
 #[must_use]
 pub fn table_entries_into(table: &[u8], entries: &mut [Entry]) -> usize {
-    let mut count = 0;
-    // SAFETY: each pointer and length are those of one slice that is borrowed for the call, and `count` lives for it.
+    // SAFETY: each pointer and length are those of one slice that is borrowed for the call.
     unsafe {
         raw::grain_table_entries(
             table.as_ptr(),
             table.len(),
             entries.as_mut_ptr(),
             entries.len(),
-            &mut count,
         )
-    };
-    count
+    }
 }
 
-/// The entries of an address table in order: those in front of the first damage ([`check_table`] says whether there is some).
+/// The entries of an address table in order: those before the first damage ([`check_table`] says whether there is some).
 ///
 /// # Errors
-/// Memory is wanted: four times as much as the table has.
+/// The allocator refused. It takes four times as much as the table has.
 pub fn table_entries(table: &[u8]) -> Result<Vec<Entry>, TryReserveError> {
     // An entry is three numbers, each a byte at least.
     let most = table.len() / 3;
@@ -189,15 +212,15 @@ pub fn table_entries(table: &[u8]) -> Result<Vec<Entry>, TryReserveError> {
     Ok(entries)
 }
 
-/// Writes the sites of a stream, slot by slot, into the front of a list of the caller's, without memory, as many as the list
-/// has room for; and answers how many there are. Line 0 says that a slot has none.
+/// Writes the sites of a stream, slot by slot, to the front of a list of the caller's, as many as there are places, and answers
+/// how many there are. Line 0 says that a slot has none. It takes no memory.
 ///
 /// # Errors
-/// The bytes are no stream, by what is wrong first, and then nothing is written.
+/// The bytes are no stream: the first thing that is wrong; then nothing is written.
 pub fn stream_sites_into(stream: &[u8], sites: &mut [Site]) -> Result<usize, TableFlaw> {
     let mut count = 0;
     // SAFETY: each pointer and length are those of one slice that is borrowed for the call, and `count` lives for it.
-    let answer = unsafe {
+    let is_stream = unsafe {
         raw::grain_stream_sites(
             stream.as_ptr(),
             stream.len(),
@@ -206,24 +229,33 @@ pub fn stream_sites_into(stream: &[u8], sites: &mut [Site]) -> Result<usize, Tab
             &mut count,
         )
     };
-    match answer {
-        raw::NO_STREAM => check_stream(stream).map(|()| 0),
-        _ => Ok(count),
+    if is_stream {
+        Ok(count)
+    } else {
+        check_stream(stream).map(|()| 0)
     }
 }
 
 /// The sites of a stream, slot by slot.
 ///
+/// ```
+/// use grain::{stream_sites, Site};
+///
+/// let stream = [2, 1, 5, 0, 0]; // 1:5, and a slot without a site
+/// assert_eq!(stream_sites(&stream)?, [Some(Site { line: 1, column: 5 }), None]);
+/// # Ok::<(), grain::ReadError>(())
+/// ```
+///
 /// # Errors
-/// The bytes are no stream, or memory is wanted: 18 times as much as the stream has.
+/// The bytes are no stream; or the allocator refused. It takes ten times as much as the stream has.
 pub fn stream_sites(stream: &[u8]) -> Result<Vec<Option<Site>>, ReadError> {
     // A slot is two numbers, each a byte at least.
     let most = stream.len() / 2;
     let (mut sites, mut known) = (Vec::new(), Vec::new());
     sites.try_reserve_exact(most)?;
     sites.resize(most, Site::default());
-    let count = stream_sites_into(stream, &mut sites).map_err(ReadError::Flaw)?;
+    let count = stream_sites_into(stream, &mut sites)?;
     known.try_reserve_exact(count)?;
-    known.extend(sites[..count].iter().map(|site| site.known()));
+    known.extend(sites.iter().take(count).map(|site| site.known()));
     Ok(known)
 }

@@ -1,33 +1,51 @@
 //! Verification in memory that is kept.
-use crate::{raw, Chunk, Fault, FlatPools, HostCaps};
+use crate::capabilities::Caps;
+use crate::error::{ExplainError, VerifyError};
+use crate::explained::{self, Explained, Subject};
+use crate::flat::FlatPools;
+use crate::program::Program;
+use crate::refusal::Refusal;
+use crate::verified::{Rejected, Verified};
+use crate::{raw, Chunk};
 use std::cell::RefCell;
 
-/// Verifies one program after another in memory that it keeps.
+/// Verifies one program after another in memory that it keeps, within a limit on work.
 ///
-/// No answer depends on what was verified before: each is that of [`verify`](crate::verify), which is proved of the library.
-/// It takes memory only where it keeps less than a program wants, and keeps as much as programs wanted most (docs/COSTS.md),
-/// until it is dropped or [`Verifier::release`] is called.
+/// Each answer is that of [`verify`](crate::verify), whatever was verified before; that is proved of the library. It takes
+/// memory only where a program needs more than is kept, and keeps as much as the largest program needed (COSTS.md), until it is
+/// dropped or [`Verifier::release`] is called.
 ///
 /// ```
-/// use grain::{Caps, Chunk, Pools, Verifier};
+/// use grain::{Caps, Chunk, Pools, Program, Verifier, VerifyError};
 ///
-/// let mut verifier = Verifier::new();
+/// let mut verifier = Verifier::new().limit(1 << 20);
 /// let pools = Pools::new();
 /// for code in [[0x02, 0x13], [0x04, 0x13]] {
-///     let chunks = [Chunk { entry: 0, end: 2, max_stack: 1 }];
-///     assert_eq!(verifier.verify(Caps::NONE, &code, &chunks, &pools)?, [1]);
+///     assert_eq!(verifier.verify(Caps::NONE, &code, &[Chunk::new(0, 2, 1)], &pools)?, [1]);
 /// }
-/// # Ok::<(), grain::Fault>(())
+///
+/// let program = Program::new(vec![0x02, 0x13], vec![Chunk::new(0, 2, 1)], Pools::new());
+/// let verified = verifier.verify_program(Caps::NONE, program.clone())?;
+/// assert_eq!(verified.depth(0), Some(1));
+///
+/// let mut small = Verifier::new().limit(1);
+/// let rejected = small.verify_program(Caps::NONE, program).unwrap_err();
+/// assert_eq!(rejected.error(), &VerifyError::TooMuchWork);
+/// # Ok::<(), Box<dyn std::error::Error>>(())
 /// ```
 #[derive(Debug)]
 pub struct Verifier {
     scratch: raw::Scratch,
-    numbers: Vec<u16>,
+    limit: u64,
+    depths: Vec<u16>,
 }
 
-// SAFETY: what the library keeps is memory that no other handle names, and that it may be handed to another thread is
-// proved of the record.
+// SAFETY: what the library keeps is memory that no other handle names, and that it may be handed to another thread is proved of
+// the record.
 unsafe impl Send for Verifier {}
+
+// SAFETY: only calls that borrow the verifier alone read or change what the library keeps.
+unsafe impl Sync for Verifier {}
 
 impl Default for Verifier {
     fn default() -> Verifier {
@@ -36,69 +54,112 @@ impl Default for Verifier {
 }
 
 impl Verifier {
-    /// One that has no memory yet.
+    /// One that has no memory yet, and no limit.
     #[must_use]
     pub const fn new() -> Verifier {
         Verifier {
             scratch: raw::Scratch::NONE,
-            numbers: Vec::new(),
+            limit: raw::NO_LIMIT,
+            depths: Vec::new(),
         }
     }
 
-    /// The greatest operand count that any run of each chunk reaches, chunk by chunk, as [`verify`](crate::verify) says.
+    /// With a limit on the work for a program: its chunks may span this many bytes of the code together, each chunk counted for
+    /// itself. Then no more instructions are visited, and [`VerifyError::TooMuchWork`] is the answer to a program that goes
+    /// beyond.
     ///
-    /// # Errors
-    /// Those of [`verify`](crate::verify).
-    pub fn verify<'a>(
-        &mut self,
-        caps: impl Into<HostCaps>,
-        code: &[u8],
-        chunks: &[Chunk],
-        pools: impl Into<FlatPools<'a>>,
-    ) -> Result<&[u16], Fault> {
-        let count = chunks.len();
-        let lacking = count.saturating_sub(self.numbers.len());
-        self.numbers
-            .try_reserve(lacking)
-            .map_err(|_| Fault::out_of_memory())?;
-        self.numbers.resize(count, 0);
-        let numbers = &mut self.numbers[..];
-        judge_with(
-            &mut self.scratch,
-            caps.into(),
-            code,
-            chunks,
-            &pools.into(),
-            numbers,
-        )?;
-        Ok(&self.numbers)
+    /// Chunks of one program usually don't overlap, so the greatest length of code that a host takes is enough.
+    #[must_use]
+    pub fn limit(mut self, bytes: u64) -> Verifier {
+        self.limit = bytes;
+        self
     }
 
-    /// Verifies as [`Verifier::verify`] does, and answers what [`verify_into`](crate::verify_into) does.
+    /// Verifies a program, and answers the depth of each chunk, as [`verify`](crate::verify) does.
     ///
     /// # Errors
-    /// Those of [`verify_into`](crate::verify_into).
-    pub fn verify_into<'a>(
+    /// Those of [`verify`](crate::verify), and [`VerifyError::TooMuchWork`].
+    pub fn verify<'a>(
         &mut self,
-        caps: impl Into<HostCaps>,
+        caps: Caps,
         code: &[u8],
         chunks: &[Chunk],
         pools: impl Into<FlatPools<'a>>,
-        numbers: &mut [u16],
-    ) -> Result<u64, Fault> {
-        judge_with(
-            &mut self.scratch,
-            caps.into(),
+    ) -> Result<&[u16], VerifyError> {
+        let lacking = chunks.len().saturating_sub(self.depths.len());
+        self.depths
+            .try_reserve(lacking)
+            .map_err(|_| VerifyError::OutOfMemory)?;
+        self.depths.resize(chunks.len(), 0);
+        let (limit, depths) = (self.limit, &mut self.depths[..]);
+        judge_in(
+            Some(&mut self.scratch),
+            limit,
+            caps,
             code,
             chunks,
             &pools.into(),
-            numbers,
+            depths,
+        )?;
+        Ok(&self.depths)
+    }
+
+    /// Verifies a program, writes the depths to the front of a list of the caller's, and answers how many instructions were
+    /// visited, as [`verify_into`](crate::verify_into) does.
+    ///
+    /// # Errors
+    /// Those of [`verify_into`](crate::verify_into), and [`VerifyError::TooMuchWork`].
+    pub fn verify_into<'a>(
+        &mut self,
+        caps: Caps,
+        code: &[u8],
+        chunks: &[Chunk],
+        pools: impl Into<FlatPools<'a>>,
+        depths: &mut [u16],
+    ) -> Result<u64, VerifyError> {
+        judge_in(
+            Some(&mut self.scratch),
+            self.limit,
+            caps,
+            code,
+            chunks,
+            &pools.into(),
+            depths,
         )
     }
 
-    /// Gives its memory back. It may be used again.
+    /// Verifies a program, and answers it as a [`Verified`], as [`Program::into_verified`] does.
+    ///
+    /// # Errors
+    /// The program and the error of [`Verifier::verify`].
+    // The error has the program in it; a box would take memory, which may be what is lacking.
+    #[allow(clippy::result_large_err)]
+    pub fn verify_program(&mut self, caps: Caps, program: Program) -> Result<Verified, Rejected> {
+        let depths = self
+            .verify(caps, program.code(), program.chunks(), program.pools())
+            .and_then(copied);
+        Verified::new(program, caps, depths)
+    }
+
+    /// Explains a chunk of a program, or a refusal of it, as [`explain`](crate::explain) does.
+    ///
+    /// # Errors
+    /// Those of [`explain`](crate::explain), and [`ExplainError::TooMuchWork`] where the chunk spans more of the code than the
+    /// limit.
+    pub fn explain<'a>(
+        &self,
+        caps: Caps,
+        code: &'a [u8],
+        chunks: &[Chunk],
+        pools: impl Into<FlatPools<'a>>,
+        subject: impl Into<Subject>,
+    ) -> Result<Explained<'a>, ExplainError> {
+        explained::explain_within(self.limit, caps, code, chunks, pools.into(), subject.into())
+    }
+
+    /// Frees its memory. It may be used again.
     pub fn release(&mut self) {
-        self.numbers = Vec::new();
+        self.depths = Vec::new();
         // SAFETY: the scratch is this verifier's alone, and was made by the library or keeps nothing.
         unsafe { raw::grain_scratch_free(&mut self.scratch) }
     }
@@ -110,8 +171,16 @@ impl Drop for Verifier {
     }
 }
 
-/// Of a program with at most so many bytes of code, chunks, and entries of a list in its pools, what a thread keeps stays
-/// below 256 KiB.
+fn copied(depths: &[u16]) -> Result<Vec<u16>, VerifyError> {
+    let mut own = Vec::new();
+    own.try_reserve_exact(depths.len())
+        .map_err(|_| VerifyError::OutOfMemory)?;
+    own.extend_from_slice(depths);
+    Ok(own)
+}
+
+/// A small program has at most this many bytes of code, and this many chunks and entries of each list of its pools. For such, a
+/// thread keeps less than 256 KiB.
 const SMALL_CODE: usize = 3072;
 const SMALL_LIST: usize = 128;
 
@@ -122,76 +191,114 @@ thread_local! {
 
 /// The verdict on a program: on a small one in the memory that the thread keeps.
 pub(crate) fn judge(
-    caps: HostCaps,
+    caps: Caps,
     code: &[u8],
     chunks: &[Chunk],
     pools: &FlatPools<'_>,
-    numbers: &mut [u16],
-) -> Result<u64, Fault> {
+    depths: &mut [u16],
+) -> Result<u64, VerifyError> {
     if code.len() <= SMALL_CODE && chunks.len() <= SMALL_LIST && pools.are_within(SMALL_LIST) {
         // None where the thread is about to end.
-        let judged = SMALL.try_with(|small| match small.try_borrow_mut() {
-            Ok(mut small) => judge_with(&mut small.scratch, caps, code, chunks, pools, numbers),
-            Err(_) => judge_alone(caps, code, chunks, pools, numbers),
+        let judged = SMALL.try_with(|small| {
+            let mut small = small.try_borrow_mut().ok();
+            let scratch = small.as_mut().map(|small| &mut small.scratch);
+            judge_in(scratch, raw::NO_LIMIT, caps, code, chunks, pools, depths)
         });
         if let Ok(judged) = judged {
             return judged;
         }
     }
-    judge_alone(caps, code, chunks, pools, numbers)
+    judge_in(None, raw::NO_LIMIT, caps, code, chunks, pools, depths)
 }
 
-fn judge_alone(
-    caps: HostCaps,
+/// The verdict on a program, in the memory of a scratch, or in memory for this call alone.
+pub(crate) fn judge_in(
+    scratch: Option<&mut raw::Scratch>,
+    limit: u64,
+    caps: Caps,
     code: &[u8],
     chunks: &[Chunk],
     pools: &FlatPools<'_>,
-    numbers: &mut [u16],
-) -> Result<u64, Fault> {
-    let (mut fault, mut looked) = (raw::Fault::default(), 0);
-    // SAFETY: each pointer and length are those of one slice that is borrowed for the call, those that are written to
-    // without another reader; the record of the pools points into lists that `pools` borrows.
-    let answer = unsafe {
+    depths: &mut [u16],
+) -> Result<u64, VerifyError> {
+    check_length(code)?;
+    let (program, mut report) = (pools.program(code, chunks), raw::Report::default());
+    let scratch = scratch.map_or(std::ptr::null_mut(), |scratch| scratch as *mut _);
+    // SAFETY: the record points to lists that are borrowed for the call, and `depths` is one list without another reader. The
+    // scratch, if any, is borrowed for the call, and was made by the library or keeps nothing.
+    let status = unsafe {
         raw::grain_verify(
-            caps.bits(),
-            code.as_ptr(),
-            code.len(),
-            chunks.as_ptr(),
-            chunks.len(),
-            &pools.raw(),
-            numbers.as_mut_ptr(),
-            numbers.len(),
-            &mut fault,
-            &mut looked,
-        )
-    };
-    crate::verdict(answer, fault, looked, pools)
-}
-
-fn judge_with(
-    scratch: &mut raw::Scratch,
-    caps: HostCaps,
-    code: &[u8],
-    chunks: &[Chunk],
-    pools: &FlatPools<'_>,
-    numbers: &mut [u16],
-) -> Result<u64, Fault> {
-    let (mut fault, mut looked) = (raw::Fault::default(), 0);
-    // SAFETY: as in `judge_alone`; the scratch is a verifier's alone, and was made by the library or keeps nothing.
-    let answer = unsafe {
-        raw::grain_verify_with(
             scratch,
             caps.bits(),
-            code.as_ptr(),
-            code.len(),
-            chunks.as_ptr(),
-            chunks.len(),
-            &pools.raw(),
-            numbers.as_mut_ptr(),
-            numbers.len(),
-            &mut fault,
-            &mut looked,
+            limit,
+            &program,
+            depths.as_mut_ptr(),
+            depths.len(),
+            &mut report,
         )
     };
-    crate::verdict(answer, fault, looked, pools)
+    verdict(status, &report, pools)
+}
+
+/// Has each chunk declare its depth, and answers how many instructions were visited.
+pub(crate) fn tighten(
+    caps: Caps,
+    code: &[u8],
+    chunks: &mut [Chunk],
+    pools: &FlatPools<'_>,
+) -> Result<u64, VerifyError> {
+    check_length(code)?;
+    let mut tightened = Vec::new();
+    tightened
+        .try_reserve_exact(chunks.len())
+        .map_err(|_| VerifyError::OutOfMemory)?;
+    tightened.extend_from_slice(chunks);
+    let (program, mut report) = (pools.program(code, chunks), raw::Report::default());
+    // SAFETY: the record points to lists that are borrowed for the call; `tightened` is another list, without another reader.
+    // There is no scratch.
+    let status = unsafe {
+        raw::grain_tighten(
+            std::ptr::null_mut(),
+            caps.bits(),
+            raw::NO_LIMIT,
+            &program,
+            tightened.as_mut_ptr(),
+            tightened.len(),
+            &mut report,
+        )
+    };
+    let visited = verdict(status, &report, pools)?;
+    chunks.copy_from_slice(&tightened);
+    Ok(visited)
+}
+
+/// An address has 32 bits.
+pub(crate) fn check_length(code: &[u8]) -> Result<(), VerifyError> {
+    if u32::try_from(code.len()).is_ok() {
+        Ok(())
+    } else {
+        Err(VerifyError::TooLarge)
+    }
+}
+
+/// What the library has answered.
+fn verdict(status: u32, report: &raw::Report, pools: &FlatPools<'_>) -> Result<u64, VerifyError> {
+    match status {
+        raw::ACCEPTED => Ok(report.visited),
+        raw::REFUSED => Err(Refusal::new(report.refusal, report.visited).into()),
+        raw::SHORT => Err(VerifyError::TooFewDepths),
+        raw::OUT_OF_MEMORY => Err(VerifyError::OutOfMemory),
+        raw::NOT_FLAT => Err(not_flat(pools)),
+        raw::TOO_MUCH_WORK => Err(VerifyError::TooMuchWork),
+        status => Err(VerifyError::Unknown(status)),
+    }
+}
+
+/// Why pools aren't flat: those that the package has built are only where a count doesn't fit.
+pub(crate) fn not_flat(pools: &FlatPools<'_>) -> VerifyError {
+    match pools.check() {
+        Err(_) if pools.is_built => VerifyError::TooLarge,
+        Err(flaw) => VerifyError::NotFlat(flaw),
+        Ok(()) => VerifyError::Unknown(raw::NOT_FLAT),
+    }
 }

@@ -1,15 +1,15 @@
-//! Pools of garbage at the edge of a page: behind each list that the library is lent stands a page that nobody may read, so
+//! Pools of garbage at the edge of a page: behind each list that the library reads stands a page that nobody may read, so
 //! that a read past a list ends the test.
 #![cfg(all(target_os = "linux", target_pointer_width = "64"))]
 mod common;
 
 use common::chance::Chance;
 use common::model::{ModelPools, Table};
-use common::programs::{program, Program};
+use common::programs::{constant, program, Program};
 use grain::{
-    check_stream, check_table, count_instructions, instruction, site, stream_site,
-    stream_sites_into, table_entries_into, tighten, verify_into, Case, Cause, ChainRow, Chunk,
-    Constant, Entry, FlatPools, Site, StepRow, SwitchRow,
+    check_stream, check_table, count_instructions, explain, instruction, site, stream_site,
+    stream_sites_into, table_entries_into, tighten, verify_into, Case, ChainRow, Chunk, Constant,
+    Entry, FlatPools, Site, StepRow, SwitchRow, VerifyError,
 };
 use std::collections::BTreeSet;
 use std::ffi::{c_int, c_long, c_void};
@@ -64,7 +64,7 @@ impl Pages {
         assert!(bytes <= self.length && self.length % std::mem::align_of::<T>() == 0);
         assert_eq!(std::mem::size_of::<T>() % std::mem::align_of::<T>(), 0);
         // SAFETY: the place lies in the pages, is aligned since sizes are whole numbers of alignments, and is written before
-        // it is lent; the pages are borrowed as long as the list is.
+        // it is borrowed; the pages are borrowed as long as the list is.
         unsafe {
             let place = self.start.add(self.length - bytes).cast::<T>();
             std::ptr::copy_nonoverlapping(list.as_ptr(), place, list.len());
@@ -92,7 +92,7 @@ impl Pages {
 
 impl Drop for Pages {
     fn drop(&mut self) {
-        // SAFETY: the mapping is this one's, and nothing of it is lent any more.
+        // SAFETY: the mapping is this one's, and nothing of it is borrowed any more.
         unsafe { munmap(self.start.cast(), self.length + PAGE) };
     }
 }
@@ -120,7 +120,7 @@ fn lists(pools: &ModelPools) -> Lists {
         constants: pools
             .constants
             .iter()
-            .map(|asked| Constant::from(*asked))
+            .map(|needed| constant(*needed))
             .collect(),
         names: pools.names.concat().into_bytes(),
         starts,
@@ -152,16 +152,21 @@ fn lists(pools: &ModelPools) -> Lists {
 struct Room(Vec<Pages>);
 
 /// What the library says of a program whose lists end where pages do, with one byte of so many changed.
-fn judge(chance: &mut Chance, room: &mut Room, program: &Program, one_in: usize) -> Option<Cause> {
+fn judge(
+    chance: &mut Chance,
+    room: &mut Room,
+    program: &Program,
+    one_in: usize,
+) -> Option<VerifyError> {
     let lists = lists(&program.pools);
-    let [code, chunks, numbers, constants, names, starts, chains, steps, switches, cases, ranges] =
+    let [code, chunks, depths, constants, names, starts, chains, steps, switches, cases, ranges] =
         &mut room.0[..]
     else {
         panic!("a list without room");
     };
     let code = &*code.garble(chance, &program.code, 20 * one_in);
     let chunks = chunks.hold::<Chunk>(&program.chunks);
-    let numbers = numbers.hold(&vec![0u16; chunks.len()]);
+    let depths = depths.hold(&vec![0u16; chunks.len()]);
     let pools = FlatPools::new()
         .constants(constants.garble(chance, &lists.constants, one_in))
         .names(
@@ -181,17 +186,24 @@ fn judge(chance: &mut Chance, room: &mut Room, program: &Program, one_in: usize)
             cases.garble(chance, &lists.cases, one_in),
             ranges.garble(chance, &lists.ranges, one_in),
         );
-    let said = verify_into(program.caps, code, chunks, pools, numbers).err();
+    let said = verify_into(program.caps, code, chunks, pools, depths).err();
+    assert_eq!(
+        pools.check().is_err(),
+        matches!(said, Some(VerifyError::NotFlat(_)))
+    );
     let again = tighten(program.caps, code, chunks, pools).err();
     assert_eq!(said, again);
-    said.map(|fault| {
+    if let Some(refusal) = said.as_ref().and_then(VerifyError::refusal) {
         let _ = (
-            fault.to_string(),
-            fault.constant(pools),
-            fault.chain_place(code, pools),
+            refusal.to_string(),
+            refusal.line(),
+            refusal.constant(pools),
+            refusal.chain_place(code, pools),
         );
-        fault.cause()
-    })
+        let explained = explain(program.caps, code, chunks, pools, refusal).unwrap();
+        let _ = explained.to_string();
+    }
+    said
 }
 
 fn room() -> Room {
@@ -201,24 +213,25 @@ fn room() -> Room {
 #[test]
 fn no_list_of_pools_is_read_past_its_end() {
     let (table, mut chance, mut room) = (Table::read(), Chance(11), room());
-    let (mut accepted, mut not_flat, mut causes) = (0, 0, BTreeSet::new());
+    let (mut accepted, mut not_flat, mut flaws) = (0, 0, BTreeSet::new());
     for round in 0..4000 {
         let program = program(&mut chance, &table);
         let one_in = [usize::MAX, 1000, 100, 20, 3][round % 5];
         match judge(&mut chance, &mut room, &program, one_in.min(1 << 40)) {
             None => accepted += 1,
-            Some(Cause::NotFlat) => not_flat += 1,
-            Some(cause) => {
-                let text = format!("{cause:?}");
-                causes.insert(text.split(' ').next().map(String::from));
+            Some(VerifyError::NotFlat(_)) => not_flat += 1,
+            Some(VerifyError::Refused(refusal)) => {
+                let text = refusal.line();
+                flaws.insert(text.split(' ').next().map(String::from));
             }
+            Some(failure) => panic!("{failure:?}"),
         }
     }
     assert!(
         accepted > 400 && not_flat > 400,
         "{accepted} accepted, {not_flat} not flat"
     );
-    assert!(causes.len() >= 8, "{causes:?}");
+    assert!(flaws.len() >= 8, "{flaws:?}");
 }
 
 #[test]
@@ -238,7 +251,7 @@ fn no_code_or_table_is_read_past_its_end() {
             check_table(made),
             check_stream(made),
         );
-        for at in 0..len + 2 {
+        for at in 0..len as u32 + 2 {
             let shown = instruction(made, at).map(|found| found.to_string());
             assert_eq!(shown.is_some(), instruction(made, at).is_some());
         }
@@ -250,7 +263,7 @@ fn no_code_or_table_is_read_past_its_end() {
     }
 }
 
-/// Reads one item past a list, where the test below asks for it.
+/// Reads one item past a list, where the test below sets the variable.
 #[test]
 fn a_read_past_a_list() {
     if std::env::var_os("GRAIN_READ_PAST").is_some() {

@@ -1,7 +1,9 @@
-//! Pools whose entries are large, and are named by many instructions; and what there are more than 65,535 of. docs/COSTS.md has
-//! what each of these costs.
+//! Pools whose entries are large, and are named by many instructions; and what there are more than 65,535 of. COSTS.md has what
+//! each of these costs.
+mod common;
 
-use grain::{verify, Caps, Case, Cause, Chunk, Fault, Kind, Pools, Root, Step, Tail};
+use common::{found, whole};
+use grain::{verify, Caps, Case, Chunk, Flaw, Kind, Pools, Root, Step, Tail, VerifyError};
 
 /// How many there are of what is long, deep or many.
 const MANY: u32 = 300;
@@ -16,17 +18,8 @@ const UNIT: u8 = 0x02;
 const RETURN: u8 = 0x13;
 
 /// What is said of the code as one chunk that declares 8.
-fn said(caps: Caps, code: &[u8], pools: &Pools) -> Result<Vec<u16>, Fault> {
-    let chunk = Chunk {
-        entry: 0,
-        end: code.len() as u32,
-        max_stack: 8,
-    };
-    verify(caps, code, &[chunk], pools)
-}
-
-fn cause(said: Result<Vec<u16>, Fault>) -> Cause {
-    said.unwrap_err().cause()
+fn said(caps: Caps, code: &[u8], pools: &Pools) -> Result<Vec<u16>, VerifyError> {
+    verify(caps, code, &whole(code), pools)
 }
 
 /// Code that begins and ends so, between which these bytes stand many times.
@@ -51,26 +44,25 @@ fn one_switch_is_named_by_all() {
     let all = Caps::ALL;
     assert_eq!(said(all, &code, &with(1 + 3 * MANY)), Ok(vec![2]));
     assert_eq!(
-        cause(said(all, &code, &with(2))),
-        Cause::JumpIntoAnInstruction { at: 1, target: 2 }
+        found(said(all, &code, &with(2))),
+        (Some(1), Flaw::JumpIntoAnInstruction { target: 2 })
     );
     assert_eq!(
-        cause(said(all, &code, &with(0))),
-        Cause::DepthConflict {
-            at: 0,
-            expected: 0,
-            found: 1
-        }
+        found(said(all, &code, &with(0))),
+        (
+            Some(0),
+            Flaw::DepthConflict {
+                expected: 0,
+                found: 1
+            }
+        )
     );
 }
 
-/// The refusal where the instruction at the address asks those, which the host has all capabilities but.
-fn lacks(at: u64, missing: Caps) -> Cause {
-    Cause::MissingCaps {
-        at,
-        missing: missing.bits(),
-        artifact: (Caps::ALL - missing).bits(),
-    }
+/// What is found where the instruction at the address needs those, which the host alone lacks.
+fn lacks(at: u32, missing: Caps) -> (Option<u32>, Flaw) {
+    let host = Caps::ALL - missing;
+    (Some(at), Flaw::MissingCaps { missing, host })
 }
 
 #[test]
@@ -80,7 +72,7 @@ fn one_long_name_is_named_by_all() {
     let pools = Pools::new().name(&name);
     assert_eq!(said(Caps::ALL, &code, &pools), Ok(vec![1]));
     let refused = said(Caps::ALL - Caps::MODULE, &code, &pools);
-    assert_eq!(cause(refused), lacks(0, Caps::MODULE));
+    assert_eq!(found(refused), lacks(0, Caps::MODULE));
 }
 
 /// Pools with a chain of many properties, of which all but the last have name 0.
@@ -103,14 +95,16 @@ fn one_long_chain_is_named_by_all() {
     let pools = with_long_chain(0);
     assert_eq!(said(Caps::ALL, &code, &pools), Ok(vec![1]));
     let refused = said(Caps::ALL - Caps::PROPERTY, &code, &pools);
-    assert_eq!(cause(refused), lacks(1, Caps::PROPERTY));
+    assert_eq!(found(refused), lacks(1, Caps::PROPERTY));
     assert_eq!(
-        cause(said(Caps::ALL, &code, &with_long_chain(1))),
-        Cause::BadIndex {
-            at: 1,
-            what: Kind::Name,
-            index: 1
-        }
+        found(said(Caps::ALL, &code, &with_long_chain(1))),
+        (
+            Some(1),
+            Flaw::BadIndex {
+                what: Kind::Name,
+                index: 1
+            }
+        )
     );
 }
 
@@ -146,14 +140,9 @@ fn ranges_are_many() {
 
 #[test]
 fn chunks_are_many() {
-    let chunk = Chunk {
-        entry: 0,
-        end: 2,
-        max_stack: 1,
-    };
-    let chunks = vec![chunk; 65_537];
-    let numbers = verify(Caps::ALL, &[UNIT, RETURN], &chunks, &Pools::new());
-    assert_eq!(numbers, Ok(vec![1; 65_537]));
+    let chunks = vec![Chunk::new(0, 2, 1); 65_537];
+    let depths = verify(Caps::ALL, &[UNIT, RETURN], &chunks, &Pools::new());
+    assert_eq!(depths, Ok(vec![1; 65_537]));
 }
 
 /// So many branches, each of them to the next, and a return.

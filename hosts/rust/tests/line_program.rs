@@ -5,7 +5,7 @@ mod common;
 
 use common::chance::Chance;
 use common::line_of;
-use grain::{caps, Chunk};
+use grain::{Caps, Chunk};
 use std::collections::BTreeSet;
 use std::fmt::Write as _;
 use std::io::Write as _;
@@ -94,11 +94,8 @@ fn chunks(chance: &mut Chance, starts: &[usize], len: usize) -> Vec<Chunk> {
             let entry = if is_whole { 0 } else { chance.one_of(starts) };
             let end = if is_whole { len } else { chance.one_of(starts) };
             let odd = usize::from(chance.below(25) == 0);
-            Chunk {
-                entry: (entry + odd) as u32,
-                end: end as u32,
-                max_stack: chance.below(6) as u16,
-            }
+            let max_stack = chance.below(6) as u16;
+            Chunk::new((entry + odd) as u32, end as u32, max_stack)
         })
         .collect()
 }
@@ -108,9 +105,9 @@ fn case(chance: &mut Chance) -> (String, String) {
     let (code, starts) = code(chance);
     let chunks = chunks(chance, &starts, code.len());
     let caps = if chance.below(4) == 0 {
-        chance.next() as u16 & caps::ALL
+        Caps::from_bits_truncate(chance.next() as u16)
     } else {
-        caps::ALL
+        Caps::ALL
     };
     let mut line = format!("verify {caps:04x} ");
     for byte in &code {
@@ -139,7 +136,7 @@ fn answered(lines: String) -> String {
 }
 
 #[test]
-#[ignore = "compares with the line program, which GRAIN_CHECK has to name"]
+#[ignore = "compares with the line program, which GRAIN_CHECK must name"]
 fn generated_programs_are_judged_alike() {
     let mut chance = Chance(1);
     let (lines, said): (Vec<_>, Vec<_>) = (0..PROGRAMS).map(|_| case(&mut chance)).unzip();
@@ -166,7 +163,7 @@ fn generated_programs_are_judged_alike() {
 
 /// The line program reads into a buffer, which the first three lines end about.
 #[test]
-#[ignore = "asks the line program, which GRAIN_CHECK has to name"]
+#[ignore = "runs the line program, which GRAIN_CHECK must name"]
 fn long_code_is_counted() {
     for count in [32764, 32765, 32766, 100_000] {
         let lines = format!("code {}\ncode 0213\n", "02".repeat(count));
@@ -189,7 +186,7 @@ fn long_verify(tail: &str) -> String {
 }
 
 #[test]
-#[ignore = "asks the line program, which GRAIN_CHECK has to name"]
+#[ignore = "runs the line program, which GRAIN_CHECK must name"]
 fn many_branches_are_verified() {
     for (tail, verdict) in [
         ("0213", "accepted 1"),
@@ -211,7 +208,7 @@ fn many_branches_are_verified() {
 }
 
 #[test]
-#[ignore = "asks the line program, which GRAIN_CHECK has to name"]
+#[ignore = "runs the line program, which GRAIN_CHECK must name"]
 fn more_operands_than_can_be_declared_are_counted() {
     let line = format!("verify 7fff {}13 0:65537:65535", "02".repeat(65536));
     assert_eq!(
@@ -222,7 +219,7 @@ fn more_operands_than_can_be_declared_are_counted() {
 
 /// 2000 chunks, and one that ends past the code.
 #[test]
-#[ignore = "asks the line program, which GRAIN_CHECK has to name"]
+#[ignore = "runs the line program, which GRAIN_CHECK must name"]
 fn many_chunks_are_verified() {
     let line = format!("verify 7fff 0213{} 0:9:8", " 0:2:8".repeat(2000));
     assert_eq!(
@@ -233,7 +230,7 @@ fn many_chunks_are_verified() {
 
 /// An address table of 1200 entries, at the addresses 0 to 1199.
 #[test]
-#[ignore = "asks the line program, which GRAIN_CHECK has to name"]
+#[ignore = "runs the line program, which GRAIN_CHECK must name"]
 fn sites_are_found_in_a_large_table() {
     for (address, verdict) in [
         ("0", "site 1:2"),

@@ -1,23 +1,16 @@
 //! What the package has around the library's calls.
 mod common;
 
-use common::bytes;
+use common::{bytes, found, refusal, whole};
 use grain::{
     instruction, instructions, mnemonic, stream_sites, stream_sites_into, table_entries,
-    table_entries_into, tighten, verify, verify_into, Asks, AttachError, Caps, Case, Cause,
-    ChainPart, ChainRow, Chunk, Constant, Entry, FlatPools, Kind, Pools, Program, ReadError, Root,
-    Sidecar, Site, Step, StepRow, SwitchRow, TableFlaw, Tail, Verifier,
+    table_entries_into, tighten, verify, verify_into, AttachError, Caps, Case, ChainPart, ChainRow,
+    Constant, Entry, FlatPools, Flaw, Kind, Needs, Opcode, Pools, PoolsFlaw, PoolsList, Positions,
+    Program, ReadError, Root, Site, Step, StepRow, SwitchRow, TableFlaw, Tail, Verifier,
+    VerifyError,
 };
 
 const NAMES: &[u8] = b"lenage";
-
-fn whole(code: &[u8]) -> [Chunk; 1] {
-    [Chunk {
-        entry: 0,
-        end: code.len() as u32,
-        max_stack: 8,
-    }]
-}
 
 fn property(name: u32) -> Step {
     Step::Property {
@@ -35,7 +28,7 @@ fn sample() -> (Vec<u8>, Pools) {
         constant: 1,
     };
     let pools = Pools::new()
-        .constant(Asks::Unknown)
+        .constant(Needs::Unknown)
         .constant(Caps::ARRAY)
         .name("len")
         .name("age")
@@ -45,9 +38,9 @@ fn sample() -> (Vec<u8>, Pools) {
 }
 
 #[test]
-fn lent_lists_are_verified_as_built_pools() {
+fn lists_of_the_caller_are_verified_as_built_pools() {
     let (code, pools) = sample();
-    let constants = [Constant::from(Asks::Unknown), Constant::from(Caps::ARRAY)];
+    let constants = [Constant::from(Needs::Unknown), Constant::from(Caps::ARRAY)];
     let chains = [ChainRow::new(Root::Temporary, 1, Tail::Read, 0)];
     let steps = [StepRow::from(property(1))];
     let switches = [SwitchRow {
@@ -76,15 +69,16 @@ fn lent_lists_are_verified_as_built_pools() {
     );
     assert_eq!(Step::from(steps[0]), property(1));
     let uneven = lent.chains(&chains, &[]);
-    let fault = verify(Caps::ALL, &code, &whole(&code), uneven).unwrap_err();
-    assert_eq!(
-        (fault.cause(), fault.to_string().as_str()),
-        (Cause::NotFlat, "not flat")
-    );
-    assert_eq!((fault.at(), fault.chunk()), (None, None));
+    let error = verify(Caps::ALL, &code, &whole(&code), uneven).unwrap_err();
+    let (list, index) = (PoolsList::Chains, 0);
+    let flaw = PoolsFlaw { list, index };
+    assert_eq!(error, VerifyError::NotFlat(flaw));
+    assert_eq!((uneven.check(), lent.check()), (Err(flaw), Ok(())));
+    assert_eq!(error.to_string(), "no pools have this flat form");
+    assert_eq!(flaw.to_string(), "the list of chains isn't flat at index 0");
     let cut = lent.names(NAMES, &[0, 3]);
-    let fault = verify(Caps::ALL, &code, &whole(&code), cut).unwrap_err();
-    assert_eq!(fault.cause(), Cause::NotFlat);
+    let error = verify(Caps::ALL, &code, &whole(&code), cut).unwrap_err();
+    assert!(matches!(error, VerifyError::NotFlat(flaw) if flaw.list == PoolsList::Names));
 }
 
 #[test]
@@ -94,8 +88,8 @@ fn pools_are_cleared_and_built_again() {
     for _ in 0..3 {
         pools.clear();
         assert_eq!(pools, Pools::new());
-        assert_eq!(pools.add_constant(Asks::Unknown), Ok(0));
-        assert_eq!(pools.extend_constants([Some(Caps::ARRAY.bits())]), Ok(1));
+        assert_eq!(pools.add_constant(Needs::Unknown), Ok(0));
+        assert_eq!(pools.extend_constants([Caps::ARRAY]), Ok(1));
         assert_eq!(pools.add_name("len"), Ok(0));
         assert_eq!(pools.extend_names(["age"]), Ok(1));
         assert_eq!(
@@ -114,8 +108,9 @@ fn pools_are_cleared_and_built_again() {
         );
     }
     pools.set_functions(1);
-    let fault = verify(Caps::ALL - Caps::FUNCTION, &code, &whole(&code), &pools).unwrap_err();
-    assert_eq!((fault.constant(&pools), fault.at()), (None, None));
+    let caps = Caps::ALL - Caps::FUNCTION;
+    let refused = refusal(verify(caps, &code, &whole(&code), &pools));
+    assert_eq!((refused.constant(&pools), refused.address()), (None, None));
 }
 
 #[test]
@@ -137,15 +132,15 @@ fn pools_that_are_dropped_leave_no_items() {
 }
 
 #[test]
-fn a_constant_that_asks_what_cannot_be_named_passes() {
+fn a_constant_of_which_nobody_can_say_what_it_needs_passes() {
     let pools = Pools::new()
-        .constant(Asks::Unknown)
+        .constant(Needs::Unknown)
         .constant(Caps::NONE)
         .constant(Caps::MAP | Caps::BLOB);
     assert_eq!(verify(Caps::BLOB | Caps::MAP, &[], &[], &pools), Ok(vec![]));
-    let fault = verify(Caps::BLOB, &[], &[], &pools).unwrap_err();
-    assert_eq!(fault.constant(&pools), Some(2));
-    assert_eq!((fault.at(), fault.chunk()), (None, None));
+    let refused = refusal(verify(Caps::BLOB, &[], &[], &pools));
+    assert_eq!(refused.constant(&pools), Some(2));
+    assert_eq!((refused.address(), refused.chunk()), (None, None));
 }
 
 #[test]
@@ -156,9 +151,9 @@ fn the_part_of_a_chain_that_is_refused_is_found() {
             .chain(Root::This, &[], Tail::Read, 0)
             .chain(root, steps, tail, operands);
         let code = bytes("02020216010013");
-        let fault = verify(caps, &code, &whole(&code), &pools).unwrap_err();
-        assert_eq!(fault.at(), Some(3));
-        fault
+        let refused = refusal(verify(caps, &code, &whole(&code), &pools));
+        assert_eq!(refused.address(), Some(3));
+        refused
             .chain_place(&code, &pools)
             .map(|place| (place.chain, place.part))
     };
@@ -202,16 +197,10 @@ fn the_part_of_a_chain_that_is_refused_is_found() {
     );
     // The instruction's own index is out of bounds: no chain is there.
     let code = bytes("0216000013");
-    let fault = verify(all, &code, &whole(&code), &Pools::new()).unwrap_err();
-    assert_eq!(fault.chain_place(&code, &Pools::new()), None);
-    assert_eq!(
-        fault.cause(),
-        Cause::BadIndex {
-            at: 1,
-            what: Kind::Chain,
-            index: 0
-        }
-    );
+    let refused = refusal(verify(all, &code, &whole(&code), &Pools::new()));
+    assert_eq!(refused.chain_place(&code, &Pools::new()), None);
+    let (what, index) = (Kind::Chain, 0);
+    assert_eq!(refused.flaw(), Flaw::BadIndex { what, index });
 }
 
 #[test]
@@ -222,9 +211,9 @@ fn a_verifier_serves_one_program_after_another() {
     for round in 0..3 {
         let said = verifier.verify(Caps::NONE, &good, &whole(&good), &none);
         assert_eq!(said, Ok(&[2][..]), "round {round}");
-        let fault = verifier.verify(Caps::NONE, &bad, &whole(&bad), &none);
+        let error = verifier.verify(Caps::NONE, &bad, &whole(&bad), &none);
         let alone = verify(Caps::NONE, &bad, &whole(&bad), &none);
-        assert_eq!(fault.unwrap_err(), alone.unwrap_err(), "round {round}");
+        assert_eq!(error.unwrap_err(), alone.unwrap_err(), "round {round}");
         if round == 1 {
             verifier.release();
         }
@@ -234,11 +223,97 @@ fn a_verifier_serves_one_program_after_another() {
 }
 
 #[test]
+fn work_is_limited() {
+    let code = bytes("0213");
+    let three = [whole(&code)[0]; 3];
+    let none = Pools::new();
+    for (limit, is_enough) in [(0, false), (5, false), (6, true), (u64::MAX, true)] {
+        let mut verifier = Verifier::new().limit(limit);
+        let mut depths = [7; 3];
+        let said = verifier.verify_into(Caps::NONE, &code, &three, &none, &mut depths);
+        if is_enough {
+            assert_eq!((said, depths), (Ok(6), [1; 3]));
+        } else {
+            assert_eq!((said, depths), (Err(VerifyError::TooMuchWork), [7; 3]));
+        }
+        let said = verifier.explain(Caps::NONE, &code, &three, &none, 2);
+        assert_eq!(said.is_ok(), limit >= 2);
+        let program = Program::new(code.clone(), three.to_vec(), Pools::new());
+        let said = verifier.verify_program(Caps::NONE, program.clone());
+        assert_eq!(said.is_ok(), is_enough);
+        let back = match said {
+            Ok(verified) => verified.into_program(),
+            Err(rejected) => rejected.into_program(),
+        };
+        assert_eq!(back, program);
+    }
+}
+
+#[test]
+fn what_is_verified_is_kept_with_the_program() {
+    let (code, pools) = sample();
+    let program = Program::new(code.clone(), whole(&code).to_vec(), pools.clone());
+    let rejected = program
+        .into_verified(Caps::ALL - Caps::PROPERTY)
+        .unwrap_err();
+    let refused = *rejected.refusal().unwrap();
+    assert_eq!(rejected.error(), &VerifyError::Refused(refused));
+    assert_eq!(rejected.program().code(), code);
+    let verified = rejected.into_program().into_verified(Caps::ALL).unwrap();
+    assert_eq!((verified.code(), verified.pools()), (&code[..], &pools));
+    assert_eq!(
+        (verified.chunks(), verified.caps()),
+        (&whole(&code)[..], Caps::ALL)
+    );
+    assert_eq!((verified.depth(0), verified.depth(1)), (Some(2), None));
+    assert_eq!((verified.depths(), verified.site(0)), (&[2][..], None));
+}
+
+#[test]
+fn errors_are_errors_and_have_sources() {
+    fn is_error<E: std::error::Error + Send + Sync + 'static>() {}
+    fn is_shared<T: Send + Sync + Unpin + 'static>() {}
+    is_error::<VerifyError>();
+    is_error::<grain::Refusal>();
+    is_error::<grain::Rejected>();
+    is_error::<grain::ExplainError>();
+    is_error::<PoolsFlaw>();
+    is_error::<AttachError>();
+    is_error::<ReadError>();
+    is_error::<TableFlaw>();
+    is_error::<grain::PoolError>();
+    is_error::<grain::UnknownCap>();
+    is_shared::<Verifier>();
+    is_shared::<grain::Verified>();
+    is_shared::<grain::Explained<'static>>();
+    let error = verify(Caps::ALL, &[0x0b], &whole(&[0x0b]), &Pools::new()).unwrap_err();
+    let source = std::error::Error::source(&error).unwrap();
+    let sentence = "chunk 0: the instruction at 0 needs 1 operand, and there are 0";
+    assert_eq!(
+        (error.to_string().as_str(), source.to_string().as_str()),
+        ("the program is refused", sentence)
+    );
+    let refused = refusal::<()>(Err(error));
+    assert_eq!(
+        format!("{refused:>70}|{refused:.7}"),
+        format!("{sentence:>70}|chunk 0")
+    );
+    assert_eq!(
+        format!("{:<40}|", refused.line()),
+        format!("{:<40}|", "underflow at=0 need=1 have=0")
+    );
+}
+
+#[test]
+fn the_library_has_a_version() {
+    assert_eq!(grain::version(), env!("CARGO_PKG_VERSION"));
+}
+
+#[test]
 fn a_short_list_is_an_error() {
     let code = bytes("0213");
-    let fault = verify_into(Caps::ALL, &code, &whole(&code), &Pools::new(), &mut []).unwrap_err();
-    assert_eq!(fault.cause(), Cause::TooFewNumbers);
-    assert_eq!(fault.to_string(), "fewer numbers than chunks");
+    let said = verify_into(Caps::ALL, &code, &whole(&code), &Pools::new(), &mut []);
+    assert_eq!(said, Err(VerifyError::TooFewDepths));
 }
 
 #[test]
@@ -252,8 +327,28 @@ fn each_instruction_prints_as_its_name_and_its_fields() {
             mnemonic(tag),
             "{tag:#04x}"
         );
+        assert_eq!(Opcode::from_tag(tag).is_some(), found.is_some());
         let Some(found) = found else { continue };
         assert_eq!(found.bytes(), &code[..usize::from(found.width)]);
+        let opcode = Opcode::from_tag(tag).unwrap();
+        assert_eq!((found.opcode(), opcode.tag()), (Some(opcode), tag));
+        assert_eq!(Opcode::try_from(tag), Ok(opcode));
+        assert_eq!(opcode.name(), found.mnemonic());
+        assert_eq!(opcode.width(), u32::from(found.width));
+        assert_eq!(opcode.is_quiet(), found.is_quiet());
+        assert!(found
+            .fields()
+            .map(|field| field.kind)
+            .eq(opcode.fields().iter().copied()));
+        let (decoded, values) = Opcode::decode(&code, 0).unwrap();
+        assert_eq!(decoded, opcode);
+        assert!(found
+            .fields()
+            .zip(values)
+            .all(|(field, value)| field.value == value));
+        for end in 0..usize::from(found.width) {
+            assert_eq!(Opcode::decode(&code[..end], 0), None);
+        }
         let fields: String = found
             .fields()
             .map(|field| format!(" {}", field.value))
@@ -261,7 +356,7 @@ fn each_instruction_prints_as_its_name_and_its_fields() {
         assert_eq!(found.to_string(), format!("{}{fields}", found.mnemonic()));
         named += 1;
     }
-    assert_eq!(named, 74);
+    assert_eq!((named, Opcode::ALL.len()), (74, 74));
     let code = bytes("2107000000ffff");
     assert_eq!(
         instruction(&code, 0).unwrap().to_string(),
@@ -279,7 +374,10 @@ fn code_is_gone_through() {
     let mut left = instructions(&code);
     let seen: Vec<_> = left.by_ref().map(|(at, each)| (at, each.tag)).collect();
     assert_eq!(seen, [(0, 0x02), (1, 0x37), (7, 0x13)]);
-    assert_eq!((left.at(), left.is_whole(), left.next()), (8, false, None));
+    assert_eq!(
+        (left.address(), left.is_whole(), left.next()),
+        (8, false, None)
+    );
     let mut whole = instructions(&code[..8]);
     assert_eq!((whole.by_ref().count(), whole.is_whole()), (3, true));
 }
@@ -333,13 +431,11 @@ fn chunks_are_tightened_or_stay() {
     assert_eq!(chunks[0].max_stack, 2);
     chunks[0].max_stack = 1;
     let before = chunks;
-    let fault = tighten(Caps::ALL, &code, &mut chunks, &Pools::new()).unwrap_err();
+    let said = tighten(Caps::ALL, &code, &mut chunks, &Pools::new());
+    let (needed, declared) = (2, 1);
     assert_eq!(
-        fault.cause(),
-        Cause::StackExceedsDeclared {
-            needed: 2,
-            declared: 1
-        }
+        found(said),
+        (None, Flaw::StackExceedsDeclared { needed, declared })
     );
     assert_eq!(chunks, before);
 }
@@ -348,11 +444,11 @@ fn chunks_are_tightened_or_stay() {
 fn positions_are_attached_and_taken_off() {
     let (code, pools) = sample();
     let mut program = Program::new(code.clone(), whole(&code).to_vec(), pools.clone());
-    let sidecar = |table: &str, stream: &str| Sidecar {
+    let positions = |table: &str, stream: &str| Positions {
         table: bytes(table),
         stream: bytes(stream),
     };
-    let good = sidecar("02000105010107", "010207");
+    let good = positions("02000105010107", "010207");
     assert_eq!(program.attach_positions(good.clone()), Ok(()));
     assert_eq!(program.positions(), Some(&good));
     assert_eq!(program.site(1), Some(Site { line: 1, column: 7 }));
@@ -365,32 +461,35 @@ fn positions_are_attached_and_taken_off() {
     assert_eq!(program.chain_sites().as_deref(), Ok(&sites[..]));
     let bad = [
         (
-            sidecar("0200010501", "010207"),
+            positions("0200010501", "010207"),
             AttachError::Table(TableFlaw::Truncated),
         ),
         (
-            sidecar("02000105020107", "010207"),
+            positions("02000105020107", "010207"),
             AttachError::NoInstruction { at: 2 },
         ),
         (
-            sidecar("02000105400107", "010207"),
+            positions("02000105400107", "010207"),
             AttachError::NoInstruction { at: 64 },
         ),
-        (sidecar("0100000a", "010207"), AttachError::NoLine { at: 0 }),
         (
-            sidecar("00", "0102"),
+            positions("0100000a", "010207"),
+            AttachError::NoLine { at: 0 },
+        ),
+        (
+            positions("00", "0102"),
             AttachError::Stream(TableFlaw::Truncated),
         ),
         (
-            sidecar("00", "00"),
+            positions("00", "00"),
             AttachError::ChainCount {
                 slots: 0,
                 positions: 1,
             },
         ),
     ];
-    for (sidecar, wanted) in bad {
-        assert_eq!(program.attach_positions(sidecar), Err(wanted));
+    for (positions, wanted) in bad {
+        assert_eq!(program.attach_positions(positions), Err(wanted));
         assert_eq!(program.positions(), Some(&good));
     }
     assert_eq!(program.verify(Caps::ALL), Ok(vec![2]));

@@ -3,21 +3,18 @@ mod common;
 
 use common::{bytes, line_of};
 use grain::{check_stream, check_table, count_instructions, instruction, site, stream_site};
-use grain::{Chunk, Field, Kind, Site, TableFlaw};
+use grain::{Caps, Chunk, Field, Kind, Site, TableFlaw};
 
 /// The verdict on a case, by its words: capabilities, code and chunks.
 fn verdict(case: &str) -> String {
     let mut words = case.split(' ');
     let caps = u16::from_str_radix(words.next().unwrap(), 16).unwrap();
+    let caps = Caps::try_from(caps).unwrap();
     let code = bytes(words.next().unwrap().trim_matches('-'));
     let chunks: Vec<Chunk> = words
         .map(|word| {
             let numbers: Vec<u32> = word.split(':').map(|n| n.parse().unwrap()).collect();
-            Chunk {
-                entry: numbers[0],
-                end: numbers[1],
-                max_stack: numbers[2] as u16,
-            }
+            Chunk::new(numbers[0], numbers[1], numbers[2] as u16)
         })
         .collect();
     line_of(caps, &code, &chunks)

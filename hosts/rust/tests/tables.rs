@@ -143,7 +143,7 @@ fn streams_are_read_or_refused() {
     }
 }
 
-/// What the calls said, over all bytes that they were asked about.
+/// What the calls said, over all bytes that they were given.
 #[derive(Debug, Default, PartialEq)]
 struct Said {
     /// How often the bytes are a table.
@@ -158,7 +158,7 @@ struct Said {
 
 impl Said {
     /// Counts what is said of these bytes.
-    fn ask(&mut self, bytes: &[u8]) {
+    fn count(&mut self, bytes: &[u8]) {
         self.tables += usize::from(check_table(bytes).is_ok());
         self.streams += usize::from(check_stream(bytes).is_ok());
         let sites: Vec<Site> = (0..64).filter_map(|at| site(bytes, at)).collect();
@@ -174,7 +174,7 @@ impl Said {
         for bit in 0..8 * bytes.len() {
             let mut changed = bytes.to_vec();
             changed[bit / 8] ^= 1 << (bit % 8);
-            said.ask(&changed);
+            said.count(&changed);
             if check_table(&changed).is_ok() && bytes == TABLE {
                 assert_eq!(table_entries(&changed).map(|found| found.len()), Ok(4));
             }
@@ -213,7 +213,7 @@ fn bytes_that_begin_with_no_count_have_nothing() {
         assert_eq!(check_table(bytes), Err(flaw));
         assert_eq!(check_stream(bytes), Err(flaw));
         let mut said = Said::default();
-        said.ask(bytes);
+        said.count(bytes);
         assert_eq!(said, Said::default());
     }
 }

@@ -5,7 +5,7 @@ pub mod chance;
 pub mod model;
 pub mod programs;
 
-use grain::{verify, Chunk, Pools};
+use grain::{verify, Caps, Chunk, Flaw, Pools, Refusal, VerifyError};
 
 /// The bytes that hexadecimal digits spell.
 pub fn bytes(hex: &str) -> Vec<u8> {
@@ -14,12 +14,31 @@ pub fn bytes(hex: &str) -> Vec<u8> {
         .collect()
 }
 
+/// All of the code as one chunk.
+pub fn whole(code: &[u8]) -> [Chunk; 1] {
+    [Chunk::new(0, code.len() as u32, 8)]
+}
+
+/// Why a program is refused.
+pub fn refusal<T: std::fmt::Debug>(said: Result<T, VerifyError>) -> Refusal {
+    match said {
+        Err(VerifyError::Refused(refusal)) => refusal,
+        other => panic!("{other:?} is no refusal"),
+    }
+}
+
+/// The address and the flaw of a refusal.
+pub fn found<T: std::fmt::Debug>(said: Result<T, VerifyError>) -> (Option<u32>, Flaw) {
+    let refusal = refusal(said);
+    (refusal.address(), refusal.flaw())
+}
+
 /// What the line program answers to a `verify` line.
-pub fn line_of(caps: u16, code: &[u8], chunks: &[Chunk]) -> String {
+pub fn line_of(caps: Caps, code: &[u8], chunks: &[Chunk]) -> String {
     match verify(caps, code, chunks, &Pools::new()) {
-        Ok(numbers) => numbers
+        Ok(depths) => depths
             .iter()
             .fold("accepted".to_string(), |line, n| format!("{line} {n}")),
-        Err(fault) => format!("refused {fault}"),
+        said => format!("refused {}", refusal(said).line()),
     }
 }

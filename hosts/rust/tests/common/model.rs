@@ -1,16 +1,27 @@
-//! A plain model of verification, written from docs/FORMAT.md and from nothing else. What instructions do is read in its
+//! A plain model of verification, written from FORMAT.md and from nothing else. What instructions do is read in its
 //! table; all else is the section "Verification" in the order of its sentences, without a thought of speed.
 use crate::common::chance::Chance;
-use grain::{caps, Case, Cause, Chunk, Kind, Root, Step, Tail};
+use grain::{Caps, Case, Chunk, Flaw, Kind, Root, Step, Tail};
 use std::collections::{BTreeMap, BTreeSet, VecDeque};
+use std::fs;
+use std::path::Path;
 
-const FORMAT: &str = include_str!("../../../../docs/FORMAT.md");
+/// Where FORMAT.md lies from the package: in the repository, and in a release.
+const FORMATS: [&str; 2] = ["../../docs/FORMAT.md", "../FORMAT.md"];
+
+fn format() -> String {
+    let own = Path::new(env!("CARGO_MANIFEST_DIR"));
+    let mut read = FORMATS
+        .iter()
+        .map(|path| fs::read_to_string(own.join(path)));
+    read.find_map(Result::ok).expect("FORMAT.md")
+}
 
 /// What a program has beside its code and its chunks.
 #[derive(Clone, Debug, Default)]
 pub struct ModelPools {
-    /// What each constant asks, or `None` where it can't be named.
-    pub constants: Vec<Option<u16>>,
+    /// What each constant needs, or `None` where nobody can say.
+    pub constants: Vec<Option<Caps>>,
     pub names: Vec<String>,
     pub operators: usize,
     pub op_assignments: usize,
@@ -35,15 +46,18 @@ pub struct ModelSwitch {
     pub otherwise: u32,
 }
 
-/// The numbers of the chunks and how many places they reach; or the chunk that is refused, if one is, and all flaws that a
-/// refusal may name.
-pub type Verdict = Result<(Vec<u16>, u64), (Option<usize>, Vec<Cause>)>;
+/// The address of a flaw, where it has one, and the flaw.
+pub type Found = (Option<u32>, Flaw);
+
+/// The depths of the chunks and how many instructions are visited; or the chunk that is refused, if one is, and all flaws that
+/// a refusal may name.
+pub type Verdict = Result<(Vec<u16>, u64), (Option<usize>, Vec<Found>)>;
 
 /// A row of the instruction table.
 pub struct Row {
     pub fields: Vec<char>,
     pub operands: Vec<String>,
-    asks: Vec<String>,
+    needs: Vec<String>,
     pub flow: String,
     is_quiet: bool,
 }
@@ -53,7 +67,8 @@ pub struct Table(BTreeMap<u8, Row>);
 
 impl Table {
     pub fn read() -> Table {
-        let rows = FORMAT.split("\n## Instructions\n").nth(1).unwrap();
+        let text = format();
+        let rows = text.split("\n## Instructions\n").nth(1).unwrap();
         let rows = rows.split("\n## ").next().unwrap();
         let mut table = BTreeMap::new();
         for line in rows.lines().filter(|line| line.starts_with("| ")) {
@@ -64,7 +79,7 @@ impl Table {
             let row = Row {
                 fields: cells[3].chars().filter(|c| *c != ' ').collect(),
                 operands: cells[6].split(' ').map(String::from).collect(),
-                asks: cells[7].split(", ").map(String::from).collect(),
+                needs: cells[7].split(", ").map(String::from).collect(),
                 flow: cells[8].to_string(),
                 is_quiet: cells[9] == "quiet",
             };
@@ -118,7 +133,7 @@ struct State {
 /// All that verification is given.
 pub struct Model<'a> {
     pub table: &'a Table,
-    pub caps: u16,
+    pub caps: Caps,
     pub code: &'a [u8],
     pub chunks: &'a [Chunk],
     pub pools: &'a ModelPools,
@@ -132,41 +147,38 @@ impl<'a> Model<'a> {
         if !flaws.is_empty() {
             return Err((None, flaws));
         }
-        if self.pools.functions > 0 && self.caps & caps::FUNCTION == 0 {
-            return Err((None, vec![self.missing(0, caps::FUNCTION)]));
+        if self.pools.functions > 0 && !self.caps.contains(Caps::FUNCTION) {
+            return Err((None, vec![self.missing(None, Caps::FUNCTION)]));
         }
-        let (mut numbers, mut looked) = (Vec::new(), 0);
+        let (mut depths, mut visited) = (Vec::new(), 0);
         for (place, chunk) in self.chunks.iter().enumerate() {
             let walked = self.walk(chunk, &instructions);
-            let (number, places) = walked.map_err(|flaws| (Some(place), flaws))?;
-            numbers.push(number);
-            looked += places;
+            let (depth, reached) = walked.map_err(|flaws| (Some(place), flaws))?;
+            depths.push(depth);
+            visited += reached;
         }
-        Ok((numbers, looked))
+        Ok((depths, visited))
     }
 
-    fn missing(&self, at: usize, missing: u16) -> Cause {
-        Cause::MissingCaps {
-            at: at as u64,
-            missing,
-            artifact: self.caps,
-        }
+    fn missing(&self, at: Option<u32>, missing: Caps) -> Found {
+        let host = self.caps;
+        (at, Flaw::MissingCaps { missing, host })
     }
 
-    fn check_constants(&self) -> Result<(), Vec<Cause>> {
-        let asked = self.pools.constants.iter().flatten();
-        match asked.copied().find(|asked| asked & !self.caps != 0) {
-            Some(asked) => Err(vec![self.missing(0, asked)]),
+    fn check_constants(&self) -> Result<(), Vec<Found>> {
+        let needed = self.pools.constants.iter().flatten();
+        match needed.copied().find(|needed| !self.caps.contains(*needed)) {
+            Some(needed) => Err(vec![self.missing(None, needed)]),
             None => Ok(()),
         }
     }
 
     /// The code as instructions by their addresses, or what is wrong first.
-    fn read_code(&self) -> (BTreeMap<usize, Instruction<'a>>, Vec<Cause>) {
+    fn read_code(&self) -> (BTreeMap<usize, Instruction<'a>>, Vec<Found>) {
         let (mut instructions, mut at) = (BTreeMap::new(), 0);
         while at < self.code.len() {
             let Some(found) = self.read(at) else {
-                return (instructions, vec![Cause::Undecodable { at: at as u64 }]);
+                return (instructions, vec![(Some(at as u32), Flaw::Undecodable)]);
             };
             let flaws = self.check_indices(&found);
             if !flaws.is_empty() {
@@ -199,7 +211,7 @@ impl<'a> Model<'a> {
     }
 
     /// The first index that is out of bounds, or of the constants of a switch all that are.
-    fn check_indices(&self, i: &Instruction<'_>) -> Vec<Cause> {
+    fn check_indices(&self, i: &Instruction<'_>) -> Vec<Found> {
         let pools = self.pools;
         for (letter, value) in &i.fields {
             let (what, bound) = match letter {
@@ -213,13 +225,9 @@ impl<'a> Model<'a> {
                 'y' => (Kind::SyntaxSite, 0),
                 _ => continue,
             };
-            let bad = |what: Kind, index: u64| Cause::BadIndex {
-                at: i.at as u64,
-                what,
-                index,
-            };
+            let bad = |what, index| (Some(i.at as u32), Flaw::BadIndex { what, index });
             if *value >= bound as u64 {
-                return vec![bad(what, *value)];
+                return vec![bad(what, *value as u32)];
             }
             let inside = match letter {
                 'h' => self.check_chain(&pools.chains[*value as usize]),
@@ -233,15 +241,15 @@ impl<'a> Model<'a> {
         Vec::new()
     }
 
-    fn check_cases(&self, switch: &ModelSwitch) -> Vec<(Kind, u64)> {
-        let constants = switch.cases.iter().map(|case| u64::from(case.constant));
+    fn check_cases(&self, switch: &ModelSwitch) -> Vec<(Kind, u32)> {
+        let constants = switch.cases.iter().map(|case| case.constant);
         constants
-            .filter(|constant| *constant >= self.pools.constants.len() as u64)
+            .filter(|constant| *constant as usize >= self.pools.constants.len())
             .map(|constant| (Kind::Constant, constant))
             .collect()
     }
 
-    fn check_chain(&self, chain: &ModelChain) -> Vec<(Kind, u64)> {
+    fn check_chain(&self, chain: &ModelChain) -> Vec<(Kind, u32)> {
         let mut indices = Vec::new();
         if let Root::Local { name } | Root::Named { name } = chain.root {
             indices.push((Kind::Name, name));
@@ -276,28 +284,22 @@ impl<'a> Model<'a> {
             _ => index as usize >= self.pools.op_assignments,
         };
         let first = indices.iter().find(|index| is_bad(index.0, index.1));
-        first
-            .iter()
-            .map(|index| (index.0, u64::from(index.1)))
-            .collect()
+        first.into_iter().copied().collect()
     }
 
-    fn check_frame(&self, chunk: &Chunk, starts: &BTreeMap<usize, Instruction<'a>>) -> Vec<Cause> {
+    fn check_frame(&self, chunk: &Chunk, starts: &BTreeMap<usize, Instruction<'a>>) -> Vec<Found> {
         let (entry, end) = (chunk.entry as usize, chunk.end as usize);
         let len = self.code.len();
         if end < entry || len < end {
-            return vec![Cause::ChunkOutOfRange {
-                entry: entry as u64,
-                end: end as u64,
-                len: len as u64,
-            }];
+            let (Chunk { entry, end, .. }, len) = (*chunk, len as u32);
+            return vec![(Some(entry), Flaw::ChunkOutOfRange { entry, end, len })];
         }
         if entry == end {
-            return vec![Cause::FallsOffTheEnd];
+            return vec![(None, Flaw::FallsOffTheEnd)];
         }
-        let into = |target: usize| Cause::JumpIntoAnInstruction {
-            at: entry as u64,
-            target: target as u64,
+        let into = |target: usize| {
+            let target = target as u32;
+            (Some(chunk.entry), Flaw::JumpIntoAnInstruction { target })
         };
         let mut flaws = Vec::new();
         if !starts.contains_key(&entry) {
@@ -309,12 +311,12 @@ impl<'a> Model<'a> {
         flaws
     }
 
-    /// The number of a chunk and how many places it reaches, or all its flaws.
+    /// The depth of a chunk and how many instructions it reaches, or all its flaws.
     fn walk(
         &self,
         chunk: &Chunk,
         code: &BTreeMap<usize, Instruction<'a>>,
-    ) -> Result<(u16, u64), Vec<Cause>> {
+    ) -> Result<(u16, u64), Vec<Found>> {
         let mut flaws = self.check_frame(chunk, code);
         if !flaws.is_empty() {
             return Err(flaws);
@@ -327,7 +329,7 @@ impl<'a> Model<'a> {
         let mut reached: BTreeMap<usize, BTreeSet<State>> = BTreeMap::new();
         let mut waiting = VecDeque::from([(chunk.entry as usize, begin, 0)]);
         while let Some((at, state, steps)) = waiting.pop_front() {
-            // What conflicts may go on without end; a way that meets no address twice is no longer than the code.
+            // What conflicts may go on without end; a path that meets no address twice is no longer than the code.
             if steps > code.len() + 1 || !reached.entry(at).or_default().insert(state.clone()) {
                 continue;
             }
@@ -350,10 +352,8 @@ impl<'a> Model<'a> {
         let most = reached.values().flatten().map(|state| state.operands).max();
         let most = most.unwrap_or(0);
         if flaws.is_empty() && most > u64::from(chunk.max_stack) {
-            flaws.push(Cause::StackExceedsDeclared {
-                needed: most,
-                declared: u64::from(chunk.max_stack),
-            });
+            let (needed, declared) = (most as u32, u32::from(chunk.max_stack));
+            flaws.push((None, Flaw::StackExceedsDeclared { needed, declared }));
         }
         if flaws.is_empty() {
             Ok((most as u16, reached.len() as u64))
@@ -378,56 +378,56 @@ impl<'a> Model<'a> {
         }
     }
 
-    fn asked(&self, i: &Instruction<'_>) -> u16 {
+    fn needed(&self, i: &Instruction<'_>) -> Caps {
         let of = |word: &String| match word.as_str() {
-            "" => 0,
+            "" => Caps::NONE,
             "M" => {
                 let name = &self.pools.names[i.field('n') as usize];
                 let parts = name.rsplit_once("::");
                 let is_qualified = parts.is_some_and(|(a, b)| !a.is_empty() && !b.is_empty());
                 if is_qualified {
-                    caps::MODULE
+                    Caps::MODULE
                 } else {
-                    0
+                    Caps::NONE
                 }
             }
-            "those of the chain" => asked_by(&self.pools.chains[i.field('h') as usize]),
-            "ARRAY" => caps::ARRAY,
-            "MAP" => caps::MAP,
-            "FN_PTR" => caps::FN_PTR,
-            "CURRYING" => caps::CURRYING,
-            "SHARING" => caps::SHARING,
-            "THIS" => caps::THIS,
-            "EXPORT" => caps::EXPORT,
-            "IMPORT" => caps::IMPORT,
-            "CUSTOM_SYNTAX" => caps::CUSTOM_SYNTAX,
-            other => panic!("the table asks {other}"),
+            "those of the chain" => needed_by(&self.pools.chains[i.field('h') as usize]),
+            "ARRAY" => Caps::ARRAY,
+            "MAP" => Caps::MAP,
+            "FN_PTR" => Caps::FN_PTR,
+            "CURRYING" => Caps::CURRYING,
+            "SHARING" => Caps::SHARING,
+            "THIS" => Caps::THIS,
+            "EXPORT" => Caps::EXPORT,
+            "IMPORT" => Caps::IMPORT,
+            "CUSTOM_SYNTAX" => Caps::CUSTOM_SYNTAX,
+            other => panic!("the table has the capability {other}"),
         };
-        i.row.asks.iter().map(of).fold(0, |all, some| all | some)
+        i.row.needs.iter().map(of).collect()
     }
 
     /// What an instruction lacks in a state.
-    fn check_state(&self, i: &Instruction<'_>, state: &State) -> Vec<Cause> {
-        let (at, flow) = (i.at as u64, i.row.flow.as_str());
+    fn check_state(&self, i: &Instruction<'_>, state: &State) -> Vec<Found> {
+        let (at, flow) = (Some(i.at as u32), i.row.flow.as_str());
         let (need, take) = (
             self.amount(i, &i.row.operands[0]),
             self.amount(i, &i.row.operands[1]),
         );
         let mut flaws = Vec::new();
-        let missing = self.asked(i) & !self.caps;
-        if missing != 0 {
-            flaws.push(self.missing(i.at, missing));
+        let missing = self.needed(i) - self.caps;
+        if !missing.is_empty() {
+            flaws.push(self.missing(at, missing));
         }
         if state.operands < need {
-            let have = state.operands;
-            flaws.push(Cause::Underflow { at, need, have });
+            let (need, have) = (need as u32, state.operands as u32);
+            flaws.push((at, Flaw::Underflow { need, have }));
         }
         let is_advance = flow == "advances an iterator";
         if (is_advance || flow == "ends an iterator") && state.iterators == 0 {
-            flaws.push(Cause::IteratorUnderflow { at });
+            flaws.push((at, Flaw::IteratorUnderflow));
         }
         if flow == "disarms a handler" && state.handlers.is_empty() {
-            flaws.push(Cause::HandlerUnderflow { at });
+            flaws.push((at, Flaw::HandlerUnderflow));
         }
         if let (true, false, Some(base)) = (flaws.is_empty(), i.row.is_quiet, state.handlers.last())
         {
@@ -441,7 +441,8 @@ impl<'a> Model<'a> {
                 (base.1, left.1)
             };
             if have < need {
-                flaws.push(Cause::SinksBelowHandler { at, need, have });
+                let (need, have) = (need as u32, have as u32);
+                flaws.push((at, Flaw::SinksBelowHandler { need, have }));
             }
         }
         flaws
@@ -502,45 +503,42 @@ impl<'a> Model<'a> {
         (falls_through, target): (bool, usize),
         chunk: &Chunk,
         code: &BTreeMap<usize, Instruction<'a>>,
-    ) -> Option<Cause> {
-        let (at, named) = (i.at as u64, target as u64);
+    ) -> Option<Found> {
+        let (at, named) = (Some(i.at as u32), target as u32);
         if falls_through {
-            return (target == chunk.end as usize).then_some(Cause::FallsOffTheEnd);
+            return (target == chunk.end as usize).then_some((None, Flaw::FallsOffTheEnd));
         }
         if !(chunk.entry as usize..chunk.end as usize).contains(&target) {
-            return Some(Cause::JumpOutOfRange { at, target: named });
+            return Some((at, Flaw::JumpOutOfRange { target: named }));
         }
         let is_start = code.contains_key(&target);
-        (!is_start).then_some(Cause::JumpIntoAnInstruction { at, target: named })
+        (!is_start).then_some((at, Flaw::JumpIntoAnInstruction { target: named }))
     }
 }
 
-fn asked_by(chain: &ModelChain) -> u16 {
+fn needed_by(chain: &ModelChain) -> Caps {
     let of_root = if chain.root == Root::This {
-        caps::THIS
+        Caps::THIS
     } else {
-        0
+        Caps::NONE
     };
     let of_step = |step: &Step| match step {
-        Step::Index { .. } => caps::INDEXING,
-        Step::Property { .. } => caps::PROPERTY,
-        Step::Method { .. } => caps::METHOD,
+        Step::Index { .. } => Caps::INDEXING,
+        Step::Property { .. } => Caps::PROPERTY,
+        Step::Method { .. } => Caps::METHOD,
     };
     let of_steps = chain.steps.iter().map(of_step);
     of_steps.fold(of_root, |all, some| all | some)
 }
 
 /// Each two states of one address are a conflict.
-fn conflicts(at: usize, states: &BTreeSet<State>) -> Vec<Cause> {
+fn conflicts(at: usize, states: &BTreeSet<State>) -> Vec<Found> {
     let mut flaws = Vec::new();
     for (place, one) in states.iter().enumerate() {
         for (other_place, other) in states.iter().enumerate() {
             if place != other_place {
-                flaws.push(Cause::DepthConflict {
-                    at: at as u64,
-                    expected: one.operands,
-                    found: other.operands,
-                });
+                let (expected, found) = (one.operands as u32, other.operands as u32);
+                flaws.push((Some(at as u32), Flaw::DepthConflict { expected, found }));
             }
         }
     }

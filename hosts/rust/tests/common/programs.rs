@@ -2,21 +2,26 @@
 //! find them; and then something is changed in some.
 use crate::common::chance::Chance;
 use crate::common::model::{ModelChain, ModelPools, ModelSwitch, Row, Table};
-use grain::{caps, Case, Chunk, Pools, Root, Step, Tail};
+use grain::{Caps, Case, Chunk, Constant, Needs, Pools, Root, Step, Tail};
 
 #[derive(Clone, Debug)]
 pub struct Program {
-    pub caps: u16,
+    pub caps: Caps,
     pub code: Vec<u8>,
     pub chunks: Vec<Chunk>,
     pub pools: ModelPools,
+}
+
+/// A constant that needs these, or of which nobody can say.
+pub fn constant(needed: Option<Caps>) -> Constant {
+    needed.map_or(Needs::Unknown, Needs::Caps).into()
 }
 
 /// The pools as the package builds them.
 pub fn built(pools: &ModelPools) -> Pools {
     let mut built = Pools::new();
     built
-        .extend_constants(pools.constants.iter().copied())
+        .extend_constants(pools.constants.iter().copied().map(constant))
         .unwrap();
     built.extend_names(&pools.names).unwrap();
     built.set_operators(pools.operators);
@@ -92,18 +97,18 @@ fn chain(chance: &mut Chance, names: u32, op_assignments: u32) -> ModelChain {
 }
 
 fn pools(chance: &mut Chance) -> ModelPools {
-    let of_values = caps::ARRAY | caps::BLOB | caps::MAP | caps::FN_PTR;
-    let asked = |chance: &mut Chance| match chance.below(4) {
+    let of_values = Caps::ARRAY | Caps::BLOB | Caps::MAP | Caps::FN_PTR;
+    let needed = |chance: &mut Chance| match chance.below(4) {
         0 => None,
-        1 => Some(chance.next() as u16 & of_values),
-        _ => Some(0),
+        1 => Some(Caps::from_bits_truncate(chance.next() as u16) & of_values),
+        _ => Some(Caps::NONE),
     };
     let names: Vec<_> = (0..chance.below(6))
         .map(|_| chance.one_of(&NAMES).to_string())
         .collect();
     let op_assignments = chance.below(3);
     ModelPools {
-        constants: (0..chance.below(5)).map(|_| asked(chance)).collect(),
+        constants: (0..chance.below(5)).map(|_| needed(chance)).collect(),
         operators: chance.below(3),
         op_assignments,
         fragments: chance.below(3),
@@ -438,7 +443,7 @@ fn whole(chance: &mut Chance, table: &Table) -> Program {
         }
     }
     Program {
-        caps: caps::ALL,
+        caps: Caps::ALL,
         code,
         chunks,
         pools,
@@ -462,7 +467,10 @@ fn change(chance: &mut Chance, program: &mut Program) {
             }
         }
         4 => program.code.truncate(len - len.min(chance.below(4))),
-        5 | 6 => program.caps &= chance.next() as u16 | chance.next() as u16,
+        5 | 6 => {
+            let kept = chance.next() as u16 | chance.next() as u16;
+            program.caps &= Caps::from_bits_truncate(kept);
+        }
         7 | 8 => {
             if let Some(chunk) = place(chance, program.chunks.len()) {
                 program.chunks[chunk].max_stack = chance.below(4) as u16;
