@@ -176,6 +176,11 @@ static void write_row(listing *l, size_t at, const grain_row *row, bool is_flaw)
     end_line(out);
 }
 
+/* Whether the flaw is at this address: that of the last row of the path. */
+static bool is_flaw_at(const listing *l, size_t at) {
+    return l->is_refused && at == l->rows[l->found.rows + l->found.path - 1].at;
+}
+
 /* Writes the instructions of the chunk, in the order of addresses. */
 static void write_chunk(listing *l) {
     size_t row = 0, at = l->chunk.entry;
@@ -185,7 +190,7 @@ static void write_chunk(listing *l) {
         while (row < l->found.rows && l->rows[row].at < at)
             row++;
         bool is_known = row < l->found.rows && l->rows[row].at == at;
-        write_row(l, at, is_known ? &l->rows[row] : NULL, l->is_refused && l->found.refusal.at == at);
+        write_row(l, at, is_known ? &l->rows[row] : NULL, is_flaw_at(l, at));
         at += widths[l->program->code[at]];
     }
 }
