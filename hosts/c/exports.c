@@ -236,8 +236,8 @@ static void chains_and_switches_are_checked(void) {
     static const grain_chain odd_chains[] = {{.root = 7, .steps = 1}};
     static const grain_chain two_chains[] = {{.root = GRAIN_ROOT_THIS}, {.root = GRAIN_ROOT_THIS, .steps = 2}};
     static const grain_step odd_steps[] = {{.kind = GRAIN_STEP_INDEX, .argc = 1}};
-    static const grain_switch large_switches[] = {{.cases = 3, .ranges = 1, .otherwise = 6}};
-    static const grain_switch ranged_switches[] = {{.cases = 2, .ranges = 4, .otherwise = 6}};
+    static const grain_switch more_cases[] = {{.cases = 3, .ranges = 1}}, more_ranges[] = {{.cases = 2, .ranges = 2}};
+    static const grain_switch fewer_cases[] = {{.cases = 1, .ranges = 1}}, fewer_ranges[] = {{.cases = 2}};
     grain_pools pools = all_pools;
     pools.chains = odd_chains;
     CHECK(is_flawed(&pools, GRAIN_LIST_CHAINS, 0));
@@ -247,13 +247,18 @@ static void chains_and_switches_are_checked(void) {
     pools = all_pools;
     pools.chains = two_chains;
     pools.chains_len = 2;
-    CHECK(is_flawed(&pools, GRAIN_LIST_STEPS, 1));
+    CHECK(is_flawed(&pools, GRAIN_LIST_CHAINS, 1));
+    pools.chains_len = 1;
+    CHECK(is_flawed(&pools, GRAIN_LIST_STEPS, 0));
     pools = all_pools;
-    pools.switches = large_switches;
-    CHECK(is_flawed(&pools, GRAIN_LIST_CASES, 2));
-    pools = all_pools;
-    pools.switches = ranged_switches;
-    CHECK(is_flawed(&pools, GRAIN_LIST_RANGES, 1));
+    pools.switches = more_cases;
+    CHECK(is_flawed(&pools, GRAIN_LIST_SWITCHES, 0));
+    pools.switches = more_ranges;
+    CHECK(is_flawed(&pools, GRAIN_LIST_SWITCHES, 0));
+    pools.switches = fewer_cases;
+    CHECK(is_flawed(&pools, GRAIN_LIST_CASES, 1));
+    pools.switches = fewer_ranges;
+    CHECK(is_flawed(&pools, GRAIN_LIST_RANGES, 0));
 }
 
 static void chunks_that_pass_are_explained(size_t room) {
@@ -364,11 +369,11 @@ static void texts_are_written(void) {
     CHECK(grain_refusal_text(&refusal, text, sizeof text) == 32 && is_text(text, "bad-index at=3 index=7 what=name"));
     CHECK(grain_refusal_text(&refusal, small, 4) == 32 && is_text(small, "bad") && small[4] == 'M');
     CHECK(grain_refusal_text(&refusal, small, 0) == 32 && grain_refusal_text(&refusal, NULL, 0) == 32 && small[0] == 'b');
-    CHECK(grain_refusal_text(&unwritten, text, sizeof text) == 0 && text[0] == 0);
+    CHECK(grain_refusal_text(&unwritten, text, sizeof text) == 0 && text[0] == 'b');
     CHECK(grain_instruction_text(code, sizeof code, 1, text, sizeof text) == 20 && is_text(text, "CALL_NAMED_REF 1 2 3"));
     CHECK(grain_instruction_text(code, sizeof code, 0, text, 5) == 4 && is_text(text, "UNIT"));
     CHECK(grain_instruction_text(code, sizeof code, 7, small, 1) == 16 && small[0] == 0 && small[1] == 'a');
-    CHECK(grain_instruction_text(code, sizeof code, 10, text, sizeof text) == 0 && text[0] == 0);
+    CHECK(grain_instruction_text(code, sizeof code, 10, text, sizeof text) == 0 && text[0] == 'U');
 }
 
 static const uint8_t table[] = {0x04, 0x00, 0x01, 0x05, 0x03, 0x01, 0x0b, 0x25, 0x07, 0x02, 0x01, 0x09, 0x00};
@@ -466,7 +471,7 @@ static void bytes_of_null_are_taken(void) {
     grain_place place = {77, 78};
     CHECK(grain_count_instructions(NULL, 0, &count, &damage) && count == 0 && damage == 78);
     CHECK(!grain_instruction(NULL, 0, 0, &instruction) && grain_instruction_text(NULL, 0, 0, NULL, 0) == 0);
-    CHECK(grain_instruction_text(NULL, 0, 0, text, 1) == 0 && text[0] == 0);
+    CHECK(grain_instruction_text(NULL, 0, 0, text, 1) == 0 && text[0] == 'M');
     CHECK(!grain_site(NULL, 0, 0, &place) && !grain_stream_site(NULL, 0, 0, &place) && place.line == 77);
     CHECK(grain_check_table(NULL, 0, &named) == GRAIN_TABLE_TRUNCATED && named == 0);
     CHECK(grain_check_stream(NULL, 0, &named) == GRAIN_TABLE_TRUNCATED && named == 0);

@@ -6,10 +6,6 @@
 
 #define LENGTH(list) (sizeof(list) / sizeof *(list))
 
-void *__real_malloc(size_t size);
-void *__real_realloc(void *block, size_t size);
-void __real_free(void *block);
-
 static long left = -1; /* how many allocations succeed still; all where it is negative */
 static long live = 0;  /* how many blocks are there */
 
@@ -19,6 +15,34 @@ static bool is_refused(void) {
     left -= left > 0;
     return false;
 }
+
+#ifdef OWN_ALLOCATOR
+/* The three functions of grain.h, which stand in the place of the library's. */
+void *grain_alloc(size_t size, size_t alignment) {
+    void *block = is_refused() || size == 0 || alignment == 0 || alignment > 16 ? NULL : malloc(size);
+    live += block != NULL;
+    return block;
+}
+
+void *grain_realloc(void *block, size_t old_size, size_t size, size_t alignment) {
+    (void)old_size;
+    return is_refused() || size == 0 || alignment == 0 || alignment > 16 ? NULL : realloc(block, size);
+}
+
+void grain_dealloc(void *block, size_t size, size_t alignment) {
+    (void)size;
+    (void)alignment;
+    live -= block != NULL;
+    free(block);
+}
+#else
+/* The C library's, where the linker is given --wrap of the three. */
+void *__real_malloc(size_t size);
+void *__real_realloc(void *block, size_t size);
+void __real_free(void *block);
+void *__wrap_malloc(size_t size);
+void *__wrap_realloc(void *block, size_t size);
+void __wrap_free(void *block);
 
 void *__wrap_malloc(size_t size) {
     void *block = is_refused() ? NULL : __real_malloc(size);
@@ -36,6 +60,7 @@ void __wrap_free(void *block) {
     live -= block != NULL;
     __real_free(block);
 }
+#endif
 
 static const uint8_t code[] = {0x02, 0x18, 0, 0, 0x02, 0x13, 0x02, 0x13, 0x02, 0x16, 0, 0, 0x13};
 static const uint8_t names[] = {'x'};

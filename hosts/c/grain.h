@@ -55,7 +55,12 @@ extern "C" {
 /* The number of the library, as a symbol: a program that includes this header links only with this interface. */
 extern const uint32_t grain_interface_2;
 #ifdef __GNUC__
-static const uint32_t *const grain_interface_of_header __attribute__((used)) = &grain_interface_2;
+#ifdef __has_attribute
+#if __has_attribute(retain)
+__attribute__((retain)) /* also where a linker collects sections */
+#endif
+#endif
+__attribute__((used)) static const uint32_t *const grain_interface_of_header = &grain_interface_2;
 #endif
 
 /* What a program needs of its host, one bit each (FORMAT.md, "Capabilities"). */
@@ -158,7 +163,7 @@ typedef enum grain_table_flaw {
 /* A list of grain_pools. */
 enum grain_list {
     GRAIN_LIST_CONSTANTS = 1,
-    GRAIN_LIST_NAMES = 2, /* names and starts; the index is that of a name */
+    GRAIN_LIST_NAMES = 2, /* names and starts; the index is that of a name, or how many there are */
     GRAIN_LIST_CHAINS = 3,
     GRAIN_LIST_STEPS = 4,
     GRAIN_LIST_SWITCHES = 5,
@@ -337,7 +342,8 @@ typedef struct grain_explanation {
     grain_refusal refusal; /* written where the chunk is refused; its chunk is GRAIN_WHOLE_PROGRAM */
 } grain_explanation;
 
-/* Where pools aren't flat: a grain_list and an index into it, or the list's length where entries are missing. */
+/* Where pools aren't flat: a grain_list and an index into it. The entry there is wrong, or has more steps, cases or ranges
+ * than there are; or no chain, switch or start is left for it. */
 typedef struct grain_pools_flaw {
     uint32_t list;
     uint64_t index;
@@ -369,7 +375,7 @@ GRAIN_NODISCARD grain_status grain_verify(grain_scratch *scratch, uint16_t caps,
 GRAIN_NODISCARD grain_status grain_tighten(grain_scratch *scratch, uint16_t caps, uint64_t limit, const grain_program *program,
                                            grain_chunk *tightened, size_t tightened_len, grain_report *report);
 
-/* Frees what the scratch keeps. It may be used again. */
+/* Frees what the scratch keeps. It may be used again. NULL: nothing happens. */
 void grain_scratch_free(grain_scratch *scratch);
 
 /* Whether pools are flat. Where they aren't, *flaw says which list and which entry. `flaw` may be NULL. */
@@ -403,12 +409,12 @@ GRAIN_NODISCARD grain_status grain_listing(uint16_t caps, const grain_program *p
 /* Room for the longest text of the next two calls, with the 0 that ends it. */
 #define GRAIN_TEXT_SIZE 129
 
-/* Writes a refusal as the line program prints it, in ASCII. Like snprintf: writes as much as there is room for, always ended
- * by 0 unless size is 0, and answers how long the text is. 0: the record is no refusal. It takes no memory. */
+/* Writes a refusal as a line of ASCII (FORMAT.md). Like snprintf: writes as much as there is room for, always ended by 0
+ * unless size is 0, and answers how long the text is. 0: the record is no refusal, and nothing is written. */
 size_t grain_refusal_text(const grain_refusal *refusal, char *text, size_t size);
 
 /* Writes the instruction at an address: its name and its fields, such as "CALL 3 2"; as grain_refusal_text does. 0: no
- * instruction stands there. */
+ * instruction stands there, and nothing is written. */
 size_t grain_instruction_text(const uint8_t *code, size_t code_len, size_t at, char *text, size_t size);
 
 /* Counts the instructions of the code. false: *damage is the address of the first thing that is none, and *count stays. */
