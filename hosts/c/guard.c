@@ -287,7 +287,8 @@ static void write_refusal(void) {
     size_t size = below(GRAIN_TEXT_SIZE + 1);
     char *text = room(pages.out, size);
     size_t length = grain_refusal_text(&refusal, text, size);
-    CHECK(length < GRAIN_TEXT_SIZE && (size == 0 || text[length < size ? length : size - 1] == 0));
+    bool is_ended = size == 0 || text[length < size ? length : size - 1] == 0;
+    CHECK(length < GRAIN_TEXT_SIZE && (length == 0 ? is_filled(pages.out.page, PAGE, 0xa5) : is_ended));
 }
 
 static void one_round(grain_scratch *scratch, size_t *statuses) {
