@@ -164,7 +164,8 @@ static grain_program random_program(void) {
     program.chunks_len = below(4);
     for (size_t i = 0; i < program.chunks_len; i++) {
         uint32_t length = (uint32_t)program.code_len;
-        chunks[i] = (grain_chunk){one_in(4) ? number() : 0, one_in(6) ? number() : length, (uint16_t)(one_in(9) ? number() : 99)};
+        uint32_t declared = one_in(9) ? number() : 99;
+        chunks[i] = (grain_chunk){one_in(4) ? number() : 0, one_in(6) ? number() : length, (uint16_t)declared};
     }
     program.chunks = COPIED(pages.chunks, chunks, program.chunks_len);
     return program;
@@ -205,7 +206,8 @@ static grain_status verify(grain_scratch *scratch, uint16_t caps, const grain_pr
     if (status == GRAIN_ACCEPTED)
         CHECK(memcmp(depths, pages.out.page + PAGE - many * sizeof *depths, many * sizeof *depths) == 0);
     CHECK(is_filled(pages.out.page, PAGE - many * sizeof *depths, 0xa5));
-    CHECK(is_filled(depths + (status == GRAIN_ACCEPTED ? many : 0), status == GRAIN_ACCEPTED ? (MOST - many) * 2 : MOST * 2, 0x5a));
+    size_t written = status == GRAIN_ACCEPTED ? many : 0;
+    CHECK(is_filled(depths + written, (MOST - written) * sizeof *depths, 0x5a));
     grain_chunk *tightened = room(pages.more, many * sizeof *tightened);
     CHECK(grain_tighten(one_in(2) ? scratch : NULL, caps, span_of(program), program, tightened, many, &third) == status);
     CHECK(is_same(report, &other) && is_same(report, &third));
@@ -232,7 +234,8 @@ static int take(void *context, const char *text, size_t length) {
 }
 
 /* Explains a chunk of a program that is verified with this answer. */
-static void explain(uint16_t caps, const grain_program *program, size_t chunk, grain_status status, const grain_report *report) {
+static void explain(uint16_t caps, const grain_program *program, size_t chunk, grain_status status,
+                    const grain_report *report) {
     size_t rows_len = below(PAGE / sizeof(grain_row)), bases_len = below(20), listed = 0;
     grain_row *rows = room(pages.out, rows_len * sizeof *rows);
     grain_base *bases = room(pages.more, bases_len * sizeof *bases);

@@ -202,13 +202,15 @@ static void names_are_escaped(void) {
     CHECK(has("LOAD_NAMED 0 `a\\x60\\x0a        3  13"));
 }
 
-static void long_names_are_cut(void) {
+static void long_and_empty_names_are_listed(void) {
     static uint8_t name[1000];
     for (size_t i = 0; i < sizeof name; i++)
         name[i] = '\n';
     CHECK(list_name(name, sizeof name) == GRAIN_ACCEPTED && is_clean());
     CHECK(has("\\x0a` and 936 more bytes\n") && length < 700);
     CHECK(list_name(name, 64) == GRAIN_ACCEPTED && has("\\x0a`\n"));
+    static const grain_program nothing;
+    CHECK(list(GRAIN_CAP_NONE, &nothing) == GRAIN_NO_CHUNK && length == 0);
     CHECK(list_name(NULL, 0) == GRAIN_ACCEPTED && has("LOAD_NAMED 0 ``\n"));
 }
 
@@ -219,7 +221,7 @@ int main(void) {
     flaws_are_marked_at_the_end_of_the_path();
     listings_are_stopped();
     names_are_escaped();
-    long_names_are_cut();
+    long_and_empty_names_are_listed();
     printf("listings: %d wrong\n", wrong);
     return wrong != 0;
 }
