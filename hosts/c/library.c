@@ -20,9 +20,8 @@ static void *some_room(void *list) {
 
 /* Whether pools may be passed on as they are. */
 static bool is_whole(const grain_pools *pools) {
-    return pools->constants != NULL && pools->names != NULL && pools->starts != NULL && pools->starts_len != 0 &&
-           pools->chains != NULL && pools->steps != NULL && pools->switches != NULL && pools->cases != NULL &&
-           pools->ranges != NULL;
+    return pools->constants != NULL && pools->names != NULL && pools->starts_len != 0 && pools->chains != NULL &&
+           pools->steps != NULL && pools->switches != NULL && pools->cases != NULL && pools->ranges != NULL;
 }
 
 /* The pools with a pointer in place of each NULL, and with starts where there are no names and no starts. */

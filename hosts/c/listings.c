@@ -4,13 +4,15 @@
 #include "checks.h"
 
 static char text[1 << 16];
-static size_t length, puts_left;
+static size_t length, puts_left, stops;
 
 /* Appends to the text, as often as that is left. */
 static int append(void *context, const char *part, size_t size) {
     CHECK(context == &length && size != 0);
-    if (puts_left == 0)
+    if (puts_left == 0) {
+        stops++;
         return 1;
+    }
     puts_left--;
     for (size_t i = 0; i < size && length < sizeof text; i++)
         text[length++] = part[i];
@@ -20,6 +22,7 @@ static int append(void *context, const char *part, size_t size) {
 static grain_status list_after(uint16_t caps, const grain_program *program, size_t chunk, size_t puts) {
     length = 0;
     puts_left = puts;
+    stops = 0;
     return grain_listing(caps, program, chunk, append, &length);
 }
 
@@ -146,7 +149,7 @@ static void listings_are_stopped(void) {
     CHECK(list(GRAIN_CAP_ALL, &program) == GRAIN_REFUSED);
     size_t puts = SIZE_MAX - puts_left;
     for (size_t i = 0; i < puts; i++)
-        CHECK(list_after(GRAIN_CAP_ALL, &program, 0, i) == GRAIN_STOPPED);
+        CHECK(list_after(GRAIN_CAP_ALL, &program, 0, i) == GRAIN_STOPPED && stops == 1);
     CHECK(list_after(GRAIN_CAP_ALL, &program, 0, puts) == GRAIN_REFUSED);
 }
 
