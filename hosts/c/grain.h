@@ -395,13 +395,13 @@ GRAIN_NODISCARD grain_status grain_explain(uint16_t caps, const grain_program *p
                                            size_t rows_len, grain_base *bases, size_t bases_len,
                                            grain_explanation *explanation);
 
-/* Writes the explanation of a chunk as a listing, line by line, through the caller's function. It gets `context`, and text
- * that isn't ended by 0. If it returns other than 0, the listing ends: GRAIN_STOPPED. All other answers are those of
- * grain_explain.
+/* Writes the explanation of a chunk as a listing, piece by piece, through the caller's function. It is given `context`, and
+ * a line or a part of one, which isn't ended by 0. If it returns other than 0, the listing ends: GRAIN_STOPPED. All other
+ * answers are those of grain_explain. The function must return: no jump and no exception may leave it.
  *
- * The listing is printable ASCII and line feeds. Names are escaped, so that none can forge a line. Where the program is
- * refused for a constant, its code or its functions, the first line says so; other chunks aren't tested. It is all that is
- * written where the answer is GRAIN_BAD_CODE. */
+ * The listing is printable ASCII and line feeds (FORMAT.md, "Listings"). Names are escaped, so that none can forge a line.
+ * Where the program is refused for a constant, its code or its functions, the first line says so; other chunks aren't
+ * tested. It is all that is written where the answer is GRAIN_BAD_CODE. */
 typedef int grain_put(void *context, const char *text, size_t length);
 GRAIN_NODISCARD grain_status grain_listing(uint16_t caps, const grain_program *program, size_t chunk, grain_put *put,
                                            void *context);
