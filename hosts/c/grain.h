@@ -19,7 +19,8 @@
  *   (at the end). They free everything before they return, except what a scratch keeps. Don't call them from a signal
  *   handler, nor in a child that a process with several threads has forked.
  *
- * No call waits, prints or ends the process. Nothing is kept between calls except in a scratch.
+ * No call waits, prints or ends the process. Nothing is kept between calls except in a scratch. A call takes up to 22 KiB
+ * of its thread's stack.
  * The library is for x86-64 Linux, on processors with popcnt (x86-64-v2).
  *
  * FORMAT.md has the instructions, the tables and the rules of verification; COSTS.md says what each call costs. */

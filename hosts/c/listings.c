@@ -4,7 +4,7 @@
 #include "checks.h"
 
 static char text[1 << 16];
-static size_t length, puts_left, stops;
+static size_t length, puts_left, puts_given = SIZE_MAX, stops;
 
 /* Appends to the text, as often as that is left. */
 static int append(void *context, const char *part, size_t size) {
@@ -27,7 +27,7 @@ static grain_status list_after(uint16_t caps, const grain_program *program, size
 }
 
 static grain_status list(uint16_t caps, const grain_program *program) {
-    return list_after(caps, program, 0, SIZE_MAX);
+    return list_after(caps, program, 0, puts_given);
 }
 
 static bool is_text(const char *wanted) {
@@ -212,6 +212,10 @@ static void long_and_empty_names_are_listed(void) {
     CHECK(list_name(name, sizeof name) == GRAIN_ACCEPTED && is_clean());
     CHECK(has("\\x0a` and 936 more bytes\n") && length < 700);
     CHECK(list_name(name, 64) == GRAIN_ACCEPTED && has("\\x0a`\n"));
+    for (puts_given = 0; list_name(name, 64) == GRAIN_STOPPED; puts_given++)
+        CHECK(stops == 1); /* also in the middle of a line */
+    CHECK(puts_given > 4 && stops == 0);
+    puts_given = SIZE_MAX;
     static const grain_program nothing;
     CHECK(list(GRAIN_CAP_NONE, &nothing) == GRAIN_NO_CHUNK && length == 0);
     CHECK(list_name(NULL, 0) == GRAIN_ACCEPTED && has("LOAD_NAMED 0 ``\n"));
