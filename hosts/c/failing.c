@@ -3,6 +3,7 @@
 
 #include <stdio.h>
 #include <stdlib.h>
+#include <string.h>
 
 #define LENGTH(list) (sizeof(list) / sizeof *(list))
 
@@ -17,22 +18,32 @@ static bool is_refused(void) {
 }
 
 #ifdef OWN_ALLOCATOR
+static size_t held = 0; /* how many bytes the blocks have, by the sizes that are given */
+static size_t most = 0; /* how many they had at most */
+
+static void hold(size_t more, size_t less) {
+    held += more - less;
+    most = held > most ? held : most;
+}
+
 /* The three functions of grain.h, which stand in the place of the library's. */
 void *grain_alloc(size_t size, size_t alignment) {
     void *block = is_refused() || size == 0 || alignment == 0 || alignment > 16 ? NULL : malloc(size);
     live += block != NULL;
+    hold(block != NULL ? size : 0, 0);
     return block;
 }
 
 void *grain_realloc(void *block, size_t old_size, size_t size, size_t alignment) {
-    (void)old_size;
-    return is_refused() || size == 0 || alignment == 0 || alignment > 16 ? NULL : realloc(block, size);
+    void *grown = is_refused() || size == 0 || alignment == 0 || alignment > 16 ? NULL : realloc(block, size);
+    hold(grown != NULL ? size : 0, grown != NULL ? old_size : 0);
+    return grown;
 }
 
 void grain_dealloc(void *block, size_t size, size_t alignment) {
-    (void)size;
     (void)alignment;
     live -= block != NULL;
+    hold(0, size);
     free(block);
 }
 #else
@@ -206,6 +217,38 @@ static long list_nothing(const grain_chunk *chunks, size_t many) {
     return live == 0 ? (long)status : -1;
 }
 
+#ifdef OWN_ALLOCATOR
+/* How many bytes at most a listing takes of so many handlers that are armed within each other. */
+static size_t most_for(size_t handlers) {
+    static uint8_t nested[20001];
+    size_t listed = 0;
+    for (size_t i = 0; i < handlers; i++) {
+        uint32_t next = (uint32_t)(5 * i + 5);
+        nested[5 * i] = GRAIN_TAG_PUSH_HANDLER;
+        memcpy(nested + 5 * i + 1, &next, 4);
+    }
+    nested[5 * handlers] = GRAIN_TAG_POP;
+    const grain_chunk chunk = {0, (uint32_t)(5 * handlers + 1), 1};
+    const grain_program program = {nested, chunk.end, &chunk, 1, GRAIN_POOLS_NONE};
+    most = 0;
+    if (grain_listing(GRAIN_CAP_ALL, &program, 0, count_bytes, &listed) != GRAIN_REFUSED || live != 0 || held != 0)
+        return 0;
+    return most;
+}
+
+/* A refused program is the hostile one: twice the code takes about twice the memory. */
+static bool grows_with_the_code(void) {
+    size_t once = most_for(2000), twice = most_for(4000);
+    bool well = once != 0 && twice < 3 * once;
+    printf("nested handlers listed: %zu bytes, of twice as many %zu%s\n", once, twice, well ? "" : ": WRONG");
+    return well;
+}
+#else
+static bool grows_with_the_code(void) {
+    return true;
+}
+#endif
+
 /* What takes no memory answers where there is none. */
 static bool needs_none(void) {
     const grain_refusal refusal = {GRAIN_FLAW_UNDERFLOW, 0, 1, 2, 3};
@@ -264,5 +307,6 @@ int main(void) {
     well = each_fails("its flaw listed", list, bad, LENGTH(bad), GRAIN_REFUSED) && well;
     well = each_fails("stopped", list_nothing, bad, LENGTH(bad), GRAIN_STOPPED) && well;
     well = needs_none() && well;
+    well = grows_with_the_code() && well;
     return well ? 0 : 1;
 }

@@ -200,7 +200,8 @@ static void names_are_escaped(void) {
             size++;
         CHECK(list_name((const uint8_t *)marks[i], size) == GRAIN_ACCEPTED && is_clean() && has("\\x"));
     }
-    static const char forged[] = "a`\n        3  13                     1         0  -         RETURN\nfrom 0 to 6: passes\n\x1b[8m";
+    static const char forged[] = "a`\n        3  13                     1         0  -         RETURN\n"
+                                 "from 0 to 6: passes\n\x1b[8m";
     CHECK(list_name((const uint8_t *)forged, sizeof forged - 1) == GRAIN_ACCEPTED && is_clean());
     CHECK(has("LOAD_NAMED 0 `a\\x60\\x0a        3  13"));
 }

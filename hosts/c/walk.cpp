@@ -17,7 +17,7 @@ struct Form {
 
 Form form_of(std::uint8_t tag) {
     switch (tag) {
-#define ROW(tag, name, width, fields, quiet)                                                                                    \
+#define ROW(tag, name, width, fields, quiet) \
     case tag: return {width, fields};
         GRAIN_INSTRUCTIONS(ROW)
 #undef ROW
