@@ -18,33 +18,46 @@ static bool is_refused(void) {
 }
 
 #ifdef OWN_ALLOCATOR
-static size_t held = 0; /* how many bytes the blocks have, by the sizes that are given */
+static size_t held = 0; /* how many bytes the blocks have */
 static size_t most = 0; /* how many they had at most */
 
-static void hold(size_t more, size_t less) {
-    held += more - less;
+/* A block stands behind 16 bytes that keep its size. */
+static void *made(size_t *start, size_t size) {
+    if (start == NULL)
+        return NULL;
+    *start = size;
+    held += size;
     most = held > most ? held : most;
+    return (char *)start + 16;
+}
+
+static size_t *start_of(void *block) {
+    return (void *)((char *)block - 16);
+}
+
+static bool may_be_made(size_t size, size_t alignment) {
+    return !is_refused() && size != 0 && alignment != 0 && alignment <= 16;
 }
 
 /* The three functions of grain.h, which stand in the place of the library's. */
 void *grain_alloc(size_t size, size_t alignment) {
-    void *block = is_refused() || size == 0 || alignment == 0 || alignment > 16 ? NULL : malloc(size);
+    void *block = may_be_made(size, alignment) ? made(malloc(size + 16), size) : NULL;
     live += block != NULL;
-    hold(block != NULL ? size : 0, 0);
     return block;
 }
 
 void *grain_realloc(void *block, size_t old_size, size_t size, size_t alignment) {
-    void *grown = is_refused() || size == 0 || alignment == 0 || alignment > 16 ? NULL : realloc(block, size);
-    hold(grown != NULL ? size : 0, grown != NULL ? old_size : 0);
-    return grown;
+    if (*start_of(block) != old_size || !may_be_made(size, alignment))
+        return NULL;
+    size_t *start = realloc(start_of(block), size + 16);
+    held -= start != NULL ? old_size : 0;
+    return made(start, size);
 }
 
-void grain_dealloc(void *block, size_t size, size_t alignment) {
-    (void)alignment;
-    live -= block != NULL;
-    hold(0, size);
-    free(block);
+void grain_dealloc(void *block) {
+    live--;
+    held -= *start_of(block);
+    free(start_of(block));
 }
 #else
 /* The C library's, where the linker is given --wrap of the three. */

@@ -456,10 +456,10 @@ const char *grain_version(void);
 
 /* How the library allocates: by malloc, realloc and free of the C library. A program that links libgrain.a may define
  * these three itself, all of them; its own then replace the library's. No size is 0. `alignment` is a power of two, at most
- * 16, and `size` in the last call is that of the block. NULL refuses; after a refused grain_realloc the old block stays. */
+ * 16; `old_size` is that of the block. NULL refuses; after a refused grain_realloc the old block stays. */
 void *grain_alloc(size_t size, size_t alignment);
 void *grain_realloc(void *block, size_t old_size, size_t size, size_t alignment);
-void grain_dealloc(void *block, size_t size, size_t alignment);
+void grain_dealloc(void *block);
 
 /* Otherwise the layouts aren't those of the library. */
 typedef char grain_requires_64_bits[sizeof(size_t) == 8 && sizeof(void *) == 8 ? 1 : -1];

@@ -329,6 +329,6 @@ grain_status grain_listing(uint16_t caps, const grain_program *program, size_t c
     if (!make_room(&l, room))
         return GRAIN_OUT_OF_MEMORY;
     grain_status status = write_listing(&l, caps, chunk);
-    grain_dealloc(l.rows, size_of_room(room), sizeof(uint32_t));
+    grain_dealloc(l.rows);
     return status;
 }

@@ -16,13 +16,11 @@ __attribute__((weak)) void *grain_realloc(void *block, size_t old_size, size_t s
     return realloc(block, size);
 }
 
-__attribute__((weak)) void grain_dealloc(void *block, size_t size, size_t alignment) {
-    (void)size;
-    (void)alignment;
+__attribute__((weak)) void grain_dealloc(void *block) {
     free(block);
 }
 
-/* What the kit's code expects of an allocation: whether there is a block, and a pointer that is never NULL. */
+/* The kit's code calls these. An allocation says whether there is a block, and has a pointer that is never NULL. */
 typedef struct {
     bool made;
     void *block;
@@ -30,7 +28,7 @@ typedef struct {
 
 answer rattle_alloc(size_t size, size_t alignment);
 answer rattle_realloc(void *block, size_t old_size, size_t size, size_t alignment);
-void rattle_dealloc(void *block, size_t size, size_t alignment);
+void rattle_dealloc(void *block);
 
 static char nothing;
 
@@ -51,6 +49,6 @@ answer rattle_realloc(void *block, size_t old_size, size_t size, size_t alignmen
     return answer_of(grain_realloc(block, some_size(old_size, alignment), some_size(size, alignment), alignment));
 }
 
-void rattle_dealloc(void *block, size_t size, size_t alignment) {
-    grain_dealloc(block, some_size(size, alignment), alignment);
+void rattle_dealloc(void *block) {
+    grain_dealloc(block);
 }
