@@ -5,8 +5,9 @@ tags (crates/grain_code/src/tag.rt), wherever it stands.
     bench/from_table.py           says where it stands otherwise, and ends with 1 where there is any
     bench/from_table.py --write   writes it there
 
-- What instructions are called stands in hosts/c/grain.h (a number for each tag), in hosts/rust/src/mnemonics.rs (tags and
-  names), and in crates/grain_flat, in specs/TagNames.antt (names by tags) and src/mnemonics.rt (names of operations).
+- hosts/c/grain_instructions.h is written as a whole: each instruction's tag, name, width and fields, and whether it is quiet.
+- What instructions are called stands in hosts/rust/src/mnemonics.rs (tags and names), and in crates/grain_flat, in
+  specs/TagNames.antt (names by tags) and src/mnemonics.rt (names of operations).
 - The table read from tags to operations is the list `rows` in crates/grain_code/proofs/Rows.antt, which the prover compares
   with the table.
 - The table for machines in Rust is the list of hosts/rust/src/opcode.rs: names, tags, fields, flow and quiet instructions.
@@ -107,13 +108,52 @@ def table_rows():
         yield f"    row {tag} {f'({letters})' if items else letters} (λ v. {row_op(text, values)}) ∷\n"
 
 
+HEADER = """\
+/* Written by bench/from_table.py from the instruction table. Don't edit it.
+ *
+ * GRAIN_INSTRUCTIONS(X) is X(tag, NAME, width, fields, quiet) for each instruction, in the order of tags: the byte with which
+ * it begins, its name, how many bytes it takes, a letter for each field, and whether it is quiet (grain.h, grain_verify).
+ * No other byte begins an instruction. The fields follow the tag without a gap, their low bytes first:
+ *
+ *     letter  bytes  what the field is
+%s *
+ * A machine makes its decoder and its table of widths from this list, so that they are those of the verifier. */
+#ifndef GRAIN_INSTRUCTIONS_H
+#define GRAIN_INSTRUCTIONS_H
+
+#define GRAIN_INSTRUCTIONS(X)%s
+
+/* The bytes with which instructions begin. */
+#define GRAIN_TAG_ENUMERATOR(tag, name, width, fields, quiet) GRAIN_TAG_##name = tag,
+enum grain_tag { GRAIN_INSTRUCTIONS(GRAIN_TAG_ENUMERATOR) };
+#undef GRAIN_TAG_ENUMERATOR
+
+#endif
+"""
+
+FIELDS = {
+    "c": "the index of a constant", "n": "the index of a name", "t": "the index of an operator",
+    "o": "the index of an op-assignment", "f": "the index of a fragment", "h": "the index of a chain",
+    "w": "the index of a switch", "y": "the index of a site of custom syntax",
+    "s": "a slot, a depth or a length", "a": "a count of arguments or operands", "j": "a jump's target",
+}
+
+
+def instructions_header():
+    """The whole of hosts/c/grain_instructions.h."""
+    letters = "".join(
+        f" *     {letter:<7} {instruction_table.SIZES.get(letter, 2):<6} {meaning}\n" for letter, meaning in FIELDS.items())
+    rows = "".join(
+        f' \\\n    X(0x{tag}, {name}, {width}, "{fields.replace(" ", "")}", {int(quiet == "quiet")})'
+        for tag, name, fields, width, _, _, _, _, quiet in instruction_table.table())
+    return HEADER % (letters, rows)
+
+
 def blocks():
     """Of each file where they stand: what stands before, the block itself, and what stands behind."""
     names = tags()
-    defines = "".join(f"#define GRAIN_TAG_{name} 0x{tag:02x}\n" for tag, name in names.items())
     rows = "".join(f'    (0x{tag:02x}, "{name}"),\n' for tag, name in names.items())
     return {
-        "hosts/c/grain.h": (r'"Instructions"\)\. \*/\n', defines, r"\n/\* The number of this"),
         "hosts/rust/src/mnemonics.rs": (
             r"(?=const MNEMONICS)", f"const MNEMONICS: [(u8, &str); {len(names)}] = [\n{rows}];\n", r"\Z"),
         "hosts/rust/src/opcode.rs": (r"(?=opcodes! \{)", "opcodes! {\n" + "".join(opcodes()) + "}\n", r"\Z"),
@@ -129,7 +169,17 @@ def plain(text):
     return re.sub(r",(?=[})\]])", "", re.sub(r"\s", "", text))
 
 
+def header_differences(write):
+    path = TOP / "hosts/c/grain_instructions.h"
+    text = instructions_header()
+    if write:
+        path.write_text(text)
+    elif not path.is_file() or path.read_text() != text:
+        yield "hosts/c/grain_instructions.h differs from the instruction table: bench/from_table.py --write"
+
+
 def differences(write=False):
+    yield from header_differences(write)
     for name, (before, block, behind) in blocks().items():
         path = TOP / name
         text = path.read_text()

@@ -1,5 +1,6 @@
-/* Verifies code with names, a chain and a switch, prints the numbers of its chunks and a refusal as text; has chunks declare
- * their numbers; and prints the code, instruction by instruction, with the places of an address table and a stream. */
+/* Verifies code with names, a chain and a switch, and prints the depths of its chunks, or its refusal as text and a listing of
+ * the chunk; has chunks declare their depths; and prints the code, instruction by instruction, with the places of an address
+ * table and a stream. */
 #include "grain.h"
 
 #include <stdio.h>
@@ -19,8 +20,10 @@ static const grain_switch switches[] = {{.cases = 2, .ranges = 1, .otherwise = 6
 static const grain_case cases[] = {{4, 1}, {6, 0}};
 static const uint32_t ranges[] = {6};
 
-static grain_pools pools(void) {
-    return (grain_pools){
+static const grain_program program = {
+    .code = code, .code_len = LENGTH(code),
+    .chunks = chunks, .chunks_len = LENGTH(chunks),
+    .pools = {
         .constants = constants, .constants_len = LENGTH(constants),
         .names = names, .names_len = LENGTH(names),
         .starts = starts, .starts_len = LENGTH(starts),
@@ -29,103 +32,102 @@ static grain_pools pools(void) {
         .switches = switches, .switches_len = LENGTH(switches),
         .cases = cases, .cases_len = LENGTH(cases),
         .ranges = ranges, .ranges_len = LENGTH(ranges),
-    };
+    },
+};
+
+static int print_part(void *context, const char *text, size_t length) {
+    (void)context;
+    return printf("%.*s", (int)length, text) < 0;
 }
 
-static void print_fault(const grain_fault *fault) {
-    uint8_t text[128];
-    size_t size = 0;
-    if (grain_fault_text(fault, text, sizeof text, &size) != GRAIN_WRITTEN)
-        size = 0;
-    printf("refused %.*s", (int)size, (const char *)text);
-    if (fault->chunk != GRAIN_NO_CHUNK)
-        printf(" (chunk %llu)", (unsigned long long)fault->chunk);
-    printf("\n");
+static void print_refusal(uint16_t caps, const grain_program *given, const grain_refusal *refusal) {
+    char text[GRAIN_TEXT_SIZE];
+    grain_refusal_text(refusal, text, sizeof text);
+    printf("refused %s\n", text);
+    if (refusal->chunk != GRAIN_WHOLE_PROGRAM &&
+        grain_listing(caps, given, (size_t)refusal->chunk, print_part, NULL) != GRAIN_REFUSED)
+        printf("not listed\n");
 }
 
-static uint32_t verify(uint16_t caps, const grain_pools *given) {
-    uint16_t numbers[LENGTH(chunks)] = {0};
-    grain_fault fault = {0};
-    uint64_t looked = 0;
-    uint32_t answer = grain_verify(caps, code, sizeof code, chunks, LENGTH(chunks), given, numbers, LENGTH(numbers),
-                                   &fault, &looked);
-    switch (answer) {
+static void print_pools_flaw(const grain_pools *pools) {
+    grain_pools_flaw flaw = {0, 0};
+    if (!grain_check_pools(pools, &flaw))
+        printf("not flat: list %u, index %llu\n", flaw.list, (unsigned long long)flaw.index);
+}
+
+static grain_status verify(uint16_t caps, const grain_program *given) {
+    uint16_t depths[LENGTH(chunks)] = {0};
+    grain_report report = {{0, 0, 0, 0, 0}, 0};
+    grain_status status = grain_verify(NULL, caps, sizeof code, given, depths, LENGTH(depths), &report);
+    switch (status) {
     case GRAIN_ACCEPTED:
-        printf("accepted");
-        for (size_t i = 0; i < LENGTH(numbers); i++)
-            printf(" %u", numbers[i]);
-        printf(" (looked at %llu instructions)\n", (unsigned long long)looked);
+        printf("accepted %u %u (visited %llu instructions)\n", depths[0], depths[1], (unsigned long long)report.visited);
         break;
     case GRAIN_REFUSED:
-        print_fault(&fault);
+        print_refusal(caps, given, &report.refusal);
         break;
-    case GRAIN_OUT_OF_MEMORY:
-        printf("out of memory\n");
+    case GRAIN_NOT_FLAT:
+        print_pools_flaw(&given->pools);
         break;
     default:
-        printf("not flat\n");
+        printf("status %u\n", (unsigned)status);
         break;
     }
-    return answer;
+    return status;
 }
 
-/* Has each chunk declare its number. */
-static bool tighten(const grain_pools *given) {
-    grain_chunk own[] = {{0, 8, 9}, {8, 13, 9}};
-    grain_fault fault = {0};
-    uint64_t looked = 0;
-    if (grain_tighten(0x7fff, code, sizeof code, own, LENGTH(own), given, &fault, &looked) != GRAIN_ACCEPTED)
+/* Has each chunk declare its depth. */
+static bool tighten(void) {
+    grain_chunk tightened[LENGTH(chunks)] = {{0, 0, 0}};
+    if (grain_tighten(NULL, GRAIN_CAP_ALL, sizeof code, &program, tightened, LENGTH(tightened), NULL) != GRAIN_ACCEPTED)
         return false;
-    printf("declared %u %u\n", own[0].max_stack, own[1].max_stack);
+    printf("declared %u %u\n", tightened[0].max_stack, tightened[1].max_stack);
     return true;
 }
 
-/* Prints the instructions of the first chunk, each with its line and column. */
+/* Prints the instructions that an address table names, each with its line and column. */
 static bool list_code(void) {
     static const uint8_t table[] = {3, 0, 1, 5, 1, 1, 7, 3, 2, 1};
-    grain_entry entries[LENGTH(table) / 3];
-    size_t count = 0;
-    if (grain_table_entries(table, sizeof table, entries, LENGTH(entries), &count) != GRAIN_WRITTEN)
-        return false;
+    grain_entry entries[LENGTH(table) / 3] = {{0, 0, 0}};
+    size_t count = grain_table_entries(table, sizeof table, entries, LENGTH(entries));
     for (size_t i = 0; i < count; i++) {
-        uint8_t text[128];
-        size_t size = 0;
-        if (grain_instruction_text(code, sizeof code, entries[i].address, text, sizeof text, &size) != GRAIN_WRITTEN)
+        char text[GRAIN_TEXT_SIZE];
+        if (grain_instruction_text(code, sizeof code, entries[i].address, text, sizeof text) == 0)
             return false;
-        printf("%u:%u %.*s\n", entries[i].line, entries[i].column, (int)size, (const char *)text);
+        printf("%u:%u %s\n", entries[i].line, entries[i].column, text);
     }
-    return true;
+    return count == LENGTH(entries);
 }
 
-/* Prints the sites of a stream of two slots, of which the second has none. */
-static bool list_sites(void) {
+/* Prints the places of a stream of two slots, of which the second has none. */
+static bool list_places(void) {
     static const uint8_t stream[] = {2, 1, 7, 0, 0};
-    grain_place sites[LENGTH(stream) / 2];
+    grain_place places[LENGTH(stream) / 2] = {{0, 0}};
     size_t count = 0;
-    if (grain_stream_sites(stream, sizeof stream, sites, LENGTH(sites), &count) != GRAIN_WRITTEN)
+    if (!grain_stream_sites(stream, sizeof stream, places, LENGTH(places), &count))
         return false;
     for (size_t i = 0; i < count; i++)
-        printf("slot %zu: %u:%u\n", i, sites[i].line, sites[i].column);
+        printf("slot %zu: %u:%u\n", i, places[i].line, places[i].column);
     return true;
 }
 
 int main(void) {
-    grain_pools good = pools();
-    bool as_wanted = verify(0x7fff, &good) == GRAIN_ACCEPTED;
-    as_wanted = tighten(&good) && list_code() && list_sites() && as_wanted;
+    bool as_wanted = verify(GRAIN_CAP_ALL, &program) == GRAIN_ACCEPTED;
+    as_wanted = tighten() && list_code() && list_places() && as_wanted;
 
-    /* The host lacks the capability of properties, which the second chunk asks. */
-    as_wanted = verify(0x7dff, &good) == GRAIN_REFUSED && as_wanted;
+    /* The host lacks the capability of properties, which the second chunk needs. */
+    as_wanted = verify(GRAIN_CAP_ALL & ~GRAIN_CAP_PROPERTY, &program) == GRAIN_REFUSED && as_wanted;
 
     /* The chain names a name that isn't there. */
-    grain_pools fewer = pools();
-    fewer.names_len = 3;
-    fewer.starts_len = 2;
-    as_wanted = verify(0x7fff, &fewer) == GRAIN_REFUSED && as_wanted;
+    grain_program fewer = program;
+    fewer.pools.names_len = 3;
+    fewer.pools.starts_len = 2;
+    as_wanted = verify(GRAIN_CAP_ALL, &fewer) == GRAIN_REFUSED && as_wanted;
 
     /* A step is missing. */
-    grain_pools uneven = pools();
-    uneven.steps_len = 0;
-    as_wanted = verify(0x7fff, &uneven) == GRAIN_NOT_FLAT && as_wanted;
+    grain_program uneven = program;
+    uneven.pools.steps = NULL;
+    uneven.pools.steps_len = 0;
+    as_wanted = verify(GRAIN_CAP_ALL, &uneven) == GRAIN_NOT_FLAT && as_wanted;
     return as_wanted ? 0 : 1;
 }

@@ -1,22 +1,29 @@
-/* The verifier for untrusted Rhai Grain bytecode, in the host's process.
+/* grain: the proved verifier for untrusted Rhai Grain bytecode, in the host's process.
  *
- * Every function is proved: whatever the numbers and the contents of lists are, it answers, and writes nothing but what
- * it is said to write. What a C program owes in turn, for nothing checks it:
+ * grain_verify says whether a compiled script may be run in place, and how many operands each of its chunks needs. What a
+ * yes means, and what the machine that runs accepted code must do in turn, stands at grain_verify below.
  *
- * - No pointer is NULL, not even that of an empty list: point to any object of its type. Each is aligned to its type.
- * - A pointer that stands before a length points to as many items, which are set; a list that is only written to, too.
- * - What is written overlaps nothing else that the call is given, and no other thread reads or writes it meanwhile.
- *   What is only read may overlap, and many calls may read it at once.
- * - The library allocates by malloc, realloc and free of the C library, and frees all that it took before it returns, but
- *   for what a scratch keeps; of its calls only grain_verify, grain_verify_with, grain_tighten and grain_explain allocate.
- *   The three have to be of one allocator, and to align a block to each power of two up to 16 that divides its size.
- *   So it isn't called from a signal handler, nor from the forked child of a process of many threads.
- * - A scratch begins as GRAIN_SCRATCH_NONE. Nothing but these calls reads or writes it from then on, one call at a time,
- *   and of two copies of one no more than one is used. It may be handed from thread to thread.
- * - A call takes up to 22 KiB of the stack of its thread.
- * - The archive is for x86-64 Linux, of processors that have popcnt (x86-64-v2).
+ * Every function is proved, apart from plain C: grain_listing, grain_version, the three functions that allocate, and the
+ * test for NULL in front of each call. Whatever the numbers and the contents of lists are, a call answers, and writes only
+ * what it is said to write. The caller must ensure what no library can check:
  *
- * Nothing is kept between calls but in a scratch, and no call waits, prints or ends the process. A bool is 0 or 1. */
+ * - A list is a pointer and a length. The pointer may be NULL where the length is 0. Otherwise it is aligned to its type,
+ *   and as many items stand there. Items that are read must be set; so must those of a list that is only written to.
+ * - All other pointers are valid, unless it is said that they may be NULL.
+ * - What a call writes overlaps nothing else that it is given, and no other thread reads or writes it during the call.
+ *   What is only read may overlap, and any number of calls may read it at once.
+ * - A bool is 0 or 1.
+ * - A grain_scratch begins as GRAIN_SCRATCH_NONE. Only these calls read or write it, one call at a time. Don't use two
+ *   copies of one. Threads may hand it to each other.
+ * - Only grain_verify, grain_tighten, grain_explain and grain_listing allocate, through grain_alloc and its two companions
+ *   (at the end). They free everything before they return, except what a scratch keeps. Don't call them from a signal
+ *   handler, nor in a child that a process with several threads has forked.
+ *
+ * No call waits, prints or ends the process. Nothing is kept between calls except in a scratch. A call takes up to 22 KiB
+ * of its thread's stack.
+ * The library is for x86-64 Linux, on processors with popcnt (x86-64-v2).
+ *
+ * FORMAT.md has the instructions, the tables and the rules of verification; COSTS.md says what each call costs. */
 #ifndef GRAIN_H
 #define GRAIN_H
 
@@ -24,14 +31,41 @@
 #include <stddef.h>
 #include <stdint.h>
 
+#include "grain_instructions.h"
+
+#define GRAIN_VERSION_MAJOR 0
+#define GRAIN_VERSION_MINOR 2
+#define GRAIN_VERSION_PATCH 0
+
+/* The number of this interface. It rises with each change that can break a program (CHANGELOG.md). A program that was
+ * compiled with this header doesn't link with a library of another interface: it refers to a symbol with this number. */
+#define GRAIN_INTERFACE 2
+
 #ifdef __cplusplus
 extern "C" {
-#define GRAIN_ASSERT static_assert
-#else
-#define GRAIN_ASSERT _Static_assert
 #endif
 
-/* What a program asks of its host, a bit for each (docs/FORMAT.md, "Capabilities"). */
+#if defined(__cplusplus) && __cplusplus >= 201703L
+#define GRAIN_NODISCARD [[nodiscard]]
+#elif defined(__GNUC__)
+#define GRAIN_NODISCARD __attribute__((warn_unused_result))
+#else
+#define GRAIN_NODISCARD
+#endif
+
+/* The number of the library, as a symbol: a program that includes this header links only with this interface. */
+extern const uint32_t grain_interface_2;
+#ifdef __GNUC__
+#ifdef __has_attribute
+#if __has_attribute(retain)
+__attribute__((retain)) /* also where a linker collects sections */
+#endif
+#endif
+__attribute__((used)) static const uint32_t *const grain_interface_of_header = &grain_interface_2;
+#endif
+
+/* What a program needs of its host, one bit each (FORMAT.md, "Capabilities"). */
+#define GRAIN_CAP_NONE 0x0000
 #define GRAIN_CAP_FUNCTION 0x0001
 #define GRAIN_CAP_ARRAY 0x0002
 #define GRAIN_CAP_BLOB 0x0004
@@ -47,220 +81,162 @@ extern "C" {
 #define GRAIN_CAP_EXPORT 0x1000
 #define GRAIN_CAP_IMPORT 0x2000
 #define GRAIN_CAP_CUSTOM_SYNTAX 0x4000
+#define GRAIN_CAP_ALL 0x7fff
 
-/* The bytes with which instructions begin (docs/FORMAT.md, "Instructions"). */
-#define GRAIN_TAG_LOAD_CONST 0x01
-#define GRAIN_TAG_UNIT 0x02
-#define GRAIN_TAG_FALSE 0x03
-#define GRAIN_TAG_TRUE 0x04
-#define GRAIN_TAG_LOAD_LOCAL 0x05
-#define GRAIN_TAG_STORE_LOCAL 0x06
-#define GRAIN_TAG_ASSIGN_LOCAL 0x07
-#define GRAIN_TAG_ASSIGN_LOCAL_OP 0x08
-#define GRAIN_TAG_DECLARE_LOCAL 0x09
-#define GRAIN_TAG_DECLARE_CONST 0x0a
-#define GRAIN_TAG_POP 0x0b
-#define GRAIN_TAG_JUMP 0x0c
-#define GRAIN_TAG_JUMP_IF_TRUE 0x0d
-#define GRAIN_TAG_JUMP_IF_FALSE 0x0e
-#define GRAIN_TAG_CALL 0x0f
-#define GRAIN_TAG_CALL_OP 0x10
-#define GRAIN_TAG_UNWIND_TO 0x11
-#define GRAIN_TAG_TICK 0x12
-#define GRAIN_TAG_RETURN 0x13
-#define GRAIN_TAG_EVAL_AST 0x14
-#define GRAIN_TAG_EVAL_AST_KEEP 0x15
-#define GRAIN_TAG_CHAIN 0x16
-#define GRAIN_TAG_MAKE_ARRAY 0x17
-#define GRAIN_TAG_SWITCH 0x18
-#define GRAIN_TAG_LOAD_NAMED 0x19
-#define GRAIN_TAG_ASSIGN_NAMED 0x1a
-#define GRAIN_TAG_ASSIGN_NAMED_OP 0x1b
-#define GRAIN_TAG_THROW 0x1c
-#define GRAIN_TAG_ITER_INIT 0x1d
-#define GRAIN_TAG_ITER_NEXT 0x1e
-#define GRAIN_TAG_ITER_DROP 0x1f
-#define GRAIN_TAG_STORE_SHARED 0x20
-#define GRAIN_TAG_ITER_NEXT_INDEXED 0x21
-#define GRAIN_TAG_POP_HANDLER 0x22
-#define GRAIN_TAG_PUSH_HANDLER 0x23
-#define GRAIN_TAG_PUSH_HANDLER_VAR 0x24
-#define GRAIN_TAG_INTERPOLATE_START 0x25
-#define GRAIN_TAG_INTERPOLATE_APPEND 0x26
-#define GRAIN_TAG_INTERPOLATE_END 0x27
-#define GRAIN_TAG_MAKE_FN_PTR 0x28
-#define GRAIN_TAG_CURRY 0x29
-#define GRAIN_TAG_CALL_FN_PTR 0x2a
-#define GRAIN_TAG_CALL_FN_PTR_METHOD 0x2b
-#define GRAIN_TAG_SHARE 0x2c
-#define GRAIN_TAG_SHARE_NAMED 0x2d
-#define GRAIN_TAG_LOAD_SHARED 0x2e
-#define GRAIN_TAG_MAKE_CLOSURE 0x2f
-#define GRAIN_TAG_IS_SHARED 0x30
-#define GRAIN_TAG_CHECKPOINT 0x31
-#define GRAIN_TAG_CHECK_ARRAY_SIZE 0x32
-#define GRAIN_TAG_CHECK_MAP_SIZE 0x33
-#define GRAIN_TAG_MAKE_MAP 0x34
-#define GRAIN_TAG_CALL_LOCAL_REF 0x35
-#define GRAIN_TAG_ROTATE 0x36
-#define GRAIN_TAG_CALL_NAMED_REF 0x37
-#define GRAIN_TAG_LOAD_SHARED_NAMED 0x38
-#define GRAIN_TAG_LOAD_THIS 0x39
-#define GRAIN_TAG_LOAD_THIS_SHARED 0x3a
-#define GRAIN_TAG_REQUIRE_THIS 0x3b
-#define GRAIN_TAG_ASSIGN_THIS 0x3c
-#define GRAIN_TAG_ASSIGN_THIS_OP 0x3d
-#define GRAIN_TAG_CALL_THIS_REF 0x3e
-#define GRAIN_TAG_CALL_FN_PTR_ON_LOCAL 0x3f
-#define GRAIN_TAG_CALL_FN_PTR_ON_NAMED 0x40
-#define GRAIN_TAG_CALL_FN_PTR_ON_THIS 0x41
-#define GRAIN_TAG_SKIP_IF_NOT_UNIT 0x42
-#define GRAIN_TAG_STATEMENT 0x47
-#define GRAIN_TAG_STORE_CONST 0x48
-#define GRAIN_TAG_CALL_FN_PTR_CAPTURE 0x49
-#define GRAIN_TAG_CUSTOM_SYNTAX 0x4a
-#define GRAIN_TAG_DECLARE_GLOBAL_CONST 0x4b
-#define GRAIN_TAG_EXPORT_LOCAL 0x4d
-#define GRAIN_TAG_EXPORT_NAMED 0x4e
-#define GRAIN_TAG_IMPORT 0x4f
+/* What a call answers. Each number means one thing. */
+typedef enum grain_status {
+    GRAIN_ACCEPTED = 0,      /* the program is accepted, or the chunk passes */
+    GRAIN_REFUSED = 1,       /* it is refused, and the refusal is written */
+    GRAIN_SHORT = 2,         /* a list of the caller's has too few places */
+    GRAIN_OUT_OF_MEMORY = 3, /* the allocator refused */
+    GRAIN_NOT_FLAT = 4,      /* no pools have this flat form: grain_check_pools says where */
+    GRAIN_TOO_MUCH_WORK = 5, /* the chunks span more of the code than the limit allows */
+    GRAIN_NO_CHUNK = 6,      /* the program has no chunk with this index */
+    GRAIN_BAD_CODE = 7,      /* nothing is explained: the code isn't whole instructions whose indices are in bounds */
+    GRAIN_UNFINISHED = 8,    /* nothing is explained, though the code is good: no test has met this, no proof excludes it */
+    GRAIN_STOPPED = 9        /* the caller's function asked to stop */
+} grain_status;
 
-/* The number of this interface. grain_interface() answers that of the library: where they differ, don't call it. */
-#define GRAIN_INTERFACE 1
+/* Why a program is refused. Beside each flaw: what `first` and `second` of its grain_refusal are; 0 where nothing is said. */
+enum grain_flaw {
+    GRAIN_FLAW_NONE = 0,
+    GRAIN_FLAW_MISSING_CAPS = 1,             /* first: the missing capabilities, or for a constant all that it needs;
+                                              * second: those of the host */
+    GRAIN_FLAW_UNDECODABLE = 2,              /* no instruction stands at the address */
+    GRAIN_FLAW_TRAILING_BYTES = 3,           /* never answered */
+    GRAIN_FLAW_CHUNK_OUT_OF_RANGE = 4,       /* at: the chunk's entry, first: its end, second: the length of the code */
+    GRAIN_FLAW_JUMP_OUT_OF_RANGE = 5,        /* first: the target, outside the chunk */
+    GRAIN_FLAW_JUMP_INTO_AN_INSTRUCTION = 6, /* first: the target; or the chunk begins or ends there */
+    GRAIN_FLAW_DEPTH_CONFLICT = 7,           /* first, second: the operands on two paths that meet */
+    GRAIN_FLAW_UNDERFLOW = 8,                /* first: the operands that are needed, second: those that are there */
+    GRAIN_FLAW_FALLS_OFF_THE_END = 9,        /* a path runs past the end of the chunk, or the chunk is empty */
+    GRAIN_FLAW_STACK_EXCEEDS_DECLARED = 10,  /* first: the operands that are needed, second: those declared */
+    GRAIN_FLAW_ITERATOR_UNDERFLOW = 11,      /* there is no iterator */
+    GRAIN_FLAW_HANDLER_UNDERFLOW = 12,       /* no handler is armed */
+    GRAIN_FLAW_SINKS_BELOW_HANDLER = 13,     /* first: what stood when the last handler was armed, second: what is left */
+    GRAIN_FLAW_BAD_INDEX = 14                /* first: the index, second: what it names, a grain_kind */
+};
 
-/* What calls answer that verify or write. */
-#define GRAIN_ACCEPTED 0       /* all is accepted, and the numbers of the chunks are written */
-#define GRAIN_REFUSED 1        /* it is refused, and why is written */
-#define GRAIN_SHORT 2          /* there are fewer numbers than chunks, or less room than there are bytes or items */
-#define GRAIN_OUT_OF_MEMORY 3  /* memory was wanted */
-#define GRAIN_NOT_FLAT 4       /* no pools have this flat form */
-#define GRAIN_WRITTEN 0        /* the text or the list is written */
-#define GRAIN_NO_REFUSAL 1     /* the record tells no refusal */
-#define GRAIN_NO_INSTRUCTION 1 /* no instruction stands at the address */
-#define GRAIN_NO_STREAM 1      /* the bytes are no stream */
-#define GRAIN_UNEXPLAINED 5    /* nothing is explained: the code isn't whole instructions whose indices are in bounds */
-
-/* Why a program is refused: the kind of a grain_fault. What `first` and `second` are is said beside; 0 where nothing is. */
-#define GRAIN_FAULT_MISSING_CAPS 1             /* first: the capabilities that aren't there, or of a constant all that it
-                                                * asks, those that are there too; second: those of the host */
-#define GRAIN_FAULT_UNDECODABLE 2              /* no instruction stands at the address */
-#define GRAIN_FAULT_TRAILING_BYTES 3           /* never answered */
-#define GRAIN_FAULT_CHUNK_OUT_OF_RANGE 4       /* at: the chunk's entry, first: its end, second: the length of the code */
-#define GRAIN_FAULT_JUMP_OUT_OF_RANGE 5        /* first: the target, outside the chunk */
-#define GRAIN_FAULT_JUMP_INTO_AN_INSTRUCTION 6 /* first: the target; or the chunk begins or ends there */
-#define GRAIN_FAULT_DEPTH_CONFLICT 7           /* first, second: the operands of two paths that meet */
-#define GRAIN_FAULT_UNDERFLOW 8                /* first: the operands that are needed, second: those that are there */
-#define GRAIN_FAULT_FALLS_OFF_THE_END 9        /* a path runs past the chunk, or it is empty */
-#define GRAIN_FAULT_STACK_EXCEEDS_DECLARED 10  /* first: the operands that are needed, second: those declared */
-#define GRAIN_FAULT_ITERATOR_UNDERFLOW 11      /* no iterator is there */
-#define GRAIN_FAULT_HANDLER_UNDERFLOW 12       /* no handler is armed */
-#define GRAIN_FAULT_SINKS_BELOW_HANDLER 13     /* first: what stood when the last handler was armed, second: what is left */
-#define GRAIN_FAULT_BAD_INDEX 14               /* first: the index, second: what it names, a GRAIN_KIND */
-
-/* The place of a chunk where no chunk is refused. */
-#define GRAIN_NO_CHUNK UINT64_C(0xffffffffffffffff)
-
-/* What a number is. */
-#define GRAIN_KIND_NOTHING 0
-#define GRAIN_KIND_CONSTANT 1
-#define GRAIN_KIND_NAME 2
-#define GRAIN_KIND_OPERATOR 3
-#define GRAIN_KIND_OP_ASSIGNMENT 4
-#define GRAIN_KIND_FRAGMENT 5
-#define GRAIN_KIND_CHAIN 6
-#define GRAIN_KIND_SWITCH 7
-#define GRAIN_KIND_SYNTAX_SITE 8
-#define GRAIN_KIND_OPERAND 9
-#define GRAIN_KIND_SLOT 10
-#define GRAIN_KIND_COUNT 11
-#define GRAIN_KIND_TARGET 12
-
-/* An address where there is none. */
-#define GRAIN_NO_ADDRESS 0xffffffff
+/* What a number is: a field of an instruction, or the index that a refusal names. */
+enum grain_kind {
+    GRAIN_KIND_NOTHING = 0,
+    GRAIN_KIND_CONSTANT = 1,
+    GRAIN_KIND_NAME = 2,
+    GRAIN_KIND_OPERATOR = 3,
+    GRAIN_KIND_OP_ASSIGNMENT = 4,
+    GRAIN_KIND_FRAGMENT = 5,
+    GRAIN_KIND_CHAIN = 6,
+    GRAIN_KIND_SWITCH = 7,
+    GRAIN_KIND_SYNTAX_SITE = 8,
+    GRAIN_KIND_OPERAND = 9,
+    GRAIN_KIND_SLOT = 10,
+    GRAIN_KIND_COUNT = 11,
+    GRAIN_KIND_TARGET = 12
+};
 
 /* Where a chain begins, what its steps are, and what it does at its end. */
-#define GRAIN_ROOT_LOCAL 0     /* root_name: the variable's */
-#define GRAIN_ROOT_NAMED 1     /* root_name: the variable's */
-#define GRAIN_ROOT_THIS 2      /* the receiver of the function */
-#define GRAIN_ROOT_TEMPORARY 3 /* a value on the operand stack */
-#define GRAIN_STEP_INDEX 0     /* operand: where the index lies among the chain's operands */
-#define GRAIN_STEP_PROPERTY 1  /* name, getter, setter: indices of names */
-#define GRAIN_STEP_METHOD 2    /* name; argc arguments, from operand on */
-#define GRAIN_TAIL_READ 0
-#define GRAIN_TAIL_ASSIGN 1
-#define GRAIN_TAIL_ASSIGN_THROUGH 2 /* op: the index of an op-assignment */
+enum grain_root {
+    GRAIN_ROOT_LOCAL = 0,    /* root_name: the variable's */
+    GRAIN_ROOT_NAMED = 1,    /* root_name: the variable's */
+    GRAIN_ROOT_THIS = 2,     /* the receiver of the function */
+    GRAIN_ROOT_TEMPORARY = 3 /* a value on the operand stack */
+};
+enum grain_step_kind {
+    GRAIN_STEP_INDEX = 0,    /* operand: where the index lies among the chain's operands */
+    GRAIN_STEP_PROPERTY = 1, /* name, getter, setter: indices of names */
+    GRAIN_STEP_METHOD = 2    /* name; argc arguments, from operand on */
+};
+enum grain_tail {
+    GRAIN_TAIL_READ = 0,
+    GRAIN_TAIL_ASSIGN = 1,
+    GRAIN_TAIL_ASSIGN_THROUGH = 2 /* op: the index of an op-assignment */
+};
 
-/* What is wrong first with an address table or a stream. What `named` says is beside. */
-#define GRAIN_SOUND 0
-#define GRAIN_TABLE_TRUNCATED 1      /* 0 */
-#define GRAIN_TABLE_OVERFLOW 2       /* 0 */
-#define GRAIN_TABLE_OUT_OF_ORDER 3   /* the address that stands twice; of address tables alone */
-#define GRAIN_TABLE_TRAILING_BYTES 4 /* how many bytes are left */
+/* The first thing that is wrong with an address table or a stream. Beside each: what `*named` is. */
+typedef enum grain_table_flaw {
+    GRAIN_TABLE_SOUND = 0,         /* nothing is wrong, and *named isn't written */
+    GRAIN_TABLE_TRUNCATED = 1,     /* 0 */
+    GRAIN_TABLE_OVERFLOW = 2,      /* 0 */
+    GRAIN_TABLE_OUT_OF_ORDER = 3,  /* the address that stands twice; only in address tables */
+    GRAIN_TABLE_TRAILING_BYTES = 4 /* how many bytes are left */
+} grain_table_flaw;
+
+/* A list of grain_pools. */
+enum grain_list {
+    GRAIN_LIST_CONSTANTS = 1,
+    GRAIN_LIST_NAMES = 2, /* names and starts; the index is that of a name, or how many there are */
+    GRAIN_LIST_CHAINS = 3,
+    GRAIN_LIST_STEPS = 4,
+    GRAIN_LIST_SWITCHES = 5,
+    GRAIN_LIST_CASES = 6,
+    GRAIN_LIST_RANGES = 7
+};
+
+/* The place of a chunk where no chunk is refused. */
+#define GRAIN_WHOLE_PROGRAM UINT64_MAX
+
+/* An address where there is none. */
+#define GRAIN_NO_ADDRESS UINT32_MAX
+
+/* The base where there is none: the end of a list of bases. */
+#define GRAIN_NO_BASE UINT32_MAX
+
+/* No limit on work. */
+#define GRAIN_NO_LIMIT UINT64_MAX
 
 /* A part of the code that is run by itself: from the address entry up to end, with the operands that it declares. */
-typedef struct {
+typedef struct grain_chunk {
     uint32_t entry;
     uint32_t end;
     uint16_t max_stack;
 } grain_chunk;
-GRAIN_ASSERT(sizeof(grain_chunk) == 12 && offsetof(grain_chunk, end) == 4 && offsetof(grain_chunk, max_stack) == 8,
-             "grain_chunk");
 
-/* What a constant asks of the host: is_known 1 and capabilities, those of its parts among them; or 0 and 0 for a shared
- * value, one of the host, and what holds one. */
-typedef struct {
+/* What a constant needs of the host: is_known 1 and its capabilities, including those of its parts; or 0 and 0 for a value
+ * that is shared or the host's own, and for whatever holds one. */
+typedef struct grain_constant {
     uint16_t is_known;
     uint16_t caps;
 } grain_constant;
-GRAIN_ASSERT(sizeof(grain_constant) == 4 && offsetof(grain_constant, caps) == 2, "grain_constant");
 
-/* A chain of accesses; what its root and tail don't use is 0. */
-typedef struct {
-    uint32_t root;
+/* A chain of accesses; fields that its root and tail don't use are 0. */
+typedef struct grain_chain {
+    uint32_t root; /* grain_root */
     uint32_t root_name;
     uint32_t steps; /* how many it has */
-    uint32_t tail;
+    uint32_t tail;  /* grain_tail */
     uint32_t op;
     uint16_t operands; /* how many its steps take */
 } grain_chain;
-GRAIN_ASSERT(sizeof(grain_chain) == 24 && offsetof(grain_chain, root_name) == 4 && offsetof(grain_chain, steps) == 8 &&
-                 offsetof(grain_chain, tail) == 12 && offsetof(grain_chain, op) == 16 &&
-                 offsetof(grain_chain, operands) == 20,
-             "grain_chain");
 
-/* A step of a chain; what its kind doesn't use is 0. */
-typedef struct {
-    uint32_t kind;
+/* A step of a chain; fields that its kind doesn't use are 0. */
+typedef struct grain_step {
+    uint32_t kind; /* grain_step_kind */
     uint32_t name;
     uint32_t getter;
     uint32_t setter;
     uint16_t operand;
     uint8_t argc;
 } grain_step;
-GRAIN_ASSERT(sizeof(grain_step) == 20 && offsetof(grain_step, name) == 4 && offsetof(grain_step, getter) == 8 &&
-                 offsetof(grain_step, setter) == 12 && offsetof(grain_step, operand) == 16 &&
-                 offsetof(grain_step, argc) == 18,
-             "grain_step");
 
 /* A switch: how many cases and ranges it has, and where all other subjects lead. */
-typedef struct {
+typedef struct grain_switch {
     uint32_t cases;
     uint32_t ranges;
     uint32_t otherwise;
 } grain_switch;
-GRAIN_ASSERT(sizeof(grain_switch) == 12 && offsetof(grain_switch, ranges) == 4 && offsetof(grain_switch, otherwise) == 8,
-             "grain_switch");
 
 /* A case: where it leads, and the index of its constant. */
-typedef struct {
+typedef struct grain_case {
     uint32_t target;
     uint32_t constant;
 } grain_case;
-GRAIN_ASSERT(sizeof(grain_case) == 8 && offsetof(grain_case, constant) == 4, "grain_case");
 
-/* What a program has beside its code and its chunks, flat: the steps of all chains one chain after another, and so the
- * cases and the ranges of all switches. Of the names all bytes one after another, and one start more than there are
- * names: 0, and then where each name ends. */
-typedef struct {
+/* What a program has beside its code and its chunks, in flat form. GRAIN_POOLS_NONE is empty.
+ *
+ * The steps of all chains stand one chain after another, and so do the cases and the ranges of all switches. `names` has
+ * the bytes of all names, one after another; `starts` has one entry more than there are names: 0, and then where each
+ * name ends. Where there are no names, both may be empty. */
+typedef struct grain_pools {
     const grain_constant *constants;
     size_t constants_len;
     const uint8_t *names;
@@ -277,198 +253,220 @@ typedef struct {
     size_t steps_len;
     const grain_switch *switches;
     size_t switches_len;
-    const grain_case *cases; /* of each switch in any order */
+    const grain_case *cases; /* those of each switch in any order */
     size_t cases_len;
     const uint32_t *ranges; /* where each leads */
     size_t ranges_len;
 } grain_pools;
-GRAIN_ASSERT(sizeof(size_t) == 8 && sizeof(void *) == 8, "64 bits");
-GRAIN_ASSERT(sizeof(grain_pools) == 160 && offsetof(grain_pools, constants) == 0 && offsetof(grain_pools, names) == 16 &&
-                 offsetof(grain_pools, starts) == 32 && offsetof(grain_pools, operators) == 48 &&
-                 offsetof(grain_pools, op_assignments) == 56 && offsetof(grain_pools, fragments) == 64 &&
-                 offsetof(grain_pools, functions) == 72 && offsetof(grain_pools, chains) == 80 &&
-                 offsetof(grain_pools, steps) == 96 && offsetof(grain_pools, switches) == 112 &&
-                 offsetof(grain_pools, cases) == 128 && offsetof(grain_pools, ranges) == 144,
-             "grain_pools");
+#define GRAIN_POOLS_NONE {NULL, 0, NULL, 0, NULL, 0, 0, 0, 0, 0, NULL, 0, NULL, 0, NULL, 0, NULL, 0, NULL, 0}
 
-/* Memory that verifications use again, of which the fields are the library's own. It begins as GRAIN_SCRATCH_NONE, all of
- * whose bytes are 0, which keeps nothing. */
-typedef struct {
+/* A program: its code, its chunks, and its pools. All bytes 0 is a program with nothing in it. */
+typedef struct grain_program {
+    const uint8_t *code;
+    size_t code_len;
+    const grain_chunk *chunks;
+    size_t chunks_len;
+    grain_pools pools;
+} grain_program;
+
+/* Memory that one verification after another uses. Its fields are the library's own. */
+typedef struct grain_scratch {
     bool made;
     void *block;
 } grain_scratch;
-GRAIN_ASSERT(sizeof(grain_scratch) == 16 && offsetof(grain_scratch, block) == 8, "grain_scratch");
 #define GRAIN_SCRATCH_NONE {false, NULL}
 
-/* Why a program is refused: a GRAIN_FAULT, the place of the chunk, the address of an instruction, and what the kind
- * names. */
-typedef struct {
-    uint32_t kind;
-    uint64_t chunk; /* or GRAIN_NO_CHUNK */
-    uint64_t at;
+/* Why a program is refused. */
+typedef struct grain_refusal {
+    uint32_t flaw;  /* grain_flaw */
+    uint64_t chunk; /* the index of the chunk, or GRAIN_WHOLE_PROGRAM: a constant, the code or the functions are refused */
+    uint64_t at;    /* the address of an instruction, where the flaw names one */
     uint64_t first;
     uint64_t second;
-} grain_fault;
-GRAIN_ASSERT(sizeof(grain_fault) == 40 && offsetof(grain_fault, chunk) == 8 && offsetof(grain_fault, at) == 16 &&
-                 offsetof(grain_fault, first) == 24 && offsetof(grain_fault, second) == 32,
-             "grain_fault");
+} grain_refusal;
 
-/* A field of an instruction: a GRAIN_KIND, and the index, the slot, the count or the target. */
-typedef struct {
-    uint32_t kind;
-    uint32_t value;
+/* What a verification found. */
+typedef struct grain_report {
+    grain_refusal refusal; /* written where the program is refused */
+    uint64_t visited;      /* written where it is accepted or refused: how many instructions the walks visited */
+} grain_report;
+
+/* A field of an instruction. */
+typedef struct grain_field {
+    uint32_t kind;  /* grain_kind */
+    uint32_t value; /* the index, the slot, the count or the target */
 } grain_field;
-GRAIN_ASSERT(sizeof(grain_field) == 8 && offsetof(grain_field, value) == 4, "grain_field");
 
-/* An instruction: the byte with which it begins, how many bytes it takes, and its fields, then empty ones. */
-typedef struct {
+/* An instruction: its tag, how many bytes it takes, and its fields, followed by empty ones. */
+typedef struct grain_instruction_row {
     uint8_t tag;
     uint8_t width;
     grain_field fields[3];
 } grain_instruction_row;
-GRAIN_ASSERT(sizeof(grain_instruction_row) == 28 && offsetof(grain_instruction_row, width) == 1 &&
-                 offsetof(grain_instruction_row, fields) == 4,
-             "grain_instruction_row");
 
-/* An entry of an address table: the address of an instruction, its line, or 0 where that isn't known, and its column. */
-typedef struct {
+/* A place in a source text: a line, or 0 where there is none, and a column. */
+typedef struct grain_place {
+    uint32_t line;
+    uint32_t column;
+} grain_place;
+
+/* An entry of an address table: the address of an instruction and its place. */
+typedef struct grain_entry {
     uint32_t address;
     uint32_t line;
     uint32_t column;
 } grain_entry;
-GRAIN_ASSERT(sizeof(grain_entry) == 12 && offsetof(grain_entry, line) == 4 && offsetof(grain_entry, column) == 8,
-             "grain_entry");
 
-/* A place in a source text: a line, or 0 where there is none, and a column. */
-typedef struct {
-    uint32_t line;
-    uint32_t column;
-} grain_place;
-GRAIN_ASSERT(sizeof(grain_place) == 8 && offsetof(grain_place, column) == 4, "grain_place");
-
-/* What stands at an instruction, or on a way to a flaw. */
-typedef struct {
+/* What stands at an instruction when a run reaches it. */
+typedef struct grain_row {
     uint32_t at;        /* the address of the instruction */
     uint32_t operands;  /* how many there are */
     uint32_t iterators; /* how many there are */
-    uint32_t from;      /* the address from which it was come to first, or GRAIN_NO_ADDRESS: at the entry, and on a way */
-    size_t bases;       /* how many handlers are armed: so many bases are its own, that of the last handler first */
+    uint32_t from;      /* an address from which an edge leads here, or GRAIN_NO_ADDRESS: at the entry, and on a path */
+    uint32_t base;      /* the base of the last armed handler, an index into the bases, or GRAIN_NO_BASE */
 } grain_row;
-GRAIN_ASSERT(sizeof(grain_row) == 16 + sizeof(size_t) && offsetof(grain_row, operands) == 4 &&
-                 offsetof(grain_row, iterators) == 8 && offsetof(grain_row, from) == 12 && offsetof(grain_row, bases) == 16,
-             "grain_row");
 
-/* The base of an armed handler: what stood when it was armed. */
-typedef struct {
+/* The base of an armed handler: what stood when it was armed, and the base of the handler that was armed before it. */
+typedef struct grain_base {
     uint32_t operands;
     uint32_t iterators;
+    uint32_t next; /* an index into the bases, or GRAIN_NO_BASE */
 } grain_base;
-GRAIN_ASSERT(sizeof(grain_base) == 8 && offsetof(grain_base, iterators) == 4, "grain_base");
 
-/* How much is told of a chunk. */
-typedef struct {
-    size_t rows;  /* how many rows there are */
-    size_t way;   /* how many rows of the way to the flaw stand behind them, the last state first */
-    size_t other; /* how many rows of another way stand behind those, of a conflict alone */
-    size_t bases; /* how many bases all of these have */
-} grain_explained;
-GRAIN_ASSERT(sizeof(grain_explained) == 4 * sizeof(size_t) && offsetof(grain_explained, way) == sizeof(size_t) &&
-                 offsetof(grain_explained, other) == 2 * sizeof(size_t) &&
-                 offsetof(grain_explained, bases) == 3 * sizeof(size_t),
-             "grain_explained");
+/* What an explanation has: how many rows of each kind, one kind after another, how many bases, and why the chunk is
+ * refused, where it is. */
+typedef struct grain_explanation {
+    size_t rows;  /* what stands at each instruction that the walk visited */
+    size_t path;  /* a path to the flaw, from the chunk's entry on; its last row shows the flaw */
+    size_t other; /* for a conflict: another path to the same address */
+    size_t bases;
+    grain_refusal refusal; /* written where the chunk is refused; its chunk is GRAIN_WHOLE_PROGRAM */
+} grain_explanation;
 
-/* Verifies a program: its code, its chunks, and what it has beside them. GRAIN_ACCEPTED: the number of each chunk is
- * written, the greatest operand count that any run of it reaches, and the other numbers stay; and *looked, how many
- * places the chunks reach, each for itself, which is what their walks have visited. GRAIN_REFUSED: why is written; and
- * *looked, what the walks have visited until then, which is no more than the chunks have instructions, each for itself.
- * Else nothing is. That pools are flat is tested first, and then the length of the list for the numbers.
+/* Where pools aren't flat: a grain_list and an index into it. The entry there is wrong, or has more steps, cases or ranges
+ * than there are; or no chain, switch or start is left for it. */
+typedef struct grain_pools_flaw {
+    uint32_t list;
+    uint64_t index;
+} grain_pools_flaw;
+
+/* Verifies a program for a host that has these capabilities.
  *
- * No run of what is accepted leaves the starts of its chunk's instructions or lacks an operand, an iterator or a handler,
- * and none has more operands than the number. That is said of kept runs, in which a fault that a handler catches finds at
- * least what stood on the stacks when the handler was armed. So a machine has to step as docs/FORMAT.md says
- * ("Verification"), and at the eight quiet instructions (Unit, Bool, Pop, Rotate, PopHandler, IterDrop, UnwindTo, Return;
- * grain_is_quiet) it has to fault never, or only with at least that much left; at all others accepted code sees to it. */
-uint32_t grain_verify(uint16_t caps, const uint8_t *code, size_t code_len, const grain_chunk *chunks, size_t chunks_len,
-                      const grain_pools *pools, uint16_t *numbers, size_t numbers_len, grain_fault *fault,
-                      uint64_t *looked);
+ * GRAIN_ACCEPTED: the depth of each chunk is written, which is the greatest number of operands that any run of it reaches.
+ * GRAIN_REFUSED: report->refusal is written. In both cases report->visited is written: how many instructions the walks
+ * visited, counted for each chunk apart. All other answers leave everything as it was. Other places of `depths` stay too.
+ *
+ * No run of an accepted program leaves the instructions of its chunk, lacks an operand, an iterator or a handler, or has
+ * more operands than the chunk's depth. This is said of kept runs: where a handler catches a fault, at least what stood on
+ * the stacks when the handler was armed still stands. Accepted code ensures that at every instruction except the eight
+ * quiet ones (grain_is_quiet). So the machine must step as FORMAT.md says ("Verification"); and at a quiet instruction it
+ * must never fault, or only where that much is left.
+ *
+ * `scratch` keeps memory from one program to the next; NULL: memory for this call alone. The answer is right whatever the
+ * scratch was used for before. `limit` bounds the work: GRAIN_TOO_MUCH_WORK where the chunks span more bytes of the code
+ * than this, each chunk counted for itself, so that `visited` never exceeds it. Chunks of one program usually don't
+ * overlap: the length of the code is then enough. `report` may be NULL.
+ *
+ * Tested in this order: the pools are flat, `depths` has a place for each chunk, the limit, then the program. */
+GRAIN_NODISCARD grain_status grain_verify(grain_scratch *scratch, uint16_t caps, uint64_t limit, const grain_program *program,
+                                          uint16_t *depths, size_t depths_len, grain_report *report);
 
-/* Verifies a program as grain_verify does, with the same answers, in the memory that the scratch keeps, whatever it was used
- * for before. It takes memory only where the scratch keeps less than the program wants, and the scratch keeps as much as
- * programs wanted most, until grain_scratch_free is called. Where memory was refused it may keep less than before. */
-uint32_t grain_verify_with(grain_scratch *scratch, uint16_t caps, const uint8_t *code, size_t code_len,
-                           const grain_chunk *chunks, size_t chunks_len, const grain_pools *pools, uint16_t *numbers,
-                           size_t numbers_len, grain_fault *fault, uint64_t *looked);
+/* Verifies as grain_verify does. GRAIN_ACCEPTED: the program's chunks are written to `tightened`, each declaring its depth;
+ * with these the program is accepted again. */
+GRAIN_NODISCARD grain_status grain_tighten(grain_scratch *scratch, uint16_t caps, uint64_t limit, const grain_program *program,
+                                           grain_chunk *tightened, size_t tightened_len, grain_report *report);
 
-/* Frees what the scratch keeps. It may be used again. */
+/* Frees what the scratch keeps. It may be used again. NULL: nothing happens. */
 void grain_scratch_free(grain_scratch *scratch);
 
-/* Verifies a program as grain_verify does, and has each chunk declare its number. GRAIN_ACCEPTED: each max_stack is the
- * chunk's number, with which the program is accepted again, all else of the chunks stays, and *looked is written.
- * GRAIN_REFUSED: why is written, and *looked. Else nothing is. That pools are flat is tested first. */
-uint32_t grain_tighten(uint16_t caps, const uint8_t *code, size_t code_len, grain_chunk *chunks, size_t chunks_len,
-                       const grain_pools *pools, grain_fault *fault, uint64_t *looked);
+/* Whether pools are flat. Where they aren't, *flaw says which list and which entry. `flaw` may be NULL. */
+bool grain_check_pools(const grain_pools *pools, grain_pools_flaw *flaw);
 
-/* Explains a chunk of a program: what stands at each instruction that ways along its edges come to, in the order of
- * addresses, of a refused one at those that were come to until then; and where it is refused a way to its flaw, the
- * last state first, of a conflict another way to the same address too. GRAIN_ACCEPTED: the chunk passes, and the rows
- * are a stack typing of it and just what is reached. GRAIN_REFUSED: why is written, of no chunk by its place; the first
- * row of the way shows the flaw. In both cases the rows, then those of the way and of the other way, stand in front of
- * the list, as many as it has places for, and so do their bases; and how many there are stands in *explained.
- * GRAIN_UNEXPLAINED, GRAIN_OUT_OF_MEMORY, GRAIN_NOT_FLAT: nothing is written. That pools are flat is tested first.
- * Constants and functions aren't looked at. It takes memory for all rows with their bases, however long the lists are. */
-uint32_t grain_explain(uint16_t caps, const uint8_t *code, size_t code_len, const grain_chunk *chunk,
-                       const grain_pools *pools, grain_row *rows, size_t rows_len, grain_base *bases, size_t bases_len,
-                       grain_explained *explained, grain_fault *fault);
+/* Explains a chunk of a program, the one with this index. Constants and functions aren't tested.
+ *
+ * GRAIN_ACCEPTED: the chunk passes. The rows are a stack typing of it, in the order of addresses, and just what is reached.
+ * GRAIN_REFUSED: explanation->refusal is written. Each row is reached. The path leads to the flaw; it is empty where the
+ * chunk itself lies, begins or ends where it may not. In both cases rows, path and other path are written one after
+ * another, as many as there are places, and so are the bases; explanation->rows, path, other and bases say how many there
+ * are. All other answers leave everything as it was.
+ *
+ * At most (end - entry) rows of each kind and as many bases are written. Time and memory grow with the instructions
+ * visited and the arms of the switches among them (COSTS.md). */
+GRAIN_NODISCARD grain_status grain_explain(uint16_t caps, const grain_program *program, size_t chunk, grain_row *rows,
+                                           size_t rows_len, grain_base *bases, size_t bases_len,
+                                           grain_explanation *explanation);
 
-/* The text of a refusal, in ASCII and without a 0 at its end. GRAIN_WRITTEN: it stands in front of the room, and how
- * many bytes it has in *size. GRAIN_SHORT: the latter alone is written. GRAIN_NO_REFUSAL: nothing is. No text is longer
- * than 128 bytes. It takes no memory, so that GRAIN_OUT_OF_MEMORY isn't answered any more. */
-uint32_t grain_fault_text(const grain_fault *fault, uint8_t *text, size_t text_len, size_t *size);
+/* Writes the explanation of a chunk as a listing, piece by piece, through the caller's function. It is given `context`, and
+ * a line or a part of one, which isn't ended by 0. If it returns other than 0, the listing ends: GRAIN_STOPPED. All other
+ * answers are those of grain_explain. The function must return: no jump and no exception may leave it.
+ *
+ * The listing is printable ASCII and line feeds (FORMAT.md, "Listings"). Names are escaped, so that none can forge a line.
+ * Where the program is refused for a constant, its code or its functions, the first line says so; other chunks aren't
+ * tested. It is all that is written where the answer is GRAIN_BAD_CODE. */
+typedef int grain_put(void *context, const char *text, size_t length);
+GRAIN_NODISCARD grain_status grain_listing(uint16_t caps, const grain_program *program, size_t chunk, grain_put *put,
+                                           void *context);
 
-/* Whether instructions that begin with this byte are quiet (above, at grain_verify). Of a byte with which none begins
- * nothing is said. */
-bool grain_is_quiet(uint8_t tag);
+/* Room for the longest text of the next two calls, with the 0 that ends it. */
+#define GRAIN_TEXT_SIZE 129
 
-/* The number of the library's interface, GRAIN_INTERFACE where this header is its own. */
-uint32_t grain_interface(void);
+/* Writes a refusal as a line of ASCII (FORMAT.md). Like snprintf: writes as much as there is room for, always ended by 0
+ * unless size is 0, and answers how long the text is. 0: the record is no refusal, and nothing is written. */
+size_t grain_refusal_text(const grain_refusal *refusal, char *text, size_t size);
 
-/* Counts the instructions of the whole code, or says false and gives the address of the first thing that is none. */
-bool grain_count_instructions(const uint8_t *code, size_t code_len, size_t *count);
+/* Writes the instruction at an address: its name and its fields, such as "CALL 3 2"; as grain_refusal_text does. 0: no
+ * instruction stands there, and nothing is written. */
+size_t grain_instruction_text(const uint8_t *code, size_t code_len, size_t at, char *text, size_t size);
 
-/* The instruction at an address; false, and nothing is written, where none stands there. */
+/* Counts the instructions of the code. false: *damage is the address of the first thing that is none, and *count stays. */
+bool grain_count_instructions(const uint8_t *code, size_t code_len, size_t *count, size_t *damage);
+
+/* The instruction at an address; false, and nothing is written, where none stands there. A machine decodes faster by
+ * GRAIN_INSTRUCTIONS (grain_instructions.h). */
 bool grain_instruction(const uint8_t *code, size_t code_len, size_t at, grain_instruction_row *instruction);
 
-/* The text of the instruction at an address, in ASCII and without a 0 at its end: what it is called (the name of its
- * GRAIN_TAG) and its fields in order, with a space before each, as CALL 3 2. GRAIN_WRITTEN: it stands in front of the
- * room, and how many bytes it has in *size. GRAIN_SHORT: the latter alone is written. GRAIN_NO_INSTRUCTION: nothing is.
- * No text is longer than 128 bytes. */
-uint32_t grain_instruction_text(const uint8_t *code, size_t code_len, size_t at, uint8_t *text, size_t text_len,
-                                size_t *size);
+/* Whether instructions with this tag are quiet (see grain_verify). Nothing is said of other bytes. */
+bool grain_is_quiet(uint8_t tag);
 
-/* The line and the column of an address in an address table; false, and nothing is written, where there are none. */
-bool grain_site(const uint8_t *table, size_t table_len, uint32_t address, uint32_t *line, uint32_t *column);
+/* The place of an address in an address table; false, and nothing is written, where the table has none. */
+bool grain_site(const uint8_t *table, size_t table_len, uint32_t address, grain_place *place);
 
-/* Whether bytes are an address table: GRAIN_SOUND, or what is wrong first and *named. */
-uint32_t grain_check_table(const uint8_t *table, size_t table_len, uint64_t *named);
+/* Whether bytes are an address table. */
+grain_table_flaw grain_check_table(const uint8_t *table, size_t table_len, uint64_t *named);
 
-/* The entries of an address table in order, in one pass: those in front of the first damage (grain_check_table says whether
- * there is some). They stand in front of the list, as many as it has places for, and how many there are in *count.
- * GRAIN_WRITTEN: the list has a place for each. GRAIN_SHORT: it has fewer. An entry takes 3 bytes of the table or more. */
-uint32_t grain_table_entries(const uint8_t *table, size_t table_len, grain_entry *entries, size_t entries_len,
-                             size_t *count);
+/* Writes the entries of an address table in order, as many as there are places, and answers how many there are: those
+ * before the first damage. An entry takes at least 3 bytes of the table. */
+size_t grain_table_entries(const uint8_t *table, size_t table_len, grain_entry *entries, size_t entries_len);
 
-/* The line and the column that a stream records for a slot; false, and nothing is written, where it records none. */
-bool grain_stream_site(const uint8_t *stream, size_t stream_len, uint32_t slot, uint32_t *line, uint32_t *column);
+/* The place that a stream records for a slot; false, and nothing is written, where it records none. */
+bool grain_stream_site(const uint8_t *stream, size_t stream_len, uint32_t slot, grain_place *place);
 
-/* Whether bytes are a stream: GRAIN_SOUND, or what is wrong first and *named. */
-uint32_t grain_check_stream(const uint8_t *stream, size_t stream_len, uint64_t *named);
+/* Whether bytes are a stream. */
+grain_table_flaw grain_check_stream(const uint8_t *stream, size_t stream_len, uint64_t *named);
 
-/* The sites of a stream, slot by slot: they stand in front of the list, as many as it has places for, and how many slots
- * there are in *count. GRAIN_WRITTEN: the list has a place for each. GRAIN_SHORT: it has fewer. GRAIN_NO_STREAM: the bytes
- * are none, and nothing is written. A slot takes 2 bytes of the stream or more. */
-uint32_t grain_stream_sites(const uint8_t *stream, size_t stream_len, grain_place *sites, size_t sites_len, size_t *count);
+/* Writes the places of a stream, slot by slot, as many as there are places, and *count, how many slots there are. false, and
+ * nothing is written: the bytes are no stream. A slot takes at least 2 bytes of the stream. */
+bool grain_stream_sites(const uint8_t *stream, size_t stream_len, grain_place *sites, size_t sites_len, size_t *count);
+
+/* GRAIN_INTERFACE of the library. */
+uint32_t grain_interface(void);
+
+/* The version of the library, such as "0.2.0". */
+const char *grain_version(void);
+
+/* How the library allocates: by malloc, realloc and free of the C library. A program that links libgrain.a may define
+ * these three itself, all of them; its own then replace the library's. No size is 0. `alignment` is a power of two, at most
+ * 16; `old_size` is that of the block. NULL refuses; after a refused grain_realloc the old block stays. */
+void *grain_alloc(size_t size, size_t alignment);
+void *grain_realloc(void *block, size_t old_size, size_t size, size_t alignment);
+void grain_dealloc(void *block);
+
+/* Otherwise the layouts aren't those of the library. */
+typedef char grain_requires_64_bits[sizeof(size_t) == 8 && sizeof(void *) == 8 ? 1 : -1];
+typedef char grain_requires_enums_of_4_bytes[sizeof(grain_status) == 4 && sizeof(grain_table_flaw) == 4 ? 1 : -1];
 
 #ifdef __cplusplus
 }
 #endif
+#undef GRAIN_NODISCARD
 #endif

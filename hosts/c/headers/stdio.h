@@ -1,2 +1,2 @@
-/* For the kit's clang, which comes without headers: what the example asks of them. */
+/* For the kit's clang, which comes without headers: what the library and its tests need of them. */
 int printf(const char *, ...);

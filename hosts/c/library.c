@@ -1,0 +1,160 @@
+/* The functions of grain.h over the proved ones of crates/grain_c: each replaces NULL, and calls. */
+#include "layout.h"
+#include "proved.h"
+
+const uint32_t grain_interface_2 = GRAIN_INTERFACE;
+
+/* What an empty list points to. It is aligned to each type of items, and nothing is read or written there. */
+static uint64_t nothing;
+
+/* The starts where there are no names. */
+static const uint32_t no_names[] = {0};
+
+static const void *some(const void *list) {
+    return list != NULL ? list : &nothing;
+}
+
+static void *some_room(void *list) {
+    return list != NULL ? list : &nothing;
+}
+
+/* Whether pools may be passed on as they are. */
+static bool is_whole(const grain_pools *pools) {
+    return pools->constants != NULL && pools->names != NULL && pools->starts_len != 0 && pools->chains != NULL &&
+           pools->steps != NULL && pools->switches != NULL && pools->cases != NULL && pools->ranges != NULL;
+}
+
+/* The pools with a pointer in place of each NULL, and with starts where there are no names and no starts. */
+static grain_pools whole(const grain_pools *pools) {
+    grain_pools made = *pools;
+    made.constants = some(made.constants);
+    made.names = some(made.names);
+    made.starts = some(made.starts);
+    made.chains = some(made.chains);
+    made.steps = some(made.steps);
+    made.switches = some(made.switches);
+    made.cases = some(made.cases);
+    made.ranges = some(made.ranges);
+    if (made.starts_len == 0 && made.names_len == 0) {
+        made.starts = no_names;
+        made.starts_len = 1;
+    }
+    return made;
+}
+
+/* The program itself, or where it has a NULL the copy, which is made for it. */
+static const grain_program *whole_program(const grain_program *program, grain_program *copy) {
+    if (program->code != NULL && program->chunks != NULL && is_whole(&program->pools))
+        return program;
+    copy->code = some(program->code);
+    copy->code_len = program->code_len;
+    copy->chunks = some(program->chunks);
+    copy->chunks_len = program->chunks_len;
+    copy->pools = whole(&program->pools);
+    return copy;
+}
+
+grain_status grain_verify(grain_scratch *scratch, uint16_t caps, uint64_t limit, const grain_program *program,
+                          uint16_t *depths, size_t depths_len, grain_report *report) {
+    grain_program copy;
+    grain_report unread = {{0, 0, 0, 0, 0}, 0};
+    program = whole_program(program, &copy);
+    depths = some_room(depths);
+    report = report != NULL ? report : &unread;
+    if (scratch == NULL)
+        return (grain_status)grain_proved_verify(caps, limit, program, depths, depths_len, report);
+    return (grain_status)grain_proved_verify_with(scratch, caps, limit, program, depths, depths_len, report);
+}
+
+grain_status grain_tighten(grain_scratch *scratch, uint16_t caps, uint64_t limit, const grain_program *program,
+                           grain_chunk *tightened, size_t tightened_len, grain_report *report) {
+    grain_program copy;
+    grain_report unread = {{0, 0, 0, 0, 0}, 0};
+    grain_scratch own = GRAIN_SCRATCH_NONE;
+    program = whole_program(program, &copy);
+    tightened = some_room(tightened);
+    report = report != NULL ? report : &unread;
+    if (scratch != NULL)
+        return (grain_status)grain_proved_tighten(scratch, caps, limit, program, tightened, tightened_len, report);
+    uint32_t status = grain_proved_tighten(&own, caps, limit, program, tightened, tightened_len, report);
+    grain_proved_scratch_free(&own);
+    return (grain_status)status;
+}
+
+void grain_scratch_free(grain_scratch *scratch) {
+    if (scratch != NULL)
+        grain_proved_scratch_free(scratch);
+}
+
+bool grain_check_pools(const grain_pools *pools, grain_pools_flaw *flaw) {
+    grain_pools_flaw unread = {0, 0};
+    grain_pools copy;
+    if (!is_whole(pools)) {
+        copy = whole(pools);
+        pools = &copy;
+    }
+    return grain_proved_check_pools(pools, flaw != NULL ? flaw : &unread);
+}
+
+grain_status grain_explain(uint16_t caps, const grain_program *program, size_t chunk, grain_row *rows, size_t rows_len,
+                           grain_base *bases, size_t bases_len, grain_explanation *explanation) {
+    grain_program copy;
+    program = whole_program(program, &copy);
+    return (grain_status)grain_proved_explain(caps, program, chunk, some_room(rows), rows_len, some_room(bases), bases_len,
+                                              explanation);
+}
+
+size_t grain_refusal_text(const grain_refusal *refusal, char *text, size_t size) {
+    return grain_proved_refusal_text(refusal, some_room(text), size);
+}
+
+size_t grain_instruction_text(const uint8_t *code, size_t code_len, size_t at, char *text, size_t size) {
+    return grain_proved_instruction_text(some(code), code_len, at, some_room(text), size);
+}
+
+bool grain_count_instructions(const uint8_t *code, size_t code_len, size_t *count, size_t *damage) {
+    return grain_proved_count_instructions(some(code), code_len, count, damage);
+}
+
+bool grain_instruction(const uint8_t *code, size_t code_len, size_t at, grain_instruction_row *instruction) {
+    return grain_proved_instruction(some(code), code_len, at, instruction);
+}
+
+bool grain_is_quiet(uint8_t tag) {
+    return grain_proved_is_quiet(tag);
+}
+
+bool grain_site(const uint8_t *table, size_t table_len, uint32_t address, grain_place *place) {
+    return grain_proved_site(some(table), table_len, address, place);
+}
+
+grain_table_flaw grain_check_table(const uint8_t *table, size_t table_len, uint64_t *named) {
+    return (grain_table_flaw)grain_proved_check_table(some(table), table_len, named);
+}
+
+size_t grain_table_entries(const uint8_t *table, size_t table_len, grain_entry *entries, size_t entries_len) {
+    return grain_proved_table_entries(some(table), table_len, some_room(entries), entries_len);
+}
+
+bool grain_stream_site(const uint8_t *stream, size_t stream_len, uint32_t slot, grain_place *place) {
+    return grain_proved_stream_site(some(stream), stream_len, slot, place);
+}
+
+grain_table_flaw grain_check_stream(const uint8_t *stream, size_t stream_len, uint64_t *named) {
+    return (grain_table_flaw)grain_proved_check_stream(some(stream), stream_len, named);
+}
+
+bool grain_stream_sites(const uint8_t *stream, size_t stream_len, grain_place *sites, size_t sites_len, size_t *count) {
+    return grain_proved_stream_sites(some(stream), stream_len, some_room(sites), sites_len, count);
+}
+
+uint32_t grain_interface(void) {
+    return grain_proved_interface();
+}
+
+#define TEXT_OF(number) #number
+#define DOTTED(major, minor, patch) TEXT_OF(major) "." TEXT_OF(minor) "." TEXT_OF(patch)
+
+const char *grain_version(void) {
+    return DOTTED(GRAIN_VERSION_MAJOR, GRAIN_VERSION_MINOR, GRAIN_VERSION_PATCH);
+}
