@@ -15,7 +15,7 @@ use Rattle.grain_rules.proofs.Once.{stands_once}
 use Rattle.grain_explain.specs.Certificate.{IsCertificate, RowLacks, RowsFlaw}
 use Rattle.grain_explain.specs.Claimed.{ArePlaced, AreSound, IsLaid, code_claimed, span_claimed}
 use Rattle.grain_explain.specs.Lacking.{FindsLacking}
-use Rattle.grain_explain.specs.RowView.{AreAscending, counts_of, no_base, typing_of}
+use Rattle.grain_explain.specs.RowView.{counts_of, no_base, typing_of}
 use Rattle.grain_explain.specs.declared.claim.Claim.{Claim}
 use Rattle.grain_explain.specs.declared.error.TypingError.{TypingError}
 use Rattle.grain_explain.specs.declared.error.TypingError.TheVariants as errors

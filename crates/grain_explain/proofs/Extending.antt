@@ -1,5 +1,5 @@
 -- What stays where bases are added.
-use Rattle.std.proofs.Common.{◌≡◌, ◌++◌, ◌∷◌, [], ℕ, ◌≤◌, List, length, length-append, get_or, Option, None, Some, refl, sym, ap, subst, ◌∙◌, append_assoc, arith}
+use Rattle.std.proofs.Common.{◌≡◌, ◌++◌, ◌∷◌, [], ℕ, ◌≤◌, List, length, length-append, get_or, Option, None, Some, sym, ap, subst, ◌∙◌, append_assoc, arith}
 use Rattle.std.specs.List.{All}
 use Rattle.std.specs.Prelude.{MatchOption}
 use Rattle.std.proofs.lemmas.List.{append-nil}
@@ -9,7 +9,7 @@ use Rattle.grain_rules.specs.Counts.{Base, Counts}
 use Rattle.grain_rules.specs.Typing.{Reached}
 use Rattle.grain_explain.specs.OnEdges.{IsListedIn, counts_on, handlers_in}
 use Rattle.grain_explain.specs.RowView.{AreLinked, base_of, counts_of, list_in}
-use Rattle.grain_explain.specs.Scenes.{AreCome, Extends, IsCome, Lands, code_seen, stacks_in}
+use Rattle.grain_explain.specs.Scenes.{AreCome, Extends, IsCome, Lands, code_seen}
 use Rattle.grain_explain.specs.Ways.{Follows, Stop, arrival_stop, first_stop}
 use Rattle.grain_explain.specs.declared.arrival.Arrival.{Arrival}
 use Rattle.grain_explain.specs.declared.edge.Handlers.{Handlers}

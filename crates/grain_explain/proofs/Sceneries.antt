@@ -10,8 +10,7 @@ use Rattle.std.proofs.lemmas.List.{get_or-set_other, get_or_default, get_or_past
 use Rattle.std.proofs.lemmas.Option.{none-some, same_Some}
 use Rattle.grain_code.specs.Split.{Split}
 use Rattle.grain_code.proofs.Splits.{one_split}
-use Rattle.grain_code.specs.Span.{Span}
-use Rattle.grain_rules.specs.Code.{Bytecode, coded}
+use Rattle.grain_rules.specs.Code.{coded}
 use Rattle.grain_rules.specs.Counts.{Counts}
 use Rattle.grain_rules.specs.Effects.{Edge}
 use Rattle.grain_rules.specs.FlowFields.{falls_for, targets_for}

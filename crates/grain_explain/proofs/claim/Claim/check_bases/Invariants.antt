@@ -1,6 +1,5 @@
 use Rattle.std.proofs.Common.{ℕ, ◌<◌, ◌≤◌, slice_index_or}
 use Rattle.grain_explain.specs.RowView.{no_base}
-use Rattle.grain_explain.specs.declared.row.LinkedBase.{LinkedBase}
 use Rattle.grain_explain.proofs.claim.Claim.check_bases.Given as goal
 
 abbrev pub invariant-loop-base : goal.invariant-loop-base

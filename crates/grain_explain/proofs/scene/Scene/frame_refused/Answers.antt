@@ -1,5 +1,4 @@
 use Rattle.std.proofs.Common.{[]}
-use Rattle.std.specs.List.{All}
 use Rattle.std.proofs.lemmas.List.Elements.{All-nil}
 use Rattle.grain_explain.specs.Explaining.{IsReachedRow}
 use Rattle.grain_explain.specs.Scenes.{code_seen}

@@ -1,4 +1,4 @@
-use Rattle.std.proofs.Common.{◌≡◌, ◌+◌, ◌≤◌, ℕ, List, ap, length, subst, sym, ◌∙◌}
+use Rattle.std.proofs.Common.{◌+◌, ◌≤◌, ℕ, List, ap, length, subst, sym, ◌∙◌}
 use Rattle.std.specs.List.{All}
 use Rattle.grain_rules.specs.Code.{coded}
 use Rattle.grain_rules.specs.Counts.{Counts}

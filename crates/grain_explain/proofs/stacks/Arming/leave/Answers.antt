@@ -1,5 +1,4 @@
 use Rattle.std.proofs.Common.{◌≡◌, ◌≤◌, List, length, ap, sym, subst, ◌∙◌, arith}
-use Rattle.grain_rules.specs.Counts.{Counts}
 use Rattle.grain_rules.specs.EffectView.{flow_view}
 use Rattle.grain_rules.specs.FlowFields.{fall_for}
 use Rattle.grain_explain.specs.Claimed.{falling_on}
