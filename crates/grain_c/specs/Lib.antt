@@ -2,4 +2,5 @@ pub mod Answers
 pub mod TableFlaws
 pub mod Written
 -- what the parts of an export promise each other
+pub mod Judging
 pub mod Keeps
