@@ -8,7 +8,8 @@ use Rattle.grain_flat.specs.Work.{work_of}
 use Rattle.grain_flat.specs.declared.records.CProgram.{CProgram}
 use Rattle.grain_flat.specs.declared.records.CReport.{CReport}
 use Rattle.grain_flat.proofs.VisitBounds.{accepted_within, refused_within}
-use Rattle.grain_c.specs.Answers.{IsAnswer, IsClear}
+use Rattle.grain_c.specs.Answers.{IsAnswer}
+use Rattle.grain_c.specs.Judging.{IsClear}
 use Rattle.grain_c.specs.declared.status.TheConstants.{ACCEPTED, REFUSED}
 
 -- what a meter that began at nothing shows of what is within the limit

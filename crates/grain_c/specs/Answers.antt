@@ -1,6 +1,5 @@
 -- What a verification answers.
-use Rattle.std.specs.Prelude.{◌≡◌, ◌≢◌, ◌⊎◌, ◌↔◌, ℕ, ◌<◌, ◌≤◌, All, Option, Result, Ok, Err, Vec, length}
-use Rattle.std.specs.declared.alloc.Global.{Global}
+use Rattle.std.specs.Prelude.{◌≡◌, ◌≢◌, ◌⊎◌, ◌↔◌, ℕ, ◌<◌, ◌≤◌, All, Option, length}
 use Rattle.grain_rules.specs.declared.error.VerifyError.{VerifyError}
 use Rattle.grain_flat.specs.Answers.{Refuses, Visits, VisitsWithin, told}
 use Rattle.grain_flat.specs.Asking.{RowPasses}
@@ -28,21 +27,3 @@ pub record IsAnswer (caps limit : ℕ) (program : CProgram) (room : ℕ) (old ne
   -- what stays as it was
   pub refusal_kept : status ≢ REFUSED → new.refusal ≡ old.refusal
   pub visited_kept : status ≢ ACCEPTED → status ≢ REFUSED → new.visited ≡ old.visited
-
--- where depths are found, the program is accepted
-abbrev pub status_of : Result (Vec ℕ Global) ℕ → ℕ
-status_of (Ok depths) = ACCEPTED
-status_of (Err status) = status
-
--- what a call answers before any verification, if it does
-pub record IsBar (limit : ℕ) (program : CProgram) (room : ℕ) (status : ℕ) : Type 0 where
-  pub not_flat : (status ≡ NOT_FLAT) ↔ (Pooled program.pools → ⊥)
-  pub short : (status ≡ SHORT) ↔ (Pooled program.pools × (room < length program.chunks.now))
-  pub limited : (status ≡ TOO_MUCH_WORK) ↔ (Pooled program.pools × (length program.chunks.now ≤ room) × (limit < work_of program.code.now program.chunks.now))
-  pub one_of : (status ≡ NOT_FLAT) ⊎ (status ≡ SHORT) ⊎ (status ≡ TOO_MUCH_WORK)
-
--- nothing bars a verification
-pub record IsClear (limit : ℕ) (program : CProgram) (room : ℕ) : Type 0 where
-  pub pooled : Pooled program.pools
-  pub fits : length program.chunks.now ≤ room
-  pub within : work_of program.code.now program.chunks.now ≤ limit

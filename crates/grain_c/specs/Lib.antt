@@ -3,4 +3,5 @@ pub mod Explained
 pub mod TableFlaws
 pub mod Written
 -- what the parts of an export promise each other
+pub mod Judging
 pub mod Keeps

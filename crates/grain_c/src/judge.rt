@@ -1,6 +1,7 @@
 //! What all verifications do, whatever they write for an accepted program.
 ghost use Rattle.std.specs.Prelude.{◌≡◌, ◌≢◌, ◌-◌, ◌^◌, ◌≤◌, IfErr, IfNone, IfOk, IfSome, OnOk, length, min};
-ghost use Rattle.grain_c.specs.Answers.{IsAnswer, IsBar, IsClear, status_of};
+ghost use Rattle.grain_c.specs.Answers.{IsAnswer};
+ghost use Rattle.grain_c.specs.Judging.{IsBar, IsClear, status_of};
 ghost use Rattle.grain_flat.specs.Answers.{Accepts};
 ghost use Rattle.grain_flat.specs.Flat.{IsFlat};
 
