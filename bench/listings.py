@@ -134,8 +134,15 @@ def edges(code, at, state):
     raise ValueError(row.flow)
 
 
-def state_of(shown):
-    return State(shown["operands"], shown["iterators"], tuple((base["operands"], base["iterators"]) for base in shown["bases"]))
+def is_shown(state, shown):
+    """Whether a state is shown so: with the innermost four bases, and how many there are."""
+    bases = tuple((base["operands"], base["iterators"]) for base in shown["bases"])
+    return (state.operands, state.iterators, len(state.bases), state.bases[:4]) == (
+        shown["operands"],
+        shown["iterators"],
+        shown["handlers"],
+        bases,
+    )
 
 
 def expect(holds, why):
@@ -159,23 +166,37 @@ def check_items(code, items, entry, end):
         expect(item["falls"] == (row.flow not in ("jumps", "ends", "switches")), "falls")
 
 
-def check_origins(code, caps, chunk):
-    """Each row was come to from where it says."""
-    held = {item["at"]: state_of(item["state"]) for item in chunk["items"] if item["state"]}
-    for item in chunk["items"]:
-        if item["state"] is None:
-            expect(item["from"] is None, "no row, and come to")
-        elif item["from"] is None:
-            expect((item["at"], held[item["at"]]) == (chunk["entry"], EMPTY), "an origin is lacking")
-        else:
-            expect(lack(code, caps, item["from"], held[item["from"]]) is None, "an origin lacks something")
-            jumps, falls = edges(code, item["from"], held[item["from"]])
-            expect((item["at"], held[item["at"]]) in jumps + falls, f"{item['at']} isn't come to from there")
+def state_behind(code, caps, at, state, to, shown):
+    """The state on an edge from a state at an address to another address, which is shown so."""
+    expect(lack(code, caps, at, state) is None, f"a way goes on at {at}, where something lacks")
+    jumps, falls = edges(code, at, state)
+    found = [behind for target, behind in jumps + falls if target == to and is_shown(behind, shown)]
+    expect(found, f"no edge leads from {at} to {to} with what stands there")
+    return found[0]
 
 
-def check_typing(code, caps, chunk, most):
+def states_of(code, caps, chunk):
+    """The state of each row, which was come to from where it says."""
+    rows = {item["at"]: item for item in chunk["items"] if item["state"]}
+    expect(all(item["from"] is None for item in chunk["items"] if not item["state"]), "no row, and come to")
+    expect(all((item["from"] is None) == (at == chunk["entry"]) for at, item in rows.items()), "an origin is lacking")
+    expect(chunk["entry"] not in rows or is_shown(EMPTY, rows[chunk["entry"]]["state"]), "the entry")
+    onwards = collections.defaultdict(list)
+    for at, item in rows.items():
+        onwards[item["from"]].append(at)
+    held = {at: EMPTY for at in onwards[None]}
+    waiting = list(held)
+    while waiting:
+        at = waiting.pop()
+        for to in onwards[at]:
+            held[to] = state_behind(code, caps, at, held[at], to, rows[to]["state"])
+            waiting.append(to)
+    expect(set(held) == set(rows), "origins in a circle")
+    return held
+
+
+def check_typing(code, caps, chunk, held, most):
     """The rows are a typing of the chunk and just what is reached."""
-    held = {item["at"]: state_of(item["state"]) for item in chunk["items"] if item["state"]}
     expect(held.get(chunk["entry"]) == EMPTY, "the entry")
     work, seen = [chunk["entry"]], {chunk["entry"]}
     while work:
@@ -192,12 +213,13 @@ def check_typing(code, caps, chunk, most):
     expect(most <= chunk["declared"], "the declared stack")
 
 
-def check_way(code, caps, chunk, way):
-    expect(way and way[0]["at"] == chunk["entry"] and state_of(way[0]) == EMPTY, "a way begins at the entry")
+def last_state(code, caps, chunk, way):
+    """The last state of a way, which leads along edges from the entry."""
+    expect(way and way[0]["at"] == chunk["entry"] and is_shown(EMPTY, way[0]), "a way begins at the entry")
+    state = EMPTY
     for one, other in zip(way, way[1:]):
-        expect(lack(code, caps, one["at"], state_of(one)) is None, "a way goes on where something lacks")
-        jumps, falls = edges(code, one["at"], state_of(one))
-        expect((other["at"], state_of(other)) in jumps + falls, f"a way has a hole behind {one['at']}")
+        state = state_behind(code, caps, one["at"], state, other["at"], other)
+    return state
 
 
 def check_frame(code, chunk, error):
@@ -213,9 +235,9 @@ def check_frame(code, chunk, error):
 
 def has_flaw(code, caps, chunk, way, other, error):
     """Whether the last state of a way, or those of two ways, have the very flaw."""
-    at, state = way[-1]["at"], state_of(way[-1])
+    at, state = way[-1]["at"], last_state(code, caps, chunk, way)
     if error.startswith("depth-conflict"):
-        there = state_of(other[-1])
+        there = last_state(code, caps, chunk, other)
         return other[-1]["at"] == at and there != state and error == f"depth-conflict at={at} expected={state.operands} found={there.operands}"
     if error.startswith("stack-exceeds-declared"):
         return state.operands > chunk["declared"] and error == f"stack-exceeds-declared needed={state.operands} declared={chunk['declared']}"
@@ -234,15 +256,13 @@ def has_flaw(code, caps, chunk, way, other, error):
 def check_chunk(code, caps, chunk, most):
     refusal = chunk["refusal"]
     check_items(code, chunk["items"], chunk["entry"], chunk["end"])
-    check_origins(code, caps, chunk)
+    held = states_of(code, caps, chunk)
     if refusal is None:
         top = max((item["state"]["operands"] for item in chunk["items"] if item["state"]), default=0)
-        return check_typing(code, caps, chunk, top if most is None else most)
+        return check_typing(code, caps, chunk, held, top if most is None else most)
     if not refusal["way"]:
         return expect(check_frame(code, chunk, refusal["error"]), "the frame hasn't that flaw")
-    check_way(code, caps, chunk, refusal["way"])
-    if refusal["other"]:
-        check_way(code, caps, chunk, refusal["other"])
+    expect(bool(refusal["other"]) == refusal["error"].startswith("depth-conflict"), "another way, and no conflict")
     expect(has_flaw(code, caps, chunk, refusal["way"], refusal["other"], refusal["error"]), "the way shows another flaw")
 
 
@@ -317,7 +337,8 @@ def check_line(line, verdict, listing):
 
 def state_text(state):
     pairs = [f"{base['operands']}/{base['iterators']}" for base in state["bases"]]
-    shown = " ".join(pairs[:4]) + (f" and {len(pairs) - 4} more" if len(pairs) > 4 else "")
+    more = state["handlers"] - len(pairs)
+    shown = " ".join(pairs) + (f" and {more} more" if more else "")
     return f"{state['operands']:>8} {state['iterators']:>9}  {shown or '-'}".ljust(30)
 
 
