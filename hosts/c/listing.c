@@ -30,8 +30,8 @@ typedef struct {
     grain_explanation found;
     size_t room;       /* how many rows of one kind there is room for, and how many bases */
     grain_row *rows;   /* three times as many as there is room for */
-    grain_base *bases; /* and for each base how many handlers are armed */
-    uint32_t *armed;
+    grain_base *bases;
+    uint32_t *armed; /* for each base how many handlers are armed */
 } listing;
 
 static void flush(writer *out) {
