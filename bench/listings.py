@@ -370,7 +370,7 @@ def chunk_text(place, chunk):
         lines.append("  address  bytes           operands iterators  bases     instruction")
     flaw = refusal["way"][-1]["at"] if refusal and refusal["way"] else None
     for item in chunk["items"]:
-        stands = state_text(item["state"]) if item["state"] else f"  not {'come to' if refusal else 'reached'}".ljust(30)
+        stands = state_text(item["state"]) if item["state"] else f"  {'not visited' if refusal else 'unreachable'}".ljust(30)
         lines.append(item_text(item, stands) + ("  <== here" if item["at"] == flaw else ""))
     return lines + (refusal_text(refusal, {item["at"]: item for item in chunk["items"]}) if refusal else [])
 

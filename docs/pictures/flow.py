@@ -137,7 +137,7 @@ class Flow:
             self.picture.text(self.counts, y + 5, stands(state), 13, ink, mono=True)
             self.picture.text(self.handlers, y + 5, bases(state), 13, BLUE, mono=True)
         else:
-            self.picture.text(self.counts, y + 5, "not come to" if self.refusal else "not reached", 12, FAINT)
+            self.picture.text(self.counts, y + 5, "not visited" if self.refusal else "unreachable", 12, FAINT)
 
     def arrow(self, start, end, points, ink, dashed=False):
         is_red = (start["at"], end["at"]) in self.red

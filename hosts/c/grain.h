@@ -97,7 +97,7 @@ typedef enum grain_status {
     GRAIN_STOPPED = 9        /* the caller's function asked to stop */
 } grain_status;
 
-/* Why a program is refused. Beside each flaw: what `first` and `second` of its grain_refusal are; 0 where nothing is said. */
+/* Why a program is refused. Next to each flaw: what `first` and `second` of its grain_refusal are; 0 where nothing is said. */
 enum grain_flaw {
     GRAIN_FLAW_NONE = 0,
     GRAIN_FLAW_MISSING_CAPS = 1,             /* first: the missing capabilities, or for a constant all that it needs;
@@ -152,7 +152,7 @@ enum grain_tail {
     GRAIN_TAIL_ASSIGN_THROUGH = 2 /* op: the index of an op-assignment */
 };
 
-/* The first thing that is wrong with an address table or a stream. Beside each: what `*named` is. */
+/* The first thing that is wrong with an address table or a stream. Next to each: what `*named` is. */
 typedef enum grain_table_flaw {
     GRAIN_TABLE_SOUND = 0,         /* nothing is wrong, and *named isn't written */
     GRAIN_TABLE_TRUNCATED = 1,     /* 0 */
@@ -231,7 +231,7 @@ typedef struct grain_case {
     uint32_t constant;
 } grain_case;
 
-/* What a program has beside its code and its chunks, in flat form. GRAIN_POOLS_NONE is empty.
+/* What a program has besides its code and its chunks, in flat form. GRAIN_POOLS_NONE is empty.
  *
  * The steps of all chains stand one chain after another, and so do the cases and the ranges of all switches. `names` has
  * the bytes of all names, one after another; `starts` has one entry more than there are names: 0, and then where each

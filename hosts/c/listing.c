@@ -1,7 +1,7 @@
 /* grain_listing: what stands at each instruction of a chunk, and paths to its flaw, as text.
  *
  * Time and memory grow with the chunk and its explanation. So the innermost bases alone are written, and the first bytes of
- * long names: both can stand beside many instructions. */
+ * long names: both can appear at many instructions. */
 #include "grain.h"
 
 #define BASES_SHOWN 4
@@ -167,7 +167,7 @@ static void write_row(listing *l, size_t at, const grain_row *row, bool is_flaw)
             write_text(out, "  ");
     } else {
         pad_to(out, BYTES + 18);
-        write_text(out, l->is_refused ? "not visited" : "not reached");
+        write_text(out, l->is_refused ? "not visited" : "unreachable");
     }
     pad_to(out, INSTRUCTION);
     write_instruction(l, at);

@@ -101,11 +101,11 @@ static void handlers_are_listed(void) {
     CHECK(has("\n       24  02                     4         0  4/0 3/0 2/0 1/0  UNIT\n"));
     CHECK(has("\n       30  02                     5         0  5/0 4/0 3/0 2/0 and 1 more  UNIT\n"));
     CHECK(has("\n       36  13                     6         0  6/0 5/0 4/0 3/0 and 2 more  RETURN\n"));
-    CHECK(has("\n       37  12                not reached                 TICK\n"));
+    CHECK(has("\n       37  12                unreachable                 TICK\n"));
     CHECK(!has("<== here") && !has("path there"));
 }
 
-/* What is refused beside the chunk is said first. */
+/* What is refused outside the chunk is said first. */
 static void refused_programs_are_said(void) {
     static const grain_constant needy[] = {{1, GRAIN_CAP_ARRAY}};
     static const uint8_t bad[] = {0x02, 0xff};

@@ -25,7 +25,7 @@ static void *append(list *to, size_t size) {
 
 #define APPEND(to, type) (*(type *)append(to, sizeof(type)))
 
-/* A program as this host keeps it: the lists of the pools, and beside them what it needs to run and to report. */
+/* A program as this host keeps it: the lists of the pools, and what it needs to run and to report. */
 typedef struct {
     list code, names, starts, constants;
     list values; /* those of the constants */

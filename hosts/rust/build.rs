@@ -1,9 +1,9 @@
-//! Finds `libgrain.a`: in the folder that GRAIN_LIB_DIR names, else inside the package, else beside it.
+//! Finds `libgrain.a`: in the folder that GRAIN_LIB_DIR names, else inside the package, else next to it.
 use std::env;
 use std::path::{Path, PathBuf};
 use std::process::exit;
 
-/// Where it lies: inside the package, in a release beside it, and in the repository.
+/// Where it lies: inside the package, in a release next to it, and in the repository.
 const PLACES: [&str; 3] = ["lib", "../lib", "../out"];
 
 fn fail(sentence: &str) -> ! {

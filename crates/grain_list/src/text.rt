@@ -119,8 +119,8 @@ fn flaw_of(chunk: &ExplainedChunk) -> Option<usize> {
 /// What is said of an instruction without a row. The walk over a refused chunk stops at its flaw.
 fn unreached(chunk: &ExplainedChunk) -> &'static str {
     match chunk.refusal {
-        Some(_) => "  not come to",
-        None => "  not reached",
+        Some(_) => "  not visited",
+        None => "  unreachable",
     }
 }
 

@@ -1,5 +1,5 @@
 //! How a host calls the verifier: a program with a constant, names, a chain and a switch is accepted, and refused once a
-//! byte of it is changed. README.md has the text of the test.
+//! byte of it is changed.
 
 use grain::{
     Caps, Chain, Chunk, Dynamic, Flags, Pools, Position, Root, Step, StepFlags, Strings, Switch,

@@ -1,4 +1,4 @@
-//! README's loops, and its code with a handler, explained and checked.
+//! Loops, and code with a handler, explained and checked.
 use crate::samples::{assert_same, made, pools};
 use grain_base::{Caps, Flags};
 use grain_bytecode::{Chunk, Strings};
@@ -9,12 +9,12 @@ use grain_rules::VerifyError;
 use std::alloc::{AllocError, Global};
 use std::test::Fail;
 
-/// README's loop that is accepted, and the one without its `Pop`.
+/// The loop of README that is accepted, and the one without its `Pop`.
 const LOOP: [u8; 15] = [2, 29, 30, 13, 0, 0, 0, 11, 12, 2, 0, 0, 0, 2, 19];
 
 const BARE_LOOP: [u8; 14] = [2, 29, 30, 12, 0, 0, 0, 12, 2, 0, 0, 0, 2, 19];
 
-/// `verify 7fff 02230a0000000b122213220b13 0:13:8` of README.
+/// `verify 7fff 02230a0000000b122213220b13 0:13:8`, in which an instruction sinks below a handler.
 const SINKING: [u8; 13] = [2, 35, 10, 0, 0, 0, 11, 18, 34, 19, 34, 11, 19];
 
 /// A row without handlers: its address, its operands and its iterators.

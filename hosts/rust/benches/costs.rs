@@ -165,10 +165,10 @@ fn forget_peak() -> Option<u64> {
     peak()
 }
 
-/// Adds so many of an item to pools and chunks.
+/// Adds an item to pools and chunks, this number of times.
 type Add = fn(&mut Pools, &mut Vec<Chunk>, usize);
 
-/// What so many of an item add.
+/// What this number of an item adds.
 fn item(what: &str, many: usize, add: Add) {
     let code = [0x02, 0x13];
     let (mut pools, mut chunks) = (Pools::new(), vec![whole(&code)]);

@@ -63,7 +63,7 @@
 //! # Platform
 //!
 //! x86-64 Linux, on processors with `popcnt` (x86-64-v2), and Rust 1.74. The package links `libgrain.a`: that in the folder that
-//! GRAIN_LIB_DIR names, else `lib/libgrain.a` inside the package, else one beside the package, in `../lib` or `../out`. A library
+//! GRAIN_LIB_DIR names, else `lib/libgrain.a` inside the package, else one next to the package, in `../lib` or `../out`. A library
 //! of another interface doesn't link.
 #![warn(missing_docs)]
 

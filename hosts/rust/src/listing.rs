@@ -132,7 +132,7 @@ impl Explained<'_> {
         if self.refusal_of_chunk().is_some() {
             "not visited"
         } else {
-            "not reached"
+            "unreachable"
         }
     }
 

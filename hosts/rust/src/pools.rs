@@ -1,4 +1,4 @@
-//! What a program has beside its code and its chunks, built up item by item.
+//! What a program has besides its code and its chunks, built up item by item.
 use crate::flat::FlatPools;
 use crate::rows::{Case, ChainRow, Constant, Root, Step, StepRow, SwitchRow, Tail};
 use std::cell::Cell;
@@ -34,7 +34,7 @@ impl From<TryReserveError> for PoolError {
     }
 }
 
-/// What a program has beside its code and its chunks, as far as verification reads it.
+/// What a program has besides its code and its chunks, as far as verification reads it.
 ///
 /// Items are added one by one, in the order of their indices. There are two ways to do it:
 ///

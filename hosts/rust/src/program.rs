@@ -1,4 +1,4 @@
-//! A program as one value: code, chunks, what it has beside them, and its positions.
+//! A program as one value: code, chunks, pools and positions.
 use crate::capabilities::Caps;
 use crate::code::{instructions, Instructions};
 use crate::error::{ExplainError, VerifyError};

@@ -251,8 +251,8 @@ fn what_is_not_reached_is_marked() {
         chunk 0 from 0 to 3, which declares 8 operands\n  \
         address  bytes           operands iterators  bases     instruction\n        \
         0  13                     0         0  -         RETURN\n        \
-        1  02                not reached                 UNIT\n        \
-        2  13                not reached                 RETURN\n";
+        1  02                unreachable                 UNIT\n        \
+        2  13                unreachable                 RETURN\n";
     assert_eq!(explained.to_string(), wanted);
     assert!(explained.refusal().is_none());
 }

@@ -17,7 +17,7 @@ fn format() -> String {
     read.find_map(Result::ok).expect("FORMAT.md")
 }
 
-/// What a program has beside its code and its chunks.
+/// What a program has besides its code and its chunks.
 #[derive(Clone, Debug, Default)]
 pub struct ModelPools {
     /// What each constant needs, or `None` where nobody can say.
