@@ -144,6 +144,6 @@ int main(void) {
     measure(&with_pools, GRAIN_CAP_ALL & ~GRAIN_CAP_PROPERTY);
     measure(&nested, GRAIN_CAP_ALL);
     grain_scratch_free(&scratch);
-    printf("%d wrong\n", wrong);
+    printf("stack: %d wrong\n", wrong);
     return wrong == 0 ? 0 : 1;
 }
