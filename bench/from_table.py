@@ -10,6 +10,7 @@ tags (crates/grain_code/src/tag.rt), wherever it stands.
   specs/TagNames.antt (names by tags) and src/mnemonics.rt (names of operations).
 - The table read from tags to operations is the list `rows` in crates/grain_code/proofs/Rows.antt, which the prover compares
   with the table.
+- What a tag says of its instructions is the list `TAG_ROWS` in crates/grain_code/src/tag_table.rt.
 - The table for machines in Rust is the list of hosts/rust/src/opcode.rs: names, tags, fields, flow and quiet instructions.
 
 .ci/documents asks whether all of it is as this writes it.
@@ -149,6 +150,28 @@ def instructions_header():
     return HEADER % (letters, rows)
 
 
+INDEX_LETTERS = {letter for kind, letter in instruction_table.LETTERS.items() if kind.startswith("Index ")}
+
+
+def tag_rows():
+    """The rows of `TAG_ROWS`, by tags, in Rattle. What depends on fields, on pools or on the host's capabilities is no part
+    of a row."""
+    flows = {words: name for name, words in instruction_table.FLOWS.items()}
+    rows = {int(row[0], 16): row[1:] for row in instruction_table.table()}
+    for tag in range(max(rows) + 1):
+        if tag not in rows:
+            yield "    NONE,\n"
+            continue
+        name, letters, width, _, counts, asks, flow, quiet = rows[tag]
+        is_fixed = re.fullmatch(r"\d \d \d", counts) and not asks and flow != "switches"
+        has_index = any(letter in INDEX_LETTERS for letter in letters.split())
+        words = [
+            width, f"{'INDEX' if has_index else 'NO_INDEX':<8}", f"{'QUIET' if quiet else 'LOUD':<5}",
+            "PLAIN" if is_fixed and flow == "" else "OTHER", counts if is_fixed else "0 0 0", flows[flow],
+        ]
+        yield f"    row!({name + ':':<22} {' '.join(words)}),\n"
+
+
 def blocks():
     """Of each file where they stand: what stands before, the block itself, and what stands behind."""
     names = tags()
@@ -157,6 +180,8 @@ def blocks():
         "hosts/rust/src/mnemonics.rs": (
             r"(?=const MNEMONICS)", f"const MNEMONICS: [(u8, &str); {len(names)}] = [\n{rows}];\n", r"\Z"),
         "hosts/rust/src/opcode.rs": (r"(?=opcodes! \{)", "opcodes! {\n" + "".join(opcodes()) + "}\n", r"\Z"),
+        "crates/grain_code/src/tag_table.rt": (
+            r"TAG_ROWS: \[TagRow; 256\] = rows!\[\n", "".join(tag_rows()), r"\];\n"),
         "crates/grain_code/proofs/Rows.antt": (r"\nrows =\n", "".join(sorted(table_rows())) + "    []\n", r"\nabbrev pub row_of"),
         "crates/grain_flat/specs/TagNames.antt": (r"List \(List ℕ\)\n", by_tag(), r"\Z"),
         "crates/grain_flat/src/mnemonics.rt": (

@@ -16,6 +16,7 @@ pub use Rattle.grain_pools.specs.Chain
 pub use Rattle.grain_pools.specs.ChainPositions
 pub use Rattle.grain_bytecode.specs.ChainStream
 pub use Rattle.grain_code.specs.Disassembly
+pub use Rattle.grain_code.specs.Flows
 pub use Rattle.grain_pools.specs.Dispatch
 pub use Rattle.grain_code.specs.InstructionTable
 pub use Rattle.grain_pools.specs.LookedUp

@@ -20,9 +20,9 @@ pub use grain_base::{
 };
 pub use grain_bytecode::{
     AssembleError, AssignOp, BadTable, Chain, ChainPositions, Chunk, DisassembleError, Disassembly,
-    Field, Fields, Function, Head as InstructionHead, Instruction, Lookups, Names, Op, Pool,
+    Field, Fields, Flow, Function, Head as InstructionHead, Instruction, Lookups, Names, Op, Pool,
     Positions, Receiver, Root, Starts, Step, StepFlags, Strings, StringsError, StripError, Switch,
-    SwitchRange, TableError, TagFlow, TagRow, Tail, assemble, count_instructions, decode,
+    SwitchRange, TableError, TagRow, Tail, assemble, count_instructions, decode,
     decode_standing, disassemble, names, resolve_switch_targets, site_to_position, sites, tag,
     tag_row, u16_at, u32_at, width,
 };
@@ -32,7 +32,7 @@ pub use grain_explain::{
 };
 pub use grain_program::{Parts, Program, Sidecar};
 pub use grain_rules::{
-    Asks, BadIndex, Bound, Effect, Flow, NoPools, Pools, Read, Targets, VerifyError, asked_beside,
+    Asks, BadIndex, Bound, Effect, NoPools, Pools, Read, Targets, VerifyError, asked_beside,
     check_among, check_below, constant_caps, name_caps,
 };
 pub use grain_verify::{

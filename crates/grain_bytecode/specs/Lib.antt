@@ -8,6 +8,7 @@ pub use Rattle.grain_pools.specs.ChainPositions
 pub use Rattle.grain_code.specs.Disassembly
 pub use Rattle.grain_pools.specs.Dispatch
 pub use Rattle.grain_code.specs.Fields
+pub use Rattle.grain_code.specs.Flows
 pub use Rattle.grain_code.specs.InstructionTable
 pub use Rattle.grain_pools.specs.LookedUp
 pub use Rattle.grain_names.specs.Names

@@ -2,7 +2,7 @@
 
 use crate::samples::{assert_same, assert_texts, made};
 use grain_bytecode::{
-    AssembleError, Op, Receiver, TagFlow, assemble, count_instructions, decode, disassemble,
+    AssembleError, Op, Receiver, assemble, count_instructions, decode, disassemble,
     tag_row,
 };
 use std::alloc::Global;
@@ -202,17 +202,10 @@ fn names_the_operation_that_jumps(rt: HostRuntime) {
 
 /// The bytes of an instruction with a tag, and more behind them: small unlike fields, and a target that is 0.
 fn sample_bytes(tag: u8) -> [u8; 7] {
-    match tag_row(tag).flow {
-        TagFlow::Jumps | TagFlow::Branches | TagFlow::AdvancesIterator | TagFlow::PushesHandler => [
-            tag, 0, 0, 0, 0, 3, 0,
-        ],
-        TagFlow::Untold
-        | TagFlow::Falls
-        | TagFlow::Ends
-        | TagFlow::BeginsIterator
-        | TagFlow::EndsIterator
-        | TagFlow::PopsHandler => [tag, 1, 0, 2, 0, 3, 0],
+    if tag_row(tag).flow.has_target() {
+        return [tag, 0, 0, 0, 0, 3, 0];
     }
+    [tag, 1, 0, 2, 0, 3, 0]
 }
 
 /// Asserts that the operation that bytes begin with is written as these bytes, and read again alone.

@@ -1,6 +1,6 @@
 use crate::samples::{assert_same, made};
 use grain_bytecode::{
-    Op, Receiver, TagFlow, TagRow, decode, disassemble, tag, tag_row, u16_at, u32_at, width,
+    Flow, Op, Receiver, TagRow, decode, disassemble, tag, tag_row, u16_at, u32_at, width,
 };
 use std::alloc::{AllocError, Global};
 use std::fmt::Debug;
@@ -89,22 +89,21 @@ fn copies_of_a_receiver_are_equal(rt: HostRuntime) {
 #[test]
 fn tags_tell(rt: HostRuntime) {
     let pop = TagRow {
-        tag: tag::POP,
         width: 1,
         has_index: false,
         is_quiet: true,
+        is_plain: true,
         needs: 1,
         takes: 1,
         gives: 0,
-        flow: TagFlow::Falls,
+        flow: Flow::Falls,
     };
     assert_same(&rt, *tag_row(tag::POP), pop);
-    assert_same(
-        &rt,
-        tag_row(tag::PUSH_HANDLER_VAR).flow,
-        TagFlow::PushesHandler,
-    );
-    assert_same(&rt, tag_row(tag::CALL).flow, TagFlow::Untold);
+    let handler = tag_row(tag::PUSH_HANDLER_VAR);
+    assert_same(&rt, handler.flow, Flow::PushesHandler);
+    assert_same(&rt, handler.is_fixed(), true);
+    assert_same(&rt, tag_row(tag::CALL).flow, Flow::Falls);
+    assert_same(&rt, tag_row(tag::CALL).is_fixed(), false);
     assert_same(&rt, tag_row(0x43).width, 0);
     assert_same(&rt, tag_row(0xff).width, 0);
 }

@@ -1,6 +1,7 @@
 pub mod Assembly
 pub mod Disassembly
 pub mod Fields
+pub mod Flows
 pub mod InstructionTable
 pub mod Numbers
 pub mod OperationTexts

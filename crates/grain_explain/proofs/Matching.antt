@@ -16,7 +16,7 @@ use Rattle.grain_rules.specs.FlowFields.{fall_for, falls_for, jump_for, targets_
 use Rattle.grain_rules.specs.Rows.{flow_of}
 use Rattle.grain_rules.specs.Setting.{Setting}
 use Rattle.grain_rules.proofs.Splits.{in_head}
-use Rattle.grain_rules.specs.EffectView.{flow_view}
+use Rattle.grain_rules.specs.EffectView.{flow_in}
 use Rattle.grain_explain.specs.Certificate.{RowLacks, StandsInRow}
 use Rattle.grain_explain.specs.Claimed.{AreMatched, IsAstray, MissesOne, RefusesRows, code_claimed, falling_on, jumping, lack_named, targets_of_cases, targets_of_ranges}
 use Rattle.grain_explain.specs.Lacking.{DoesTo}
@@ -95,10 +95,10 @@ switch_done P s cases ranges default =
     All-append P (before ++ middle) (s.default ∷ []) (All-append P before middle cases ranges) (All-cons P s.default [] default (All-nil P))
 
 module _ (g : Claim) (r : Row) (e : Effect) (op : Op) (d : DoesTo (code_claimed g).setting op e) where
-  targets_known : targets_for (code_claimed g).switches (flow_view e.flow) ≡ targets (code_claimed g).switches op
+  targets_known : targets_for (code_claimed g).switches (flow_in e) ≡ targets (code_claimed g).switches op
   targets_known = ap (targets_for (code_claimed g).switches) d.flow
 
-  falls_known : falls_for (flow_view e.flow) ≡ falls_through op
+  falls_known : falls_for (flow_in e) ≡ falls_through op
   falls_known = ap falls_for d.flow
 
   -- each edge of a row leads to a row with its counts

@@ -17,7 +17,7 @@ use Rattle.grain_rules.specs.FlowFields.{falls_for, targets_for}
 use Rattle.grain_rules.specs.Layout.{IsStart}
 use Rattle.grain_rules.specs.Typing.{Reached, begin, onward}
 use Rattle.grain_explain.specs.Claimed.{falling_on, jumping}
-use Rattle.grain_rules.specs.EffectView.{flow_view}
+use Rattle.grain_rules.specs.EffectView.{flow_in}
 use Rattle.grain_explain.specs.RowView.{counts_of}
 use Rattle.grain_explain.specs.Scenes.{AreCome, Comes, IsCome, IsLeft, code_seen}
 use Rattle.grain_explain.specs.Ways.{Follows, Stop, arrival_stop, first_stop, row_stop, stops_of}
@@ -82,13 +82,13 @@ module _ (s : Scene) (d : Departure) (left : IsLeft s d) where
     origin = rw from (d.here.now, left.held, (left.op, left.passes, edge));
   }
 
-  pub jump_edge : (row : Row) (t : ℕ) (c : Counts) → row_stop d.visited.bases.now row ≡ (t, c) → Contains (targets_for (code_seen s).switches (flow_view d.effect.now.flow)) t → c ≡ jumping d.visited.bases.now d.here.now.row d.effect.now
+  pub jump_edge : (row : Row) (t : ℕ) (c : Counts) → row_stop d.visited.bases.now row ≡ (t, c) → Contains (targets_for (code_seen s).switches (flow_in d.effect.now)) t → c ≡ jumping d.visited.bases.now d.here.now.row d.effect.now
       → Edge (coded (code_seen s)) left.op d.here.now.row.at (counts_of d.visited.bases.now d.here.now.row) row.at (counts_of d.visited.bases.now row)
   jump_edge row t c same named is =
       let there : t ≡ row.at = ap (λ (x : Stop). x.0) (sym same) in
       let counts : counts_of d.visited.bases.now row ≡ c = ap (λ (x : Stop). x.1) same in
       inl (
-        subst (λ (ts : List ℕ). Contains ts row.at) (ap (targets_for (code_seen s).switches) left.does.flow) (subst (Contains (targets_for (code_seen s).switches (flow_view d.effect.now.flow))) there named),
+        subst (λ (ts : List ℕ). Contains ts row.at) (ap (targets_for (code_seen s).switches) left.does.flow) (subst (Contains (targets_for (code_seen s).switches (flow_in d.effect.now))) there named),
         counts ∙ (is ∙ jumping_known (code_seen s).setting left.op d.visited.bases.now d.here.now.row d.effect.now left.does),
       )
 
@@ -134,7 +134,7 @@ module _ (s : Scene) (bases : List LinkedBase) (slots : List (Option Arrival)) (
   ]
 
 module _ (s : Scene) (d : Departure) (left : IsLeft s d) where
-  pub fall_edge : (row : Row) (t : ℕ) (c : Counts) → row_stop d.visited.bases.now row ≡ (t, c) → t ≡ d.next → falls_for (flow_view d.effect.now.flow) ≡ true → c ≡ falling_on d.visited.bases.now d.here.now.row d.effect.now
+  pub fall_edge : (row : Row) (t : ℕ) (c : Counts) → row_stop d.visited.bases.now row ≡ (t, c) → t ≡ d.next → falls_for (flow_in d.effect.now) ≡ true → c ≡ falling_on d.visited.bases.now d.here.now.row d.effect.now
       → Edge (coded (code_seen s)) left.op d.here.now.row.at (counts_of d.visited.bases.now d.here.now.row) row.at (counts_of d.visited.bases.now row)
   fall_edge row t c same next goes is =
       let there : row.at ≡ t = ap (λ (x : Stop). x.0) same in

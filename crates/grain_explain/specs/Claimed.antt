@@ -11,7 +11,7 @@ use Rattle.grain_rules.specs.Effects.{Edge}
 use Rattle.grain_rules.specs.FlowFields.{fall_for, falls_for, jump_for, targets_for}
 use Rattle.grain_rules.specs.Typing.{IsInChunk, Passes}
 use Rattle.grain_explain.specs.Certificate.{RowsFlaw}
-use Rattle.grain_rules.specs.EffectView.{flow_view}
+use Rattle.grain_rules.specs.EffectView.{flow_in}
 use Rattle.grain_explain.specs.OnEdges.{counts_on, left_by}
 use Rattle.grain_explain.specs.RowView.{AreAscending, AreLinked, AreListed, counts_of, typing_of}
 use Rattle.grain_explain.specs.declared.edge.OnEdge.{OnEdge}
@@ -66,23 +66,23 @@ targets_of_ranges ranges = map (λ (r : SwitchRange). r.target) ranges
 
 -- the counts of a row on its edges, where its operation has this effect
 abbrev pub jumping : List LinkedBase → Row → Effect → Counts
-jumping bases r e = jump_for (flow_view e.flow) (left_by e r.operands) (counts_of bases r)
+jumping bases r e = jump_for (flow_in e) (left_by e r.operands) (counts_of bases r)
 
 abbrev pub falling_on : List LinkedBase → Row → Effect → Counts
-falling_on bases r e = fall_for (flow_view e.flow) (left_by e r.operands) (counts_of bases r)
+falling_on bases r e = fall_for (flow_in e) (left_by e r.operands) (counts_of bases r)
 
 -- the rows at the targets, and at the next address where the operation falls through, have the counts of the edges
 pub record AreMatched (g : Claim) (r : Row) (e : Effect) (next : ℕ) : Type 0 where
-  pub targets : All (λ t. typing_of g.bases.now g.rows.now t ≡ Some (jumping g.bases.now r e)) (targets_for (code_claimed g).switches (flow_view e.flow))
-  pub falls : falls_for (flow_view e.flow) ≡ true → typing_of g.bases.now g.rows.now next ≡ Some (falling_on g.bases.now r e)
+  pub targets : All (λ t. typing_of g.bases.now g.rows.now t ≡ Some (jumping g.bases.now r e)) (targets_for (code_claimed g).switches (flow_in e))
+  pub falls : falls_for (flow_in e) ≡ true → typing_of g.bases.now g.rows.now next ≡ Some (falling_on g.bases.now r e)
 
 -- the refusal names the row, and the address of an edge whose counts the row there hasn't
 pub record IsAstray (g : Claim) (number : ℕ) (r : Row) (e : Effect) (next : ℕ) (error : TypingError) : Type 0 where
   pub at : ℕ
   pub counts : Counts
   pub is : error ≡ errors.Unmatched number at
-  pub edge : (Contains (targets_for (code_claimed g).switches (flow_view e.flow)) at × (counts ≡ jumping g.bases.now r e))
-      ⊎ ((falls_for (flow_view e.flow) ≡ true) × (at ≡ next) × (counts ≡ falling_on g.bases.now r e))
+  pub edge : (Contains (targets_for (code_claimed g).switches (flow_in e)) at × (counts ≡ jumping g.bases.now r e))
+      ⊎ ((falls_for (flow_in e) ≡ true) × (at ≡ next) × (counts ≡ falling_on g.bases.now r e))
   pub astray : typing_of g.bases.now g.rows.now at ≡ Some counts → ⊥
 
 -- a row passes, and each of its edges leads to a row with the very counts

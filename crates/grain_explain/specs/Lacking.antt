@@ -8,7 +8,7 @@ use Rattle.grain_rules.specs.Effects.{Meets, handlers_needed, iterators_needed}
 use Rattle.grain_rules.specs.Rows.{caps_of, flow_of, gives, needs, takes}
 use Rattle.grain_rules.specs.Setting.{Setting}
 use Rattle.grain_rules.specs.Sinking.{FallsShortOf, Sinks, Stays}
-use Rattle.grain_rules.specs.EffectView.{flow_view, operand_numbers}
+use Rattle.grain_rules.specs.EffectView.{flow_in, operand_numbers}
 use Rattle.grain_rules.specs.declared.effect.Effect.{Effect}
 use Rattle.grain_explain.specs.declared.needs.Lack.{Lack}
 use Rattle.grain_explain.specs.declared.needs.Lack.TheVariants as lacks
@@ -22,7 +22,7 @@ pub record HasAll (s : Setting) (op : Op) (c : Counts) : Type 0 where
 -- this is what the operation does to the stacks, and how it is left
 pub record DoesTo (s : Setting) (op : Op) (e : Effect) : Type 0 where
   pub numbers : operand_numbers e ≡ (needs s op, takes s op, gives s op)
-  pub flow : flow_view e.flow ≡ flow_of op
+  pub flow : flow_in e ≡ flow_of op
 
 -- what isn't so: capabilities; where these are there, operands, the iterator or the handler; and where it has all these, that it
 -- stays above the base of the last handler

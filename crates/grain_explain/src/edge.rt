@@ -2,14 +2,15 @@
 ghost use Rattle.std.specs.Prelude.{◌≡◌, ◌≤◌, ◌↔◌, IsTrue, List, length};
 ghost use Rattle.grain_rules.specs.Counts.{nothing, without_last};
 ghost use Rattle.grain_rules.specs.FlowFields.{fall_for, jump_for};
-ghost use Rattle.grain_rules.specs.EffectView.{flow_view};
+ghost use Rattle.grain_rules.specs.EffectView.{flow_in};
 ghost use Rattle.grain_explain.specs.OnEdges.{IsListedIn, counts_on, handlers_in, left_by};
 ghost use Rattle.grain_explain.specs.RowView.{AreLinked, counts_of, list_in};
 ghost use Rattle.grain_explain.specs.declared.row.LinkedBase.{LinkedBase};
 
 use crate::lists::{are_same, first_base};
 use crate::row::{LinkedBase, Row};
-use grain_rules::{Effect, Flow};
+use grain_code::Flow;
+use grain_rules::Effect;
 
 /// The handlers that are armed on an edge.
 #[derive(Clone, Copy)]
@@ -94,7 +95,7 @@ impl OnEdge {
     /// What is on the edges to the targets of an operation.
     pub(crate) fn to_targets(row: &Row, effect: &Effect) -> OnEdge
         ensures counts { (bases : List LinkedBase) → counts_on bases result
-            ≡ jump_for (flow_view effect.now.flow)
+            ≡ jump_for (flow_in effect.now)
             (left_by effect.now row.now.operands) (counts_of bases row.now) }
         ensures listed { (bases : List LinkedBase) → row.now.bases ≤ length bases
             → IsListedIn bases result.handlers }
@@ -103,20 +104,20 @@ impl OnEdge {
         match effect.flow {
             Flow::Falls
             | Flow::Ends
-            | Flow::Jumps(_)
-            | Flow::Branches(_)
-            | Flow::Switches(_)
+            | Flow::Jumps
+            | Flow::Branches
+            | Flow::Switches
             | Flow::BeginsIterator
             | Flow::EndsIterator
             | Flow::PopsHandler => OnEdge {
                 operands: left(row.operands, effect),
                 ..here
             },
-            Flow::AdvancesIterator(_) => OnEdge {
+            Flow::AdvancesIterator => OnEdge {
                 iterators: here.iterators.saturating_sub(1),
                 ..here
             },
-            Flow::PushesHandler(_) => OnEdge {
+            Flow::PushesHandler => OnEdge {
                 handlers: Handlers::pushed_at(row),
                 ..here
             },
@@ -127,13 +128,13 @@ impl OnEdge {
     pub(crate) fn to_next(bases: &[LinkedBase], row: &Row, effect: &Effect) -> OnEdge
         requires linked { AreLinked bases.now }
         requires listed { row.now.bases ≤ length bases.now }
-        ensures counts { counts_on bases.now result ≡ fall_for (flow_view effect.now.flow)
+        ensures counts { counts_on bases.now result ≡ fall_for (flow_in effect.now)
             (left_by effect.now row.now.operands) (counts_of bases.now row.now) }
         ensures listed { IsListedIn bases.now result.handlers }
     {
         let here = OnEdge::at(row);
         match effect.flow {
-            Flow::Falls | Flow::Ends | Flow::Jumps(_) | Flow::Branches(_) | Flow::Switches(_) => {
+            Flow::Falls | Flow::Ends | Flow::Jumps | Flow::Branches | Flow::Switches => {
                 OnEdge {
                     operands: left(row.operands, effect),
                     ..here
@@ -144,7 +145,7 @@ impl OnEdge {
                 iterators: here.iterators + 1,
                 ..here
             },
-            Flow::AdvancesIterator(_) => OnEdge {
+            Flow::AdvancesIterator => OnEdge {
                 operands: here.operands + 1,
                 ..here
             },
@@ -152,7 +153,7 @@ impl OnEdge {
                 iterators: here.iterators.saturating_sub(1),
                 ..here
             },
-            Flow::PushesHandler(_) => OnEdge {
+            Flow::PushesHandler => OnEdge {
                 handlers: Handlers::pushed_at(row),
                 ..here
             },

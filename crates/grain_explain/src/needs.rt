@@ -56,17 +56,17 @@ pub(crate) fn check_needs(
     if row.operands < effect.needs {
         return Err(Lack::Operands(effect.needs));
     }
-    if row.iterators < effect.flow.iterators_needed() {
+    if row.iterators < effect.iterators_needed() {
         return Err(Lack::Iterators);
     }
     let last = first_base(bases, row.bases);
-    if last.is_none() && effect.flow.handlers_needed() > 0 {
+    if last.is_none() && effect.handlers_needed() > 0 {
         return Err(Lack::Handlers);
     }
     if !effect.quiet {
         let left = Reserve {
             operands: row.operands.saturating_sub(effect.takes),
-            iterators: row.iterators.saturating_sub(effect.flow.iterators_needed()),
+            iterators: row.iterators.saturating_sub(effect.iterators_needed()),
         };
         check_reserve(last_reserve(bases, row.bases), left)?;
     }

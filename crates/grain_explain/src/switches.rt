@@ -3,33 +3,34 @@ ghost use Rattle.std.specs.Prelude.{◌≡◌, ◌++◌, IfOk, OnOk, map};
 ghost use Rattle.grain_rules.specs.Code.{switch_targets};
 ghost use Rattle.grain_rules.specs.FlowFields.{targets_for};
 ghost use Rattle.grain_explain.specs.Claimed.{targets_of_cases, targets_of_ranges};
-ghost use Rattle.grain_rules.specs.EffectView.{flow_view};
+ghost use Rattle.grain_rules.specs.EffectView.{flow_in};
 
 use crate::targets::switch_at;
 use grain_pools::{Switch, SwitchRange};
-use grain_rules::{Flow, Pools};
+use grain_code::Flow;
+use grain_rules::{Effect, Pools};
 use grain_values::Dynamic;
 use std::alloc::{AllocError, Global};
 use std::collections::HashMap;
 
-/// All targets of a flow.
+/// All targets of an operation that does this.
 ///
 /// # Errors
 /// [`AllocError`] where the memory was refused.
 pub(crate) fn targets_of(
     alloc: Global,
     pools: &Pools<'_>,
-    flow: Flow,
+    effect: &Effect,
 ) -> Result<Vec<u32>, AllocError>
     ensures { IfOk result (λ v. v.items
-        ≡ targets_for (map switch_targets pools.now.switches.now) (flow_view flow)) }
+        ≡ targets_for (map switch_targets pools.now.switches.now) (flow_in effect.now)) }
 {
-    match flow {
-        Flow::Jumps(target)
-        | Flow::Branches(target)
-        | Flow::AdvancesIterator(target)
-        | Flow::PushesHandler(target) => Ok(vec![in alloc; target]?),
-        Flow::Switches(index) => match switch_at(pools.switches, index) {
+    match effect.flow {
+        Flow::Jumps
+        | Flow::Branches
+        | Flow::AdvancesIterator
+        | Flow::PushesHandler => Ok(vec![in alloc; effect.target]?),
+        Flow::Switches => match switch_at(pools.switches, effect.target) {
             Some(switch) => all_of(alloc, switch),
             None => Ok(Vec::new(alloc)),
         },

@@ -3,7 +3,7 @@ ghost use Rattle.std.specs.Prelude.{◌≡◌, ◌≤◌, [], get_or, length, ma
 ghost use Rattle.std.specs.List.{All};
 ghost use Rattle.grain_rules.specs.Code.{switch_targets};
 ghost use Rattle.grain_rules.specs.FlowFields.{targets_for};
-ghost use Rattle.grain_rules.specs.EffectView.{flow_view};
+ghost use Rattle.grain_rules.specs.EffectView.{flow_in};
 ghost use Rattle.grain_explain.specs.Claimed.{AreMatched, HasRow, IsAstray, IsLaid, IsUnmatched};
 ghost use Rattle.grain_explain.specs.Claimed.{MissesOne, code_claimed};
 ghost use Rattle.grain_explain.specs.Claimed.{targets_of_cases, targets_of_ranges};
@@ -14,7 +14,8 @@ use crate::edge::OnEdge;
 use crate::error::TypingError;
 use crate::row::Row;
 use grain_pools::{Switch, SwitchRange};
-use grain_rules::{Effect, Flow};
+use grain_code::Flow;
+use grain_rules::Effect;
 use grain_values::Dynamic;
 use std::collections::HashMap;
 
@@ -94,24 +95,29 @@ impl Claim<'_> {
         self.check_target(number, switch.default as usize, edge)
     }
 
-    /// Tests the targets of a flow.
+    /// Tests the targets of an operation that does this.
     ///
     /// # Errors
     /// `Unmatched`, of one that doesn't match.
-    fn check_targets(&self, number: usize, flow: Flow, edge: &OnEdge) -> Result<(), TypingError>
+    fn check_targets(
+        &self,
+        number: usize,
+        effect: &Effect,
+        edge: &OnEdge,
+    ) -> Result<(), TypingError>
         requires laid { IsLaid self.now }
         requires listed { IsListedIn self.now.bases.now edge.now.handlers }
         ensures ok { OnOk result (All (HasRow self.now edge.now)
-            (targets_for (code_claimed self.now).switches (flow_view flow))) }
+            (targets_for (code_claimed self.now).switches (flow_in effect.now))) }
         ensures err { IfErr result (MissesOne self.now edge.now number
-            (targets_for (code_claimed self.now).switches (flow_view flow))) }
+            (targets_for (code_claimed self.now).switches (flow_in effect.now))) }
     {
-        match flow {
-            Flow::Jumps(target)
-            | Flow::Branches(target)
-            | Flow::AdvancesIterator(target)
-            | Flow::PushesHandler(target) => self.check_target(number, target as usize, edge),
-            Flow::Switches(index) => match switch_at(self.pools.switches, index) {
+        match effect.flow {
+            Flow::Jumps
+            | Flow::Branches
+            | Flow::AdvancesIterator
+            | Flow::PushesHandler => self.check_target(number, effect.target as usize, edge),
+            Flow::Switches => match switch_at(self.pools.switches, effect.target) {
                 Some(switch) => self.check_switch(number, switch, edge),
                 None => Ok(()),
             },
@@ -140,8 +146,8 @@ impl Claim<'_> {
         ensures err { IfErr result (IsAstray self.now number row.now effect.now next) }
     {
         let edge = OnEdge::to_targets(row, effect);
-        self.check_targets(number, effect.flow, &edge)?;
-        if effect.flow.falls() {
+        self.check_targets(number, effect, &edge)?;
+        if effect.falls() {
             let edge = OnEdge::to_next(self.bases, row, effect);
             self.check_target(number, next, &edge)?;
         }

@@ -4,7 +4,7 @@ ghost use Rattle.std.specs.Prelude.{IfErr, IfOk, IfSome, OnOk};
 ghost use Rattle.std.specs.List.{All};
 ghost use Rattle.grain_rules.specs.Flaw.{ChunkFlaw};
 ghost use Rattle.grain_rules.specs.FlowFields.{falls_for, targets_for};
-ghost use Rattle.grain_rules.specs.EffectView.{flow_view};
+ghost use Rattle.grain_rules.specs.EffectView.{flow_in};
 ghost use Rattle.grain_explain.specs.Scenes.{AreCome, AreHeld, Comes, IsCome, IsReadyScene};
 ghost use Rattle.grain_explain.specs.Scenes.{IsRefusalAt};
 ghost use Rattle.grain_explain.specs.Scenes.{IsSearching};
@@ -272,13 +272,13 @@ impl Scene<'_> {
     {
         let here = departure.here;
         let effect = departure.effect;
-        let targets = targets_of(self.alloc, self.pools, effect.flow)?;
+        let targets = targets_of(self.alloc, self.pools, effect)?;
         if let Err(error) = self.check_targets(here.row.at, &targets) {
             let refusal = self.refuse(&departure.visited, here, error)?;
             return Ok(Some(refusal));
         }
         self.push_all(departure, &targets, work)?;
-        if effect.flow.falls() {
+        if effect.falls() {
             self.fall(departure, work)
         } else {
             Ok(None)
@@ -296,7 +296,7 @@ impl Scene<'_> {
     ) -> Result<Option<Refusal>, SearchError>
         requires ready { IsReadyScene self.now }
         requires left { IsLeft self.now departure.now }
-        requires falls { falls_for (flow_view departure.now.effect.now.flow) ≡ true }
+        requires falls { falls_for (flow_in departure.now.effect.now) ≡ true }
         requires waits { All (Comes self.now departure.now.visited) work.old.items }
         ensures waits { OnOk result (All (Comes self.now departure.now.visited) work.new.items) }
         ensures refusal { IfOk result
@@ -343,7 +343,7 @@ impl Scene<'_> {
     ) -> Result<(), SearchError>
         requires left { IsLeft self.now departure.now }
         requires targets { targets.now ≡ targets_for (code_seen self.now).switches
-            (flow_view departure.now.effect.now.flow) }
+            (flow_in departure.now.effect.now) }
         requires waits { All (Comes self.now departure.now.visited) work.old.items }
         ensures { OnOk result (All (Comes self.now departure.now.visited) work.new.items) }
     {

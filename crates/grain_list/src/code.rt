@@ -1,15 +1,13 @@
 //! Code with its instructions.
 
-ghost use Rattle.std.specs.Prelude.{◌≡◌, [], ℕ, Err, IfNone, IfOk, IfSome, Ok};
-ghost use Rattle.std.specs.Option.{option_to_list};
+ghost use Rattle.std.specs.Prelude.{◌≡◌, ℕ, Err, IfNone, IfOk, IfSome, Ok};
 ghost use Rattle.grain.specs.Disassembly.{IsDisassembly};
-ghost use Rattle.grain.specs.EffectView.{flow_view};
-ghost use Rattle.grain.specs.FlowFields.{targets_for};
+ghost use Rattle.grain.specs.EffectView.{flow_in};
 ghost use Rattle.grain.specs.Rows.{flow_of};
 ghost use Rattle.grain.specs.Split.{IsCount};
 ghost use Rattle.grain_list.specs.ListedCode.{IsListedCode};
 
-use grain::{Effect, Flow, Instruction, NoPools, Op, count_instructions, disassemble};
+use grain::{Effect, Instruction, NoPools, Op, count_instructions, disassemble};
 use std::alloc::{AllocError, Global};
 
 /// Code with its instructions.
@@ -83,27 +81,9 @@ impl CodeListing {
     }
 }
 
-/// How an operation is left.
-pub fn flow_of(op: &Op) -> Flow
-    ensures { flow_view result ≡ flow_of op.now }
+/// What an operation does beside no pools.
+pub fn effect_of(op: &Op) -> Effect
+    ensures { flow_in result ≡ flow_of op.now }
 {
-    Effect::of(op, &NoPools).flow
-}
-
-/// The target of a flow, if it names one.
-pub fn target_of(flow: Flow) -> Option<u32>
-    ensures { option_to_list result ≡ targets_for [] (flow_view flow) }
-{
-    match flow {
-        Flow::Jumps(target)
-        | Flow::Branches(target)
-        | Flow::AdvancesIterator(target)
-        | Flow::PushesHandler(target) => Some(target),
-        Flow::Falls
-        | Flow::Ends
-        | Flow::Switches(_)
-        | Flow::BeginsIterator
-        | Flow::EndsIterator
-        | Flow::PopsHandler => None,
-    }
+    Effect::of(op, &NoPools)
 }

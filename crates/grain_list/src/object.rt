@@ -1,11 +1,11 @@
 //! A listing as a line of JSON, for programs.
 
-use crate::code::{CodeListing, flow_of, target_of};
+use crate::code::{CodeListing, effect_of};
 use crate::handlers::{Handlers, SHOWN};
 use crate::listing::{Body, Listing, ProgramListing};
 use crate::sentence::{rule, write_wrong};
 use crate::text::{depths_at, row_at, write_hex};
-use grain::{Chunk, ExplainedChunk, ExplainedRefusal, Flow, LinkedBase, Op, Row, VerifyError};
+use grain::{Chunk, Effect, ExplainedChunk, ExplainedRefusal, Flow, LinkedBase, Op, Row, VerifyError};
 use json::Writer;
 use std::alloc::{AllocError, Global};
 
@@ -135,10 +135,10 @@ fn write_op(alloc: Global, op: &Op, json: &mut Writer) -> Result<(), AllocError>
 }
 
 /// Writes how an operation is left.
-fn write_flow(flow: Flow, json: &mut Writer) -> Result<(), AllocError> {
-    write_option("target", target_of(flow), json)?;
-    write_truth("catches", matches!(flow, Flow::PushesHandler(_)), json)?;
-    write_truth("falls", flow.falls(), json)
+fn write_flow(effect: &Effect, json: &mut Writer) -> Result<(), AllocError> {
+    write_option("target", effect.target_address(), json)?;
+    write_truth("catches", matches!(effect.flow, Flow::PushesHandler), json)?;
+    write_truth("falls", effect.falls(), json)
 }
 
 /// Writes an instruction with what stands there, and from where that was come to.
@@ -155,7 +155,7 @@ fn write_item(
     write_number("at", *at as u64, json)?;
     write_bytes(alloc, code.bytes_at(*at), json)?;
     write_op(alloc, op, json)?;
-    write_flow(flow_of(op), json)?;
+    write_flow(&effect_of(op), json)?;
     write_found(handlers, found, json)?;
     json.end_object()
 }

@@ -1,6 +1,6 @@
 //! A listing as text, for people.
 
-use crate::code::{CodeListing, flow_of, target_of};
+use crate::code::{CodeListing, effect_of};
 use crate::handlers::{Handlers, SHOWN};
 use crate::listing::{Body, Listing, ProgramListing};
 use crate::paint::{Kind, Paint};
@@ -80,18 +80,18 @@ fn write_state(handlers: Handlers<'_>, row: &Row, text: &mut String) -> Result<(
 /// Writes an operation, with an arrow to its target.
 fn write_op(op: &Op, text: &mut String) -> Result<(), AllocError> {
     write!(text, "{op:?}")?;
-    let flow = flow_of(op);
-    let Some(target) = target_of(flow) else {
+    let effect = effect_of(op);
+    let Some(target) = effect.target_address() else {
         return Ok(());
     };
-    let how = match flow {
-        Flow::AdvancesIterator(_) => "at its end ",
-        Flow::PushesHandler(_) => "catches ",
+    let how = match effect.flow {
+        Flow::AdvancesIterator => "at its end ",
+        Flow::PushesHandler => "catches ",
         Flow::Falls
         | Flow::Ends
-        | Flow::Jumps(_)
-        | Flow::Branches(_)
-        | Flow::Switches(_)
+        | Flow::Jumps
+        | Flow::Branches
+        | Flow::Switches
         | Flow::BeginsIterator
         | Flow::EndsIterator
         | Flow::PopsHandler => "",

@@ -2,26 +2,30 @@
 use Rattle.std.specs.Prelude.{ℕ}
 use Rattle.std.specs.Int.RustNames.{bit_or}
 use Rattle.grain_values.specs.CapBits.{THIS}
+use Rattle.grain_code.specs.declared.flow.Flow.{Flow}
+use Rattle.grain_code.specs.declared.flow.Flow.TheVariants as ways
 use Rattle.grain_rules.specs.Flow as flows
 use Rattle.grain_rules.specs.Setting.{Setting, chain_asks, module_of}
 use Rattle.grain_rules.specs.declared.asks.Asks.{Asks}
 use Rattle.grain_rules.specs.declared.asks.Asks.TheVariants as asks
 use Rattle.grain_rules.specs.declared.effect.Effect.{Effect}
-use Rattle.grain_rules.specs.declared.flow.Flow.{Flow}
-use Rattle.grain_rules.specs.declared.flow.Flow.TheVariants as ways
 
--- how an operation is left
-abbrev pub flow_view : Flow → flows.Flow
-flow_view ways.Falls = flows.Falls
-flow_view ways.Ends = flows.Ends
-flow_view (ways.Jumps target) = flows.Jumps target
-flow_view (ways.Branches target) = flows.Branches target
-flow_view (ways.Switches index) = flows.Switches index
-flow_view ways.BeginsIterator = flows.BeginsIterator
-flow_view (ways.AdvancesIterator exit) = flows.AdvancesIterator exit
-flow_view ways.EndsIterator = flows.EndsIterator
-flow_view (ways.PushesHandler target) = flows.PushesHandler target
-flow_view ways.PopsHandler = flows.PopsHandler
+-- how an operation is left, by its target where it has one
+abbrev pub flow : Flow → ℕ → flows.Flow
+flow ways.Falls target = flows.Falls
+flow ways.Ends target = flows.Ends
+flow ways.Jumps target = flows.Jumps target
+flow ways.Branches target = flows.Branches target
+flow ways.Switches target = flows.Switches target
+flow ways.BeginsIterator target = flows.BeginsIterator
+flow ways.AdvancesIterator target = flows.AdvancesIterator target
+flow ways.EndsIterator target = flows.EndsIterator
+flow ways.PushesHandler target = flows.PushesHandler target
+flow ways.PopsHandler target = flows.PopsHandler
+
+-- how an operation is left that does this
+abbrev pub flow_in : Effect → flows.Flow
+flow_in e = flow e.flow e.target
 
 -- what is asked of the host where names and chains are those of the setting
 abbrev pub asked_in : Setting → Asks → ℕ

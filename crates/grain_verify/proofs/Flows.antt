@@ -12,13 +12,14 @@ use Rattle.grain_rules.specs.Flow.{Flow}
 use Rattle.grain_rules.specs.Rows.{caps_of, flow_of, needs}
 use Rattle.grain_verify.specs.Operands.{stack_effect}
 use Rattle.grain_rules.specs.FlowFields.{handlers_for, iterators_for}
-use Rattle.grain_verify.specs.FlowView.{IsMetBy, IsShort, flow}
+use Rattle.grain_verify.specs.FlowView.{IsMetBy, IsShort}
+use Rattle.grain_rules.specs.EffectView.{flow}
 use Rattle.grain_verify.specs.Plain.{GoesOn}
 use Rattle.grain_rules.specs.Setting.{Setting}
 use Rattle.grain_rules.specs.Sinking.{Stays}
 use Rattle.grain_rules.specs.Typing.{Passes, StandsIn}
-use Rattle.grain_verify.specs.declared.flow.Flow.{Flow as Way}
-use Rattle.grain_verify.specs.declared.flow.Flow.TheVariants as ways
+use Rattle.grain_code.specs.declared.flow.Flow.{Flow as Way}
+use Rattle.grain_code.specs.declared.flow.Flow.TheVariants as ways
 use Rattle.grain_rules.specs.declared.error.VerifyError.{VerifyError}
 use Rattle.grain_rules.specs.declared.error.VerifyError.TheVariants as errors
 

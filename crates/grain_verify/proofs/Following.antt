@@ -7,10 +7,11 @@ use Rattle.grain_code.specs.Span.{Span}
 use Rattle.grain_verify.specs.Arrivals.{IsAtOrdinal, IsStartIn, Pushes, RefusesSwitch, RefusesTargetOf, Sends, all_underway, underway, view}
 use Rattle.grain_rules.specs.Counts.{Counts}
 use Rattle.grain_rules.specs.FlowFields.{bases_for, targets_for}
-use Rattle.grain_verify.specs.FlowView.{IsFollowed, IsMetBy, RefusesFlow, falls_to, flow, jumped, next_to}
+use Rattle.grain_verify.specs.FlowView.{IsFollowed, IsMetBy, RefusesFlow, falls_to, jumped, next_to}
+use Rattle.grain_rules.specs.EffectView.{flow}
 use Rattle.grain_verify.specs.Lists.{list_of, list_count}
-use Rattle.grain_verify.specs.declared.flow.Flow.{Flow}
-use Rattle.grain_verify.specs.declared.flow.Flow.TheVariants as ways
+use Rattle.grain_code.specs.declared.flow.Flow.{Flow}
+use Rattle.grain_code.specs.declared.flow.Flow.TheVariants as ways
 use Rattle.grain_rules.specs.declared.error.VerifyError.{VerifyError}
 use Rattle.grain_rules.specs.declared.error.VerifyError.TheVariants as errors
 use Rattle.grain_verify.specs.declared.lists.Lists.{Lists}

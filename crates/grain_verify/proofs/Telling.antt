@@ -2,6 +2,7 @@
 use Rattle.std.proofs.Common.{◌≡◌, ℕ, ◌+◌, ◌<◌, ◌≤◌, ◌&&◌, Bool, nat_le, arith, true, false, [], ◌∷◌, List, get_or, length, Some, None, refl, sym, ap, ◌∙◌, subst}
 use Rattle.std.specs.Prelude.{sum_by}
 use Rattle.std.specs.List.{list_all}
+use Rattle.std.proofs.lemmas.Bool.{false≢true}
 use Rattle.std.proofs.lemmas.Bool.Decides.{nat_tests}
 use Rattle.std.proofs.lemmas.List.Sums.{AllPass-from_list_all, sum_by-cons}
 use Rattle.grain_code.specs.InstructionTable.{Instr, form, size_of}
@@ -14,103 +15,109 @@ use Rattle.grain_code.specs.declared.op.Receiver.TheVariants as receiver
 use Rattle.grain_code.proofs.Instructions.{instr_width}
 use Rattle.grain_rules.specs.Flow as flows
 use Rattle.grain_rules.specs.Rows.{flow_of}
-use Rattle.grain_verify.specs.FlowView.{HasTarget, flow}
-use Rattle.grain_verify.specs.TagRows.{IsFixed, Tells, TellsFlow}
-use Rattle.grain_verify.specs.declared.flow.Flow.{Flow}
-use Rattle.grain_verify.specs.declared.flow.Flow.TheVariants as ways
+use Rattle.grain_rules.specs.EffectView.{flow}
+use Rattle.grain_code.specs.Flows.{HasTarget, fixes}
+use Rattle.grain_verify.specs.TagRows.{IsLeftBy, Tells}
+use Rattle.grain_code.specs.declared.flow.Flow.{Flow}
+use Rattle.grain_code.specs.declared.flow.Flow.TheVariants as ways
 use Rattle.grain_code.specs.declared.tag_table.TheConstants.{TAG_ROWS}
 use Rattle.grain_code.specs.declared.tag_table.TagRow.{TagRow}
 
--- an operation of which its tag doesn't tell all, and whose table says so, needs `tt`; one with a target tells its first field
+-- a line for each operation whose row isn't plain, and for each whose tag depends on its fields
 told : (d : TagRow) (op : Op) → Tells (get_or TAG_ROWS (form op).0 d) op
-told d (ops.Bool false) = (record { operands = λ s. refl; caps = λ s. refl }, refl)
-told d (ops.Bool true) = (record { operands = λ s. refl; caps = λ s. refl }, refl)
-told d (ops.StoreLocal s false) = (record { operands = λ s. refl; caps = λ s. refl }, refl)
-told d (ops.StoreLocal s true) = (record { operands = λ s. refl; caps = λ s. refl }, refl)
-told d (ops.AssignLocal s n None) = (record { operands = λ s. refl; caps = λ s. refl }, refl)
-told d (ops.AssignLocal s n (Some o)) = (record { operands = λ s. refl; caps = λ s. refl }, refl)
-told d (ops.DeclareLocal n false is_global) = (record { operands = λ s. refl; caps = λ s. refl }, refl)
-told d (ops.DeclareLocal n true false) = (record { operands = λ s. refl; caps = λ s. refl }, refl)
-told d (ops.DeclareLocal n true true) = (record { operands = λ s. refl; caps = λ s. refl }, refl)
-told d (ops.Jump j) = (record { operands = λ s. refl; caps = λ s. refl }, (j, [], refl, refl))
-told d (ops.JumpIfTrue j) = (record { operands = λ s. refl; caps = λ s. refl }, (j, [], refl, refl))
-told d (ops.JumpIfFalse j) = (record { operands = λ s. refl; caps = λ s. refl }, (j, [], refl, refl))
-told d (ops.Call n a None capture) = tt
-told d (ops.Call n a (Some o) capture) = tt
-told d (ops.EvalAst r true) = (record { operands = λ s. refl; caps = λ s. refl }, refl)
-told d (ops.EvalAst r false) = (record { operands = λ s. refl; caps = λ s. refl }, refl)
-told d (ops.Chain h) = tt
-told d (ops.MakeArray s) = tt
-told d (ops.Switch w) = tt
-told d (ops.LoadNamed n) = tt
-told d (ops.AssignNamed n None) = (record { operands = λ s. refl; caps = λ s. refl }, refl)
-told d (ops.AssignNamed n (Some o)) = (record { operands = λ s. refl; caps = λ s. refl }, refl)
-told d (ops.IterNext j None) = (record { operands = λ s. refl; caps = λ s. refl }, (j, [], refl, refl))
-told d (ops.IterNext j (Some s)) = (record { operands = λ s. refl; caps = λ s. refl }, (j, Slot s ∷ [], refl, refl))
-told d (ops.PushHandler j None) = (record { operands = λ s. refl; caps = λ s. refl }, (j, [], refl, refl))
-told d (ops.PushHandler j (Some n)) = (record { operands = λ s. refl; caps = λ s. refl }, (j, Index Names n ∷ [], refl, refl))
-told d ops.MakeFnPtr = tt
-told d (ops.Curry a) = tt
-told d (ops.CallFnPtr a false false None) = tt
-told d (ops.CallFnPtr a true capture None) = tt
-told d (ops.CallFnPtr a false true None) = tt
-told d (ops.CallFnPtr a is_method capture (Some (receiver.Local s))) = tt
-told d (ops.CallFnPtr a is_method capture (Some (receiver.Named n))) = tt
-told d (ops.CallFnPtr a is_method capture (Some receiver.This)) = tt
-told d (ops.Share s) = tt
-told d (ops.ShareNamed n) = tt
-told d (ops.MakeClosure n) = tt
-told d ops.IsShared = tt
-told d (ops.CheckSize s false) = (record { operands = λ s. refl; caps = λ s. refl }, refl)
-told d (ops.CheckSize s true) = (record { operands = λ s. refl; caps = λ s. refl }, refl)
-told d (ops.MakeMap s) = tt
-told d (ops.CallRef n a (receiver.Local s) capture) = tt
-told d (ops.CallRef n a (receiver.Named m) capture) = tt
-told d (ops.CallRef n a receiver.This capture) = tt
-told d (ops.Rotate a) = tt
-told d ops.LoadThis = tt
-told d ops.LoadThisShared = tt
-told d ops.RequireThis = tt
-told d (ops.AssignThis None) = tt
-told d (ops.AssignThis (Some o)) = tt
-told d (ops.SkipIfNotUnit j) = (record { operands = λ s. refl; caps = λ s. refl }, (j, [], refl, refl))
-told d (ops.CustomSyntax y) = tt
-told d (ops.ExportLocal s n) = tt
-told d (ops.ExportNamed n m) = tt
-told d (ops.Import n) = tt
-told d op = (record { operands = λ s. refl; caps = λ s. refl }, refl)
+told d (ops.Bool false) = record { left = refl; fixed = λ e. record { operands = λ s. refl; caps = λ s. refl }; plain = λ e. (refl, refl) }
+told d (ops.Bool true) = record { left = refl; fixed = λ e. record { operands = λ s. refl; caps = λ s. refl }; plain = λ e. (refl, refl) }
+told d (ops.StoreLocal s false) = record { left = refl; fixed = λ e. record { operands = λ s. refl; caps = λ s. refl }; plain = λ e. (refl, refl) }
+told d (ops.StoreLocal s true) = record { left = refl; fixed = λ e. record { operands = λ s. refl; caps = λ s. refl }; plain = λ e. (refl, refl) }
+told d (ops.AssignLocal s n None) = record { left = refl; fixed = λ e. record { operands = λ s. refl; caps = λ s. refl }; plain = λ e. (refl, refl) }
+told d (ops.AssignLocal s n (Some o)) = record { left = refl; fixed = λ e. record { operands = λ s. refl; caps = λ s. refl }; plain = λ e. (refl, refl) }
+told d (ops.DeclareLocal n false is_global) = record { left = refl; fixed = λ e. record { operands = λ s. refl; caps = λ s. refl }; plain = λ e. (refl, refl) }
+told d (ops.DeclareLocal n true false) = record { left = refl; fixed = λ e. record { operands = λ s. refl; caps = λ s. refl }; plain = λ e. (refl, refl) }
+told d (ops.DeclareLocal n true true) = record { left = refl; fixed = λ e. record { operands = λ s. refl; caps = λ s. refl }; plain = λ e. (refl, refl) }
+told d (ops.Jump j) = record { left = (j, [], refl, refl); fixed = λ e. record { operands = λ s. refl; caps = λ s. refl }; plain = λ e. absurd (false≢true e) }
+told d (ops.JumpIfTrue j) = record { left = (j, [], refl, refl); fixed = λ e. record { operands = λ s. refl; caps = λ s. refl }; plain = λ e. absurd (false≢true e) }
+told d (ops.JumpIfFalse j) = record { left = (j, [], refl, refl); fixed = λ e. record { operands = λ s. refl; caps = λ s. refl }; plain = λ e. absurd (false≢true e) }
+told d (ops.Call n a None capture) = record { left = refl; fixed = λ e. absurd (false≢true e); plain = λ e. absurd (false≢true e) }
+told d (ops.Call n a (Some o) capture) = record { left = refl; fixed = λ e. absurd (false≢true e); plain = λ e. absurd (false≢true e) }
+told d (ops.EvalAst r true) = record { left = refl; fixed = λ e. record { operands = λ s. refl; caps = λ s. refl }; plain = λ e. (refl, refl) }
+told d (ops.EvalAst r false) = record { left = refl; fixed = λ e. record { operands = λ s. refl; caps = λ s. refl }; plain = λ e. (refl, refl) }
+told d (ops.Chain h) = record { left = refl; fixed = λ e. absurd (false≢true e); plain = λ e. absurd (false≢true e) }
+told d (ops.MakeArray s) = record { left = refl; fixed = λ e. absurd (false≢true e); plain = λ e. absurd (false≢true e) }
+told d (ops.Switch w) = record { left = (w, refl); fixed = λ e. absurd (false≢true e); plain = λ e. absurd (false≢true e) }
+told d (ops.LoadNamed n) = record { left = refl; fixed = λ e. absurd (false≢true e); plain = λ e. absurd (false≢true e) }
+told d (ops.AssignNamed n None) = record { left = refl; fixed = λ e. record { operands = λ s. refl; caps = λ s. refl }; plain = λ e. (refl, refl) }
+told d (ops.AssignNamed n (Some o)) = record { left = refl; fixed = λ e. record { operands = λ s. refl; caps = λ s. refl }; plain = λ e. (refl, refl) }
+told d (ops.IterNext j None) = record { left = (j, [], refl, refl); fixed = λ e. record { operands = λ s. refl; caps = λ s. refl }; plain = λ e. absurd (false≢true e) }
+told d (ops.IterNext j (Some s)) = record { left = (j, Slot s ∷ [], refl, refl); fixed = λ e. record { operands = λ s. refl; caps = λ s. refl }; plain = λ e. absurd (false≢true e) }
+told d (ops.PushHandler j None) = record { left = (j, [], refl, refl); fixed = λ e. record { operands = λ s. refl; caps = λ s. refl }; plain = λ e. absurd (false≢true e) }
+told d (ops.PushHandler j (Some n)) = record { left = (j, Index Names n ∷ [], refl, refl); fixed = λ e. record { operands = λ s. refl; caps = λ s. refl }; plain = λ e. absurd (false≢true e) }
+told d ops.MakeFnPtr = record { left = refl; fixed = λ e. absurd (false≢true e); plain = λ e. absurd (false≢true e) }
+told d (ops.Curry a) = record { left = refl; fixed = λ e. absurd (false≢true e); plain = λ e. absurd (false≢true e) }
+told d (ops.CallFnPtr a false false None) = record { left = refl; fixed = λ e. absurd (false≢true e); plain = λ e. absurd (false≢true e) }
+told d (ops.CallFnPtr a true capture None) = record { left = refl; fixed = λ e. absurd (false≢true e); plain = λ e. absurd (false≢true e) }
+told d (ops.CallFnPtr a false true None) = record { left = refl; fixed = λ e. absurd (false≢true e); plain = λ e. absurd (false≢true e) }
+told d (ops.CallFnPtr a is_method capture (Some (receiver.Local s))) = record { left = refl; fixed = λ e. absurd (false≢true e); plain = λ e. absurd (false≢true e) }
+told d (ops.CallFnPtr a is_method capture (Some (receiver.Named n))) = record { left = refl; fixed = λ e. absurd (false≢true e); plain = λ e. absurd (false≢true e) }
+told d (ops.CallFnPtr a is_method capture (Some receiver.This)) = record { left = refl; fixed = λ e. absurd (false≢true e); plain = λ e. absurd (false≢true e) }
+told d (ops.Share s) = record { left = refl; fixed = λ e. absurd (false≢true e); plain = λ e. absurd (false≢true e) }
+told d (ops.ShareNamed n) = record { left = refl; fixed = λ e. absurd (false≢true e); plain = λ e. absurd (false≢true e) }
+told d (ops.MakeClosure n) = record { left = refl; fixed = λ e. absurd (false≢true e); plain = λ e. absurd (false≢true e) }
+told d ops.IsShared = record { left = refl; fixed = λ e. absurd (false≢true e); plain = λ e. absurd (false≢true e) }
+told d (ops.CheckSize s false) = record { left = refl; fixed = λ e. record { operands = λ s. refl; caps = λ s. refl }; plain = λ e. (refl, refl) }
+told d (ops.CheckSize s true) = record { left = refl; fixed = λ e. record { operands = λ s. refl; caps = λ s. refl }; plain = λ e. (refl, refl) }
+told d (ops.MakeMap s) = record { left = refl; fixed = λ e. absurd (false≢true e); plain = λ e. absurd (false≢true e) }
+told d (ops.CallRef n a (receiver.Local s) capture) = record { left = refl; fixed = λ e. absurd (false≢true e); plain = λ e. absurd (false≢true e) }
+told d (ops.CallRef n a (receiver.Named m) capture) = record { left = refl; fixed = λ e. absurd (false≢true e); plain = λ e. absurd (false≢true e) }
+told d (ops.CallRef n a receiver.This capture) = record { left = refl; fixed = λ e. absurd (false≢true e); plain = λ e. absurd (false≢true e) }
+told d (ops.Rotate a) = record { left = refl; fixed = λ e. absurd (false≢true e); plain = λ e. absurd (false≢true e) }
+told d ops.LoadThis = record { left = refl; fixed = λ e. absurd (false≢true e); plain = λ e. absurd (false≢true e) }
+told d ops.LoadThisShared = record { left = refl; fixed = λ e. absurd (false≢true e); plain = λ e. absurd (false≢true e) }
+told d ops.RequireThis = record { left = refl; fixed = λ e. absurd (false≢true e); plain = λ e. absurd (false≢true e) }
+told d (ops.AssignThis None) = record { left = refl; fixed = λ e. absurd (false≢true e); plain = λ e. absurd (false≢true e) }
+told d (ops.AssignThis (Some o)) = record { left = refl; fixed = λ e. absurd (false≢true e); plain = λ e. absurd (false≢true e) }
+told d (ops.SkipIfNotUnit j) = record { left = (j, [], refl, refl); fixed = λ e. record { operands = λ s. refl; caps = λ s. refl }; plain = λ e. absurd (false≢true e) }
+told d (ops.CustomSyntax y) = record { left = refl; fixed = λ e. absurd (false≢true e); plain = λ e. absurd (false≢true e) }
+told d (ops.ExportLocal s n) = record { left = refl; fixed = λ e. absurd (false≢true e); plain = λ e. absurd (false≢true e) }
+told d (ops.ExportNamed n m) = record { left = refl; fixed = λ e. absurd (false≢true e); plain = λ e. absurd (false≢true e) }
+told d (ops.Import n) = record { left = refl; fixed = λ e. absurd (false≢true e); plain = λ e. absurd (false≢true e) }
+told d ops.Return = record { left = refl; fixed = λ e. record { operands = λ s. refl; caps = λ s. refl }; plain = λ e. absurd (false≢true e) }
+told d ops.Throw = record { left = refl; fixed = λ e. record { operands = λ s. refl; caps = λ s. refl }; plain = λ e. absurd (false≢true e) }
+told d ops.IterInit = record { left = refl; fixed = λ e. record { operands = λ s. refl; caps = λ s. refl }; plain = λ e. absurd (false≢true e) }
+told d ops.IterDrop = record { left = refl; fixed = λ e. record { operands = λ s. refl; caps = λ s. refl }; plain = λ e. absurd (false≢true e) }
+told d ops.PopHandler = record { left = refl; fixed = λ e. record { operands = λ s. refl; caps = λ s. refl }; plain = λ e. absurd (false≢true e) }
+told d op = record { left = refl; fixed = λ e. record { operands = λ s. refl; caps = λ s. refl }; plain = λ e. (refl, refl) }
 
--- a flow that a tag tells is that of the operation, with its first field as the target
-pub tells_flow : (f : Flow) (e : ℕ × ℕ × ℕ) (op : Op) (target : ℕ) → (HasTarget f → (t : ℕ) (others : List Field) → (form op).1 ≡ Target t ∷ others → target ≡ t)
-    → TellsFlow (Some f) e op → IsFixed op e × (flow f target ≡ flow_of op)
-tells_flow ways.Falls e op target first (fixed, is) = (fixed, sym is)
-tells_flow ways.Ends e op target first (fixed, is) = (fixed, sym is)
-tells_flow ways.Jumps e op target first (fixed, (t, others, first_is, is)) = (fixed, ap flows.Jumps (first tt t others first_is) ∙ sym is)
-tells_flow ways.Branches e op target first (fixed, (t, others, first_is, is)) = (fixed, ap flows.Branches (first tt t others first_is) ∙ sym is)
-tells_flow ways.Switches e op target first h = absurd h
-tells_flow ways.BeginsIterator e op target first (fixed, is) = (fixed, sym is)
-tells_flow ways.AdvancesIterator e op target first (fixed, (t, others, first_is, is)) = (fixed, ap flows.AdvancesIterator (first tt t others first_is) ∙ sym is)
-tells_flow ways.EndsIterator e op target first (fixed, is) = (fixed, sym is)
-tells_flow ways.PushesHandler e op target first (fixed, (t, others, first_is, is)) = (fixed, ap flows.PushesHandler (first tt t others first_is) ∙ sym is)
-tells_flow ways.PopsHandler e op target first (fixed, is) = (fixed, sym is)
+-- the flow of a row that says all is that of the operation, with its first field as the target
+pub left_by : (f : Flow) (plain : Bool) (op : Op) (target : ℕ) → fixes f plain ≡ true → (HasTarget f → (t : ℕ) (others : List Field) → (form op).1 ≡ Target t ∷ others → target ≡ t)
+    → IsLeftBy f op → flow f target ≡ flow_of op
+left_by ways.Falls plain op target fixed first is = sym is
+left_by ways.Ends plain op target fixed first is = sym is
+left_by ways.Jumps plain op target fixed first (t, others, first_is, is) = ap flows.Jumps (first tt t others first_is) ∙ sym is
+left_by ways.Branches plain op target fixed first (t, others, first_is, is) = ap flows.Branches (first tt t others first_is) ∙ sym is
+left_by ways.Switches plain op target fixed first h = absurd (false≢true fixed)
+left_by ways.BeginsIterator plain op target fixed first is = sym is
+left_by ways.AdvancesIterator plain op target fixed first (t, others, first_is, is) = ap flows.AdvancesIterator (first tt t others first_is) ∙ sym is
+left_by ways.EndsIterator plain op target fixed first is = sym is
+left_by ways.PushesHandler plain op target fixed first (t, others, first_is, is) = ap flows.PushesHandler (first tt t others first_is) ∙ sym is
+left_by ways.PopsHandler plain op target fixed first is = sym is
 
 -- an operation whose flow has a target begins with it
-tells_target : (f : Flow) (e : ℕ × ℕ × ℕ) (op : Op) → HasTarget f → TellsFlow (Some f) e op → (t : ℕ) × (others : List Field) × ((form op).1 ≡ Target t ∷ others)
-tells_target ways.Falls e op has h = absurd has
-tells_target ways.Ends e op has h = absurd has
-tells_target ways.Jumps e op has (fixed, (t, others, first, is)) = (t, others, first)
-tells_target ways.Branches e op has (fixed, (t, others, first, is)) = (t, others, first)
-tells_target ways.Switches e op has h = absurd has
-tells_target ways.BeginsIterator e op has h = absurd has
-tells_target ways.AdvancesIterator e op has (fixed, (t, others, first, is)) = (t, others, first)
-tells_target ways.EndsIterator e op has h = absurd has
-tells_target ways.PushesHandler e op has (fixed, (t, others, first, is)) = (t, others, first)
-tells_target ways.PopsHandler e op has h = absurd has
+begins_with : (f : Flow) (op : Op) → HasTarget f → IsLeftBy f op → (t : ℕ) × (others : List Field) × ((form op).1 ≡ Target t ∷ others)
+begins_with ways.Falls op has h = absurd has
+begins_with ways.Ends op has h = absurd has
+begins_with ways.Jumps op has (t, others, first, is) = (t, others, first)
+begins_with ways.Branches op has (t, others, first, is) = (t, others, first)
+begins_with ways.Switches op has h = absurd has
+begins_with ways.BeginsIterator op has h = absurd has
+begins_with ways.AdvancesIterator op has (t, others, first, is) = (t, others, first)
+begins_with ways.EndsIterator op has h = absurd has
+begins_with ways.PushesHandler op has (t, others, first, is) = (t, others, first)
+begins_with ways.PopsHandler op has h = absurd has
 
 -- its fields have room for the target
-pub target_fits : (f : Flow) (e : ℕ × ℕ × ℕ) (op : Op) (tag : ℕ) (fields : List ℕ) → HasTarget f → TellsFlow (Some f) e op → Instr (tag ∷ fields) op → 4 ≤ length fields
-target_fits f e op tag fields has tells is =
-    let (t, others, first) = tells_target f e op has tells in
+pub target_fits : (f : Flow) (op : Op) (tag : ℕ) (fields : List ℕ) → HasTarget f → IsLeftBy f op → Instr (tag ∷ fields) op → 4 ≤ length fields
+target_fits f op tag fields has left is =
+    let (t, others, first) = begins_with f op has left in
     omega (arith, instr_width (tag ∷ fields) op is, ap (sum_by size_of) first, sum_by-cons size_of (Target t) others)
 
 -- whatever operation has the tag

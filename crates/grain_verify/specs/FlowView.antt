@@ -7,39 +7,11 @@ use Rattle.grain_rules.specs.Counts.{Counts}
 use Rattle.grain_rules.specs.Flow as flows
 use Rattle.grain_rules.specs.FlowFields.{bases_for, falls_for, handlers_for, iterators_for, targets_for}
 use Rattle.grain_verify.specs.Lists.{list_of, list_count}
-use Rattle.grain_verify.specs.declared.flow.Flow.{Flow}
-use Rattle.grain_verify.specs.declared.flow.Flow.TheVariants as ways
 use Rattle.grain_rules.specs.declared.error.VerifyError.{VerifyError}
 use Rattle.grain_rules.specs.declared.error.VerifyError.TheVariants as errors
 use Rattle.grain_verify.specs.declared.lists.Lists.{Lists}
 use Rattle.grain_verify.specs.declared.state.Arrival.{Arrival}
 use Rattle.grain_verify.specs.declared.state.State.{State}
-
--- the flow of an operation, by its target where it has one
-abbrev pub flow : Flow → ℕ → flows.Flow
-flow ways.Falls target = flows.Falls
-flow ways.Ends target = flows.Ends
-flow ways.Jumps target = flows.Jumps target
-flow ways.Branches target = flows.Branches target
-flow ways.Switches target = flows.Switches target
-flow ways.BeginsIterator target = flows.BeginsIterator
-flow ways.AdvancesIterator target = flows.AdvancesIterator target
-flow ways.EndsIterator target = flows.EndsIterator
-flow ways.PushesHandler target = flows.PushesHandler target
-flow ways.PopsHandler target = flows.PopsHandler
-
--- it leads to an address, which is the first field of the operation
-abbrev pub HasTarget : Flow → Type 0
-HasTarget ways.Falls = ⊥
-HasTarget ways.Ends = ⊥
-HasTarget ways.Jumps = ⊤
-HasTarget ways.Branches = ⊤
-HasTarget ways.Switches = ⊥
-HasTarget ways.BeginsIterator = ⊥
-HasTarget ways.AdvancesIterator = ⊤
-HasTarget ways.EndsIterator = ⊥
-HasTarget ways.PushesHandler = ⊤
-HasTarget ways.PopsHandler = ⊥
 
 -- there are the iterators and handlers that it needs
 pub record IsMetBy (f : flows.Flow) (c : Counts) : Type 0 where

@@ -10,8 +10,8 @@ use Rattle.grain_verify.specs.Operands.{stack_effect}
 use Rattle.grain_verify.specs.Lists.{list_of}
 use Rattle.grain_rules.specs.Setting.{Setting}
 use Rattle.grain_rules.specs.Sinking.{ReachesUpTo}
-use Rattle.grain_verify.specs.declared.flow.Flow.{Flow}
-use Rattle.grain_verify.specs.declared.flow.Flow.TheVariants as ways
+use Rattle.grain_code.specs.declared.flow.Flow.{Flow}
+use Rattle.grain_code.specs.declared.flow.Flow.TheVariants as ways
 use Rattle.grain_verify.specs.declared.lists.Lists.{Lists}
 use Rattle.grain_verify.specs.declared.state.Arrival.{Arrival}
 use Rattle.grain_verify.specs.declared.state.State.{State}

@@ -9,7 +9,7 @@ use Rattle.grain_verify.specs.Progress.{HaltsAt, IsWalking, all_targets}
 use Rattle.grain_verify.specs.Walk.{IsReady, Walked}
 use Rattle.grain_rules.specs.declared.error.VerifyError.{VerifyError}
 use Rattle.grain_rules.specs.declared.error.VerifyError.TheVariants.{OutOfMemory}
-use Rattle.grain_verify.specs.declared.flow.Flow.{Flow}
+use Rattle.grain_code.specs.declared.flow.Flow.{Flow}
 use Rattle.grain_verify.specs.declared.lists.Lists.{Lists}
 use Rattle.grain_verify.specs.declared.state.Arrival.{Arrival}
 use Rattle.grain_verify.specs.declared.state.State.{State}

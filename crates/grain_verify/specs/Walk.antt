@@ -8,9 +8,10 @@ use Rattle.grain_code.specs.declared.tag_widths.Head.{Head}
 use Rattle.grain_verify.specs.Arrivals.{view}
 use Rattle.grain_rules.specs.Capabilities.{Allows}
 use Rattle.grain_rules.specs.Code.{Bytecode}
+use Rattle.grain_rules.specs.Rows.{caps_of}
 use Rattle.grain_rules.specs.Sinking.{Stays}
 use Rattle.grain_verify.specs.TagRows.{IsEffectIn}
-use Rattle.grain_verify.specs.declared.effects.Effect.{Effect}
+use Rattle.grain_rules.specs.declared.effect.Effect.{Effect}
 use Rattle.grain_verify.specs.declared.lists.Lists.{Lists}
 use Rattle.grain_verify.specs.declared.state.Arrival.{Arrival}
 
@@ -38,6 +39,6 @@ pub record IsPassing (p : Walked) (lists : Lists) (here : Arrival) (i : Instruct
   pub stands : StandsAt p.code.bytes here.at op
   pub is : Instr (i.tag ∷ i.fields.now) op
   pub does : IsEffectIn p.code.setting.facts effect op
-  pub allowed : Allows p.code.setting.caps effect.asks.0
+  pub allowed : Allows p.code.setting.caps (caps_of p.code.setting op)
   pub there : effect.needs ≤ here.state.operands
   pub stays : Stays p.code.setting op (view lists here.state)

@@ -1,18 +1,19 @@
 //! What an instruction does, and what comes next, where its tag and its target tell: most instructions need no more.
-ghost use Rattle.std.specs.Prelude.{◌≡◌, ℕ, ◌+◌, ◌≤◌, ◌<◌, ◌^◌, ◌∷◌, IfSome, List, Some, length};
+ghost use Rattle.std.specs.Prelude.{◌≡◌, ℕ, ◌+◌, ◌≤◌, ◌<◌, ◌^◌, ◌∷◌, IfSome, List, length, true};
+ghost use Rattle.grain_code.specs.Flows.{is_fixed};
 ghost use Rattle.grain_code.specs.InstructionTable.{Instr, form, width_of};
 ghost use Rattle.grain_code.specs.Split.{StandsAt};
 ghost use Rattle.grain_code.specs.declared.field.Field.{Field};
 ghost use Rattle.grain_code.specs.declared.field.Field.TheVariants.{Target};
 ghost use Rattle.grain_code.specs.declared.op.Op.{Op};
 ghost use Rattle.grain_verify.specs.Plain.{IsFloor, IsPlainStep};
-ghost use Rattle.grain_verify.specs.TagRows.{IsEffectOf, IsRowOf, tag_flow};
+ghost use Rattle.grain_verify.specs.TagRows.{IsEffectOf, IsRowOf};
+ghost use Rattle.grain_rules.specs.declared.asks.Asks.TheVariants.{Nothing};
 ghost use Rattle.grain_verify.specs.declared.lists.Lists.{Lists};
 
-use crate::effects::Effect;
-use crate::flow::Flow;
 use crate::state::{Arrival, State};
-use grain_code::{Head, Instruction, TagFlow, TagRow, tag_row};
+use grain_code::{Flow, Head, Instruction, TagRow, tag_row};
+use grain_rules::{Asks, Effect};
 
 /// What the table of tags tells of the instructions with a tag.
 #[inline(always)]
@@ -20,25 +21,6 @@ pub(crate) fn row_of(tag: u8) -> &'static TagRow
     ensures { IsRowOf result.now tag }
 {
     tag_row(tag)
-}
-
-/// The flow that a row tells, if it does.
-#[inline(always)]
-fn tag_flow(flow: TagFlow) -> Option<Flow>
-    ensures { result ≡ tag_flow flow }
-{
-    match flow {
-        TagFlow::Untold => None,
-        TagFlow::Falls => Some(Flow::Falls),
-        TagFlow::Ends => Some(Flow::Ends),
-        TagFlow::Jumps => Some(Flow::Jumps),
-        TagFlow::Branches => Some(Flow::Branches),
-        TagFlow::BeginsIterator => Some(Flow::BeginsIterator),
-        TagFlow::AdvancesIterator => Some(Flow::AdvancesIterator),
-        TagFlow::EndsIterator => Some(Flow::EndsIterator),
-        TagFlow::PushesHandler => Some(Flow::PushesHandler),
-        TagFlow::PopsHandler => Some(Flow::PopsHandler),
-    }
 }
 
 /// The target with which the fields of an instruction begin.
@@ -51,17 +33,18 @@ fn first_target(fields: &[u8]) -> u32
     u32::from_le_bytes([fields[0], fields[1], fields[2], fields[3]])
 }
 
-/// What an instruction does of which the table of tags says this, and that it is left by this flow.
+/// What an instruction does whose row says all of it, and that it is left by this flow.
 #[inline(always)]
 pub(crate) fn effect_by_row(instruction: &Instruction<'_>, row: &TagRow, flow: Flow) -> Effect
     requires known { (op : Op) × Instr (instruction.now.tag ∷ instruction.now.fields.now) op }
     requires row { IsRowOf row.now instruction.now.tag }
-    requires flow { tag_flow row.now.flow ≡ Some flow }
+    requires fixed { is_fixed row.now ≡ true }
+    requires flow { row.now.flow ≡ flow }
     ensures does { (op : Op) → Instr (instruction.now.tag ∷ instruction.now.fields.now) op
         → IsEffectOf result op }
     ensures needs { result.needs ≡ row.now.needs }
     ensures takes { result.takes ≡ row.now.takes }
-    ensures asks { result.asks.0 ≡ 0 }
+    ensures asks { result.asks ≡ Nothing }
     ensures flow { result.flow ≡ flow }
 {
     let target = if flow.has_target() {
@@ -69,10 +52,18 @@ pub(crate) fn effect_by_row(instruction: &Instruction<'_>, row: &TagRow, flow: F
     } else {
         0
     };
-    Effect::of_tag(row, flow, target)
+    Effect {
+        asks: Asks::Nothing,
+        needs: u32::from(row.needs),
+        takes: u32::from(row.takes),
+        gives: u32::from(row.gives),
+        flow,
+        target,
+        quiet: row.is_quiet,
+    }
 }
 
-/// What an instruction does, where its tag and its target tell.
+/// What an instruction does, where its row says all of it.
 #[inline(always)]
 pub(crate) fn effect_by_tag(instruction: &Instruction<'_>, row: &TagRow) -> Option<Effect>
     requires known { (op : Op) × Instr (instruction.now.tag ∷ instruction.now.fields.now) op }
@@ -80,8 +71,10 @@ pub(crate) fn effect_by_tag(instruction: &Instruction<'_>, row: &TagRow) -> Opti
     ensures { IfSome result (λ e. (op : Op)
         → Instr (instruction.now.tag ∷ instruction.now.fields.now) op → IsEffectOf e op) }
 {
-    let flow = tag_flow(row.flow)?;
-    Some(effect_by_row(instruction, row, flow))
+    if !row.is_fixed() {
+        return None;
+    }
+    Some(effect_by_row(instruction, row, row.flow))
 }
 
 /// What falls through a plain instruction, which does no more than its tag tells, where it finds the operands that it needs
@@ -99,15 +92,13 @@ pub(crate) fn plain_next(row: &TagRow, head: Head, here: Arrival, floor: u64) ->
         → IsPlainStep code lists here next) }
 {
     let state = here.state;
-    match row.flow {
-        TagFlow::Falls if floor + u64::from(row.needs) <= u64::from(state.operands) => {
-            let left = state.operands - u32::from(row.takes) + u32::from(row.gives);
-            let after = State {
-                operands: left,
-                ..state
-            };
-            Some(here.next(usize::from(head.width), after))
-        }
-        _ => None,
+    if row.is_plain && floor + u64::from(row.needs) <= u64::from(state.operands) {
+        let left = state.operands - u32::from(row.takes) + u32::from(row.gives);
+        let after = State {
+            operands: left,
+            ..state
+        };
+        return Some(here.next(usize::from(head.width), after));
     }
+    None
 }

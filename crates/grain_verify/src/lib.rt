@@ -8,8 +8,6 @@ mod asked;
 mod by_tag;
 mod chunk;
 mod edges;
-mod effects;
-mod flow;
 mod lists;
 mod meter;
 mod refusal;

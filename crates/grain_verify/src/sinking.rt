@@ -4,7 +4,8 @@ ghost use Rattle.grain_code.specs.InstructionTable.{Instr, form};
 ghost use Rattle.grain_code.specs.declared.op.Op.{Op};
 ghost use Rattle.grain_verify.specs.Arrivals.{view};
 ghost use Rattle.grain_rules.specs.Counts.{last_base};
-ghost use Rattle.grain_verify.specs.FlowView.{IsMetBy, IsShort, flow};
+ghost use Rattle.grain_verify.specs.FlowView.{IsMetBy, IsShort};
+ghost use Rattle.grain_rules.specs.EffectView.{flow};
 ghost use Rattle.grain_verify.specs.Lists.{IsShared, as_base, list_count};
 ghost use Rattle.grain_rules.specs.Setting.{Setting};
 ghost use Rattle.grain_rules.specs.Sinking.{ReachesUpTo, Stays, untouched};
@@ -12,11 +13,10 @@ ghost use Rattle.grain_verify.specs.Operands.{stack_effect};
 ghost use Rattle.grain_rules.specs.Rows.{flow_of, is_quiet};
 ghost use Rattle.grain_verify.specs.SinkingView.{RefusesSinking};
 
-use crate::effects::Effect;
 use crate::lists::{Base, Lists};
 use crate::state::{Arrival, State};
 use grain_code::{Instruction, tag_row};
-use grain_rules::VerifyError;
+use grain_rules::{Effect, VerifyError};
 
 /// Whether the instruction is quiet, or else leaves what stood when the last handler was armed. Where it faults, that handler's
 /// code runs on what it left, and would find fewer operands or iterators than were tested there.
@@ -54,7 +54,7 @@ pub(crate) fn check_stays(
     if state.list == 0 {
         return Ok(());
     }
-    let needed = effect.flow.iterators_needed();
+    let needed = effect.iterators_needed();
     let State { iterators, .. } = state.without_iterators(needed, at)?;
     let left = Base {
         operands: state.operands - effect.takes,

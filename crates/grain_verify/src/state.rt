@@ -6,9 +6,8 @@ ghost use Rattle.grain_verify.specs.Lists.{Grows, IsShared, list_of, list_count}
 ghost use Rattle.grain_verify.specs.Plain.{IsFloor};
 ghost use Rattle.grain_rules.specs.Sinking.{ReachesUpTo};
 
-use crate::effects::Effect;
 use crate::lists::{Base, Lists};
-use grain_rules::VerifyError;
+use grain_rules::{Effect, VerifyError};
 use std::alloc::AllocError;
 
 /// How many operands and iterators there are, and the number of the list of the bases of armed handlers.

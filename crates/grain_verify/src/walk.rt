@@ -2,9 +2,10 @@
 //! instruction after instruction, and [`Prepared::visit`] or [`Prepared::visit_by_tag`] does one of them.
 ghost use Rattle.std.specs.Prelude.{◌≡◌, ℕ, ◌+◌, ◌-◌, ◌≤◌, ◌<◌, ◌^◌, ◌++◌, ◌∷◌, ◌⊎◌, [], None, Some};
 ghost use Rattle.std.specs.Prelude.{get_or, length, replicate, slice_get, IfErr, IfNone, IfOk, IfSome, OnOk};
-ghost use Rattle.std.specs.Prelude.{◌↔◌, IsTrue};
+ghost use Rattle.std.specs.Prelude.{◌↔◌, IsTrue, true};
 ghost use Rattle.std.specs.List.{Contains};
 ghost use Rattle.std.specs.Option.{option_to_list};
+ghost use Rattle.grain_code.specs.Flows.{is_fixed};
 ghost use Rattle.grain_code.specs.InstructionTable.{Instr};
 ghost use Rattle.grain_code.specs.Split.{StandsAt};
 ghost use Rattle.grain_code.specs.declared.op.Op.{Op};
@@ -14,12 +15,13 @@ ghost use Rattle.grain_rules.specs.Capabilities.{Allows};
 ghost use Rattle.grain_rules.specs.Code.{bytecode_beside, coded};
 ghost use Rattle.grain_verify.specs.Asked.{Knows};
 ghost use Rattle.grain_rules.specs.Rows.{caps_of, needs};
-ghost use Rattle.grain_verify.specs.FlowView.{IsFollowed, IsMetBy, RefusesFlow, flow};
+ghost use Rattle.grain_verify.specs.FlowView.{IsFollowed, IsMetBy, RefusesFlow};
+ghost use Rattle.grain_rules.specs.EffectView.{flow};
 ghost use Rattle.grain_verify.specs.Lists.{Grows, IsShared, list_count};
 ghost use Rattle.grain_verify.specs.Meter.{starts_within};
 ghost use Rattle.grain_verify.specs.Plain.{GoesOn, IsFloor};
 ghost use Rattle.grain_verify.specs.Progress.{Fits, HaltsAt, IsWalking, visits_in, weight};
-ghost use Rattle.grain_verify.specs.TagRows.{IsEffectIn, IsRowOf, tag_flow};
+ghost use Rattle.grain_verify.specs.TagRows.{IsEffectIn, IsRowOf};
 ghost use Rattle.grain_rules.specs.Typing.{HasTyping, IsDeepest, IsInChunk, IsReachedCount};
 ghost use Rattle.grain_verify.specs.Visits.{CarriesFloor, IsMarked, IsVisited, RefusesChunk};
 ghost use Rattle.grain_verify.specs.Walk.{HasHead, IsPassing, IsReady};
@@ -28,14 +30,12 @@ ghost use Rattle.grain_verify.specs.declared.lists.Lists.{Lists};
 use crate::asked::Asked;
 use crate::by_tag::{effect_by_row, effect_by_tag, plain_next, row_of};
 use crate::edges::{arrival_at, push_armed, push_ended, push_table, push_target};
-use crate::effects::Effect;
-use crate::flow::Flow;
 use crate::lists::Lists;
 use crate::sinking::check_stays;
 use crate::state::{Arrival, State, check_same};
 use crate::states::States;
-use grain_code::{Chunk, Head, Instruction, Starts, TagFlow, TagRow};
-use grain_rules::{Read, VerifyError, missing};
+use grain_code::{Chunk, Flow, Head, Instruction, Starts, TagRow};
+use grain_rules::{Effect, Read, VerifyError, missing};
 use grain_values::{Caps, Flags};
 use std::alloc::{AllocError, Global};
 use std::marker::Model;
@@ -296,15 +296,21 @@ impl<'a, P: Read> Prepared<'a, P> {
     /// # Errors
     /// `MissingCaps`, or `Underflow` where nothing is missing.
     #[inline(always)]
-    fn check_needs(&self, effect: Effect, at: u32, state: State) -> Result<(), VerifyError>
-        ensures allowed { OnOk result (Allows self.now.code.setting.caps effect.asks.0) }
+    fn check_needs(
+        &self,
+        asks: Caps,
+        effect: Effect,
+        at: u32,
+        state: State,
+    ) -> Result<(), VerifyError>
+        ensures allowed { OnOk result (Allows self.now.code.setting.caps asks.0) }
         ensures there { OnOk result (effect.needs ≤ state.operands) }
         ensures err { (op : Op) (lists : Lists)
-            → effect.asks.0 ≡ caps_of self.now.code.setting op
+            → asks.0 ≡ caps_of self.now.code.setting op
             → effect.needs ≡ needs self.now.code.setting op
             → IfErr result (λ e. RefusesState self.now.code op at (view lists state) e) }
     {
-        let missing = missing(self.caps, effect.asks);
+        let missing = missing(self.caps, asks);
         if !missing.is_empty() {
             return Err(VerifyError::MissingCaps {
                 artifact: self.caps,
@@ -322,32 +328,21 @@ impl<'a, P: Read> Prepared<'a, P> {
         Ok(())
     }
 
-    /// What an instruction does. It is decoded where its tag and its target don't tell, since decoding takes longer.
-    ///
-    /// # Errors
-    /// Those of [`Asked::of`].
+    /// What an instruction does. It is decoded where its row doesn't say all of it, since decoding takes longer.
     #[inline(always)]
-    fn effect_of(
-        &self,
-        instruction: &Instruction<'_>,
-        row: &TagRow,
-        asked: &mut Asked,
-    ) -> Result<Effect, AllocError>
+    fn effect_of(&self, instruction: &Instruction<'_>, row: &TagRow) -> Effect
         requires row { IsRowOf row.now instruction.now.tag }
         requires known { (op : Op) × Instr (instruction.now.tag ∷ instruction.now.fields.now) op }
-        requires knows { Knows self.now.code.setting.facts asked.old }
-        ensures knows { OnOk result (Knows self.now.code.setting.facts asked.new) }
-        ensures does { IfOk result (λ e. (op : Op)
-            → Instr (instruction.now.tag ∷ instruction.now.fields.now) op
-            → IsEffectIn self.now.code.setting.facts e op) }
+        ensures { (op : Op) → Instr (instruction.now.tag ∷ instruction.now.fields.now) op
+            → IsEffectIn self.now.code.setting.facts result op }
     {
         if let Some(effect) = effect_by_tag(instruction, row) {
-            return Ok(effect);
+            return effect;
         }
         let Some(op) = instruction.op() else {
             unreachable!();
         };
-        Effect::of(&op, self.pools, asked)
+        Effect::of(&op, self.pools)
     }
 
     /// Follows the flow of an instruction that has all that it asks and needs but maybe an iterator or a handler. It answers
@@ -413,8 +408,9 @@ impl<'a, P: Read> Prepared<'a, P> {
         ensures err { IfErr result (RefusesChunk self.now.code chunk.now) }
     {
         let instruction = self.instruction(here.at, head);
-        let effect = self.effect_of(&instruction, row, asked)?;
-        self.check_needs(effect, here.at, here.state)?;
+        let effect = self.effect_of(&instruction, row);
+        let asks = asked.of(self.pools, effect.asks)?;
+        self.check_needs(asks, effect, here.at, here.state)?;
         check_stays(&instruction, effect, here, lists)?;
         self.follow_passing(chunk, here, &instruction, effect, lists, traversal)
     }
@@ -439,7 +435,8 @@ impl<'a, P: Read> Prepared<'a, P> {
         requires marked { IsMarked self.now chunk.now lists.old traversal.old here }
         requires headed { HasHead self.now.code.bytes here.at head }
         requires row { IsRowOf row.now head.tag }
-        requires flow { tag_flow row.now.flow ≡ Some flow }
+        requires flow { row.now.flow ≡ flow }
+        requires fixed { is_fixed row.now ≡ true }
         requires goes_on { GoesOn flow }
         requires above { (floor : ℕ) × IsFloor lists.old here.state floor
             × (floor + row.now.needs ≤ here.state.operands) }
@@ -554,21 +551,21 @@ impl<'a, P: Read> Prepared<'a, P> {
             }
             let above = floor + u64::from(row.needs) <= u64::from(here.state.operands);
             match row.flow {
-                TagFlow::Jumps if above => {
+                Flow::Jumps if above => {
                     let flow = Flow::Jumps;
                     match self.visit_by_tag(chunk, here, head, row, flow, lists, traversal) {
                         Ok(next) => here = next,
                         Err(error) => return Err(error),
                     }
                 }
-                TagFlow::Branches if above => {
+                Flow::Branches if above => {
                     let flow = Flow::Branches;
                     match self.visit_by_tag(chunk, here, head, row, flow, lists, traversal) {
                         Ok(next) => here = next,
                         Err(error) => return Err(error),
                     }
                 }
-                TagFlow::PushesHandler if above => {
+                Flow::PushesHandler if above => {
                     let flow = Flow::PushesHandler;
                     match self.visit_by_tag(chunk, here, head, row, flow, lists, traversal) {
                         Ok(next) => here = next,
@@ -576,7 +573,7 @@ impl<'a, P: Read> Prepared<'a, P> {
                     }
                     floor = here.state.floor_armed();
                 }
-                TagFlow::PopsHandler if above => {
+                Flow::PopsHandler if above => {
                     let flow = Flow::PopsHandler;
                     match self.visit_by_tag(chunk, here, head, row, flow, lists, traversal) {
                         Ok(next) => here = next,

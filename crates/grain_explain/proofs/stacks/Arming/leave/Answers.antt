@@ -1,5 +1,5 @@
 use Rattle.std.proofs.Common.{◌≡◌, ◌≤◌, List, length, ap, sym, subst, ◌∙◌, arith}
-use Rattle.grain_rules.specs.EffectView.{flow_view}
+use Rattle.grain_rules.specs.EffectView.{flow_in}
 use Rattle.grain_rules.specs.FlowFields.{fall_for}
 use Rattle.grain_explain.specs.Claimed.{falling_on}
 use Rattle.grain_explain.specs.OnEdges.{counts_on, left_by}
@@ -24,7 +24,7 @@ returns-clause-leaves c =
     let jump_same = sym (edge_kept old new c.requires.linked both jump_edge (c.to_targets-jump.ensures.listed old c.requires.listed)) ∙ c.to_targets-jump.ensures.counts new in
     let fall = c.in_ok-fall.ensures.lands in
     let fall_counts = subst (λ (bs : List LinkedBase). counts_on bs c.to_next-fall.result ≡ falling_on bs row effect) c.deref.ensures.value c.to_next-fall.ensures.counts in
-    let kept = ap (fall_for (flow_view effect.flow) (left_by effect row.operands)) (sym (counts_kept mid new first.linked second row listed)) in
+    let kept = ap (fall_for (flow_in effect) (left_by effect row.operands)) (sym (counts_kept mid new first.linked second row listed)) in
     record {
       jump = record { listed = jump.listed; is = jump.is ∙ jump_same };
       fall = record { listed = fall.listed; is = fall.is ∙ (fall_counts ∙ kept) };

@@ -4,12 +4,13 @@ use Rattle.std.specs.List.{Contains}
 use Rattle.grain_code.specs.InstructionTable.{width_of}
 use Rattle.grain_code.proofs.Instructions.{instr_width}
 use Rattle.grain_verify.specs.Arrivals.{view}
-use Rattle.grain_rules.specs.Capabilities.{Allows}
 use Rattle.grain_rules.specs.Code.{coded}
 use Rattle.grain_rules.specs.Flaw.{ChunkFlaw}
 use Rattle.grain_rules.specs.Flow.{Flow}
 use Rattle.grain_rules.specs.FlowFields.{targets_for}
-use Rattle.grain_verify.specs.FlowView.{IsFollowed, IsMetBy, RefusesFlow, flow}
+use Rattle.grain_rules.specs.Rows.{caps_of}
+use Rattle.grain_verify.specs.FlowView.{IsFollowed, IsMetBy, RefusesFlow}
+use Rattle.grain_rules.specs.EffectView.{flow}
 use Rattle.grain_rules.specs.Typing.{StandsIn}
 use Rattle.grain_rules.specs.declared.error.VerifyError.TheVariants.{OutOfMemory}
 use Rattle.grain_verify.specs.Walk.{Walked}
@@ -87,16 +88,15 @@ returns-clause-err g c =
     let does = c.args.effect in
     let known = c.requires.passing.does in
     let operands = known.operands code.setting refl in
-    let asked = known.asks code.setting refl in
     let found = c.requires.passing in
     let reached = taken_reached _ _ halts.1.is in
     let stands : StandsIn (coded code) chunk here.at op = record { within = taken_inside _ _ halts.1.is halts.1.within; is = c.requires.passing.stands } in
     let stays = c.requires.passing.stays in
-    let passes = λ (met : IsMetBy (flow does.flow does.target) counts). passes_known code chunk here.at op counts does.asks.0 does.needs does.takes does.gives (flow does.flow does.target)
-    stands asked operands known.flow_is found.allowed found.there met stays in
+    let passes = λ (met : IsMetBy (flow does.flow does.target) counts). passes_known code chunk here.at op counts (caps_of code.setting op) does.needs does.takes does.gives (flow does.flow does.target)
+    stands refl operands known.flow_is found.allowed found.there met stays in
     err_so c.follow.result (λ e refused. elim refused as (λ _. (e ≡ OutOfMemory) ⊎ ChunkFlaw code chunk e) [
       | inl short ↦ inr (refused_state code chunk here.at op counts e c.requires.marked.framed (record { reached = reached; stands = stands })
-          (short_state code op here.at counts (flow does.flow does.target) e known.flow_is (subst (Allows code.setting.caps) asked found.allowed) short))
+          (short_state code op here.at counts (flow does.flow does.target) e known.flow_is found.allowed short))
       | inr (met, inl (inl m)) ↦ inl m
       | inr (met, inl (inr (x, named, bad))) ↦ inr (refused_target code self.starts chunk here.at x e c.requires.marked.ready.starts c.requires.marked.framed
           (record { counts = counts; op = op; reached = reached; passes = passes met; names = subst (λ (f : Flow). Contains (targets_for code.switches f) x) known.flow_is named }) bad)
@@ -121,8 +121,8 @@ returns-clause-visited g c =
     let done = c.follow.ensures in
     all_ok c.follow.result done.grows done.met done.states done.long (λ next grows met states long followed. record {
       walking = λ deepest halts. visited self c.args.chunk.now c.args.traversal.now new c.args.here deepest op c.width.result c.requires.marked.ready c.requires.marked.framed before
-          c.follow.new.lists grows halts found.stands wide does.asks.0 does.needs does.takes does.gives (flow does.flow does.target) (new.work.items ++ option_to_list next)
-          (known.asks code.setting refl) operands known.flow_is found.allowed found.there met found.stays followed states long;
+          c.follow.new.lists grows halts found.stands wide (caps_of code.setting op) does.needs does.takes does.gives (flow does.flow does.target) (new.work.items ++ option_to_list next)
+          refl operands known.flow_is found.allowed found.there met found.stays followed states long;
       states = states;
       few = followed_few _ c.args.chunk.now _ _ _ _ _ _ _ _ _ c.args.traversal.now.work.items (new.work.items ++ option_to_list next) followed;
     }) (subst (λ (p : Walked). IfOk c.follow.result (λ next. IsFollowed p.starts c.args.chunk.now p.code.switches (flow does.flow does.target) (c.args.here.state.operands - does.takes + does.gives)

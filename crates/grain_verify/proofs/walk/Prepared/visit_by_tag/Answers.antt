@@ -4,11 +4,11 @@ use Rattle.grain_verify.specs.Arrivals.{view}
 use Rattle.grain_rules.specs.Capabilities.{Allows}
 use Rattle.grain_rules.specs.Counts.{Base, last_base}
 use Rattle.grain_rules.specs.FlowFields.{iterators_for}
-use Rattle.grain_verify.specs.FlowView.{flow}
+use Rattle.grain_rules.specs.EffectView.{asked_in, flow}
 use Rattle.grain_verify.specs.Plain.{GoesOn}
 use Rattle.grain_rules.specs.Sinking.{ReachesUpTo}
 use Rattle.grain_verify.specs.Visits.{CarriesFloor, IsVisited}
-use Rattle.grain_verify.specs.declared.flow.Flow.{Flow}
+use Rattle.grain_code.specs.declared.flow.Flow.{Flow}
 use Rattle.grain_verify.specs.declared.state.Arrival.{Arrival}
 use Rattle.grain_verify.proofs.Flows.{goes_freely, nothing_missing}
 use Rattle.grain_verify.proofs.Staying.{untouched_known}
@@ -34,8 +34,8 @@ follow_passing-requires-clause-passing g c =
       op = op;
       stands = c.instruction-instruction.ensures.found.1;
       is = is;
-      does = record { operands = λ s same. known.operands s; asks = λ s asked. known.asks s; flow_is = known.flow_is };
-      allowed = subst (Allows setting.caps) (sym e.asks) (nothing_missing setting.caps);
+      does = record { operands = λ s same. known.operands s; asks = known.asks; flow_is = known.flow_is };
+      allowed = subst (Allows setting.caps) (ap (asked_in setting) (sym e.asks) ∙ known.asks setting) (nothing_missing setting.caps);
       there = omega (arith, e.needs, above);
       stays = λ loud. subst (ReachesUpTo (last_base counts.bases))
           (untouched_known setting op counts does.needs does.takes does.gives (flow does.flow does.target) (known.operands setting) known.flow_is)
