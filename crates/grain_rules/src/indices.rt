@@ -1,25 +1,18 @@
 //! Indices into pools and among the operands of chains.
-ghost use Rattle.std.specs.Prelude.{◌≡◌, [], ◌∷◌, ◌+◌, ◌<◌, ◌≤◌, IfErr, IfOk, OnOk, ℕ, get_or, length, map, take};
+ghost use Rattle.std.specs.Prelude.{◌≡◌, [], ◌∷◌, ◌<◌, IfErr, OnOk, get_or, map};
 ghost use Rattle.std.specs.Option.{option_to_list};
 ghost use Rattle.grain_rules.specs.Facts.{Entry};
 ghost use Rattle.grain_pools.specs.Dispatch.{first_past};
-ghost use Rattle.grain_code.specs.InstructionTable.{width_of};
-ghost use Rattle.grain_code.specs.Split.{StandsAt};
 ghost use Rattle.grain_code.specs.declared.field.Pool.{Pool};
 ghost use Rattle.grain_code.specs.declared.op.Op.{Op};
-ghost use Rattle.grain_rules.specs.Accepted.{AreIndexed};
-ghost use Rattle.grain_rules.specs.Flaw.{CodeFlaw};
 ghost use Rattle.grain_rules.specs.FirstOut.{CasesPass, ChainsPass, HavePassed, alone, bound_word, first_out};
 ghost use Rattle.grain_rules.specs.FirstOut.{receiver_mentions, refused, tests_inside};
 ghost use Rattle.grain_rules.specs.Indices.{Indexed, IsOut, cases_of, test_of, tests_of};
-ghost use Rattle.grain_rules.specs.Setting.{Setting, with_caps};
 
-use crate::bounds::{BadIndex, Bound, check_below, word_of};
-use crate::error::VerifyError;
-use crate::passed::{FEW_WORDS, Passed, WORDS, add_passed, has_passed};
+use crate::bounds::{BadIndex, Bound, check_below};
+use crate::passed::{Passed, add_passed, has_passed};
 use crate::read::Read;
-use crate::unindexed::unindexed_width;
-use grain_code::{Instruction, Op, Pool, Receiver};
+use grain_code::{Op, Pool, Receiver};
 
 /// Tests an index against the size of its pool.
 fn check<P: Read>(pools: &P, pool: Pool, index: u32) -> Result<(), BadIndex>
@@ -152,7 +145,7 @@ fn bad_constant_of<P: Read>(pools: &P, passed: &mut [u64], op: &Op) -> Option<u3
 /// Tests every index of an operation: its own, those inside the chain that it names, and those of the cases of its switch.
 #[tactic(auto, using(crate::proofs::Testing::indexed, crate::proofs::Testing::index_out, crate::proofs::Testing::case_out))]
 #[inline(always)]
-fn check_op<P: Read, const N: usize>(
+pub(crate) fn check_op<P: Read, const N: usize>(
     pools: &P,
     passed: &mut Passed<N>,
     op: &Op,
@@ -170,116 +163,5 @@ fn check_op<P: Read, const N: usize>(
             index,
         }),
         None => Ok(()),
-    }
-}
-
-/// Where the instructions without an index end that stand one after another from an address on.
-#[inline(always)]
-fn skip_unindexed(code: &[u8], from: usize) -> usize
-    requires { from ≤ length code.now }
-    ensures further { from ≤ result }
-    ensures inside { result ≤ length code.now }
-    ensures indexed { (s : Setting) → AreIndexed s (take from code.now)
-        → AreIndexed s (take result code.now) }
-{
-    let mut at = from;
-    while let Some(width) = unindexed_width(code, at) {
-        at += width;
-    }
-    at
-}
-
-/// Where the next instruction begins, once the one at an address has been tested.
-#[inline(always)]
-pub(crate) fn check_at<P: Read, const N: usize>(
-    pools: &P,
-    passed: &mut Passed<N>,
-    code: &[u8],
-    at: usize,
-) -> Result<usize, VerifyError>
-    requires passed { HavePassed (P.facts pools.now) passed.old.chains passed.old.switches }
-    requires inside { at < length code.now }
-    requires front { AreIndexed (alone (P.facts pools.now)) (take at code.now) }
-    ensures passed { HavePassed (P.facts pools.now) passed.new.chains passed.new.switches }
-    ensures further { IfOk result (λ next. (at < next) × (next ≤ length code.now)) }
-    ensures ok { IfOk result (λ next. AreIndexed (alone (P.facts pools.now)) (take next code.now)) }
-    ensures stands { IfOk result (λ next. (op : Op) × StandsAt code.now at op
-        × (next ≡ at + width_of op)) }
-    ensures err { IfErr result (λ e. CodeFlaw (alone (P.facts pools.now)) code.now e) }
-{
-    let Some(instruction) = Instruction::at(code, at) else {
-        return Err(VerifyError::Undecodable { at });
-    };
-    let Some(op) = instruction.op() else {
-        unreachable!();
-    };
-    match check_op(pools, passed, &op) {
-        Ok(()) => Ok(at + instruction.width()),
-        Err(bad) => Err(VerifyError::BadIndex {
-            at,
-            what: word_of(bad.bound),
-            index: bad.index,
-        }),
-    }
-}
-
-/// Tests that the code is whole instructions whose indices are in bounds, where what has passed is known to pass.
-fn check_instructions<P: Read, const N: usize>(
-    pools: &P,
-    passed: &mut Passed<N>,
-    code: &[u8],
-) -> Result<(), VerifyError>
-    requires { HavePassed (P.facts pools.now) passed.old.chains passed.old.switches }
-    ensures ok { OnOk result (AreIndexed (alone (P.facts pools.now)) code.now) }
-    ensures err { IfErr result (λ e. CodeFlaw (alone (P.facts pools.now)) code.now e) }
-{
-    let mut at = skip_unindexed(code, 0);
-    while at < code.len() {
-        let next = check_at(pools, passed, code, at)?;
-        at = skip_unindexed(code, next);
-    }
-    Ok(())
-}
-
-/// Tests the same over pools of 256 chains and switches at most. It is compiled apart: where one function has sets of both
-/// sizes, the larger is cleared in each call.
-#[inline(never)]
-#[tactic(auto, using(crate::proofs::Passing::none_passed))]
-fn check_by_few_words<P: Read>(pools: &P, code: &[u8]) -> Result<(), VerifyError>
-    ensures ok { OnOk result (AreIndexed (alone (P.facts pools.now)) code.now) }
-    ensures err { IfErr result (λ e. CodeFlaw (alone (P.facts pools.now)) code.now e) }
-{
-    check_instructions(pools, &mut Passed::<FEW_WORDS>::new(), code)
-}
-
-/// Tests the same over pools of any size.
-#[inline(never)]
-#[tactic(auto, using(crate::proofs::Passing::none_passed))]
-fn check_by_all_words<P: Read>(pools: &P, code: &[u8]) -> Result<(), VerifyError>
-    ensures ok { OnOk result (AreIndexed (alone (P.facts pools.now)) code.now) }
-    ensures err { IfErr result (λ e. CodeFlaw (alone (P.facts pools.now)) code.now e) }
-{
-    check_instructions(pools, &mut Passed::<WORDS>::new(), code)
-}
-
-/// Tests that the code is instructions from its start to its end, each with its indices in bounds. What many
-/// instructions name is tested once, where a bit remembers that it has passed.
-///
-/// # Errors
-/// `Undecodable` and `BadIndex`, of the first instruction that doesn't pass and its first index that is out of bounds.
-/// Of the cases of a switch any such index may be named.
-#[tactic(auto, using(crate::proofs::Indexing::code_any, crate::proofs::Indexing::flaw_any, crate::proofs::Passing::none_passed))]
-pub fn check_code<P: Read>(pools: &P, code: &[u8]) -> Result<(), VerifyError>
-    ensures ok { OnOk result ((caps : ℕ) → AreIndexed (with_caps caps (P.facts pools.now)) code.now) }
-    ensures err { IfErr result
-        (λ e. (caps : ℕ) → CodeFlaw (with_caps caps (P.facts pools.now)) code.now e) }
-{
-    let entries = pools.size(Pool::Chains).max(pools.size(Pool::Switches));
-    if entries == 0 {
-        check_instructions(pools, &mut Passed::<0>::new(), code)
-    } else if entries <= 64 * FEW_WORDS {
-        check_by_few_words(pools, code)
-    } else {
-        check_by_all_words(pools, code)
     }
 }

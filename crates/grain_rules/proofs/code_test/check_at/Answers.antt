@@ -8,7 +8,7 @@ use Rattle.grain_rules.specs.FirstOut.{alone}
 use Rattle.grain_rules.specs.Flaw.{bad_index, undecodable}
 use Rattle.grain_rules.specs.Indices.{IsOut}
 use Rattle.grain_rules.proofs.Indexing.{indexed_more}
-use Rattle.grain_rules.proofs.indices.check_at.Goals as goal
+use Rattle.grain_rules.proofs.code_test.check_at.Goals as goal
 
 pub unreachable-requires : goal.unreachable-requires
 unreachable-requires g c = let found = c.in-Some.ensures.found in c.in_default-op.ensures.none found.0 found.2
