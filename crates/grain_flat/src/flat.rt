@@ -103,14 +103,13 @@ fn arms_flaw(rows: &[CSwitch], cases: usize, ranges: usize) -> Option<CPoolsFlaw
     let mut cases_left = cases;
     let mut ranges_left = ranges;
     for (index, row) in rows.iter().enumerate() {
-        let Some(fewer_cases) = cases_left.checked_sub(row.cases as usize) else {
+        let (more_cases, more_ranges) = (row.cases as usize, row.ranges as usize);
+        // One exit for both: with one for each the compiler computes for every switch what only a flaw needs.
+        if cases_left < more_cases || ranges_left < more_ranges {
             return Some(flaw_at(SWITCHES, index));
-        };
-        let Some(fewer_ranges) = ranges_left.checked_sub(row.ranges as usize) else {
-            return Some(flaw_at(SWITCHES, index));
-        };
-        cases_left = fewer_cases;
-        ranges_left = fewer_ranges;
+        }
+        cases_left -= more_cases;
+        ranges_left -= more_ranges;
     }
     if cases_left > 0 {
         return Some(flaw_at(CASES, cases - cases_left));
