@@ -1,0 +1,11 @@
+pub mod Ascending
+pub mod EntriesLoop
+pub mod Groups
+pub mod Loop
+pub mod MapEnd
+pub mod NameLists
+pub mod PointerForm
+pub mod Pushed
+pub mod Tags
+pub mod TextReads
+pub mod Whole

@@ -1,0 +1,31 @@
+-- What a refusal says of the bytes, and what of the parts of a program is kept.
+use Rattle.std.specs.Prelude.{◌≡◌, ℕ, ◌-◌, ◌<◌, List, length, map, Err}
+use Rattle.grain_file.specs.declared.file.Code.{Code}
+use Rattle.grain_file.specs.declared.file.PoolFields.{PoolFields}
+use Rattle.grain_file.specs.declared.file.Limits.{Limits}
+use Rattle.grain_file.specs.declared.file.ReadError.{ReadError}
+use Rattle.grain_file.specs.declared.file.ReadError.TheVariants as errors
+use Rattle.grain_file.specs.Form.{forms}
+use Rattle.grain_file.specs.Functions.{function_parts}
+use Rattle.grain_file.specs.Tokens.{token_parts, assign_op_parts}
+use Rattle.grain_file.specs.Chains.{chain_parts}
+use Rattle.grain_file.specs.Switches.{switch_parts}
+use Rattle.grain_file.specs.ProgramFile.{CodeParts, PoolParts, halves, whole_at}
+
+abbrev pub code_parts : Code → CodeParts
+code_parts c = (c.caps.0, (halves c.debug_id, (c.code.items, (c.main, map function_parts c.functions.items))))
+
+abbrev pub pool_parts : PoolFields → PoolParts
+pool_parts p = (p.names, (forms p.consts.items, (map token_parts p.tokens.items, (map assign_op_parts p.assign_ops.items, (map chain_parts p.chains.items, map switch_parts p.switches.items)))))
+
+-- the fault is the one at which reading ends, and stands at this byte
+abbrev pub IsFaultOf : ℕ → List ℕ → ReadError → Type 0
+IsFaultOf depth bytes errors.OutOfMemory = Unit {0}
+IsFaultOf depth bytes (errors.TooLarge size limit) = ⊥
+IsFaultOf depth bytes (errors.Malformed at fault) = (left : List ℕ) × (whole_at depth bytes ≡ Err (fault, left)) × (at ≡ length bytes - length left)
+
+-- the bytes are more than the limit, or else the fault is the one at which reading ends
+abbrev pub IsCause : Limits → List ℕ → ReadError → Type 0
+IsCause limits bytes errors.OutOfMemory = Unit {0}
+IsCause limits bytes (errors.TooLarge size limit) = (size ≡ length bytes) × (limit ≡ limits.size) × (limits.size < length bytes)
+IsCause limits bytes (errors.Malformed at fault) = IsFaultOf limits.depth bytes (errors.Malformed at fault)

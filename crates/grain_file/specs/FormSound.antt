@@ -1,0 +1,124 @@
+-- Sound values fit wherever they are nested no deeper than the depth, and of what fits all is kept.
+use Rattle.std.proofs.Common.{◌≡◌, ℕ, zero, suc, ◌<◌, ◌≤◌, ◌^◌, List, [], ◌∷◌, length, max, Option, None, refl, ap, arith}
+use Rattle.std.specs.List.{AllByRecursion}
+use Rattle.grain_file.specs.declared.error.Unkept.{Unkept}
+use Rattle.grain_file.specs.Reading.{or_refused, Keeps}
+use Rattle.grain_file.specs.Lists.{CountedFit}
+use Rattle.grain_file.specs.Refusals.{counted_refusal}
+use Rattle.grain_file.specs.TextLaws.{TextFits}
+use Rattle.grain_file.specs.Form.{Form, unit, boolean, integer, character, text, range, range_inclusive, array, blob, object_map, fn_ptr, shared, host, Forms, no_forms, form_then, Entries, no_entries, entry_then}
+use Rattle.grain_file.specs.Form.{forms_of, listed, entries_of, listed_entries, value_refusal, forms_refusal, entries_refusal, nesting, forms_nesting, entries_nesting, Ascend, EntryFits, FitsAround, FitsWithin, IsSound, AreSound, AreSoundEntries}
+use Rattle.grain_file.specs.FormLaws.{listed-forms_of, listed-entries_of}
+
+-- ---- what is sound fits
+
+some : (x : Form) → 1 ≤ nesting x
+some unit = omega arith
+some (boolean b) = omega arith
+some (integer z) = omega arith
+some (character n) = omega arith
+some (text t) = omega arith
+some (range a b) = omega arith
+some (range_inclusive a b) = omega arith
+some (array xs) = omega arith
+some (blob b) = omega arith
+some (object_map es) = omega arith
+some (fn_ptr name xs) = omega arith
+some (shared x) = omega arith
+some host = omega arith
+
+module _ (d : ℕ) (one : (x : Form) → IsSound x → nesting x ≤ d → FitsWithin d x) where
+  all_within : (xs : Forms) → AreSound xs → forms_nesting xs ≤ d → AllByRecursion (FitsWithin d) (listed xs)
+  all_within no_forms sound small = tt
+  all_within (form_then x xs) sound small = (one x sound.0 (omega arith), all_within xs sound.1 (omega arith))
+
+  entries_within : (es : Entries) → AreSoundEntries es → entries_nesting es ≤ d → AllByRecursion (EntryFits (FitsWithin d)) (listed_entries es)
+  entries_within no_entries sound small = tt
+  entries_within (entry_then k x es) sound small = ((sound.0.0, one x sound.0.1 (omega arith)), entries_within es sound.1 (omega arith))
+
+pub within : (d : ℕ) (x : Form) → IsSound x → nesting x ≤ d → FitsWithin d x
+unfolding FitsWithin
+within zero x sound small = absurd (let n = some x in omega arith)
+within (suc d) unit sound small = tt
+within (suc d) (boolean b) sound small = tt
+within (suc d) (integer z) sound small = sound
+within (suc d) (character n) sound small = sound
+within (suc d) (text t) sound small = sound
+within (suc d) (range a b) sound small = sound
+within (suc d) (range_inclusive a b) sound small = sound
+within (suc d) (array xs) sound small = (sound.0, all_within d (within d) xs sound.1 (omega arith))
+within (suc d) (blob b) sound small = sound
+within (suc d) (object_map es) sound small = ((sound.0.0, entries_within d (within d) es sound.0.1 (omega arith)), sound.1)
+within (suc d) (fn_ptr name xs) sound small = (sound.0, (sound.1.0, all_within d (within d) xs sound.1.1 (omega arith)))
+within (suc d) (shared x) sound small = within d x sound (omega arith)
+within (suc d) host sound small = absurd sound
+
+-- the deepest of some values
+abbrev pub deepest : List Form → ℕ
+deepest [] = 0
+deepest (x ∷ xs) = max (nesting x) (deepest xs)
+
+pub each_within : (d : ℕ) (xs : List Form) → AllByRecursion IsSound xs → deepest xs ≤ d → AllByRecursion (FitsWithin d) xs
+each_within d [] sound small = tt
+each_within d (x ∷ xs) sound small = (within d x sound.0 (omega arith), each_within d xs sound.1 (omega arith))
+
+-- ---- lists of values and of entries
+
+pub are_sound : (xs : List Form) → AllByRecursion IsSound xs → AreSound (forms_of xs)
+are_sound [] sound = tt
+are_sound (x ∷ xs) sound = (sound.0, are_sound xs sound.1)
+
+pub entries_are_sound : (es : List (List ℕ × Form)) → AllByRecursion (EntryFits IsSound) es → AreSoundEntries (entries_of es)
+entries_are_sound [] sound = tt
+entries_are_sound (e ∷ es) sound = (sound.0, entries_are_sound es sound.1)
+
+pub array_is_sound : (xs : List Form) → CountedFit IsSound xs → IsSound (array (forms_of xs))
+array_is_sound xs fit = (rw (listed-forms_of xs) fit.0, are_sound xs fit.1)
+
+pub pointer_is_sound : (name : List ℕ) (xs : List Form) → TextFits name → CountedFit IsSound xs → IsSound (fn_ptr name (forms_of xs))
+pointer_is_sound name xs name_fits fit = (name_fits, (rw (listed-forms_of xs) fit.0, are_sound xs fit.1))
+
+pub map_is_sound : (es : List (List ℕ × Form)) → length es < 2 ^ 64 → AllByRecursion (EntryFits IsSound) es → Ascend None es → IsSound (object_map (entries_of es))
+map_is_sound es few sound up = ((rw (listed-entries_of es) few, entries_are_sound es sound), rw (listed-entries_of es) up)
+
+-- ---- of what fits all is kept
+
+pub forms_refused : (xs : List Form) → forms_refusal (forms_of xs) ≡ counted_refusal value_refusal xs
+forms_refused [] = refl
+forms_refused (x ∷ xs) = ap (λ (r : Option Unkept). or_refused (value_refusal x) r) (forms_refused xs)
+
+abbrev pub entry_refusal : List ℕ × Form → Option Unkept
+entry_refusal e = value_refusal e.1
+
+pub entries_refused : (es : List (List ℕ × Form)) → entries_refusal (entries_of es) ≡ counted_refusal entry_refusal es
+entries_refused [] = refl
+entries_refused (e ∷ es) = ap (λ (r : Option Unkept). or_refused (value_refusal e.1) r) (entries_refused es)
+
+module _ (Inner : Form → Type 0) (kept : Keeps Inner value_refusal) where
+  forms_kept : (xs : Forms) → AllByRecursion Inner (listed xs) → forms_refusal xs ≡ None
+  forms_kept no_forms fits = refl
+  forms_kept (form_then x xs) fits = rw (kept x fits.0) (forms_kept xs fits.1)
+
+  entries_kept : (es : Entries) → AllByRecursion (EntryFits Inner) (listed_entries es) → entries_refusal es ≡ None
+  entries_kept no_entries fits = refl
+  entries_kept (entry_then k x es) fits = rw (kept x fits.0.1) (entries_kept es fits.1)
+
+  pub around_kept : Keeps (FitsAround Inner) value_refusal
+  around_kept unit fits = refl
+  around_kept (boolean b) fits = refl
+  around_kept (integer z) fits = refl
+  around_kept (character n) fits = refl
+  around_kept (text t) fits = refl
+  around_kept (range a b) fits = refl
+  around_kept (range_inclusive a b) fits = refl
+  around_kept (array xs) fits = forms_kept xs fits.1
+  around_kept (blob b) fits = refl
+  around_kept (object_map es) fits = entries_kept es fits.0.1
+  around_kept (fn_ptr name xs) fits = forms_kept xs fits.1.1
+  around_kept (shared x) fits = kept x fits
+  around_kept host fits = absurd fits
+
+pub value_keeps : (d : ℕ) → Keeps (FitsWithin d) value_refusal
+unfolding FitsWithin
+value_keeps zero x fits = absurd fits
+value_keeps (suc d) x fits = around_kept (FitsWithin d) (value_keeps d) x fits

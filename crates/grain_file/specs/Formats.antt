@@ -1,0 +1,134 @@
+-- Formats: how values are spelled, which of them, what reading gives, and which are refused, with the three laws. A format of
+-- many fields is put together from those of its parts.
+use Rattle.std.specs.Prelude.{ℕ, ◌<◌, ◌^◌, List, [], ◌∷◌, Option, None, Result, Ok, refl, IfSome, ◌≡◌, ◌++◌, ◌⊎◌, Bool, true}
+use Rattle.grain_file.specs.declared.error.Fault.{Fault}
+use Rattle.grain_file.specs.declared.error.Unkept.{Unkept}
+use Rattle.grain_file.specs.Reading.{Flaw, Takes, Again, Keeps}
+use Rattle.grain_file.specs.Refusals.{both_refusal, counted_refusal, optional_refusal, alternative_refusal, all_keeps, both_keeps, counted_keeps, optional_keeps, alternative_keeps, only_keeps}
+use Rattle.grain_file.specs.Numbers.{number, number_at, below_at}
+use Rattle.grain_file.specs.NumberLaws.{IsBelow, number_takes, number_again, below_takes, below_again}
+use Rattle.grain_file.specs.Texts.{counted_bytes, byte_at, bytes_at, text_at, tag_at}
+use Rattle.grain_file.specs.TextLaws.{BytesFit, TextFits, bytes_takes, bytes_again, text_takes, text_again, one_byte, byte_takes, byte_again, tag_takes, tag_again, Anything, nothing_takes, only_takes, only_again}
+use Rattle.grain_file.specs.Lists.{both_spelling, BothFit, both_at, checked_at, seen_at, counted_spelling, CountedFit, counted_at, optional_spelling, optional_at, alternative_spelling, AlternativeFits, alternative_at, BeginsOtherwise, headed_at}
+use Rattle.grain_file.specs.ListLaws.{both_takes, both_again, checked_takes, checked_again, seen_takes, seen_again, counted_takes, counted_again, optional_takes, optional_again, alternative_takes, alternative_again, headed_takes, headed_again}
+
+pub record Format (A : Type 0) : Type 1 where
+  pub spelling : A → List ℕ
+  pub Fits : A → Type 0
+  pub reading : List ℕ → Result (A × List ℕ) Flaw
+  -- the first reason for which a value has no spelling
+  pub refusal : A → Option Unkept
+  pub takes : Takes spelling Fits reading
+  pub again : Again spelling Fits reading
+  pub keeps : Keeps Fits refusal
+
+-- a number below 2 ^ 64
+abbrev pub any_number : Format ℕ
+any_number = record { spelling = number; Fits = λ n. n < 2 ^ 64; reading = number_at; refusal = λ n. None; takes = number_takes; again = number_again; keeps = all_keeps (λ n. n < 2 ^ 64) }
+
+abbrev pub number_below : ℕ → Format ℕ
+number_below limit = record { spelling = number; Fits = IsBelow limit; reading = below_at limit; refusal = λ n. None; takes = below_takes limit; again = below_again limit; keeps = all_keeps (IsBelow limit) }
+
+abbrev pub blob : Format (List ℕ)
+blob = record { spelling = counted_bytes; Fits = BytesFit; reading = bytes_at; refusal = λ b. None; takes = bytes_takes; again = bytes_again; keeps = all_keeps BytesFit }
+
+abbrev pub text : Format (List ℕ)
+text = record { spelling = counted_bytes; Fits = TextFits; reading = text_at; refusal = λ b. None; takes = text_takes; again = text_again; keeps = all_keeps TextFits }
+
+-- no bytes at all
+abbrev pub nothing : Format (Unit {0})
+nothing = record { spelling = λ u. []; Fits = Anything; reading = λ bytes. Ok (tt, bytes); refusal = λ u. None; takes = nothing_takes; again = λ u rest fits. refl; keeps = all_keeps Anything }
+
+-- No bytes, for the one value that needs none. All others are refused.
+abbrev pub only : {A : Type 0} (one : A) (refusal : A → Option Unkept) → refusal one ≡ None → Format A
+only one refusal kept = record { spelling = λ x. []; Fits = λ x. x ≡ one; reading = λ bytes. Ok (one, bytes); refusal = refusal; takes = only_takes one; again = only_again one; keeps = only_keeps one refusal kept }
+
+abbrev pub byte : Format ℕ
+byte = record { spelling = one_byte; Fits = λ b. b < 256; reading = byte_at; refusal = λ b. None; takes = byte_takes; again = byte_again; keeps = all_keeps (λ b. b < 256) }
+
+abbrev pub tag_below : ℕ → Format ℕ
+tag_below limit = record { spelling = one_byte; Fits = λ b. b < limit; reading = tag_at limit; refusal = λ b. None; takes = tag_takes limit; again = tag_again limit; keeps = all_keeps (λ b. b < limit) }
+
+-- one field, and then another
+abbrev pub both : {A B : Type 0} → Format A → Format B → Format (A × B)
+both F G = record {
+  spelling = both_spelling F.spelling G.spelling;
+  Fits = BothFit F.Fits G.Fits;
+  reading = both_at F.reading G.reading;
+  refusal = both_refusal F.refusal G.refusal;
+  takes = both_takes F.spelling F.Fits F.reading G.spelling G.Fits G.reading F.takes G.takes;
+  again = both_again F.spelling F.Fits F.reading G.spelling G.Fits G.reading F.again G.again;
+  keeps = both_keeps F.Fits F.refusal G.Fits G.refusal F.keeps G.keeps;
+}
+
+-- a field seen otherwise
+abbrev pub seen : {A B : Type 0} (to : A → B) (from : B → A) → ((a : A) → from (to a) ≡ a) → ((b : B) → to (from b) ≡ b) → Format A → Format B
+seen to from there back F = record {
+  spelling = λ b. F.spelling (from b);
+  Fits = λ b. F.Fits (from b);
+  reading = seen_at to F.reading;
+  refusal = λ b. F.refusal (from b);
+  takes = seen_takes to from F.spelling F.Fits F.reading there F.takes;
+  again = seen_again to from F.spelling F.Fits F.reading back F.again;
+  keeps = λ b fits. F.keeps (from b) fits;
+}
+
+-- a field that passes a test
+abbrev pub checked : {A : Type 0} → (A → Bool) → Fault → Format A → Format A
+checked test fault F = record {
+  spelling = F.spelling;
+  Fits = λ x. F.Fits x × (test x ≡ true);
+  reading = checked_at test fault F.reading;
+  refusal = F.refusal;
+  takes = checked_takes F.spelling F.Fits F.reading test fault F.takes;
+  again = checked_again F.spelling F.Fits F.reading test fault F.again;
+  keeps = λ x fits. F.keeps x fits.0;
+}
+
+-- how many, and each
+abbrev pub counted : {A : Type 0} → Format A → Format (List A)
+counted F = record {
+  spelling = counted_spelling F.spelling;
+  Fits = CountedFit F.Fits;
+  reading = counted_at F.reading;
+  refusal = counted_refusal F.refusal;
+  takes = counted_takes F.spelling F.Fits F.reading F.takes;
+  again = counted_again F.spelling F.Fits F.reading F.again;
+  keeps = counted_keeps F.Fits F.refusal F.keeps;
+}
+
+-- 0, or 1 and a field
+abbrev pub optional : {A : Type 0} → Format A → Format (Option A)
+optional F = record {
+  spelling = optional_spelling F.spelling;
+  Fits = λ o. IfSome o F.Fits;
+  reading = optional_at F.reading;
+  refusal = optional_refusal F.refusal;
+  takes = optional_takes F.spelling F.Fits F.reading F.takes;
+  again = optional_again F.spelling F.Fits F.reading F.again;
+  keeps = optional_keeps F.Fits F.refusal F.keeps;
+}
+
+-- a tag and a field, or else a field that begins with no such tag
+abbrev pub alternative : {A B : Type 0} (tag : ℕ) (F : Format A) (G : Format B) → ((y : B) (rest : List ℕ) → G.Fits y → BeginsOtherwise tag (G.spelling y ++ rest)) → Format (A ⊎ B)
+alternative tag F G apart = record {
+  spelling = alternative_spelling tag F.spelling G.spelling;
+  Fits = AlternativeFits F.Fits G.Fits;
+  reading = alternative_at tag F.reading G.reading;
+  refusal = alternative_refusal F.refusal G.refusal;
+  takes = alternative_takes tag F.spelling F.Fits F.reading G.spelling G.Fits G.reading F.takes G.takes;
+  again = alternative_again tag F.spelling F.Fits F.reading G.spelling G.Fits G.reading apart F.again G.again;
+  keeps = alternative_keeps F.Fits F.refusal G.Fits G.refusal F.keeps G.keeps;
+}
+
+-- a tag, and a field behind it
+abbrev pub headed : {A : Type 0} → ℕ → Fault → Format A → Format A
+headed tag fault F = record {
+  spelling = λ x. tag ∷ F.spelling x;
+  Fits = F.Fits;
+  reading = headed_at tag fault F.reading;
+  refusal = F.refusal;
+  takes = headed_takes tag fault F.spelling F.Fits F.reading F.takes;
+  again = headed_again tag fault F.spelling F.Fits F.reading F.again;
+  keeps = F.keeps;
+}

@@ -1,0 +1,36 @@
+-- When a file is loaded, and what a refusal says.
+use Rattle.std.specs.Prelude.{◌≡◌, ◌≢◌, ◌⊎◌, ℕ, List}
+use Rattle.grain_values.specs.CapBits.{missing}
+use Rattle.grain_program.specs.Program.{Program, input_of}
+use Rattle.grain_rules.specs.Accepted.{IsAccepted}
+use Rattle.grain_rules.specs.Capabilities.{Allows}
+use Rattle.grain_rules.specs.Flaw.{Flaw}
+use Rattle.grain_rules.specs.declared.error.VerifyError.TheVariants as verify_error
+use Rattle.grain_file.specs.declared.file.Limits.{Limits}
+use Rattle.grain_file.specs.declared.file.ReadError.TheVariants as read_error
+use Rattle.grain_file.specs.declared.loading.LoadError.{LoadError}
+use Rattle.grain_file.specs.declared.loading.LoadError.TheVariants as load_error
+use Rattle.grain_file.specs.ProgramFile.{IsFileWithin, kept}
+use Rattle.grain_file.specs.Causes.{IsCause}
+
+-- the bytes are a file of the program, within the limits
+abbrev pub IsFileOf : Limits → List ℕ → Program → Type 0
+IsFileOf limits bytes p = IsFileWithin limits bytes (kept p)
+
+-- The host has what the program declares, and it is accepted. That is said of each program of which as much is kept, since
+-- programs may lie differently in memory.
+pub record Passes (host : ℕ) (p : Program) : Type 0 where
+  pub allowed : (q : Program) → kept q ≡ kept p → Allows host q.caps.0
+  pub accepted : (q : Program) → kept q ≡ kept p → IsAccepted (input_of q)
+
+-- memory ran out, at one of the steps
+abbrev pub IsMemory : LoadError → Type 0
+IsMemory e = (e ≡ load_error.Read read_error.OutOfMemory) ⊎ (e ≡ load_error.Refused verify_error.OutOfMemory)
+
+-- Which test failed: the bytes are no file, or a file of a program that declares what the host lacks, or of one with a flaw.
+abbrev pub IsLoadCause : Limits → List ℕ → ℕ → LoadError → Type 0
+IsLoadCause limits bytes host (load_error.Read error) = IsCause limits bytes error
+IsLoadCause limits bytes host (load_error.Capabilities absent) =
+    (p : Program) × IsFileOf limits bytes p × (absent.0 ≡ missing host p.caps.0) × (absent.0 ≢ 0)
+IsLoadCause limits bytes host (load_error.Refused error) =
+    (p : Program) × IsFileOf limits bytes p × Allows host p.caps.0 × ((error ≡ verify_error.OutOfMemory) ⊎ Flaw (input_of p) error)

@@ -1,0 +1,109 @@
+-- What of a program is kept in a file, and how that is spelled.
+use Rattle.std.specs.Prelude.{◌≡◌, ℕ, ◌/◌, ◌%◌, ◌^◌, ◌≤◌, zero, suc, List, length, map, Option, Some, None, Result, Ok, Err, ◌==◌, if◌then◌else◌, refl}
+use Rattle.grain_code.specs.Span.{Span}
+use Rattle.grain_program.specs.Program.{Program, places_of}
+use Rattle.grain_file.specs.declared.file.Limits.{Limits}
+use Rattle.grain_file.specs.declared.error.Fault.TheVariants.{Magic, Version, Kind, Unsupported, Trailing}
+use Rattle.grain_file.specs.declared.error.Unkept.{Unkept}
+use Rattle.grain_file.specs.declared.error.Unkept.TheVariants.{Residuals}
+use Rattle.grain_file.specs.Reading.{Flaw, ◌>>=◌}
+use Rattle.grain_file.specs.Formats.{Format, any_number, number_below, blob, text, only, both, counted, optional, headed}
+use Rattle.grain_file.specs.Functions.{FunctionParts, function_parts, function_format, chunk_format}
+use Rattle.grain_file.specs.Names.{names_format}
+use Rattle.grain_file.specs.Tokens.{TokenParts, AssignOpParts, token_parts, token_format, assign_op_parts, assign_op_format}
+use Rattle.grain_file.specs.Chains.{Place, ChainParts, chain_parts, chain_format, place_refusal}
+use Rattle.grain_file.specs.Switches.{SwitchParts, switch_parts, switch_format}
+use Rattle.grain_file.specs.Form.{Form, forms, spelled, value_refusal, FitsWithin}
+use Rattle.grain_file.specs.FormAt.{value_at}
+use Rattle.grain_file.specs.FormLaws.{value_takes, value_again}
+use Rattle.grain_file.specs.FormSound.{value_keeps, deepest}
+
+abbrev pub value_format : ℕ → Format Form
+value_format depth = record { spelling = spelled; Fits = FitsWithin depth; reading = value_at depth; refusal = value_refusal; takes = value_takes depth; again = value_again depth; keeps = value_keeps depth }
+
+-- ---- code and its chunks
+
+-- the low and the high 64 bits
+abbrev pub halves : ℕ → ℕ × ℕ
+halves id = (id % 2 ^ 64, id / 2 ^ 64)
+
+-- the capabilities, the number of the program, the code, the main chunk and the functions
+abbrev pub CodeParts : Type 0
+CodeParts = ℕ × ((ℕ × ℕ) × (List ℕ × (Span × List FunctionParts)))
+
+unfoldable pub code_format : Format CodeParts
+code_format = both (number_below (2 ^ 16)) (both (both any_number any_number) (both blob (both chunk_format (counted function_format))))
+
+-- ---- pools
+
+-- the names, constants, operators, op-assignments, chains and switches
+abbrev pub PoolParts : Type 0
+PoolParts = List (List ℕ) × (List Form × (List TokenParts × (List AssignOpParts × (List ChainParts × List SwitchParts))))
+
+unfoldable pub pools_format : ℕ → Format PoolParts
+pools_format depth = both names_format (both (counted (value_format depth)) (both (counted token_format) (both (counted assign_op_format) (both (counted chain_format) (counted switch_format)))))
+
+-- ---- all else
+
+-- the places of the code's bytes, if they are known, which is spelled by 0 where they aren't
+abbrev pub positions_format : Format (Option (List Place))
+positions_format = headed 0 Unsupported (only None place_refusal refl)
+
+abbrev pub residuals_refusal : ℕ → Option Unkept
+residuals_refusal zero = None
+residuals_refusal (suc n) = Some Residuals
+
+-- the name of the source, the positions, and how many fragments weren't compiled
+abbrev pub RestParts : Type 0
+RestParts = Option (List ℕ) × (Option (List Place) × ℕ)
+
+unfoldable pub rest_format : Format RestParts
+rest_format = both (optional text) (both positions_format (only 0 residuals_refusal refl))
+
+-- ---- a whole file
+
+abbrev pub Kept : Type 0
+Kept = CodeParts × (PoolParts × RestParts)
+
+-- what of a program is kept: all but where it lies in memory
+abbrev pub kept : Program → Kept
+kept p = (
+  (p.caps.0, (halves p.debug_id, (p.code, (p.main, map function_parts p.functions)))),
+  (
+    (p.names, (forms p.consts, (map token_parts p.tokens, (map assign_op_parts p.assign_ops, (map chain_parts p.chains, map switch_parts p.switches))))),
+    (p.source, (places_of p, p.residuals)),
+  ),
+)
+
+unfoldable pub body_format : ℕ → Format Kept
+body_format depth = both code_format (both (pools_format depth) rest_format)
+
+-- the version 1, the kind 0, and the program
+unfoldable pub versioned_format : ℕ → Format Kept
+versioned_format depth = headed 1 Version (headed 0 Kind (body_format depth))
+
+-- 00 67 72 6e, which is "grn" after a byte 0, and that
+unfoldable pub file_format : ℕ → Format Kept
+file_format depth = headed 0x00 Magic (headed 0x67 Magic (headed 0x72 Magic (headed 0x6e Magic (versioned_format depth))))
+
+-- the bytes are a file of what is kept, with values nested so deep at most
+pub record IsFile (depth : ℕ) (bytes : List ℕ) (k : Kept) : Type 0 where
+  pub spelled : bytes ≡ (file_format depth).spelling k
+  pub fits : (file_format depth).Fits k
+
+-- how deep the values are nested among the constants
+abbrev pub nesting_of : Kept → ℕ
+nesting_of k = deepest k.1.0.1.0
+
+-- the first reason for which what is kept has no file
+abbrev pub refusal_of : Kept → Option Unkept
+refusal_of k = (file_format 0).refusal k
+
+-- it is a file within the limits
+pub record IsFileWithin (limits : Limits) (bytes : List ℕ) (k : Kept) : Type 0 where
+  pub short : length bytes ≤ limits.size
+  pub file : IsFile limits.depth bytes k
+
+-- what reading all of the bytes gives
+unfoldable pub whole_at : ℕ → List ℕ → Result (Kept × List ℕ) Flaw
+whole_at depth bytes = (file_format depth).reading bytes >>= λ k. (if length k.1 == 0 then Ok k else Err (Trailing, k.1))

@@ -1,0 +1,185 @@
+//! Fields.
+ghost use Rattle.std.specs.Prelude.{◌≡◌, ◌++◌, ◌^◌, ℕ, ℤ, List, Option, OnOk, map, option_map, string_bytes};
+ghost use Rattle.grain_values.specs.Place.{place_of};
+ghost use Rattle.grain_file.specs.Reading.{Decides, Gives};
+ghost use Rattle.grain_file.specs.Chains.{Place, place_format};
+ghost use Rattle.grain_file.specs.Switches.{integer_format};
+ghost use Rattle.grain_file.specs.Formats.{Format, any_number, number_below, text, optional};
+
+use crate::cursor::Cursor;
+use crate::error::{Fault, Stop, Unkept, WriteError};
+use crate::number::{put_integer, put_number, put_string, read_integer};
+use grain::Position;
+
+/// A type whose values are fields of a file.
+pub trait Field: Drop {
+    /// What of a value is kept.
+    ghost View: { Type 0 };
+
+    ghost view: { Self → View };
+
+    /// How a view is spelled, which are, and what reading gives.
+    ghost format: { Format View };
+
+    /// Reads a value at the cursor, and moves the cursor behind it.
+    fn read(cursor: &mut Cursor<'_>) -> Result<Self, Stop>
+        ensures { Gives view result cursor.new.left.now (format.reading cursor.old.left.now) };
+
+    /// Appends the spelling of the value.
+    ///
+    /// # Errors
+    /// `Unkept` with the first reason for which the value has no spelling, and `OutOfMemory`.
+    fn write(&self, out: &mut Vec<u8>) -> Result<(), WriteError>
+        ensures spelled { OnOk result
+            (out.new.items ≡ out.old.items ++ format.spelling (view self.now)) }
+        ensures fits { OnOk result (format.Fits (view self.now)) }
+        ensures decides { Decides result (format.refusal (view self.now)) };
+}
+
+impl Field for u32 {
+    ghost View = { ℕ };
+
+    ghost view = { λ n. n };
+
+    ghost format = { number_below (2 ^ 32) };
+
+    fn read(cursor: &mut Cursor<'_>) -> Result<u32, Stop> {
+        cursor.number_32()
+    }
+
+    fn write(&self, out: &mut Vec<u8>) -> Result<(), WriteError> {
+        let n = *self;
+        put_number(out, u64::from(n))?;
+        Ok(())
+    }
+}
+
+impl Field for u16 {
+    ghost View = { ℕ };
+
+    ghost view = { λ n. n };
+
+    ghost format = { number_below (2 ^ 16) };
+
+    fn read(cursor: &mut Cursor<'_>) -> Result<u16, Stop> {
+        cursor.number_16()
+    }
+
+    fn write(&self, out: &mut Vec<u8>) -> Result<(), WriteError> {
+        let n = *self;
+        put_number(out, u64::from(n))?;
+        Ok(())
+    }
+}
+
+impl Field for u64 {
+    ghost View = { ℕ };
+
+    ghost view = { λ n. n };
+
+    ghost format = { any_number };
+
+    fn read(cursor: &mut Cursor<'_>) -> Result<u64, Stop> {
+        cursor.number()
+    }
+
+    fn write(&self, out: &mut Vec<u8>) -> Result<(), WriteError> {
+        let n = *self;
+        put_number(out, n)?;
+        Ok(())
+    }
+}
+
+impl Field for i64 {
+    ghost View = { ℤ };
+
+    ghost view = { λ z. z };
+
+    ghost format = { integer_format };
+
+    fn read(cursor: &mut Cursor<'_>) -> Result<i64, Stop> {
+        read_integer(cursor)
+    }
+
+    fn write(&self, out: &mut Vec<u8>) -> Result<(), WriteError> {
+        put_integer(out, *self)?;
+        Ok(())
+    }
+}
+
+/// A position has to be none, which no byte spells.
+impl Field for Position {
+    ghost View = { Place };
+
+    ghost view = { place_of };
+
+    ghost format = { place_format };
+
+    fn read(_cursor: &mut Cursor<'_>) -> Result<Position, Stop> {
+        Ok(Position::NONE)
+    }
+
+    fn write(&self, _out: &mut Vec<u8>) -> Result<(), WriteError> {
+        if self.is_none() {
+            Ok(())
+        } else {
+            Err(WriteError::Unkept(Unkept::Positions))
+        }
+    }
+}
+
+impl Field for String {
+    ghost View = { List ℕ };
+
+    ghost view = { λ s. string_bytes s };
+
+    ghost format = { text };
+
+    fn read(cursor: &mut Cursor<'_>) -> Result<String, Stop> {
+        let text = cursor.text()?;
+        Ok(String::from_str(cursor.alloc, text)?)
+    }
+
+    fn write(&self, out: &mut Vec<u8>) -> Result<(), WriteError> {
+        put_string(out, self)?;
+        Ok(())
+    }
+}
+
+impl<T: Field> Field for Option<T> {
+    ghost View = { Option T.View };
+
+    ghost view = { λ o. option_map T.view o };
+
+    ghost format = { optional T.format };
+
+    fn read(cursor: &mut Cursor<'_>) -> Result<Option<T>, Stop> {
+        match cursor.left {
+            [] => Err(Stop::Fault(Fault::Truncated)),
+            [0, rest @ ..] => {
+                cursor.left = rest;
+                Ok(None)
+            }
+            [1, rest @ ..] => {
+                cursor.left = rest;
+                let value = T::read(cursor)?;
+                Ok(Some(value))
+            }
+            [_, ..] => Err(Stop::Fault(Fault::UnknownTag)),
+        }
+    }
+
+    fn write(&self, out: &mut Vec<u8>) -> Result<(), WriteError> {
+        match self {
+            None => {
+                out.push(0)?;
+                Ok(())
+            }
+            Some(value) => {
+                out.push(1)?;
+                value.write(out)?;
+                Ok(())
+            }
+        }
+    }
+}

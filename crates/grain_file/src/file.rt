@@ -1,0 +1,257 @@
+//! Whole files.
+ghost use Rattle.std.specs.Prelude.{◌≡◌, ◌≤◌, ◌⊎◌, ℕ, List, Option, Ok, [], IfOk, IfErr, OnOk, MatchResult, map, option_map, string_bytes};
+ghost use Rattle.grain_program.specs.Program.{Program};
+ghost use Rattle.grain_file.specs.Reading.{Decides, Gives};
+ghost use Rattle.grain_file.specs.Form.{forms};
+ghost use Rattle.grain_file.specs.Functions.{function_parts};
+ghost use Rattle.grain_file.specs.Tokens.{token_parts, assign_op_parts};
+ghost use Rattle.grain_file.specs.Chains.{chain_parts};
+ghost use Rattle.grain_file.specs.Switches.{switch_parts};
+ghost use Rattle.grain_file.specs.ProgramFile.{CodeParts, IsFileWithin, Kept, PoolParts, body_format, code_format, file_format, halves, kept, pools_format, rest_format, versioned_format, whole_at};
+ghost use Rattle.grain_file.specs.Causes.{IsCause, IsFaultOf, code_parts, pool_parts};
+
+use crate::cursor::Cursor;
+use crate::error::{Fault, Stop, Unkept, WriteError};
+use crate::field::Field;
+use crate::lists::put_all;
+use crate::names::{put_names, read_names};
+use crate::number::put_bytes;
+use crate::values::{put_values, read_values};
+use grain::{
+    AssignOp, Caps, Chain, Chunk, Dynamic, Flags, Function, Parts, Positions, Program, Strings,
+    Switch, Token,
+};
+use std::alloc::Global;
+use thiserror::Error;
+
+/// What a host bounds of the files that it reads.
+///
+/// Reading takes no more of the call stack than the nesting of values, and memory by a constant times the file.
+#[derive(Clone, Copy, Debug, PartialEq, Eq)]
+pub struct Limits {
+    /// How many bytes a file has at most.
+    pub size: usize,
+    /// How deep values are nested at most. One that holds no other counts 1.
+    pub depth: u32,
+}
+
+impl Default for Limits {
+    /// A file of 64 MiB, and values nested 64 deep.
+    fn default() -> Limits {
+        Limits {
+            size: 64 * 1024 * 1024,
+            depth: 64,
+        }
+    }
+}
+
+/// Why bytes are no file within the limits.
+#[derive(Clone, Copy, Debug, PartialEq, Eq, Error)]
+pub enum ReadError {
+    /// A growth was refused.
+    #[error("out of memory")]
+    OutOfMemory,
+    /// The file has more bytes than the limit. Nothing of it was read.
+    #[error("file of {size} bytes, limit {limit}")]
+    TooLarge {
+        /// How many bytes it has.
+        size: usize,
+        /// How many it may have.
+        limit: usize,
+    },
+    /// The first thing that is wrong.
+    #[error("byte {at}: {fault}")]
+    Malformed {
+        /// The place of the byte.
+        at: usize,
+        /// What is wrong there.
+        fault: Fault,
+    },
+}
+
+/// The program that the bytes are a file of (docs/FORMAT.md, "Program files"). Nothing says that it verifies.
+///
+/// It goes over the bytes once. It takes memory for what the program has; for a count nothing is reserved beyond the number
+/// of bytes that are left.
+///
+/// # Errors
+/// `TooLarge` where the bytes are more than the limit. Else `Malformed` with the first byte at which no file goes on so, and
+/// why. `OutOfMemory` where a growth was refused.
+pub fn read(alloc: Global, bytes: &[u8], limits: &Limits) -> Result<Program, ReadError>
+    // What is read is what the bytes are a file of.
+    ensures found { IfOk result (λ p. IsFileWithin limits.now bytes.now (kept p)) }
+    // Of whatever the bytes are a file within the limits, that is read, unless memory runs out.
+    ensures only { (k : Kept) → IsFileWithin limits.now bytes.now k
+        → MatchResult result (λ p. kept p ≡ k) (λ e. e ≡ ReadError.OutOfMemory) }
+    // Which fault it is, and where.
+    ensures exact { IfErr result (IsCause limits.now bytes.now) }
+{
+    if bytes.len() > limits.size {
+        return Err(ReadError::TooLarge {
+            size: bytes.len(),
+            limit: limits.size,
+        });
+    }
+    read_whole(alloc, bytes, limits.depth)
+}
+
+fn read_whole(alloc: Global, bytes: &[u8], depth: u32) -> Result<Program, ReadError>
+    ensures { MatchResult result (λ p. whole_at depth bytes.now ≡ Ok (kept p, []))
+        (IsFaultOf depth bytes.now) }
+{
+    let mut cursor = Cursor::new(alloc, bytes);
+    match read_file(&mut cursor, depth) {
+        Ok(program) => Ok(program),
+        Err(Stop::OutOfMemory) => Err(ReadError::OutOfMemory),
+        Err(Stop::Fault(fault)) => {
+            let at = bytes.len().saturating_sub(cursor.left.len());
+            Err(ReadError::Malformed { at, fault })
+        }
+    }
+}
+
+/// Reads a whole file, to the end of the bytes.
+#[tactic(auto, unfolding(crate::specs::ProgramFile::whole_at))]
+fn read_file(cursor: &mut Cursor<'_>, depth: u32) -> Result<Program, Stop>
+    ensures gives { Gives kept result cursor.new.left.now (whole_at depth cursor.old.left.now) }
+    ensures all { OnOk result (cursor.new.left.now ≡ []) }
+{
+    let program = read_headed(cursor, depth)?;
+    if cursor.left.is_empty() {
+        Ok(program)
+    } else {
+        Err(Stop::Fault(Fault::Trailing))
+    }
+}
+
+/// Reads what a file begins with, and what follows.
+#[tactic(auto, unfolding(crate::specs::ProgramFile::file_format, crate::specs::Texts::expected_at))]
+fn read_headed(cursor: &mut Cursor<'_>, depth: u32) -> Result<Program, Stop>
+    ensures { Gives kept result cursor.new.left.now
+        ((file_format depth).reading cursor.old.left.now) }
+{
+    cursor.expect(0x00, Fault::Magic)?;
+    cursor.expect(0x67, Fault::Magic)?;
+    cursor.expect(0x72, Fault::Magic)?;
+    cursor.expect(0x6e, Fault::Magic)?;
+    let program = read_versioned(cursor, depth)?;
+    Ok(program)
+}
+
+/// Reads the version, the kind and the program.
+#[tactic(auto, unfolding(crate::specs::ProgramFile::versioned_format, crate::specs::Texts::expected_at))]
+fn read_versioned(cursor: &mut Cursor<'_>, depth: u32) -> Result<Program, Stop>
+    ensures { Gives kept result cursor.new.left.now
+        ((versioned_format depth).reading cursor.old.left.now) }
+{
+    cursor.expect(1, Fault::Version)?;
+    cursor.expect(0, Fault::Kind)?;
+    let program = read_body(cursor, depth)?;
+    Ok(program)
+}
+
+/// Reads the program.
+#[tactic(auto, unfolding(crate::specs::ProgramFile::body_format, crate::specs::ProgramFile::rest_format, crate::specs::Texts::expected_at))]
+fn read_body(cursor: &mut Cursor<'_>, depth: u32) -> Result<Program, Stop>
+    ensures { Gives kept result cursor.new.left.now
+        ((body_format depth).reading cursor.old.left.now) }
+{
+    let code = read_code(cursor)?;
+    let pools = read_pools(cursor, depth)?;
+    let source = Option::<String>::read(cursor)?;
+    cursor.expect(0, Fault::Unsupported)?;
+    let parts = Parts {
+        positions: Positions::Stripped,
+        debug_id: code.debug_id,
+        residuals: 0,
+        consts: pools.consts,
+        names: pools.names,
+        tokens: pools.tokens,
+        assign_ops: pools.assign_ops,
+        chains: pools.chains,
+        switches: pools.switches,
+        source,
+    };
+    let alloc = cursor.alloc;
+    Ok(Program::new(
+        alloc,
+        code.caps,
+        code.code,
+        code.main,
+        code.functions,
+        parts,
+    ))
+}
+
+/// The code of a program, with its chunks.
+#[derive(Drop)]
+struct Code {
+    caps: Caps,
+    debug_id: u128,
+    code: Vec<u8>,
+    main: Chunk,
+    functions: Vec<Function>,
+}
+
+/// Reads the capabilities, the number of the program, the code, the main chunk and the functions.
+#[tactic(auto, unfolding(crate::specs::ProgramFile::code_format))]
+fn read_code(cursor: &mut Cursor<'_>) -> Result<Code, Stop>
+    ensures { Gives code_parts result cursor.new.left.now
+        (code_format.reading cursor.old.left.now) }
+{
+    let caps = Caps::from_bits_retain(u16::read(cursor)?);
+    let low = u64::read(cursor)?;
+    let high = u64::read(cursor)?;
+    let debug_id = join(low, high);
+    let code = cursor.bytes()?;
+    let code = Vec::from_slice(cursor.alloc, code)?;
+    let main = Chunk::read(cursor)?;
+    let functions = Vec::<Function>::read(cursor)?;
+    Ok(Code {
+        caps,
+        debug_id,
+        code,
+        main,
+        functions,
+    })
+}
+
+/// The number of these halves.
+fn join(low: u64, high: u64) -> u128
+    ensures { halves result ≡ (low, high) }
+{
+    u128::from(high) * (1 << 64) + u128::from(low)
+}
+
+/// The pools of a program, but where instructions stand in the source text.
+#[derive(Drop)]
+struct PoolFields {
+    names: Strings,
+    consts: Vec<Dynamic>,
+    tokens: Vec<Token>,
+    assign_ops: Vec<AssignOp>,
+    chains: Vec<Chain>,
+    switches: Vec<Switch>,
+}
+
+/// Reads the names, constants, operators, op-assignments, chains and switches.
+#[tactic(auto, unfolding(crate::specs::ProgramFile::pools_format))]
+fn read_pools(cursor: &mut Cursor<'_>, depth: u32) -> Result<PoolFields, Stop>
+    ensures { Gives pool_parts result cursor.new.left.now
+        ((pools_format depth).reading cursor.old.left.now) }
+{
+    let names = read_names(cursor)?;
+    let consts = read_values(cursor, depth)?;
+    let tokens = Vec::<Token>::read(cursor)?;
+    let assign_ops = Vec::<AssignOp>::read(cursor)?;
+    let chains = Vec::<Chain>::read(cursor)?;
+    let switches = Vec::<Switch>::read(cursor)?;
+    Ok(PoolFields {
+        names,
+        consts,
+        tokens,
+        assign_ops,
+        chains,
+        switches,
+    })
+}

@@ -1,0 +1,28 @@
+//! Program files: from the bytes of a stranger's file to a verified program.
+//!
+//! [`read`] gives the program that bytes are a file of, [`write`] the file of a program, and [`load`] reads and verifies. What
+//! a file is stands in docs/FORMAT.md ("Program files") and in the folder `specs/`: each field has a *format*, which says how
+//! it is spelled, what reading gives and which values are refused, with the laws that tie these to one another. So a program
+//! has one file, and a file is of one program.
+#![tactic(auto)]
+
+mod chains;
+mod cursor;
+mod error;
+mod field;
+mod file;
+mod functions;
+pub mod laws;
+mod lists;
+mod loading;
+mod names;
+mod number;
+mod switches;
+mod tokens;
+mod values;
+mod writing;
+
+pub use error::{Fault, Unkept, WriteError};
+pub use file::{Limits, ReadError, read};
+pub use loading::{LoadError, Loaded, load};
+pub use writing::write;

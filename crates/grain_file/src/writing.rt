@@ -1,0 +1,136 @@
+//! Writing a program as a file.
+ghost use Rattle.std.specs.Prelude.{◌≡◌, ◌≤◌, ◌++◌, ◌/◌, ◌%◌, ◌^◌, ℕ, List, Option, IfOk, IfErr, OnOk, option_map};
+ghost use Rattle.grain_file.specs.Reading.{Decides};
+ghost use Rattle.grain_file.specs.Formats.{optional, text};
+ghost use Rattle.grain_file.specs.Form.{forms};
+ghost use Rattle.grain_file.specs.FormSound.{deepest};
+ghost use Rattle.grain_file.specs.ProgramFile.{IsFile, code_format, file_format, kept, nesting_of, pools_format, refusal_of, rest_format};
+
+use crate::error::{Unkept, WriteError};
+use crate::field::Field;
+use crate::lists::put_all;
+use crate::names::put_names;
+use crate::number::put_bytes;
+use crate::values::put_values;
+use grain::{Flags, Program};
+use std::alloc::{AllocError, Global};
+
+/// The file of a program (docs/FORMAT.md, "Program files"). It goes over the program once.
+///
+/// # Errors
+/// `Unkept` with the first thing that no file keeps, in the order of the file: a value of the host among the constants, a
+/// position in a chain, a case of a switch, positions of the code, and fragments of syntax. `OutOfMemory` where a growth was
+/// refused.
+pub fn write(alloc: Global, program: &Program) -> Result<Vec<u8>, WriteError>
+    // What is written is a file of the program, for readers that let values nest as deep as they do in it.
+    ensures file { IfOk result (λ v. (depth : ℕ) → nesting_of (kept program.now) ≤ depth
+        → IsFile depth v.items (kept program.now)) }
+    // It is written exactly where no reason stands against it, and otherwise the first reason is told, memory apart.
+    ensures decides { Decides result (refusal_of (kept program.now)) }
+    // A program that has a file is written, memory apart.
+    ensures accepts { (depth : ℕ) (bytes : List ℕ) → IsFile depth bytes (kept program.now)
+        → IfErr result (λ e. e ≡ WriteError.OutOfMemory) }
+{
+    write_whole(alloc, program)
+}
+
+#[tactic(auto, unfolding(crate::specs::ProgramFile::file_format, crate::specs::ProgramFile::versioned_format, crate::specs::ProgramFile::body_format))]
+fn write_whole(alloc: Global, program: &Program) -> Result<Vec<u8>, WriteError>
+    ensures spelled { IfOk result (λ v. (depth : ℕ)
+        → v.items ≡ (file_format depth).spelling (kept program.now)) }
+    ensures fits { OnOk result ((depth : ℕ) → nesting_of (kept program.now) ≤ depth
+        → (file_format depth).Fits (kept program.now)) }
+    ensures decides { Decides result (refusal_of (kept program.now)) }
+{
+    let mut out = Vec::new(alloc);
+    out.extend_from_slice(b"\x00grn\x01\x00")?;
+    put_code(&mut out, program)?;
+    put_pools(&mut out, program)?;
+    put_rest(&mut out, program)?;
+    Ok(out)
+}
+
+/// Appends the capabilities, the number of the program, the code, the main chunk and the functions.
+#[tactic(auto, unfolding(crate::specs::ProgramFile::code_format))]
+fn put_code(out: &mut Vec<u8>, program: &Program) -> Result<(), WriteError>
+    ensures spelled { OnOk result
+        (out.new.items ≡ out.old.items ++ code_format.spelling (kept program.now).0) }
+    ensures fits { OnOk result (code_format.Fits (kept program.now).0) }
+    ensures decides { Decides result (code_format.refusal (kept program.now).0) }
+{
+    program.caps().bits().write(out)?;
+    low_half(program.debug_id()).write(out)?;
+    high_half(program.debug_id()).write(out)?;
+    put_bytes(out, program.code())?;
+    program.main().write(out)?;
+    put_all(out, program.functions())?;
+    Ok(())
+}
+
+fn low_half(id: u128) -> u64
+    ensures { result ≡ id % 2 ^ 64 }
+{
+    (id % (1 << 64)) as u64
+}
+
+fn high_half(id: u128) -> u64
+    ensures { result ≡ id / 2 ^ 64 }
+{
+    (id / (1 << 64)) as u64
+}
+
+/// Appends the names, constants, operators, op-assignments, chains and switches.
+#[tactic(auto, unfolding(crate::specs::ProgramFile::pools_format))]
+fn put_pools(out: &mut Vec<u8>, program: &Program) -> Result<(), WriteError>
+    ensures spelled { OnOk result ((depth : ℕ) → out.new.items
+        ≡ out.old.items ++ (pools_format depth).spelling (kept program.now).1.0) }
+    ensures fits { OnOk result ((depth : ℕ) → deepest (forms program.now.consts) ≤ depth
+        → (pools_format depth).Fits (kept program.now).1.0) }
+    ensures decides { Decides result ((pools_format 0).refusal (kept program.now).1.0) }
+{
+    put_names(out, program.names())?;
+    put_values(out, program.consts())?;
+    put_all(out, program.tokens())?;
+    put_all(out, program.assign_ops())?;
+    put_all(out, program.chains())?;
+    put_all(out, program.switches())?;
+    Ok(())
+}
+
+/// Appends the name of the source, and that there are no positions.
+#[tactic(auto, unfolding(crate::specs::ProgramFile::rest_format))]
+fn put_rest(out: &mut Vec<u8>, program: &Program) -> Result<(), WriteError>
+    ensures spelled { OnOk result
+        (out.new.items ≡ out.old.items ++ rest_format.spelling (kept program.now).1.1) }
+    ensures fits { OnOk result (rest_format.Fits (kept program.now).1.1) }
+    ensures decides { Decides result (rest_format.refusal (kept program.now).1.1) }
+{
+    put_source(out, program.source())?;
+    if !program.positions().is_stripped() {
+        return Err(WriteError::Unkept(Unkept::Positions));
+    }
+    if program.residual_count() != 0 {
+        return Err(WriteError::Unkept(Unkept::Residuals));
+    }
+    out.push(0)?;
+    Ok(())
+}
+
+/// Appends the name of the source, if there is one.
+fn put_source(out: &mut Vec<u8>, source: Option<&str>) -> Result<(), AllocError>
+    ensures spelled { OnOk result (out.new.items ≡ out.old.items
+        ++ (optional text).spelling (option_map (λ s. s.now) source.entry)) }
+    ensures fits { OnOk result ((optional text).Fits (option_map (λ s. s.now) source.entry)) }
+{
+    match source {
+        None => {
+            out.push(0)?;
+            Ok(())
+        }
+        Some(text) => {
+            out.push(1)?;
+            put_bytes(out, text.as_bytes())?;
+            Ok(())
+        }
+    }
+}

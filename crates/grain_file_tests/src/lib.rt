@@ -1,0 +1,15 @@
+//! The tests of `grain_file`, which call it as a host does. Bytes are written by hand from docs/FORMAT.md ("Program files").
+#![tactic(auto)]
+
+#[cfg(test)]
+mod constants;
+#[cfg(test)]
+mod loads;
+#[cfg(test)]
+mod refusals;
+#[cfg(test)]
+mod round_trips;
+#[cfg(test)]
+mod samples;
+#[cfg(test)]
+mod unkept;
