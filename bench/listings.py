@@ -4,9 +4,9 @@
     python3 bench/listings.py CHECK LIST [--lines N] [--seed N]
 
 CHECK and LIST are the built programs, as `rt run` leaves them in crates/grain_check/out and crates/grain_list/out. The model
-is written from docs/FORMAT.md, whose instruction table it reads. For each line it looks whether the listing's verdict is that of
+is written from docs/FORMAT.md, whose instruction table it reads, and docs/LISTINGS.md. For each line it looks whether the listing's verdict is that of
 grain_check, and both end with one status; whether the rows of a chunk that passes are its instructions, a typing of it, just what is
-reached, and up to the number of the verdict, each from where it says; whether the ways of a refusal lead along edges from the chunk's
+reached, and up to the number of the verdict, each from where it says; whether the paths of a refusal lead along edges from the chunk's
 entry to a state that has that very flaw; whether the first chunk that is refused has the flaw of the verdict; whether the word that is
 named of a bad case is its first that doesn't fit; and whether the text says just what the JSON does. It ends with status 1 at the
 first line where that isn't so.
@@ -53,7 +53,7 @@ def fields_of(row, code, at):
 
 
 def instruction(code, at):
-    """The row, the fields and the end of the instruction at an address, if one stands there."""
+    """The row, the fields and the end of the instruction at an address, if there is one."""
     row = ROWS.get(code[at]) if at < len(code) else None
     if row is None or at + row.width > len(code):
         return None
@@ -168,10 +168,10 @@ def check_items(code, items, entry, end):
 
 def state_behind(code, caps, at, state, to, shown):
     """The state on an edge from a state at an address to another address, which is shown so."""
-    expect(lack(code, caps, at, state) is None, f"a way goes on at {at}, where something lacks")
+    expect(lack(code, caps, at, state) is None, f"a path goes on at {at}, where something is lacking")
     jumps, falls = edges(code, at, state)
     found = [behind for target, behind in jumps + falls if target == to and is_shown(behind, shown)]
-    expect(found, f"no edge leads from {at} to {to} with what stands there")
+    expect(found, f"no edge leads from {at} to {to} with that state")
     return found[0]
 
 
@@ -213,11 +213,11 @@ def check_typing(code, caps, chunk, held, most):
     expect(most <= chunk["declared"], "the declared stack")
 
 
-def last_state(code, caps, chunk, way):
-    """The last state of a way, which leads along edges from the entry."""
-    expect(way and way[0]["at"] == chunk["entry"] and is_shown(EMPTY, way[0]), "a way begins at the entry")
+def last_state(code, caps, chunk, path):
+    """The last state of a path, which leads along edges from the entry."""
+    expect(path and path[0]["at"] == chunk["entry"] and is_shown(EMPTY, path[0]), "a path begins at the entry")
     state = EMPTY
-    for one, other in zip(way, way[1:]):
+    for one, other in zip(path, path[1:]):
         state = state_behind(code, caps, one["at"], state, other["at"], other)
     return state
 
@@ -233,9 +233,9 @@ def check_frame(code, chunk, error):
     return bad not in (starts if bad == entry else starts + [end]) and error == f"jump-into-an-instruction at={entry} target={bad}"
 
 
-def has_flaw(code, caps, chunk, way, other, error):
-    """Whether the last state of a way, or those of two ways, have the very flaw."""
-    at, state = way[-1]["at"], last_state(code, caps, chunk, way)
+def has_flaw(code, caps, chunk, path, other, error):
+    """Whether the last state of a path, or those of two paths, have the very flaw."""
+    at, state = path[-1]["at"], last_state(code, caps, chunk, path)
     if error.startswith("depth-conflict"):
         there = last_state(code, caps, chunk, other)
         return other[-1]["at"] == at and there != state and error == f"depth-conflict at={at} expected={state.operands} found={there.operands}"
@@ -260,10 +260,10 @@ def check_chunk(code, caps, chunk, most):
     if refusal is None:
         top = max((item["state"]["operands"] for item in chunk["items"] if item["state"]), default=0)
         return check_typing(code, caps, chunk, held, top if most is None else most)
-    if not refusal["way"]:
+    if not refusal["path"]:
         return expect(check_frame(code, chunk, refusal["error"]), "the frame hasn't that flaw")
-    expect(bool(refusal["other"]) == refusal["error"].startswith("depth-conflict"), "another way, and no conflict")
-    expect(has_flaw(code, caps, chunk, refusal["way"], refusal["other"], refusal["error"]), "the way shows another flaw")
+    expect(bool(refusal["other_path"]) == refusal["error"].startswith("depth-conflict"), "another path, and no conflict")
+    expect(has_flaw(code, caps, chunk, refusal["path"], refusal["other_path"], refusal["error"]), "the path shows another flaw")
 
 
 def check_program(code, caps, spans, verdict, listing):
@@ -292,9 +292,9 @@ def is_chunk(word):
 
 SPELLINGS = {
     "HEX": (lambda word: word == "-" or re.fullmatch("([0-9a-fA-F]{2})+", word), "hexadecimal digits in pairs, or - for no bytes"),
-    "ADDRESS": (lambda word: is_number(word, 32), "decimal digits alone, of a number up to 4294967295"),
-    "CAPS": (lambda word: re.fullmatch("[0-9a-fA-F]{4}", word) and int(word, 16) < 0x8000, "four hexadecimal digits, of a number up to 7fff"),
-    "CHUNK": (is_chunk, "ENTRY:END:DECLARED in decimal digits alone, the first two up to 4294967295, the last up to 65535"),
+    "ADDRESS": (lambda word: is_number(word, 32), "decimal digits only, at most 4294967295"),
+    "CAPS": (lambda word: re.fullmatch("[0-9a-fA-F]{4}", word) and int(word, 16) < 0x8000, "four hexadecimal digits, at most 7fff"),
+    "CHUNK": (is_chunk, "ENTRY:END:DECLARED in decimal digits only, the first two at most 4294967295, the last at most 65535"),
 }
 FORMS = {"code": ["HEX"], "site": ["HEX", "ADDRESS"], "verify": ["CAPS", "HEX"]}
 
@@ -304,7 +304,7 @@ def problem_of(words):
     if not words:
         return "The line has no word."
     if words[0] not in FORMS:
-        return "The first word is none of code, site and verify."
+        return "The first word must be code, site or verify."
     fields = FORMS[words[0]]
     if words[0] == "verify":
         fields = fields + ["CHUNK"] * (len(words) - 3)
@@ -313,7 +313,7 @@ def problem_of(words):
         if number > len(words):
             return f"{field} is missing: {rule}."
         if not fits(words[number - 1]):
-            return f"Word {number} is no {field}: {rule}."
+            return f"Word {number} is not a valid {field}: {rule}."
     return f"Word {len(fields) + 2} is one too many." if len(words) > len(fields) + 1 else None
 
 
@@ -351,16 +351,16 @@ def item_text(item, stands):
     return f"{item['at']:>9}  {item['bytes']:14}  {stands}{op_text(item)}"
 
 
-def way_text(title, way, by_address):
-    return [f"  {title}"] + [item_text(by_address[state["at"]], state_text(state)) for state in way]
+def path_text(title, path, by_address):
+    return [f"  {title}"] + [item_text(by_address[state["at"]], state_text(state)) for state in path]
 
 
 def refusal_text(refusal, by_address):
     lines = [f"  {refusal['wrong']}", f"  The rule: {refusal['rule']}"]
-    way, other = refusal["way"], refusal["other"]
+    path, other = refusal["path"], refusal["other_path"]
     if other:
-        return lines + way_text("One way there:", way, by_address) + way_text("The other:", other, by_address)
-    return lines + (way_text("The way there:", way, by_address) if way else [])
+        return lines + path_text("One path there:", path, by_address) + path_text("Another path there:", other, by_address)
+    return lines + (path_text("A path there:", path, by_address) if path else [])
 
 
 def chunk_text(place, chunk):
@@ -368,7 +368,7 @@ def chunk_text(place, chunk):
     lines = ["", f"chunk {place} from {chunk['entry']} to {chunk['end']}, which declares {chunk['declared']}: {'refused' if refusal else 'passes'}"]
     if chunk["items"]:
         lines.append("  address  bytes           operands iterators  bases     instruction")
-    flaw = refusal["way"][-1]["at"] if refusal and refusal["way"] else None
+    flaw = refusal["path"][-1]["at"] if refusal and refusal["path"] else None
     for item in chunk["items"]:
         stands = state_text(item["state"]) if item["state"] else f"  {'not visited' if refusal else 'unreachable'}".ljust(30)
         lines.append(item_text(item, stands) + ("  <== here" if item["at"] == flaw else ""))
@@ -381,7 +381,7 @@ def code_text(listing):
     words = listing["line"].split()
     code = bytes.fromhex(words[1 if words[0] == "code" else 2])
     end = starts_of(code)[1]
-    return lines + ([f"{end:>9}  no instruction stands here"] if end < len(code) else [])
+    return lines + ([f"{end:>9}  no instruction"] if end < len(code) else [])
 
 
 def text_of(listing):

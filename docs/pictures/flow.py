@@ -2,7 +2,7 @@
 """Draws the control flow of a chunk: grain_list --json <LINES | docs/pictures/flow.py FILE.svg [LINE [CHUNK]]
 
 LINE and CHUNK are counted from 0. Addresses run down the page, with the instruction and what stands there; jumps go at the left,
-those of handlers dashed and in blue, and the way to a flaw is red. Only the standard library is needed.
+those of handlers dashed and in blue, and the path to a flaw is red. Only the standard library is needed.
 """
 import json
 import pathlib
@@ -31,9 +31,9 @@ def stands(state):
 
 
 def steps_of(refusal):
-    """The edges of the ways to a flaw."""
-    ways = [refusal["way"], refusal["other"]] if refusal else []
-    return {(one["at"], other["at"]) for way in ways for one, other in zip(way, way[1:])}
+    """The edges of the paths to a flaw."""
+    paths = [refusal["path"], refusal["other_path"]] if refusal else []
+    return {(one["at"], other["at"]) for path in paths for one, other in zip(path, path[1:])}
 
 
 def jumps_of(items, place):
@@ -69,7 +69,7 @@ def wrapped(words, width):
 
 
 def last_of(refusal, member):
-    """The state to which a way of a refusal leads, if there is one."""
+    """The state to which a path of a refusal leads, if there is one."""
     return refusal[member][-1] if refusal and refusal[member] else None
 
 
@@ -81,7 +81,7 @@ class Flow:
         self.edges = jumps_of(self.items, {item["at"]: row for row, item in enumerate(self.items)})
         self.lanes, lane_count = lanes_of(self.edges)
         self.red = steps_of(self.refusal)
-        self.flaw, self.other = last_of(self.refusal, "way"), last_of(self.refusal, "other")
+        self.flaw, self.other = last_of(self.refusal, "path"), last_of(self.refusal, "other_path")
         self.left = 30 + LANE * (lane_count + 1)
         self.instruction = self.left + 74
         self.counts = self.instruction + LETTER * max([len(label(item)) for item in self.items] + [11]) + 40
@@ -115,7 +115,7 @@ class Flow:
             self.picture.text(x, 60, title, 12, FAINT, anchor)
 
     def both(self, text, none):
-        """What stands at the flaw, by both ways where these differ in it."""
+        """The state at the flaw, by both paths where these differ in it."""
         here, there = text(self.flaw), text(self.other) if self.other else text(self.flaw)
         return here if here == there else f"{here or none} and {there or none}"
 

@@ -1,4 +1,4 @@
-/* Each function of grain.h: what it answers, what it writes, and that all else stays. */
+/* Each function of grain.h: what it returns, what it writes, and that all else stays. */
 #include "grain.h"
 
 #include "checks.h"

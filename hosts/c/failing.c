@@ -1,4 +1,4 @@
-/* Each allocation of the library is refused in turn: the answer is GRAIN_OUT_OF_MEMORY, nothing is written, nothing leaks. */
+/* Each allocation of the library is refused in turn: the result is GRAIN_OUT_OF_MEMORY, nothing is written, nothing leaks. */
 #include "grain.h"
 
 #include <stdio.h>

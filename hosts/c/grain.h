@@ -1,14 +1,14 @@
 /* grain: the proved verifier for untrusted Rhai Grain bytecode, in the host's process.
  *
  * grain_verify says whether a compiled script may be run in place, and how many operands each of its chunks needs. What a
- * yes means, and what the machine that runs accepted code must do in turn, stands at grain_verify below.
+ * yes means, and what it requires of the machine that runs accepted code, is described at grain_verify below.
  *
- * Every function is proved, apart from plain C: grain_listing, grain_version, the three functions that allocate, and the
- * test for NULL in front of each call. Whatever the numbers and the contents of lists are, a call answers, and writes only
- * what it is said to write. The caller must ensure what no library can check:
+ * Every function is proved, except for plain C: grain_listing, grain_version, the three functions that allocate, and the
+ * test for NULL before each call. Whatever the numbers and the contents of lists are, a call returns, and writes only what
+ * its description says. The caller must ensure what no library can check:
  *
  * - A list is a pointer and a length. The pointer may be NULL where the length is 0. Otherwise it is aligned to its type,
- *   and as many items stand there. Items that are read must be set; so must those of a list that is only written to.
+ *   and points to as many items. Items that are read must be set; so must those of a list that is only written to.
  * - All other pointers are valid, unless it is said that they may be NULL.
  * - What a call writes overlaps nothing else that it is given, and no other thread reads or writes it during the call.
  *   What is only read may overlap, and any number of calls may read it at once.
@@ -83,7 +83,7 @@ __attribute__((used)) static const uint32_t *const grain_interface_of_header = &
 #define GRAIN_CAP_CUSTOM_SYNTAX 0x4000
 #define GRAIN_CAP_ALL 0x7fff
 
-/* What a call answers. Each number means one thing. */
+/* What a call returns. Each number means one thing. */
 typedef enum grain_status {
     GRAIN_ACCEPTED = 0,      /* the program is accepted, or the chunk passes */
     GRAIN_REFUSED = 1,       /* it is refused, and the refusal is written */
@@ -97,13 +97,13 @@ typedef enum grain_status {
     GRAIN_STOPPED = 9        /* the caller's function asked to stop */
 } grain_status;
 
-/* Why a program is refused. Next to each flaw: what `first` and `second` of its grain_refusal are; 0 where nothing is said. */
+/* Why a program is refused. Next to each flaw is what `first` and `second` of its grain_refusal are; others are 0. */
 enum grain_flaw {
     GRAIN_FLAW_NONE = 0,
     GRAIN_FLAW_MISSING_CAPS = 1,             /* first: the missing capabilities, or for a constant all that it needs;
                                               * second: those of the host */
-    GRAIN_FLAW_UNDECODABLE = 2,              /* no instruction stands at the address */
-    GRAIN_FLAW_TRAILING_BYTES = 3,           /* never answered */
+    GRAIN_FLAW_UNDECODABLE = 2,              /* there is no instruction at the address */
+    GRAIN_FLAW_TRAILING_BYTES = 3,           /* no call returns this */
     GRAIN_FLAW_CHUNK_OUT_OF_RANGE = 4,       /* at: the chunk's entry, first: its end, second: the length of the code */
     GRAIN_FLAW_JUMP_OUT_OF_RANGE = 5,        /* first: the target, outside the chunk */
     GRAIN_FLAW_JUMP_INTO_AN_INSTRUCTION = 6, /* first: the target; or the chunk begins or ends there */
@@ -113,8 +113,9 @@ enum grain_flaw {
     GRAIN_FLAW_STACK_EXCEEDS_DECLARED = 10,  /* first: the operands that are needed, second: those declared */
     GRAIN_FLAW_ITERATOR_UNDERFLOW = 11,      /* there is no iterator */
     GRAIN_FLAW_HANDLER_UNDERFLOW = 12,       /* no handler is armed */
-    GRAIN_FLAW_SINKS_BELOW_HANDLER = 13,     /* first: what stood when the last handler was armed, second: what is left */
-    GRAIN_FLAW_BAD_INDEX = 14                /* first: the index, second: what it names, a grain_kind */
+    GRAIN_FLAW_SINKS_BELOW_HANDLER = 13,     /* first: the operands, or else the iterators, that there were when the last
+                                              * handler was armed, second: those that are left */
+    GRAIN_FLAW_BAD_INDEX = 14                /* first: the index, second: its grain_kind */
 };
 
 /* What a number is: a field of an instruction, or the index that a refusal names. */
@@ -157,7 +158,7 @@ typedef enum grain_table_flaw {
     GRAIN_TABLE_SOUND = 0,         /* nothing is wrong, and *named isn't written */
     GRAIN_TABLE_TRUNCATED = 1,     /* 0 */
     GRAIN_TABLE_OVERFLOW = 2,      /* 0 */
-    GRAIN_TABLE_OUT_OF_ORDER = 3,  /* the address that stands twice; only in address tables */
+    GRAIN_TABLE_OUT_OF_ORDER = 3,  /* the repeated address; only in address tables */
     GRAIN_TABLE_TRAILING_BYTES = 4 /* how many bytes are left */
 } grain_table_flaw;
 
@@ -172,7 +173,7 @@ enum grain_list {
     GRAIN_LIST_RANGES = 7
 };
 
-/* The place of a chunk where no chunk is refused. */
+/* In place of the index of a chunk: the refusal is of none. */
 #define GRAIN_WHOLE_PROGRAM UINT64_MAX
 
 /* An address where there is none. */
@@ -233,9 +234,9 @@ typedef struct grain_case {
 
 /* What a program has besides its code and its chunks, in flat form. GRAIN_POOLS_NONE is empty.
  *
- * The steps of all chains stand one chain after another, and so do the cases and the ranges of all switches. `names` has
- * the bytes of all names, one after another; `starts` has one entry more than there are names: 0, and then where each
- * name ends. Where there are no names, both may be empty. */
+ * `steps` has those of all chains, chain after chain; so have `cases` and `ranges` those of all switches. `names` has the
+ * bytes of all names, one after another; `starts` has one entry more than there are names: 0, and then where each name
+ * ends. Where there are no names, both may be empty. */
 typedef struct grain_pools {
     const grain_constant *constants;
     size_t constants_len;
@@ -317,7 +318,7 @@ typedef struct grain_entry {
     uint32_t column;
 } grain_entry;
 
-/* What stands at an instruction when a run reaches it. */
+/* The state at an instruction when a run reaches it. */
 typedef struct grain_row {
     uint32_t at;        /* the address of the instruction */
     uint32_t operands;  /* how many there are */
@@ -326,7 +327,7 @@ typedef struct grain_row {
     uint32_t base;      /* the base of the last armed handler, an index into the bases, or GRAIN_NO_BASE */
 } grain_row;
 
-/* The base of an armed handler: what stood when it was armed, and the base of the handler that was armed before it. */
+/* The base of an armed handler: what was on the stacks when it was armed, and the base of the handler before it. */
 typedef struct grain_base {
     uint32_t operands;
     uint32_t iterators;
@@ -336,7 +337,7 @@ typedef struct grain_base {
 /* What an explanation has: how many rows of each kind, one kind after another, how many bases, and why the chunk is
  * refused, where it is. */
 typedef struct grain_explanation {
-    size_t rows;  /* what stands at each instruction that the walk visited */
+    size_t rows;  /* the state at each instruction that the walk visited */
     size_t path;  /* a path to the flaw, from the chunk's entry on; its last row shows the flaw */
     size_t other; /* for a conflict: another path to the same address */
     size_t bases;
@@ -344,7 +345,7 @@ typedef struct grain_explanation {
 } grain_explanation;
 
 /* Where pools aren't flat: a grain_list and an index into it. The entry there is wrong, or has more steps, cases or ranges
- * than there are; or no chain, switch or start is left for it. */
+ * than there are, or belongs to no chain, switch or name. */
 typedef struct grain_pools_flaw {
     uint32_t list;
     uint64_t index;
@@ -354,16 +355,16 @@ typedef struct grain_pools_flaw {
  *
  * GRAIN_ACCEPTED: the depth of each chunk is written, which is the greatest number of operands that any run of it reaches.
  * GRAIN_REFUSED: report->refusal is written. In both cases report->visited is written: how many instructions the walks
- * visited, counted for each chunk apart. All other answers leave everything as it was. Other places of `depths` stay too.
+ * visited, counted for each chunk apart. All other results leave everything as it was, as all do the rest of `depths`.
  *
  * No run of an accepted program leaves the instructions of its chunk, lacks an operand, an iterator or a handler, or has
- * more operands than the chunk's depth. This is said of kept runs: where a handler catches a fault, at least what stood on
- * the stacks when the handler was armed still stands. Accepted code ensures that at every instruction except the eight
- * quiet ones (grain_is_quiet). So the machine must step as FORMAT.md says ("Verification"); and at a quiet instruction it
- * must never fault, or only where that much is left.
+ * more operands than the chunk's depth. This is true of kept runs: where a handler catches a fault, the stacks still have
+ * at least what they had when the handler was armed. Accepted code ensures that at every instruction except the eight quiet
+ * ones (grain_is_quiet). So the machine must step as FORMAT.md says ("Verification"); and at a quiet instruction it must
+ * never fault, or only where that much is left.
  *
- * `scratch` keeps memory from one program to the next; NULL: memory for this call alone. The answer is right whatever the
- * scratch was used for before. `limit` bounds the work: GRAIN_TOO_MUCH_WORK where the chunks span more bytes of the code
+ * `scratch` keeps memory from one program to the next; NULL: memory for this call alone. The result is the same whatever
+ * the scratch was used for before. `limit` bounds the work: GRAIN_TOO_MUCH_WORK where the chunks span more bytes of the code
  * than this, each chunk counted for itself, so that `visited` never exceeds it. Chunks of one program usually don't
  * overlap: the length of the code is then enough. `report` may be NULL.
  *
@@ -384,11 +385,11 @@ bool grain_check_pools(const grain_pools *pools, grain_pools_flaw *flaw);
 
 /* Explains a chunk of a program, the one with this index. Constants and functions aren't tested.
  *
- * GRAIN_ACCEPTED: the chunk passes. The rows are a stack typing of it, in the order of addresses, and just what is reached.
- * GRAIN_REFUSED: explanation->refusal is written. Each row is reached. The path leads to the flaw; it is empty where the
- * chunk itself lies, begins or ends where it may not. In both cases rows, path and other path are written one after
- * another, as many as there are places, and so are the bases; explanation->rows, path, other and bases say how many there
- * are. All other answers leave everything as it was.
+ * GRAIN_ACCEPTED: the chunk passes. The rows are a stack typing of it, one for each reached instruction, in the order of
+ * addresses. GRAIN_REFUSED: explanation->refusal is written. Each row is reached, in no promised order. The path leads to
+ * the flaw. There is no path where the chunk is empty, isn't in the code, or begins or ends inside an instruction. In both
+ * cases rows, path and other path are written one after another, as many as there is room for, and so are the bases;
+ * explanation->rows, path, other and bases say how many there are. All other results leave everything as it was.
  *
  * At most (end - entry) rows of each kind and as many bases are written. Time and memory grow with the instructions
  * visited and the arms of the switches among them (COSTS.md). */
@@ -398,11 +399,11 @@ GRAIN_NODISCARD grain_status grain_explain(uint16_t caps, const grain_program *p
 
 /* Writes the explanation of a chunk as a listing, piece by piece, through the caller's function. It is given `context`, and
  * a line or a part of one, which isn't ended by 0. If it returns other than 0, the listing ends: GRAIN_STOPPED. All other
- * answers are those of grain_explain. The function must return: no jump and no exception may leave it.
+ * results are those of grain_explain. The function must return: no jump and no exception may leave it.
  *
  * The listing is printable ASCII and line feeds (FORMAT.md, "Listings"). Names are escaped, so that none can forge a line.
  * Where the program is refused for a constant, its code or its functions, the first line says so; other chunks aren't
- * tested. It is all that is written where the answer is GRAIN_BAD_CODE. */
+ * tested. It is all that is written where the result is GRAIN_BAD_CODE. */
 typedef int grain_put(void *context, const char *text, size_t length);
 GRAIN_NODISCARD grain_status grain_listing(uint16_t caps, const grain_program *program, size_t chunk, grain_put *put,
                                            void *context);
@@ -411,17 +412,17 @@ GRAIN_NODISCARD grain_status grain_listing(uint16_t caps, const grain_program *p
 #define GRAIN_TEXT_SIZE 129
 
 /* Writes a refusal as a line of ASCII (FORMAT.md). Like snprintf: writes as much as there is room for, always ended by 0
- * unless size is 0, and answers how long the text is. 0: the record is no refusal, and nothing is written. */
+ * unless size is 0, and returns how long the text is. 0: the record is no refusal, and nothing is written. */
 size_t grain_refusal_text(const grain_refusal *refusal, char *text, size_t size);
 
-/* Writes the instruction at an address: its name and its fields, such as "CALL 3 2"; as grain_refusal_text does. 0: no
- * instruction stands there, and nothing is written. */
+/* Writes the instruction at an address, its name and its fields, such as "CALL 3 2", as grain_refusal_text does. 0: there is
+ * none, and nothing is written. */
 size_t grain_instruction_text(const uint8_t *code, size_t code_len, size_t at, char *text, size_t size);
 
 /* Counts the instructions of the code. false: *damage is the address of the first thing that is none, and *count stays. */
 bool grain_count_instructions(const uint8_t *code, size_t code_len, size_t *count, size_t *damage);
 
-/* The instruction at an address; false, and nothing is written, where none stands there. A machine decodes faster by
+/* The instruction at an address; false, and nothing is written, where there is none. A machine decodes faster by
  * GRAIN_INSTRUCTIONS (grain_instructions.h). */
 bool grain_instruction(const uint8_t *code, size_t code_len, size_t at, grain_instruction_row *instruction);
 
@@ -434,7 +435,7 @@ bool grain_site(const uint8_t *table, size_t table_len, uint32_t address, grain_
 /* Whether bytes are an address table. */
 grain_table_flaw grain_check_table(const uint8_t *table, size_t table_len, uint64_t *named);
 
-/* Writes the entries of an address table in order, as many as there are places, and answers how many there are: those
+/* Writes the entries of an address table in order, as many as there is room for, and returns how many there are: those
  * before the first damage. An entry takes at least 3 bytes of the table. */
 size_t grain_table_entries(const uint8_t *table, size_t table_len, grain_entry *entries, size_t entries_len);
 
@@ -444,7 +445,7 @@ bool grain_stream_site(const uint8_t *stream, size_t stream_len, uint32_t slot, 
 /* Whether bytes are a stream. */
 grain_table_flaw grain_check_stream(const uint8_t *stream, size_t stream_len, uint64_t *named);
 
-/* Writes the places of a stream, slot by slot, as many as there are places, and *count, how many slots there are. false, and
+/* Writes the places of a stream, slot by slot, as many as there is room for, and *count, how many slots there are. false, and
  * nothing is written: the bytes are no stream. A slot takes at least 2 bytes of the stream. */
 bool grain_stream_sites(const uint8_t *stream, size_t stream_len, grain_place *sites, size_t sites_len, size_t *count);
 

@@ -1,4 +1,4 @@
-/* The layouts of grain.h's records, which are those of the records in Rattle (hosts/c/compare). */
+/* The layouts of grain.h's records, which are those of the records in Rattle (hosts/c/compare of the repository). */
 #ifndef GRAIN_LAYOUT_H
 #define GRAIN_LAYOUT_H
 

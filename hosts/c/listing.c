@@ -1,4 +1,4 @@
-/* grain_listing: what stands at each instruction of a chunk, and paths to its flaw, as text.
+/* grain_listing: the state at each instruction of a chunk, and paths to its flaw, as text.
  *
  * Time and memory grow with the chunk and its explanation. So the innermost bases alone are written, and the first bytes of
  * long names: both can appear at many instructions. */
@@ -63,7 +63,7 @@ static void pad_to(writer *out, size_t column) {
         write_byte(out, ' ');
 }
 
-/* Writes a number so that it ends at the column, or where it has too many digits, behind it. */
+/* Writes a number so that it ends at the column, or after it where it has too many digits. */
 static void write_number(writer *out, uint64_t number, size_t column) {
     char digits[20];
     size_t many = 0;
@@ -151,7 +151,7 @@ static void write_address(listing *l, size_t at) {
         write_hex(&l->out, l->program->code[at + i]);
 }
 
-/* Writes an instruction and what stands there, or NULL where that isn't known. */
+/* Writes an instruction and the state there; NULL where that isn't known. */
 static void write_row(listing *l, size_t at, const grain_row *row, bool is_flaw) {
     writer *out = &l->out;
     if (at >= l->program->code_len)

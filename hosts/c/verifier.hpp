@@ -10,7 +10,7 @@
 
 namespace grain {
 
-// What a verification answers: the depth of each chunk, or why there are none.
+// What a verification returns: the depth of each chunk, or why there are none.
 struct Verdict {
     grain_status status;
     std::vector<std::uint16_t> depths;

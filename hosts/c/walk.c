@@ -47,7 +47,7 @@ static size_t size_of_field(char letter) {
     return letter == 'a' ? 1 : letter == 'j' ? 4 : 2;
 }
 
-/* Appends an instruction and its line, and says where it stands. */
+/* Appends an instruction and its line, and returns its address. */
 static uint32_t emit(script *to, uint8_t tag, uint32_t line, uint32_t first, uint32_t second) {
     uint32_t at = (uint32_t)to->code.count, fields[3] = {first, second, 0};
     APPEND(&to->code, uint8_t) = tag;
@@ -57,7 +57,7 @@ static uint32_t emit(script *to, uint8_t tag, uint32_t line, uint32_t first, uin
     uint8_t *table = to->table.items;
     uint8_t width = to->table.count == 1 ? 0 : (uint8_t)(at - to->chunk.end);
     table[0]++;
-    APPEND(&to->table, uint8_t) = width; /* behind the instruction before it; each number here is below 128 */
+    APPEND(&to->table, uint8_t) = width; /* from the instruction before it; each number here is below 128 */
     APPEND(&to->table, uint8_t) = (uint8_t)line;
     APPEND(&to->table, uint8_t) = 1;
     to->chunk.end = at;

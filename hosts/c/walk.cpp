@@ -35,7 +35,7 @@ class Script {
     std::vector<std::string> names;
     std::vector<std::int64_t> values;
 
-    // Appends an instruction and its line, and says where it stands.
+    // Appends an instruction and its line, and returns its address.
     std::uint32_t emit(grain_tag tag, std::uint8_t line, std::uint32_t first = 0, std::uint32_t second = 0) {
         const std::uint32_t at = static_cast<std::uint32_t>(code.size()), fields[] = {first, second, 0};
         code.push_back(static_cast<std::uint8_t>(tag));
@@ -43,7 +43,7 @@ class Script {
             for (std::size_t byte = 0; byte < size_of_field(form_of(code[at]).fields[i]); byte++)
                 code.push_back(static_cast<std::uint8_t>(fields[i] >> 8 * byte));
         table[0]++;
-        table.push_back(static_cast<std::uint8_t>(at - last)); // behind the instruction before it; each number is below 128
+        table.push_back(static_cast<std::uint8_t>(at - last)); // from the instruction before it; each number is below 128
         table.push_back(line);
         table.push_back(1);
         return last = at;

@@ -1,2 +1,3 @@
 pub mod ListedCode
 pub mod Listed
+pub mod Ending

@@ -41,7 +41,7 @@ impl CodeListing {
         Ok(CodeListing { bytes, items })
     }
 
-    /// The address behind the instruction at an address; that address where none stands there.
+    /// The address after the instruction at an address; that address where there is none.
     fn end_of(&self, at: usize) -> usize {
         match Instruction::at(&self.bytes, at) {
             Some(instruction) => at.saturating_add(instruction.width()),

@@ -1,13 +1,14 @@
 //! A whole run over lines.
 
+use crate::failure::Failure;
 use crate::listing::Listing;
 use crate::object::write_json;
 use crate::paint::Paint;
 use crate::text::write_text;
-use grain_cases::{RunError, Summary, is_case, without_return};
+use grain_cases::{Summary, is_case, without_return};
 use json::Writer;
 use std::alloc::{AllocError, Global};
-use std::io::{BufRead, Write};
+use std::io::{BufRead, Error, ErrorKind, Write};
 
 /// How listings are written.
 #[derive(Clone, Copy)]
@@ -56,44 +57,48 @@ fn listing_bytes(alloc: Global, form: Form, listing: &Listing) -> Result<Vec<u8>
 /// Reads the next line, and says whether there is one.
 ///
 /// # Errors
-/// [`RunError::Read`], also where memory for the line was refused.
-fn read_line<R: BufRead>(reader: &mut R, line: &mut Vec<u8>) -> Result<bool, RunError> {
+/// [`Failure::Read`], or [`Failure::Memory`] where memory for the line was refused.
+fn read_line<R: BufRead>(reader: &mut R, line: &mut Vec<u8>) -> Result<bool, Failure> {
     line.clear();
-    match reader.read_until(b'\n', line) {
-        Ok(count) => Ok(count > 0),
-        Err(_) => Err(RunError::Read),
-    }
+    let count = reader.read_until(b'\n', line).map_err(Failure::of_read)?;
+    Ok(count > 0)
+}
+
+/// Writes bytes, so that they are there at once.
+///
+/// # Errors
+/// [`Failure::Write`], or [`Failure::Memory`] where memory for the bytes was refused.
+fn write_out<W: Write>(bytes: &[u8], writer: &mut W) -> Result<(), Failure> {
+    writer.write_all(bytes).map_err(Failure::of_write)?;
+    writer.flush().map_err(Failure::of_write)
 }
 
 /// Writes the listing of a case, and says whether the case is bad.
 ///
 /// # Errors
-/// [`RunError::Write`] where a write failed, [`RunError::OutOfMemory`] where memory was refused.
+/// [`Failure::Write`], or [`Failure::Memory`] where memory was refused.
 fn answer<W: Write>(
     alloc: Global,
     form: Form,
     case: &[u8],
     writer: &mut W,
-) -> Result<bool, RunError> {
+) -> Result<bool, Failure> {
     let listing = Listing::of(alloc, case)?;
     let bytes = listing_bytes(alloc, form, &listing)?;
-    if writer.write_all(&bytes).is_err() || writer.flush().is_err() {
-        return Err(RunError::Write);
-    }
+    write_out(&bytes, writer)?;
     Ok(listing.is_bad())
 }
 
 /// Reads lines to the end, and writes a listing for each case once its line has been read.
 ///
 /// # Errors
-/// Those of the line program: a read failed, a write failed, or memory was refused. Where it was a read, what was read before is
-/// answered.
+/// A read failed, a write failed, or memory was refused. What was read before a failed read is listed.
 pub fn run<R: BufRead, W: Write>(
     alloc: Global,
     form: Form,
     reader: &mut R,
     writer: &mut W,
-) -> Result<Summary, RunError> {
+) -> Result<Summary, Failure> {
     let mut summary = Summary { cases: 0, bad: 0 };
     let mut line = Vec::new(alloc);
     for _turn in 0..u64::MAX {
@@ -107,5 +112,5 @@ pub fn run<R: BufRead, W: Write>(
         let is_bad = answer(alloc, form, case, writer)?;
         summary.count(is_bad);
     }
-    Err(RunError::Read)
+    Err(Failure::Read(Error::from(ErrorKind::FileTooLarge)))
 }

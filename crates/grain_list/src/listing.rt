@@ -27,10 +27,10 @@ pub struct ProgramListing {
     pub depths: Vec<Vec<usize>>,
 }
 
-/// What is shown behind the verdict.
+/// What is shown after the verdict.
 #[derive(Drop)]
 pub enum Body {
-    /// What is wrong with a line that is no case.
+    /// What is wrong with a bad case.
     Bad(Problem),
     /// Of a site nothing.
     Site,
@@ -49,7 +49,7 @@ pub struct Listing {
     pub line: String,
     /// The verdict.
     pub verdict: String,
-    /// What is shown behind it.
+    /// What is shown after it.
     pub body: Body,
 }
 

@@ -1,14 +1,14 @@
-//! The listings of cases: for each case on standard input its verdict, what stands at each instruction, and of a refusal the way
-//! to its flaw and the rule that it breaks.
+//! Lists the cases of standard input: the verdict of each, the state at each instruction, and of a refusal a path to its flaw
+//! and the rule that it breaks.
 //!
-//! It reads the lines of docs/FORMAT.md, "Lines, cases and verdicts", and writes the listings of "Listings" there, or by
-//! the argument `--json` a JSON object for each case. It colours listings where standard output is a terminal and the
-//! environment has no `NO_COLOR`, and by the argument `--color` in any case.
+//! It reads the lines of docs/FORMAT.md, "Lines, cases and verdicts", and writes the listings of docs/LISTINGS.md.
 #![tactic(auto)]
 
+mod arguments;
 mod code;
 mod driver;
 mod explained;
+mod failure;
 mod handlers;
 mod listing;
 mod object;
@@ -17,42 +17,104 @@ mod problem;
 mod sentence;
 mod text;
 
+use crate::arguments::{Colours, Request, request_of};
 use crate::driver::{Form, run};
+use crate::failure::{Failure, WRONG_ARGUMENTS};
 use crate::paint::Paint;
+use clap::error::ErrorKind;
 use grain_cases::status;
+use std::alloc::AllocError;
 use std::env;
+use std::env::VarError;
 use std::io::{BufReader, BufWriter, IsTerminal};
 use std::process::ExitCode;
 
-/// How listings are to be written, by the arguments and by where they go.
-fn form_of(rt: &HostRuntime) -> Form {
-    let mut form = if rt.stdout().is_terminal() && env::var(rt, "NO_COLOR").is_err() {
-        Form::Text(Paint::Coloured)
+/// Whether the environment asks for no colours: by a `NO_COLOR` that isn't empty, or by a terminal that has none.
+fn is_plain(rt: &HostRuntime) -> bool {
+    let no_color = match env::var(rt, "NO_COLOR") {
+        Ok(value) => !value.is_empty(),
+        Err(VarError::NotPresent) => false,
+        Err(_) => true,
+    };
+    no_color || matches!(env::var(rt, "TERM"), Ok(term) if term.as_str() == "dumb")
+}
+
+/// How listings are written where they go.
+fn form_of(rt: &HostRuntime, request: Request) -> Form {
+    let is_coloured = match request {
+        Request::Json => return Form::Json,
+        Request::Text(Colours::Always) => true,
+        Request::Text(Colours::Never) => false,
+        Request::Text(Colours::Auto) => rt.stdout().is_terminal() && !is_plain(rt),
+    };
+    Form::Text(if is_coloured {
+        Paint::Coloured
     } else {
-        Form::Text(Paint::Plain)
-    };
-    let Ok(arguments) = env::args(rt) else {
-        return form;
-    };
-    for argument in arguments {
-        match argument.as_str() {
-            "--json" => return Form::Json,
-            "--color" => form = Form::Text(Paint::Coloured),
-            _ => {}
-        }
+        Paint::Plain
+    })
+}
+
+/// The program's name and its arguments.
+///
+/// # Errors
+/// [`Failure::Arguments`] where one isn't UTF-8, [`Failure::Memory`] where memory was refused.
+fn words(rt: &HostRuntime) -> Result<Vec<String>, Failure> {
+    let words = env::args(rt).map_err(Failure::of_arguments)?;
+    Ok(words.collect(rt.alloc())?)
+}
+
+/// Lists the cases of standard input on standard output, and returns the status of the process.
+///
+/// # Errors
+/// Those of [`run`].
+fn list(rt: &HostRuntime, form: Form) -> Result<u8, Failure> {
+    let alloc = rt.alloc();
+    let mut reader = BufReader::new(alloc, rt.stdin()).map_err(Failure::of_read)?;
+    let mut writer = BufWriter::new(alloc, rt.stdout()).map_err(Failure::of_write)?;
+    let summary = run(alloc, form, &mut reader, &mut writer)?;
+    Ok(status(&Ok(summary)))
+}
+
+/// Prints help, the version, or what is wrong with the arguments, and returns the status of the process.
+///
+/// # Errors
+/// [`Failure::Memory`] where memory was refused, [`Failure::Write`] where help or the version could not be written.
+fn print(rt: &HostRuntime, said: &clap::Error) -> Result<u8, Failure> {
+    if said.kind() == ErrorKind::OutOfMemory {
+        return Err(Failure::Memory(AllocError));
     }
-    form
+    match said.print(rt) {
+        Err(error) if !said.use_stderr() => Err(Failure::of_write(error)),
+        _ => Ok(if said.use_stderr() {
+            WRONG_ARGUMENTS
+        } else {
+            0
+        }),
+    }
+}
+
+/// Does what the arguments ask for, and returns the status of the process.
+///
+/// # Errors
+/// Those of the arguments, and of [`run`].
+fn start(rt: &HostRuntime) -> Result<u8, Failure> {
+    let words = words(rt)?;
+    match request_of(rt.alloc(), &words) {
+        Ok(request) => list(rt, form_of(rt, request)),
+        Err(said) => print(rt, &said),
+    }
 }
 
 fn main(rt: HostRuntime) -> ExitCode {
-    let form = form_of(&rt);
-    let alloc = rt.alloc();
-    let (Ok(mut reader), Ok(mut writer)) = (
-        BufReader::new(alloc, rt.stdin()),
-        BufWriter::new(alloc, rt.stdout()),
-    ) else {
-        return ExitCode::from(5);
+    let status = match start(&rt) {
+        Ok(status) => status,
+        Err(failure) => {
+            if !failure.is_left_alone() {
+                // Where standard error can't be written either, the status alone says it.
+                let _said = eprintln!(rt; "error: {failure}");
+            }
+            failure.status()
+        }
     };
-    let outcome = run(alloc, form, &mut reader, &mut writer);
-    ExitCode::from(status(&outcome))
+    ExitCode::from(status)
 }

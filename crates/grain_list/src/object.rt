@@ -78,7 +78,7 @@ fn write_bases(handlers: Handlers<'_>, list: u32, json: &mut Writer) -> Result<(
     json.end_array()
 }
 
-/// Writes what stands at an address.
+/// Writes the state at an address.
 fn write_state(handlers: Handlers<'_>, row: &Row, json: &mut Writer) -> Result<(), AllocError> {
     json.begin_object()?;
     write_number("at", u64::from(row.at), json)?;
@@ -88,21 +88,21 @@ fn write_state(handlers: Handlers<'_>, row: &Row, json: &mut Writer) -> Result<(
     json.end_object()
 }
 
-/// Writes a way, the chunk's entry first.
-fn write_way(
+/// Writes a path, the chunk's entry first.
+fn write_path(
     name: &str,
     handlers: Handlers<'_>,
-    way: &[Row],
+    path: &[Row],
     json: &mut Writer,
 ) -> Result<(), AllocError> {
     begin_array(name, json)?;
-    for row in way.iter().rev() {
+    for row in path.iter().rev() {
         write_state(handlers, row, json)?;
     }
     json.end_array()
 }
 
-/// Writes what stands at an instruction, and from where that was come to.
+/// Writes the state at an instruction, and from where it is reached.
 fn write_found(
     handlers: Handlers<'_>,
     found: Option<(&Row, Option<u32>)>,
@@ -134,14 +134,14 @@ fn write_op(alloc: Global, op: &Op, json: &mut Writer) -> Result<(), AllocError>
     write_words("instruction", shown.as_str(), json)
 }
 
-/// Writes how an operation is left.
+/// Writes where an operation leads.
 fn write_flow(effect: &Effect, json: &mut Writer) -> Result<(), AllocError> {
     write_option("target", effect.target_address(), json)?;
     write_truth("catches", matches!(effect.flow, Flow::PushesHandler), json)?;
     write_truth("falls", effect.falls(), json)
 }
 
-/// Writes an instruction with what stands there, and from where that was come to.
+/// Writes an instruction with the state there, and from where it is reached.
 fn write_item(
     alloc: Global,
     code: &CodeListing,
@@ -160,7 +160,7 @@ fn write_item(
     json.end_object()
 }
 
-/// Writes what the verdict says of a refusal.
+/// Writes a refusal as the verdict has it.
 fn write_error(alloc: Global, error: &VerifyError, json: &mut Writer) -> Result<(), AllocError> {
     let said = format!(in alloc; "{error}")?;
     write_words("error", said.as_str(), json)
@@ -170,12 +170,12 @@ fn write_error(alloc: Global, error: &VerifyError, json: &mut Writer) -> Result<
 fn write_sentence(
     alloc: Global,
     error: &VerifyError,
-    way: &[Row],
+    path: &[Row],
     other: &[Row],
     json: &mut Writer,
 ) -> Result<(), AllocError> {
     let mut said = String::new(alloc);
-    write_wrong(error, way, other, &mut said)?;
+    write_wrong(error, path, other, &mut said)?;
     write_words("wrong", said.as_str(), json)
 }
 
@@ -184,16 +184,16 @@ fn write_refusal(
     alloc: Global,
     error: &VerifyError,
     handlers: Handlers<'_>,
-    way: &[Row],
+    path: &[Row],
     other: &[Row],
     json: &mut Writer,
 ) -> Result<(), AllocError> {
     begin_object("refusal", json)?;
     write_error(alloc, error, json)?;
-    write_sentence(alloc, error, way, other, json)?;
+    write_sentence(alloc, error, path, other, json)?;
     write_words("rule", rule(error), json)?;
-    write_way("way", handlers, way, json)?;
-    write_way("other", handlers, other, json)?;
+    write_path("path", handlers, path, json)?;
+    write_path("other_path", handlers, other, json)?;
     json.end_object()
 }
 

@@ -16,9 +16,9 @@ pub enum Paint {
 pub enum Kind {
     /// What passes.
     Good,
-    /// A flaw, and the way to it.
+    /// A flaw, and the path to it.
     Flaw,
-    /// What isn't reached.
+    /// What is unreachable or not visited.
     Unreached,
     /// A heading.
     Heading,
@@ -27,7 +27,7 @@ pub enum Kind {
 }
 
 impl Kind {
-    /// What a terminal is told where it begins.
+    /// The code that begins it on a terminal.
     fn code(self) -> &'static str {
         match self {
             Kind::Good => "\x1b[32m",

@@ -1,9 +1,9 @@
-//! What is wrong with a line that is no case.
+//! What is wrong with a bad case.
 
 use grain_cases::{are_hex_digits, caps_of, chunk_of, next_word, u32_of};
 use std::fmt;
 
-/// What is wrong with a line that is no case. Words are counted from 1.
+/// What is wrong with a bad case. Words are counted from 1.
 #[derive(Clone, Copy)]
 pub enum Problem {
     /// There is no word.
@@ -12,7 +12,7 @@ pub enum Problem {
     UnknownForm,
     /// This word is missing.
     Missing(Field),
-    /// This word doesn't spell what stands there.
+    /// This word isn't what the form has here.
     Unreadable(u32, Field),
     /// There is a word more than the form has.
     TooMany(u32),
@@ -42,14 +42,14 @@ impl Field {
         }
     }
 
-    /// What such a word has to be.
+    /// What such a word must be.
     pub fn rule(self) -> &'static str {
         match self {
             Field::Hex => "hexadecimal digits in pairs, or - for no bytes",
-            Field::Address => "decimal digits alone, of a number up to 4294967295",
-            Field::Caps => "four hexadecimal digits, of a number up to 7fff",
+            Field::Address => "decimal digits only, at most 4294967295",
+            Field::Caps => "four hexadecimal digits, at most 7fff",
             Field::Chunk => {
-                "ENTRY:END:DECLARED in decimal digits alone, the first two up to 4294967295, the last up to 65535"
+                "ENTRY:END:DECLARED in decimal digits only, the first two at most 4294967295, the last at most 65535"
             }
         }
     }
@@ -65,7 +65,7 @@ impl Field {
     }
 }
 
-/// The first problem among the words of fixed fields, or what stands behind them.
+/// The first problem among the words of fixed fields, or the rest after them.
 fn check_fields<'a>(first: u32, fields: &[Field], words: &'a [u8]) -> Result<&'a [u8], Problem> {
     let mut rest = words;
     let mut number = first;
@@ -96,7 +96,7 @@ fn first_no_chunk(first: u32, words: &[u8]) -> u32 {
     number
 }
 
-/// What is wrong with the words of these fields, behind which no word may stand.
+/// What is wrong with the words of these fields, after which there may be no word.
 fn problem_in(fields: &[Field], beyond: u32, words: &[u8]) -> Problem {
     match check_fields(2, fields, words) {
         Err(problem) => problem,
@@ -105,7 +105,7 @@ fn problem_in(fields: &[Field], beyond: u32, words: &[u8]) -> Problem {
 }
 
 impl Problem {
-    /// What is wrong with a line that is no case: the first of its words that doesn't fit.
+    /// What is wrong with a bad case: the first of its words that doesn't fit.
     pub fn of(line: &[u8]) -> Problem {
         let Some((name, words)) = next_word(line) else {
             return Problem::NoWord;
@@ -130,7 +130,7 @@ impl fmt::Display for Problem {
     fn fmt<W: fmt::Write>(&self, f: &mut fmt::Formatter<W>) -> fmt::Result {
         match self {
             Problem::NoWord => f.write_str("The line has no word."),
-            Problem::UnknownForm => f.write_str("The first word is none of code, site and verify."),
+            Problem::UnknownForm => f.write_str("The first word must be code, site or verify."),
             Problem::TooMany(number) => write!(f, "Word {number} is one too many."),
             Problem::Missing(field) => {
                 let name = field.name();
@@ -140,7 +140,7 @@ impl fmt::Display for Problem {
             Problem::Unreadable(number, field) => {
                 let name = field.name();
                 let rule = field.rule();
-                write!(f, "Word {number} is no {name}: {rule}.")
+                write!(f, "Word {number} is not a valid {name}: {rule}.")
             }
         }
     }

@@ -3,7 +3,7 @@
 use grain::{Flags, Row, VerifyError};
 use std::alloc::AllocError;
 
-/// Writes so many of something, in words.
+/// Writes a count of something, in words.
 fn write_counted(count: usize, what: &str, text: &mut String) -> Result<(), AllocError> {
     match count {
         0 => write!(text, "no {what}s"),
@@ -12,11 +12,11 @@ fn write_counted(count: usize, what: &str, text: &mut String) -> Result<(), Allo
     }
 }
 
-/// Writes with how many of something each of two ways comes.
+/// Writes how many of something there are on each of two paths.
 fn write_both(one: u32, other: u32, what: &str, text: &mut String) -> Result<(), AllocError> {
-    text.push_str(": one comes with ")?;
+    text.push_str(": one has ")?;
     write_counted(one as usize, what, text)?;
-    text.push_str(", the other with ")?;
+    text.push_str(", the other has ")?;
     write_counted(other as usize, what, text)?;
     text.push_str(".")
 }
@@ -24,7 +24,7 @@ fn write_both(one: u32, other: u32, what: &str, text: &mut String) -> Result<(),
 /// Writes in what two states at one address differ.
 fn write_differing(here: &Row, there: &Row, text: &mut String) -> Result<(), AllocError> {
     let at = here.at;
-    write!(text, "Two ways to {at} differ")?;
+    write!(text, "Two paths to {at} differ")?;
     if here.operands != there.operands {
         write_both(here.operands, there.operands, "operand", text)
     } else if here.iterators != there.iterators {
@@ -34,18 +34,21 @@ fn write_differing(here: &Row, there: &Row, text: &mut String) -> Result<(), All
     }
 }
 
-/// Writes what is wrong with an instruction that is come to, behind its address.
+/// Writes what is wrong with a reached instruction, after its address.
 fn write_wrong_instruction(error: &VerifyError, text: &mut String) -> Result<(), AllocError> {
     match *error {
         VerifyError::MissingCaps { missing, .. } => {
             let bits = missing.bits();
-            write!(text, "asks capabilities that are missing: {bits:04x}.")
+            write!(text, "needs capabilities that the host lacks: {bits:04x}.")
         }
         VerifyError::JumpOutOfRange { target, .. } => {
-            write!(text, "leads to {target}, which is outside the chunk.")
+            write!(text, "has the target {target}, which is outside the chunk.")
         }
         VerifyError::JumpIntoAnInstruction { target, .. } => {
-            write!(text, "leads to {target}, where no instruction begins.")
+            write!(
+                text,
+                "has the target {target}, where no instruction begins."
+            )
         }
         VerifyError::Underflow { need, have, .. } => {
             text.push_str("needs ")?;
@@ -54,10 +57,10 @@ fn write_wrong_instruction(error: &VerifyError, text: &mut String) -> Result<(),
         }
         VerifyError::SinksBelowHandler { need, have, .. } => write!(
             text,
-            "leaves {have} of the {need} that stood when the last handler was armed."
+            "leaves {have} of the {need} entries that a stack had when the last handler was armed."
         ),
         VerifyError::FallsOffTheEnd => {
-            text.push_str("is the last of the chunk, and falls through.")
+            text.push_str("is the last of the chunk, and execution can go on after it.")
         }
         VerifyError::IteratorUnderflow { .. } => {
             text.push_str("needs an iterator, and finds none.")
@@ -77,12 +80,12 @@ fn write_wrong_instruction(error: &VerifyError, text: &mut String) -> Result<(),
 
 /// Writes that the stack is too deep at an address.
 fn write_depth(at: u32, needed: usize, declared: u16, text: &mut String) -> Result<(), AllocError> {
-    text.push_str("The chunk comes to ")?;
+    text.push_str("The chunk reaches ")?;
     write_counted(needed, "operand", text)?;
     write!(text, " at {at}, and declares {declared}.")
 }
 
-/// Writes what is wrong at the state to which a way leads, that has no more than this one way.
+/// Writes what is wrong at the end of a path, where there is no other path.
 fn write_wrong_there(error: &VerifyError, here: &Row, text: &mut String) -> Result<(), AllocError> {
     let at = here.at;
     match *error {
@@ -120,7 +123,7 @@ fn write_out_of_range(
     if end < entry {
         write!(text, "before its entry at {entry}.")
     } else {
-        write!(text, "and the code has {len} bytes.")
+        write!(text, "but the code has {len} bytes.")
     }
 }
 
@@ -136,13 +139,13 @@ fn write_inside(at: usize, target: u32, text: &mut String) -> Result<(), AllocEr
     }
 }
 
-/// Writes what is wrong, to which no way leads: with the code, or with the chunk itself.
+/// Writes what is wrong with the code, or with the chunk itself. No path leads to that.
 fn write_wrong_frame(error: &VerifyError, text: &mut String) -> Result<(), AllocError> {
     match *error {
-        VerifyError::Undecodable { at } => write!(text, "No instruction stands at {at}."),
+        VerifyError::Undecodable { at } => write!(text, "There is no instruction at {at}."),
         VerifyError::BadIndex { at, what, index } => write!(
             text,
-            "The instruction at {at} names {what} {index}, and there is none."
+            "The instruction at {at} refers to {what} {index}, which does not exist."
         ),
         VerifyError::ChunkOutOfRange { entry, end, len } => {
             write_out_of_range(entry, end, len, text)
@@ -162,18 +165,18 @@ fn write_wrong_frame(error: &VerifyError, text: &mut String) -> Result<(), Alloc
     }
 }
 
-/// Writes what is wrong, in a sentence. The ways are those to the flaw, the last state first; there are none where the code or the
-/// chunk itself is refused.
+/// Writes what is wrong, in a sentence. The paths are those to the flaw, the last state first; there are none where the code or
+/// the chunk itself is refused.
 ///
 /// # Errors
 /// [`AllocError`] where memory was refused.
 pub fn write_wrong(
     error: &VerifyError,
-    way: &[Row],
+    path: &[Row],
     other: &[Row],
     text: &mut String,
 ) -> Result<(), AllocError> {
-    match (way.first(), other.first()) {
+    match (path.first(), other.first()) {
         (Some(here), Some(there)) => write_differing(here, there, text),
         (Some(here), None) => write_wrong_there(error, here, text),
         (None, _) => write_wrong_frame(error, text),
@@ -184,32 +187,36 @@ pub fn write_wrong(
 pub fn rule(error: &VerifyError) -> &'static str {
     match error {
         VerifyError::MissingCaps { .. } => {
-            "What an instruction asks that is reached, the host has to have."
+            "The host must have the capabilities that reached instructions need."
         }
         VerifyError::Undecodable { .. } | VerifyError::TrailingBytes { .. } => {
-            "Code is whole instructions, also where nothing is reached."
+            "Code must be whole instructions, also where it is unreachable."
         }
-        VerifyError::ChunkOutOfRange { .. } => "A chunk runs forwards, and lies in the code.",
-        VerifyError::JumpOutOfRange { .. } => "A target that is reached lies in its chunk.",
+        VerifyError::ChunkOutOfRange { .. } =>
+            "A chunk must lie in the code, and must not end before its entry.",
+        VerifyError::JumpOutOfRange { .. } =>
+            "The target of a reached instruction must lie in the chunk.",
         VerifyError::JumpIntoAnInstruction { .. } => {
-            "At an entry and at a target an instruction begins, and a chunk ends behind one."
+            "An instruction must begin at each entry and target, and one must end where a chunk ends."
         }
         VerifyError::DepthConflict { .. } => {
-            "All ways to an address agree in operands, iterators and the bases of armed handlers."
+            "All paths to an address must agree in operands, iterators and the bases of armed handlers."
         }
-        VerifyError::Underflow { .. } => "An instruction finds the operands that it needs.",
-        VerifyError::FallsOffTheEnd => "A chunk isn't empty, and no way leads to its end.",
+        VerifyError::Underflow { .. } => "An instruction must find the operands that it needs.",
+        VerifyError::FallsOffTheEnd =>
+            "A chunk must not be empty, and no path may lead to its end.",
         VerifyError::StackExceedsDeclared { .. } => {
-            "No way comes to more operands than the chunk declares."
+            "No path may reach more operands than the chunk declares."
         }
-        VerifyError::IteratorUnderflow { .. } => "An instruction finds the iterator that it needs.",
+        VerifyError::IteratorUnderflow { .. } =>
+            "An instruction must find the iterator that it needs.",
         VerifyError::HandlerUnderflow { .. } => {
-            "An instruction finds the armed handler that it needs."
+            "An instruction must find the armed handler that it needs."
         }
         VerifyError::SinksBelowHandler { .. } => {
-            "An instruction that isn't quiet leaves what stood when the last handler was armed."
+            "Unless it is quiet, an instruction must leave what the stacks had when the last handler was armed."
         }
-        VerifyError::BadIndex { .. } => "An index is below the size of its pool.",
-        VerifyError::OutOfMemory => "There is memory.",
+        VerifyError::BadIndex { .. } => "An index must be below the size of its pool.",
+        VerifyError::OutOfMemory => "There must be enough memory.",
     }
 }

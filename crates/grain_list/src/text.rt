@@ -14,7 +14,7 @@ const BYTES: usize = 14;
 /// How wide the columns of operands, iterators and bases are at least, with what is between them.
 const STATE: usize = 30;
 
-/// What stands behind the instruction at which a flaw is.
+/// What marks the instruction at which the flaw is.
 const HERE: &str = "  <== here";
 
 /// Writes spaces from a width on up to another.
@@ -33,7 +33,7 @@ pub fn write_hex(bytes: &[u8], text: &mut String) -> Result<(), AllocError> {
     Ok(())
 }
 
-/// Writes an address and the bytes that stand there, in columns.
+/// Writes an address and the bytes of the instruction there, in columns.
 fn write_place(code: &CodeListing, at: usize, text: &mut String) -> Result<(), AllocError> {
     write!(text, "{at:>9}  ")?;
     let bytes = code.bytes_at(at);
@@ -42,7 +42,7 @@ fn write_place(code: &CodeListing, at: usize, text: &mut String) -> Result<(), A
     text.push_str("  ")
 }
 
-/// Writes the bases of armed handlers, that of the last first, and of many only the first of them.
+/// Writes the bases of armed handlers, that of the last first, and at most four.
 fn write_bases(handlers: Handlers<'_>, list: u32, text: &mut String) -> Result<(), AllocError> {
     if list == 0 {
         return text.push_str("-");
@@ -67,7 +67,7 @@ fn write_bases(handlers: Handlers<'_>, list: u32, text: &mut String) -> Result<(
     Ok(())
 }
 
-/// Writes what stands at an instruction, in columns.
+/// Writes the state at an instruction, in columns.
 fn write_state(handlers: Handlers<'_>, row: &Row, text: &mut String) -> Result<(), AllocError> {
     let before = text.len();
     let operands = row.operands;
@@ -110,7 +110,7 @@ pub fn row_at(chunk: &ExplainedChunk, at: usize) -> Option<(&Row, Option<u32>)> 
     Some((row, chunk.origins.get(place).copied().flatten()))
 }
 
-/// The address at which the way to a flaw ends; none where no way leads to it.
+/// The address at which the path to a flaw ends; none where no path leads to it.
 fn flaw_of(chunk: &ExplainedChunk) -> Option<usize> {
     let refusal = chunk.refusal.as_ref()?;
     Some(refusal.way.first()?.at as usize)
@@ -188,29 +188,29 @@ fn write_table(
 fn write_sentences(
     paint: Paint,
     error: &VerifyError,
-    way: &[Row],
+    path: &[Row],
     other: &[Row],
     text: &mut String,
 ) -> Result<(), AllocError> {
     text.push_str("  ")?;
     paint.begin(Kind::Flaw, text)?;
-    write_wrong(error, way, other, text)?;
+    write_wrong(error, path, other, text)?;
     paint.end(Kind::Flaw, text)?;
     let rule = rule(error);
     write!(text, "\n  The rule: {rule}\n")?;
     Ok(())
 }
 
-/// Writes a way from a chunk's entry, each state on a line of its own.
-fn write_way(
+/// Writes a path from the entry of a chunk, each state on a line of its own.
+fn write_path(
     title: &str,
     code: &CodeListing,
     handlers: Handlers<'_>,
-    way: &[Row],
+    path: &[Row],
     text: &mut String,
 ) -> Result<(), AllocError> {
     write!(text, "  {title}\n")?;
-    for row in way.iter().rev() {
+    for row in path.iter().rev() {
         let at = row.at as usize;
         write_place(code, at, text)?;
         write_state(handlers, row, text)?;
@@ -222,7 +222,7 @@ fn write_way(
     Ok(())
 }
 
-/// Writes why a chunk is refused, with the ways to its flaw.
+/// Writes why a chunk is refused, with the paths to its flaw.
 fn write_refusal(
     paint: Paint,
     code: &CodeListing,
@@ -236,13 +236,13 @@ fn write_refusal(
         return Ok(());
     }
     if other.is_empty() {
-        return write_way("The way there:", code, handlers, way, text);
+        return write_path("A path there:", code, handlers, way, text);
     }
-    write_way("One way there:", code, handlers, way, text)?;
-    write_way("The other:", code, handlers, other, text)
+    write_path("One path there:", code, handlers, way, text)?;
+    write_path("Another path there:", code, handlers, other, text)
 }
 
-/// Writes a chunk: its instructions with what stands there, and why it is refused, if it is.
+/// Writes a chunk: its instructions with the states there, and why it is refused, if it is.
 fn write_chunk(
     paint: Paint,
     code: &CodeListing,
@@ -295,7 +295,7 @@ fn write_code(paint: Paint, code: &CodeListing, text: &mut String) -> Result<(),
     }
     if let Some(at) = code.damage() {
         write!(text, "{at:>9}  ")?;
-        paint.write(Kind::Flaw, "no instruction stands here", text)?;
+        paint.write(Kind::Flaw, "no instruction", text)?;
         text.push_str("\n")?;
     }
     Ok(())
@@ -331,7 +331,7 @@ fn write_program(
     Ok(())
 }
 
-/// Writes a listing behind the text.
+/// Appends a listing to the text.
 ///
 /// # Errors
 /// [`AllocError`] where memory was refused.

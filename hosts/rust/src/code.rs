@@ -125,8 +125,8 @@ impl Instruction {
             .map(|field| field.value)
     }
 
-    /// Whether it is quiet: a machine must never fault at it, or only with at least what stood when the last handler was armed
-    /// ([what a host owes](crate#what-a-host-owes)).
+    /// Whether it is quiet: a machine must never fault at it, or only with at least what was on the stacks when the last handler
+    /// was armed ([what a host owes](crate#what-a-host-owes)).
     #[must_use]
     pub fn is_quiet(&self) -> bool {
         // SAFETY: a number is all that the function is given.
@@ -177,7 +177,7 @@ pub fn instructions(code: &[u8]) -> Instructions<'_> {
     Instructions { code, address: 0 }
 }
 
-/// The instructions of code that are left, in order, each with its address: what [`instructions`] answers.
+/// The instructions of code that are left, in order, each with its address, as [`instructions`] returns them.
 #[derive(Clone, Debug)]
 pub struct Instructions<'a> {
     code: &'a [u8],
@@ -190,7 +190,7 @@ impl<'a> Instructions<'a> {
         Instructions { code, address }
     }
 
-    /// The address of the next one. Behind the last it is the address of the first thing that is no instruction, or the length
+    /// The address of the next one. After the last it is the address of the first thing that is no instruction, or the length
     /// of the code.
     #[must_use]
     pub fn address(&self) -> u32 {
@@ -244,7 +244,7 @@ pub fn count_instructions(code: &[u8]) -> Result<usize, usize> {
     }
 }
 
-/// The instruction at an address, or `None` where none stands there.
+/// The instruction at an address, or `None` where there is none.
 ///
 /// The proved library decodes it. A machine decodes faster by [`Opcode::decode`].
 #[must_use]

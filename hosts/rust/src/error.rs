@@ -34,7 +34,7 @@ pub enum VerifyError {
     NotFlat(PoolsFlaw),
     /// There are fewer places for depths than chunks.
     TooFewDepths,
-    /// The library answered a status that this package doesn't know.
+    /// The library returned a status that this package doesn't know.
     Unknown(
         /// The status.
         u32,
@@ -62,7 +62,7 @@ impl fmt::Display for VerifyError {
             VerifyError::TooLarge => "the code or a list of the pools is too long",
             VerifyError::NotFlat(_) => "no pools have this flat form",
             VerifyError::TooFewDepths => "there are fewer places for depths than chunks",
-            VerifyError::Unknown(_) => "the library answered a status that is unknown here",
+            VerifyError::Unknown(_) => "the library returned a status that is unknown here",
         })
     }
 }
@@ -114,7 +114,7 @@ pub enum ExplainError {
     NotFlat(PoolsFlaw),
     /// The walk through the chunk found no end. No test has met this; it isn't excluded.
     Unfinished,
-    /// The library answered a status that this package doesn't know.
+    /// The library returned a status that this package doesn't know.
     Unknown(
         /// The status.
         u32,
@@ -131,7 +131,7 @@ impl fmt::Display for ExplainError {
             ExplainError::TooLarge => "the code or a list of the pools is too long",
             ExplainError::NotFlat(_) => "no pools have this flat form",
             ExplainError::Unfinished => "the explanation found no end",
-            ExplainError::Unknown(_) => "the library answered a status that is unknown here",
+            ExplainError::Unknown(_) => "the library returned a status that is unknown here",
         })
     }
 }

@@ -43,7 +43,7 @@ impl From<&Refusal> for Subject {
     }
 }
 
-/// The base of an armed handler: what stood when it was armed.
+/// The base of an armed handler: what was on the stacks when it was armed.
 #[derive(Clone, Copy, Debug, PartialEq, Eq, Hash)]
 pub struct Base {
     /// How many operands there were.
@@ -52,7 +52,7 @@ pub struct Base {
     pub iterators: u32,
 }
 
-/// What stands at an instruction when a run reaches it. Its bases are those of [`Explained::bases`].
+/// The state at an instruction when a run reaches it. Its bases are those of [`Explained::bases`].
 #[repr(C)]
 #[derive(Clone, Copy, Debug, Default, PartialEq, Eq, Hash)]
 pub struct Row {
@@ -89,7 +89,7 @@ impl Row {
     }
 }
 
-/// What stands at each reached instruction of a chunk, and why the program is refused, if it is.
+/// The state at each reached instruction of a chunk, and why the program is refused, if it is.
 ///
 /// It prints as a listing, line by line, with the names that instructions name. What is untrusted in it is escaped: a listing
 /// has no control characters except line feeds, and none that change the direction of text.
@@ -134,7 +134,7 @@ impl<'a> Explained<'a> {
         self.chunk.map(|(index, _)| index)
     }
 
-    /// What stands at the reached instructions of the chunk, in the order of addresses: all of them where the chunk passes;
+    /// The states at the reached instructions of the chunk, in the order of addresses: all of them where the chunk passes;
     /// where it is refused, those that the walk visited until it met the flaw.
     #[must_use]
     pub fn rows(&self) -> &[Row] {
@@ -142,7 +142,7 @@ impl<'a> Explained<'a> {
     }
 
     /// A path to the flaw, from the entry of the chunk on; its last row shows the flaw. It is empty where there is no flaw, and
-    /// where the chunk itself lies, begins or ends where it may not.
+    /// where the chunk is empty, isn't in the code, or begins or ends inside an instruction.
     #[must_use]
     pub fn path(&self) -> &[Row] {
         &self.rows[self.ends.0..self.ends.1]
@@ -165,7 +165,7 @@ impl<'a> Explained<'a> {
     }
 }
 
-/// The bases of armed handlers, from the innermost outwards: what [`Explained::bases`] answers.
+/// The bases of armed handlers, from the innermost outwards, as [`Explained::bases`] returns them.
 #[derive(Clone, Debug)]
 pub struct Bases<'a> {
     list: &'a [raw::Base],
@@ -194,8 +194,8 @@ impl Iterator for Bases<'_> {
 impl ExactSizeIterator for Bases<'_> {}
 impl FusedIterator for Bases<'_> {}
 
-/// Explains a chunk of a program, by its index, or what a [`Refusal`] refuses: what stands at each reached instruction, and a
-/// path to the flaw; for a conflict, two. What is outside the chunks is tested too, and a refusal for it is shown first.
+/// Explains a chunk of a program, by its index, or what a [`Refusal`] refuses: the state at each reached instruction, and a path
+/// to the flaw; for a conflict, two. What is outside the chunks is tested too, and a refusal for it is shown first.
 ///
 /// Memory grows with the chunk, and time with the chunk and the code. The process never ends where the allocator refuses.
 ///

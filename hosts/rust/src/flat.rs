@@ -9,8 +9,8 @@ use std::fmt::{self, Write};
 /// Pools in their flat form: lists of the caller's, which are borrowed and not copied. Whoever has such lists needs no
 /// [`Pools`].
 ///
-/// The steps of all chains stand one chain after another, and so do the cases and the ranges of all switches; the numbers in
-/// the rows must add up to them. Where they don't, or the names aren't cut as [`names`](FlatPools::names) says, no pools have
+/// One list has the steps of all chains, chain after chain, and two have the cases and the ranges of all switches; the numbers
+/// in the rows must add up to them. Where they don't, or the names aren't cut as [`names`](FlatPools::names) says, no pools have
 /// this form: the answer is [`VerifyError::NotFlat`](crate::VerifyError::NotFlat), and [`check`](FlatPools::check) says the same.
 ///
 /// ```

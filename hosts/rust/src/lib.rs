@@ -44,12 +44,12 @@
 //! - Its constants, names, functions, chains and switches are those that the verified pools describe, by the same indices.
 //! - It has the capabilities for which the program was verified, and knows what constants can do that are [`Needs::Unknown`].
 //! - Its machine steps as FORMAT.md says ("Verification").
-//! - Where a handler catches a fault, at least what stood on the stacks when the handler was armed still stands. Accepted code
+//! - Where a handler catches a fault, the stacks still have at least what they had when the handler was armed. Accepted code
 //!   ensures this at every instruction except the quiet ones: `UNIT`, `FALSE`, `TRUE`, `POP`, `ROTATE`, `POP_HANDLER`,
 //!   `ITER_DROP`, `UNWIND_TO` and `RETURN` ([`Opcode::is_quiet`]). At these the machine must never fault, or only with at least
 //!   that much left.
 //!
-//! A yes says nothing of slots and scopes, of values and their types, of what a call does, and not that a run ends.
+//! A yes says nothing of slots and scopes, of values and their types, or of what a call does. It doesn't say that a run ends.
 //!
 //! # What to bound for hostile input
 //!
@@ -136,11 +136,11 @@ impl Chunk {
     }
 }
 
-/// Verifies a program for a host with these capabilities, and answers the depth of each chunk: the greatest number of operands
+/// Verifies a program for a host with these capabilities, and returns the depth of each chunk: the greatest number of operands
 /// that any run of it reaches.
 ///
-/// `pools` are [`&Pools`](Pools) or [`FlatPools`]. What a yes means, and what the machine that runs accepted code must do in
-/// turn, stands at [what a host owes](crate#what-a-host-owes). [`Program::into_verified`] keeps the yes and the program together.
+/// `pools` are [`&Pools`](Pools) or [`FlatPools`]. What a yes requires of the machine that runs accepted code is listed at
+/// [what a host owes](crate#what-a-host-owes). [`Program::into_verified`] keeps the yes and the program together.
 ///
 /// ```
 /// use grain::{verify, Caps, Chunk, Pools};
@@ -151,7 +151,7 @@ impl Chunk {
 /// ```
 ///
 /// # Errors
-/// [`VerifyError::Refused`] where the program is refused; otherwise what the host failed at.
+/// [`VerifyError::Refused`] where the program is refused; all others say why nothing was verified.
 pub fn verify<'a>(
     caps: Caps,
     code: &[u8],
@@ -167,7 +167,7 @@ pub fn verify<'a>(
     Ok(depths)
 }
 
-/// Verifies as [`verify`] does, writes the depths to the front of a list of the caller's, and answers how many instructions
+/// Verifies as [`verify`] does, writes the depths to the front of a list of the caller's, and returns how many instructions
 /// were visited, counted for each chunk apart.
 ///
 /// A thread keeps the memory in which it verified small programs, with up to 3 KiB of code: less than 256 KiB. [`Verifier`]
@@ -194,7 +194,7 @@ pub fn verify_into<'a>(
     verifier::judge(caps, code, chunks, &pools.into(), depths)
 }
 
-/// Verifies as [`verify`] does, has each chunk declare its depth, and answers how many instructions were visited. With these
+/// Verifies as [`verify`] does, has each chunk declare its depth, and returns how many instructions were visited. With these
 /// chunks the program is accepted again.
 ///
 /// ```
@@ -219,7 +219,7 @@ pub fn tighten<'a>(
 /// The version of the linked library, such as `0.2.0`.
 #[must_use]
 pub fn version() -> &'static str {
-    // SAFETY: the library answers a text that it never changes, ended by 0.
+    // SAFETY: the library returns a text that it never changes, ended by 0.
     let version = unsafe { std::ffi::CStr::from_ptr(raw::grain_version()) };
     version.to_str().unwrap_or_default()
 }

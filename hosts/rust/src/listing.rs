@@ -42,7 +42,7 @@ impl fmt::Display for Explained<'_> {
 }
 
 impl Explained<'_> {
-    /// What is refused outside the chunks, and where it stands.
+    /// What is refused outside the chunks, and where it is.
     fn write_outside(&self, f: &mut fmt::Formatter<'_>, refusal: &Refusal) -> fmt::Result {
         writeln!(f, "refused: {refusal}")?;
         if let Some(constant) = refusal.constant(self.pools) {
@@ -103,7 +103,7 @@ impl Explained<'_> {
         Ok(())
     }
 
-    /// A line: the address, the bytes, what stands there, and the instruction.
+    /// A line: the address, the bytes, the state there, and the instruction.
     fn write_line(
         &self,
         f: &mut fmt::Formatter<'_>,
@@ -186,7 +186,7 @@ fn words(place: ChainPlace) -> Buffer<64> {
 struct Bytes<'a>(&'a [u8]);
 
 impl<'a> Bytes<'a> {
-    /// Those of an instruction, or one where none stands.
+    /// Those of an instruction, or one byte where there is none.
     fn at(code: &'a [u8], address: u32, found: Option<&Instruction>) -> Bytes<'a> {
         let width = found.map_or(1, |found| usize::from(found.width));
         let rest = code.get(address as usize..).unwrap_or_default();

@@ -1,7 +1,7 @@
 //! The instruction table.
 use crate::code::Kind;
 
-/// How an instruction is left (FORMAT.md, "Verification").
+/// Where an instruction leads (FORMAT.md, "Verification").
 #[derive(Clone, Copy, Debug, PartialEq, Eq, Hash)]
 #[non_exhaustive]
 pub enum Flow {
@@ -140,24 +140,24 @@ impl Opcode {
         width
     }
 
-    /// How it is left.
+    /// Where it leads.
     #[inline]
     #[must_use]
     pub const fn flow(self) -> Flow {
         self.layout().flow
     }
 
-    /// Whether it is quiet: a machine must never fault at it, or only with at least what stood when the last handler was armed
-    /// ([what a host owes](crate#what-a-host-owes)).
+    /// Whether it is quiet: a machine must never fault at it, or only with at least what was on the stacks when the last handler
+    /// was armed ([what a host owes](crate#what-a-host-owes)).
     #[inline]
     #[must_use]
     pub const fn is_quiet(self) -> bool {
         self.layout().is_quiet
     }
 
-    /// The instruction at an address, and its fields, followed by zeros; `None` where none stands there.
+    /// The instruction at an address, and its fields, followed by zeros; `None` where there is none.
     ///
-    /// This is plain Rust, quick enough for a machine. [`instruction`](crate::instruction) answers the same by the proved
+    /// This is plain Rust, quick enough for a machine. [`instruction`](crate::instruction) returns the same by the proved
     /// library.
     #[inline]
     #[must_use]
@@ -187,7 +187,7 @@ impl TryFrom<u8> for Opcode {
     }
 }
 
-// Written by bench/from_table.py of the instruction table.
+// Written by bench/from_table.py (in the repository) from the instruction table.
 opcodes! {
     LoadConst = 0x01, "LOAD_CONST", [Constant], Next, false;
     Unit = 0x02, "UNIT", [], Next, true;

@@ -1,5 +1,5 @@
-//! Where in the pools stands what is refused. The record of a refusal doesn't say it, so it is searched for by the same tests,
-//! in their order (FORMAT.md, "Verification").
+//! Where in the pools the refused item is. The record of a refusal doesn't say it, so it is searched for by the same tests, in
+//! their order (FORMAT.md, "Verification").
 use crate::capabilities::Caps;
 use crate::code::{instruction, Kind};
 use crate::flat::FlatPools;

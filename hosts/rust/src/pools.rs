@@ -40,7 +40,7 @@ impl From<TryReserveError> for PoolError {
 ///
 /// - Chained calls ([`constant`](Pools::constant), [`name`](Pools::name), [`chain`](Pools::chain), [`switch`](Pools::switch))
 ///   take memory as a `Vec` does: the process ends where the allocator refuses. So does a clone.
-/// - Calls that begin with `add` or `extend` answer the index of the item, or an error where the allocator refuses. A host that
+/// - Calls that begin with `add` or `extend` return the index of the item, or an error where the allocator refuses. A host that
 ///   reads programs of others uses these.
 ///
 /// Cleared pools keep their memory for the next program. Small pools that are dropped leave it to the next pools of their thread.
@@ -105,7 +105,7 @@ fn push<T>(list: &mut Vec<T>, item: T) -> Result<(), PoolError> {
     Ok(())
 }
 
-/// Adds items, and answers how many they were; adds none where the allocator refuses.
+/// Adds items, and returns how many they were; adds none where the allocator refuses.
 fn extend<T>(list: &mut Vec<T>, items: impl IntoIterator<Item = T>) -> Result<usize, PoolError> {
     let (before, items) = (list.len(), items.into_iter());
     let mut added = list
@@ -387,7 +387,7 @@ impl Pools {
         self.functions = functions;
     }
 
-    /// Adds a constant, and answers its index.
+    /// Adds a constant, and returns its index.
     ///
     /// # Errors
     /// The allocator refused.
@@ -397,7 +397,7 @@ impl Pools {
         Ok(lists.constants.len() - 1)
     }
 
-    /// Adds constants, and answers how many they are.
+    /// Adds constants, and returns how many they are.
     ///
     /// # Errors
     /// The allocator refused; then none is added.
@@ -409,7 +409,7 @@ impl Pools {
         extend(&mut lists.constants, needs.into_iter().map(Into::into))
     }
 
-    /// Adds a name, and answers its index.
+    /// Adds a name, and returns its index.
     ///
     /// # Errors
     /// The allocator refused, or the names are too long together.
@@ -417,7 +417,7 @@ impl Pools {
         self.try_lists()?.add_name(name)
     }
 
-    /// Adds names, and answers how many they are.
+    /// Adds names, and returns how many they are.
     ///
     /// # Errors
     /// The allocator refused, or the names are too long together; then none is added.
@@ -439,7 +439,7 @@ impl Pools {
         Ok(added)
     }
 
-    /// Adds a chain, whose steps take this many operands, and answers its index.
+    /// Adds a chain, whose steps take this many operands, and returns its index.
     ///
     /// # Errors
     /// The allocator refused, or there are too many steps.
@@ -462,7 +462,7 @@ impl Pools {
         Ok(lists.chains.len() - 1)
     }
 
-    /// Adds a switch, as [`switch`](Pools::switch) takes it, and answers its index.
+    /// Adds a switch, as [`switch`](Pools::switch) takes it, and returns its index.
     ///
     /// # Errors
     /// The allocator refused, or there are too many cases or ranges.

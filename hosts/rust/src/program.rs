@@ -145,7 +145,7 @@ impl Program {
         self.positions.as_ref()
     }
 
-    /// Verifies the program, and answers the depth of each chunk, as [`verify`] does.
+    /// Verifies the program, and returns the depth of each chunk, as [`verify`] does.
     ///
     /// # Errors
     /// Those of [`verify`].
@@ -242,7 +242,7 @@ impl Program {
         Ok(())
     }
 
-    /// Removes the positions of the program, and answers them.
+    /// Removes the positions of the program, and returns them.
     pub fn strip_positions(&mut self) -> Option<Positions> {
         self.positions.take()
     }

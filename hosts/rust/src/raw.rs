@@ -153,7 +153,7 @@ const _: () = assert!(size_of::<Base>() == 12);
 const _: () = assert!(size_of::<Explanation>() == 72);
 const _: () = assert!(size_of::<PoolsFlaw>() == 16);
 
-/// Takes a piece of a listing. It answers other than 0 to end the listing.
+/// Takes a piece of a listing. It returns other than 0 to end the listing.
 pub(crate) type Put =
     extern "C" fn(context: *mut c_void, text: *const c_char, length: usize) -> c_int;
 

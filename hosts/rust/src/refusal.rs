@@ -40,9 +40,9 @@ pub enum Flaw {
         /// Those of the host.
         host: Caps,
     },
-    /// No instruction stands at the address.
+    /// There is no instruction at the address.
     Undecodable,
-    /// Code goes on behind its last instruction. This is never answered.
+    /// Code goes on after its last instruction. No call returns this.
     TrailingBytes {
         /// How many bytes the code has.
         len: u32,
@@ -56,18 +56,18 @@ pub enum Flaw {
         /// How many bytes the code has.
         len: u32,
     },
-    /// A target of the instruction lies outside the chunk.
+    /// A target of the instruction is outside the chunk.
     JumpOutOfRange {
         /// The target.
         target: u32,
     },
-    /// A target of the instruction lies inside an instruction; or the chunk begins or ends inside one, and the address is its
+    /// A target of the instruction is inside an instruction; or the chunk begins or ends inside one, and the address is its
     /// entry.
     JumpIntoAnInstruction {
         /// The target; or where the chunk begins or ends.
         target: u32,
     },
-    /// Two paths meet at the instruction with unlike counts of operands or iterators, or unlike handlers.
+    /// Two paths meet at the instruction with different counts of operands or iterators, or different handlers.
     DepthConflict {
         /// The operands on the first path.
         expected: u32,
@@ -94,10 +94,10 @@ pub enum Flaw {
     IteratorUnderflow,
     /// The instruction needs a handler, and none is armed.
     HandlerUnderflow,
-    /// The instruction leaves less than stood when the last handler was armed: operands, or where there are enough of these,
-    /// iterators.
+    /// The instruction leaves fewer operands than there were when the last handler was armed; or, where there are enough of
+    /// these, fewer iterators.
     SinksBelowHandler {
-        /// How many stood when the handler was armed.
+        /// How many there were when the handler was armed.
         need: u32,
         /// How many are left.
         have: u32,
@@ -144,8 +144,8 @@ impl Refusal {
         usize::try_from(self.record.chunk).ok()
     }
 
-    /// The address of the instruction that is refused, or where no instruction stands. Where the chunk itself lies, begins or
-    /// ends where it may not, it is the chunk's entry.
+    /// The address of the instruction that is refused, or where there is none. Where the chunk isn't in the code, or begins
+    /// or ends inside an instruction, it is the chunk's entry.
     ///
     /// It is `None` for a constant and the functions, for [`Flaw::FallsOffTheEnd`] and [`Flaw::StackExceedsDeclared`].
     #[must_use]
@@ -248,7 +248,7 @@ impl Refusal {
     /// let code = [0x02, 0x02, 0x16, 0, 0, 0x13];
     /// let error = verify(Caps::ALL, &code, &[Chunk::new(0, 6, 2)], &pools).unwrap_err();
     /// let refusal = error.refusal().unwrap();
-    /// assert_eq!(refusal.to_string(), "the instruction at 2 has index 7 of a name, which isn't there");
+    /// assert_eq!(refusal.to_string(), "the instruction at 2 has index 7 of a name, which doesn't exist");
     /// let place = refusal.chain_place(&code, &pools).unwrap();
     /// assert_eq!((place.chain, place.part), (0, ChainPart::Step(1)));
     /// ```
@@ -266,24 +266,24 @@ impl Refusal {
         let at = self.address().unwrap_or_default();
         match self.flaw() {
             Flaw::MissingCaps { missing, host } => self.write_missing(text, missing - host),
-            Flaw::Undecodable => write!(text, "no instruction stands at {at}"),
+            Flaw::Undecodable => write!(text, "there is no instruction at {at}"),
             Flaw::TrailingBytes { len } => {
-                write!(text, "the code of {len} bytes goes on behind its last instruction, at {at}")
+                write!(text, "the code of {len} bytes goes on after its last instruction, at {at}")
             }
             Flaw::ChunkOutOfRange { entry, end, len } => write!(
                 text,
-                "the chunk from {entry} to {end} doesn't lie in the code, which has {len} bytes"
+                "the chunk from {entry} to {end} isn't in the code, which has {len} bytes"
             ),
             Flaw::JumpOutOfRange { target } => write!(
                 text,
-                "the instruction at {at} leads to {target}, which is outside the chunk"
+                "the instruction at {at} has the target {target}, which is outside the chunk"
             ),
             Flaw::JumpIntoAnInstruction { target } if target == at => {
                 write!(text, "the chunk begins at {at}, inside an instruction")
             }
             Flaw::JumpIntoAnInstruction { target } => write!(
                 text,
-                "the instruction at {at} leads, or the chunk that begins there ends, inside an instruction, at {target}"
+                "the target of the instruction at {at}, or the end of the chunk that begins there, is {target}, inside an instruction"
             ),
             Flaw::DepthConflict { expected, found } if expected == found => write!(
                 text,
@@ -316,11 +316,11 @@ impl Refusal {
             }
             Flaw::SinksBelowHandler { need, have } => write!(
                 text,
-                "the instruction at {at} leaves {have} of the {need} operands or iterators that stood when the handler was armed"
+                "the instruction at {at} leaves {have} of the {need} operands or iterators that there were when the handler was armed"
             ),
             Flaw::BadIndex { what, index } => write!(
                 text,
-                "the instruction at {at} has index {index} of {} {what}, which isn't there",
+                "the instruction at {at} has index {index} of {} {what}, which doesn't exist",
                 article(what)
             ),
             Flaw::Other { flaw } => {
@@ -408,12 +408,12 @@ mod tests {
     fn each_flaw_has_a_sentence() {
         for (flaw, first, second, wanted) in [
             (1, 0x200, 0x7dff, "the instruction at 3 needs PROPERTY, which the host doesn't have"),
-            (2, 0, 0, "no instruction stands at 3"),
-            (3, 9, 0, "the code of 9 bytes goes on behind its last instruction, at 3"),
-            (4, 9, 5, "the chunk from 3 to 9 doesn't lie in the code, which has 5 bytes"),
-            (5, 9, 0, "the instruction at 3 leads to 9, which is outside the chunk"),
+            (2, 0, 0, "there is no instruction at 3"),
+            (3, 9, 0, "the code of 9 bytes goes on after its last instruction, at 3"),
+            (4, 9, 5, "the chunk from 3 to 9 isn't in the code, which has 5 bytes"),
+            (5, 9, 0, "the instruction at 3 has the target 9, which is outside the chunk"),
             (6, 3, 0, "the chunk begins at 3, inside an instruction"),
-            (6, 4, 0, "the instruction at 3 leads, or the chunk that begins there ends, inside an instruction, at 4"),
+            (6, 4, 0, "the target of the instruction at 3, or the end of the chunk that begins there, is 4, inside an instruction"),
             (7, 1, 0, "two paths meet at 3, one with 1 operand, the other with 0"),
             (7, 2, 2, "two paths meet at 3 with 2 operands each, but with other iterators or handlers"),
             (8, 2, 1, "the instruction at 3 needs 2 operands, and there are 1"),
@@ -421,8 +421,8 @@ mod tests {
             (10, 3, 2, "3 operands are needed, and 2 declared"),
             (11, 0, 0, "the instruction at 3 needs an iterator, and there is none"),
             (12, 0, 0, "the instruction at 3 needs a handler, and none is armed"),
-            (13, 2, 1, "the instruction at 3 leaves 1 of the 2 operands or iterators that stood when the handler was armed"),
-            (14, 9, 4, "the instruction at 3 has index 9 of an op-assignment, which isn't there"),
+            (13, 2, 1, "the instruction at 3 leaves 1 of the 2 operands or iterators that there were when the handler was armed"),
+            (14, 9, 4, "the instruction at 3 has index 9 of an op-assignment, which doesn't exist"),
             (99, 0, 0, "the library names flaw 99, which this package doesn't know"),
         ] {
             assert_eq!(sentence(flaw, first, second), wanted);

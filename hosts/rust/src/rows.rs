@@ -16,7 +16,7 @@ pub enum Root {
     },
     /// At the receiver of the function.
     This,
-    /// At a value that lies on the operand stack.
+    /// At a value on the operand stack.
     Temporary,
 }
 
@@ -25,7 +25,7 @@ pub enum Root {
 pub enum Step {
     /// An index.
     Index {
-        /// Where it lies among the operands of the chain.
+        /// Which of the operands of the chain it is.
         operand: u16,
     },
     /// A property.
@@ -43,7 +43,7 @@ pub enum Step {
         name: u32,
         /// How many arguments it has.
         argc: u8,
-        /// Where the first of them lies among the operands of the chain.
+        /// Which of the operands of the chain the first of them is.
         operand: u16,
     },
 }
@@ -136,7 +136,7 @@ impl From<Caps> for Constant {
     }
 }
 
-/// A chain in the flat form. Its steps stand among the steps of all chains, behind those of the chains before it.
+/// A chain in the flat form. Its steps are among the steps of all chains, after those of the chains before it.
 #[repr(C)]
 #[derive(Clone, Copy, Debug, PartialEq, Eq, Hash)]
 pub struct ChainRow {
@@ -286,7 +286,7 @@ impl From<StepRow> for Step {
     }
 }
 
-/// A switch in the flat form. Its cases and ranges stand among those of all switches, behind those of the switches before it.
+/// A switch in the flat form. Its cases and ranges are among those of all switches, after those of the switches before it.
 #[repr(C)]
 #[derive(Clone, Copy, Debug, PartialEq, Eq, Hash)]
 pub struct SwitchRow {

@@ -72,7 +72,7 @@ impl fmt::Display for TableFlaw {
         match self {
             TableFlaw::Truncated => text.push("the bytes end too early"),
             TableFlaw::Overflow => text.push("a number is above 4294967295"),
-            TableFlaw::OutOfOrder { at } => write!(text, "the address {at} stands twice")?,
+            TableFlaw::OutOfOrder { at } => write!(text, "the address {at} is repeated")?,
             TableFlaw::TrailingBytes { count } => write!(text, "{count} bytes too many")?,
             TableFlaw::Other { flaw } => write!(text, "flaw {flaw}, which is unknown here")?,
         }
@@ -182,8 +182,8 @@ pub fn check_stream(stream: &[u8]) -> Result<(), TableFlaw> {
     flaw_of(flaw, named)
 }
 
-/// Writes the entries of an address table in order to the front of a list of the caller's, as many as there are places, and
-/// answers how many there are: those before the first damage ([`check_table`] says whether there is some). It takes no memory.
+/// Writes the entries of an address table in order to the front of a list of the caller's, as many as there is room for, and
+/// returns how many there are: those before the first damage ([`check_table`] says whether there is some). It takes no memory.
 #[must_use]
 pub fn table_entries_into(table: &[u8], entries: &mut [Entry]) -> usize {
     // SAFETY: each pointer and length are those of one slice that is borrowed for the call.
@@ -212,8 +212,8 @@ pub fn table_entries(table: &[u8]) -> Result<Vec<Entry>, TryReserveError> {
     Ok(entries)
 }
 
-/// Writes the sites of a stream, slot by slot, to the front of a list of the caller's, as many as there are places, and answers
-/// how many there are. Line 0 says that a slot has none. It takes no memory.
+/// Writes the sites of a stream, slot by slot, to the front of a list of the caller's, as many as there is room for, and
+/// returns how many there are. Line 0 says that a slot has none. It takes no memory.
 ///
 /// # Errors
 /// The bytes are no stream: the first thing that is wrong; then nothing is written.

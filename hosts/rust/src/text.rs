@@ -53,7 +53,7 @@ pub struct Text(Buffer<LONGEST>);
 
 impl Text {
     /// What the library writes into room for the longest text, as `snprintf` does: `write` gets the room and its size, and
-    /// answers how long the text is.
+    /// returns how long the text is.
     pub(crate) fn written_by(write: impl FnOnce(*mut std::ffi::c_char, usize) -> usize) -> Text {
         let mut room = [0u8; LONGEST + 1];
         let length = write(room.as_mut_ptr().cast(), room.len());

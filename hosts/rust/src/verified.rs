@@ -12,8 +12,8 @@ use std::fmt;
 /// A program that is accepted, with the capabilities that it was verified for and the depths of its chunks.
 ///
 /// It can't be changed, and only [`Program::into_verified`] and [`Verifier::verify_program`](crate::Verifier::verify_program)
-/// make one. So a machine that takes a `Verified` never runs what nobody has verified. What such a machine owes in turn stands
-/// at [what a host owes](crate#what-a-host-owes).
+/// make one. So a machine that takes a `Verified` never runs what nobody has verified. What is required of such a machine is
+/// listed at [what a host owes](crate#what-a-host-owes).
 ///
 /// ```
 /// use grain::{Caps, Chunk, Pools, Program};
@@ -37,7 +37,7 @@ pub struct Verified {
 }
 
 impl Verified {
-    /// The program with what its verification answered.
+    /// The program with the result of its verification.
     // The error has the program in it; a box would take memory, which may be what is lacking.
     #[allow(clippy::result_large_err)]
     pub(crate) fn new(

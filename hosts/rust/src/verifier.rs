@@ -11,7 +11,7 @@ use std::cell::RefCell;
 
 /// Verifies one program after another in memory that it keeps, within a limit on work.
 ///
-/// Each answer is that of [`verify`](crate::verify), whatever was verified before; that is proved of the library. It takes
+/// Each result is that of [`verify`](crate::verify), whatever was verified before; that is proved of the library. It takes
 /// memory only where a program needs more than is kept, and keeps as much as the largest program needed (COSTS.md), until it is
 /// dropped or [`Verifier::release`] is called.
 ///
@@ -65,7 +65,7 @@ impl Verifier {
     }
 
     /// With a limit on the work for a program: its chunks may span this many bytes of the code together, each chunk counted for
-    /// itself. Then no more instructions are visited, and [`VerifyError::TooMuchWork`] is the answer to a program that goes
+    /// itself. Then no more instructions are visited, and [`VerifyError::TooMuchWork`] is the result for a program that goes
     /// beyond.
     ///
     /// Chunks of one program usually don't overlap, so the greatest length of code that a host takes is enough.
@@ -75,7 +75,7 @@ impl Verifier {
         self
     }
 
-    /// Verifies a program, and answers the depth of each chunk, as [`verify`](crate::verify) does.
+    /// Verifies a program, and returns the depth of each chunk, as [`verify`](crate::verify) does.
     ///
     /// # Errors
     /// Those of [`verify`](crate::verify), and [`VerifyError::TooMuchWork`].
@@ -104,7 +104,7 @@ impl Verifier {
         Ok(&self.depths)
     }
 
-    /// Verifies a program, writes the depths to the front of a list of the caller's, and answers how many instructions were
+    /// Verifies a program, writes the depths to the front of a list of the caller's, and returns how many instructions were
     /// visited, as [`verify_into`](crate::verify_into) does.
     ///
     /// # Errors
@@ -128,7 +128,7 @@ impl Verifier {
         )
     }
 
-    /// Verifies a program, and answers it as a [`Verified`], as [`Program::into_verified`] does.
+    /// Verifies a program, and returns it as a [`Verified`], as [`Program::into_verified`] does.
     ///
     /// # Errors
     /// The program and the error of [`Verifier::verify`].
@@ -240,7 +240,7 @@ pub(crate) fn judge_in(
     verdict(status, &report, pools)
 }
 
-/// Has each chunk declare its depth, and answers how many instructions were visited.
+/// Has each chunk declare its depth, and returns how many instructions were visited.
 pub(crate) fn tighten(
     caps: Caps,
     code: &[u8],
@@ -281,7 +281,7 @@ pub(crate) fn check_length(code: &[u8]) -> Result<(), VerifyError> {
     }
 }
 
-/// What the library has answered.
+/// The result of a call of the library.
 fn verdict(status: u32, report: &raw::Report, pools: &FlatPools<'_>) -> Result<u64, VerifyError> {
     match status {
         raw::ACCEPTED => Ok(report.visited),

@@ -1,6 +1,6 @@
 //! Generated programs, judged by the library and by the line program alike; and what the line program answers to long lines.
 //!
-//! `hosts/build` names the line program by GRAIN_CHECK, and runs these tests, which are left out elsewhere.
+//! `hosts/build` (in the repository) names the line program by GRAIN_CHECK, and runs these tests, which are left out elsewhere.
 mod common;
 
 use common::chance::Chance;

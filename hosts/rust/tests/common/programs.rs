@@ -327,7 +327,7 @@ impl Writer<'_> {
         self.jump(0x23, caught);
         self.block(depth);
         if sinks {
-            // Below the base of the handler, and back: nothing but what is quiet may stand there.
+            // Below the base of the handler, and back: only quiet instructions may be between.
             self.emit(0x0b, &[]);
             let tag = self.chance.one_of(&[0x02, 0x02, 0x02, 0x12]);
             self.emit(tag, &[]);

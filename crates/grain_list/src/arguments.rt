@@ -1,0 +1,100 @@
+//! The command line.
+
+use clap::{Arg, ArgAction, ArgMatches, Command, Error};
+use std::alloc::{AllocError, Global};
+
+/// The version of the program.
+const VERSION: &str = "0.2.0";
+
+/// What `--help` says after the options.
+const AFTER_HELP: &str = "\
+Cases, one on each line of standard input (docs/FORMAT.md has all of it):
+  code HEX                   the instructions of code
+  site HEX ADDRESS           the line and column that an address table records
+  verify CAPS HEX CHUNK ..   the verdict on a program, explained
+HEX is hexadecimal digits, or - for no bytes. CAPS is four hexadecimal digits,
+7fff for all capabilities. CHUNK is ENTRY:END:DECLARED in decimal digits.
+
+Example:
+  echo 'verify 7fff 0213 0:2:8' | grain_list
+
+Exit status:
+  0  every case was listed, also where a program is refused
+  2  some line was a bad case, or an argument is wrong
+  3  standard input could not be read
+  4  standard output could not be written
+  5  out of memory
+
+Colours are used by --color=auto where standard output is a terminal, TERM is
+not dumb, and NO_COLOR is not set or is empty.";
+
+/// When listings are coloured.
+#[derive(Clone, Copy)]
+pub enum Colours {
+    /// On a terminal that has colours, unless the environment says otherwise.
+    Auto,
+    /// In any case.
+    Always,
+    /// In no case.
+    Never,
+}
+
+/// What the arguments ask for.
+#[derive(Clone, Copy)]
+pub enum Request {
+    /// Text for people.
+    Text(Colours),
+    /// JSON for programs.
+    Json,
+}
+
+/// The values of `--color`.
+static COLOURS: [&str; 3] = ["auto", "always", "never"];
+
+/// The options that the program has.
+fn command<'a>(alloc: Global) -> Result<Command<'a>, AllocError> {
+    let json = Arg::new(alloc, "json")
+        .long("json")
+        .action(ArgAction::SetTrue)
+        .help("Write a JSON object for each case, on a line of its own");
+    let colours = Arg::new(alloc, "color")
+        .long("color")
+        .value_name("WHEN")
+        .value_parser(COLOURS.as_slice())
+        .num_args(0..=1)
+        .require_equals(true)
+        .default_value("auto")
+        .default_missing_value("always")
+        .help("Colour listings");
+    Command::new(alloc, "grain_list")
+        .version(VERSION)
+        .about(
+            "Lists cases of Rhai Grain bytecode: instructions, verdicts, and why a program is refused.",
+        )
+        .after_help(AFTER_HELP)
+        .arg(json)?
+        .arg(colours)
+}
+
+/// When listings are coloured, by the value of `--color`.
+fn colours_of(matches: &ArgMatches<'_>) -> Colours {
+    match matches.get_str("color") {
+        Some("always") => Colours::Always,
+        Some("never") => Colours::Never,
+        _ => Colours::Auto,
+    }
+}
+
+/// What these words ask for, the first of which is the program's name.
+///
+/// # Errors
+/// Where a word is no argument of the program, where help or the version was asked for, and where memory was refused. The
+/// error has the text that answers it.
+pub fn request_of<'a>(alloc: Global, words: &'a [String]) -> Result<Request, Error> {
+    let matches = command(alloc)?.try_get_matches_from(words)?;
+    if matches.get_flag("json") {
+        Ok(Request::Json)
+    } else {
+        Ok(Request::Text(colours_of(&matches)))
+    }
+}
