@@ -81,7 +81,7 @@ impl CodeListing {
     }
 }
 
-/// What an operation does beside no pools.
+/// What an operation does where there are no pools.
 pub fn effect_of(op: &Op) -> Effect
     ensures { flow_in result ≡ flow_of op.now }
 {
