@@ -1,13 +1,13 @@
 //! The verdict on a program, with each chunk explained.
 ghost use Rattle.std.specs.Prelude.{IfOk};
-ghost use Rattle.grain_rules.specs.Accepted.{input};
+ghost use Rattle.grain_rules.specs.Accepted.{input_beside};
 ghost use Rattle.grain.specs.Explanations.{IsExplanation};
 
 use grain_base::{Caps, Dynamic};
 use grain_bytecode::{Chunk, Function};
 use grain_explain::{ExplainError, ExplainedChunk, explain_chunks};
-use grain_rules::{Pools, VerifyError};
-use grain_verify::{Meter, Refusal, verify_placed};
+use grain_rules::{Read, VerifyError};
+use grain_verify::{Meter, Refusal, verify_read};
 use std::alloc::Global;
 
 /// The verdict on a program, and why it is so.
@@ -19,7 +19,7 @@ pub struct Explained {
     pub chunks: Vec<ExplainedChunk>,
 }
 
-/// Verifies as [`crate::verify_placed`] does, with the same promise of kept runs, and explains each chunk as
+/// Verifies as [`crate::verify_read`] does, with the same promise of kept runs, and explains each chunk as
 /// [`explain_chunks`] does.
 ///
 /// Where the tests before the chunks pass, each chunk is explained: where it passes by rows that are a stack typing of it and
@@ -30,20 +30,20 @@ pub struct Explained {
 /// # Errors
 /// `OutOfMemory` where memory was refused; `Unfinished` as [`explain_chunks`] says.
 #[tactic(auto, using(crate::proofs::Refusing::placed_explained, crate::proofs::Refusing::accepted_explained))]
-pub fn explain(
+pub fn explain<P: Read>(
     alloc: Global,
     caps: Caps,
     consts: &[Dynamic],
     code: &[u8],
     functions: &[Function],
     chunks: &[Chunk],
-    pools: &Pools<'_>,
+    pools: &P,
 ) -> Result<Explained, ExplainError>
-    ensures explained { IfOk result (IsExplanation
-        (input caps consts.now code.now functions.now chunks.now pools.now)) }
+    ensures explained { IfOk result (IsExplanation (input_beside caps.0 consts.now code.now
+        functions.now chunks.now (P.facts pools.now) (P.leads pools.now))) }
 {
     let mut meter = Meter::new();
-    match verify_placed(
+    match verify_read(
         alloc, caps, consts, code, functions, chunks, pools, &mut meter,
     ) {
         Ok(deepest) => {

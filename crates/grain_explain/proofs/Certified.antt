@@ -13,10 +13,9 @@ use Rattle.grain_rules.specs.Sinking.{FallsShortOf, ReachesUpTo, untouched}
 use Rattle.grain_rules.specs.Typing.{IsInChunk, Passes}
 use Rattle.grain_rules.proofs.Once.{stands_once}
 use Rattle.grain_explain.specs.Certificate.{IsCertificate, RowLacks, RowsFlaw}
-use Rattle.grain_explain.specs.Claimed.{ArePlaced, AreSound, IsLaid, code_claimed, span_claimed}
+use Rattle.grain_explain.specs.Claimed.{ArePlaced, AreSound, Claimed, IsLaid, span_claimed}
 use Rattle.grain_explain.specs.Lacking.{FindsLacking}
 use Rattle.grain_explain.specs.RowView.{counts_of, no_base, typing_of}
-use Rattle.grain_explain.specs.declared.claim.Claim.{Claim}
 use Rattle.grain_explain.specs.declared.error.TypingError.{TypingError}
 use Rattle.grain_explain.specs.declared.error.TypingError.TheVariants as errors
 use Rattle.grain_explain.specs.declared.needs.Lack.{Lack}
@@ -89,11 +88,11 @@ module _ (code : Bytecode) (chunk : Span) (bases : List LinkedBase) (rows : List
       h.astray (sure.typing.closed h.row.at (counts_of bases h.row) h.op target h.counts (row_typed bases rows row h.row sure.ascending h.here.is) h.here.stands h.edge)
 
 -- what the tests of the rows find is that they are a typing
-pub certified : (g : Claim) → g.chunk.now.entry ≤ g.chunk.now.end → g.chunk.now.end ≤ length g.code.now → IsBoundary g.code.now g.chunk.now.end → IsLaid g → ArePlaced g
-    → typing_of g.bases.now g.rows.now g.chunk.now.entry ≡ Some nothing → AreSound g → IsCertificate (code_claimed g) (span_claimed g) g.bases.now g.rows.now
+pub certified : (g : Claimed) → g.chunk.entry ≤ g.chunk.end → g.chunk.end ≤ length g.code.bytes → IsBoundary g.code.bytes g.chunk.end → IsLaid g → ArePlaced g
+    → typing_of g.bases g.rows g.chunk.entry ≡ Some nothing → AreSound g → IsCertificate g.code (span_claimed g) g.bases g.rows
 certified g ordered inside end laid placed entry sound =
-    let first = typed_by g.bases.now g.rows.now g.chunk.now.entry nothing entry in
-    let there : IsInChunk (coded (code_claimed g)) g.chunk.now g.chunk.now.entry = subst (IsInChunk (coded (code_claimed g)) g.chunk.now) first.at_is (placed first.place first.row first.is) in
+    let first = typed_by g.bases g.rows g.chunk.entry nothing entry in
+    let there : IsInChunk (coded g.code) g.chunk g.chunk.entry = subst (IsInChunk (coded g.code) g.chunk) first.at_is (placed first.place first.row first.is) in
     record {
       framed = record { ordered = ordered; inside = inside; entry = there.place; end = end };
       linked = laid.linked;
@@ -101,18 +100,18 @@ certified g ordered inside end laid placed entry sound =
       ascending = laid.ascending;
       typing = record {
         entry = entry;
-        shallow = λ at c e. (let h = typed_by g.bases.now g.rows.now at c e in let s = (sound h.place h.row h.is).shallow in let k = ap (λ (x : Counts). x.operands) h.counts in omega arith);
+        shallow = λ at c e. (let h = typed_by g.bases g.rows at c e in let s = (sound h.place h.row h.is).shallow in let k = ap (λ (x : Counts). x.operands) h.counts in omega arith);
         met = λ at c e. (
-            let h = typed_by g.bases.now g.rows.now at c e in
+            let h = typed_by g.bases g.rows at c e in
             let s = sound h.place h.row h.is in
-            (s.op, respanned (code_claimed g) g.chunk.now g.most at c s.op (passes_there (code_claimed g) g.chunk.now h.row.at at (counts_of g.bases.now h.row) c s.op h.at_is h.counts s.passes))
+            (s.op, respanned g.code g.chunk g.most at c s.op (passes_there g.code g.chunk h.row.at at (counts_of g.bases h.row) c s.op h.at_is h.counts s.passes))
             );
         closed = λ at c op b d e reads edge. (
-            let h = typed_by g.bases.now g.rows.now at c e in
+            let h = typed_by g.bases g.rows at c e in
             let s = sound h.place h.row h.is in
-            let p = passes_there (code_claimed g) g.chunk.now h.row.at at (counts_of g.bases.now h.row) c s.op h.at_is h.counts s.passes in
-            let same = stands_once g.code.now at op s.op reads p.stands.is in
-            s.closed b d (edge_there (code_claimed g) h.row.at at (counts_of g.bases.now h.row) c s.op b d h.at_is h.counts (subst (λ (o : Op). Edge (coded (code_claimed g)) o at c b d) same edge))
+            let p = passes_there g.code g.chunk h.row.at at (counts_of g.bases h.row) c s.op h.at_is h.counts s.passes in
+            let same = stands_once g.code.bytes at op s.op reads p.stands.is in
+            s.closed b d (edge_there g.code h.row.at at (counts_of g.bases h.row) c s.op b d h.at_is h.counts (subst (λ (o : Op). Edge (coded g.code) o at c b d) same edge))
             );
       };
     }

@@ -9,7 +9,7 @@ use Rattle.grain_rules.specs.Counts.{Base, Counts}
 use Rattle.grain_rules.specs.Typing.{Reached}
 use Rattle.grain_explain.specs.OnEdges.{IsListedIn, counts_on, handlers_in}
 use Rattle.grain_explain.specs.RowView.{AreLinked, base_of, counts_of, list_in}
-use Rattle.grain_explain.specs.Scenes.{AreCome, Extends, IsCome, Lands, code_seen}
+use Rattle.grain_explain.specs.Scenes.{AreCome, Extends, IsCome, Lands, Seen}
 use Rattle.grain_explain.specs.Ways.{Follows, Stop, arrival_stop, first_stop}
 use Rattle.grain_explain.specs.declared.arrival.Arrival.{Arrival}
 use Rattle.grain_explain.specs.declared.edge.Handlers.{Handlers}
@@ -17,7 +17,6 @@ use Rattle.grain_explain.specs.declared.edge.Handlers.TheVariants.{Kept, Pushed}
 use Rattle.grain_explain.specs.declared.edge.OnEdge.{OnEdge}
 use Rattle.grain_explain.specs.declared.row.LinkedBase.{LinkedBase}
 use Rattle.grain_explain.specs.declared.row.Row.{Row}
-use Rattle.grain_explain.specs.declared.scene.Scene.{Scene}
 use Rattle.grain_explain.specs.declared.stacks.Stacks.{Stacks}
 use Rattle.grain_explain.proofs.SharedLists.{list_append}
 
@@ -61,22 +60,22 @@ module _ (old new : List LinkedBase) (linked : AreLinked old) (x : Extends old n
   stop_kept : (a : Arrival) → a.row.bases ≤ length old → arrival_stop old a ≡ arrival_stop new a
   stop_kept a l = let P : Counts → Stop = λ c. (a.row.at, c) in ap P (sym (counts_kept a.row l))
 
-  module _ (s : Scene) (slots : List (Option Arrival)) (held : AreCome s old slots) where
+  module _ (s : Seen) (slots : List (Option Arrival)) (held : AreCome s old slots) where
     origin_kept : (a : Arrival) (o : Option ℕ) → a.row.bases ≤ length old
-        → MatchOption o (arrival_stop old a ≡ first_stop s.chunk.now) (λ k. (y : Arrival) × (get_or slots k None ≡ Some y) × Follows (code_seen s) s.chunk.now (arrival_stop old y) (arrival_stop old a))
-        → MatchOption o (arrival_stop new a ≡ first_stop s.chunk.now) (λ k. (y : Arrival) × (get_or slots k None ≡ Some y) × Follows (code_seen s) s.chunk.now (arrival_stop new y) (arrival_stop new a))
+        → MatchOption o (arrival_stop old a ≡ first_stop s.chunk) (λ k. (y : Arrival) × (get_or slots k None ≡ Some y) × Follows s.code s.chunk (arrival_stop old y) (arrival_stop old a))
+        → MatchOption o (arrival_stop new a ≡ first_stop s.chunk) (λ k. (y : Arrival) × (get_or slots k None ≡ Some y) × Follows s.code s.chunk (arrival_stop new y) (arrival_stop new a))
     origin_kept a None l h = sym (stop_kept a l) ∙ h
     origin_kept a (Some k) l (y, e, f) = (
       y,
       e,
-      subst (λ (z : Stop). Follows (code_seen s) s.chunk.now z (arrival_stop new a)) (stop_kept y (held k y e).listed)
-          (subst (λ (z : Stop). Follows (code_seen s) s.chunk.now (arrival_stop old y) z) (stop_kept a l) f),
+      subst (λ (z : Stop). Follows s.code s.chunk z (arrival_stop new a)) (stop_kept y (held k y e).listed)
+          (subst (λ (z : Stop). Follows s.code s.chunk (arrival_stop old y) z) (stop_kept a l) f),
     )
 
     pub come_more : (a : Arrival) → IsCome s old slots a → IsCome s new slots a
     come_more a h = record {
       listed = (let m = longer in let l = h.listed in omega arith);
-      reached = subst (Reached (coded (code_seen s)) s.chunk.now a.row.at) (sym (counts_kept a.row h.listed)) h.reached;
+      reached = subst (Reached (coded s.code) s.chunk a.row.at) (sym (counts_kept a.row h.listed)) h.reached;
       origin = origin_kept a a.from h.listed h.origin;
     }
 

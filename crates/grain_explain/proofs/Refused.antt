@@ -2,6 +2,7 @@
 use Rattle.std.proofs.Common.{◌≡◌, inl, inr, ℕ, ◌≤◌, List, Option, Some, slice_get, refl, sym, ap, subst, arith}
 use Rattle.std.specs.List.{All}
 use Rattle.std.proofs.lemmas.Option.{get_or_from_slice_get, slice_get_within}
+use Rattle.grain_values.specs.declared.caps.Caps.{Caps}
 use Rattle.grain_code.specs.Span.{Span}
 use Rattle.grain_code.specs.declared.op.Op.{Op}
 use Rattle.grain_rules.specs.Accepted.{IsFramed}
@@ -15,44 +16,44 @@ use Rattle.grain_explain.specs.Certificate.{IsCertificate}
 use Rattle.grain_explain.specs.Explaining.{IsReachedRow, IsTypedBy}
 use Rattle.grain_explain.specs.Lacking.{FindsLacking}
 use Rattle.grain_explain.specs.RowView.{counts_of, typing_of}
-use Rattle.grain_explain.specs.Scenes.{MissesTarget, code_seen, error_lacking}
+use Rattle.grain_explain.specs.Scenes.{MissesTarget, Seen, error_lacking}
 use Rattle.grain_explain.specs.Ways.{NamesTarget, Shows, Stop, row_stop}
 use Rattle.grain_explain.specs.declared.needs.Lack.{Lack}
 use Rattle.grain_explain.specs.declared.needs.Lack.TheVariants as lacks
 use Rattle.grain_explain.specs.declared.row.LinkedBase.{LinkedBase}
 use Rattle.grain_explain.specs.declared.row.Row.{Row}
-use Rattle.grain_explain.specs.declared.scene.Scene.{Scene}
 use Rattle.grain_explain.proofs.Typings.{typed_by}
 
 -- what an instruction lacks is shown by the row that it finds, and is a flaw
-pub lacking_shows : (s : Scene) (bases : List LinkedBase) (row : Row) (op : Op) (lack : Lack) → StandsIn (coded (code_seen s)) s.chunk.now row.at op → FindsLacking (code_seen s).setting op (counts_of bases row) lack
-    → Shows (code_seen s) s.chunk.now (row_stop bases row) (error_lacking s.caps row lack)
-lacking_shows s bases row op (lacks.Capabilities absent) stands (e, ne) = (refl, refl, (op, stands, e, ne))
-lacking_shows s bases row op (lacks.Operands need) stands (a, e, l) = (refl, (op, stands, a, e, refl, l))
-lacking_shows s bases row op lacks.Iterators stands (a, l) = (refl, (op, stands, a, l))
-lacking_shows s bases row op lacks.Handlers stands (a, l) = (refl, (op, stands, a, l))
-lacking_shows s bases row op (lacks.Reserve need have) stands (a, meets, sinks) = (refl, (op, stands, a, meets, sinks))
+pub lacking_shows : (s : Seen) (caps : Caps) (bases : List LinkedBase) (row : Row) (op : Op) (lack : Lack) → caps.0 ≡ s.code.setting.caps → StandsIn (coded s.code) s.chunk row.at op
+    → FindsLacking s.code.setting op (counts_of bases row) lack → Shows s.code s.chunk (row_stop bases row) (error_lacking caps row lack)
+lacking_shows s caps bases row op (lacks.Capabilities absent) same stands (e, ne) = (refl, same, (op, stands, e, ne))
+lacking_shows s caps bases row op (lacks.Operands need) same stands (a, e, l) = (refl, (op, stands, a, e, refl, l))
+lacking_shows s caps bases row op lacks.Iterators same stands (a, l) = (refl, (op, stands, a, l))
+lacking_shows s caps bases row op lacks.Handlers same stands (a, l) = (refl, (op, stands, a, l))
+lacking_shows s caps bases row op (lacks.Reserve need have) same stands (a, meets, sinks) = (refl, (op, stands, a, meets, sinks))
 
-pub lacking_flaw : (s : Scene) (bases : List LinkedBase) (row : Row) (op : Op) (lack : Lack) → IsFramed (code_seen s) s.chunk.now → Reached (coded (code_seen s)) s.chunk.now row.at (counts_of bases row)
-    → StandsIn (coded (code_seen s)) s.chunk.now row.at op → FindsLacking (code_seen s).setting op (counts_of bases row) lack → ChunkFlaw (code_seen s) s.chunk.now (error_lacking s.caps row lack)
-lacking_flaw s bases row op (lacks.Capabilities absent) f r stands (e, ne) = (f, refl, (op, counts_of bases row, record { reached = r; stands = stands }, e, ne))
-lacking_flaw s bases row op (lacks.Operands need) f r stands (a, e, l) = (f, (op, counts_of bases row, record { comes = record { reached = r; stands = stands }; allowed = a }, e, refl, l))
-lacking_flaw s bases row op lacks.Iterators f r stands (a, l) = (f, (op, counts_of bases row, record { comes = record { reached = r; stands = stands }; allowed = a }, l))
-lacking_flaw s bases row op lacks.Handlers f r stands (a, l) = (f, (op, counts_of bases row, record { comes = record { reached = r; stands = stands }; allowed = a }, l))
-lacking_flaw s bases row op (lacks.Reserve need have) f r stands (a, meets, sinks) =
+pub lacking_flaw : (s : Seen) (caps : Caps) (bases : List LinkedBase) (row : Row) (op : Op) (lack : Lack) → caps.0 ≡ s.code.setting.caps → IsFramed s.code s.chunk
+    → Reached (coded s.code) s.chunk row.at (counts_of bases row) → StandsIn (coded s.code) s.chunk row.at op → FindsLacking s.code.setting op (counts_of bases row) lack
+    → ChunkFlaw s.code s.chunk (error_lacking caps row lack)
+lacking_flaw s caps bases row op (lacks.Capabilities absent) same f r stands (e, ne) = (f, same, (op, counts_of bases row, record { reached = r; stands = stands }, e, ne))
+lacking_flaw s caps bases row op (lacks.Operands need) same f r stands (a, e, l) = (f, (op, counts_of bases row, record { comes = record { reached = r; stands = stands }; allowed = a }, e, refl, l))
+lacking_flaw s caps bases row op lacks.Iterators same f r stands (a, l) = (f, (op, counts_of bases row, record { comes = record { reached = r; stands = stands }; allowed = a }, l))
+lacking_flaw s caps bases row op lacks.Handlers same f r stands (a, l) = (f, (op, counts_of bases row, record { comes = record { reached = r; stands = stands }; allowed = a }, l))
+lacking_flaw s caps bases row op (lacks.Reserve need have) same f r stands (a, meets, sinks) =
     (f, (op, counts_of bases row, record { comes = record { reached = r; stands = stands }; allowed = a }, meets, sinks))
 
 -- a target that is none
-pub target_flaw : (s : Scene) (x : Stop) (t : ℕ) (e : VerifyError) → IsFramed (code_seen s) s.chunk.now → Reached (coded (code_seen s)) s.chunk.now x.0 x.1 → NamesTarget (code_seen s) s.chunk.now x t
-    → MissesTarget s x.0 t e → ChunkFlaw (code_seen s) s.chunk.now e
+pub target_flaw : (s : Seen) (x : Stop) (t : ℕ) (e : VerifyError) → IsFramed s.code s.chunk → Reached (coded s.code) s.chunk x.0 x.1 → NamesTarget s.code s.chunk x t
+    → MissesTarget s x.0 t e → ChunkFlaw s.code s.chunk e
 target_flaw s x t e f r n (inl (is, out)) =
-    subst (ChunkFlaw (code_seen s) s.chunk.now) (sym is) (f, record { counts = x.1; op = n.op; reached = r; passes = n.passes; names = n.names }, out)
+    subst (ChunkFlaw s.code s.chunk) (sym is) (f, record { counts = x.1; op = n.op; reached = r; passes = n.passes; names = n.names }, out)
 target_flaw s x t e f r n (inr (is, low, high, none)) =
-    subst (ChunkFlaw (code_seen s) s.chunk.now) (sym is) (inr (f, record { counts = x.1; op = n.op; reached = r; passes = n.passes; names = n.names }, low, high, none))
+    subst (ChunkFlaw s.code s.chunk) (sym is) (inr (f, record { counts = x.1; op = n.op; reached = r; passes = n.passes; names = n.names }, low, high, none))
 
-pub target_shows : (s : Scene) (x : Stop) (t : ℕ) (e : VerifyError) → NamesTarget (code_seen s) s.chunk.now x t → MissesTarget s x.0 t e → Shows (code_seen s) s.chunk.now x e
-target_shows s x t e n (inl (is, out)) = subst (Shows (code_seen s) s.chunk.now x) (sym is) (refl, n, out)
-target_shows s x t e n (inr (is, low, high, none)) = subst (Shows (code_seen s) s.chunk.now x) (sym is) (refl, n, low, high, none)
+pub target_shows : (s : Seen) (x : Stop) (t : ℕ) (e : VerifyError) → NamesTarget s.code s.chunk x t → MissesTarget s x.0 t e → Shows s.code s.chunk x e
+target_shows s x t e n (inl (is, out)) = subst (Shows s.code s.chunk x) (sym is) (refl, n, out)
+target_shows s x t e n (inr (is, low, high, none)) = subst (Shows s.code s.chunk x) (sym is) (refl, n, low, high, none)
 
 -- what holds of all rows holds of each
 pub all_at : (P : Row → Type 0) (rows : List Row) (k : ℕ) (r : Row) → All P rows → slice_get rows k ≡ Some r → P r

@@ -19,12 +19,11 @@ use Rattle.grain_rules.specs.Typing.{Reached, begin, onward}
 use Rattle.grain_explain.specs.Claimed.{falling_on, jumping}
 use Rattle.grain_rules.specs.EffectView.{flow_in}
 use Rattle.grain_explain.specs.RowView.{counts_of}
-use Rattle.grain_explain.specs.Scenes.{AreCome, Comes, IsCome, IsLeft, code_seen}
+use Rattle.grain_explain.specs.Scenes.{AreCome, Comes, IsCome, IsLeft, Seen}
 use Rattle.grain_explain.specs.Ways.{Follows, Stop, arrival_stop, first_stop, row_stop, stops_of}
 use Rattle.grain_explain.specs.declared.arrival.Arrival.{Arrival}
 use Rattle.grain_explain.specs.declared.row.LinkedBase.{LinkedBase}
 use Rattle.grain_explain.specs.declared.row.Row.{Row}
-use Rattle.grain_explain.specs.declared.scene.Scene.{Scene}
 use Rattle.grain_explain.specs.declared.walk.Departure.{Departure}
 use Rattle.grain_explain.proofs.Matching.{falling_known, jumping_known}
 
@@ -52,44 +51,44 @@ way_more bases [] row x y earlier same = ap (λ (z : Stop). z ∷ (y ∷ earlier
 way_more bases (r ∷ rs) row x y earlier same = ap (λ (zs : List Stop). row_stop bases r ∷ zs) (way_more bases rs row x y earlier same)
 
 -- where nothing has come anywhere nothing is held
-pub none_come : (s : Scene) (bases : List LinkedBase) (slots : List (Option Arrival)) → All (λ (slot : Option Arrival). slot ≡ None) slots → AreCome s bases slots
+pub none_come : (s : Seen) (bases : List LinkedBase) (slots : List (Option Arrival)) → All (λ (slot : Option Arrival). slot ≡ None) slots → AreCome s bases slots
 none_come s bases slots all k a e = elim (cases_lt k (length slots)) [
   | inl l ↦ absurd (none-some a (sym (all k None l) ∙ e))
   | inr g ↦ absurd (none-some a (sym (get_or_past slots k None g) ∙ e))
 ]
 
 -- what is said of lists is said of these as they are read
-pub come_read : (s : Scene) (bases read_bases : List LinkedBase) (slots read_slots : List (Option Arrival)) (a : Arrival) → read_bases ≡ bases → read_slots ≡ slots → IsCome s bases slots a → IsCome s read_bases read_slots a
+pub come_read : (s : Seen) (bases read_bases : List LinkedBase) (slots read_slots : List (Option Arrival)) (a : Arrival) → read_bases ≡ bases → read_slots ≡ slots → IsCome s bases slots a → IsCome s read_bases read_slots a
 come_read s bases read_bases slots read_slots a e f h = subst (λ (bs : List LinkedBase). IsCome s bs read_slots a) (sym e) (subst (λ (xs : List (Option Arrival)). IsCome s bases xs a) (sym f) h)
 
-pub held_read : (s : Scene) (bases read_bases : List LinkedBase) (slots read_slots : List (Option Arrival)) → read_bases ≡ bases → read_slots ≡ slots → AreCome s bases slots → AreCome s read_bases read_slots
+pub held_read : (s : Seen) (bases read_bases : List LinkedBase) (slots read_slots : List (Option Arrival)) → read_bases ≡ bases → read_slots ≡ slots → AreCome s bases slots → AreCome s read_bases read_slots
 held_read s bases read_bases slots read_slots e f h = subst (λ (bs : List LinkedBase). AreCome s bs read_slots) (sym e) (subst (AreCome s bases) (sym f) h)
 
 -- what the chunk begins with has come
-pub first_come : (s : Scene) (bases : List LinkedBase) (slots : List (Option Arrival)) (a : Arrival) → a.row.bases ≤ length bases → arrival_stop bases a ≡ first_stop s.chunk.now → a.from ≡ None → IsCome s bases slots a
+pub first_come : (s : Seen) (bases : List LinkedBase) (slots : List (Option Arrival)) (a : Arrival) → a.row.bases ≤ length bases → arrival_stop bases a ≡ first_stop s.chunk → a.from ≡ None → IsCome s bases slots a
 first_come s bases slots a listed same none = record {
   listed = listed;
-  reached = subst (λ (x : Stop). Reached (coded (code_seen s)) s.chunk.now x.0 x.1) (sym same) begin;
+  reached = subst (λ (x : Stop). Reached (coded s.code) s.chunk x.0 x.1) (sym same) begin;
   origin = rw none same;
 }
 
-module _ (s : Scene) (d : Departure) (left : IsLeft s d) where
+module _ (s : Seen) (d : Departure) (left : IsLeft s d) where
   -- what comes along an edge has come
-  pub along_come : (a : Arrival) → a.row.bases ≤ length d.visited.bases.now → a.from ≡ Some d.place → Edge (coded (code_seen s)) left.op d.here.now.row.at (counts_of d.visited.bases.now d.here.now.row) a.row.at (counts_of d.visited.bases.now a.row) → Comes s d.visited a
+  pub along_come : (a : Arrival) → a.row.bases ≤ length d.visited.bases.now → a.from ≡ Some d.place → Edge (coded s.code) left.op d.here.now.row.at (counts_of d.visited.bases.now d.here.now.row) a.row.at (counts_of d.visited.bases.now a.row) → Comes s d.visited a
   along_come a listed from edge = record {
     listed = listed;
     reached = onward (left.come d.place d.here.now left.held).reached left.passes edge;
     origin = rw from (d.here.now, left.held, (left.op, left.passes, edge));
   }
 
-  pub jump_edge : (row : Row) (t : ℕ) (c : Counts) → row_stop d.visited.bases.now row ≡ (t, c) → Contains (targets_for (code_seen s).switches (flow_in d.effect.now)) t → c ≡ jumping d.visited.bases.now d.here.now.row d.effect.now
-      → Edge (coded (code_seen s)) left.op d.here.now.row.at (counts_of d.visited.bases.now d.here.now.row) row.at (counts_of d.visited.bases.now row)
+  pub jump_edge : (row : Row) (t : ℕ) (c : Counts) → row_stop d.visited.bases.now row ≡ (t, c) → Contains (targets_for s.code.switches (flow_in d.effect.now)) t → c ≡ jumping d.visited.bases.now d.here.now.row d.effect.now
+      → Edge (coded s.code) left.op d.here.now.row.at (counts_of d.visited.bases.now d.here.now.row) row.at (counts_of d.visited.bases.now row)
   jump_edge row t c same named is =
       let there : t ≡ row.at = ap (λ (x : Stop). x.0) (sym same) in
       let counts : counts_of d.visited.bases.now row ≡ c = ap (λ (x : Stop). x.1) same in
       inl (
-        subst (λ (ts : List ℕ). Contains ts row.at) (ap (targets_for (code_seen s).switches) left.does.flow) (subst (Contains (targets_for (code_seen s).switches (flow_in d.effect.now))) there named),
-        counts ∙ (is ∙ jumping_known (code_seen s).setting left.op d.visited.bases.now d.here.now.row d.effect.now left.does),
+        subst (λ (ts : List ℕ). Contains ts row.at) (ap (targets_for s.code.switches) left.does.flow) (subst (Contains (targets_for s.code.switches (flow_in d.effect.now))) there named),
+        counts ∙ (is ∙ jumping_known s.code.setting left.op d.visited.bases.now d.here.now.row d.effect.now left.does),
       )
 
 pub zip_push : {A B : Type 0} (R : A → B → Type 0) (xs : List A) (ys : List B) (x : A) (y : B) → AllZip R xs ys → R x y → AllZip R (xs ++ x ∷ []) (ys ++ y ∷ [])
@@ -116,9 +115,9 @@ set_place (x ∷ xs) zero (suc k) a b e = inr e
 set_place (x ∷ xs) (suc j) zero a b e = inr e
 set_place (x ∷ xs) (suc j) (suc k) a b e = elim (set_place xs j k a b e) [ inl h ↦ inl (ap suc h.0, h.1) | inr old ↦ inr old ]
 
-module _ (s : Scene) (bases : List LinkedBase) (slots : List (Option Arrival)) (j : ℕ) (a : Arrival) (free : get_or slots j None ≡ None) where
-  kept_origin : (x : Stop) (o : Option ℕ) → MatchOption o (x ≡ first_stop s.chunk.now) (λ k. (y : Arrival) × (get_or slots k None ≡ Some y) × Follows (code_seen s) s.chunk.now (arrival_stop bases y) x)
-      → MatchOption o (x ≡ first_stop s.chunk.now) (λ k. (y : Arrival) × (get_or (set slots j (Some a)) k None ≡ Some y) × Follows (code_seen s) s.chunk.now (arrival_stop bases y) x)
+module _ (s : Seen) (bases : List LinkedBase) (slots : List (Option Arrival)) (j : ℕ) (a : Arrival) (free : get_or slots j None ≡ None) where
+  kept_origin : (x : Stop) (o : Option ℕ) → MatchOption o (x ≡ first_stop s.chunk) (λ k. (y : Arrival) × (get_or slots k None ≡ Some y) × Follows s.code s.chunk (arrival_stop bases y) x)
+      → MatchOption o (x ≡ first_stop s.chunk) (λ k. (y : Arrival) × (get_or (set slots j (Some a)) k None ≡ Some y) × Follows s.code s.chunk (arrival_stop bases y) x)
   kept_origin x None h = h
   kept_origin x (Some k) (y, e, f) =
       (y, get_or-set_other slots j k (Some a) None (λ same. none-some y (sym free ∙ (ap (λ n. get_or slots n None) (sym same) ∙ e))) ∙ e, f)
@@ -133,10 +132,10 @@ module _ (s : Scene) (bases : List LinkedBase) (slots : List (Option Arrival)) (
     | inr old ↦ come_kept b (all k b old)
   ]
 
-module _ (s : Scene) (d : Departure) (left : IsLeft s d) where
+module _ (s : Seen) (d : Departure) (left : IsLeft s d) where
   pub fall_edge : (row : Row) (t : ℕ) (c : Counts) → row_stop d.visited.bases.now row ≡ (t, c) → t ≡ d.next → falls_for (flow_in d.effect.now) ≡ true → c ≡ falling_on d.visited.bases.now d.here.now.row d.effect.now
-      → Edge (coded (code_seen s)) left.op d.here.now.row.at (counts_of d.visited.bases.now d.here.now.row) row.at (counts_of d.visited.bases.now row)
+      → Edge (coded s.code) left.op d.here.now.row.at (counts_of d.visited.bases.now d.here.now.row) row.at (counts_of d.visited.bases.now row)
   fall_edge row t c same next goes is =
       let there : row.at ≡ t = ap (λ (x : Stop). x.0) same in
       let counts : counts_of d.visited.bases.now row ≡ c = ap (λ (x : Stop). x.1) same in
-      inr (sym (ap falls_for left.does.flow) ∙ goes, there ∙ (next ∙ left.next), counts ∙ (is ∙ falling_known (code_seen s).setting left.op d.visited.bases.now d.here.now.row d.effect.now left.does))
+      inr (sym (ap falls_for left.does.flow) ∙ goes, there ∙ (next ∙ left.next), counts ∙ (is ∙ falling_known s.code.setting left.op d.visited.bases.now d.here.now.row d.effect.now left.does))

@@ -3,10 +3,12 @@ use Rattle.std.specs.Prelude.{◌≡◌, ◌⊎◌, ℕ, ◌+◌, ◌<◌, ◌�
 use Rattle.std.specs.List.{All, Contains}
 use Rattle.grain_values.specs.declared.caps.Caps.{Caps}
 use Rattle.grain_code.specs.InstructionTable.{width_of}
+use Rattle.grain_code.specs.Span.{Span}
 use Rattle.grain_code.specs.Split.{Split}
 use Rattle.grain_code.specs.declared.op.Op.{Op}
 use Rattle.grain_rules.specs.Accepted.{IsFramed}
-use Rattle.grain_rules.specs.Code.{Bytecode, bytecode, coded}
+use Rattle.grain_rules.specs.Code.{Bytecode, bytecode_beside, coded}
+use Rattle.grain_rules.specs.Facts.{Facts}
 use Rattle.grain_rules.specs.Layout.{IsStart}
 use Rattle.grain_rules.specs.Typing.{Passes, Reached}
 use Rattle.grain_rules.specs.declared.error.VerifyError.{VerifyError}
@@ -30,56 +32,66 @@ use Rattle.grain_explain.specs.declared.walk.Departure.{Departure}
 use Rattle.grain_explain.specs.declared.walk.Search.{Search}
 use Rattle.grain_explain.specs.declared.walk.Visited.{Visited}
 
--- the code, in its setting
-abbrev pub code_seen : Scene → Bytecode
-code_seen s = bytecode s.caps s.pools.now s.code.now
+-- what a walk reads: code in its setting, where its instructions begin, and a chunk of it
+pub record Seen : Type 0 where
+  pub code : Bytecode
+  pub starts : List ℕ
+  pub chunk : Span
+
+-- of a scene whose pools say this of themselves
+abbrev pub seen : {P Leads : Type 0} → (P → Facts) → (P → List (List ℕ)) → Scene P Leads → Seen
+seen facts leads s = record {
+  code = bytecode_beside s.caps.0 (facts s.pools.now) (leads s.pools.now) s.code.now;
+  starts = s.starts.now.starts;
+  chunk = s.chunk.now;
+}
 
 -- the starts are those of the code, which is whole instructions
-abbrev pub IsStarted : Scene → Type 0
-IsStarted s = Split s.code.now s.starts.now.starts
+abbrev pub IsStarted : Seen → Type 0
+IsStarted s = Split s.code.bytes s.starts
 
 -- the chunk is framed and holds something besides
-pub record IsReadyScene (s : Scene) : Type 0 where
+pub record IsReadyScene (s : Seen) : Type 0 where
   pub started : IsStarted s
-  pub framed : IsFramed (code_seen s) s.chunk.now
-  pub holds : s.chunk.now.entry < s.chunk.now.end
+  pub framed : IsFramed s.code s.chunk
+  pub holds : s.chunk.entry < s.chunk.end
 
 -- the target that an instruction names is no start of the chunk
-abbrev pub MissesTarget : Scene → ℕ → ℕ → VerifyError → Type 0
+abbrev pub MissesTarget : Seen → ℕ → ℕ → VerifyError → Type 0
 MissesTarget s at target e =
-    ((e ≡ flaws.JumpOutOfRange at target) × ((target < s.chunk.now.entry) ⊎ (s.chunk.now.end ≤ target)))
-    ⊎ ((e ≡ flaws.JumpIntoAnInstruction at target) × (s.chunk.now.entry ≤ target) × (target < s.chunk.now.end) × (IsStart s.code.now target → ⊥))
+    ((e ≡ flaws.JumpOutOfRange at target) × ((target < s.chunk.entry) ⊎ (s.chunk.end ≤ target)))
+    ⊎ ((e ≡ flaws.JumpIntoAnInstruction at target) × (s.chunk.entry ≤ target) × (target < s.chunk.end) × (IsStart s.code.bytes target → ⊥))
 
 -- that of one of these
-abbrev pub MissesTargetOf : Scene → ℕ → List ℕ → VerifyError → Type 0
+abbrev pub MissesTargetOf : Seen → ℕ → List ℕ → VerifyError → Type 0
 MissesTargetOf s at ts e = (t : ℕ) × Contains ts t × MissesTarget s at t e
 
 -- An arrival names a list that is there; it is reached, and is what the chunk begins with, or comes along an edge of what is in
 -- its place.
-pub record IsCome (s : Scene) (bases : List LinkedBase) (slots : List (Option Arrival)) (a : Arrival) : Type 0 where
+pub record IsCome (s : Seen) (bases : List LinkedBase) (slots : List (Option Arrival)) (a : Arrival) : Type 0 where
   pub listed : a.row.bases ≤ length bases
-  pub reached : Reached (coded (code_seen s)) s.chunk.now a.row.at (counts_of bases a.row)
-  pub origin : MatchOption a.from (arrival_stop bases a ≡ first_stop s.chunk.now)
-      (λ k. (y : Arrival) × (get_or slots k None ≡ Some y) × Follows (code_seen s) s.chunk.now (arrival_stop bases y) (arrival_stop bases a))
+  pub reached : Reached (coded s.code) s.chunk a.row.at (counts_of bases a.row)
+  pub origin : MatchOption a.from (arrival_stop bases a ≡ first_stop s.chunk)
+      (λ k. (y : Arrival) × (get_or slots k None ≡ Some y) × Follows s.code s.chunk (arrival_stop bases y) (arrival_stop bases a))
 
-abbrev pub AreCome : Scene → List LinkedBase → List (Option Arrival) → Type 0
+abbrev pub AreCome : Seen → List LinkedBase → List (Option Arrival) → Type 0
 AreCome s bases slots = (k : ℕ) (a : Arrival) → get_or slots k None ≡ Some a → IsCome s bases slots a
 
 -- the same of what a walk has visited
-abbrev pub Comes : Scene → Visited → Arrival → Type 0
+abbrev pub Comes : Seen → Visited → Arrival → Type 0
 Comes s v a = IsCome s v.bases.now v.slots.now a
 
-abbrev pub AreHeld : Scene → Visited → Type 0
+abbrev pub AreHeld : Seen → Visited → Type 0
 AreHeld s v = AreCome s v.bases.now v.slots.now
 
 -- so is all that was visited, and all that waits
-pub record IsSearching (s : Scene) (x : Search) : Type 0 where
+pub record IsSearching (s : Seen) (x : Search) : Type 0 where
   pub linked : AreLinked x.arming.bases.items
   pub held : AreCome s x.arming.bases.items x.slots.items
   pub waits : All (IsCome s x.arming.bases.items x.slots.items) x.work.items
 
-abbrev pub IsRefusalAt : Scene → List LinkedBase → Refusal → Type 0
-IsRefusalAt s bases r = IsShownRefusal (code_seen s) s.chunk.now bases r
+abbrev pub IsRefusalAt : Seen → List LinkedBase → Refusal → Type 0
+IsRefusalAt s bases r = IsShownRefusal s.code s.chunk bases r
 
 -- the counts that stacks are
 abbrev pub stacks_in : List LinkedBase → Stacks → Counts
@@ -102,10 +114,10 @@ pub record Leaves (bases : List LinkedBase) (row : Row) (e : Effect) (l : Leavin
   pub fall : Lands bases l.fall (falling_on bases row e)
 
 -- an instruction that passes is left: this is what it does, what stands on its edges, and where the next one stands
-pub record IsLeft (s : Scene) (d : Departure) : Type 0 where
+pub record IsLeft (s : Seen) (d : Departure) : Type 0 where
   pub op : Op
-  pub does : DoesTo (code_seen s).setting op d.effect.now
-  pub passes : Passes (coded (code_seen s)) s.chunk.now d.here.now.row.at (counts_of d.visited.bases.now d.here.now.row) op
+  pub does : DoesTo s.code.setting op d.effect.now
+  pub passes : Passes (coded s.code) s.chunk d.here.now.row.at (counts_of d.visited.bases.now d.here.now.row) op
   pub next : d.next ≡ d.here.now.row.at + width_of op
   pub come : AreHeld s d.visited
   pub held : get_or d.visited.slots.now d.place None ≡ Some d.here.now

@@ -1,14 +1,14 @@
 //! Whether rows are a stack typing of a chunk.
 ghost use Rattle.std.specs.Prelude.{IfErr, OnOk};
 ghost use Rattle.grain_rules.specs.Accepted.{ChunkPasses};
-ghost use Rattle.grain_rules.specs.Code.{bytecode};
+ghost use Rattle.grain_rules.specs.Code.{bytecode_beside};
 ghost use Rattle.grain_explain.specs.Certificate.{IsCertificate, RowsFlaw};
 
 use crate::claim::Claim;
 use crate::error::TypingError;
 use crate::row::{LinkedBase, Row};
 use grain_code::Chunk;
-use grain_rules::Pools;
+use grain_rules::Read;
 use grain_values::Caps;
 
 /// Whether rows are a stack typing of a chunk within the operands that it declares.
@@ -31,21 +31,27 @@ use grain_values::Caps;
 ///
 /// # Errors
 /// What is wrong with the rows, and of which of them.
-pub fn check_typing(
+pub fn check_typing<P: Read>(
     caps: Caps,
     code: &[u8],
     chunk: &Chunk,
-    pools: &Pools<'_>,
+    pools: &P,
     bases: &[LinkedBase],
     rows: &[Row],
 ) -> Result<(), TypingError>
     ensures yes { OnOk result
-        (IsCertificate (bytecode caps pools.now code.now) chunk.now bases.now rows.now) }
-    ensures passes { OnOk result (ChunkPasses (bytecode caps pools.now code.now) chunk.now) }
-    ensures no { IsCertificate (bytecode caps pools.now code.now) chunk.now bases.now rows.now
-        → IfErr result (λ _. ⊥) }
+        (IsCertificate (bytecode_beside
+        caps.0 (P.facts pools.now) (P.leads pools.now) code.now)
+        chunk.now bases.now rows.now) }
+    ensures passes { OnOk result (ChunkPasses (bytecode_beside
+        caps.0 (P.facts pools.now) (P.leads pools.now) code.now) chunk.now) }
+    ensures no { IsCertificate (bytecode_beside
+        caps.0 (P.facts pools.now) (P.leads pools.now) code.now)
+        chunk.now bases.now rows.now → IfErr result (λ _. ⊥) }
     ensures flaw { IfErr result
-        (RowsFlaw (bytecode caps pools.now code.now) chunk.now bases.now rows.now) }
+        (RowsFlaw (bytecode_beside
+        caps.0 (P.facts pools.now) (P.leads pools.now) code.now)
+        chunk.now bases.now rows.now) }
 {
     let claim = Claim {
         caps,

@@ -6,7 +6,7 @@ ghost use Rattle.grain_rules.specs.Layout.{IsBoundary};
 ghost use Rattle.grain_explain.specs.Claimed.{ArePlaced, AreSound, HasRow, IsLaid, IsSound};
 ghost use Rattle.grain_explain.specs.OnEdges.{IsListedIn};
 ghost use Rattle.grain_explain.specs.Certificate.{IsCertificate};
-ghost use Rattle.grain_explain.specs.Claimed.{RefusesRows, code_claimed, lack_named, span_claimed};
+ghost use Rattle.grain_explain.specs.Claimed.{RefusesRows, claimed, lack_named, span_claimed};
 ghost use Rattle.grain_explain.specs.RowView.{AreAscending, AreLinked, AreListed};
 
 use crate::edge::OnEdge;
@@ -15,30 +15,30 @@ use crate::frame::boundary_from;
 use crate::needs::{Lack, check_needs};
 use crate::row::{LinkedBase, Row};
 use grain_code::{Chunk, count_instructions, decode, width};
-use grain_rules::Pools;
+use grain_rules::Read;
 use grain_values::Caps;
 
 /// Rows that somebody hands in, and the chunk of which they are to be a typing.
-#[derive(Clone, Copy)]
-pub(crate) struct Claim<'a> {
+#[derive(Drop)]
+pub(crate) struct Claim<'a, P: Read> {
     pub(crate) caps: Caps,
     pub(crate) code: &'a [u8],
     pub(crate) chunk: &'a Chunk,
-    pub(crate) pools: &'a Pools<'a>,
+    pub(crate) pools: &'a P,
     pub(crate) bases: &'a [LinkedBase],
     pub(crate) rows: &'a [Row],
     /// How many operands a row may have.
     pub(crate) most: u32,
 }
 
-impl Claim<'_> {
+impl<P: Read> Claim<'_, P> {
     /// Tests that each base names a list before it.
     ///
     /// # Errors
     /// `Unlinked`, of the first that doesn't.
     fn check_bases(&self) -> Result<(), TypingError>
         ensures ok { OnOk result (AreLinked self.now.bases.now) }
-        ensures err { IfErr result (RefusesRows self.now) }
+        ensures err { IfErr result (RefusesRows (claimed P.facts P.leads self.now)) }
     {
         for base in 0..self.bases.len() {
             if self.bases[base].next as usize > base {
@@ -54,7 +54,7 @@ impl Claim<'_> {
     /// `NoList`, of the first that doesn't.
     fn check_lists(&self) -> Result<(), TypingError>
         ensures ok { OnOk result (AreListed self.now.bases.now self.now.rows.now) }
-        ensures err { IfErr result (RefusesRows self.now) }
+        ensures err { IfErr result (RefusesRows (claimed P.facts P.leads self.now)) }
     {
         for (row, here) in self.rows.iter().enumerate() {
             if here.bases as usize > self.bases.len() {
@@ -70,7 +70,7 @@ impl Claim<'_> {
     /// `NotAscending`, of the first that isn't.
     fn check_ascending(&self) -> Result<(), TypingError>
         ensures ok { OnOk result (AreAscending self.now.rows.now) }
-        ensures err { IfErr result (RefusesRows self.now) }
+        ensures err { IfErr result (RefusesRows (claimed P.facts P.leads self.now)) }
     {
         for row in 1..self.rows.len() {
             if self.rows[row].at <= self.rows[row - 1].at {
@@ -92,9 +92,9 @@ impl Claim<'_> {
         requires ordered { self.now.chunk.now.entry ≤ self.now.chunk.now.end }
         requires inside { self.now.chunk.now.end ≤ length self.now.code.now }
         requires ascending { AreAscending self.now.rows.now }
-        ensures placed { OnOk result (ArePlaced self.now) }
+        ensures placed { OnOk result (ArePlaced (claimed P.facts P.leads self.now)) }
         ensures ends { OnOk result (IsBoundary self.now.code.now self.now.chunk.now.end) }
-        ensures err { IfErr result (RefusesRows self.now) }
+        ensures err { IfErr result (RefusesRows (claimed P.facts P.leads self.now)) }
     {
         let mut boundary = from;
         for (row, here) in self.rows.iter().enumerate() {
@@ -115,9 +115,9 @@ impl Claim<'_> {
 
     /// Whether the row at an address, if there is one, has the counts of an edge.
     pub(crate) fn has_row(&self, at: usize, edge: &OnEdge) -> bool
-        requires laid { IsLaid self.now }
+        requires laid { IsLaid (claimed P.facts P.leads self.now) }
         requires listed { IsListedIn self.now.bases.now edge.now.handlers }
-        ensures { IsTrue result ↔ HasRow self.now edge.now at }
+        ensures { IsTrue result ↔ HasRow (claimed P.facts P.leads self.now) edge.now at }
     {
         match self.rows.binary_search_by_key(&at, |row| row.at as usize) {
             Ok(place) => edge.is_at(self.bases, &self.rows[place]),
@@ -130,11 +130,11 @@ impl Claim<'_> {
     /// # Errors
     /// The first test that fails, by its name.
     fn check_row(&self, number: usize, row: &Row) -> Result<(), TypingError>
-        requires laid { IsLaid self.now }
-        requires placed { ArePlaced self.now }
+        requires laid { IsLaid (claimed P.facts P.leads self.now) }
+        requires placed { ArePlaced (claimed P.facts P.leads self.now) }
         requires here { slice_get self.now.rows.now number ≡ Some row.now }
-        ensures sound { OnOk result (IsSound self.now row.now) }
-        ensures err { IfErr result (RefusesRows self.now) }
+        ensures sound { OnOk result (IsSound (claimed P.facts P.leads self.now) row.now) }
+        ensures err { IfErr result (RefusesRows (claimed P.facts P.leads self.now)) }
     {
         if row.operands > self.most {
             return Err(TypingError::TooDeep { row: number });
@@ -158,9 +158,10 @@ impl Claim<'_> {
     /// The first test that fails, by its name.
     pub(crate) fn check(&self) -> Result<(), TypingError>
         ensures yes { OnOk result
-            (IsCertificate (code_claimed self.now) (span_claimed self.now)
+            (IsCertificate (claimed P.facts P.leads self.now).code (span_claimed
+            (claimed P.facts P.leads self.now))
             self.now.bases.now self.now.rows.now) }
-        ensures err { IfErr result (RefusesRows self.now) }
+        ensures err { IfErr result (RefusesRows (claimed P.facts P.leads self.now)) }
     {
         if let Err(at) = count_instructions(self.code) {
             return Err(TypingError::Undecodable { at });
@@ -188,9 +189,10 @@ impl Claim<'_> {
         requires linked { AreLinked self.now.bases.now }
         requires listed { AreListed self.now.bases.now self.now.rows.now }
         ensures yes { OnOk result
-            (IsCertificate (code_claimed self.now) (span_claimed self.now)
+            (IsCertificate (claimed P.facts P.leads self.now).code (span_claimed
+            (claimed P.facts P.leads self.now))
             self.now.bases.now self.now.rows.now) }
-        ensures err { IfErr result (RefusesRows self.now) }
+        ensures err { IfErr result (RefusesRows (claimed P.facts P.leads self.now)) }
     {
         self.check_ascending()?;
         self.check_places(from)?;
@@ -205,10 +207,10 @@ impl Claim<'_> {
     /// # Errors
     /// That of the first row that is refused.
     fn check_rows(&self) -> Result<(), TypingError>
-        requires laid { IsLaid self.now }
-        requires placed { ArePlaced self.now }
-        ensures sound { OnOk result (AreSound self.now) }
-        ensures err { IfErr result (RefusesRows self.now) }
+        requires laid { IsLaid (claimed P.facts P.leads self.now) }
+        requires placed { ArePlaced (claimed P.facts P.leads self.now) }
+        ensures sound { OnOk result (AreSound (claimed P.facts P.leads self.now)) }
+        ensures err { IfErr result (RefusesRows (claimed P.facts P.leads self.now)) }
     {
         for (number, row) in self.rows.iter().enumerate() {
             self.check_row(number, row)?;

@@ -1,13 +1,13 @@
 //! Why a program is accepted or refused, chunk by chunk.
 ghost use Rattle.std.specs.Prelude.{IfErr, IfOk};
 ghost use Rattle.std.specs.List.{AllZip};
-ghost use Rattle.grain_rules.specs.Code.{bytecode};
+ghost use Rattle.grain_rules.specs.Code.{bytecode_beside};
 ghost use Rattle.grain_explain.specs.Explaining.{IsCause, IsExact, IsExplained};
 
 use crate::refusal::{ExplainError, ExplainedChunk};
 use crate::scene::Scene;
 use grain_code::{Chunk, Starts};
-use grain_rules::{Pools, check_code};
+use grain_rules::{Read, check_code};
 use grain_values::Caps;
 use std::alloc::Global;
 
@@ -24,18 +24,21 @@ use std::alloc::Global;
 ///
 /// # Errors
 /// `BadCode` exactly where the code isn't such code; `OutOfMemory`; `Unfinished`.
-pub fn explain_chunks(
+pub fn explain_chunks<P: Read>(
     alloc: Global,
     caps: Caps,
     code: &[u8],
     chunks: &[Chunk],
-    pools: &Pools<'_>,
+    pools: &P,
 ) -> Result<Vec<ExplainedChunk>, ExplainError>
     ensures explained { IfOk result
-        (λ v. AllZip (IsExplained (bytecode caps pools.now code.now)) chunks.now v.items) }
+        (λ v. AllZip (IsExplained (bytecode_beside
+        caps.0 (P.facts pools.now) (P.leads pools.now) code.now)) chunks.now v.items) }
     ensures exact { IfOk result
-        (λ v. AllZip (IsExact (bytecode caps pools.now code.now)) chunks.now v.items) }
-    ensures cause { IfErr result (IsCause (bytecode caps pools.now code.now)) }
+        (λ v. AllZip (IsExact (bytecode_beside
+        caps.0 (P.facts pools.now) (P.leads pools.now) code.now)) chunks.now v.items) }
+    ensures cause { IfErr result (IsCause (bytecode_beside
+        caps.0 (P.facts pools.now) (P.leads pools.now) code.now)) }
 {
     if check_code(pools, code).is_err() {
         return Err(ExplainError::BadCode);

@@ -4,7 +4,8 @@ ghost use Rattle.std.specs.List.{All, AllZip};
 ghost use Rattle.grain_rules.specs.Flaw.{ChunkFlaw};
 ghost use Rattle.grain_explain.specs.Explaining.{IsExplained, IsOrigin, IsReachedRow, IsTypedBy};
 ghost use Rattle.grain_explain.specs.Scenes.{AreHeld, Comes, IsReadyScene, IsRefusalAt};
-ghost use Rattle.grain_explain.specs.Scenes.{IsSearching, IsStarted, code_seen};
+ghost use Rattle.grain_explain.specs.Scenes.{IsSearching, IsStarted, seen};
+ghost use Rattle.grain_explain.specs.Claimed.{claimed};
 ghost use Rattle.grain_explain.specs.RowView.{AreLinked};
 ghost use Rattle.grain_explain.specs.Ways.{IsFrameFlaw};
 
@@ -16,7 +17,7 @@ use crate::row::{LinkedBase, Row};
 use crate::scene::Scene;
 use crate::stacks::Arming;
 use crate::walk::{Search, Visited};
-use grain_rules::VerifyError;
+use grain_rules::{Read, VerifyError};
 
 /// The rows of what was come to, and where each was come from.
 #[derive(Drop)]
@@ -25,14 +26,15 @@ pub(crate) struct Rows {
     pub(crate) origins: Vec<Option<u32>>,
 }
 
-impl Scene<'_> {
+impl<P: Read> Scene<'_, P> {
     /// Explains the chunk.
     ///
     /// # Errors
     /// `OutOfMemory`, `Unfinished`.
     pub(crate) fn explain(&self) -> Result<ExplainedChunk, SearchError>
-        requires { IsStarted self.now }
-        ensures { IfOk result (IsExplained (code_seen self.now) self.now.chunk.now) }
+        requires { IsStarted (seen P.facts P.leads self.now) }
+        ensures { IfOk result (IsExplained (seen P.facts P.leads self.now).code
+            self.now.chunk.now) }
     {
         if let Err(error) = self.check_frame() {
             return Ok(self.frame_refused(error));
@@ -64,9 +66,9 @@ impl Scene<'_> {
 
     /// What is said of a chunk whose frame is refused.
     fn frame_refused(&self, error: VerifyError) -> ExplainedChunk
-        requires flaw { ChunkFlaw (code_seen self.now) self.now.chunk.now error }
-        requires frame { IsFrameFlaw (code_seen self.now) self.now.chunk.now error }
-        ensures { IsExplained (code_seen self.now) self.now.chunk.now result }
+        requires flaw { ChunkFlaw (seen P.facts P.leads self.now).code self.now.chunk.now error }
+        requires frame { IsFrameFlaw (seen P.facts P.leads self.now).code self.now.chunk.now error }
+        ensures { IsExplained (seen P.facts P.leads self.now).code self.now.chunk.now result }
     {
         ExplainedChunk {
             rows: Vec::new(self.alloc),
@@ -85,7 +87,7 @@ impl Scene<'_> {
     /// # Errors
     /// `OutOfMemory`.
     fn begin(&self) -> Result<Search, SearchError>
-        ensures { IfOk result (IsSearching self.now) }
+        ensures { IfOk result (IsSearching (seen P.facts P.leads self.now)) }
     {
         let mut work = Vec::new(self.alloc);
         work.push(Arrival {
@@ -121,12 +123,13 @@ impl Scene<'_> {
     /// # Errors
     /// `OutOfMemory`, `Unfinished`.
     fn rows_of(&self, visited: &Visited<'_>) -> Result<Rows, SearchError>
-        requires { AreHeld self.now visited.now }
+        requires { AreHeld (seen P.facts P.leads self.now) visited.now }
         ensures reached { IfOk result (λ x. All
-            (IsReachedRow (code_seen self.now) self.now.chunk.now visited.now.bases.now)
+            (IsReachedRow (seen P.facts P.leads self.now).code self.now.chunk.now
+            visited.now.bases.now)
             x.rows.items) }
         ensures origins { IfOk result (λ x. AllZip
-            (IsOrigin (code_seen self.now) self.now.chunk.now visited.now.bases.now)
+            (IsOrigin (seen P.facts P.leads self.now).code self.now.chunk.now visited.now.bases.now)
             x.rows.items x.origins.items) }
         ensures listed { IfOk result (λ x. All
             (λ r. r.bases ≤ length visited.now.bases.now) x.rows.items) }
@@ -152,10 +155,11 @@ impl Scene<'_> {
         visited: &Visited<'_>,
         arrival: &Arrival,
     ) -> Result<Option<u32>, SearchError>
-        requires come { AreHeld self.now visited.now }
-        requires arrival { Comes self.now visited.now arrival.now }
+        requires come { AreHeld (seen P.facts P.leads self.now) visited.now }
+        requires arrival { Comes (seen P.facts P.leads self.now) visited.now arrival.now }
         ensures { IfOk result (IsOrigin
-            (code_seen self.now) self.now.chunk.now visited.now.bases.now arrival.now.row) }
+            (seen P.facts P.leads self.now).code self.now.chunk.now
+            visited.now.bases.now arrival.now.row) }
     {
         let Some(place) = arrival.from else {
             return Ok(None);
@@ -171,15 +175,17 @@ impl Scene<'_> {
     /// # Errors
     /// `OutOfMemory`, `Unfinished`.
     fn certify(&self, visited: &Visited<'_>, rows: &[Row]) -> Result<Option<Refusal>, SearchError>
-        requires ready { IsReadyScene self.now }
+        requires ready { IsReadyScene (seen P.facts P.leads self.now) }
         requires linked { AreLinked visited.now.bases.now }
         requires listed { All (λ r. r.bases ≤ length visited.now.bases.now) rows.now }
-        requires come { AreHeld self.now visited.now }
+        requires come { AreHeld (seen P.facts P.leads self.now) visited.now }
         requires reached { All (IsReachedRow
-            (code_seen self.now) self.now.chunk.now visited.now.bases.now) rows.now }
+            (seen P.facts P.leads self.now).code self.now.chunk.now
+            visited.now.bases.now) rows.now }
         ensures { IfOk result (λ r. MatchOption r
-            (IsTypedBy (code_seen self.now) self.now.chunk.now visited.now.bases.now rows.now)
-            (IsRefusalAt self.now visited.now.bases.now)) }
+            (IsTypedBy (seen P.facts P.leads self.now).code self.now.chunk.now visited.now.bases.now
+            rows.now)
+            (IsRefusalAt (seen P.facts P.leads self.now) visited.now.bases.now)) }
     {
         let claim = self.claim(visited.bases, rows, u32::from(self.chunk.max_stack()));
         match claim.check_from(self.chunk.entry() as usize) {
@@ -190,14 +196,12 @@ impl Scene<'_> {
     }
 
     /// Rows with the chunk, of which each may have so many operands.
-    fn claim<'a>(&'a self, bases: &'a [LinkedBase], rows: &'a [Row], most: u32) -> Claim<'a>
-        ensures { result ≡ record {
-          caps = self.now.caps;
-          code = self.now.code;
-          chunk = self.now.chunk;
-          pools = self.now.pools;
-          bases = bases.entry;
-          rows = rows.entry;
+    fn claim<'a>(&'a self, bases: &'a [LinkedBase], rows: &'a [Row], most: u32) -> Claim<'a, P>
+        ensures { claimed P.facts P.leads result ≡ record {
+          code = (seen P.facts P.leads self.now).code;
+          chunk = self.now.chunk.now;
+          bases = bases.now;
+          rows = rows.now;
           most = most;
         } }
     {
@@ -217,13 +221,14 @@ impl Scene<'_> {
     /// # Errors
     /// `OutOfMemory`, `Unfinished`.
     fn too_deep(&self, visited: &Visited<'_>, rows: &[Row]) -> Result<Refusal, SearchError>
-        requires ready { IsReadyScene self.now }
+        requires ready { IsReadyScene (seen P.facts P.leads self.now) }
         requires linked { AreLinked visited.now.bases.now }
         requires listed { All (λ r. r.bases ≤ length visited.now.bases.now) rows.now }
-        requires come { AreHeld self.now visited.now }
+        requires come { AreHeld (seen P.facts P.leads self.now) visited.now }
         requires reached { All (IsReachedRow
-            (code_seen self.now) self.now.chunk.now visited.now.bases.now) rows.now }
-        ensures { IfOk result (IsRefusalAt self.now visited.now.bases.now) }
+            (seen P.facts P.leads self.now).code self.now.chunk.now
+            visited.now.bases.now) rows.now }
+        ensures { IfOk result (IsRefusalAt (seen P.facts P.leads self.now) visited.now.bases.now) }
     {
         let needed = greatest(rows);
         let declared = self.chunk.max_stack();
@@ -246,8 +251,9 @@ impl Scene<'_> {
 
     /// What was come to with so many operands.
     fn deepest<'a>(&self, visited: &Visited<'a>, operands: u32) -> Option<&'a Arrival>
-        requires { AreHeld self.now visited.now }
-        ensures come { IfSome result (λ a. Comes self.now visited.now a.now) }
+        requires { AreHeld (seen P.facts P.leads self.now) visited.now }
+        ensures come { IfSome result (λ a. Comes
+            (seen P.facts P.leads self.now) visited.now a.now) }
         ensures deep { IfSome result (λ a. a.now.row.operands ≡ operands) }
     {
         for slot in visited.slots {

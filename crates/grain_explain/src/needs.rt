@@ -1,7 +1,7 @@
 //! What an operation finds lacking.
 ghost use Rattle.std.specs.Prelude.{◌≡◌, ◌≤◌, IfErr, IfOk, OnOk, length};
 ghost use Rattle.grain_rules.specs.Counts.{last_base};
-ghost use Rattle.grain_rules.specs.Setting.{setting};
+ghost use Rattle.grain_rules.specs.Setting.{with_caps};
 ghost use Rattle.grain_rules.specs.Sinking.{ReachesUpTo};
 ghost use Rattle.grain_explain.specs.Lacking.{DoesTo, HasAll, IsReserve, FindsLacking};
 ghost use Rattle.grain_explain.specs.RowView.{AreLinked, base_of, counts_of, list_in};
@@ -9,7 +9,7 @@ ghost use Rattle.grain_explain.specs.RowView.{AreLinked, base_of, counts_of, lis
 use crate::lists::first_base;
 use crate::row::{LinkedBase, Row};
 use grain_code::Op;
-use grain_rules::{Effect, Pools, asked_beside, missing};
+use grain_rules::{Effect, Read, asked_beside, missing};
 use grain_values::{Caps, Flags};
 use std::marker::Model;
 
@@ -33,9 +33,9 @@ pub(crate) enum Lack {
 ///
 /// # Errors
 /// What it finds lacking first.
-pub(crate) fn check_needs(
+pub(crate) fn check_needs<P: Read>(
     caps: Caps,
-    pools: &Pools<'_>,
+    pools: &P,
     op: &Op,
     bases: &[LinkedBase],
     row: &Row,
@@ -43,10 +43,10 @@ pub(crate) fn check_needs(
     requires linked { AreLinked bases.now }
     requires listed { row.now.bases ≤ length bases.now }
     ensures has { OnOk result
-        (HasAll (setting caps pools.now) op.now (counts_of bases.now row.now)) }
-    ensures does { IfOk result (DoesTo (setting caps pools.now) op.now) }
-    ensures lacks { IfErr result
-        (FindsLacking (setting caps pools.now) op.now (counts_of bases.now row.now)) }
+        (HasAll (with_caps caps.0 (P.facts pools.now)) op.now (counts_of bases.now row.now)) }
+    ensures does { IfOk result (DoesTo (with_caps caps.0 (P.facts pools.now)) op.now) }
+    ensures lacks { IfErr result (FindsLacking
+        (with_caps caps.0 (P.facts pools.now)) op.now (counts_of bases.now row.now)) }
 {
     let effect = Effect::of(op, pools);
     let absent = missing(caps, asked_beside(pools, effect.asks));

@@ -5,29 +5,29 @@ ghost use Rattle.grain_rules.specs.Code.{coded};
 ghost use Rattle.grain_rules.specs.Flaw.{ChunkFlaw};
 ghost use Rattle.grain_rules.specs.Layout.{IsBoundary, IsStart};
 ghost use Rattle.grain_rules.specs.Typing.{IsInChunk};
-ghost use Rattle.grain_explain.specs.Scenes.{IsStarted, MissesTarget, code_seen};
+ghost use Rattle.grain_explain.specs.Scenes.{IsStarted, MissesTarget, seen};
 ghost use Rattle.grain_explain.specs.Ways.{IsFrameFlaw};
 
 use grain_code::{Chunk, Starts};
-use grain_rules::{Pools, VerifyError};
+use grain_rules::{Read, VerifyError};
 use grain_values::Caps;
 use std::alloc::Global;
 
 /// A chunk in its code and its setting, with the starts of the code.
-#[derive(Clone, Copy)]
-pub(crate) struct Scene<'a> {
+#[derive(Drop)]
+pub(crate) struct Scene<'a, P: Read> {
     pub(crate) alloc: Global,
     pub(crate) caps: Caps,
     pub(crate) code: &'a [u8],
     pub(crate) chunk: &'a Chunk,
-    pub(crate) pools: &'a Pools<'a>,
+    pub(crate) pools: &'a P,
     pub(crate) starts: &'a Starts,
 }
 
-impl Scene<'_> {
+impl<P: Read> Scene<'_, P> {
     /// Whether an instruction begins at an address.
     fn is_start(&self, at: usize) -> bool
-        requires { IsStarted self.now }
+        requires { IsStarted (seen P.facts P.leads self.now) }
         ensures { IsTrue result ↔ IsStart self.now.code.now at }
     {
         self.starts.contains(at)
@@ -35,7 +35,7 @@ impl Scene<'_> {
 
     /// Whether an instruction begins at an address, or the code ends there.
     fn is_boundary(&self, at: usize) -> bool
-        requires { IsStarted self.now }
+        requires { IsStarted (seen P.facts P.leads self.now) }
         ensures { IsTrue result ↔ IsBoundary self.now.code.now at }
     {
         at == self.code.len() || self.is_start(at)
@@ -46,11 +46,13 @@ impl Scene<'_> {
     /// # Errors
     /// `ChunkOutOfRange`; `FallsOffTheEnd` where it is empty; `JumpIntoAnInstruction` to its entry or its end.
     pub(crate) fn check_frame(&self) -> Result<(), VerifyError>
-        requires { IsStarted self.now }
-        ensures framed { OnOk result (IsFramed (code_seen self.now) self.now.chunk.now) }
+        requires { IsStarted (seen P.facts P.leads self.now) }
+        ensures framed { OnOk result (IsFramed (seen P.facts P.leads self.now).code
+            self.now.chunk.now) }
         ensures holds { OnOk result (self.now.chunk.now.entry < self.now.chunk.now.end) }
-        ensures err { IfErr result (λ e. ChunkFlaw (code_seen self.now) self.now.chunk.now e
-            × IsFrameFlaw (code_seen self.now) self.now.chunk.now e) }
+        ensures err { IfErr result (λ e. ChunkFlaw (seen P.facts P.leads self.now).code
+            self.now.chunk.now e
+            × IsFrameFlaw (seen P.facts P.leads self.now).code self.now.chunk.now e) }
     {
         let chunk = self.chunk;
         let entry = chunk.entry() as usize;
@@ -86,10 +88,10 @@ impl Scene<'_> {
     /// # Errors
     /// `JumpOutOfRange` or `JumpIntoAnInstruction`.
     pub(crate) fn check_target(&self, at: u32, target: u32) -> Result<(), VerifyError>
-        requires { IsStarted self.now }
+        requires { IsStarted (seen P.facts P.leads self.now) }
         ensures inside { OnOk result
-            (IsInChunk (coded (code_seen self.now)) self.now.chunk.now target) }
-        ensures err { IfErr result (MissesTarget self.now at target) }
+            (IsInChunk (coded (seen P.facts P.leads self.now).code) self.now.chunk.now target) }
+        ensures err { IfErr result (MissesTarget (seen P.facts P.leads self.now) at target) }
     {
         let at = at as usize;
         if target < self.chunk.entry() || target >= self.chunk.end() {

@@ -8,7 +8,7 @@ ghost use Rattle.grain_rules.specs.EffectView.{flow_in};
 ghost use Rattle.grain_explain.specs.Scenes.{AreCome, AreHeld, Comes, IsCome, IsReadyScene};
 ghost use Rattle.grain_explain.specs.Scenes.{IsRefusalAt};
 ghost use Rattle.grain_explain.specs.Scenes.{IsSearching};
-ghost use Rattle.grain_explain.specs.Scenes.{Extends, IsLeft, MissesTargetOf, code_seen, error_lacking};
+ghost use Rattle.grain_explain.specs.Scenes.{Extends, IsLeft, MissesTargetOf, error_lacking, seen};
 ghost use Rattle.grain_explain.specs.RowView.{AreLinked};
 ghost use Rattle.grain_explain.specs.Ways.{IsWayTo, Shows, arrival_stop, stops_of};
 
@@ -21,7 +21,7 @@ use crate::scene::Scene;
 use crate::stacks::{Arming, Leaving};
 use crate::switches::targets_of;
 use grain_code::{decode, width};
-use grain_rules::{Effect, VerifyError};
+use grain_rules::{Effect, Read, VerifyError};
 
 /// What a walk has visited, by the distance from the chunk's entry, what waits, and the handlers that it has seen armed.
 #[derive(Drop)]
@@ -49,19 +49,21 @@ pub(crate) struct Departure<'a> {
     pub(crate) next: usize,
 }
 
-impl Scene<'_> {
+impl<P: Read> Scene<'_, P> {
     /// Walks until nothing waits, or a flaw is met.
     ///
     /// # Errors
     /// `OutOfMemory`, `Unfinished`.
     pub(crate) fn run(&self, search: &mut Search) -> Result<Option<Refusal>, SearchError>
-        requires ready { IsReadyScene self.now }
-        requires searching { IsSearching self.now search.old }
+        requires ready { IsReadyScene (seen P.facts P.leads self.now) }
+        requires searching { IsSearching (seen P.facts P.leads self.now) search.old }
         ensures come { OnOk result
-            (AreCome self.now search.new.arming.bases.items search.new.slots.items) }
+            (AreCome (seen P.facts P.leads self.now)
+            search.new.arming.bases.items search.new.slots.items) }
         ensures linked { OnOk result (AreLinked search.new.arming.bases.items) }
         ensures refusal { IfOk result
-            (λ r. IfSome r (IsRefusalAt self.now search.new.arming.bases.items)) }
+            (λ r. IfSome r (IsRefusalAt (seen P.facts P.leads self.now)
+            search.new.arming.bases.items)) }
     {
         for _ in 0..u64::MAX {
             let Some(arrival) = search.work.pop() else {
@@ -80,13 +82,14 @@ impl Scene<'_> {
     /// # Errors
     /// `OutOfMemory`, `Unfinished`.
     fn arrive(&self, search: &mut Search, arrival: Arrival) -> Result<Option<Refusal>, SearchError>
-        requires ready { IsReadyScene self.now }
-        requires searching { IsSearching self.now search.old }
-        requires come { IsCome self.now search.old.arming.bases.items
+        requires ready { IsReadyScene (seen P.facts P.leads self.now) }
+        requires searching { IsSearching (seen P.facts P.leads self.now) search.old }
+        requires come { IsCome (seen P.facts P.leads self.now) search.old.arming.bases.items
             search.old.slots.items arrival }
-        ensures searching { OnOk result (IsSearching self.now search.new) }
+        ensures searching { OnOk result (IsSearching (seen P.facts P.leads self.now) search.new) }
         ensures refusal { IfOk result
-            (λ r. IfSome r (IsRefusalAt self.now search.new.arming.bases.items)) }
+            (λ r. IfSome r (IsRefusalAt (seen P.facts P.leads self.now)
+            search.new.arming.bases.items)) }
     {
         let place = (arrival.row.at as usize).saturating_sub(self.chunk.entry() as usize);
         match search.slots.get(place) {
@@ -112,12 +115,13 @@ impl Scene<'_> {
         before: &Arrival,
         arrival: &Arrival,
     ) -> Result<Option<Refusal>, SearchError>
-        requires ready { IsReadyScene self.now }
+        requires ready { IsReadyScene (seen P.facts P.leads self.now) }
         requires linked { AreLinked visited.now.bases.now }
-        requires come { AreHeld self.now visited.now }
-        requires before { Comes self.now visited.now before.now }
-        requires arrival { Comes self.now visited.now arrival.now }
-        ensures { IfOk result (λ r. IfSome r (IsRefusalAt self.now visited.now.bases.now)) }
+        requires come { AreHeld (seen P.facts P.leads self.now) visited.now }
+        requires before { Comes (seen P.facts P.leads self.now) visited.now before.now }
+        requires arrival { Comes (seen P.facts P.leads self.now) visited.now arrival.now }
+        ensures { IfOk result (λ r. IfSome r (IsRefusalAt (seen P.facts P.leads self.now)
+            visited.now.bases.now)) }
     {
         let at = before.row.at;
         if at != arrival.row.at || self.check_target(at, at).is_err() {
@@ -147,15 +151,16 @@ impl Scene<'_> {
         place: usize,
         arrival: Arrival,
     ) -> Result<Option<Refusal>, SearchError>
-        requires ready { IsReadyScene self.now }
-        requires searching { IsSearching self.now search.old }
-        requires come { IsCome self.now search.old.arming.bases.items
+        requires ready { IsReadyScene (seen P.facts P.leads self.now) }
+        requires searching { IsSearching (seen P.facts P.leads self.now) search.old }
+        requires come { IsCome (seen P.facts P.leads self.now) search.old.arming.bases.items
             search.old.slots.items arrival }
         requires inside { place < length search.old.slots.items }
         requires free { get_or search.old.slots.items place None ≡ None }
-        ensures searching { OnOk result (IsSearching self.now search.new) }
+        ensures searching { OnOk result (IsSearching (seen P.facts P.leads self.now) search.new) }
         ensures refusal { IfOk result
-            (λ r. IfSome r (IsRefusalAt self.now search.new.arming.bases.items)) }
+            (λ r. IfSome r (IsRefusalAt (seen P.facts P.leads self.now)
+            search.new.arming.bases.items)) }
     {
         search.slots[place] = Some(arrival);
         self.look(
@@ -179,16 +184,18 @@ impl Scene<'_> {
         arming: &mut Arming,
         work: &mut Vec<Arrival>,
     ) -> Result<Option<Refusal>, SearchError>
-        requires ready { IsReadyScene self.now }
+        requires ready { IsReadyScene (seen P.facts P.leads self.now) }
         requires linked { AreLinked arming.old.bases.items }
-        requires come { AreCome self.now arming.old.bases.items slots.now }
+        requires come { AreCome (seen P.facts P.leads self.now) arming.old.bases.items slots.now }
         requires held { get_or slots.now place None ≡ Some here.now }
-        requires waits { All (IsCome self.now arming.old.bases.items slots.now) work.old.items }
+        requires waits { All (IsCome
+            (seen P.facts P.leads self.now) arming.old.bases.items slots.now) work.old.items }
         ensures extends { OnOk result (Extends arming.old.bases.items arming.new.bases.items) }
         ensures waits { OnOk result
-            (All (IsCome self.now arming.new.bases.items slots.now) work.new.items) }
+            (All (IsCome (seen P.facts P.leads self.now) arming.new.bases.items slots.now)
+            work.new.items) }
         ensures refusal { IfOk result
-            (λ r. IfSome r (IsRefusalAt self.now arming.new.bases.items)) }
+            (λ r. IfSome r (IsRefusalAt (seen P.facts P.leads self.now) arming.new.bases.items)) }
     {
         let row = &here.row;
         let at = row.at as usize;
@@ -263,12 +270,15 @@ impl Scene<'_> {
         departure: &Departure<'_>,
         work: &mut Vec<Arrival>,
     ) -> Result<Option<Refusal>, SearchError>
-        requires ready { IsReadyScene self.now }
-        requires left { IsLeft self.now departure.now }
-        requires waits { All (Comes self.now departure.now.visited) work.old.items }
-        ensures waits { OnOk result (All (Comes self.now departure.now.visited) work.new.items) }
+        requires ready { IsReadyScene (seen P.facts P.leads self.now) }
+        requires left { IsLeft (seen P.facts P.leads self.now) departure.now }
+        requires waits { All (Comes (seen P.facts P.leads self.now) departure.now.visited)
+            work.old.items }
+        ensures waits { OnOk result (All (Comes
+            (seen P.facts P.leads self.now) departure.now.visited) work.new.items) }
         ensures refusal { IfOk result
-            (λ r. IfSome r (IsRefusalAt self.now departure.now.visited.bases.now)) }
+            (λ r. IfSome r (IsRefusalAt
+            (seen P.facts P.leads self.now) departure.now.visited.bases.now)) }
     {
         let here = departure.here;
         let effect = departure.effect;
@@ -294,13 +304,16 @@ impl Scene<'_> {
         departure: &Departure<'_>,
         work: &mut Vec<Arrival>,
     ) -> Result<Option<Refusal>, SearchError>
-        requires ready { IsReadyScene self.now }
-        requires left { IsLeft self.now departure.now }
+        requires ready { IsReadyScene (seen P.facts P.leads self.now) }
+        requires left { IsLeft (seen P.facts P.leads self.now) departure.now }
         requires falls { falls_for (flow_in departure.now.effect.now) ≡ true }
-        requires waits { All (Comes self.now departure.now.visited) work.old.items }
-        ensures waits { OnOk result (All (Comes self.now departure.now.visited) work.new.items) }
+        requires waits { All (Comes (seen P.facts P.leads self.now) departure.now.visited)
+            work.old.items }
+        ensures waits { OnOk result (All (Comes
+            (seen P.facts P.leads self.now) departure.now.visited) work.new.items) }
         ensures refusal { IfOk result
-            (λ r. IfSome r (IsRefusalAt self.now departure.now.visited.bases.now)) }
+            (λ r. IfSome r (IsRefusalAt
+            (seen P.facts P.leads self.now) departure.now.visited.bases.now)) }
     {
         if departure.next == self.chunk.end() as usize {
             let error = VerifyError::FallsOffTheEnd;
@@ -322,8 +335,8 @@ impl Scene<'_> {
     /// # Errors
     /// That of the first that is none.
     fn check_targets(&self, at: u32, targets: &[u32]) -> Result<(), VerifyError>
-        requires { IsReadyScene self.now }
-        ensures { IfErr result (MissesTargetOf self.now at targets.now) }
+        requires { IsReadyScene (seen P.facts P.leads self.now) }
+        ensures { IfErr result (MissesTargetOf (seen P.facts P.leads self.now) at targets.now) }
     {
         for target in targets {
             self.check_target(at, *target)?;
@@ -341,11 +354,13 @@ impl Scene<'_> {
         targets: &[u32],
         work: &mut Vec<Arrival>,
     ) -> Result<(), SearchError>
-        requires left { IsLeft self.now departure.now }
-        requires targets { targets.now ≡ targets_for (code_seen self.now).switches
+        requires left { IsLeft (seen P.facts P.leads self.now) departure.now }
+        requires targets { targets.now ≡ targets_for (seen P.facts P.leads self.now).code.switches
             (flow_in departure.now.effect.now) }
-        requires waits { All (Comes self.now departure.now.visited) work.old.items }
-        ensures { OnOk result (All (Comes self.now departure.now.visited) work.new.items) }
+        requires waits { All (Comes (seen P.facts P.leads self.now) departure.now.visited)
+            work.old.items }
+        ensures { OnOk result (All (Comes (seen P.facts P.leads self.now) departure.now.visited)
+            work.new.items) }
     {
         for target in targets {
             work.push(Arrival {
@@ -366,12 +381,12 @@ impl Scene<'_> {
         here: &Arrival,
         error: VerifyError,
     ) -> Result<Refusal, SearchError>
-        requires come { AreHeld self.now visited.now }
-        requires here { Comes self.now visited.now here.now }
-        requires shows { Shows (code_seen self.now) self.now.chunk.now
+        requires come { AreHeld (seen P.facts P.leads self.now) visited.now }
+        requires here { Comes (seen P.facts P.leads self.now) visited.now here.now }
+        requires shows { Shows (seen P.facts P.leads self.now).code self.now.chunk.now
             (arrival_stop visited.now.bases.now here.now) error }
-        requires flaw { ChunkFlaw (code_seen self.now) self.now.chunk.now error }
-        ensures { IfOk result (IsRefusalAt self.now visited.now.bases.now) }
+        requires flaw { ChunkFlaw (seen P.facts P.leads self.now).code self.now.chunk.now error }
+        ensures { IfOk result (IsRefusalAt (seen P.facts P.leads self.now) visited.now.bases.now) }
     {
         Ok(Refusal {
             error,
@@ -385,9 +400,9 @@ impl Scene<'_> {
     /// # Errors
     /// `OutOfMemory`, `Unfinished`.
     fn way_to(&self, visited: &Visited<'_>, last: &Arrival) -> Result<Vec<Row>, SearchError>
-        requires come { AreHeld self.now visited.now }
-        requires last { Comes self.now visited.now last.now }
-        ensures { IfOk result (λ v. IsWayTo (code_seen self.now) self.now.chunk.now
+        requires come { AreHeld (seen P.facts P.leads self.now) visited.now }
+        requires last { Comes (seen P.facts P.leads self.now) visited.now last.now }
+        ensures { IfOk result (λ v. IsWayTo (seen P.facts P.leads self.now).code self.now.chunk.now
             (arrival_stop visited.now.bases.now last.now)
             (stops_of visited.now.bases.now v.items)) }
     {

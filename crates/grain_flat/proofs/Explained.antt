@@ -1,22 +1,16 @@
--- One chunk that is explained, beside the pools that are made of a flat form.
-use Rattle.std.proofs.Common.{◌≡◌, ℕ, List, [], ◌∷◌, ◌++◌, length, map, ap, refl, sym, subst, ◌∙◌, arith}
+-- One chunk that is explained, beside rows.
+use Rattle.std.proofs.Common.{◌≡◌, ℕ, List, [], ◌∷◌, ◌++◌, length, ap, sym, subst, arith}
 use Rattle.std.specs.List.{AllZip}
 use Rattle.std.proofs.lemmas.List.{length-append}
-use Rattle.grain_rules.specs.Code.{Bytecode, bytecode_beside, switch_targets}
-use Rattle.grain_bytecode.specs.Dispatch.{arms, arm_targets}
-use Rattle.grain_rules.specs.Facts.{case_consts, facts_with}
-use Rattle.grain_names.specs.Names.{names_in}
+use Rattle.grain_rules.specs.Code.{Bytecode}
 use Rattle.grain_rules.specs.Accepted.{AreIndexed}
 use Rattle.grain_explain.specs.Explaining.{IsCause, IsExact, IsExplained}
 use Rattle.grain_bytecode.specs.Span.{Span}
 use Rattle.grain_explain.specs.declared.refusal.ExplainError.{ExplainError}
 use Rattle.grain_explain.specs.declared.refusal.ExplainedChunk.{ExplainedChunk}
-use Rattle.grain_bytecode.specs.declared.Chain.{Chain}
-use Rattle.grain_bytecode.specs.declared.Switch.{Switch}
 use Rattle.grain_flat.specs.Explaining.{Beside, IsFlatCause}
-use Rattle.grain_flat.specs.Flat.{arm_constants, code_with}
+use Rattle.grain_flat.specs.Flat.{code_with}
 use Rattle.grain_flat.specs.declared.records.CPools.{CPools}
-use Rattle.grain_flat.proofs.ChainRows.{map_told}
 
 -- what is related to one thing alone is the last
 one_of : {A B : Type 0} (R : A → B → Type 0) (a : A) (items rest : List B) (x : B) → AllZip R (a ∷ []) items → items ≡ rest ++ x ∷ [] → R a x
@@ -31,14 +25,6 @@ one_explained code beside s chunk items rest x explained exact last same here =
     let found : IsExplained code s x × IsExact code s x = (one_of (IsExplained code) s items rest x explained last, one_of (IsExact code) s items rest x exact last) in
     let within : IsExplained beside s x × IsExact beside s x = subst (λ (b : Bytecode). IsExplained b s x × IsExact b s x) same found in
     subst (λ (c : Span). IsExplained beside c x × IsExact beside c x) here within
-
--- the code, by the parts of what is made
-pub beside_made : (caps : ℕ) (bytes : List ℕ) (p : CPools) (names : List (List ℕ)) (chains made : List Chain) (switches given : List Switch) → names ≡ names_in p.names.now p.starts.now → chains ≡ made → switches ≡ given
-    → bytecode_beside caps (facts_with (length p.constants.now) names p.operators p.op_assignments p.fragments chains switches) (map switch_targets switches) bytes ≡ code_with caps bytes p made (map arms given)
-beside_made caps bytes p names chains made switches given names_are chains_are switches_are =
-    let cases = ap (map case_consts) switches_are ∙ map_told case_consts arms arm_constants (λ s. refl) given in
-    let leads = ap (map switch_targets) switches_are ∙ map_told switch_targets arms arm_targets (λ s. refl) given in
-    λ k. bytecode_beside caps (record (facts_with (length p.constants.now) (names_are k) p.operators p.op_assignments p.fragments (chains_are k) []) { cases = cases k }) (leads k) bytes
 
 -- why nothing is explained, of the flat form
 pub flat_cause : (caps : ℕ) (bytes : List ℕ) (p : CPools) (beside : Beside p) (code : Bytecode) (e : ExplainError) → code ≡ code_with caps bytes p beside.chains beside.switches → IsCause code e → IsFlatCause caps bytes p e

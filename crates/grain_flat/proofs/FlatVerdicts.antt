@@ -1,9 +1,10 @@
 -- A verdict on what was made is one on all with the flat form.
-use Rattle.std.proofs.Common.{◌≡◌, ◌<◌, ◌^◌, ℕ, List, [], length, Result, Ok, Err, Vec, inr, subst}
+use Rattle.std.proofs.Common.{◌≡◌, ◌<◌, ◌^◌, ℕ, List, [], ap, length, Result, Ok, Err, Vec, inr, subst}
 use Rattle.std.specs.List.{All}
 use Rattle.std.specs.declared.alloc.Global.{Global}
 use Rattle.std.proofs.lemmas.Slice.Zip.{AllZip-long}
 use Rattle.grain_rules.specs.Accepted.{Input, input_beside}
+use Rattle.grain_rules.specs.Code.{Bytecode}
 use Rattle.grain_bytecode.specs.Dispatch.{Arms}
 use Rattle.grain_bytecode.specs.Span.{Span}
 use Rattle.grain_bytecode.specs.declared.Chain.{Chain}
@@ -15,9 +16,8 @@ use Rattle.grain_flat.specs.Judging.{AreSome, IsFlatMetered, IsFlatVerdict, IsMe
 use Rattle.grain_flat.specs.declared.judge.Stop.{Stop}
 use Rattle.grain_flat.specs.declared.judge.Stop.TheVariants as stops
 use Rattle.grain_flat.specs.declared.records.CPools.{CPools}
-use Rattle.grain_flat.proofs.ChainRows.{told_by_rows}
-use Rattle.grain_flat.proofs.Flatness.{are_told, pooled, told_switches}
-use Rattle.grain_flat.proofs.SwitchTold.{cases_are_told, leads_are_told}
+use Rattle.grain_flat.proofs.CodeTold.{code_told, told_of}
+use Rattle.grain_flat.proofs.Flatness.{told_switches}
 use Rattle.grain_flat.proofs.FlatAlike.{AreOf}
 use Rattle.grain_flat.proofs.Wholes.{accepted, accepted_back, deepest_there, flaw_there, no_constants, reached_there, safe_there, typed_there, whole_constants}
 
@@ -27,11 +27,7 @@ over caps bytes chunks p functions = input_beside caps [] bytes functions chunks
 
 over_is : (caps : ℕ) (bytes : List ℕ) (chunks : List Span) (p : CPools) (functions : List Function) (cs : List Chain) → AreChains p.chains.now p.steps.now cs
     → over caps bytes chunks p functions ≡ judged caps bytes chunks p functions cs (told_switches p.switches.now p.cases.now p.ranges.now)
-over_is caps bytes chunks p functions cs are =
-    let chains = told_by_rows p.chains.now p.steps.now cs are in
-    let cases = cases_are_told p.switches.now p.cases.now p.ranges.now in
-    let leads = leads_are_told p.switches.now p.cases.now p.ranges.now in
-    λ k. input_beside caps [] bytes functions chunks (record (facts_told p) { chains = chains k; cases = cases k }) (leads k)
+over_is caps bytes chunks p functions cs are = ap (λ (code : Bytecode). record { code = code; consts = []; functions = functions; chunks = chunks }) (code_told caps bytes p cs are)
 
 flat_verdict : (caps : ℕ) (bytes : List ℕ) (chunks : List Span) (p : CPools) (cs : List Chain) (ts : List Arms) (functions : List Function) → AreOf p cs ts → AreSome p.functions functions
     → All (RowPasses caps) p.constants.now → (result : Result (Vec ℕ Global) Stop) → IsVerdictOf (judged caps bytes chunks p functions cs ts) result → IsFlatVerdict caps bytes chunks p result
@@ -75,13 +71,6 @@ flat_metered caps bytes chunks p cs ts functions made some old new (Ok v) h = re
 flat_metered caps bytes chunks p cs ts functions made some old new (Err stop) h =
     let within = h.refused.1 in
     record { accepted = tt; refused = (h.refused.0, record { starts = within.starts; nowhere = within.nowhere }, h.refused.2) }
-
--- the chains and switches of the rows
-told_of : (p : CPools) (flat : IsFlat p) (small : length p.steps.now < 2 ^ 63) → AreOf p (pooled p flat small).chains (told_switches p.switches.now p.cases.now p.ranges.now)
-told_of p flat small = record {
-  chains_are = (pooled p flat small).chains_are;
-  switches_are = are_told p.switches.now p.cases.now p.ranges.now flat.case_counts flat.range_counts;
-}
 
 pub rows_verdict : (caps : ℕ) (bytes : List ℕ) (chunks : List Span) (p : CPools) (functions : List Function) → IsFlat p → length p.steps.now < 2 ^ 63 → AreSome p.functions functions
     → All (RowPasses caps) p.constants.now → (result : Result (Vec ℕ Global) Stop) → IsVerdictOf (over caps bytes chunks p functions) result → IsFlatVerdict caps bytes chunks p result

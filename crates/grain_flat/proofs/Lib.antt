@@ -1,8 +1,8 @@
 mod Alike
 mod AlikeFlaws
 mod AsciiNames
-mod CaseRows
 mod ChainRows
+mod CodeTold
 mod Explained
 mod FieldSizes
 mod FlatAlike
@@ -10,11 +10,9 @@ mod FlatIndices
 mod FlatVerdicts
 mod Flatness
 mod HexDigits
-mod Keys
 mod Listed
 mod ListedEntries
 mod Members
-mod Pieces
 pub mod Redeclared
 mod PoolsFlaws
 mod RowEntries

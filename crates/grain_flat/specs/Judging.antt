@@ -1,18 +1,16 @@
 -- What the parts of `grain_verify` promise each other.
-use Rattle.std.specs.Prelude.{◌≡◌, ⊤, ℕ, IfErr, IfOk, List, [], length, map, Result, Vec}
+use Rattle.std.specs.Prelude.{◌≡◌, ⊤, ℕ, IfErr, IfOk, List, [], length, Result, Vec}
 use Rattle.std.specs.declared.alloc.Global.{Global}
 use Rattle.grain_rules.specs.Accepted.{AreDeepest, AreSafe, AreTyped, Input, IsAccepted, input_beside}
-use Rattle.grain_bytecode.specs.Dispatch.{Arms, arms}
+use Rattle.grain_bytecode.specs.Dispatch.{Arms}
 use Rattle.grain_rules.specs.Flaw.{FlawAt}
 use Rattle.grain_verify.specs.Meter.{AreReached, HasCounted, IsWithinAll}
-use Rattle.grain_names.specs.Names.{names_in}
 use Rattle.grain_bytecode.specs.Span.{Span}
 use Rattle.grain_bytecode.specs.declared.Chain.{Chain}
 use Rattle.grain_bytecode.specs.declared.Function.{Function}
 use Rattle.grain_flat.specs.Answers.{Accepts, Visits, VisitsWithin, Refuses}
-use Rattle.grain_flat.specs.Flat.{AreChains, AreSwitches, code_with}
+use Rattle.grain_flat.specs.Flat.{code_with}
 use Rattle.grain_flat.specs.RowFacts.{facts_told, leads_of}
-use Rattle.grain_flat.specs.declared.build.Made.{Made}
 use Rattle.grain_flat.specs.declared.judge.Judge.{Judge}
 use Rattle.grain_flat.specs.declared.judge.Stop.{Stop}
 use Rattle.grain_flat.specs.declared.judge.Stop.TheVariants as stops
@@ -50,12 +48,6 @@ pub record IsVerdictOf (i : Input) (result : Result (Vec ℕ Global) Stop) : Typ
 pub record IsMeteredOf (i : Input) (old new : ℕ) (result : Result (Vec ℕ Global) Stop) : Type 0 where
   pub accepted : IfOk result (λ _. (n : ℕ) × AreReached i.code i.chunks n × HasCounted old new n)
   pub refused : IfErr result (λ _. (n : ℕ) × IsWithinAll i n × HasCounted old new n)
-
--- these names, chains and switches are those of the flat form
-pub record IsMadeOf (p : CPools) (made : Made) : Type 0 where
-  pub names_are : made.names ≡ names_in p.names.now p.starts.now
-  pub chains_are : AreChains p.chains.now p.steps.now made.chains.items
-  pub switches_are : AreSwitches p.switches.now p.cases.now p.ranges.now (map arms made.switches.items)
 
 -- the answer is right about all with the flat form
 pub record IsFlatVerdict (caps : ℕ) (bytes : List ℕ) (chunks : List Span) (p : CPools) (result : Result (Vec ℕ Global) Stop) : Type 0 where

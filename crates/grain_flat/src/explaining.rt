@@ -4,15 +4,14 @@ ghost use Rattle.grain_flat.specs.Explaining.{ExplainsChunk, IsFlatCause, IsMade
 ghost use Rattle.grain_flat.specs.Explaining.{list_place, other_of, path_row, row_told, way_of};
 ghost use Rattle.grain_flat.specs.Flat.{IsFlat};
 
-use crate::build::make;
 use crate::kinds::{NO_ADDRESS, NO_BASE};
 use crate::records::{CBase, CChunk, CPools, CRow};
+use crate::row_reads::{Rows, Tables};
 use grain_base::Caps;
 use grain_bytecode::Chunk;
 use grain_explain::{
     ExplainError, ExplainedChunk, LinkedBase, Refusal as ExplainedRefusal, Row, explain_chunks,
 };
-use grain_rules::Pools;
 use std::alloc::{AllocError, Global};
 
 /// Why a chunk whose pools have this flat form is accepted or refused, as [`explain_chunks`] says.
@@ -30,20 +29,13 @@ pub fn explain_chunk(
     ensures explained { IfOk result (ExplainsChunk caps.0 code.now chunk.now pools.now) }
     ensures cause { IfErr result (IsFlatCause caps.0 code.now pools.now) }
 {
-    let Ok(made) = make(alloc, pools) else {
+    let mut tables = Tables::new(alloc);
+    if tables.fill(pools).is_err() {
         return Err(ExplainError::OutOfMemory);
-    };
-    let given = Pools {
-        consts: pools.constants.len(),
-        names: &made.names,
-        tokens: pools.operators,
-        assign_ops: pools.op_assignments,
-        residuals: pools.fragments,
-        chains: &made.chains,
-        switches: &made.switches,
-    };
+    }
+    let rows = Rows::new(pools, tables);
     let chunks = [Chunk::new(chunk.entry, chunk.end, chunk.max_stack)];
-    let mut explained = match explain_chunks(alloc, caps, code, &chunks, &given) {
+    let mut explained = match explain_chunks(alloc, caps, code, &chunks, &rows) {
         Ok(explained) => explained,
         Err(error) => return Err(error),
     };

@@ -6,7 +6,6 @@
 #![tactic(auto)]
 
 mod asking;
-mod build;
 mod explaining;
 mod fields;
 mod flat;

@@ -2,42 +2,13 @@
 
 ghost use Rattle.std.specs.Prelude.{◌≡◌, IfOk, IfSome, OnOk, Option, string_bytes};
 ghost use Rattle.std.specs.Option.{option_map};
-ghost use Rattle.grain.specs.CapBits.{set_of};
-ghost use Rattle.grain.specs.Explanations.{IsExplanation};
 ghost use Rattle.grain_cases.specs.Case.{Asked, as_asked};
-ghost use Rattle.grain_cases.specs.Verdict.{Adds, IsVerdictOn, program};
+ghost use Rattle.grain_cases.specs.Verdict.{Adds, IsVerdictOn};
 ghost use Rattle.grain_list.specs.Listed.{Explains};
 
-use grain::{Caps, Chunk, ExplainError, Explained, Pools, Strings, VerifyError, explain};
+use grain::{ExplainError, Explained, NoPools, VerifyError, explain};
 use grain_cases::{Case, write_accepted};
 use std::alloc::{AllocError, Global};
-
-/// The explanation of a program that has no constants and no functions, and whose pools are all empty.
-///
-/// # Errors
-/// Those of [`explain`].
-fn explain_program(
-    alloc: Global,
-    caps: Caps,
-    code: &[u8],
-    chunks: &[Chunk],
-) -> Result<Explained, ExplainError>
-    ensures { IfOk result (IsExplanation (program (set_of caps) code.now chunks.now)) }
-{
-    let Ok(names) = Strings::new(alloc, &[]) else {
-        return Err(ExplainError::OutOfMemory);
-    };
-    let pools = Pools {
-        consts: 0,
-        names: &names,
-        tokens: 0,
-        assign_ops: 0,
-        residuals: 0,
-        chains: &[],
-        switches: &[],
-    };
-    explain(alloc, caps, &[], code, &[], chunks, &pools)
-}
 
 /// The explanation of the program that a case asks of; none of other cases, nor where nothing is explained.
 ///
@@ -49,7 +20,7 @@ pub fn explained_of(alloc: Global, case: &Option<Case>) -> Result<Option<Explain
     let Some(Case::Verify { caps, code, chunks }) = case else {
         return Ok(None);
     };
-    match explain_program(alloc, *caps, code, chunks) {
+    match explain(alloc, *caps, &[], code, &[], chunks, &NoPools) {
         Ok(explained) => Ok(Some(explained)),
         Err(ExplainError::OutOfMemory) => Err(AllocError),
         Err(ExplainError::BadCode | ExplainError::Unfinished) => Ok(None),

@@ -1,7 +1,7 @@
 -- Chunks that declare as many operands as they stack, and no more.
 use Rattle.std.specs.Prelude.{◌≡◌, ◌≤◌, map}
 use Rattle.std.specs.List.{AllZip}
-use Rattle.grain_code.specs.Span.{Span, undeclared_chunk}
+use Rattle.grain_code.specs.Span.{undeclared_chunk}
 use Rattle.grain_code.specs.declared.function.Function.{Function}
 use Rattle.grain_rules.specs.Accepted.{AreDeepest, IsAccepted}
 use Rattle.grain_program.specs.Program.{Program, declared_by, input_of}

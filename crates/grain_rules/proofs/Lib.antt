@@ -11,6 +11,7 @@ pub mod Once
 pub mod PassedBits
 pub mod Passing
 pub mod Quiet
+pub mod Redeclared
 pub mod Said
 pub mod Splits
 pub mod Transport

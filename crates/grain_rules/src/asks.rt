@@ -2,9 +2,8 @@
 ghost use Rattle.std.specs.Prelude.{◌≡◌, ℕ, get_or, map};
 ghost use Rattle.grain_rules.specs.Capabilities.{chain_caps, name_caps, root_caps, step_caps};
 ghost use Rattle.grain_rules.specs.EffectView.{asked_in};
-ghost use Rattle.grain_rules.specs.Setting.{pools_with};
+ghost use Rattle.grain_rules.specs.Setting.{with_caps};
 
-use crate::pools::Pools;
 use crate::read::Read;
 use grain_names::names::split_qualified;
 use grain_pools::{Chain, Root, Step};
@@ -70,8 +69,8 @@ fn step_caps(step: &Step) -> Caps
 /// What an operation asks that stands beside these pools; an index past a pool asks nothing. It goes through the name or the
 /// chain.
 #[must_use]
-pub fn asked_beside(pools: &Pools<'_>, asks: Asks) -> Caps
-    ensures { (caps : ℕ) → result.0 ≡ asked_in (pools_with caps pools.now) asks }
+pub fn asked_beside<P: Read>(pools: &P, asks: Asks) -> Caps
+    ensures { (caps : ℕ) → result.0 ≡ asked_in (with_caps caps (P.facts pools.now)) asks }
 {
     match asks {
         Asks::Nothing => Caps::empty(),

@@ -1,6 +1,7 @@
 //! What verification reads of pools, however these are kept.
 ghost use Rattle.std.specs.Prelude.{◌≡◌, ◌∷◌, [], ◌<◌, ◌≤◌, ℕ, IfNone, IfSome, List, get_or, length, map};
 ghost use Rattle.std.specs.List.{Contains};
+ghost use Rattle.grain_code.specs.declared.field.Pool.TheVariants.{Switches};
 ghost use Rattle.grain_pools.specs.Dispatch.{first_past};
 ghost use Rattle.grain_rules.specs.Facts.{ChainFacts, Facts};
 ghost use Rattle.grain_rules.specs.FirstOut.{alone, first_out, refused, tests_inside};
@@ -23,6 +24,9 @@ pub trait Targets: Drop {
 
 /// What verification reads of pools. No call takes memory; one that goes through a name, a chain or a switch takes time by its
 /// length.
+///
+/// That `facts` and `leads` are those of the host's real pools is believed of an implementation. What its methods answer is
+/// proved of them, and that both are about the same number of switches.
 pub trait Read {
     /// What is said of the pools.
     ghost facts: { Self → Facts };
@@ -37,9 +41,10 @@ pub trait Read {
     fn size(&self, pool: Pool) -> usize
         ensures { result ≡ size (alone (facts self.now)) pool };
 
-    /// How many switches there are.
+    /// How many switches there are, in the facts and among those that lead somewhere.
     fn switches(&self) -> usize
-        ensures { result ≡ length (leads self.now) };
+        ensures leads { result ≡ length (leads self.now) }
+        ensures facts { result ≡ size (alone (facts self.now)) Switches };
 
     /// What the name at an index asks of the host; past the names nothing.
     fn name_asks(&self, name: u32) -> Caps

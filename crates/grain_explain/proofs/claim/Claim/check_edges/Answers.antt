@@ -4,7 +4,7 @@ use Rattle.grain_explain.specs.Claimed.{falling_on, jumping}
 use Rattle.grain_explain.proofs.claim.Claim.check_edges.Goals as goal
 
 pub returns-in_err-check_targets-clause-err : goal.returns-in_err-check_targets-clause-err
-returns-in_err-check_targets-clause-err c =
+returns-in_err-check_targets-clause-err g c =
     let p = err_from_is_err_and c.from_residual.result c.from_residual.ensures.1 in
     let (at, named, (is, none)) = c.in_err-check_targets.ensures.err in
     rw (p.1, p.2) (record {
@@ -16,7 +16,7 @@ returns-in_err-check_targets-clause-err c =
     })
 
 pub returns-in_err-check_target-clause-err : goal.returns-in_err-check_target-clause-err
-returns-in_err-check_target-clause-err c =
+returns-in_err-check_target-clause-err g c =
     let p = err_from_is_err_and c.from_residual-in_err-check_target.result c.from_residual-in_err-check_target.ensures.1 in
     let (is, none) = c.in_err-check_target.ensures.err in
     rw (p.1, p.2) (record {

@@ -8,7 +8,7 @@ use Rattle.grain_explain.proofs.Laying.{row_of}
 use Rattle.grain_explain.proofs.claim.Claim.has_row.Goals as goal
 
 pub returns-in-Ok : goal.returns-in-Ok
-returns-in-Ok c =
+returns-in-Ok g c =
     let by_key = c.in-Ok.ensures.position (λ (r : Row). r.at) (answers_always _ _ _ (λ f a r g called. search rules)) in
     let rows = c.args.self.now.rows.now in
     let bases = c.args.self.now.bases.now in
@@ -17,7 +17,7 @@ returns-in-Ok c =
     row_found rows c.requires.laid.ascending c.args.at bases c.in-Ok.place row (counts_on bases c.args.edge.now) c.is_at.result is (by_key _) c.is_at.ensures
 
 pub returns-in-Err : goal.returns-in-Err
-returns-in-Err c =
+returns-in-Err g c =
     let by_key = c.in-Err.ensures.position (λ (r : Row). r.at) (answers_always _ _ _ (λ f a r g called. search rules)) in
     let bases = c.args.self.now.bases.now in
     let none = row_missing c.args.self.now.rows.now c.requires.laid.ascending c.args.at bases c.in-Err.field-0 by_key in

@@ -5,7 +5,7 @@ use Rattle.grain_explain.proofs.scene.Scene.check_frame.Goals as goal
 use Rattle.grain_explain.proofs.scene.Scene.check_frame.Goals.{then-end-len-via-then-end-len, then-end-len-via-else-end-len+then-entry-end}
 
 pub returns-then-end-len-clause-err : goal.returns-then-end-len-clause-err
-returns-then-end-len-clause-err c =
+returns-then-end-len-clause-err g c =
     let chunk = c.args.self.now.chunk.now in
     let end = c.end-end.ensures in
     let entry = c.entry-entry.ensures in
@@ -16,7 +16,7 @@ returns-then-end-len-clause-err c =
     ((c.entry.ensures, c.end.ensures, refl, out), outside out)
 
 pub returns-then-entry-end-2-clause-err : goal.returns-then-entry-end-2-clause-err
-returns-then-entry-end-2-clause-err c =
+returns-then-entry-end-2-clause-err g c =
     let chunk = c.args.self.now.chunk.now in
     let end = c.end-end.ensures in
     let entry = c.entry-entry.ensures in
@@ -26,7 +26,7 @@ returns-then-entry-end-2-clause-err c =
     (inl (same, omega arith), is_empty same)
 
 pub returns-then-not-is_start-clause-err : goal.returns-then-not-is_start-clause-err
-returns-then-not-is_start-clause-err c =
+returns-then-not-is_start-clause-err g c =
     let chunk = c.args.self.now.chunk.now in
     let end = c.end-end.ensures in
     let entry = c.entry-entry.ensures in
@@ -38,7 +38,7 @@ returns-then-not-is_start-clause-err c =
     (inl (omega arith, omega arith, entry, inl (c.entry-then-not-is_start.ensures, none)), no_bound (inl (c.entry-then-not-is_start.ensures, none)))
 
 pub returns-then-not-is_boundary-clause-err : goal.returns-then-not-is_boundary-clause-err
-returns-then-not-is_boundary-clause-err c =
+returns-then-not-is_boundary-clause-err g c =
     let chunk = c.args.self.now.chunk.now in
     let code = c.args.self.now.code.now in
     let end = c.end-end.ensures in

@@ -3,13 +3,13 @@ use Rattle.grain_rules.specs.Code.{coded}
 use Rattle.grain_rules.specs.Typing.{Reached}
 use Rattle.grain_explain.specs.OnEdges.{counts_on}
 use Rattle.grain_explain.specs.RowView.{counts_of}
-use Rattle.grain_explain.specs.Scenes.{code_seen}
+use Rattle.grain_explain.specs.Scenes.{seen}
 use Rattle.grain_explain.specs.Ways.{arrival_stop, of_conflict}
 use Rattle.grain_explain.proofs.Sceneries.{not_err}
 use Rattle.grain_explain.proofs.scene.Scene.compare.Goals as goal
 
 pub returns : goal.returns
-returns c =
+returns g c =
     let bases = c.args.visited.now.bases.now in
     let before = c.args.before.now in
     let arrival = c.args.arrival.now in
@@ -24,7 +24,7 @@ returns c =
           one = counts_of bases before.row;
           other = counts_of bases arrival.row;
           one_reached = c.requires.before.reached;
-          other_reached = subst (λ (n : ℕ). Reached (coded (code_seen c.args.self.now)) c.args.self.now.chunk.now n (counts_of bases arrival.row)) (sym there) c.requires.arrival.reached;
+          other_reached = subst (λ (n : ℕ). Reached (coded (seen g.P.Read.facts g.P.Read.leads c.args.self.now).code) c.args.self.now.chunk.now n (counts_of bases arrival.row)) (sym there) c.requires.arrival.reached;
           unlike = unlike;
           expected_is = refl;
           found_is = refl;

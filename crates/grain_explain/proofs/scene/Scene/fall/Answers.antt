@@ -1,16 +1,16 @@
 use Rattle.std.proofs.Common.{◌≡◌, arith, refl}
 use Rattle.std.proofs.lemmas.List.Elements.{All-push}
-use Rattle.grain_explain.specs.Scenes.{Comes, stacks_in}
+use Rattle.grain_explain.specs.Scenes.{Comes, seen, stacks_in}
 use Rattle.grain_explain.specs.declared.row.Row.{Row}
 use Rattle.grain_explain.proofs.Sceneries.{along_come, fall_edge}
 use Rattle.grain_explain.proofs.scene.Scene.fall.Goals as goal
 
 pub refuse-requires-clause-here : goal.refuse-requires-clause-here
-refuse-requires-clause-here c = c.requires.left.come c.args.departure.now.place c.args.departure.now.here.now c.requires.left.held
+refuse-requires-clause-here g c = c.requires.left.come c.args.departure.now.place c.args.departure.now.here.now c.requires.left.held
 
 pub returns-clause-waits : goal.returns-clause-waits
-returns-clause-waits c =
-    let s = c.args.self.now in
+returns-clause-waits g c =
+    let s = seen g.P.Read.facts g.P.Read.leads c.args.self.now in
     let d = c.args.departure.now in
     let e = c.in-Ok.ensures in
     let same : c.in-Ok.at ≡ d.next = omega arith in

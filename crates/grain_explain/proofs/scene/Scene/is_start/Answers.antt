@@ -2,7 +2,7 @@ use Rattle.grain_explain.proofs.Sceneries.{listed_start, start_listed}
 use Rattle.grain_explain.proofs.scene.Scene.is_start.Goals as goal
 
 pub returns : goal.returns
-returns c =
+returns g c =
     let code = c.args.self.now.code.now in
     let starts = c.args.self.now.starts.now.starts in
     let at = c.args.at in

@@ -1,5 +1,6 @@
-use Rattle.std.proofs.Common.{◌+◌, ◌≤◌, ℕ, List, ap, length, subst, sym, ◌∙◌}
+use Rattle.std.proofs.Common.{◌+◌, ◌≤◌, [], ℕ, List, ap, length, refl, subst, sym, ◌∙◌}
 use Rattle.std.specs.List.{All}
+use Rattle.std.proofs.lemmas.List.{append-nil}
 use Rattle.grain_rules.specs.Code.{coded}
 use Rattle.grain_rules.specs.Counts.{Counts}
 use Rattle.grain_rules.specs.Flaw.{ChunkFlaw}
@@ -7,7 +8,7 @@ use Rattle.grain_rules.specs.Typing.{Passes}
 use Rattle.grain_rules.proofs.Once.{wide}
 use Rattle.grain_explain.specs.Lacking.{FindsLacking, HasAll}
 use Rattle.grain_explain.specs.RowView.{counts_of}
-use Rattle.grain_explain.specs.Scenes.{AreCome, IsCome, Leaves, code_seen}
+use Rattle.grain_explain.specs.Scenes.{AreCome, IsCome, Leaves, seen}
 use Rattle.grain_explain.specs.Ways.{Shows, arrival_stop}
 use Rattle.grain_explain.specs.declared.row.LinkedBase.{LinkedBase}
 use Rattle.grain_explain.proofs.Extending.{counts_kept, held_more, waits_more}
@@ -16,15 +17,15 @@ use Rattle.grain_explain.proofs.Sceneries.{not_err}
 use Rattle.grain_explain.proofs.scene.Scene.look.Goals as goal
 
 pub check_needs-requires-clause-listed : goal.check_needs-requires-clause-listed
-check_needs-requires-clause-listed c =
+check_needs-requires-clause-listed g c =
     subst (λ (bases : List LinkedBase). c.args.here.now.row.bases ≤ length bases) (sym c.deref.ensures.value) (c.requires.come c.args.place c.args.here.now c.requires.held).listed
 
 pub leave-requires-clause-listed : goal.leave-requires-clause-listed
-leave-requires-clause-listed c = (c.requires.come c.args.place c.args.here.now c.requires.held).listed
+leave-requires-clause-listed g c = (c.requires.come c.args.place c.args.here.now c.requires.held).listed
 
 pub send-requires-clause-left : goal.send-requires-clause-left
-send-requires-clause-left c =
-    let s = c.args.self.now in
+send-requires-clause-left g c =
+    let s = seen g.P.Read.facts g.P.Read.leads c.args.self.now in
     let slots = c.args.slots.now in
     let row = c.args.here.now.row in
     let op = c.in-Some.op in
@@ -33,25 +34,25 @@ send-requires-clause-left c =
     let new = c.leave.new.self.bases.items in
     let extends = c.in_ok-leaving-in-Ok.ensures.extends in
     let kept = counts_kept old new c.requires.linked extends row (c.requires.come c.args.place c.args.here.now c.requires.held).listed in
-    let has = subst (λ (bases : List LinkedBase). HasAll (code_seen s).setting op (counts_of bases row)) c.deref.ensures.value c.in-Ok.ensures.has in
+    let has = subst (λ (bases : List LinkedBase). HasAll s.code.setting op (counts_of bases row)) c.deref.ensures.value c.in-Ok.ensures.has in
     let inside = not_err c.check_target.result (sym c.is_err.ensures.value ∙ c.if-is_err.false) c.check_target.ensures.inside in
-    let passes : Passes (coded (code_seen s)) s.chunk.now row.at (counts_of old row) op =
+    let passes : Passes (coded s.code) s.chunk row.at (counts_of old row) op =
     record { stands = record { within = inside; is = c.in-Some.ensures.found }; meets = has.meets; allowed = has.allowed; stays = has.stays } in
     let back = sym c.deref-in-Ok.ensures.value in
     record {
       op = op;
       does = c.in-Ok.ensures.does;
-      passes = subst (λ (bases : List LinkedBase). Passes (coded (code_seen s)) s.chunk.now row.at (counts_of bases row) op) back
-          (subst (λ (x : Counts). Passes (coded (code_seen s)) s.chunk.now row.at x op) (sym kept) passes);
-      next = ap (λ (n : ℕ). row.at + n) (wide s.code.now row.at c.in-Some-width.width op c.in-Some-width.ensures.found c.in-Some.ensures.found);
+      passes = subst (λ (bases : List LinkedBase). Passes (coded s.code) s.chunk row.at (counts_of bases row) op) back
+          (subst (λ (x : Counts). Passes (coded s.code) s.chunk row.at x op) (sym kept) passes);
+      next = ap (λ (n : ℕ). row.at + n) (wide s.code.bytes row.at c.in-Some-width.width op c.in-Some-width.ensures.found c.in-Some.ensures.found);
       come = subst (λ (bases : List LinkedBase). AreCome s bases slots) back (held_more old new c.requires.linked extends s slots c.requires.come);
       held = c.requires.held;
       leaves = subst (λ (bases : List LinkedBase). Leaves bases row effect c.in_ok-leaving-in-Ok.leaving) back c.in_ok-leaving-in-Ok.ensures.leaves;
     }
 
 pub send-requires-clause-waits : goal.send-requires-clause-waits
-send-requires-clause-waits c =
-    let s = c.args.self.now in
+send-requires-clause-waits g c =
+    let s = seen g.P.Read.facts g.P.Read.leads c.args.self.now in
     let slots = c.args.slots.now in
     let work = c.args.work.now.items in
     let old = c.args.arming.now.bases.items in
@@ -60,32 +61,35 @@ send-requires-clause-waits c =
     (waits_more old new c.requires.linked c.in_ok-leaving-in-Ok.ensures.extends s slots c.requires.come work c.requires.waits)
 
 pub refuse-requires-clause-come : goal.refuse-requires-clause-come
-refuse-requires-clause-come c = subst (λ (bases : List LinkedBase). AreCome c.args.self.now bases c.args.slots.now) (sym c.deref-in-Err.ensures.value) c.requires.come
+refuse-requires-clause-come g c = subst (λ (bases : List LinkedBase). AreCome (seen g.P.Read.facts g.P.Read.leads c.args.self.now) bases c.args.slots.now) (sym c.deref-in-Err.ensures.value) c.requires.come
 
 pub refuse-requires-clause-here : goal.refuse-requires-clause-here
-refuse-requires-clause-here c =
-    subst (λ (bases : List LinkedBase). IsCome c.args.self.now bases c.args.slots.now c.args.here.now) (sym c.deref-in-Err.ensures.value) (c.requires.come c.args.place c.args.here.now c.requires.held)
+refuse-requires-clause-here g c =
+    subst (λ (bases : List LinkedBase). IsCome (seen g.P.Read.facts g.P.Read.leads c.args.self.now) bases c.args.slots.now c.args.here.now) (sym c.deref-in-Err.ensures.value) (c.requires.come c.args.place c.args.here.now c.requires.held)
 
 pub refuse-requires-clause-shows : goal.refuse-requires-clause-shows
-refuse-requires-clause-shows c =
-    let s = c.args.self.now in
+refuse-requires-clause-shows g c =
+    let s = seen g.P.Read.facts g.P.Read.leads c.args.self.now in
     let row = c.args.here.now.row in
     let op = c.in-Some.op in
     let old = c.args.arming.now.bases.items in
-    let lacks = subst (λ (bases : List LinkedBase). FindsLacking (code_seen s).setting op (counts_of bases row) c.in-Err.lack) c.deref.ensures.value c.in-Err.ensures.lacks in
+    let lacks = subst (λ (bases : List LinkedBase). FindsLacking s.code.setting op (counts_of bases row) c.in-Err.lack) c.deref.ensures.value c.in-Err.ensures.lacks in
     let inside = not_err c.check_target.result (sym c.is_err.ensures.value ∙ c.if-is_err.false) c.check_target.ensures.inside in
-    subst (λ (bases : List LinkedBase). Shows (code_seen s) s.chunk.now (arrival_stop bases c.args.here.now) c.lack_error-error.result) (sym c.deref-in-Err.ensures.value)
-    (subst (Shows (code_seen s) s.chunk.now (arrival_stop old c.args.here.now)) (sym c.lack_error-error.ensures)
-    (lacking_shows s old row op c.in-Err.lack (record { within = inside; is = c.in-Some.ensures.found }) lacks))
+    subst (λ (bases : List LinkedBase). Shows s.code s.chunk (arrival_stop bases c.args.here.now) c.lack_error-error.result) (sym c.deref-in-Err.ensures.value)
+    (subst (Shows s.code s.chunk (arrival_stop old c.args.here.now)) (sym c.lack_error-error.ensures)
+    (lacking_shows s c.args.self.now.caps old row op c.in-Err.lack refl (record { within = inside; is = c.in-Some.ensures.found }) lacks))
 
 pub refuse-requires-clause-flaw : goal.refuse-requires-clause-flaw
-refuse-requires-clause-flaw c =
-    let s = c.args.self.now in
+refuse-requires-clause-flaw g c =
+    let s = seen g.P.Read.facts g.P.Read.leads c.args.self.now in
     let row = c.args.here.now.row in
     let op = c.in-Some.op in
     let old = c.args.arming.now.bases.items in
-    let lacks = subst (λ (bases : List LinkedBase). FindsLacking (code_seen s).setting op (counts_of bases row) c.in-Err.lack) c.deref.ensures.value c.in-Err.ensures.lacks in
+    let lacks = subst (λ (bases : List LinkedBase). FindsLacking s.code.setting op (counts_of bases row) c.in-Err.lack) c.deref.ensures.value c.in-Err.ensures.lacks in
     let inside = not_err c.check_target.result (sym c.is_err.ensures.value ∙ c.if-is_err.false) c.check_target.ensures.inside in
     let come = c.requires.come c.args.place c.args.here.now c.requires.held in
-    subst (ChunkFlaw (code_seen s) s.chunk.now) (sym c.lack_error-error.ensures)
-    (lacking_flaw s old row op c.in-Err.lack c.requires.ready.framed come.reached (record { within = inside; is = c.in-Some.ensures.found }) lacks)
+    subst (ChunkFlaw s.code s.chunk) (sym c.lack_error-error.ensures)
+    (lacking_flaw s c.args.self.now.caps old row op c.in-Err.lack refl c.requires.ready.framed come.reached (record { within = inside; is = c.in-Some.ensures.found }) lacks)
+
+pub returns-in_ok-refuse-in-Err-clause-extends : goal.returns-in_ok-refuse-in-Err-clause-extends
+returns-in_ok-refuse-in-Err-clause-extends g c = record { more = []; is = sym (append-nil c.args.arming.now.bases.items); linked = c.requires.linked }

@@ -1,14 +1,14 @@
 use Rattle.std.proofs.Common.{ℕ, List, get_or, refl, subst}
 use Rattle.std.specs.List.{Contains}
 use Rattle.std.proofs.lemmas.List.Elements.{All-push, Contains-get_or}
-use Rattle.grain_explain.specs.Scenes.{Comes, stacks_in}
+use Rattle.grain_explain.specs.Scenes.{Comes, seen, stacks_in}
 use Rattle.grain_explain.specs.declared.row.Row.{Row}
 use Rattle.grain_explain.proofs.Sceneries.{along_come, jump_edge}
 use Rattle.grain_explain.proofs.scene.Scene.push_all.Goals as goal
 
 pub loop-target-preserved : goal.loop-target-preserved
-loop-target-preserved c =
-    let s = c.args.self.now in
+loop-target-preserved g c =
+    let s = seen g.P.Read.facts g.P.Read.leads c.args.self.now in
     let d = c.args.departure.now in
     let left = c.requires.left in
     let named = Contains-get_or c.args.targets.now c.loop-target.target-index 0 c.loop-target-test.true in

@@ -1,15 +1,15 @@
 use Rattle.std.proofs.Common.{◌≤◌, length}
 use Rattle.std.proofs.lemmas.List.Elements.{All-push}
 use Rattle.grain_explain.specs.Explaining.{IsOrigin, IsReachedRow}
-use Rattle.grain_explain.specs.Scenes.{code_seen}
+use Rattle.grain_explain.specs.Scenes.{seen}
 use Rattle.grain_explain.specs.declared.row.Row.{Row}
 use Rattle.grain_explain.proofs.Sceneries.{zip_push}
 use Rattle.grain_explain.proofs.scene.Scene.rows_of.Goals as goal
 use Rattle.grain_explain.proofs.scene.Scene.rows_of.Goals.{in-Some+in_ok-origin+in_ok-push+in_ok-push-2, in_default}
 
 pub loop-slot-preserved : goal.loop-slot-preserved
-loop-slot-preserved c =
-    let code = code_seen c.args.self.now in
+loop-slot-preserved g c =
+    let code = (seen g.P.Read.facts g.P.Read.leads c.args.self.now).code in
     let chunk = c.args.self.now.chunk.now in
     let bases = c.args.visited.now.bases.now in
     elim c.match-slot.branch [
@@ -23,3 +23,6 @@ loop-slot-preserved c =
           }
       | in_default w ↦ rw (w.rows-is, w.origins-is) c.loop-slot.invariant
     ]
+
+pub origin_of-requires-clause-arrival : goal.origin_of-requires-clause-arrival
+origin_of-requires-clause-arrival g c = c.requires c.loop-slot.slot-index c.in-Some.arrival c.in-Some.is

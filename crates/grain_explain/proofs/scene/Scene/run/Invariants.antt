@@ -1,5 +1,5 @@
-use Rattle.grain_explain.specs.Scenes.{IsSearching}
+use Rattle.grain_explain.specs.Scenes.{IsSearching, seen}
 use Rattle.grain_explain.proofs.scene.Scene.run.Given as goal
 
 abbrev pub invariant-loop : goal.invariant-loop
-invariant-loop l = IsSearching l.self l.search
+invariant-loop g l = IsSearching (seen g.P.Read.facts g.P.Read.leads l.self) l.search

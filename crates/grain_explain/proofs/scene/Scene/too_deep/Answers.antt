@@ -1,19 +1,18 @@
 use Rattle.std.proofs.Common.{OnOk, sym, ◌∙◌, arith, subst}
 use Rattle.grain_explain.specs.Certificate.{IsCertificate}
-use Rattle.grain_explain.specs.Claimed.{code_claimed, span_claimed}
+use Rattle.grain_explain.specs.Claimed.{Claimed, span_claimed}
 use Rattle.grain_explain.specs.RowView.{typing_of}
-use Rattle.grain_explain.specs.Scenes.{code_seen}
-use Rattle.grain_explain.specs.declared.claim.Claim.{Claim}
+use Rattle.grain_explain.specs.Scenes.{seen}
 use Rattle.grain_explain.proofs.Refused.{deepest_row, unspanned}
 use Rattle.grain_explain.proofs.Sceneries.{not_err}
 use Rattle.grain_explain.proofs.scene.Scene.too_deep.Goals as goal
 
 pub refuse-requires-clause-flaw : goal.refuse-requires-clause-flaw
-refuse-requires-clause-flaw c =
-    let code = code_seen c.args.self.now in
+refuse-requires-clause-flaw g c =
+    let code = (seen g.P.Read.facts g.P.Read.leads c.args.self.now).code in
     let chunk = c.args.self.now.chunk.now in
     let rows = c.args.rows.now in
-    let yes = subst (λ (g : Claim). OnOk c.check_from-checked.result (IsCertificate (code_claimed g) (span_claimed g) g.bases.now g.rows.now)) c.claim-claim.ensures c.check_from-checked.ensures.yes in
+    let yes = subst (λ (x : Claimed). OnOk c.check_from-checked.result (IsCertificate x.code (span_claimed x) x.bases x.rows)) c.claim-claim.ensures c.check_from-checked.ensures.yes in
     let sure = not_err c.check_from-checked.result (sym c.is_err.ensures.value ∙ c.if-is_err.false) yes in
     let low = c.if-needed-from.false in
     let from = c.from.ensures in (

@@ -1,7 +1,7 @@
 use Rattle.std.proofs.Common.{List, Option, Some, set, subst, sym}
 use Rattle.std.specs.List.{All}
 use Rattle.std.proofs.lemmas.List.Elements.{All-weaker}
-use Rattle.grain_explain.specs.Scenes.{AreCome, IsCome}
+use Rattle.grain_explain.specs.Scenes.{AreCome, IsCome, seen}
 use Rattle.grain_explain.specs.declared.arrival.Arrival.{Arrival}
 use Rattle.grain_explain.proofs.Extending.{held_more}
 use Rattle.grain_explain.proofs.Matching.{both_ok}
@@ -9,15 +9,15 @@ use Rattle.grain_explain.proofs.Sceneries.{come_kept, come_set}
 use Rattle.grain_explain.proofs.scene.Scene.visit.Goals as goal
 
 pub look-requires-clause-come : goal.look-requires-clause-come
-look-requires-clause-come c =
-    let s = c.args.self.now in
+look-requires-clause-come g c =
+    let s = seen g.P.Read.facts g.P.Read.leads c.args.self.now in
     let bases = c.args.search.now.arming.bases.items in
     let slots = c.args.search.now.slots.items in
     subst (AreCome s bases) (sym c.deref.ensures.value) (come_set s bases slots c.args.place c.args.arrival c.requires.free c.requires.searching.held c.requires.come)
 
 pub look-requires-clause-waits : goal.look-requires-clause-waits
-look-requires-clause-waits c =
-    let s = c.args.self.now in
+look-requires-clause-waits g c =
+    let s = seen g.P.Read.facts g.P.Read.leads c.args.self.now in
     let bases = c.args.search.now.arming.bases.items in
     let slots = c.args.search.now.slots.items in
     let work = c.args.search.now.work.items in
@@ -25,8 +25,8 @@ look-requires-clause-waits c =
     (All-weaker (IsCome s bases slots) (IsCome s bases (set slots c.args.place (Some c.args.arrival))) (come_kept s bases slots c.args.place c.args.arrival c.requires.free) work c.requires.searching.waits)
 
 pub returns-clause-searching : goal.returns-clause-searching
-returns-clause-searching c =
-    let s = c.args.self.now in
+returns-clause-searching g c =
+    let s = seen g.P.Read.facts g.P.Read.leads c.args.self.now in
     let old = c.args.search.now.arming.bases.items in
     let new = c.look.new.arming.bases.items in
     let slots = c.args.search.now.slots.items in

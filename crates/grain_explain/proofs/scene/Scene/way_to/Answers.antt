@@ -1,6 +1,6 @@
 use Rattle.std.proofs.Common.{◌∷◌, ◌++◌, List, ap, refl, subst, sym, ◌∙◌}
 use Rattle.std.proofs.lemmas.Option.{same_Some}
-use Rattle.grain_explain.specs.Scenes.{code_seen}
+use Rattle.grain_explain.specs.Scenes.{seen}
 use Rattle.grain_explain.specs.Ways.{Follows, IsWayTo, arrival_stop, stops_of}
 use Rattle.grain_explain.specs.declared.arrival.Arrival.{Arrival}
 use Rattle.grain_explain.specs.declared.row.Row.{Row}
@@ -8,8 +8,8 @@ use Rattle.grain_explain.proofs.Sceneries.{slot_found, way_more}
 use Rattle.grain_explain.proofs.scene.Scene.way_to.Goals as goal
 
 pub loop-preserved : goal.loop-preserved
-loop-preserved c =
-    let code = code_seen c.args.self.now in
+loop-preserved g c =
+    let code = (seen g.P.Read.facts g.P.Read.leads c.args.self.now).code in
     let chunk = c.args.self.now.chunk.now in
     let bases = c.args.visited.now.bases.now in
     let before = c.in-Some-Some.before in
