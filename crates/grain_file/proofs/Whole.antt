@@ -1,9 +1,8 @@
 -- All of the bytes are a file exactly where they are read.
-use Rattle.std.proofs.Common.{◌≡◌, ℕ, ◌≤◌, cond, eqb, List, [], ◌∷◌, ◌++◌, length, Result, Ok, Err, None, refl, sym, ap, subst, ◌∙◌}
-use Rattle.std.proofs.Common.{inl, inr}
+use Rattle.std.proofs.Common.{◌≡◌, ℕ, ◌+◌, ◌-◌, ◌≤◌, max, cond, eqb, List, [], ◌∷◌, ◌++◌, length, drop, Result, Ok, Err, None, refl, sym, ap, subst, ◌∙◌, arith, inl, inr, length-append}
 use Rattle.std.specs.Prelude.{MatchResult, IfOk, IfErr}
 use Rattle.std.proofs.lemmas.Bool.{eqb-true}
-use Rattle.std.proofs.lemmas.List.{append-nil, nil_from_length}
+use Rattle.std.proofs.lemmas.List.{append-nil, drop_at, nil_from_length}
 use Rattle.grain_program.specs.Program.{Program}
 use Rattle.grain_file.specs.declared.error.Fault.{Fault}
 use Rattle.grain_file.specs.declared.error.Fault.TheVariants.{Magic, Trailing}
@@ -12,7 +11,8 @@ use Rattle.grain_file.specs.declared.error.WriteError.{WriteError}
 use Rattle.grain_file.specs.declared.file.Limits.{Limits}
 use Rattle.grain_file.specs.declared.file.ReadError.{ReadError}
 use Rattle.grain_file.specs.declared.file.ReadError.TheVariants as errors
-use Rattle.grain_file.specs.Reading.{Flaw, AreBytes, Decides}
+use Rattle.grain_file.specs.Reading.{Flaw, AreBytes, Decides, Ends}
+use Rattle.grain_file.specs.Ends.{err_is, bind_err, at_whole, moved}
 use Rattle.grain_file.specs.Laws.{bind_ok, chosen, ok_is}
 use Rattle.grain_file.specs.ProgramFile.{Kept, kept, pools_format, file_format, versioned_format, body_format, IsFile, IsFileWithin, refusal_of, whole_at}
 use Rattle.grain_file.specs.Texts.{expected_at}
@@ -22,7 +22,7 @@ use Rattle.grain_file.specs.Tokens.{TokenParts, AssignOpParts, token_format, ass
 use Rattle.grain_file.specs.Chains.{ChainParts, chain_format}
 use Rattle.grain_file.specs.Switches.{SwitchParts, switch_format}
 use Rattle.grain_file.specs.Form.{Form, IsSound}
-use Rattle.grain_file.specs.FormSound.{deepest, each_within}
+use Rattle.grain_file.specs.FormSound.{deepest, each_within, each_deeper}
 use Rattle.grain_file.specs.Causes.{IsCause, IsFaultOf}
 
 pub whole_found : (depth : ℕ) (bytes : List ℕ) (k : Kept) (rest : List ℕ) → AreBytes bytes → whole_at depth bytes ≡ Ok (k, rest) → IsFile depth bytes k
@@ -45,6 +45,25 @@ whole_again depth bytes k file =
     let e : bytes ≡ (file_format depth).spelling k ++ [] = file.spelled ∙ sym (append-nil ((file_format depth).spelling k)) in
     rw (e, again) refl
 
+pub whole_ends : (depth : ℕ) → Ends (whole_at depth)
+unfolding whole_at
+whole_ends depth bytes fault left are e =
+    elim (bind_err ((file_format depth).reading bytes) (λ x. cond (eqb (length x.1) 0) (Ok x) (Err (Trailing, x.1))) (fault, left) e) [
+      | inl p ↦ (file_format depth).ends bytes fault left are p
+      | inr a ↦ elim (chosen (eqb (length a.0.1) 0) (Ok a.0) (Err (Trailing, a.0.1)) (Err (fault, left)) a.2) [
+        | inl p ↦ absurd (let q = p.1 in cc)
+        | inr p ↦
+            let t = (file_format depth).takes bytes a.0.0 a.0.1 are a.1 in
+            moved bytes ((file_format depth).spelling a.0.0) a.0.1 left t.0 (at_whole a.0.1 Trailing fault left (err_is {A = Kept × List ℕ} {E = Flaw} (Trailing, a.0.1) (fault, left) p.1))
+      ]
+    ]
+
+place_of_end : (bytes front left : List ℕ) (at : ℕ) → bytes ≡ front ++ left → at ≡ length bytes - length left → (at ≤ length bytes) × (drop at bytes ≡ left)
+place_of_end bytes front left at e p =
+    let total : length bytes ≡ length front + length left = ap length e ∙ length-append front left in
+    let here : at ≡ length front = omega arith in
+    (omega arith, rw (here, e) (drop_at front left (length front) refl))
+
 abbrev Given : ℕ → List ℕ → Result Program ReadError → Type 0
 Given depth bytes r = MatchResult r (λ p. whole_at depth bytes ≡ Ok (kept p, [])) (IsFaultOf depth bytes)
 
@@ -62,11 +81,14 @@ module _ (limits : Limits) (bytes : List ℕ) where
   only (Err (errors.Malformed at fault)) given k within =
       absurd (let e = sym given.1 ∙ whole_again limits.depth bytes k within.file in cc)
 
-  pub exact : (r : Result Program ReadError) → Given limits.depth bytes r → IfErr r (IsCause limits bytes)
-  exact (Ok p) given = tt
-  exact (Err errors.OutOfMemory) given = tt
-  exact (Err (errors.TooLarge size limit)) given = absurd given
-  exact (Err (errors.Malformed at fault)) given = given
+  pub exact : (r : Result Program ReadError) → AreBytes bytes → Given limits.depth bytes r → IfErr r (IsCause limits bytes)
+  exact (Ok p) are given = tt
+  exact (Err errors.OutOfMemory) are given = tt
+  exact (Err (errors.TooLarge size limit)) are given = absurd given
+  exact (Err (errors.Malformed at fault)) are given =
+      let end = whole_ends limits.depth bytes fault given.0 are given.1 in
+      let d = place_of_end bytes end.front given.0 at end.is given.2 in
+      (d.0, rw d.1 given.1)
 
 -- ---- one file for one program, and one program for one file
 
@@ -81,9 +103,20 @@ same_refusal depth other k = refl
 pub one_file : (depth other : ℕ) (a b : List ℕ) (k : Kept) → IsFile depth a k → IsFile other b k → a ≡ b
 one_file depth other a b k p q = p.spelled ∙ same_spelling depth other k ∙ sym q.spelled
 
-pub one_program : (depth : ℕ) (a : List ℕ) (k l : Kept) → IsFile depth a k → IsFile depth a l → k ≡ l
-one_program depth a k l p q =
+pub deeper : (depth more : ℕ) (a : List ℕ) (k : Kept) → depth ≤ more → IsFile depth a k → IsFile more a k
+unfolding file_format versioned_format body_format pools_format
+deeper depth more a k le file = record {
+  spelled = file.spelled ∙ same_spelling depth more k;
+  fits = (file.fits.0, ((file.fits.1.0.0, ((file.fits.1.0.1.0.0, each_deeper depth more le k.1.0.1.0 file.fits.1.0.1.0.1), file.fits.1.0.1.1)), file.fits.1.1));
+}
+
+one_at : (depth : ℕ) (a : List ℕ) (k l : Kept) → IsFile depth a k → IsFile depth a l → k ≡ l
+one_at depth a k l p q =
     ap (λ (y : Kept × List ℕ). y.0) (ok_is {E = Flaw} (k, []) (l, []) (sym (whole_again depth a k p) ∙ whole_again depth a l q))
+
+pub one_program : (depth other : ℕ) (a : List ℕ) (k l : Kept) → IsFile depth a k → IsFile other a l → k ≡ l
+one_program depth other a k l p q =
+    one_at (max depth other) a k l (deeper depth (max depth other) a k (omega arith) p) (deeper other (max depth other) a l (omega arith) q)
 
 -- ---- what is written
 

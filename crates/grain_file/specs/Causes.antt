@@ -1,5 +1,5 @@
 -- What a refusal says of the bytes, and what of the parts of a program is kept.
-use Rattle.std.specs.Prelude.{◌≡◌, ℕ, ◌-◌, ◌<◌, List, length, map, Err}
+use Rattle.std.specs.Prelude.{◌≡◌, ℕ, ◌-◌, ◌<◌, ◌≤◌, List, length, drop, map, Err}
 use Rattle.grain_file.specs.declared.file.Code.{Code}
 use Rattle.grain_file.specs.declared.file.PoolFields.{PoolFields}
 use Rattle.grain_file.specs.declared.file.Limits.{Limits}
@@ -24,8 +24,8 @@ IsFaultOf depth bytes errors.OutOfMemory = Unit {0}
 IsFaultOf depth bytes (errors.TooLarge size limit) = ⊥
 IsFaultOf depth bytes (errors.Malformed at fault) = (left : List ℕ) × (whole_at depth bytes ≡ Err (fault, left)) × (at ≡ length bytes - length left)
 
--- the bytes are more than the limit, or else the fault is the one at which reading ends
+-- The bytes are more than the limit, or else the fault is the one at which reading ends, with what follows from that byte on.
 abbrev pub IsCause : Limits → List ℕ → ReadError → Type 0
 IsCause limits bytes errors.OutOfMemory = Unit {0}
 IsCause limits bytes (errors.TooLarge size limit) = (size ≡ length bytes) × (limit ≡ limits.size) × (limits.size < length bytes)
-IsCause limits bytes (errors.Malformed at fault) = IsFaultOf limits.depth bytes (errors.Malformed at fault)
+IsCause limits bytes (errors.Malformed at fault) = (at ≤ length bytes) × (whole_at limits.depth bytes ≡ Err (fault, drop at bytes))

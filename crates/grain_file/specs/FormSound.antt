@@ -62,6 +62,41 @@ pub each_within : (d : ℕ) (xs : List Form) → AllByRecursion IsSound xs → d
 each_within d [] sound small = tt
 each_within d (x ∷ xs) sound small = (within d x sound.0 (omega arith), each_within d xs sound.1 (omega arith))
 
+-- ---- what fits within a depth fits within a greater one
+
+module _ (P Q : Form → Type 0) (more : (x : Form) → P x → Q x) where
+  each_more : (xs : List Form) → AllByRecursion P xs → AllByRecursion Q xs
+  each_more [] fits = tt
+  each_more (x ∷ xs) fits = (more x fits.0, each_more xs fits.1)
+
+  entries_more : (es : List (List ℕ × Form)) → AllByRecursion (EntryFits P) es → AllByRecursion (EntryFits Q) es
+  entries_more [] fits = tt
+  entries_more (e ∷ es) fits = ((fits.0.0, more e.1 fits.0.1), entries_more es fits.1)
+
+  around_more : (x : Form) → FitsAround P x → FitsAround Q x
+  around_more unit fits = tt
+  around_more (boolean b) fits = tt
+  around_more (integer z) fits = fits
+  around_more (character n) fits = fits
+  around_more (text t) fits = fits
+  around_more (range a b) fits = fits
+  around_more (range_inclusive a b) fits = fits
+  around_more (array xs) fits = (fits.0, each_more (listed xs) fits.1)
+  around_more (blob b) fits = fits
+  around_more (object_map es) fits = ((fits.0.0, entries_more (listed_entries es) fits.0.1), fits.1)
+  around_more (fn_ptr name xs) fits = (fits.0, (fits.1.0, each_more (listed xs) fits.1.1))
+  around_more (shared x) fits = more x fits
+  around_more host fits = absurd fits
+
+pub value_deeper : (d e : ℕ) → d ≤ e → (x : Form) → FitsWithin d x → FitsWithin e x
+unfolding FitsWithin
+value_deeper zero e le x fits = absurd fits
+value_deeper (suc d) zero le x fits = absurd (omega arith)
+value_deeper (suc d) (suc e) le x fits = around_more (FitsWithin d) (FitsWithin e) (value_deeper d e (omega arith)) x fits
+
+pub each_deeper : (d e : ℕ) → d ≤ e → (xs : List Form) → AllByRecursion (FitsWithin d) xs → AllByRecursion (FitsWithin e) xs
+each_deeper d e le xs fits = each_more (FitsWithin d) (FitsWithin e) (value_deeper d e le) xs fits
+
 -- ---- lists of values and of entries
 
 pub are_sound : (xs : List Form) → AllByRecursion IsSound xs → AreSound (forms_of xs)

@@ -1,9 +1,10 @@
--- Formats: how values are spelled, which of them, what reading gives, and which are refused, with the three laws. A format of
+-- Formats: how values are spelled, which of them, what reading gives, and which are refused, with the four laws. A format of
 -- many fields is put together from those of its parts.
 use Rattle.std.specs.Prelude.{ℕ, ◌<◌, ◌^◌, List, [], ◌∷◌, Option, None, Result, Ok, refl, IfSome, ◌≡◌, ◌++◌, ◌⊎◌, Bool, true}
 use Rattle.grain_file.specs.declared.error.Fault.{Fault}
 use Rattle.grain_file.specs.declared.error.Unkept.{Unkept}
-use Rattle.grain_file.specs.Reading.{Flaw, Takes, Again, Keeps}
+use Rattle.grain_file.specs.Reading.{Flaw, Takes, Again, Keeps, Ends}
+use Rattle.grain_file.specs.Ends.{number_ends, below_ends, bytes_ends, text_ends, byte_ends, tag_ends, only_ends, both_ends, seen_ends, checked_ends, counted_ends, optional_ends, alternative_ends, headed_ends}
 use Rattle.grain_file.specs.Refusals.{both_refusal, counted_refusal, optional_refusal, alternative_refusal, all_keeps, both_keeps, counted_keeps, optional_keeps, alternative_keeps, only_keeps}
 use Rattle.grain_file.specs.Numbers.{number, number_at, below_at}
 use Rattle.grain_file.specs.NumberLaws.{IsBelow, number_takes, number_again, below_takes, below_again}
@@ -21,33 +22,34 @@ pub record Format (A : Type 0) : Type 1 where
   pub takes : Takes spelling Fits reading
   pub again : Again spelling Fits reading
   pub keeps : Keeps Fits refusal
+  pub ends : Ends reading
 
 -- a number below 2 ^ 64
 abbrev pub any_number : Format ℕ
-any_number = record { spelling = number; Fits = λ n. n < 2 ^ 64; reading = number_at; refusal = λ n. None; takes = number_takes; again = number_again; keeps = all_keeps (λ n. n < 2 ^ 64) }
+any_number = record { spelling = number; Fits = λ n. n < 2 ^ 64; reading = number_at; refusal = λ n. None; takes = number_takes; again = number_again; keeps = all_keeps (λ n. n < 2 ^ 64); ends = number_ends }
 
 abbrev pub number_below : ℕ → Format ℕ
-number_below limit = record { spelling = number; Fits = IsBelow limit; reading = below_at limit; refusal = λ n. None; takes = below_takes limit; again = below_again limit; keeps = all_keeps (IsBelow limit) }
+number_below limit = record { spelling = number; Fits = IsBelow limit; reading = below_at limit; refusal = λ n. None; takes = below_takes limit; again = below_again limit; keeps = all_keeps (IsBelow limit); ends = below_ends limit }
 
 abbrev pub blob : Format (List ℕ)
-blob = record { spelling = counted_bytes; Fits = BytesFit; reading = bytes_at; refusal = λ b. None; takes = bytes_takes; again = bytes_again; keeps = all_keeps BytesFit }
+blob = record { spelling = counted_bytes; Fits = BytesFit; reading = bytes_at; refusal = λ b. None; takes = bytes_takes; again = bytes_again; keeps = all_keeps BytesFit; ends = bytes_ends }
 
 abbrev pub text : Format (List ℕ)
-text = record { spelling = counted_bytes; Fits = TextFits; reading = text_at; refusal = λ b. None; takes = text_takes; again = text_again; keeps = all_keeps TextFits }
+text = record { spelling = counted_bytes; Fits = TextFits; reading = text_at; refusal = λ b. None; takes = text_takes; again = text_again; keeps = all_keeps TextFits; ends = text_ends }
 
 -- no bytes at all
 abbrev pub nothing : Format (Unit {0})
-nothing = record { spelling = λ u. []; Fits = Anything; reading = λ bytes. Ok (tt, bytes); refusal = λ u. None; takes = nothing_takes; again = λ u rest fits. refl; keeps = all_keeps Anything }
+nothing = record { spelling = λ u. []; Fits = Anything; reading = λ bytes. Ok (tt, bytes); refusal = λ u. None; takes = nothing_takes; again = λ u rest fits. refl; keeps = all_keeps Anything; ends = only_ends tt }
 
 -- No bytes, for the one value that needs none. All others are refused.
 abbrev pub only : {A : Type 0} (one : A) (refusal : A → Option Unkept) → refusal one ≡ None → Format A
-only one refusal kept = record { spelling = λ x. []; Fits = λ x. x ≡ one; reading = λ bytes. Ok (one, bytes); refusal = refusal; takes = only_takes one; again = only_again one; keeps = only_keeps one refusal kept }
+only one refusal kept = record { spelling = λ x. []; Fits = λ x. x ≡ one; reading = λ bytes. Ok (one, bytes); refusal = refusal; takes = only_takes one; again = only_again one; keeps = only_keeps one refusal kept; ends = only_ends one }
 
 abbrev pub byte : Format ℕ
-byte = record { spelling = one_byte; Fits = λ b. b < 256; reading = byte_at; refusal = λ b. None; takes = byte_takes; again = byte_again; keeps = all_keeps (λ b. b < 256) }
+byte = record { spelling = one_byte; Fits = λ b. b < 256; reading = byte_at; refusal = λ b. None; takes = byte_takes; again = byte_again; keeps = all_keeps (λ b. b < 256); ends = byte_ends }
 
 abbrev pub tag_below : ℕ → Format ℕ
-tag_below limit = record { spelling = one_byte; Fits = λ b. b < limit; reading = tag_at limit; refusal = λ b. None; takes = tag_takes limit; again = tag_again limit; keeps = all_keeps (λ b. b < limit) }
+tag_below limit = record { spelling = one_byte; Fits = λ b. b < limit; reading = tag_at limit; refusal = λ b. None; takes = tag_takes limit; again = tag_again limit; keeps = all_keeps (λ b. b < limit); ends = tag_ends limit }
 
 -- one field, and then another
 abbrev pub both : {A B : Type 0} → Format A → Format B → Format (A × B)
@@ -59,6 +61,7 @@ both F G = record {
   takes = both_takes F.spelling F.Fits F.reading G.spelling G.Fits G.reading F.takes G.takes;
   again = both_again F.spelling F.Fits F.reading G.spelling G.Fits G.reading F.again G.again;
   keeps = both_keeps F.Fits F.refusal G.Fits G.refusal F.keeps G.keeps;
+  ends = both_ends F.spelling F.Fits F.reading G.reading F.takes F.ends G.ends;
 }
 
 -- a field seen otherwise
@@ -71,6 +74,7 @@ seen to from there back F = record {
   takes = seen_takes to from F.spelling F.Fits F.reading there F.takes;
   again = seen_again to from F.spelling F.Fits F.reading back F.again;
   keeps = λ b fits. F.keeps (from b) fits;
+  ends = seen_ends to F.reading F.ends;
 }
 
 -- a field that passes a test
@@ -83,6 +87,7 @@ checked test fault F = record {
   takes = checked_takes F.spelling F.Fits F.reading test fault F.takes;
   again = checked_again F.spelling F.Fits F.reading test fault F.again;
   keeps = λ x fits. F.keeps x fits.0;
+  ends = checked_ends F.reading test fault F.ends;
 }
 
 -- how many, and each
@@ -95,6 +100,7 @@ counted F = record {
   takes = counted_takes F.spelling F.Fits F.reading F.takes;
   again = counted_again F.spelling F.Fits F.reading F.again;
   keeps = counted_keeps F.Fits F.refusal F.keeps;
+  ends = counted_ends F.spelling F.Fits F.reading F.takes F.ends;
 }
 
 -- 0, or 1 and a field
@@ -107,6 +113,7 @@ optional F = record {
   takes = optional_takes F.spelling F.Fits F.reading F.takes;
   again = optional_again F.spelling F.Fits F.reading F.again;
   keeps = optional_keeps F.Fits F.refusal F.keeps;
+  ends = optional_ends F.reading F.ends;
 }
 
 -- a tag and a field, or else a field that begins with no such tag
@@ -119,6 +126,7 @@ alternative tag F G apart = record {
   takes = alternative_takes tag F.spelling F.Fits F.reading G.spelling G.Fits G.reading F.takes G.takes;
   again = alternative_again tag F.spelling F.Fits F.reading G.spelling G.Fits G.reading apart F.again G.again;
   keeps = alternative_keeps F.Fits F.refusal G.Fits G.refusal F.keeps G.keeps;
+  ends = alternative_ends tag F.reading G.reading F.ends G.ends;
 }
 
 -- a tag, and a field behind it
@@ -131,4 +139,5 @@ headed tag fault F = record {
   takes = headed_takes tag fault F.spelling F.Fits F.reading F.takes;
   again = headed_again tag fault F.spelling F.Fits F.reading F.again;
   keeps = F.keeps;
+  ends = headed_ends tag fault F.reading F.ends;
 }

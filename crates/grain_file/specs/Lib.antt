@@ -1,3 +1,5 @@
+pub mod Ends
+pub mod FormEnds
 pub mod Formats
 pub mod Laws
 pub mod ListLaws

@@ -16,10 +16,11 @@ use Rattle.grain_file.specs.Switches.{SwitchParts, switch_parts, switch_format}
 use Rattle.grain_file.specs.Form.{Form, forms, spelled, value_refusal, FitsWithin}
 use Rattle.grain_file.specs.FormAt.{value_at}
 use Rattle.grain_file.specs.FormLaws.{value_takes, value_again}
+use Rattle.grain_file.specs.FormEnds.{value_ends}
 use Rattle.grain_file.specs.FormSound.{value_keeps, deepest}
 
 abbrev pub value_format : ℕ → Format Form
-value_format depth = record { spelling = spelled; Fits = FitsWithin depth; reading = value_at depth; refusal = value_refusal; takes = value_takes depth; again = value_again depth; keeps = value_keeps depth }
+value_format depth = record { spelling = spelled; Fits = FitsWithin depth; reading = value_at depth; refusal = value_refusal; takes = value_takes depth; again = value_again depth; keeps = value_keeps depth; ends = value_ends depth }
 
 -- ---- code and its chunks
 

@@ -41,6 +41,16 @@ abbrev pub Again : {A : Type 0} → (A → List ℕ) → (A → Type 0) → (Lis
 Again {A} spelling Fits reading =
     (x : A) (rest : List ℕ) → Fits x → reading (spelling x ++ rest) ≡ Ok (x, rest)
 
+-- what is left is an end of the bytes
+pub record IsEnd (left bytes : List ℕ) : Type 0 where
+  pub front : List ℕ
+  pub is : bytes ≡ front ++ left
+
+-- Where reading fails, what is wrong stands in the bytes.
+abbrev pub Ends : {A : Type 0} → (List ℕ → Result (A × List ℕ) Flaw) → Type 0
+Ends {A} reading =
+    (bytes : List ℕ) (fault : Fault) (left : List ℕ) → AreBytes bytes → reading bytes ≡ Err (fault, left) → IsEnd left bytes
+
 -- ---- what no file keeps
 
 -- nothing, of any value
