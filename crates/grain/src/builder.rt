@@ -24,14 +24,14 @@ pub struct Cut {
 }
 
 impl Cut {
-    // Whether it is a part of so many operations.
+    /// Whether it is a part of as many operations.
     fn lies_in(&self, count: usize) -> bool
         ensures { IsTrue result ↔ IsCut count (span_of self.now) }
     {
         self.first <= self.end && self.end <= count
     }
 
-    // The chunk from the address of its first operation up to the address of its end.
+    /// The chunk from the address of its first operation up to the address of its end.
     fn place(&self, offsets: &[u32]) -> Chunk
         requires some { 0 < length offsets.now }
         requires inside { IsCut (length offsets.now - 1) (span_of self.now) }

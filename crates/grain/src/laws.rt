@@ -9,5 +9,6 @@ pub use grain_program::laws::stripped_positions_come_back;
 pub use grain_rules::laws::{
     bodies_are_instructions, edges_are_steps, faults_elsewhere_are_kept,
     faults_land_on_catch_edges, indices_are_addresses, indices_in_bounds_lie_in_pools,
-    steps_stay_within_operands, switches_lead_inside, typings_are_typings_by_depth, walks_and_runs,
+    moves_elsewhere_are_kept, steps_stay_within_operands, switches_lead_inside,
+    typings_are_typings_by_depth, typings_cover_runs, walks_and_runs,
 };

@@ -30,7 +30,7 @@ pub(crate) struct Armed {
 
 /// Where a run stands.
 ///
-/// Contracts see a `State`: the machine as `grain` defines it, which counts operands, and the room.
+/// Contracts see a `State`: the machine as `grain_rules` defines it, which counts operands, and the room.
 #[derive(Drop)]
 pub(crate) struct Frame<V, I> {
     at: usize,

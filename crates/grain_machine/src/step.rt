@@ -23,7 +23,7 @@ pub enum How<V, F> {
     Faulted(F),
     /// A fault came that a handler would catch, and that the host doesn't let be caught.
     Uncatchable(F),
-    /// It has made as many moves as it may.
+    /// It has taken as many turns as it may.
     OutOfFuel,
     /// An iterator or a handler more wants memory that isn't there.
     OutOfMemory,

@@ -3,7 +3,7 @@
 //!
 //! What operations do to the stacks is the machine's, and proved there. What they mean for values docs/FORMAT.md leaves open.
 //! Here it is as Rhai's documentation tells it, as far as that goes and as [`Script`] says; all else is this host's own. Proved of
-//! it is that each call is safe and ends, and that the fault of an operation has the operation's address.
+//! it is that each call is safe and ends, and that a fault of `give` or `take` has the address of the operation.
 #![tactic(auto)]
 
 mod copies;

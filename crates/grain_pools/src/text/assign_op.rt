@@ -46,7 +46,7 @@ fn write_assign_op<L: Lookups>(
     Ok(())
 }
 
-// Writes the text of the op-assignment at the index.
+/// Writes the text of the op-assignment at the index.
 pub fn write_assign_op_at<L: Lookups>(
     out: &mut String,
     lookups: &L,

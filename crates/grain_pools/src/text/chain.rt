@@ -79,7 +79,7 @@ impl Chain {
     }
 }
 
-// What stands before a step that ends early where it is taken on unit.
+/// What precedes a step that ends early where it is taken on unit.
 fn mark(flags: StepFlags) -> &'static str {
     if flags.contains(StepFlags::SKIP_IF_UNIT) {
         "?"
@@ -88,7 +88,7 @@ fn mark(flags: StepFlags) -> &'static str {
     }
 }
 
-// Writes the arguments of a method: how many there are, and where the first lies among the operands.
+/// Writes the arguments of a method: how many there are, and which of the operands is the first.
 fn write_arguments(out: &mut String, argc: u8, operand: u16) -> Result<(), AllocError> {
     if argc == 0 {
         write!(out, "()")
@@ -132,7 +132,7 @@ fn write_step<L: Lookups>(
     }
 }
 
-// Writes the steps with a space between them.
+/// Writes the steps with a space between them.
 #[tactic(auto, using(crate::proofs::Missing::first_missing_append))]
 fn write_steps<L: Lookups>(
     out: &mut String,
@@ -150,7 +150,7 @@ fn write_steps<L: Lookups>(
     Ok(())
 }
 
-// Writes the root and its name.
+/// Writes the root and its name.
 fn write_root<L: Lookups>(
     out: &mut String,
     lookups: &L,
@@ -192,7 +192,7 @@ fn write_tail<L: Lookups>(
     }
 }
 
-// Writes the steps and the tail.
+/// Writes the steps and the tail.
 fn write_path<L: Lookups>(
     out: &mut String,
     lookups: &L,
@@ -219,7 +219,7 @@ fn write_chain<L: Lookups>(
     write_path(out, lookups, &chain.steps, &chain.tail)
 }
 
-// Writes the number of operands and the text of the chain at the index.
+/// Writes the number of operands and the text of the chain at the index.
 pub fn write_chain_at<L: Lookups>(
     out: &mut String,
     lookups: &L,

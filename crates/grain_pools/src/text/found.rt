@@ -9,7 +9,7 @@ use crate::lookups::Lookups;
 use crate::switch::Switch;
 use grain_values::{Dynamic, Token};
 
-// The name at the index.
+/// The name at the index.
 pub fn find_name<L: Lookups>(lookups: &L, index: u32) -> Result<&str, DisassembleError>
     ensures { LooksUp (L.pools lookups.now) (λ _. name index ∷ []) result }
 {
@@ -19,7 +19,7 @@ pub fn find_name<L: Lookups>(lookups: &L, index: u32) -> Result<&str, Disassembl
     })
 }
 
-// The constant at the index.
+/// The constant at the index.
 pub fn find_constant<L: Lookups>(lookups: &L, index: u32) -> Result<&Dynamic, DisassembleError>
     ensures { LooksUp (L.pools lookups.now) (λ _. constant index ∷ []) result }
 {
@@ -29,7 +29,7 @@ pub fn find_constant<L: Lookups>(lookups: &L, index: u32) -> Result<&Dynamic, Di
     })
 }
 
-// The operator at the index.
+/// The operator at the index.
 pub fn find_token<L: Lookups>(lookups: &L, index: u32) -> Result<&Token, DisassembleError>
     ensures { LooksUp (L.pools lookups.now) (λ _. operator index ∷ []) result }
 {
@@ -39,7 +39,7 @@ pub fn find_token<L: Lookups>(lookups: &L, index: u32) -> Result<&Token, Disasse
     })
 }
 
-// The op-assignment at the index.
+/// The op-assignment at the index.
 pub(super) fn find_assign_op<L: Lookups>(
     lookups: &L,
     index: u32,
@@ -54,7 +54,7 @@ pub(super) fn find_assign_op<L: Lookups>(
     })
 }
 
-// The chain at the index.
+/// The chain at the index.
 pub(super) fn find_chain<L: Lookups>(lookups: &L, index: u32) -> Result<&Chain, DisassembleError>
     ensures looked_up { LooksUp (L.pools lookups.now) (λ _. chain index ∷ []) result }
     ensures found { IfOk result (λ chain.
@@ -66,7 +66,7 @@ pub(super) fn find_chain<L: Lookups>(lookups: &L, index: u32) -> Result<&Chain, 
     })
 }
 
-// The switch at the index.
+/// The switch at the index.
 pub(super) fn find_switch<L: Lookups>(lookups: &L, index: u32) -> Result<&Switch, DisassembleError>
     ensures looked_up { LooksUp (L.pools lookups.now) (λ _. switch index ∷ []) result }
     ensures found { IfOk result (λ switch.

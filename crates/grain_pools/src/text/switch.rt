@@ -56,7 +56,7 @@ fn write_range(out: &mut String, range: &SwitchRange) -> Result<(), AllocError> 
     }
 }
 
-// Of each case its target and the index of its constant.
+/// Of each case its target and the index of its constant.
 fn cases_of(alloc: Global, switch: &Switch) -> Result<Vec<(u32, u32)>, AllocError>
     ensures { IfOk result
         (λ cases. cases.items ≡ map (λ c. c.1) (listed (arms switch.now).cases)) }
@@ -71,7 +71,7 @@ fn cases_of(alloc: Global, switch: &Switch) -> Result<Vec<(u32, u32)>, AllocErro
     Ok(listed)
 }
 
-// The same in the order of the text.
+/// The same in the order of the text.
 fn ordered_cases(alloc: Global, switch: &Switch) -> Result<Vec<(u32, u32)>, AllocError>
     ensures { IfOk result (λ cases. cases.items ≡ ordered_cases switch.now) }
 {
@@ -80,7 +80,7 @@ fn ordered_cases(alloc: Global, switch: &Switch) -> Result<Vec<(u32, u32)>, Allo
     Ok(cases)
 }
 
-// Writes the cases, each with a comma behind it.
+/// Writes the cases, each with a comma after it.
 fn write_cases<L: Lookups>(
     out: &mut String,
     lookups: &L,
@@ -95,7 +95,7 @@ fn write_cases<L: Lookups>(
     Ok(())
 }
 
-// Writes the ranges, each with a comma behind it.
+/// Writes the ranges, each with a comma after it.
 fn write_ranges(out: &mut String, ranges: &[SwitchRange]) -> Result<(), AllocError> {
     for range in ranges {
         write_range(out, range)?;
@@ -120,7 +120,7 @@ fn write_switch<L: Lookups>(
     Ok(())
 }
 
-// Writes the text of the switch at the index.
+/// Writes the text of the switch at the index.
 pub fn write_switch_at<L: Lookups>(
     out: &mut String,
     lookups: &L,
