@@ -22,9 +22,9 @@ pub use grain_bytecode::{
     AssembleError, AssignOp, BadTable, Chain, ChainPositions, Chunk, DisassembleError, Disassembly,
     Field, Fields, Flow, Function, Head as InstructionHead, Instruction, Lookups, Names, Op, Pool,
     Positions, Receiver, Root, Starts, Step, StepFlags, Strings, StringsError, StripError, Switch,
-    SwitchRange, TableError, TagRow, Tail, assemble, count_instructions, decode,
-    decode_standing, disassemble, names, resolve_switch_targets, site_to_position, sites, tag,
-    tag_row, u16_at, u32_at, width,
+    SwitchRange, TableError, TagRow, Tail, assemble, count_instructions, decode, decode_standing,
+    disassemble, names, resolve_switch_targets, site_to_position, sites, tag, tag_row, u16_at,
+    u32_at, width,
 };
 pub use grain_explain::{
     ExplainError, ExplainedChunk, LinkedBase, Refusal as ExplainedRefusal, Row, TypingError,

@@ -14,8 +14,8 @@ pub mod sites;
 pub use assembler::assemble;
 pub use grain_code::{
     Chunk, Disassembly, Field, Fields, Flow, Function, Head, Instruction, Op, Pool, Receiver,
-    Starts, TagRow, count_instructions, decode, decode_standing, disassemble, tag, tag_row,
-    u16_at, u32_at, width,
+    Starts, TagRow, count_instructions, decode, decode_standing, disassemble, tag, tag_row, u16_at,
+    u32_at, width,
 };
 pub use grain_names::{BadTable, Names, Strings, StringsError, names};
 pub use grain_pools::{

@@ -2,8 +2,7 @@
 
 use crate::samples::{assert_same, assert_texts, made};
 use grain_bytecode::{
-    AssembleError, Op, Receiver, assemble, count_instructions, decode, disassemble,
-    tag_row,
+    AssembleError, Op, Receiver, assemble, count_instructions, decode, disassemble, tag_row,
 };
 use std::alloc::Global;
 use std::process::Abort;

@@ -5,7 +5,9 @@ use crate::handlers::{Handlers, SHOWN};
 use crate::listing::{Body, Listing, ProgramListing};
 use crate::sentence::{rule, write_wrong};
 use crate::text::{depths_at, row_at, write_hex};
-use grain::{Chunk, Effect, ExplainedChunk, ExplainedRefusal, Flow, LinkedBase, Op, Row, VerifyError};
+use grain::{
+    Chunk, Effect, ExplainedChunk, ExplainedRefusal, Flow, LinkedBase, Op, Row, VerifyError,
+};
 use json::Writer;
 use std::alloc::{AllocError, Global};
 
