@@ -8,7 +8,8 @@ ghost use Rattle.grain_file.specs.Formats.{Format, any_number, number_below, tex
 
 use crate::cursor::Cursor;
 use crate::error::{Fault, Stop, Unkept, WriteError};
-use crate::number::{put_integer, put_number, put_string, read_integer};
+use crate::integer::{put_integer, read_integer};
+use crate::number::{put_number, put_string};
 use grain::Position;
 
 /// A type whose values are fields of a file.

@@ -12,6 +12,7 @@ mod error;
 mod field;
 mod file;
 mod functions;
+mod integer;
 pub mod laws;
 mod lists;
 mod loading;

@@ -1,14 +1,10 @@
 //! Numbers in groups of seven bits, the lowest first, in their shortest spelling.
 ghost use Rattle.std.specs.Prelude.{◌≡◌, ◌<◌, ◌^◌, ◌++◌, length, string_bytes, OnOk, MatchResult, Ok, Err};
 ghost use Rattle.grain_file.specs.Numbers.{groups, groups_at, number};
-ghost use Rattle.grain_base.specs.Varint.{zigzag};
-ghost use Rattle.grain_file.specs.Reading.{Gives};
 ghost use Rattle.grain_file.specs.Texts.{counted_bytes};
 ghost use Rattle.grain_file.specs.TextLaws.{TextFits};
-ghost use Rattle.grain_file.specs.FormAt.{integer_at, signed};
 
-use crate::cursor::Cursor;
-use crate::error::{Fault, Stop};
+use crate::error::Fault;
 use std::alloc::AllocError;
 
 /// The number at the front of the bytes, and what follows it; so many groups more than one may be read.
@@ -77,42 +73,6 @@ pub fn put_bytes(out: &mut Vec<u8>, bytes: &[u8]) -> Result<(), AllocError>
     let len = bytes.len();
     put_number(out, len as u64)?;
     out.extend_from_slice(bytes)?;
-    Ok(())
-}
-
-/// The signed number that a number stands for.
-fn signed(n: u64) -> i64
-    ensures { result ≡ signed n }
-{
-    let half = (n / 2) as i64;
-    if n % 2 == 0 { half } else { -half - 1 }
-}
-
-/// The number that a signed one is spelled as.
-fn zigzag(z: i64) -> u64
-    ensures { result ≡ zigzag z }
-{
-    if z < 0 {
-        2 * (-(z + 1)) as u64 + 1
-    } else {
-        2 * z as u64
-    }
-}
-
-/// Reads a signed number.
-pub(crate) fn read_integer(cursor: &mut Cursor<'_>) -> Result<i64, Stop>
-    ensures { Gives (λ z. z) result cursor.new.left.now (integer_at cursor.old.left.now) }
-{
-    let n = cursor.number()?;
-    Ok(signed(n))
-}
-
-/// Appends a signed number.
-pub(crate) fn put_integer(out: &mut Vec<u8>, z: i64) -> Result<(), AllocError>
-    ensures spelled { OnOk result (out.new.items ≡ out.old.items ++ number (zigzag z)) }
-    ensures fits { zigzag z < 2 ^ 64 }
-{
-    put_number(out, zigzag(z))?;
     Ok(())
 }
 

@@ -10,8 +10,9 @@ ghost use Rattle.grain_file.specs.FormAt.{behind_tag, character_at, counted_entr
 
 use crate::cursor::Cursor;
 use crate::error::{Fault, Stop, Unkept, WriteError};
+use crate::integer::{put_integer, read_integer};
 use crate::lists::reserve;
-use crate::number::{put_bytes, put_integer, put_number, put_string, read_integer};
+use crate::number::{put_bytes, put_number, put_string};
 use grain::{Dynamic, FnPtr};
 use std::alloc::AllocError;
 use std::collections::BTreeMap;
