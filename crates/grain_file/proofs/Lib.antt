@@ -9,3 +9,4 @@ pub mod Pushed
 pub mod Tags
 pub mod TextReads
 pub mod Whole
+pub mod Writable

@@ -22,3 +22,4 @@ pub mod Switches
 pub mod ProgramFile
 pub mod Causes
 pub mod Loading
+pub mod Writable

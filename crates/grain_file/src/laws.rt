@@ -1,8 +1,10 @@
 //! Laws of program files.
 //!
-//! The function does nothing: its contract is the law.
-ghost use Rattle.std.specs.Prelude.{◌≡◌, ◌≤◌, ℕ, List};
-ghost use Rattle.grain_file.specs.ProgramFile.{IsFile, Kept};
+//! The functions do nothing: each contract is a law.
+ghost use Rattle.std.specs.Prelude.{◌≡◌, ◌≤◌, ◌↔◌, ℕ, List, None};
+ghost use Rattle.grain_program.specs.Program.{Program};
+ghost use Rattle.grain_file.specs.ProgramFile.{IsFile, Kept, kept, refusal_of};
+ghost use Rattle.grain_file.specs.Writable.{IsWritable};
 
 /// A program has one file and a file is of one program, whatever the depths that readers let values nest. A file within a
 /// depth is one within a greater depth.
@@ -13,4 +15,9 @@ pub fn files_are_canonical()
         → IsFile depth a k → IsFile other a l → k ≡ l }
     ensures deeper { (depth more : ℕ) (a : List ℕ) (k : Kept)
         → depth ≤ more → IsFile depth a k → IsFile more a k }
+{}
+
+/// No reason stands against a program, so that it is written, exactly where it has nothing that no file keeps.
+pub fn writable_programs_are_written()
+    ensures { (p : Program) → (refusal_of (kept p) ≡ None) ↔ IsWritable p }
 {}
