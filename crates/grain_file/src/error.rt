@@ -9,7 +9,7 @@ use thiserror::Error;
 #[derive(Clone, Copy, Debug, PartialEq, Eq, Error)]
 pub enum Fault {
     /// The bytes don't begin as a file does.
-    #[error("no file of this kit")]
+    #[error("not a Grain file")]
     Magic,
     /// The file is of a version that this reader doesn't know.
     #[error("unknown version")]
