@@ -19,7 +19,7 @@ character_at = checked_at scalar NotCharacter (below_at (2 ^ 32))
 abbrev pub integer_at : List ℕ → Result (ℤ × List ℕ) Flaw
 integer_at = seen_at signed number_at
 
--- so many entries, whose keys ascend from behind the last one on
+-- a number of entries, whose keys ascend after the last one
 unfoldable pub entries_at : (List ℕ → Result (Form × List ℕ) Flaw) → ℕ → Option (List ℕ) → List ℕ → Result (List (List ℕ × Form) × List ℕ) Flaw
 entries_at value zero last bytes = Ok ([], bytes)
 entries_at value (suc n) last bytes =

@@ -66,7 +66,7 @@ rest_format = both (optional text) (both positions_format (only 0 residuals_refu
 abbrev pub Kept : Type 0
 Kept = CodeParts × (PoolParts × RestParts)
 
--- what of a program is kept: all but where it lies in memory
+-- what of a program is kept: all except where it is in memory
 abbrev pub kept : Program → Kept
 kept p = (
   (p.caps.0, (halves p.debug_id, (p.code, (p.main, map function_parts p.functions)))),

@@ -223,7 +223,7 @@ fn join(low: u64, high: u64) -> u128
     u128::from(high) * (1 << 64) + u128::from(low)
 }
 
-/// The pools of a program, but where instructions stand in the source text.
+/// The pools of a program, without positions.
 #[derive(Drop)]
 struct PoolFields {
     names: Strings,

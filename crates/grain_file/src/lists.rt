@@ -10,7 +10,7 @@ use crate::error::{Stop, WriteError};
 use crate::field::Field;
 use crate::number::put_number;
 
-/// For how many items room is made before they are read, where so many are counted and so many bytes are left.
+/// For how many items room is made before they are read: never for more than there are bytes left.
 pub(crate) fn reserve(count: u64, left: usize) -> usize
     ensures counted { result ≤ count }
     ensures there { result ≤ left }

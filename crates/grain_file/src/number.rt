@@ -7,7 +7,7 @@ ghost use Rattle.grain_file.specs.TextLaws.{TextFits};
 use crate::error::Fault;
 use std::alloc::AllocError;
 
-/// The number at the front of the bytes, and what follows it; so many groups more than one may be read.
+/// The number at the front of the bytes, and what follows it. After the first group at most `more` groups are read.
 #[tactic(auto, unfolding(crate::specs::Numbers::groups_at))]
 pub(crate) fn groups(bytes: &[u8], more: u8) -> Result<(u64, &[u8]), Fault>
     ensures { MatchResult result
@@ -37,7 +37,7 @@ pub(crate) fn groups(bytes: &[u8], more: u8) -> Result<(u64, &[u8]), Fault>
     }
 }
 
-/// Appends a number, in so many groups more than one at most.
+/// Appends a number, in a first group and at most `more` further ones.
 #[tactic(auto, unfolding(crate::specs::Numbers::groups))]
 fn put_groups(out: &mut Vec<u8>, n: u64, more: u8) -> Result<(), AllocError>
     ensures { OnOk result (out.new.items ≡ out.old.items ++ groups more n) }

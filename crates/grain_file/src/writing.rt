@@ -25,7 +25,7 @@ pub fn write(alloc: Global, program: &Program) -> Result<Vec<u8>, WriteError>
     // What is written is a file of the program, for readers that let values nest as deep as they do in it.
     ensures file { IfOk result (λ v. (depth : ℕ) → nesting_of (kept program.now) ≤ depth
         → IsFile depth v.items (kept program.now)) }
-    // It is written exactly where no reason stands against it, and otherwise the first reason is told, memory apart.
+    // Unless memory runs out, it is written exactly where there is no reason against it; otherwise the first reason is named.
     ensures decides { Decides result (refusal_of (kept program.now)) }
     // A program that has a file is written, memory apart.
     ensures accepts { (depth : ℕ) (bytes : List ℕ) → IsFile depth bytes (kept program.now)
