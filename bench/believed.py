@@ -22,8 +22,8 @@ TITLE = "## What you have to believe"
 FUNCTIONS = {
     "verify": "grain_verify/src/verifier.rt",
     "verify_metered": "grain_verify/src/verifier.rt",
-    "Program::verify": "grain_program/src/tighten.rt",
-    "Program::tighten_stack": "grain_program/src/tighten.rt",
+    "Program::verify": "grain/src/tighten.rt",
+    "Program::tighten_stack": "grain/src/tighten.rt",
     "build": "grain/src/builder.rt",
 }
 

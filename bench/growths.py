@@ -39,8 +39,8 @@ PREPARING = {"error: AllocError", "error: AllocFailed { .. }", "error: OutOfMemo
 
 # The crate that has the tests of each.
 TESTS = {
-    "grain_base": "grain_base_tests",
-    "grain_bytecode": "grain_bytecode_tests",
+    "grain_base": "grain_lower_tests",
+    "grain_bytecode": "grain_lower_tests",
     "grain": "grain_tests",
     "grain_explain": "grain_tests",
     "grain_machine": "grain_machine_tests",
@@ -54,7 +54,7 @@ CALLS = {
         "put_i64": "`varint::put_i64`",
         "put_behind_others": "`varint::put_u64` behind 30 bytes",
         "encode": "`pos::encode`",
-        "error_texts": "`Display` of `pos::Error`",
+        "pos_error_texts": "`Display` of `pos::Error`",
     },
     "grain_bytecode": {
         "assemble": "`assemble`",

@@ -5,8 +5,8 @@ use Rattle.std.specs.List.{All, AllByRecursion, AllZip}
 use Rattle.std.proofs.lemmas.List.{get_or_default, map-append}
 use Rattle.std.proofs.lemmas.List.Elements.{All-map, All-weaker}
 use Rattle.std.proofs.lemmas.Simd.{map-map}
-use Rattle.grain_values.specs.CapBits.{FUNCTION}
-use Rattle.grain_values.specs.declared.caps.Caps.{Caps}
+use Rattle.grain_base.specs.CapBits.{FUNCTION}
+use Rattle.grain_base.specs.declared.caps.Caps.{Caps}
 use Rattle.grain_code.specs.Assembly.{assembled}
 use Rattle.grain_pools.specs.Dispatch as dispatch
 use Rattle.grain_pools.specs.Dispatch.{Arms, Case, arms, offset_at, resolved, resolved_case, resolved_range, arm_targets}
@@ -28,7 +28,7 @@ use Rattle.grain_rules.specs.ByIndex.{IsCut, LeadWithin, span_moved}
 use Rattle.grain_rules.specs.Capabilities.{Allows}
 use Rattle.grain_rules.specs.Code.{Bytecode, coded, switch_targets}
 use Rattle.grain_rules.specs.Indices.{Indexed, IsPassed, case_constants, cases_of, field_mentions, further, own_mentions, test_of, tests_of}
-use Rattle.grain_program.specs.Program.{Program, chunks_of, input_of, setting_of}
+use Rattle.grain.specs.Program.{Program, chunks_of, input_of, setting_of}
 use Rattle.grain_rules.specs.Facts.{Mention, Entry, case_consts}
 use Rattle.grain_rules.specs.Setting.{Setting, with_caps}
 use Rattle.grain_rules.specs.Typing.{HasTyping, IsDeepest}

@@ -1,3 +1,10 @@
+pub mod Attaching
 pub mod Building
+pub mod Declared
+pub mod Drawing
+pub mod Firsts
+pub mod Inputs
 pub mod Laying
 pub mod Refusing
+pub mod Restoring
+pub mod Tightening

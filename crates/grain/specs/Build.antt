@@ -1,14 +1,15 @@
 -- Building a program from operations: what is handed over, when it passes, and what becomes of it.
 use Rattle.std.specs.Prelude.{◌≡◌, ◌≢◌, ◌⊎◌, ℕ, ◌+◌, ◌<◌, List, [], length, map, slice_index, ◌++◌, codes, decimal}
 use Rattle.std.specs.List.{All, AllWithin, AllZip, HoldsAt}
-use Rattle.grain_values.specs.CapBits.{FUNCTION}
-use Rattle.grain_values.specs.declared.caps.Caps.{Caps}
-use Rattle.grain_pools.specs.AssembleErrors as assemble_errors
-use Rattle.grain_code.specs.Assembly.{CanAssemble, IsAssembly, IsAssemblyFlaw}
+use Rattle.grain_base.specs.CapBits.{FUNCTION}
+use Rattle.grain_base.specs.declared.caps.Caps.{Caps}
+use Rattle.grain_bytecode.specs.AssembleErrors as assemble_errors
+use Rattle.grain_code.specs.Assembly.{CanAssemble, IsAssembly}
+use Rattle.grain_bytecode.specs.AssemblyFlaws.{IsAssemblyFlaw}
 use Rattle.grain_pools.specs.Dispatch.{IsFirstPast, arms, resolved}
 use Rattle.grain_code.specs.Span.{Span}
-use Rattle.grain_pools.specs.declared.error.AssembleError.{AssembleError}
-use Rattle.grain_pools.specs.declared.error.AssembleError.TheVariants as refusals
+use Rattle.grain_bytecode.specs.declared.assemble_error.AssembleError.{AssembleError}
+use Rattle.grain_bytecode.specs.declared.assemble_error.AssembleError.TheVariants as refusals
 use Rattle.grain_code.specs.declared.function.Function.{Function}
 use Rattle.grain_code.specs.declared.op.Op.{Op}
 use Rattle.grain_rules.specs.Accepted.{ConstantPasses}
@@ -17,7 +18,7 @@ use Rattle.grain_rules.specs.Capabilities.{Allows}
 use Rattle.grain_rules.specs.Code.{Code, switch_targets}
 use Rattle.grain_rules.specs.Flaw.{Flaw}
 use Rattle.grain_rules.specs.Indices.{Indexed}
-use Rattle.grain_program.specs.Program.{Program, chunks_of, input_of, made}
+use Rattle.grain.specs.Program.{Program, chunks_of, input_of, made}
 use Rattle.grain_rules.specs.Facts.{facts_with}
 use Rattle.grain_rules.specs.Setting.{Setting, with_caps}
 use Rattle.grain_rules.specs.Texts.{verify_error_text}
@@ -28,7 +29,7 @@ use Rattle.grain.specs.declared.builder.Cut.{Cut}
 use Rattle.grain.specs.declared.builder.Head.{Head}
 use Rattle.grain_rules.specs.declared.error.VerifyError.{VerifyError}
 use Rattle.grain_rules.specs.declared.error.VerifyError.TheVariants as faults
-use Rattle.grain_program.specs.declared.program.Parts.{Parts}
+use Rattle.grain.specs.declared.program.Parts.{Parts}
 
 -- what is handed over: operations by index, of which each cut is a chunk, the first of them the top level and each other the
 -- body of the function with the head at its place

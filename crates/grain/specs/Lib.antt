@@ -1,15 +1,21 @@
 -- what is promised
+pub mod Program
+pub mod Lookups
+pub mod Tightened
+pub mod Sidecars
 pub mod Build
 pub mod Explanations
+-- what the parts of calls promise each other
+pub mod Slots
 -- definitions of the crates below, of every call that this crate re-exports
-pub use Rattle.grain_values.proofs.KnownCaps
+pub use Rattle.grain_base.proofs.KnownCaps
 pub use Rattle.grain_base.specs.AddressTable
-pub use Rattle.grain_values.specs.CapBits
-pub use Rattle.grain_values.specs.Content
+pub use Rattle.grain_base.specs.CapBits
+pub use Rattle.grain_base.specs.Content
 pub use Rattle.grain_base.specs.EntriesLeft
-pub use Rattle.grain_values.specs.Place
+pub use Rattle.grain_base.specs.Place
 pub use Rattle.grain_base.specs.Varint
-pub use Rattle.grain_values.specs.View
+pub use Rattle.grain_base.specs.View
 pub use Rattle.grain_base.specs.declared.pos.Site
 pub use Rattle.grain_code.specs.Assembly
 pub use Rattle.grain_pools.specs.Chain
@@ -20,12 +26,12 @@ pub use Rattle.grain_code.specs.Flows
 pub use Rattle.grain_pools.specs.Dispatch
 pub use Rattle.grain_code.specs.InstructionTable
 pub use Rattle.grain_pools.specs.LookedUp
-pub use Rattle.grain_names.specs.Names
-pub use Rattle.grain_names.specs.NamesLeft
+pub use Rattle.grain_pools.specs.Names
+pub use Rattle.grain_pools.specs.NamesLeft
 pub use Rattle.grain_code.specs.Numbers
 pub use Rattle.grain_pools.specs.Pools
 pub use Rattle.grain_bytecode.specs.Positions
-pub use Rattle.grain_names.specs.Qualified
+pub use Rattle.grain_pools.specs.Qualified
 pub use Rattle.grain_code.specs.Span
 pub use Rattle.grain_code.specs.Split
 pub use Rattle.grain_code.specs.Starts
@@ -63,7 +69,3 @@ pub use Rattle.grain_explain.specs.RowView
 pub use Rattle.grain_explain.specs.Ways
 pub use Rattle.grain_verify.specs.Meter
 pub use Rattle.grain_verify.specs.Refusals
-pub use Rattle.grain_program.specs.Program
-pub use Rattle.grain_program.specs.Lookups
-pub use Rattle.grain_program.specs.Tightened
-pub use Rattle.grain_program.specs.Sidecars

@@ -5,9 +5,10 @@ ghost use Rattle.grain_code.specs.Assembly.{CanAssemble};
 ghost use Rattle.grain.specs.Build.{AreCuts, AreDeepestByIndex, BuildFlaw, CanBuild, CanLay, IsFirstBadCut, IsLaid, draft, head_of, span_of};
 ghost use Rattle.grain_rules.specs.ByIndex.{IsCut, span_moved};
 
+use crate::program::{Parts, Program};
 use grain_base::{Caps, FnAccess};
-use grain_bytecode::{AssembleError, Chunk, Function, Op, assemble, resolve_switch_targets};
-use grain_program::{Parts, Program};
+use grain_bytecode::{AssembleError, assemble, resolve_switch_targets};
+use grain_code::{Chunk, Function, Op};
 use grain_rules::VerifyError;
 use std::alloc::{AllocError, AllocFailed, Global};
 use std::fmt;

@@ -4,7 +4,7 @@ ghost use Rattle.grain_rules.specs.Accepted.{input_beside};
 ghost use Rattle.grain.specs.Explanations.{IsExplanation};
 
 use grain_base::{Caps, Dynamic};
-use grain_bytecode::{Chunk, Function};
+use grain_code::{Chunk, Function};
 use grain_explain::{ExplainError, ExplainedChunk, explain_chunks};
 use grain_rules::{Read, VerifyError};
 use grain_verify::{Meter, Refusal, verify_read};

@@ -5,7 +5,9 @@ pub mod Encoding
 pub mod Entries
 pub mod Groups
 pub mod Kept
+pub mod KnownCaps
 pub mod Numbers
+pub mod Parts
 pub mod Reading
 pub mod Resolving
 pub mod Rising

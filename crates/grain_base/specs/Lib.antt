@@ -1,9 +1,8 @@
 pub mod AddressTable
+pub mod CapBits
+pub mod Content
+pub mod ContentLaws
 pub mod EntriesLeft
+pub mod Place
 pub mod Varint
--- definitions of what this crate re-exports
-pub use Rattle.grain_values.specs.CapBits
-pub use Rattle.grain_values.specs.Content
-pub use Rattle.grain_values.specs.ContentLaws
-pub use Rattle.grain_values.specs.Place
-pub use Rattle.grain_values.specs.View
+pub mod View

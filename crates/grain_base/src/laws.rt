@@ -5,11 +5,11 @@ ghost use Rattle.grain_base.specs.Varint.{Spells, IsShortest, NumberStandsAt, zi
 ghost use Rattle.grain_base.specs.AddressTable.{Entry, Table, LongestFront};
 ghost use Rattle.std.specs.Int.RustNames.{bit_and};
 ghost use Rattle.bitflags.specs.Sets.{known_bits};
-ghost use Rattle.grain_values.specs.CapBits.{caps_table};
-ghost use Rattle.grain_values.specs.Content.{Content, same};
-ghost use Rattle.grain_values.specs.Place.{place_of};
+ghost use Rattle.grain_base.specs.CapBits.{caps_table};
+ghost use Rattle.grain_base.specs.Content.{Content, same};
+ghost use Rattle.grain_base.specs.Place.{place_of};
 
-use grain_values::Position;
+use crate::position::Position;
 
 /// No spelling of a number begins another, and bytes spell one number at most.
 pub fn no_spelling_begins_another()

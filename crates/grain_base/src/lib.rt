@@ -1,9 +1,19 @@
-//! The ground that Rhai Grain bytecode stands on: numbers, the address table, and, from `grain_values`, values, the capabilities
-//! that a program may ask of its host, source positions and operator tokens.
+//! The base of Rhai Grain bytecode: numbers of variable length, the address table, values, capabilities that a program requires
+//! of its host, source positions and operator tokens.
 #![tactic(auto)]
 
+mod access;
+mod caps;
 pub mod laws;
 pub mod pos;
+mod position;
+mod token;
+mod value;
 pub mod varint;
 
-pub use grain_values::{Caps, Dynamic, Flags, FnAccess, FnPtr, HostValue, Position, Token};
+pub use access::FnAccess;
+pub use bitflags::Flags;
+pub use caps::Caps;
+pub use position::Position;
+pub use token::Token;
+pub use value::{Dynamic, FnPtr, HostValue};

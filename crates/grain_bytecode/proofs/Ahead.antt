@@ -10,7 +10,7 @@ use Rattle.grain_base.specs.AddressTable.{Entry, addresses, AreEntries, AreDue, 
 use Rattle.grain_base.specs.EntriesLeft.{EntriesLeft}
 use Rattle.grain_base.specs.Varint.{BeginsNumbers}
 use Rattle.grain_base.specs.declared.pos.Site.{Site}
-use Rattle.grain_values.specs.declared.position.Position.{Position}
+use Rattle.grain_base.specs.declared.position.Position.{Position}
 use Rattle.grain_bytecode.specs.Positions.{AreAhead, IsPlaced, from_address, code_site}
 
 -- one step from entries that are due

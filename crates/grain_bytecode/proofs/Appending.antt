@@ -5,9 +5,9 @@ use Rattle.std.proofs.lemmas.Bool.{cases_eq, eq-eqb, ne_eqb}
 use Rattle.std.proofs.lemmas.List.{append-nil, length-map, take_all}
 use Rattle.std.proofs.lemmas.Grind.{flat_map-append}
 use Rattle.std.proofs.Math.Seq.{take-suc}
-use Rattle.grain_values.specs.Place.{line_of, column_of}
+use Rattle.grain_base.specs.Place.{line_of, column_of}
 use Rattle.grain_base.specs.Varint.{AppendsShortest, AreShortest, BeginsNumbers}
-use Rattle.grain_values.specs.declared.position.Position.{Position}
+use Rattle.grain_base.specs.declared.position.Position.{Position}
 use Rattle.grain_pools.specs.declared.chain.Chain.{Chain}
 use Rattle.grain_pools.specs.Chain.{positions}
 use Rattle.grain_bytecode.specs.ChainStream.{Stream, AppendsAll, all_positions, numbers_of, recorded, site_of, sites_of}

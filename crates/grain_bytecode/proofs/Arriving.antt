@@ -11,9 +11,9 @@ use Rattle.std.proofs.lemmas.List.Folds.{list_any-append}
 use Rattle.std.proofs.lemmas.List.FromFn.{fill_by_all}
 use Rattle.std.proofs.lemmas.List.Sums.{sum_by_push}
 use Rattle.grain_base.specs.AddressTable.{Entry, Table}
-use Rattle.grain_values.specs.Place.{place_of}
+use Rattle.grain_base.specs.Place.{place_of}
 use Rattle.grain_base.specs.declared.pos.Site.{Site}
-use Rattle.grain_values.specs.declared.position.Position.{Position}
+use Rattle.grain_base.specs.declared.position.Position.{Position}
 use Rattle.grain_bytecode.specs.Positions.{Arrived, IsPlaced, site_place, code_site, matched, byte_place, table_places}
 use Rattle.grain_code.specs.Split.{BeginsNone, StandsAt, NoneStandsAt, AreInstructions, starts_from, Split}
 use Rattle.grain_code.specs.InstructionTable.{width_of}

@@ -10,8 +10,8 @@ use Rattle.std.proofs.lemmas.List.{append-nil, length-map, length-take-le}
 use Rattle.std.proofs.lemmas.List.Elements.{filter_map-append}
 use Rattle.grain_base.proofs.Rising.{RisesFrom, rises_up}
 use Rattle.grain_base.specs.AddressTable.{Entry, addresses, kept}
-use Rattle.grain_values.specs.Place.{place_of, line_of, column_of, is_none as no_place}
-use Rattle.grain_values.specs.declared.position.Position.{Position}
+use Rattle.grain_base.specs.Place.{place_of, line_of, column_of, is_none as no_place}
+use Rattle.grain_base.specs.declared.position.Position.{Position}
 use Rattle.std.specs.List.Sorted.{IsStrictlyIncreasing}
 use Rattle.grain_bytecode.specs.Positions.{entry_of, entries_at_places}
 

@@ -5,10 +5,11 @@ use Rattle.std.proofs.lemmas.List.{take-append-drop, length-take}
 use Rattle.grain_code.specs.declared.op.Op.{Op}
 use Rattle.grain_code.specs.declared.field.Field.{Field}
 use Rattle.grain_code.specs.declared.tag.TheConstants.{CALL_NAMED_REF}
-use Rattle.grain_pools.specs.declared.error.AssembleError.{AssembleError}
-use Rattle.grain_pools.specs.declared.error.AssembleError.TheVariants.{PoolTooLarge, JumpOutOfRange, SwitchTargetOutOfRange, ChunkTooLarge, OutOfMemory}
+use Rattle.grain_bytecode.specs.declared.assemble_error.AssembleError.{AssembleError}
+use Rattle.grain_bytecode.specs.declared.assemble_error.AssembleError.TheVariants.{PoolTooLarge, JumpOutOfRange, SwitchTargetOutOfRange, ChunkTooLarge, OutOfMemory}
 use Rattle.grain_code.specs.InstructionTable.{form}
-use Rattle.grain_code.specs.Assembly.{IsWritable, AreWritable, EachWritable, HasShortCode, CanAssemble, Accuses, AccusesFirst, AccusesFirstOf, IsAssemblyFlaw, named_receiver, tested}
+use Rattle.grain_code.specs.Assembly.{IsWritable, AreWritable, EachWritable, HasShortCode, CanAssemble}
+use Rattle.grain_bytecode.specs.AssemblyFlaws.{Accuses, AccusesFirst, AccusesFirstOf, IsAssemblyFlaw, named_receiver, tested}
 
 -- a list, cut round one of its elements
 pub cut_round : {X : Type 0} (xs : List X) (i : ℕ) (d : X) → i < length xs → xs ≡ take i xs ++ get_or xs i d ∷ drop (suc i) xs

@@ -4,8 +4,8 @@ use Rattle.grain_base.specs.declared.pos.Site.{Site}
 use Rattle.grain_base.specs.declared.varint.Error.{Error as NumberError}
 use Rattle.grain_base.specs.declared.varint.Error.TheVariants as number_error
 use Rattle.grain_base.specs.Varint.{BeginsNumbers, U32Flaw, AreShortest}
-use Rattle.grain_values.specs.Place.{place_of, line_of, column_of}
-use Rattle.grain_values.specs.declared.position.Position.{Position}
+use Rattle.grain_base.specs.Place.{place_of, line_of, column_of}
+use Rattle.grain_base.specs.declared.position.Position.{Position}
 use Rattle.std.specs.List.{flat_map}
 use Rattle.grain_pools.specs.Chain.{positions}
 use Rattle.grain_pools.specs.declared.chain.Chain.{Chain}

@@ -1,8 +1,9 @@
+pub mod AssembleErrors
+pub mod AssemblyFlaws
 pub mod ChainStream
 pub mod Positions
 -- definitions of the crates below, of every call that this crate re-exports
 pub use Rattle.grain_code.specs.Assembly
-pub use Rattle.grain_pools.specs.AssembleErrors
 pub use Rattle.grain_pools.specs.Chain
 pub use Rattle.grain_pools.specs.ChainPositions
 pub use Rattle.grain_code.specs.Disassembly
@@ -11,12 +12,12 @@ pub use Rattle.grain_code.specs.Fields
 pub use Rattle.grain_code.specs.Flows
 pub use Rattle.grain_code.specs.InstructionTable
 pub use Rattle.grain_pools.specs.LookedUp
-pub use Rattle.grain_names.specs.Names
-pub use Rattle.grain_names.specs.NamesLeft
+pub use Rattle.grain_pools.specs.Names
+pub use Rattle.grain_pools.specs.NamesLeft
 pub use Rattle.grain_code.specs.Numbers
 pub use Rattle.grain_code.specs.OperationTexts
 pub use Rattle.grain_pools.specs.Pools
-pub use Rattle.grain_names.specs.Qualified
+pub use Rattle.grain_pools.specs.Qualified
 pub use Rattle.grain_code.specs.Span
 pub use Rattle.grain_code.specs.Split
 pub use Rattle.grain_code.specs.Starts

@@ -7,9 +7,9 @@ use Rattle.std.specs.Fmt.{digits}
 use Rattle.std.specs.List.{prefix_len, list_all, list_any, enumerate_from, range_with_len}
 use Rattle.grain_base.specs.AddressTable.{Entry, Table, AreDue, FirstFlaw, site_at, debug_text_of}
 use Rattle.grain_base.specs.EntriesLeft.{EntriesLeft}
-use Rattle.grain_values.specs.Place.{place_of}
+use Rattle.grain_base.specs.Place.{place_of}
 use Rattle.grain_base.specs.declared.pos.Site.{Site}
-use Rattle.grain_values.specs.declared.position.Position.{Position}
+use Rattle.grain_base.specs.declared.position.Position.{Position}
 use Rattle.grain_bytecode.specs.ChainStream.{stream_error_text as stream_text}
 use Rattle.grain_code.specs.Split.{NoneStandsAt, Split}
 use Rattle.grain_bytecode.specs.declared.positions.Positions.{Positions}

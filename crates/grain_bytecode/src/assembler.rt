@@ -8,13 +8,14 @@ ghost use Rattle.std.specs.List.{flat_map, AllByRecursion};
 ghost use Rattle.grain_code.specs.InstructionTable.{form, bytes_of, spelling, FieldFits};
 ghost use Rattle.grain_code.specs.Fields.{moved};
 ghost use Rattle.grain_code.specs.Split.{AreInstructions, Split, StandsAt};
-ghost use Rattle.grain_code.specs.Assembly.{assembled, offsets_from, IsAssembly, CanAssemble, HasShortCode, IsWritable, AreWritable, Accuses, AccusesFirst, AccusesFirstOf, EachWritable, IsAssemblyFlaw, named_receiver, tested};
+ghost use Rattle.grain_code.specs.Assembly.{assembled, offsets_from, IsAssembly, CanAssemble, HasShortCode, IsWritable, AreWritable, EachWritable};
+ghost use Rattle.grain_bytecode.specs.AssemblyFlaws.{Accuses, AccusesFirst, AccusesFirstOf, IsAssemblyFlaw, named_receiver, tested};
 ghost use Rattle.grain_code.specs.declared.op.Op.{Op};
 ghost use Rattle.grain_code.specs.declared.field.Field.TheVariants.{Index};
-ghost use Rattle.grain_pools.specs.declared.error.AssembleError.TheVariants.{ChunkTooLarge, OutOfMemory};
+ghost use Rattle.grain_bytecode.specs.declared.assemble_error.AssembleError.TheVariants.{ChunkTooLarge, OutOfMemory};
 
+use crate::assemble_error::AssembleError;
 use grain_code::{Field, Op, Pool, layout, tag, width_of};
-use grain_pools::AssembleError;
 use std::alloc::{AllocError, Global};
 
 /// Tests an index into a pool, which two bytes have to hold.

@@ -6,7 +6,7 @@
 ghost use Rattle.std.specs.Prelude.{◌≡◌, ◌↔◌, ℕ, ◌^◌, ◌<◌, ◌≤◌, List, ◌∷◌, length, map, Some, None, is_none, option_to_list, All, Any, Err, IsOk, IfOk, IfErr};
 ghost use Rattle.std.specs.Bool.{OnTrue, OnFalse};
 ghost use Rattle.grain_base.specs.AddressTable.{Entry, Table, numbers_from};
-ghost use Rattle.grain_values.specs.Place.{place_of};
+ghost use Rattle.grain_base.specs.Place.{place_of};
 ghost use Rattle.grain_base.specs.Varint.{AreShortest};
 ghost use Rattle.grain_bytecode.specs.Positions.{Arrived, IsRead, IsRefusal, IsPlaced, places, dense, place_at, site_place, entries_at_places, code_site, matched, table_places, AreAhead, from_address};
 ghost use Rattle.grain_bytecode.specs.declared.positions.StripError.TheVariants as strip_error;

@@ -1,6 +1,6 @@
 -- A chunk of a program that is explained.
 use Rattle.std.specs.Prelude.{◌≡◌, ℕ, Some, slice_get}
-use Rattle.grain_bytecode.specs.Span.{Span}
+use Rattle.grain_code.specs.Span.{Span}
 use Rattle.grain_explain.specs.declared.refusal.ExplainedChunk.{ExplainedChunk}
 use Rattle.grain_flat.specs.Explaining.{ExplainsChunk}
 use Rattle.grain_flat.specs.declared.records.CProgram.{CProgram}

@@ -1,14 +1,14 @@
 //! Code, instruction by instruction.
 ghost use Rattle.std.specs.Prelude.{◌≡◌, ◌+◌, Ok, Err, sum_by};
 ghost use Rattle.std.specs.Bool.{OnFalse, OnTrue};
-ghost use Rattle.grain_bytecode.specs.InstructionTable.{form};
+ghost use Rattle.grain_code.specs.InstructionTable.{form};
 ghost use Rattle.grain_rules.specs.Rows.{is_quiet};
-ghost use Rattle.grain_bytecode.specs.Split.{IsCount, NoneStandsAt, StandsAt};
-ghost use Rattle.grain_bytecode.specs.declared.Op.{Op};
+ghost use Rattle.grain_code.specs.Split.{IsCount, NoneStandsAt, StandsAt};
+ghost use Rattle.grain_code.specs.declared.op.Op.{Op};
 ghost use Rattle.grain_flat.specs.Instruction.{field_size, instruction_row};
 
 use crate::status::INTERFACE;
-use grain_bytecode::{count_instructions, decode};
+use grain_code::{count_instructions, decode};
 use grain_flat::kinds::{COUNT, NOTHING, TARGET};
 use grain_flat::{CField, CInstruction, fields_of};
 use grain_verify::is_quiet;

@@ -1,16 +1,16 @@
 //! Refusals and instructions as texts, without memory.
 ghost use Rattle.std.specs.Prelude.{◌≡◌, ◌≢◌, ◌≤◌, ◌↔◌, IfNone, IfSome, ℕ, List, length};
-ghost use Rattle.grain_bytecode.specs.Split.{NoneStandsAt, StandsAt};
+ghost use Rattle.grain_code.specs.Split.{NoneStandsAt, StandsAt};
 ghost use Rattle.grain_rules.specs.Texts.{verify_error_text};
 ghost use Rattle.grain_rules.specs.declared.error.VerifyError.{VerifyError};
-ghost use Rattle.grain_bytecode.specs.declared.Op.{Op};
+ghost use Rattle.grain_code.specs.declared.op.Op.{Op};
 ghost use Rattle.grain_c.specs.Written.{IsPrinted};
 ghost use Rattle.grain_flat.specs.Answers.{TellsRefusal, word_kind};
 ghost use Rattle.grain_flat.specs.InstructionTexts.{instruction_text};
 ghost use Rattle.grain_flat.specs.declared.kinds.TheConstants.{NOTHING};
 
 use grain_base::{Caps, Flags};
-use grain_bytecode::decode;
+use grain_code::decode;
 use grain_flat::flaws::{
     BAD_INDEX, CHUNK_OUT_OF_RANGE, DEPTH_CONFLICT, FALLS_OFF_THE_END, HANDLER_UNDERFLOW,
     ITERATOR_UNDERFLOW, JUMP_INTO_AN_INSTRUCTION, JUMP_OUT_OF_RANGE, MISSING_CAPS,

@@ -20,9 +20,9 @@ use Rattle.std.proofs.lemmas.List.Sums.{AllPass-from_list_all, list_all-from_All
 use Rattle.hex.specs.Hex.{decode_of, decode_pairs, is_hex_digit}
 use Rattle.hex.specs.declared.error.FromHexError.{FromHexError}
 use Rattle.hex.proofs.HexLemmas.{decode_of-digits, decode_of-ok}
-use Rattle.grain_values.specs.CapBits.{set_of}
-use Rattle.grain_bytecode.specs.Span.{Span}
-use Rattle.grain_values.specs.declared.caps.Caps.{Caps}
+use Rattle.grain_base.specs.CapBits.{set_of}
+use Rattle.grain_code.specs.Span.{Span}
+use Rattle.grain_base.specs.declared.caps.Caps.{Caps}
 use Rattle.grain_cases.specs.Words.{Lacks}
 
 all_digits : (word : List ℕ) → AllDigits 10 word → all_ascii_digits word ≡ true

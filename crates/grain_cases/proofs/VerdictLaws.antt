@@ -1,7 +1,7 @@
 -- What each way of writing a verdict adds.
 use Rattle.std.proofs.Common.{◌≡◌, ℕ, List, ◌++◌, Option, Result, Ok, Err, refl, ap}
 use Rattle.grain_base.specs.AddressTable.{Entry, LongestFront, site_at}
-use Rattle.grain_bytecode.specs.Split.{IsCount}
+use Rattle.grain_code.specs.Split.{IsCount}
 use Rattle.grain_base.specs.declared.pos.Site.{Site}
 use Rattle.grain_rules.specs.Accepted.{Input}
 use Rattle.grain_rules.specs.declared.error.VerifyError.{VerifyError}

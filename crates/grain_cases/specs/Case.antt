@@ -3,7 +3,7 @@ use Rattle.std.specs.Prelude.{ℕ, ◌+◌, ◌<◌, Bool, if◌then◌else◌, 
 use Rattle.std.specs.Prelude.{None, is_none, option_and_then}
 use Rattle.std.specs.Option.{option_map}
 use Rattle.std.specs.Str.{bytes_eq}
-use Rattle.grain_bytecode.specs.Span.{Span}
+use Rattle.grain_code.specs.Span.{Span}
 use Rattle.grain_cases.specs.Fields.{caps_spelled, chunks_spelled, hex_of, u32_of}
 use Rattle.grain_cases.specs.Words.{words}
 use Rattle.grain_cases.specs.declared.case.Case.{Case}

@@ -6,8 +6,8 @@ use Rattle.grain_rules.specs.Accepted.{AreDeepest, Input, IsAccepted, input_besi
 use Rattle.grain_base.specs.AddressTable.{Entry, LongestFront, site_at}
 use Rattle.grain_rules.specs.Flaw.{Flaw}
 use Rattle.grain_rules.specs.Setting.{unset}
-use Rattle.grain_bytecode.specs.Split.{IsCount}
-use Rattle.grain_bytecode.specs.Span.{Span}
+use Rattle.grain_code.specs.Split.{IsCount}
+use Rattle.grain_code.specs.Span.{Span}
 use Rattle.grain_base.specs.declared.pos.Site.{Site}
 use Rattle.grain_rules.specs.Texts.{verify_error_text}
 use Rattle.grain_rules.specs.declared.error.VerifyError.{VerifyError}

@@ -8,7 +8,7 @@ ghost use Rattle.grain_cases.specs.Words.{words};
 use crate::fields::{are_chunks, caps_of, chunks_of, hex_of, u32_of};
 use crate::words::next_word;
 use grain_base::Caps;
-use grain_bytecode::Chunk;
+use grain_code::Chunk;
 use std::alloc::{AllocError, Global};
 
 /// What a case asks, one variant for each form (docs/FORMAT.md, "Lines, cases and verdicts").

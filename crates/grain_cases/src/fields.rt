@@ -6,7 +6,7 @@ ghost use Rattle.std.specs.Prelude.{is_some};
 ghost use Rattle.std.specs.Char.{is_ascii_hexdigit};
 ghost use Rattle.std.specs.List.{list_all, slice_split};
 ghost use Rattle.std.specs.Option.{option_map};
-ghost use Rattle.grain_values.specs.CapBits.{set_of};
+ghost use Rattle.grain_base.specs.CapBits.{set_of};
 ghost use Rattle.hex.specs.Hex.{decode_of};
 ghost use Rattle.grain_cases.specs.Fields.{caps_spelled, chunk_of, chunks_spelled, hex_of, is_colon, u16_of};
 ghost use Rattle.grain_cases.specs.Fields.{u32_of, SpellChunks, SpellsBytes};
@@ -14,7 +14,7 @@ ghost use Rattle.grain_cases.specs.Words.{words};
 
 use crate::words::{next_word, split_at_byte};
 use grain_base::{Caps, Flags};
-use grain_bytecode::Chunk;
+use grain_code::Chunk;
 use hex::FromHexError;
 use std::alloc::{AllocError, Global};
 use std::str;

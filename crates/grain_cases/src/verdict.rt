@@ -2,7 +2,7 @@
 
 ghost use Rattle.std.specs.Prelude.{◌≡◌, ◌≢◌, ◌++◌, Ok, Err, IfErr, IfOk, OnOk, string_bytes};
 ghost use Rattle.std.specs.Option.{option_map};
-ghost use Rattle.grain_values.specs.CapBits.{set_of};
+ghost use Rattle.grain_base.specs.CapBits.{set_of};
 ghost use Rattle.grain_rules.specs.declared.error.VerifyError.{VerifyError};
 ghost use Rattle.grain_cases.specs.Case.{as_asked};
 ghost use Rattle.grain_cases.specs.Verdict.{Adds, CodeVerdict, IsJudged, IsVerdictOn, SiteVerdict};
@@ -10,7 +10,7 @@ ghost use Rattle.grain_cases.specs.Verdict.{VerifyVerdict, accepted_text, progra
 
 use crate::case::Case;
 use grain_base::{Caps, pos};
-use grain_bytecode::{Chunk, count_instructions};
+use grain_code::{Chunk, count_instructions};
 use grain_rules::{NoPools, VerifyError};
 use grain_verify::{Meter, Scratch};
 use std::alloc::{AllocError, Global};

@@ -1,7 +1,7 @@
 //! Functions of a program.
 
 use crate::chunk::Chunk;
-use grain_values::FnAccess;
+use grain_base::FnAccess;
 
 /// A function of a program. Names are indices of the name pool.
 #[derive(Debug, Drop)]

@@ -2,7 +2,7 @@
 use Rattle.std.proofs.Common.{◌≡◌, inl, inr, ℕ, ◌≤◌, List, Option, Some, slice_get, refl, sym, ap, subst, arith}
 use Rattle.std.specs.List.{All}
 use Rattle.std.proofs.lemmas.Option.{get_or_from_slice_get, slice_get_within}
-use Rattle.grain_values.specs.declared.caps.Caps.{Caps}
+use Rattle.grain_base.specs.declared.caps.Caps.{Caps}
 use Rattle.grain_code.specs.Span.{Span}
 use Rattle.grain_code.specs.declared.op.Op.{Op}
 use Rattle.grain_rules.specs.Accepted.{IsFramed}

@@ -1,6 +1,6 @@
 -- What an operation finds lacking.
 use Rattle.std.specs.Prelude.{◌≡◌, ◌≢◌, ◌<◌, length}
-use Rattle.grain_values.specs.CapBits.{missing}
+use Rattle.grain_base.specs.CapBits.{missing}
 use Rattle.grain_code.specs.declared.op.Op.{Op}
 use Rattle.grain_rules.specs.Capabilities.{Allows}
 use Rattle.grain_rules.specs.Counts.{Base, Counts}

@@ -1,7 +1,7 @@
 -- What the walk over a chunk has come to.
 use Rattle.std.specs.Prelude.{◌≡◌, ◌⊎◌, ℕ, ◌+◌, ◌<◌, ◌≤◌, List, ◌++◌, Option, None, Some, MatchOption, get_or, length}
 use Rattle.std.specs.List.{All, Contains}
-use Rattle.grain_values.specs.declared.caps.Caps.{Caps}
+use Rattle.grain_base.specs.declared.caps.Caps.{Caps}
 use Rattle.grain_code.specs.InstructionTable.{width_of}
 use Rattle.grain_code.specs.Span.{Span}
 use Rattle.grain_code.specs.Split.{Split}

@@ -1,7 +1,7 @@
 -- Ways along edges from a chunk's entry, and what the state shows at which one ends.
 use Rattle.std.specs.Prelude.{◌≡◌, ◌≢◌, ◌⊎◌, ℕ, ◌+◌, ◌<◌, ◌≤◌, true, List, [], ◌∷◌, length, map}
 use Rattle.std.specs.List.{Contains}
-use Rattle.grain_values.specs.CapBits.{missing}
+use Rattle.grain_base.specs.CapBits.{missing}
 use Rattle.grain_code.specs.InstructionTable.{width_of}
 use Rattle.grain_code.specs.Span.{Span}
 use Rattle.grain_code.specs.declared.op.Op.{Op}

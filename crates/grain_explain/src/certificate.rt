@@ -7,9 +7,9 @@ ghost use Rattle.grain_explain.specs.Certificate.{IsCertificate, RowsFlaw};
 use crate::claim::Claim;
 use crate::error::TypingError;
 use crate::row::{LinkedBase, Row};
+use grain_base::Caps;
 use grain_code::Chunk;
 use grain_rules::Read;
-use grain_values::Caps;
 
 /// Whether rows are a stack typing of a chunk within the operands that it declares.
 ///

@@ -14,9 +14,9 @@ use crate::error::TypingError;
 use crate::frame::boundary_from;
 use crate::needs::{Lack, check_needs};
 use crate::row::{LinkedBase, Row};
+use grain_base::Caps;
 use grain_code::{Chunk, count_instructions, decode, width};
 use grain_rules::Read;
-use grain_values::Caps;
 
 /// Rows that somebody hands in, and the chunk of which they are to be a typing.
 #[derive(Drop)]

@@ -1,6 +1,6 @@
 //! Why rows are no stack typing.
 
-use grain_values::{Caps, Flags};
+use grain_base::{Caps, Flags};
 use std::fmt;
 
 /// Why rows are no stack typing of a chunk within its declared stack.

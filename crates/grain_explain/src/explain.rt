@@ -6,9 +6,9 @@ ghost use Rattle.grain_explain.specs.Explaining.{IsCause, IsExact, IsExplained};
 
 use crate::refusal::{ExplainError, ExplainedChunk};
 use crate::scene::Scene;
+use grain_base::Caps;
 use grain_code::{Chunk, Starts};
 use grain_rules::{Read, check_code};
-use grain_values::Caps;
 use std::alloc::Global;
 
 /// Why each chunk of code that is whole instructions with their indices in bounds is accepted or refused.

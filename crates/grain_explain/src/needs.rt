@@ -8,9 +8,9 @@ ghost use Rattle.grain_explain.specs.RowView.{AreLinked, base_of, counts_of, lis
 
 use crate::lists::first_base;
 use crate::row::{LinkedBase, Row};
+use grain_base::{Caps, Flags};
 use grain_code::Op;
 use grain_rules::{Effect, Read, asked_beside, missing};
-use grain_values::{Caps, Flags};
 use std::marker::Model;
 
 /// What an operation finds lacking.

@@ -8,9 +8,9 @@ ghost use Rattle.grain_rules.specs.Typing.{IsInChunk};
 ghost use Rattle.grain_explain.specs.Scenes.{IsStarted, MissesTarget, seen};
 ghost use Rattle.grain_explain.specs.Ways.{IsFrameFlaw};
 
+use grain_base::Caps;
 use grain_code::{Chunk, Starts};
 use grain_rules::{Read, VerifyError};
-use grain_values::Caps;
 use std::alloc::Global;
 
 /// A chunk in its code and its setting, with the starts of the code.

@@ -6,7 +6,7 @@ use Rattle.std.specs.Map.{keys_of}
 use Rattle.std.specs.Ordering.{is_lt}
 use Rattle.std.specs.String.{string_cmp}
 use Rattle.std.proofs.lemmas.Map.Keys.{sorted_head, sorted_tail}
-use Rattle.grain_values.specs.declared.value.Dynamic.{Dynamic}
+use Rattle.grain_base.specs.declared.value.Dynamic.{Dynamic}
 use Rattle.grain_file.specs.Form.{entry_forms, Ascend}
 
 after : (e : String Global × Dynamic) (es : List (String Global × Dynamic)) → IsStrictlySortedBy string_cmp (keys_of (e ∷ es)) → Ascend (Some (string_bytes e.0)) (entry_forms es)

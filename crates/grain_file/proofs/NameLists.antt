@@ -2,7 +2,7 @@
 use Rattle.std.proofs.Common.{◌≡◌, ℕ, ◌+◌, ◌<◌, ◌^◌, List, [], ◌∷◌, ◌++◌, length, Option, None, Some, refl, ap, ◌∙◌, arith, append_assoc, length-append}
 use Rattle.std.specs.Prelude.{slice_get, IfSome}
 use Rattle.std.specs.List.{concat, flat_map, AllByRecursion}
-use Rattle.grain_names.specs.Names.{starts_of}
+use Rattle.grain_pools.specs.Names.{starts_of}
 use Rattle.grain_file.specs.Texts.{counted_bytes}
 use Rattle.grain_file.specs.Refusals.{counted_refusal}
 use Rattle.grain_file.specs.TextLaws.{TextFits}

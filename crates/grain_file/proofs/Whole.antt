@@ -3,7 +3,7 @@ use Rattle.std.proofs.Common.{◌≡◌, ℕ, ◌+◌, ◌-◌, ◌≤◌, max, 
 use Rattle.std.specs.Prelude.{MatchResult, IfOk, IfErr}
 use Rattle.std.proofs.lemmas.Bool.{eqb-true}
 use Rattle.std.proofs.lemmas.List.{append-nil, drop_at, nil_from_length}
-use Rattle.grain_program.specs.Program.{Program}
+use Rattle.grain.specs.Program.{Program}
 use Rattle.grain_file.specs.declared.error.Fault.{Fault}
 use Rattle.grain_file.specs.declared.error.Fault.TheVariants.{Magic, Trailing}
 use Rattle.grain_file.specs.declared.error.WriteError.TheVariants as write_error

@@ -2,8 +2,8 @@
 use Rattle.std.proofs.Common.{◌≡◌, ℕ, zero, suc, List, [], ◌∷◌, ◌++◌, map, Option, None, Some, refl, sym, ap, ◌∙◌, inl, inr}
 use Rattle.std.specs.Prelude.{◌↔◌, option_map}
 use Rattle.std.specs.List.{AllByRecursion, flat_map}
-use Rattle.grain_values.specs.Place.{place_of}
-use Rattle.grain_values.specs.declared.position.Position.{Position}
+use Rattle.grain_base.specs.Place.{place_of}
+use Rattle.grain_base.specs.declared.position.Position.{Position}
 use Rattle.grain_pools.specs.Chain.{positions, root_positions, step_positions, steps_positions}
 use Rattle.grain_pools.specs.Dispatch.{Case, arms, listed}
 use Rattle.grain_pools.specs.declared.chain.Chain.{Chain}
@@ -12,7 +12,7 @@ use Rattle.grain_pools.specs.declared.chain.Root.TheVariants.{Local, Named, This
 use Rattle.grain_pools.specs.declared.chain.Step.{Step}
 use Rattle.grain_pools.specs.declared.chain.Step.TheVariants.{Index, Property, Method}
 use Rattle.grain_pools.specs.declared.switch.Switch.{Switch}
-use Rattle.grain_program.specs.Program.{Program, places_of}
+use Rattle.grain.specs.Program.{Program, places_of}
 use Rattle.grain_file.specs.declared.error.Unkept.{Unkept}
 use Rattle.grain_file.specs.Reading.{or_refused}
 use Rattle.grain_file.specs.Refusals.{counted_refusal, optional_refusal}

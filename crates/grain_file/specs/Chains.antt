@@ -1,7 +1,7 @@
 -- What of chains is kept: all but their positions, which have to be none.
 use Rattle.std.specs.Prelude.{ℕ, ◌^◌, ◌++◌, ◌⊎◌, List, map, Option, Some, None, refl}
 use Rattle.std.proofs.Common.{inl, inr}
-use Rattle.grain_values.specs.Place.{place_of}
+use Rattle.grain_base.specs.Place.{place_of}
 use Rattle.grain_pools.specs.declared.chain.Chain.{Chain}
 use Rattle.grain_pools.specs.declared.chain.Root.{Root}
 use Rattle.grain_pools.specs.declared.chain.Root.TheVariants.{Local, Named, This, Temporary}

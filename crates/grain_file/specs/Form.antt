@@ -13,9 +13,9 @@ use Rattle.grain_file.specs.Texts.{counted_bytes}
 use Rattle.grain_file.specs.NumberLaws.{IsBelow}
 use Rattle.grain_file.specs.TextLaws.{BytesFit, TextFits}
 use Rattle.grain_file.specs.Lists.{CountedFit}
-use Rattle.grain_values.specs.declared.value.Dynamic.{Dynamic, fold-Dynamic}
-use Rattle.grain_values.specs.declared.value.Dynamic.TheOpen.{Dynamic-F, FnPtr-F}
-use Rattle.grain_values.specs.declared.value.FnPtr.{FnPtr, fold-FnPtr}
+use Rattle.grain_base.specs.declared.value.Dynamic.{Dynamic, fold-Dynamic}
+use Rattle.grain_base.specs.declared.value.Dynamic.TheOpen.{Dynamic-F, FnPtr-F}
+use Rattle.grain_base.specs.declared.value.FnPtr.{FnPtr, fold-FnPtr}
 
 mutual
   pub data Form : Type 0 where

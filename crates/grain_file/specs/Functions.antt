@@ -2,8 +2,8 @@
 use Rattle.std.specs.Prelude.{ℕ, ◌^◌, List, map, option_map, Option, refl}
 use Rattle.grain_code.specs.Span.{Span}
 use Rattle.grain_code.specs.declared.function.Function.{Function}
-use Rattle.grain_values.specs.declared.access.FnAccess.{FnAccess}
-use Rattle.grain_values.specs.declared.access.FnAccess.TheVariants.{Public, Private}
+use Rattle.grain_base.specs.declared.access.FnAccess.{FnAccess}
+use Rattle.grain_base.specs.declared.access.FnAccess.TheVariants.{Public, Private}
 use Rattle.grain_file.specs.Formats.{Format, number_below, tag_below, both, seen, counted, optional}
 
 abbrev pub span_parts : Span → ℕ × (ℕ × ℕ)

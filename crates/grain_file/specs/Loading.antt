@@ -1,7 +1,7 @@
 -- When a file is loaded, and what a refusal says.
 use Rattle.std.specs.Prelude.{◌≡◌, ◌≢◌, ◌⊎◌, ℕ, List}
-use Rattle.grain_values.specs.CapBits.{missing}
-use Rattle.grain_program.specs.Program.{Program, input_of}
+use Rattle.grain_base.specs.CapBits.{missing}
+use Rattle.grain.specs.Program.{Program, input_of}
 use Rattle.grain_rules.specs.Accepted.{IsAccepted}
 use Rattle.grain_rules.specs.Capabilities.{Allows}
 use Rattle.grain_rules.specs.Flaw.{Flaw}

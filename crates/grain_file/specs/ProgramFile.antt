@@ -1,7 +1,7 @@
 -- What of a program is kept in a file, and how that is spelled.
 use Rattle.std.specs.Prelude.{◌≡◌, ℕ, ◌/◌, ◌%◌, ◌^◌, ◌≤◌, zero, suc, List, length, map, Option, Some, None, Result, Ok, Err, ◌==◌, if◌then◌else◌, refl}
 use Rattle.grain_code.specs.Span.{Span}
-use Rattle.grain_program.specs.Program.{Program, places_of}
+use Rattle.grain.specs.Program.{Program, places_of}
 use Rattle.grain_file.specs.declared.file.Limits.{Limits}
 use Rattle.grain_file.specs.declared.error.Fault.TheVariants.{Magic, Version, Kind, Unsupported, Trailing}
 use Rattle.grain_file.specs.declared.error.Unkept.{Unkept}

@@ -2,8 +2,8 @@
 use Rattle.std.specs.Prelude.{ℕ, ◌^◌, ◌⊎◌, ◌++◌, List, string_bytes}
 use Rattle.std.proofs.Common.{◌<◌, inl, inr, arith}
 use Rattle.std.proofs.lemmas.Bool.{ne_eqb}
-use Rattle.grain_values.specs.declared.token.Token.{Token}
-use Rattle.grain_values.specs.declared.token.Token.TheVariants as token
+use Rattle.grain_base.specs.declared.token.Token.{Token}
+use Rattle.grain_base.specs.declared.token.Token.TheVariants as token
 use Rattle.grain_pools.specs.declared.assign_op.AssignOp.{AssignOp}
 use Rattle.grain_file.specs.Lists.{BeginsOtherwise}
 use Rattle.grain_file.specs.TextLaws.{one_byte}

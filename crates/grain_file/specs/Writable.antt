@@ -1,10 +1,10 @@
 -- Which programs have a file.
 use Rattle.std.specs.Prelude.{◌≡◌, [], None}
 use Rattle.std.specs.List.{AllByRecursion}
-use Rattle.grain_values.specs.Place.{place_of}
+use Rattle.grain_base.specs.Place.{place_of}
 use Rattle.grain_bytecode.specs.ChainStream.{all_positions}
 use Rattle.grain_pools.specs.Dispatch.{arms, listed}
-use Rattle.grain_program.specs.Program.{Program}
+use Rattle.grain.specs.Program.{Program}
 use Rattle.grain_file.specs.Form.{forms, value_refusal}
 
 -- No constant has a value of the host, at any depth, no position in a chain is a place, no switch has a case, the positions

@@ -5,7 +5,8 @@ ghost use Rattle.grain_file.specs.Chains.{ChainParts, RootParts, StepParts, chai
 use crate::cursor::Cursor;
 use crate::error::{Fault, Stop, WriteError};
 use crate::field::Field;
-use grain::{Chain, Flags, Position, Root, Step, StepFlags, Tail};
+use grain_base::{Flags, Position};
+use grain_pools::{Chain, Root, Step, StepFlags, Tail};
 
 impl Field for Root {
     ghost View = { RootParts };

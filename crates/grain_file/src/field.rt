@@ -1,6 +1,6 @@
 //! Fields.
 ghost use Rattle.std.specs.Prelude.{◌≡◌, ◌++◌, ◌^◌, ℕ, ℤ, List, Option, OnOk, map, option_map, string_bytes};
-ghost use Rattle.grain_values.specs.Place.{place_of};
+ghost use Rattle.grain_base.specs.Place.{place_of};
 ghost use Rattle.grain_file.specs.Reading.{Decides, Gives};
 ghost use Rattle.grain_file.specs.Chains.{Place, place_format};
 ghost use Rattle.grain_file.specs.Switches.{integer_format};
@@ -10,7 +10,7 @@ use crate::cursor::Cursor;
 use crate::error::{Fault, Stop, Unkept, WriteError};
 use crate::integer::{put_integer, read_integer};
 use crate::number::{put_number, put_string};
-use grain::Position;
+use grain_base::Position;
 
 /// A type whose values are fields of a file.
 pub trait Field: Drop {

@@ -1,6 +1,6 @@
 //! Whole files.
 ghost use Rattle.std.specs.Prelude.{◌≡◌, ◌≤◌, ◌⊎◌, ℕ, List, Option, Ok, [], IfOk, IfErr, OnOk, MatchResult, map, option_map, string_bytes};
-ghost use Rattle.grain_program.specs.Program.{Program};
+ghost use Rattle.grain.specs.Program.{Program};
 ghost use Rattle.grain_file.specs.Reading.{Decides, Gives};
 ghost use Rattle.grain_file.specs.Form.{forms};
 ghost use Rattle.grain_file.specs.Functions.{function_parts};
@@ -17,10 +17,11 @@ use crate::lists::put_all;
 use crate::names::{put_names, read_names};
 use crate::number::put_bytes;
 use crate::values::{put_values, read_values};
-use grain::{
-    AssignOp, Caps, Chain, Chunk, Dynamic, Flags, Function, Parts, Positions, Program, Strings,
-    Switch, Token,
-};
+use grain::{Parts, Program};
+use grain_base::{Caps, Dynamic, Flags, Token};
+use grain_bytecode::Positions;
+use grain_code::{Chunk, Function};
+use grain_pools::{AssignOp, Chain, Strings, Switch};
 use std::alloc::Global;
 use thiserror::Error;
 

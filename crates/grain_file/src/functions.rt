@@ -7,7 +7,8 @@ ghost use Rattle.grain_file.specs.Functions.{FunctionParts, access_tag, chunk_fo
 use crate::cursor::Cursor;
 use crate::error::{Stop, WriteError};
 use crate::field::Field;
-use grain::{Chunk, FnAccess, Function};
+use grain_base::FnAccess;
+use grain_code::{Chunk, Function};
 
 impl Field for FnAccess {
     ghost View = { ℕ };

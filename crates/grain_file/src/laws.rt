@@ -2,7 +2,7 @@
 //!
 //! The functions do nothing: each contract is a law.
 ghost use Rattle.std.specs.Prelude.{◌≡◌, ◌≤◌, ◌↔◌, ℕ, List, None};
-ghost use Rattle.grain_program.specs.Program.{Program};
+ghost use Rattle.grain.specs.Program.{Program};
 ghost use Rattle.grain_file.specs.ProgramFile.{IsFile, Kept, kept, refusal_of};
 ghost use Rattle.grain_file.specs.Writable.{IsWritable};
 

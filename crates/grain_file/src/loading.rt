@@ -1,14 +1,16 @@
 //! From the bytes of a file to a verified program.
 ghost use Rattle.std.specs.Prelude.{◌≡◌, ◌⊎◌, IfOk, IfErr};
-ghost use Rattle.grain_program.specs.Lookups.{FindsIndices};
-ghost use Rattle.grain_program.specs.Program.{Program, input_of};
+ghost use Rattle.grain.specs.Lookups.{FindsIndices};
+ghost use Rattle.grain.specs.Program.{Program, input_of};
 ghost use Rattle.grain_rules.specs.Accepted.{AreDeepest, AreSafe, AreTyped, IsAccepted};
 ghost use Rattle.grain_rules.specs.Capabilities.{Allows};
 ghost use Rattle.grain_file.specs.ProgramFile.{IsFileWithin, kept};
 ghost use Rattle.grain_file.specs.Loading.{IsFileOf, IsLoadCause, IsMemory, Passes};
 
 use crate::file::{Limits, ReadError, read};
-use grain::{Caps, Flags, Program, VerifyError};
+use grain::Program;
+use grain_base::{Caps, Flags};
+use grain_rules::VerifyError;
 use std::alloc::Global;
 use thiserror::Error;
 

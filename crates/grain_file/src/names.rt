@@ -1,7 +1,7 @@
 //! The names of a program as a field.
 ghost use Rattle.std.specs.Prelude.{◌≡◌, ◌<◌, ◌++◌, ◌^◌, IfSome, None, OnOk, Some, length, slice_get};
 ghost use Rattle.std.specs.List.{concat};
-ghost use Rattle.grain_names.specs.Names.{texts};
+ghost use Rattle.grain_pools.specs.Names.{texts};
 ghost use Rattle.grain_file.specs.Reading.{Gives};
 ghost use Rattle.grain_file.specs.Texts.{text_at};
 ghost use Rattle.grain_file.specs.Lists.{counted_at};
@@ -11,7 +11,7 @@ use crate::cursor::Cursor;
 use crate::error::{Fault, Stop};
 use crate::lists::reserve;
 use crate::number::{put_bytes, put_number};
-use grain::{Strings, StringsError};
+use grain_pools::{Strings, StringsError};
 use std::alloc::AllocError;
 
 /// Reads the names.

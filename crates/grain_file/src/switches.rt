@@ -7,7 +7,7 @@ ghost use Rattle.grain_file.specs.Switches.{RangeParts, SwitchParts, bool_tag, c
 use crate::cursor::Cursor;
 use crate::error::{Fault, Stop, Unkept, WriteError};
 use crate::field::Field;
-use grain::{Switch, SwitchRange};
+use grain_pools::{Switch, SwitchRange};
 
 impl Field for bool {
     ghost View = { ℕ };

@@ -7,7 +7,8 @@ use crate::cursor::Cursor;
 use crate::error::{Fault, Stop, WriteError};
 use crate::field::Field;
 use crate::number::put_string;
-use grain::{AssignOp, Token};
+use grain_base::Token;
+use grain_pools::AssignOp;
 
 /// The tag of an operator that the host has added, which its text follows.
 const CUSTOM: u8 = 39;

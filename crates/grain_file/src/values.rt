@@ -13,7 +13,7 @@ use crate::error::{Fault, Stop, Unkept, WriteError};
 use crate::integer::{put_integer, read_integer};
 use crate::lists::reserve;
 use crate::number::{put_bytes, put_number, put_string};
-use grain::{Dynamic, FnPtr};
+use grain_base::{Dynamic, FnPtr};
 use std::alloc::AllocError;
 use std::collections::BTreeMap;
 

@@ -12,7 +12,8 @@ use crate::lists::put_all;
 use crate::names::put_names;
 use crate::number::put_bytes;
 use crate::values::put_values;
-use grain::{Flags, Program};
+use grain::Program;
+use grain_base::Flags;
 use std::alloc::{AllocError, Global};
 
 /// The file of a program (docs/FORMAT.md, "Program files"). It goes over the program once.

@@ -11,9 +11,9 @@ use Rattle.grain_rules.specs.FlowFields.{fall_for, jump_for}
 use Rattle.grain_rules.specs.Machine.{Catches, Finds, Flows, IsKeptRun, IsRunKeptAtQuiet, Machine, Moves, MovesKeptAtQuiet, Steps}
 use Rattle.grain_rules.specs.Setting.{Setting}
 use Rattle.grain_rules.specs.Sinking.{FallsShortOf, ReachesUpTo, Sinks, Stays}
-use Rattle.grain_bytecode.specs.Span.{Span}
+use Rattle.grain_code.specs.Span.{Span}
 use Rattle.grain_rules.specs.Typing.{HasTyping, IsDeepest, IsReachedCount, IsTyping, Passes, Reached, StandsIn, begin, onward}
-use Rattle.grain_bytecode.specs.declared.Op.{Op}
+use Rattle.grain_code.specs.declared.op.Op.{Op}
 
 -- the same capabilities, and the same of each operation: its row, and where it leads
 pub record Alike (s t : Setting) (u w : List (List ℕ)) : Type 0 where

@@ -1,14 +1,14 @@
 -- Code is refused alike beside pools that operations find alike.
 use Rattle.std.proofs.Common.{◌≡◌, ℕ, inl, inr, List, ap, ◌∙◌}
 use Rattle.grain_rules.specs.Rows.{Row, caps_of}
-use Rattle.grain_values.specs.CapBits.{missing}
+use Rattle.grain_base.specs.CapBits.{missing}
 use Rattle.grain_rules.specs.Code.{Bytecode}
 use Rattle.grain_rules.specs.Flaw.{ChunkFlaw, Comes, ComesAllowed, Conflicts, FallsOff, Leads}
 use Rattle.grain_rules.specs.Setting.{Setting}
-use Rattle.grain_bytecode.specs.Span.{Span}
+use Rattle.grain_code.specs.Span.{Span}
 use Rattle.grain_rules.specs.declared.error.VerifyError.{VerifyError}
 use Rattle.grain_rules.specs.declared.error.VerifyError.TheVariants as errors
-use Rattle.grain_bytecode.specs.declared.Op.{Op}
+use Rattle.grain_code.specs.declared.op.Op.{Op}
 use Rattle.grain_flat.proofs.Alike.{Alike, allowed, code, deepest, framed, meets, passes, reached, sinks, stands, typed}
 
 module _ (bytes : List ℕ) {s t : Setting} {u w : List (List ℕ)} (like : Alike s t u w) (chunk : Span) where

@@ -6,15 +6,15 @@ use Rattle.std.proofs.lemmas.List.Concat.{flat_map-cons}
 use Rattle.std.proofs.lemmas.List.{length-map}
 use Rattle.std.proofs.Math.Seq.{drop-append_seam, take-append_seam}
 use Rattle.grain_rules.specs.Capabilities.{chain_caps, joined, root_caps, step_caps}
-use Rattle.grain_bytecode.specs.Chain.{assigns, consumed, roots_on_stack}
+use Rattle.grain_pools.specs.Chain.{assigns, consumed, roots_on_stack}
 use Rattle.grain_rules.specs.Facts.{chain_facts, root_mentions, step_mentions, tail_mentions}
-use Rattle.grain_bytecode.specs.declared.Chain.{Chain}
-use Rattle.grain_bytecode.specs.declared.Root.{Root}
-use Rattle.grain_bytecode.specs.declared.Root.TheVariants as roots
-use Rattle.grain_bytecode.specs.declared.Step.{Step}
-use Rattle.grain_bytecode.specs.declared.Step.TheVariants as steps
-use Rattle.grain_bytecode.specs.declared.Tail.{Tail}
-use Rattle.grain_bytecode.specs.declared.Tail.TheVariants as tails
+use Rattle.grain_pools.specs.declared.chain.Chain.{Chain}
+use Rattle.grain_pools.specs.declared.chain.Root.{Root}
+use Rattle.grain_pools.specs.declared.chain.Root.TheVariants as roots
+use Rattle.grain_pools.specs.declared.chain.Step.{Step}
+use Rattle.grain_pools.specs.declared.chain.Step.TheVariants as steps
+use Rattle.grain_pools.specs.declared.chain.Tail.{Tail}
+use Rattle.grain_pools.specs.declared.chain.Tail.TheVariants as tails
 use Rattle.grain_flat.specs.declared.records.CChain.{CChain}
 use Rattle.grain_flat.specs.declared.records.CStep.{CStep}
 use Rattle.grain_flat.specs.declared.shapes.TheConstants.{TEMPORARY, READ}

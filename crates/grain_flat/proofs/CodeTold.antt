@@ -1,7 +1,7 @@
 -- Code beside rows is code beside the chains and switches that these rows are of.
 use Rattle.std.proofs.Common.{◌≡◌, ◌<◌, ◌^◌, ℕ, List, length}
 use Rattle.grain_rules.specs.Code.{bytecode_beside}
-use Rattle.grain_bytecode.specs.declared.Chain.{Chain}
+use Rattle.grain_pools.specs.declared.chain.Chain.{Chain}
 use Rattle.grain_flat.specs.Flat.{AreChains, IsFlat, code_with}
 use Rattle.grain_flat.specs.RowFacts.{facts_told, leads_of}
 use Rattle.grain_flat.specs.declared.records.CPools.{CPools}

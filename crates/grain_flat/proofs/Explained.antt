@@ -5,7 +5,7 @@ use Rattle.std.proofs.lemmas.List.{length-append}
 use Rattle.grain_rules.specs.Code.{Bytecode}
 use Rattle.grain_rules.specs.Accepted.{AreIndexed}
 use Rattle.grain_explain.specs.Explaining.{IsCause, IsExact, IsExplained}
-use Rattle.grain_bytecode.specs.Span.{Span}
+use Rattle.grain_code.specs.Span.{Span}
 use Rattle.grain_explain.specs.declared.refusal.ExplainError.{ExplainError}
 use Rattle.grain_explain.specs.declared.refusal.ExplainedChunk.{ExplainedChunk}
 use Rattle.grain_flat.specs.Explaining.{Beside, IsFlatCause}

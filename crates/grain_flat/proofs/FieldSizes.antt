@@ -1,10 +1,10 @@
 -- Fields as records take as many bytes.
 use Rattle.std.proofs.Common.{◌≡◌, ◌+◌, List, [], ◌∷◌, length, get_or, refl, ap, arith}
 use Rattle.std.specs.Prelude.{sum_by}
-use Rattle.grain_bytecode.specs.declared.Field.{Field}
-use Rattle.grain_bytecode.specs.declared.Field.TheVariants.{Index, Slot, Count, Target}
-use Rattle.grain_bytecode.specs.declared.Pool.TheVariants as pools
-use Rattle.grain_bytecode.specs.InstructionTable.{size_of}
+use Rattle.grain_code.specs.declared.field.Field.{Field}
+use Rattle.grain_code.specs.declared.field.Field.TheVariants.{Index, Slot, Count, Target}
+use Rattle.grain_code.specs.declared.field.Pool.TheVariants as pools
+use Rattle.grain_code.specs.InstructionTable.{size_of}
 use Rattle.grain_flat.specs.Instruction.{field_row, field_size}
 use Rattle.grain_flat.specs.declared.records.CField.{CField}
 

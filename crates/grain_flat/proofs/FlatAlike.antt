@@ -2,17 +2,17 @@
 use Rattle.std.proofs.Common.{◌≡◌, ℕ, List, [], ◌∷◌, ◌++◌, false, get_or, map, refl, subst, sym, ap, ◌∙◌}
 use Rattle.std.specs.List.{AllZip, Contains, flat_map}
 use Rattle.std.proofs.lemmas.List.Concat.{flat_map-cons}
-use Rattle.grain_bytecode.specs.Dispatch.{Arms, Case, listed, arm_targets}
+use Rattle.grain_pools.specs.Dispatch.{Arms, Case, listed, arm_targets}
 use Rattle.grain_rules.specs.Facts.{ChainFacts, chain_facts}
 use Rattle.grain_rules.specs.Flow as flows
 use Rattle.grain_rules.specs.Flow.{Falls, Flow}
 use Rattle.grain_rules.specs.Rows.{does, flow_of, row}
 use Rattle.grain_rules.specs.FlowFields.{targets_for}
 use Rattle.grain_rules.specs.Setting.{Setting}
-use Rattle.grain_bytecode.specs.declared.Chain.{Chain}
-use Rattle.grain_bytecode.specs.declared.Op.{Op}
-use Rattle.grain_bytecode.specs.declared.Op.TheVariants as ops
-use Rattle.grain_bytecode.specs.declared.Receiver.TheVariants as receiver
+use Rattle.grain_pools.specs.declared.chain.Chain.{Chain}
+use Rattle.grain_code.specs.declared.op.Op.{Op}
+use Rattle.grain_code.specs.declared.op.Op.TheVariants as ops
+use Rattle.grain_code.specs.declared.op.Receiver.TheVariants as receiver
 use Rattle.grain_flat.specs.declared.records.CCase.{CCase}
 use Rattle.grain_flat.specs.declared.records.CPools.{CPools}
 use Rattle.grain_flat.specs.Flat.{AreChains, AreSwitches, arm_constants, case_row, case_rows, code_with, arm_range_targets}

@@ -3,14 +3,14 @@ use Rattle.std.proofs.Common.{◌≡◌, ℕ, ◌<◌, ◌≤◌, inl, inr, List
 use Rattle.std.specs.List.{AllByRecursion, Contains, flat_map}
 use Rattle.std.proofs.lemmas.List.{length-map}
 use Rattle.std.proofs.lemmas.Slice.Zip.{AllZip-long}
-use Rattle.grain_bytecode.specs.Dispatch.{Arms}
+use Rattle.grain_pools.specs.Dispatch.{Arms}
 use Rattle.grain_rules.specs.Indices.{Indexed, IsOut, IsPassed, case_constants, cases_of, entry_name, further, mentions_of, own_mentions, size, test_of, tests_of}
 use Rattle.grain_rules.specs.Facts.{ChainFacts, Mention, Entry, Operand}
 use Rattle.grain_rules.specs.Setting.{Setting}
-use Rattle.grain_bytecode.specs.declared.Chain.{Chain}
-use Rattle.grain_bytecode.specs.declared.Pool.{Pool}
-use Rattle.grain_bytecode.specs.declared.Pool.TheVariants as pools
-use Rattle.grain_bytecode.specs.declared.Op.{Op}
+use Rattle.grain_pools.specs.declared.chain.Chain.{Chain}
+use Rattle.grain_code.specs.declared.field.Pool.{Pool}
+use Rattle.grain_code.specs.declared.field.Pool.TheVariants as pools
+use Rattle.grain_code.specs.declared.op.Op.{Op}
 use Rattle.grain_flat.specs.declared.records.CPools.{CPools}
 use Rattle.grain_flat.specs.Flat.{arm_constants}
 use Rattle.grain_flat.proofs.FlatAlike.{AreOf, arms_same, constant_same, facts_same, flat_same, map_same, setting_of}

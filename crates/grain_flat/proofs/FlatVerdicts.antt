@@ -5,10 +5,10 @@ use Rattle.std.specs.declared.alloc.Global.{Global}
 use Rattle.std.proofs.lemmas.Slice.Zip.{AllZip-long}
 use Rattle.grain_rules.specs.Accepted.{Input, input_beside}
 use Rattle.grain_rules.specs.Code.{Bytecode}
-use Rattle.grain_bytecode.specs.Dispatch.{Arms}
-use Rattle.grain_bytecode.specs.Span.{Span}
-use Rattle.grain_bytecode.specs.declared.Chain.{Chain}
-use Rattle.grain_bytecode.specs.declared.Function.{Function}
+use Rattle.grain_pools.specs.Dispatch.{Arms}
+use Rattle.grain_code.specs.Span.{Span}
+use Rattle.grain_pools.specs.declared.chain.Chain.{Chain}
+use Rattle.grain_code.specs.declared.function.Function.{Function}
 use Rattle.grain_flat.specs.Flat.{AreChains, IsFlat}
 use Rattle.grain_flat.specs.RowFacts.{facts_told, leads_of}
 use Rattle.grain_flat.specs.Asking.{RowPasses}

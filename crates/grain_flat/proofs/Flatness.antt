@@ -11,11 +11,11 @@ use Rattle.std.proofs.lemmas.List.Concat.{flat_map-cons}
 use Rattle.std.proofs.lemmas.List.Elements.{All-append, All-drop, All-take}
 use Rattle.std.proofs.lemmas.List.Sorted.{IsPermutation-refl, length_permutation}
 use Rattle.std.proofs.lemmas.List.Sums.{sum_by-cons}
-use Rattle.grain_bytecode.specs.Dispatch.{Arms, Case}
-use Rattle.grain_values.specs.declared.value.Dynamic.TheVariants as values
-use Rattle.grain_bytecode.specs.declared.Chain.{Chain}
-use Rattle.grain_bytecode.specs.declared.Step.{Step}
-use Rattle.grain_bytecode.specs.declared.SwitchRange.{SwitchRange}
+use Rattle.grain_pools.specs.Dispatch.{Arms, Case}
+use Rattle.grain_base.specs.declared.value.Dynamic.TheVariants as values
+use Rattle.grain_pools.specs.declared.chain.Chain.{Chain}
+use Rattle.grain_pools.specs.declared.chain.Step.{Step}
+use Rattle.grain_pools.specs.declared.switch.SwitchRange.{SwitchRange}
 use Rattle.grain_flat.specs.Flat.{AreChains, AreSwitches, IsAskedRow, IsChainRow, IsFlat, IsStepRow, Pooled, asked_row, case_row, case_rows, chain_row, arm_range_targets, step_row, step_rows, switch_row}
 use Rattle.grain_flat.specs.declared.records.CCase.{CCase}
 use Rattle.grain_flat.specs.declared.records.CChain.{CChain}

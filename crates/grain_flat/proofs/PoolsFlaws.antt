@@ -7,8 +7,8 @@ use Rattle.std.proofs.lemmas.Bool.{cases_lt}
 use Rattle.std.proofs.lemmas.Bool.Decides.{nat_tests}
 use Rattle.std.proofs.lemmas.List.{drop_all, drop_more, get_or-drop, get_or_default, take_rest}
 use Rattle.std.proofs.lemmas.List.Sums.{sum_by-take-le}
-use Rattle.grain_names.specs.Names.{first_flaw, flaw_from, span_flaw}
-use Rattle.grain_names.specs.declared.strings.BadTable.{BadTable}
+use Rattle.grain_pools.specs.Names.{first_flaw, flaw_from, span_flaw}
+use Rattle.grain_pools.specs.declared.strings.BadTable.{BadTable}
 use Rattle.grain_flat.specs.Flat.{IsFlat, Pooled}
 use Rattle.grain_flat.specs.PoolsFlaws.{ArmsFlaw, IsBadName, IsCut, IsFirstOther, PoolsFlaw, StepsFlaw, all_cases, all_ranges, all_steps, chain_overruns, step_left, switch_overruns, case_left, range_left, wrong_constant, wrong_chain, wrong_step, wrong_steps, wrong_arms, wrong_name}
 use Rattle.grain_flat.specs.declared.records.CPools.{CPools}

@@ -4,7 +4,7 @@ use Rattle.std.specs.List.{All, AllZip}
 use Rattle.std.proofs.lemmas.List.{map-append, take_more, take_more_set}
 use Rattle.grain_rules.specs.Accepted.{ChunkPasses, Input, IsAccepted}
 use Rattle.grain_rules.specs.Code.{coded}
-use Rattle.grain_bytecode.specs.Span.{Span}
+use Rattle.grain_code.specs.Span.{Span}
 use Rattle.grain_rules.specs.Typing.{HasTyping}
 use Rattle.grain_rules.proofs.Redeclared.{all_alike, all_pass, redeclared}
 use Rattle.grain_flat.specs.Answers.{Accepts}

@@ -7,8 +7,8 @@ use Rattle.std.proofs.lemmas.List.Elements.{Contains-append_right}
 use Rattle.std.specs.Option.{unwrap_or}
 use Rattle.std.proofs.lemmas.Option.{none-some, slice_get-map, slice_get_within, unwrap_or-slice_get}
 use Rattle.grain_rules.specs.Capabilities.{name_caps}
-use Rattle.grain_names.specs.Names.{first_flaw, names_in}
-use Rattle.grain_names.proofs.Tables.{length-starts_of, table_of}
+use Rattle.grain_pools.specs.Names.{first_flaw, names_in}
+use Rattle.grain_pools.proofs.Tables.{length-starts_of, table_of}
 use Rattle.grain_flat.specs.RowFacts.{part_begins, cases_told, chain_told, chains_told, leads_told, parts, switch_leads}
 use Rattle.grain_flat.specs.RowTables.{AreTables}
 use Rattle.grain_flat.specs.declared.records.CCase.{CCase}

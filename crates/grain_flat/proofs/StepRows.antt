@@ -1,7 +1,7 @@
 -- A row is a step's exactly where one is found for it.
 use Rattle.std.proofs.Common.{◌≡◌, ◌≢◌, ◌↔◌, Option, Some, None, IfNone, IfSome, IsTrue, refl}
 use Rattle.std.specs.Prelude.{is_some}
-use Rattle.grain_bytecode.specs.declared.Step.{Step}
+use Rattle.grain_pools.specs.declared.chain.Step.{Step}
 use Rattle.grain_flat.specs.declared.records.CStep.{CStep}
 use Rattle.grain_flat.specs.Flat.{IsStepRow, step_row}
 

@@ -4,7 +4,7 @@ use Rattle.std.specs.List.{AllZip, Contains, flat_map}
 use Rattle.std.specs.List.Sorted.{IsPermutation}
 use Rattle.std.proofs.lemmas.List.Concat.{flat_map-cons}
 use Rattle.std.proofs.lemmas.List.Sorted.{Contains-permutation, IsPermutation-sym, length_permutation}
-use Rattle.grain_bytecode.specs.Dispatch.{Arms}
+use Rattle.grain_pools.specs.Dispatch.{Arms}
 use Rattle.grain_flat.specs.declared.records.CCase.{CCase}
 use Rattle.grain_flat.specs.declared.records.CSwitch.{CSwitch}
 use Rattle.grain_flat.specs.Flat.{case_rows, arm_range_targets, switch_row}

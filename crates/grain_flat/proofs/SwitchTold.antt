@@ -1,6 +1,6 @@
 -- What is said of switches is told by their rows, cases and ranges.
 use Rattle.std.proofs.Common.{◌≡◌, ℕ, List, [], ◌∷◌, ◌++◌, map, take, drop, refl, sym}
-use Rattle.grain_bytecode.specs.Dispatch.{Case, arm_targets}
+use Rattle.grain_pools.specs.Dispatch.{Case, arm_targets}
 use Rattle.grain_flat.specs.declared.records.CCase.{CCase}
 use Rattle.grain_flat.specs.declared.records.CSwitch.{CSwitch}
 use Rattle.grain_flat.specs.Flat.{arm_constants}

@@ -7,10 +7,10 @@ use Rattle.std.proofs.lemmas.Bool.Decides.{nat_tests}
 use Rattle.std.proofs.lemmas.List.{length-replicate}
 use Rattle.std.proofs.lemmas.List.Sums.{sum_by-cons}
 use Rattle.std.proofs.lemmas.Map.Keys.{IsDistinct-cons, IsDistinct-head, IsDistinct-tail}
-use Rattle.grain_bytecode.specs.Span.{Span}
-use Rattle.grain_bytecode.specs.InstructionTable.{width_of}
-use Rattle.grain_bytecode.specs.declared.Function.{Function}
-use Rattle.grain_values.specs.declared.access.FnAccess.TheVariants as access
+use Rattle.grain_code.specs.Span.{Span}
+use Rattle.grain_code.specs.InstructionTable.{width_of}
+use Rattle.grain_code.specs.declared.function.Function.{Function}
+use Rattle.grain_base.specs.declared.access.FnAccess.TheVariants as access
 use Rattle.grain_rules.specs.Accepted.{ChunkPasses}
 use Rattle.grain_rules.specs.Code.{Bytecode, coded}
 use Rattle.grain_rules.specs.Typing.{IsReachedCount}

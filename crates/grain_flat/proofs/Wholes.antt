@@ -5,19 +5,19 @@ use Rattle.std.proofs.lemmas.List.{get_or-map, length-map}
 use Rattle.grain_rules.specs.Accepted.{AllowsConst, AreIndexed, AreDeepest, AreSafe, AreTyped, ChunkPasses, CodePasses, ConstantPasses, FunctionsPass, Input, IsAccepted, IsSafe}
 use Rattle.grain_rules.specs.Code.{coded}
 use Rattle.grain_rules.specs.ConstCaps.{const_caps}
-use Rattle.grain_bytecode.specs.Dispatch.{Arms, arm_targets}
+use Rattle.grain_pools.specs.Dispatch.{Arms, arm_targets}
 use Rattle.grain_rules.specs.Flaw.{CodeFlaw, ConstantAsks, Flaw, FlawAt, IsFirstFlaw, IsFlawOfChunks, PassesTo, bad_index, of_chunk, of_code, of_constant, of_functions, undecodable}
 use Rattle.grain_rules.specs.Setting.{Setting}
-use Rattle.grain_bytecode.specs.Span.{Span}
+use Rattle.grain_code.specs.Span.{Span}
 use Rattle.grain_verify.specs.Meter.{AreReached}
 use Rattle.grain_rules.specs.Typing.{HasTyping, IsDeepest, IsReachedCount}
 use Rattle.grain_rules.specs.declared.error.VerifyError.{VerifyError}
 use Rattle.grain_rules.specs.declared.error.VerifyError.TheVariants as errors
-use Rattle.grain_values.specs.declared.caps.Caps.{Caps}
-use Rattle.grain_values.specs.declared.value.Dynamic.{Dynamic}
-use Rattle.grain_values.specs.declared.value.Dynamic.TheVariants as values
-use Rattle.grain_bytecode.specs.declared.Chain.{Chain}
-use Rattle.grain_bytecode.specs.declared.Function.{Function}
+use Rattle.grain_base.specs.declared.caps.Caps.{Caps}
+use Rattle.grain_base.specs.declared.value.Dynamic.{Dynamic}
+use Rattle.grain_base.specs.declared.value.Dynamic.TheVariants as values
+use Rattle.grain_pools.specs.declared.chain.Chain.{Chain}
+use Rattle.grain_code.specs.declared.function.Function.{Function}
 use Rattle.grain_flat.specs.Answers.{Refuses}
 use Rattle.grain_flat.specs.Flat.{Rest, Whole, asked_row, rest_input}
 use Rattle.grain_flat.specs.Asking.{IsFirstRefusedRow, RowPasses}

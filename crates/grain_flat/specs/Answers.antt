@@ -5,11 +5,11 @@ use Rattle.std.specs.Str.{bytes_eq}
 use Rattle.grain_rules.specs.Accepted.{AreDeepest, AreSafe, AreTyped, IsAccepted}
 use Rattle.grain_rules.specs.Flaw.{FlawAt}
 use Rattle.grain_verify.specs.Meter.{AreReached, starts_within}
-use Rattle.grain_bytecode.specs.Span.{Span}
-use Rattle.grain_bytecode.specs.Split.{Split}
+use Rattle.grain_code.specs.Span.{Span}
+use Rattle.grain_code.specs.Split.{Split}
 use Rattle.grain_rules.specs.declared.error.VerifyError.{VerifyError}
 use Rattle.grain_rules.specs.declared.error.VerifyError.TheVariants as errors
-use Rattle.grain_values.specs.declared.caps.Caps.{Caps}
+use Rattle.grain_base.specs.declared.caps.Caps.{Caps}
 use Rattle.grain_flat.specs.Asking.{IsFirstRefusedRow, RowPasses}
 use Rattle.grain_flat.specs.Flat.{Rest, Whole, flat_input, rest_input}
 use Rattle.grain_flat.specs.declared.flaws.TheConstants.{WHOLE_PROGRAM, MISSING_CAPS, UNDECODABLE, TRAILING_BYTES, CHUNK_OUT_OF_RANGE, JUMP_OUT_OF_RANGE, JUMP_INTO_AN_INSTRUCTION}

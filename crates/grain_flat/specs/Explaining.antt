@@ -2,16 +2,16 @@
 use Rattle.std.specs.Prelude.{◌≡◌, ℕ, zero, suc, List, [], ◌++◌, map, reverse, zip, length, Option, Some, None}
 use Rattle.std.specs.Option.{unwrap_or}
 use Rattle.grain_rules.specs.Accepted.{AreIndexed}
-use Rattle.grain_bytecode.specs.Dispatch.{Arms}
+use Rattle.grain_pools.specs.Dispatch.{Arms}
 use Rattle.grain_explain.specs.Explaining.{IsExact, IsExplained}
-use Rattle.grain_bytecode.specs.Span.{Span}
+use Rattle.grain_code.specs.Span.{Span}
 use Rattle.grain_explain.specs.declared.refusal.ExplainError.{ExplainError}
 use Rattle.grain_explain.specs.declared.refusal.ExplainError.TheVariants.{BadCode, Unfinished}
 use Rattle.grain_explain.specs.declared.refusal.ExplainedChunk.{ExplainedChunk}
 use Rattle.grain_explain.specs.declared.refusal.Refusal.{Refusal}
 use Rattle.grain_explain.specs.declared.row.LinkedBase.{LinkedBase}
 use Rattle.grain_explain.specs.declared.row.Row.{Row}
-use Rattle.grain_bytecode.specs.declared.Chain.{Chain}
+use Rattle.grain_pools.specs.declared.chain.Chain.{Chain}
 use Rattle.grain_flat.specs.Listing.{filled}
 use Rattle.grain_flat.specs.Flat.{AreChains, AreSwitches, code_with}
 use Rattle.grain_flat.specs.declared.explaining.ToldRows.{ToldRows}

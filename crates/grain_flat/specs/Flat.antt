@@ -7,18 +7,18 @@ use Rattle.grain_rules.specs.Capabilities.{name_caps}
 use Rattle.grain_rules.specs.Code.{Bytecode, bytecode_beside}
 use Rattle.grain_rules.specs.Facts.{chain_facts}
 use Rattle.grain_rules.specs.ConstCaps.{const_caps}
-use Rattle.grain_bytecode.specs.Span.{Span}
-use Rattle.grain_values.specs.declared.value.Dynamic.{Dynamic}
-use Rattle.grain_bytecode.specs.declared.Function.{Function}
-use Rattle.grain_bytecode.specs.Dispatch.{Arms, Case, listed, arm_targets}
-use Rattle.grain_names.specs.Names.{first_flaw, names_in}
-use Rattle.grain_bytecode.specs.declared.Chain.{Chain}
-use Rattle.grain_bytecode.specs.declared.Root.{Root}
-use Rattle.grain_bytecode.specs.declared.Root.TheVariants as roots
-use Rattle.grain_bytecode.specs.declared.Step.{Step}
-use Rattle.grain_bytecode.specs.declared.Step.TheVariants as steps
-use Rattle.grain_bytecode.specs.declared.Tail.{Tail}
-use Rattle.grain_bytecode.specs.declared.Tail.TheVariants as tails
+use Rattle.grain_code.specs.Span.{Span}
+use Rattle.grain_base.specs.declared.value.Dynamic.{Dynamic}
+use Rattle.grain_code.specs.declared.function.Function.{Function}
+use Rattle.grain_pools.specs.Dispatch.{Arms, Case, listed, arm_targets}
+use Rattle.grain_pools.specs.Names.{first_flaw, names_in}
+use Rattle.grain_pools.specs.declared.chain.Chain.{Chain}
+use Rattle.grain_pools.specs.declared.chain.Root.{Root}
+use Rattle.grain_pools.specs.declared.chain.Root.TheVariants as roots
+use Rattle.grain_pools.specs.declared.chain.Step.{Step}
+use Rattle.grain_pools.specs.declared.chain.Step.TheVariants as steps
+use Rattle.grain_pools.specs.declared.chain.Tail.{Tail}
+use Rattle.grain_pools.specs.declared.chain.Tail.TheVariants as tails
 use Rattle.grain_flat.specs.declared.records.CCase.{CCase}
 use Rattle.grain_flat.specs.declared.records.CChain.{CChain}
 use Rattle.grain_flat.specs.declared.records.CConstant.{CConstant}

@@ -1,11 +1,11 @@
 -- An instruction as it crosses to C.
 use Rattle.std.specs.Prelude.{ℕ, List, [], ◌∷◌, ◌++◌, map, take, ◌==◌, if◌then◌else◌}
-use Rattle.grain_bytecode.specs.InstructionTable.{form, width_of}
-use Rattle.grain_bytecode.specs.declared.Field.{Field}
-use Rattle.grain_bytecode.specs.declared.Field.TheVariants.{Index, Slot, Count, Target}
-use Rattle.grain_bytecode.specs.declared.Pool.{Pool}
-use Rattle.grain_bytecode.specs.declared.Pool.TheVariants as pools
-use Rattle.grain_bytecode.specs.declared.Op.{Op}
+use Rattle.grain_code.specs.InstructionTable.{form, width_of}
+use Rattle.grain_code.specs.declared.field.Field.{Field}
+use Rattle.grain_code.specs.declared.field.Field.TheVariants.{Index, Slot, Count, Target}
+use Rattle.grain_code.specs.declared.field.Pool.{Pool}
+use Rattle.grain_code.specs.declared.field.Pool.TheVariants as pools
+use Rattle.grain_code.specs.declared.op.Op.{Op}
 use Rattle.grain_flat.specs.declared.kinds.TheConstants.{NOTHING, CONSTANT, NAME, OPERATOR, OP_ASSIGNMENT, FRAGMENT, CHAIN, SWITCH, SYNTAX_SITE, SLOT, COUNT, TARGET}
 use Rattle.grain_flat.specs.declared.records.CField.{CField}
 use Rattle.grain_flat.specs.declared.records.CInstruction.{CInstruction}

@@ -1,8 +1,8 @@
 -- The text of an instruction: what it is called, and its fields in order.
 use Rattle.std.specs.Prelude.{ℕ, List, [], ◌∷◌, ◌++◌, decimal, get_or, ◌==◌, if◌then◌else◌}
 use Rattle.std.specs.List.{flat_map}
-use Rattle.grain_bytecode.specs.InstructionTable.{form}
-use Rattle.grain_bytecode.specs.declared.Op.{Op}
+use Rattle.grain_code.specs.InstructionTable.{form}
+use Rattle.grain_code.specs.declared.op.Op.{Op}
 use Rattle.grain_flat.specs.Instruction.{instruction_row}
 use Rattle.grain_flat.specs.TagNames.{tag_names}
 use Rattle.grain_flat.specs.declared.kinds.TheConstants.{NOTHING}

@@ -2,12 +2,12 @@
 use Rattle.std.specs.Prelude.{◌≡◌, ⊤, ℕ, IfErr, IfOk, List, [], length, Result, Vec}
 use Rattle.std.specs.declared.alloc.Global.{Global}
 use Rattle.grain_rules.specs.Accepted.{AreDeepest, AreSafe, AreTyped, Input, IsAccepted, input_beside}
-use Rattle.grain_bytecode.specs.Dispatch.{Arms}
+use Rattle.grain_pools.specs.Dispatch.{Arms}
 use Rattle.grain_rules.specs.Flaw.{FlawAt}
 use Rattle.grain_verify.specs.Meter.{AreReached, HasCounted, IsWithinAll}
-use Rattle.grain_bytecode.specs.Span.{Span}
-use Rattle.grain_bytecode.specs.declared.Chain.{Chain}
-use Rattle.grain_bytecode.specs.declared.Function.{Function}
+use Rattle.grain_code.specs.Span.{Span}
+use Rattle.grain_pools.specs.declared.chain.Chain.{Chain}
+use Rattle.grain_code.specs.declared.function.Function.{Function}
 use Rattle.grain_flat.specs.Answers.{Accepts, Visits, VisitsWithin, Refuses}
 use Rattle.grain_flat.specs.Flat.{code_with}
 use Rattle.grain_flat.specs.RowFacts.{facts_told, leads_of}

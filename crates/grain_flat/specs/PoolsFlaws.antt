@@ -1,7 +1,7 @@
 -- Where pools aren't flat.
 use Rattle.std.specs.Prelude.{◌≡◌, ◌≢◌, ◌⊎◌, ℕ, ◌+◌, ◌<◌, ◌≤◌, List, get_or, length, sum_by, take, None}
 use Rattle.std.specs.List.{All, AllWithin, HoldsAt}
-use Rattle.grain_names.specs.Names.{span_flaw}
+use Rattle.grain_pools.specs.Names.{span_flaw}
 use Rattle.grain_flat.specs.Flat.{IsAskedRow, IsChainRow, IsStepRow}
 use Rattle.grain_flat.specs.declared.lists.TheConstants.{CONSTANTS, NAMES, CHAINS, STEPS, SWITCHES, CASES, RANGES}
 use Rattle.grain_flat.specs.declared.records.CChain.{CChain}

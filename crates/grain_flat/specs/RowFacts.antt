@@ -1,11 +1,11 @@
 -- What the rows of a flat form say of pools, where they stand.
 use Rattle.std.specs.Prelude.{ℕ, ◌+◌, ◌-◌, ◌==◌, ◌||◌, nat_lt, not, cond, if◌then◌else◌, List, [], ◌∷◌, ◌++◌, map, take, drop, length, zip}
 use Rattle.std.specs.List.{flat_map}
-use Rattle.grain_values.specs.CapBits.{THIS, INDEXING, METHOD, PROPERTY}
+use Rattle.grain_base.specs.CapBits.{THIS, INDEXING, METHOD, PROPERTY}
 use Rattle.grain_rules.specs.Capabilities.{joined, name_caps}
 use Rattle.grain_rules.specs.Facts.{ChainFacts, Facts, Mention, Entry, Operand}
-use Rattle.grain_names.specs.Names.{names_in}
-use Rattle.grain_bytecode.specs.declared.Pool.TheVariants.{Names, OpAssignments}
+use Rattle.grain_pools.specs.Names.{names_in}
+use Rattle.grain_code.specs.declared.field.Pool.TheVariants.{Names, OpAssignments}
 use Rattle.grain_flat.specs.declared.records.CCase.{CCase}
 use Rattle.grain_flat.specs.declared.records.CChain.{CChain}
 use Rattle.grain_flat.specs.declared.records.CPools.{CPools}

@@ -1,7 +1,7 @@
 -- Chunks that declare their numbers.
 use Rattle.std.specs.Prelude.{◌≡◌, ℕ, List, map}
 use Rattle.grain_rules.specs.Accepted.{IsAccepted}
-use Rattle.grain_bytecode.specs.Span.{Span, undeclared_chunk}
+use Rattle.grain_code.specs.Span.{Span, undeclared_chunk}
 use Rattle.grain_flat.specs.Answers.{Accepts}
 use Rattle.grain_flat.specs.Flat.{Rest, Whole, flat_input, rest_input}
 use Rattle.grain_flat.specs.declared.records.CPools.{CPools}

@@ -1,6 +1,6 @@
 -- How much work a verification may take.
 use Rattle.std.specs.Prelude.{ℕ, ◌-◌, min, List, length, sum_by}
-use Rattle.grain_bytecode.specs.Span.{Span}
+use Rattle.grain_code.specs.Span.{Span}
 
 -- how many bytes of code of this size the chunk spans
 abbrev pub spanned : ℕ → Span → ℕ

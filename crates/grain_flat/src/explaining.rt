@@ -8,7 +8,7 @@ use crate::kinds::{NO_ADDRESS, NO_BASE};
 use crate::records::{CBase, CChunk, CPools, CRow};
 use crate::row_reads::{Rows, Tables};
 use grain_base::Caps;
-use grain_bytecode::Chunk;
+use grain_code::Chunk;
 use grain_explain::{
     ExplainError, ExplainedChunk, LinkedBase, Refusal as ExplainedRefusal, Row, explain_chunks,
 };

@@ -1,6 +1,6 @@
 //! The fields of operations, as they cross to C.
 ghost use Rattle.std.specs.Prelude.{◌≡◌, ◌+◌, sum_by};
-ghost use Rattle.grain_bytecode.specs.InstructionTable.{form, width_of};
+ghost use Rattle.grain_code.specs.InstructionTable.{form, width_of};
 ghost use Rattle.grain_flat.specs.Instruction.{field_row, field_rows, field_size, pool_kind};
 
 use crate::kinds::{
@@ -8,7 +8,7 @@ use crate::kinds::{
     SYNTAX_SITE, TARGET,
 };
 use crate::records::CField;
-use grain_bytecode::{Field, Fields, Op, Pool};
+use grain_code::{Field, Fields, Op, Pool};
 
 const NO_FIELD: CField = CField {
     kind: NOTHING,

@@ -3,7 +3,7 @@ ghost use Rattle.std.specs.Prelude.{◌≡◌, ◌<◌, ◌^◌, ◌↔◌, IfNo
 ghost use Rattle.std.specs.Bool.{OnTrue};
 ghost use Rattle.std.specs.List.{All};
 ghost use Rattle.std.specs.Str.{IsAscii, is_utf8};
-ghost use Rattle.grain_names.specs.Names.{first_flaw, span_flaw};
+ghost use Rattle.grain_pools.specs.Names.{first_flaw, span_flaw};
 ghost use Rattle.grain_flat.specs.Flat.{IsAskedRow, IsChainRow, IsFlat, IsStepRow, Pooled};
 ghost use Rattle.grain_flat.specs.PoolsFlaws.{ArmsFlaw, IsFirstBadName, IsFirstOther, PoolsFlaw, StepsFlaw, all_cases, all_ranges, all_steps};
 

@@ -3,7 +3,7 @@ ghost use Rattle.grain_flat.specs.Judging.{IsMeteredOf, IsVerdictOf, judged_inpu
 
 use crate::row_reads::Rows;
 use grain_base::Caps;
-use grain_bytecode::{Chunk, Function};
+use grain_code::{Chunk, Function};
 use grain_rules::VerifyError;
 use grain_verify::{Meter, Refusal, Scratch};
 use std::alloc::{AllocError, Global};

@@ -2,7 +2,7 @@
 ghost use Rattle.std.specs.Prelude.{◌≡◌, ◌<◌, ◌≤◌, length};
 ghost use Rattle.grain_flat.specs.InstructionTexts.{mnemonic};
 
-use grain_bytecode::{Op, Receiver};
+use grain_code::{Op, Receiver};
 
 /// What an operation is called: its tag's name in docs/FORMAT.md ("Instructions").
 pub(crate) fn mnemonic(op: &Op) -> &'static str

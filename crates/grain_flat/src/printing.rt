@@ -11,7 +11,7 @@ use crate::mnemonics::mnemonic;
 use crate::records::CField;
 use arrayvec::ArrayVec;
 use grain_base::Flags;
-use grain_bytecode::Op;
+use grain_code::Op;
 use grain_rules::VerifyError;
 
 /// Adds a space and a field's number, where there is a field.

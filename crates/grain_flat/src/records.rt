@@ -36,7 +36,7 @@ pub struct CChunk {
 }
 
 impl Model for CChunk {
-    ghost use Rattle.grain_bytecode.specs.Span.{Span};
+    ghost use Rattle.grain_code.specs.Span.{Span};
 
     ghost Value = { Span };
 

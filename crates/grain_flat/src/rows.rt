@@ -1,8 +1,8 @@
 //! What single rows of a flat form stand for.
 ghost use Rattle.std.specs.Prelude.{◌≡◌, ◌≢◌, ℕ, IfNone, IfSome, Option};
-ghost use Rattle.grain_bytecode.specs.declared.Root.{Root};
-ghost use Rattle.grain_bytecode.specs.declared.Step.{Step};
-ghost use Rattle.grain_bytecode.specs.declared.Tail.{Tail};
+ghost use Rattle.grain_pools.specs.declared.chain.Root.{Root};
+ghost use Rattle.grain_pools.specs.declared.chain.Step.{Step};
+ghost use Rattle.grain_pools.specs.declared.chain.Tail.{Tail};
 ghost use Rattle.grain_flat.specs.Flat.{asked_row, root_row, step_row, tail_row};
 
 use crate::records::{CConstant, CStep};
@@ -10,7 +10,7 @@ use crate::shapes::{
     ASSIGN, ASSIGN_THROUGH, INDEX, LOCAL, METHOD, NAMED, PROPERTY, READ, TEMPORARY, THIS,
 };
 use grain_base::Position;
-use grain_bytecode::{Root, Step, StepFlags, Tail};
+use grain_pools::{Root, Step, StepFlags, Tail};
 
 /// What a constant with this row asks, or that it can't be said, if there is such a constant's row.
 pub(crate) fn asked_of(row: &CConstant) -> Option<Option<u16>>

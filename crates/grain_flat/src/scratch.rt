@@ -1,7 +1,7 @@
 //! Memory that one verification of flat pools after another uses.
 
 use crate::row_reads::Tables;
-use grain_bytecode::Chunk;
+use grain_code::Chunk;
 use std::alloc::Global;
 
 /// What verification of flat pools writes as it goes, kept so that its memory serves one program after another.

@@ -1,6 +1,6 @@
 //! Chunks that declare their depths.
 ghost use Rattle.std.specs.Prelude.{◌≡◌, ◌≤◌, ◌++◌, List, drop, length};
-ghost use Rattle.grain_bytecode.specs.Span.{Span};
+ghost use Rattle.grain_code.specs.Span.{Span};
 ghost use Rattle.grain_flat.specs.Tightening.{AreDeclaring};
 
 use crate::records::CChunk;

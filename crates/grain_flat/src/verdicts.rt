@@ -12,7 +12,7 @@ use crate::records::{CChunk, CPools};
 use crate::row_reads::{Rows, Tables};
 use crate::scratch::Scratch;
 use grain_base::{Caps, FnAccess};
-use grain_bytecode::{Chunk, Function};
+use grain_code::{Chunk, Function};
 use grain_rules::VerifyError;
 use grain_verify::{Meter, Refusal};
 use std::alloc::{AllocError, Global};

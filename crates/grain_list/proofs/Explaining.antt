@@ -1,11 +1,11 @@
 -- The verdict that an explanation has.
 use Rattle.std.proofs.Common.{◌≡◌, ◌≢◌, ℕ, List, ◌++◌, Option, None, Some, Ok, Err, Vec, inl, inr, subst}
 use Rattle.std.specs.declared.alloc.Global.{Global}
-use Rattle.grain.specs.Refusals.{without_place}
-use Rattle.grain.specs.Verdict.{IsVerdict}
-use Rattle.grain.specs.declared.Explained.{Explained}
-use Rattle.grain.specs.declared.Refusal.{Refusal}
-use Rattle.grain.specs.declared.VerifyError.TheVariants.{OutOfMemory}
+use Rattle.grain_verify.specs.Refusals.{without_place}
+use Rattle.grain_rules.specs.Verdict.{IsVerdict}
+use Rattle.grain.specs.declared.explanation.Explained.{Explained}
+use Rattle.grain_verify.specs.declared.refusal.Refusal.{Refusal}
+use Rattle.grain_rules.specs.declared.error.VerifyError.TheVariants.{OutOfMemory}
 use Rattle.grain_cases.specs.Case.{Asked, code, site, verify}
 use Rattle.grain_cases.specs.Verdict.{Adds, IsVerdictOn, accepted_text, program, refused_text}
 use Rattle.grain_cases.proofs.VerdictLaws.{adds_accepted, adds_refused}

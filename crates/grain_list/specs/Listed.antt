@@ -1,8 +1,8 @@
 -- What is listed of a line, by what the line asks.
 use Rattle.std.specs.Prelude.{◌≡◌, ℕ, List, Option, None, Some}
 use Rattle.grain.specs.Explanations.{IsExplanation}
-use Rattle.grain.specs.Span.{Span}
-use Rattle.grain.specs.declared.Explained.{Explained}
+use Rattle.grain_code.specs.Span.{Span}
+use Rattle.grain.specs.declared.explanation.Explained.{Explained}
 use Rattle.grain_cases.specs.Case.{Asked, code, site, verify}
 use Rattle.grain_cases.specs.Verdict.{program}
 use Rattle.grain_list.specs.ListedCode.{IsListedCode}

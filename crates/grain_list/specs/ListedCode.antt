@@ -1,6 +1,6 @@
 -- Code with its instructions.
 use Rattle.std.specs.Prelude.{◌≡◌, ℕ, List}
-use Rattle.grain.specs.Disassembly.{IsDisassembly}
+use Rattle.grain_code.specs.Disassembly.{IsDisassembly}
 use Rattle.grain_list.specs.declared.code.CodeListing.{CodeListing}
 
 -- the code, with its instructions from its front up to the first thing that is none

@@ -1,13 +1,14 @@
 //! Code with its instructions.
 
 ghost use Rattle.std.specs.Prelude.{◌≡◌, ℕ, Err, IfNone, IfOk, IfSome, Ok};
-ghost use Rattle.grain.specs.Disassembly.{IsDisassembly};
-ghost use Rattle.grain.specs.EffectView.{flow_in};
-ghost use Rattle.grain.specs.Rows.{flow_of};
-ghost use Rattle.grain.specs.Split.{IsCount};
+ghost use Rattle.grain_code.specs.Disassembly.{IsDisassembly};
+ghost use Rattle.grain_rules.specs.EffectView.{flow_in};
+ghost use Rattle.grain_rules.specs.Rows.{flow_of};
+ghost use Rattle.grain_code.specs.Split.{IsCount};
 ghost use Rattle.grain_list.specs.ListedCode.{IsListedCode};
 
-use grain::{Effect, Instruction, NoPools, Op, count_instructions, disassemble};
+use grain_code::{Instruction, Op, count_instructions, disassemble};
+use grain_rules::{Effect, NoPools};
 use std::alloc::{AllocError, Global};
 
 /// Code with its instructions.

@@ -6,8 +6,10 @@ ghost use Rattle.grain_cases.specs.Case.{Asked, as_asked};
 ghost use Rattle.grain_cases.specs.Verdict.{Adds, IsVerdictOn};
 ghost use Rattle.grain_list.specs.Listed.{Explains};
 
-use grain::{ExplainError, Explained, NoPools, VerifyError, explain};
+use grain::{Explained, explain};
 use grain_cases::{Case, write_accepted};
+use grain_explain::ExplainError;
+use grain_rules::{NoPools, VerifyError};
 use std::alloc::{AllocError, Global};
 
 /// The explanation of the program that a case asks of; none of other cases, nor where nothing is explained.

@@ -1,6 +1,6 @@
 //! The handlers that are armed where a run reaches an instruction.
 
-use grain::{ExplainedChunk, LinkedBase};
+use grain_explain::{ExplainedChunk, LinkedBase};
 use std::alloc::{AllocError, Global};
 
 /// How many handlers of a row are shown.

@@ -10,8 +10,9 @@ use crate::code::CodeListing;
 use crate::explained::{explained_of, write_explained};
 use crate::handlers::all_depths;
 use crate::problem::Problem;
-use grain::{Chunk, Explained};
+use grain::Explained;
 use grain_cases::{Case, case_of, write_verdict};
+use grain_code::Chunk;
 use std::alloc::{AllocError, Global};
 
 /// A program with its explanation.

@@ -5,9 +5,9 @@ use crate::handlers::{Handlers, SHOWN};
 use crate::listing::{Body, Listing, ProgramListing};
 use crate::sentence::{rule, write_wrong};
 use crate::text::{depths_at, row_at, write_hex};
-use grain::{
-    Chunk, Effect, ExplainedChunk, ExplainedRefusal, Flow, LinkedBase, Op, Row, VerifyError,
-};
+use grain_code::{Chunk, Flow, Op};
+use grain_explain::{ExplainedChunk, LinkedBase, Refusal as ExplainedRefusal, Row};
+use grain_rules::{Effect, VerifyError};
 use json::Writer;
 use std::alloc::{AllocError, Global};
 

@@ -1,6 +1,8 @@
 //! What is said of a refusal: what is wrong, and which rule it breaks.
 
-use grain::{Flags, Row, VerifyError};
+use grain_base::Flags;
+use grain_explain::Row;
+use grain_rules::VerifyError;
 use std::alloc::AllocError;
 
 /// Writes a count of something, in words.

@@ -5,7 +5,9 @@ use crate::handlers::{Handlers, SHOWN};
 use crate::listing::{Body, Listing, ProgramListing};
 use crate::paint::{Kind, Paint};
 use crate::sentence::{rule, write_wrong};
-use grain::{Chunk, ExplainedChunk, ExplainedRefusal, Flow, Op, Row, VerifyError};
+use grain_code::{Chunk, Flow, Op};
+use grain_explain::{ExplainedChunk, Refusal as ExplainedRefusal, Row};
+use grain_rules::VerifyError;
 use std::alloc::AllocError;
 
 /// How wide the column of bytes is at least.

@@ -8,7 +8,7 @@ use Rattle.std.proofs.lemmas.List.Elements.{All-nil, All-cons, All-head, All-tai
 use mathlib.Core.List.{reverse_aux}
 use Rattle.grain_code.specs.Span.{Span}
 use Rattle.grain_rules.specs.Machine.{Handler, IsKeptRun, Machine, Moves, innermost}
-use Rattle.grain_program.specs.Program.{Program}
+use Rattle.grain.specs.Program.{Program}
 use Rattle.grain_machine.specs.Asked.{program_code}
 use Rattle.grain_machine.specs.Calls.{Activation, CallStack, MovesOn, IsRunOfCalls, Turns, begins, catcher, outermost_from, outermost_of}
 use Rattle.grain_machine.specs.Standing.{activation_of, waiting_of}

@@ -7,7 +7,7 @@ use Rattle.std.proofs.lemmas.Option.{slice_get-map, slice_get-get_or}
 use Rattle.std.proofs.lemmas.Slice.Zip.{AllZip-left, AllZip-long}
 use Rattle.grain_code.specs.Span.{Span}
 use Rattle.grain_code.specs.declared.function.Function.{Function}
-use Rattle.grain_program.specs.Program.{Program, chunks_of}
+use Rattle.grain.specs.Program.{Program, chunks_of}
 use Rattle.grain_rules.specs.Typing.{HasTyping}
 use Rattle.grain_machine.specs.Asked.{program_code}
 use Rattle.grain_machine.specs.State.{IsNumbered, IsRunnable, Numbered}

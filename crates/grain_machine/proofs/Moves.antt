@@ -9,7 +9,7 @@ use Rattle.grain_rules.specs.Flow.{Flow}
 use Rattle.grain_rules.specs.FlowFields.{fall_for, falls_for, jumps_for}
 use Rattle.grain_rules.specs.Layout.{switches}
 use Rattle.grain_rules.specs.Machine.{Catches, Handler, IsKept, Machine, counts, first, handlers_after, handlers_behind, innermost}
-use Rattle.grain_program.specs.Program.{setting_of}
+use Rattle.grain.specs.Program.{setting_of}
 use Rattle.grain_rules.specs.Rows.{flow_of, is_quiet, takes}
 use Rattle.grain_rules.proofs.Law.{typing_covers_run}
 use Rattle.grain_rules.proofs.Quiet.{move_from_run}

@@ -2,7 +2,7 @@
 use Rattle.std.proofs.Common.{◌≡◌, ℕ, ◌+◌, ◌-◌, ◌<◌, ◌≤◌, List, ◌∷◌, length, refl, sym, ◌∙◌, subst}
 use Rattle.std.specs.List.{All}
 use Rattle.std.proofs.lemmas.List.Elements.{All-cons, All-weaker}
-use Rattle.grain_program.specs.Program.{Program}
+use Rattle.grain.specs.Program.{Program}
 use Rattle.grain_rules.specs.Machine.{IsOnKeptRun}
 use Rattle.grain_machine.specs.Asked.{program_code}
 use Rattle.grain_machine.specs.Calls.{Activation, CallStack, IsCaughtBy, IsGivenBack, IsRunOfCalls, catcher, outermost_of}

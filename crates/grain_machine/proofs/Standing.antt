@@ -10,9 +10,9 @@ use Rattle.grain_code.specs.declared.op.Op.{Op}
 use Rattle.grain_code.proofs.Instructions.{begins_spelling, spelling_width}
 use Rattle.grain_code.proofs.Splits.{one_split}
 use Rattle.grain_rules.specs.Layout.{IsStart}
-use Rattle.grain_program.specs.Lookups.{AreFound, FindsIndices}
+use Rattle.grain.specs.Lookups.{AreFound, FindsIndices}
 use Rattle.grain_rules.specs.Machine.{counts}
-use Rattle.grain_program.specs.Program.{Program}
+use Rattle.grain.specs.Program.{Program}
 use Rattle.grain_rules.specs.Typing.{Passes}
 use Rattle.grain_rules.proofs.Law.{run_passes}
 use Rattle.grain_rules.proofs.Once.{stands_once}

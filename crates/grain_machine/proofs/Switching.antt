@@ -9,8 +9,8 @@ use Rattle.grain_pools.specs.declared.switch.Switch.{Switch}
 use Rattle.grain_rules.specs.Facts.{Entry}
 use Rattle.grain_code.specs.declared.field.Pool.TheVariants.{Switches}
 use Rattle.grain_rules.specs.Code.{switch_targets}
-use Rattle.grain_program.specs.Lookups.{AreFound}
-use Rattle.grain_program.specs.Program.{Program}
+use Rattle.grain.specs.Lookups.{AreFound}
+use Rattle.grain.specs.Program.{Program}
 
 found_within : {A : Type 0} (xs : List A) (k : ℕ) (o : Option A) → slice_get xs k ≡ o → IsSome o → k < length xs
 found_within xs k None e h = absurd (let f : false ≡ true = h in cc)

@@ -6,8 +6,8 @@ use Rattle.grain_rules.specs.Capabilities.{Allows}
 use Rattle.grain_rules.specs.Code.{Code, coded}
 use Rattle.grain_rules.specs.Machine.{Finds, IsOnKeptRun, Machine}
 use Rattle.grain_rules.specs.Rows.{caps_of, needs}
-use Rattle.grain_program.specs.Lookups.{AreFound}
-use Rattle.grain_program.specs.Program.{Program, input_of, setting_of}
+use Rattle.grain.specs.Lookups.{AreFound}
+use Rattle.grain.specs.Program.{Program, input_of, setting_of}
 
 -- the code of a program
 abbrev pub program_code : Program → Code

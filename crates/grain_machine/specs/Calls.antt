@@ -8,7 +8,7 @@ use Rattle.grain_rules.specs.Code.{Code}
 use Rattle.grain_rules.specs.Layout.{Reads, next as place_behind}
 use Rattle.grain_rules.specs.Machine.{Finds, Machine, Moves, first, innermost}
 use Rattle.grain_rules.specs.Rows.{is_quiet}
-use Rattle.grain_program.specs.Program.{Program, chunks_of, setting_of}
+use Rattle.grain.specs.Program.{Program, chunks_of, setting_of}
 use Rattle.grain_machine.specs.Act.{IsForHost}
 use Rattle.grain_machine.specs.Asked.{program_code}
 use Rattle.grain_machine.specs.State.{Lands}

@@ -8,7 +8,7 @@ use Rattle.grain_rules.specs.Flow as flows
 use Rattle.grain_rules.specs.Layout.{Reads}
 use Rattle.grain_rules.specs.Machine.{IsKeptRun, IsOnKeptRun, Machine, innermost}
 use Rattle.grain_rules.specs.Rows.{flow_of}
-use Rattle.grain_program.specs.Program.{Program}
+use Rattle.grain.specs.Program.{Program}
 use Rattle.grain_machine.specs.Asked.{program_code}
 use Rattle.grain_machine.specs.Calls.{Activation, CallStack, IsRunOfCalls, Sounds, catcher, outermost_of}
 use Rattle.grain_machine.specs.State.{Runs}

@@ -1,6 +1,6 @@
 -- What the host gives.
 use Rattle.std.specs.Prelude.{◌≡◌, ◌+◌, ◌-◌, ◌<◌, ⊤, ℕ, Option, Some, None, length}
-use Rattle.grain_program.specs.Program.{Program}
+use Rattle.grain.specs.Program.{Program}
 use Rattle.grain_machine.specs.State.{State, state_with_operands}
 use Rattle.grain_machine.specs.declared.host.Given.{Given}
 use Rattle.grain_machine.specs.declared.host.Given.TheVariants as givens

@@ -3,7 +3,7 @@ use Rattle.std.specs.Prelude.{◌≡◌, ◌<◌, ℕ, false, List, length, map,
 use Rattle.std.specs.List.{All}
 use Rattle.grain_code.specs.declared.op.Op.{Op}
 use Rattle.grain_rules.specs.Rows.{is_quiet}
-use Rattle.grain_program.specs.Program.{Program, setting_of}
+use Rattle.grain.specs.Program.{Program, setting_of}
 use Rattle.grain_machine.specs.Act.{IsForHost}
 use Rattle.grain_machine.specs.Calls.{Activation, CallStack}
 use Rattle.grain_machine.specs.State.{IsAt, IsUnderWay, MakesMove, Runs, State}

@@ -5,9 +5,9 @@ use Rattle.grain_code.specs.declared.op.Op.{Op}
 use Rattle.grain_rules.specs.Accepted.{AreTyped}
 use Rattle.grain_rules.specs.Rows.{needs}
 use Rattle.grain_rules.specs.Layout.{next as place_behind}
-use Rattle.grain_program.specs.Lookups.{FindsIndices}
+use Rattle.grain.specs.Lookups.{FindsIndices}
 use Rattle.grain_rules.specs.Machine.{Finds, Handler, IsOnKeptRun, Machine, Moves, innermost}
-use Rattle.grain_program.specs.Program.{Program, input_of, setting_of}
+use Rattle.grain.specs.Program.{Program, input_of, setting_of}
 use Rattle.grain_rules.specs.Typing.{HasTyping}
 use Rattle.grain_machine.specs.Asked.{IsAsked, program_code}
 use Rattle.grain_machine.specs.declared.frame.Armed.{Armed}

@@ -4,12 +4,12 @@ ghost use Rattle.std.specs.Prelude.{slice_get};
 ghost use Rattle.grain_rules.specs.Accepted.{AreSafe, IsAccepted};
 ghost use Rattle.grain_rules.specs.Flaw.{Flaw};
 ghost use Rattle.grain_rules.specs.Machine.{first};
-ghost use Rattle.grain_program.specs.Program.{chunks_of, input_of};
+ghost use Rattle.grain.specs.Program.{chunks_of, input_of};
 ghost use Rattle.grain_machine.specs.State.{IsUnderWay};
 
 use crate::frame::Frame;
-use grain_bytecode::Chunk;
-use grain_program::Program;
+use grain::Program;
+use grain_code::Chunk;
 use grain_rules::VerifyError;
 use std::alloc::{AllocError, Global};
 use std::marker::Model;
@@ -23,7 +23,7 @@ pub struct Accepted<'a> {
 
 impl<'a> Model for Accepted<'a> {
     ghost use Rattle.std.specs.Coded.{codes};
-    ghost use Rattle.grain_values.specs.contracts.value.Dynamic as value;
+    ghost use Rattle.grain_base.specs.contracts.value.Dynamic as value;
     ghost use Rattle.grain_pools.specs.contracts.switch.Switch as switch;
     ghost use Rattle.grain_machine.specs.State.{IsNumbered, Numbered};
 
@@ -50,7 +50,7 @@ pub struct Runnable<'a> {
 
 impl<'a> Model for Runnable<'a> {
     ghost use Rattle.std.specs.Coded.{codes};
-    ghost use Rattle.grain_values.specs.contracts.value.Dynamic as value;
+    ghost use Rattle.grain_base.specs.contracts.value.Dynamic as value;
     ghost use Rattle.grain_pools.specs.contracts.switch.Switch as switch;
     ghost use Rattle.grain_machine.specs.State.{IsNumbered, IsRunnable, Runs};
 

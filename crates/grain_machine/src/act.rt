@@ -1,11 +1,12 @@
 //! What the machine does with each operation.
 ghost use Rattle.std.specs.Prelude.{◌≡◌, get_or, map, option_map, slice_get};
 ghost use Rattle.grain_rules.specs.Facts.{ChainFacts, chain_facts};
-ghost use Rattle.grain_program.specs.Program.{setting_of};
+ghost use Rattle.grain.specs.Program.{setting_of};
 ghost use Rattle.grain_machine.specs.Act.{Does};
 
-use grain_bytecode::{Chain, Op, Receiver};
-use grain_program::Program;
+use grain::Program;
+use grain_code::{Op, Receiver};
+use grain_pools::Chain;
 
 /// What the machine does with an operation.
 #[derive(Clone, Copy)]

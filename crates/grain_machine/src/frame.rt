@@ -4,7 +4,7 @@ ghost use Rattle.std.specs.Prelude.{MatchOption, None, false, length};
 ghost use Rattle.grain_rules.specs.Counts.{without_last};
 ghost use Rattle.grain_rules.specs.Machine.{innermost};
 ghost use Rattle.grain_rules.specs.Rows.{gives};
-ghost use Rattle.grain_program.specs.Program.{setting_of};
+ghost use Rattle.grain.specs.Program.{setting_of};
 ghost use Rattle.grain_machine.specs.Asked.{IsAsked};
 ghost use Rattle.grain_machine.specs.Given.{IsGivenHere};
 ghost use Rattle.grain_machine.specs.State.{Lands, state_at, state_with_handlers};

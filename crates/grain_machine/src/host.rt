@@ -3,13 +3,14 @@ ghost use Rattle.std.specs.Prelude.{◌≡◌, IfOk, length};
 ghost use Rattle.std.specs.List.{Contains};
 ghost use Rattle.grain_rules.specs.Code.{switch_targets};
 ghost use Rattle.grain_rules.specs.Rows.{gives};
-ghost use Rattle.grain_program.specs.Program.{setting_of};
+ghost use Rattle.grain.specs.Program.{setting_of};
 ghost use Rattle.grain_machine.specs.Asked.{IsAsked};
 ghost use Rattle.grain_machine.specs.Given.{NamesFunction};
 
-use grain_bytecode::{Chunk, Op, Switch};
-use grain_program::Program;
-use grain_values::Dynamic;
+use grain::Program;
+use grain_base::Dynamic;
+use grain_code::{Chunk, Op};
+use grain_pools::Switch;
 
 /// What a host is asked to do: an operation, where a run meets it.
 #[derive(Clone, Copy)]

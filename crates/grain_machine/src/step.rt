@@ -2,7 +2,7 @@
 ghost use Rattle.std.specs.Prelude.{◌≡◌, ◌≤◌, IfErr, IfOk, OnOk};
 ghost use Rattle.grain_code.specs.declared.op.Op.{Op};
 ghost use Rattle.grain_machine.specs.Act.{IsForHost, guarding, iterating, leading, stacking};
-ghost use Rattle.grain_program.specs.Program.{setting_of};
+ghost use Rattle.grain.specs.Program.{setting_of};
 ghost use Rattle.grain_machine.specs.Ends.{IsFault, MayEnd};
 ghost use Rattle.grain_machine.specs.Asked.{program_code};
 ghost use Rattle.grain_machine.specs.Standing.{DoesTurn};
@@ -12,7 +12,7 @@ use crate::accepted::Runnable;
 use crate::act::{Act, Guards, Iterates, Leads, Stacks};
 use crate::frame::Frame;
 use crate::host::{Host, Request};
-use grain_bytecode::{Op, decode_standing};
+use grain_code::{Op, decode_standing};
 
 /// How a run ends.
 #[derive(Drop)]

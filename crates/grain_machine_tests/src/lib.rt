@@ -7,3 +7,5 @@ mod calls;
 mod runs;
 #[cfg(test)]
 mod samples;
+#[cfg(test)]
+mod scripts;

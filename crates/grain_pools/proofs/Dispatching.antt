@@ -7,9 +7,9 @@ use Rattle.std.proofs.lemmas.Map.Views.{IfSome-lookup_from_All}
 use Rattle.std.proofs.lemmas.Option.{IfSome_then, slice_get-get_or}
 use Rattle.std.specs.List.{All, Contains, find}
 use Rattle.std.specs.Map.{lookup}
-use Rattle.grain_values.specs.Content.{Content, integer, hashable, same}
-use Rattle.grain_values.specs.View.{content}
-use Rattle.grain_values.specs.declared.value.Dynamic.{Dynamic}
+use Rattle.grain_base.specs.Content.{Content, integer, hashable, same}
+use Rattle.grain_base.specs.View.{content}
+use Rattle.grain_base.specs.declared.value.Dynamic.{Dynamic}
 use Rattle.grain_pools.specs.declared.switch.SwitchRange.{SwitchRange}
 use Rattle.grain_pools.specs.Dispatch.{Case, AreWithin, Arms, by_cases, by_ranges, contains, dispatched, listed, offset_at, resolved, resolved_case, resolved_range, arm_targets}
 

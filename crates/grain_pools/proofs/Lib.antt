@@ -1,5 +1,9 @@
 pub mod CaseOrder
+pub mod Cuts
 pub mod Dispatching
+pub mod Growing
+pub mod Left
 pub mod Missing
 pub mod Past
 pub mod Slots
+pub mod Tables

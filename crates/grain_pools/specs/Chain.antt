@@ -1,7 +1,7 @@
 -- The positions of a chain, and what it and its steps take off the stack.
 use Rattle.std.specs.Prelude.{◌≡◌, ℕ, ◌+◌, ◌-◌, ◌<◌, ◌≤◌, ◌^◌, Bool, true, false, List, [], ◌∷◌, ◌++◌, Option, Some, None, cond, length, map, nat_lt, take}
 use Rattle.std.specs.List.{flat_map}
-use Rattle.grain_values.specs.declared.position.Position.{Position}
+use Rattle.grain_base.specs.declared.position.Position.{Position}
 use Rattle.grain_pools.specs.declared.chain.Chain.{Chain}
 use Rattle.grain_pools.specs.declared.chain.Root.{Root}
 use Rattle.grain_pools.specs.declared.chain.Root.TheVariants.{Local, Named, This, Temporary}

@@ -1,7 +1,7 @@
 -- What an iterator over the positions of a chain has left.
 use Rattle.std.specs.Prelude.{List, ◌++◌}
 use Rattle.std.specs.Option.{option_to_list}
-use Rattle.grain_values.specs.declared.position.Position.{Position}
+use Rattle.grain_base.specs.declared.position.Position.{Position}
 use Rattle.grain_pools.specs.Chain.{steps_positions}
 use Rattle.grain_pools.specs.declared.chain.ChainPositions.{ChainPositions}
 

@@ -2,9 +2,9 @@
 use Rattle.std.specs.Prelude.{ℕ, ℤ, int_le, int_lt, List, [], ◌∷◌, ◌++◌, map, Bool, false, ◌&&◌, cond, Option, Some, None, option_map, unwrap_or, ◌≤◌, ◌<◌, length, slice_index_or, nat_le}
 use Rattle.std.specs.List.{find, All, Contains, AllWithin, HoldsAt}
 use Rattle.std.specs.Map.{lookup}
-use Rattle.grain_values.specs.Content.{Content, unit, boolean, integer, character, text, range, range_inclusive, array, blob, object_map, fn_ptr, host, same, hashable}
-use Rattle.grain_values.specs.View.{content}
-use Rattle.grain_values.specs.declared.value.Dynamic.{Dynamic}
+use Rattle.grain_base.specs.Content.{Content, unit, boolean, integer, character, text, range, range_inclusive, array, blob, object_map, fn_ptr, host, same, hashable}
+use Rattle.grain_base.specs.View.{content}
+use Rattle.grain_base.specs.declared.value.Dynamic.{Dynamic}
 use Rattle.grain_pools.specs.declared.switch.SwitchRange.{SwitchRange}
 use Rattle.grain_pools.specs.declared.switch.Switch.{Switch}
 

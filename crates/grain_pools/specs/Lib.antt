@@ -1,7 +1,9 @@
-pub mod AssembleErrors
 pub mod Chain
 pub mod ChainPositions
 pub mod Dispatch
 pub mod LookedUp
+pub mod Names
+pub mod NamesLeft
 pub mod Pools
+pub mod Qualified
 pub mod StepBits

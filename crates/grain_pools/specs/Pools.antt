@@ -1,7 +1,7 @@
 -- The pools of a program as lists, as look-ups see them.
 use Rattle.std.specs.Prelude.{ℕ, List}
-use Rattle.grain_values.specs.declared.token.Token.{Token}
-use Rattle.grain_values.specs.declared.value.Dynamic.{Dynamic}
+use Rattle.grain_base.specs.declared.token.Token.{Token}
+use Rattle.grain_base.specs.declared.value.Dynamic.{Dynamic}
 use Rattle.grain_pools.specs.declared.assign_op.AssignOp.{AssignOp}
 use Rattle.grain_pools.specs.declared.chain.Chain.{Chain}
 use Rattle.grain_pools.specs.declared.switch.Switch.{Switch}

@@ -1,6 +1,6 @@
 //! Op-assignments.
 
-use grain_values::Token;
+use grain_base::Token;
 
 /// An op-assignment, as `+=`, with the operator that it stands for where it has no function of its own. Names are
 /// indices of the name pool.

@@ -8,7 +8,7 @@ ghost use Rattle.grain_pools.specs.Chain.{SlotsFit, assigns, consumed, last_oper
 ghost use Rattle.grain_pools.specs.ChainPositions.{positions_left};
 
 use bitflags::{Flag, Flags};
-use grain_values::Position;
+use grain_base::Position;
 
 /// How a step behaves. Each call takes constant time.
 #[derive(Clone, Copy, Debug, Default, PartialEq, Eq, PartialOrd, Ord, Hash)]

@@ -6,7 +6,7 @@ ghost use Rattle.grain_pools.specs.Pools.{Pools};
 use crate::assign_op::AssignOp;
 use crate::chain::Chain;
 use crate::switch::Switch;
-use grain_values::{Dynamic, Token};
+use grain_base::{Dynamic, Token};
 
 /// Pools whose entries are looked up by the indices that instructions carry.
 ///

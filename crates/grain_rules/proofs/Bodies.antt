@@ -5,7 +5,7 @@ use Rattle.std.proofs.Math.Seq.{take-add}
 use Rattle.std.proofs.lemmas.Bool.Decides.{nat_tests}
 use Rattle.std.proofs.lemmas.List.{append-nil, drop-drop}
 use Rattle.std.proofs.lemmas.List.Concat.{flat_map-cons}
-use Rattle.grain_values.specs.Content.{Content}
+use Rattle.grain_base.specs.Content.{Content}
 use Rattle.grain_pools.specs.Dispatch.{Arms, dispatched, arm_targets}
 use Rattle.grain_code.specs.Span.{Span, body}
 use Rattle.grain_code.specs.Split.{AreInstructions}

@@ -3,8 +3,8 @@ use Rattle.std.proofs.Common.{◌≡◌, ℕ, ◌<◌, inl, inr, suc, List, [], 
 use Rattle.std.specs.List.{All, AllByRecursion, AllZip, Contains, flat_map}
 use Rattle.std.proofs.lemmas.List.{append-nil, append_cancel_left, take-append-drop}
 use Rattle.std.proofs.lemmas.List.Elements.{All-contains}
-use Rattle.grain_values.specs.declared.value.Dynamic.{Dynamic}
-use Rattle.grain_values.specs.declared.value.Dynamic.TheVariants as values
+use Rattle.grain_base.specs.declared.value.Dynamic.{Dynamic}
+use Rattle.grain_base.specs.declared.value.Dynamic.TheVariants as values
 use Rattle.grain_code.specs.Span.{Span}
 use Rattle.grain_code.specs.Split.{Begins, IsInstruction, starts_from}
 use Rattle.grain_code.specs.InstructionTable.{spelling}

@@ -1,9 +1,9 @@
 -- What is verified, and when it is accepted.
 use Rattle.std.specs.Prelude.{◌≡◌, ◌≢◌, ⊤, ℕ, ◌≤◌, List, [], length, map, Option, Some, None}
 use Rattle.std.specs.List.{All, AllZip}
-use Rattle.grain_values.specs.CapBits.{FUNCTION}
-use Rattle.grain_values.specs.declared.caps.Caps.{Caps}
-use Rattle.grain_values.specs.declared.value.Dynamic.{Dynamic}
+use Rattle.grain_base.specs.CapBits.{FUNCTION}
+use Rattle.grain_base.specs.declared.caps.Caps.{Caps}
+use Rattle.grain_base.specs.declared.value.Dynamic.{Dynamic}
 use Rattle.grain_code.specs.Span.{Span}
 use Rattle.grain_code.specs.Split.{AreInstructions}
 use Rattle.grain_code.specs.declared.op.Op.{Op}

@@ -1,8 +1,8 @@
 -- What an operation asks of the host.
 use Rattle.std.specs.Prelude.{ℕ, ◌≡◌, List, [], ◌∷◌, map, Option, Some, None}
 use Rattle.std.specs.Int.RustNames.{bit_or}
-use Rattle.grain_values.specs.CapBits.{missing, THIS, INDEXING, PROPERTY, METHOD, MODULE}
-use Rattle.grain_names.specs.Qualified.{split_qualified}
+use Rattle.grain_base.specs.CapBits.{missing, THIS, INDEXING, PROPERTY, METHOD, MODULE}
+use Rattle.grain_pools.specs.Qualified.{split_qualified}
 use Rattle.grain_pools.specs.declared.chain.Chain.{Chain}
 use Rattle.grain_pools.specs.declared.chain.Root.{Root}
 use Rattle.grain_pools.specs.declared.chain.Root.TheVariants as roots

@@ -1,6 +1,6 @@
 -- Operations in their setting.
 use Rattle.std.specs.Prelude.{ℕ, List, map}
-use Rattle.grain_values.specs.declared.caps.Caps.{Caps}
+use Rattle.grain_base.specs.declared.caps.Caps.{Caps}
 use Rattle.grain_pools.specs.Dispatch.{arms, arm_targets}
 use Rattle.grain_pools.specs.declared.switch.Switch.{Switch}
 use Rattle.grain_rules.specs.Layout.{Layout, Coded}

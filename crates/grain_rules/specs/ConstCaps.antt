@@ -2,9 +2,9 @@
 use Rattle.std.specs.Prelude.{ℕ, List, [], ◌∷◌, map, String, Option, Some, None}
 use Rattle.std.specs.Int.RustNames.{bit_or}
 use Rattle.std.specs.declared.alloc.Global.{Global}
-use Rattle.grain_values.specs.CapBits.{ARRAY, BLOB, MAP, FN_PTR}
-use Rattle.grain_values.specs.declared.value.Dynamic.{Dynamic, fold-Dynamic}
-use Rattle.grain_values.specs.declared.value.Dynamic.TheOpen.{Dynamic-F, FnPtr-F}
+use Rattle.grain_base.specs.CapBits.{ARRAY, BLOB, MAP, FN_PTR}
+use Rattle.grain_base.specs.declared.value.Dynamic.{Dynamic, fold-Dynamic}
+use Rattle.grain_base.specs.declared.value.Dynamic.TheOpen.{Dynamic-F, FnPtr-F}
 
 -- these capabilities and those of the parts, or nothing where a part has nothing
 abbrev pub with_parts : ℕ → List (Option ℕ) → Option ℕ

@@ -1,7 +1,7 @@
 -- What an operation does, as a value of the code has it.
 use Rattle.std.specs.Prelude.{ℕ}
 use Rattle.std.specs.Int.RustNames.{bit_or}
-use Rattle.grain_values.specs.CapBits.{THIS}
+use Rattle.grain_base.specs.CapBits.{THIS}
 use Rattle.grain_code.specs.declared.flow.Flow.{Flow}
 use Rattle.grain_code.specs.declared.flow.Flow.TheVariants as ways
 use Rattle.grain_rules.specs.Flow as flows

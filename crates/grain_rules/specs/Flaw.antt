@@ -2,9 +2,9 @@
 use Rattle.std.specs.Prelude.{◌≡◌, ◌≢◌, ◌⊎◌, ℕ, ◌+◌, ◌<◌, ◌≤◌, true, List, [], length, take, Option, None, Some}
 use Rattle.std.specs.Borrow.{Bor}
 use Rattle.std.specs.List.{AllWithin, Contains, HoldsAt}
-use Rattle.grain_values.specs.CapBits.{FUNCTION, missing}
-use Rattle.grain_values.specs.declared.caps.Caps.{Caps}
-use Rattle.grain_values.specs.declared.value.Dynamic.{Dynamic}
+use Rattle.grain_base.specs.CapBits.{FUNCTION, missing}
+use Rattle.grain_base.specs.declared.caps.Caps.{Caps}
+use Rattle.grain_base.specs.declared.value.Dynamic.{Dynamic}
 use Rattle.grain_code.specs.Span.{Span}
 use Rattle.grain_code.specs.Split as split
 use Rattle.grain_code.specs.InstructionTable.{width_of}

@@ -1,7 +1,7 @@
 -- What each operation does: a row for each, in the order of the instruction table of docs/FORMAT.md.
 use Rattle.std.specs.Prelude.{ℕ, ◌+◌, ◌-◌, ◌*◌, Bool, true, false}
 use Rattle.std.specs.Int.RustNames.{bit_or}
-use Rattle.grain_values.specs.CapBits.{ARRAY, MAP, FN_PTR, CURRYING, SHARING, THIS, EXPORT, IMPORT, CUSTOM_SYNTAX}
+use Rattle.grain_base.specs.CapBits.{ARRAY, MAP, FN_PTR, CURRYING, SHARING, THIS, EXPORT, IMPORT, CUSTOM_SYNTAX}
 use Rattle.grain_code.specs.declared.op.Op.{Op}
 use Rattle.grain_code.specs.declared.op.Op.TheVariants as ops
 use Rattle.grain_code.specs.declared.op.Receiver.TheVariants as receiver

@@ -1,6 +1,6 @@
 -- What code is judged against: the capabilities of the host, and what is said of the pools that its instructions point into.
 use Rattle.std.specs.Prelude.{ℕ, [], map, get_or}
-use Rattle.grain_values.specs.declared.caps.Caps.{Caps}
+use Rattle.grain_base.specs.declared.caps.Caps.{Caps}
 use Rattle.grain_rules.specs.Facts.{ChainFacts, Facts, facts_of}
 use Rattle.grain_rules.specs.declared.pools.Pools.{Pools}
 

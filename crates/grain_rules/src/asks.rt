@@ -5,9 +5,9 @@ ghost use Rattle.grain_rules.specs.EffectView.{asked_in};
 ghost use Rattle.grain_rules.specs.Setting.{with_caps};
 
 use crate::read::Read;
-use grain_names::names::split_qualified;
+use grain_base::{Caps, Flags};
+use grain_pools::names::split_qualified;
 use grain_pools::{Chain, Root, Step};
-use grain_values::{Caps, Flags};
 
 /// What an operation asks of the host. What a name or a chain asks is told by the pools that it stands in.
 #[derive(Clone, Copy, Debug, PartialEq, Eq)]

@@ -1,9 +1,9 @@
 //! What is asked of the host.
 ghost use Rattle.std.specs.Prelude.{◌≡◌, ◌↔◌, IsTrue};
-ghost use Rattle.grain_values.specs.CapBits.{missing};
+ghost use Rattle.grain_base.specs.CapBits.{missing};
 ghost use Rattle.grain_rules.specs.Capabilities.{Allows};
 
-use grain_values::{Caps, Flags};
+use grain_base::{Caps, Flags};
 
 /// What is asked and isn't there.
 #[inline(always)]

@@ -8,7 +8,7 @@ ghost use Rattle.grain_rules.specs.Flaw.{ConstantAsks};
 
 use crate::capabilities::allows;
 use crate::error::VerifyError;
-use grain_values::{Caps, Dynamic, Flags};
+use grain_base::{Caps, Dynamic, Flags};
 use std::collections::BTreeMap;
 
 /// The capabilities that a constant asks, those of its parts among them (docs/FORMAT.md, "Capabilities").

@@ -2,7 +2,7 @@
 ghost use Rattle.std.specs.Prelude.{◌≡◌, Some};
 ghost use Rattle.grain_rules.specs.declared.error.VerifyError.TheVariants.{OutOfMemory};
 
-use grain_values::{Caps, Flags};
+use grain_base::{Caps, Flags};
 use std::alloc::{AllocError, AllocFailed};
 use std::fmt;
 

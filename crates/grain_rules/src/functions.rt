@@ -1,12 +1,12 @@
 //! Whether a program may have functions of its own.
 ghost use Rattle.std.specs.Prelude.{◌≡◌, ◌≢◌, [], OnOk, IfErr};
-ghost use Rattle.grain_values.specs.CapBits.{FUNCTION};
+ghost use Rattle.grain_base.specs.CapBits.{FUNCTION};
 ghost use Rattle.grain_rules.specs.Capabilities.{Allows};
 
 use crate::capabilities::allows;
 use crate::error::VerifyError;
+use grain_base::Caps;
 use grain_code::Function;
-use grain_values::Caps;
 
 /// Tests that the host allows functions where there are some.
 ///

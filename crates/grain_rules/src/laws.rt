@@ -4,7 +4,7 @@
 ghost use Rattle.std.specs.Prelude.{◌≡◌, ◌<◌, ◌≤◌, ◌↔◌, ◌⊎◌, ℕ, List, [], Option, Some, get_or, length, map, option_map};
 ghost use Rattle.std.specs.Prelude.{slice_get, slice_index};
 ghost use Rattle.std.specs.List.{Contains};
-ghost use Rattle.grain_values.specs.Content.{Content};
+ghost use Rattle.grain_base.specs.Content.{Content};
 ghost use Rattle.grain_code.specs.Assembly.{CanAssemble, IsAssembly};
 ghost use Rattle.grain_pools.specs.Chain.{TakesOperand};
 ghost use Rattle.grain_pools.specs.Dispatch.{Arms, dispatched, arm_targets};

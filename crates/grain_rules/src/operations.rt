@@ -9,8 +9,8 @@ ghost use Rattle.grain_rules.specs.Setting.{Setting};
 use crate::asks::Asks;
 use crate::effect::Effect;
 use crate::read::Read;
+use grain_base::{Caps, Flags};
 use grain_code::{Flow, Op, Receiver};
-use grain_values::{Caps, Flags};
 
 impl Effect {
     /// What an operation does beside these pools; a chain that isn't there takes nothing.

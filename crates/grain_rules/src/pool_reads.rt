@@ -14,9 +14,9 @@ use crate::asks::{chain_caps, name_caps};
 use crate::bounds::{BadIndex, check_among, check_below};
 use crate::pools::Pools;
 use crate::read::{Read, Targets};
+use grain_base::{Caps, Dynamic, Flags};
 use grain_code::Pool;
 use grain_pools::{Chain, Root, Step, Switch, SwitchRange, Tail};
-use grain_values::{Caps, Dynamic, Flags};
 use std::collections::HashMap;
 use std::collections::hash_map::Iter;
 

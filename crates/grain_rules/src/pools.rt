@@ -1,7 +1,6 @@
 //! The pools that instructions point into.
 
-use grain_names::Strings;
-use grain_pools::{Chain, Switch};
+use grain_pools::{Chain, Strings, Switch};
 
 /// The pools of a program, as the verifier asks them: what it has to look into, and how many there are of all else.
 #[derive(Drop)]

@@ -8,8 +8,8 @@ ghost use Rattle.grain_rules.specs.FirstOut.{alone, first_out, refused, tests_in
 ghost use Rattle.grain_rules.specs.Indices.{size};
 
 use crate::bounds::BadIndex;
+use grain_base::Caps;
 use grain_code::Pool;
-use grain_values::Caps;
 
 /// Targets of a switch, one after another.
 pub trait Targets: Drop {

@@ -1,6 +1,6 @@
 //! Copies of values.
 
-use grain_values::{Dynamic, FnPtr, HostValue};
+use grain_base::{Dynamic, FnPtr, HostValue};
 use std::alloc::{AllocError, Global};
 use std::collections::BTreeMap;
 

@@ -1,11 +1,11 @@
 //! Why scripts fail, and where.
 ghost use Rattle.std.specs.Prelude.{◌≡◌};
-ghost use Rattle.grain_values.specs.Place.{place_of};
+ghost use Rattle.grain_base.specs.Place.{place_of};
 ghost use Rattle.grain_bytecode.specs.Positions.{place_at};
-ghost use Rattle.grain_program.specs.Program.{places_of};
+ghost use Rattle.grain.specs.Program.{places_of};
 
-use grain_program::Program;
-use grain_values::{Dynamic, Position};
+use grain::Program;
+use grain_base::{Dynamic, Position};
 use std::alloc::{AllocError, AllocFailed, Global};
 use std::fmt;
 

@@ -1,4 +1,4 @@
-//! A host of `grain_machine` for scripts: values as [`Dynamic`](grain_values::Dynamic), local and named variables, operators, arrays, maps,
+//! A host of `grain_machine` for scripts: values as [`Dynamic`](grain_base::Dynamic), local and named variables, operators, arrays, maps,
 //! ranges, texts with interpolation, and function pointers.
 //!
 //! What operations do to the stacks is the machine's, and proved there. What they mean for values docs/FORMAT.md leaves open.

@@ -1,7 +1,7 @@
 //! Operators and functions that scripts call by name.
 
 use crate::fault::Why;
-use grain_values::Dynamic;
+use grain_base::Dynamic;
 use std::alloc::Global;
 use std::cmp::Ordering;
 

@@ -4,9 +4,9 @@ ghost use Rattle.std.specs.Prelude.{◌<◌, IfSome};
 use crate::copies::copied;
 use crate::fault::Why;
 use crate::variables::taken;
-use grain_bytecode::Step;
-use grain_program::Program;
-use grain_values::Dynamic;
+use grain::Program;
+use grain_base::Dynamic;
+use grain_pools::Step;
 use std::alloc::Global;
 use std::collections::BTreeMap;
 

@@ -4,8 +4,8 @@ ghost use Rattle.std.specs.Prelude.{◌<◌, IfSome, length};
 use crate::copies::copied_items;
 use crate::fault::Why;
 use crate::variables::taken;
-use grain_program::Program;
-use grain_values::{Dynamic, FnPtr};
+use grain::Program;
+use grain_base::{Dynamic, FnPtr};
 use std::alloc::Global;
 
 /// The index of the program's function that has this name and so many parameters.

@@ -11,10 +11,11 @@ use crate::pointers::{
 };
 use crate::variables::{Variables, taken};
 use crate::walk::Walk;
-use grain_bytecode::{Chain, Op, Receiver, Root, Switch, Tail};
+use grain::Program;
+use grain_base::Dynamic;
+use grain_code::{Op, Receiver};
 use grain_machine::{CallError, Given, Host, Request, dispatch};
-use grain_program::Program;
-use grain_values::Dynamic;
+use grain_pools::{Chain, Root, Switch, Tail};
 use std::alloc::{AllocError, Global};
 
 /// The state of a script that runs.

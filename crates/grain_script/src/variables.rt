@@ -1,7 +1,7 @@
 //! Variables: local ones in slots, and those that have a name alone.
 
 use crate::fault::Why;
-use grain_values::Dynamic;
+use grain_base::Dynamic;
 use std::alloc::{AllocError, Global};
 use std::mem;
 

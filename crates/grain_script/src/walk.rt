@@ -1,7 +1,7 @@
 //! Walks over the items of values.
 
 use crate::fault::Why;
-use grain_values::Dynamic;
+use grain_base::Dynamic;
 use std::alloc::Global;
 
 /// What is left of a value that is gone over.

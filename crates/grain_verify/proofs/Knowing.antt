@@ -2,7 +2,7 @@
 use Rattle.std.proofs.Common.{◌≡◌, ◌⊎◌, inl, inr, ℕ, zero, suc, List, [], ◌∷◌, get_or, replicate, slice_set, Option, Some, None, refl, sym, ap, ◌∙◌}
 use Rattle.std.specs.Option.{unwrap_or}
 use Rattle.std.proofs.lemmas.Option.{none-some}
-use Rattle.grain_values.specs.declared.caps.Caps.{Caps}
+use Rattle.grain_base.specs.declared.caps.Caps.{Caps}
 use Rattle.grain_verify.specs.Asked.{AreKnown}
 
 none_at : (n k : ℕ) (c : Caps) → get_or (replicate n None) k None ≡ Some c → ⊥

@@ -1,7 +1,7 @@
 -- What the walk expects: counts on their way to an address, and how those are refused that cannot arrive.
 use Rattle.std.specs.Prelude.{◌≡◌, ◌≢◌, ℕ, ◌+◌, ◌<◌, ◌≤◌, ◌⊎◌, cond, List, [], ◌∷◌, ◌++◌, get_or, length, map, Option, None, Some, option_map, slice_get, slice_set}
 use Rattle.std.specs.List.{All, Contains}
-use Rattle.grain_values.specs.CapBits.{missing}
+use Rattle.grain_base.specs.CapBits.{missing}
 use Rattle.grain_code.specs.Span.{Span}
 use Rattle.grain_code.specs.InstructionTable.{width_of}
 use Rattle.grain_code.specs.declared.op.Op.{Op}

@@ -1,6 +1,6 @@
 -- What names and chains ask of the host, as far as it is known.
 use Rattle.std.specs.Prelude.{◌≡◌, ℕ, List, Option, None, Some, get_or, map}
-use Rattle.grain_values.specs.declared.caps.Caps.{Caps}
+use Rattle.grain_base.specs.declared.caps.Caps.{Caps}
 use Rattle.grain_rules.specs.Facts.{ChainFacts, Facts}
 use Rattle.grain_verify.specs.declared.asked.Asked.{Asked}
 

@@ -5,9 +5,9 @@ ghost use Rattle.grain_rules.specs.Facts.{ChainFacts, Facts};
 ghost use Rattle.grain_rules.specs.Setting.{Setting};
 ghost use Rattle.grain_verify.specs.Asked.{AreKnown, Knows};
 
+use grain_base::{Caps, Flags};
 use grain_code::Pool;
 use grain_rules::{Asks, Read};
-use grain_values::{Caps, Flags};
 use std::alloc::{AllocError, Global};
 
 /// What names and chains ask of the host, as far as it is known.

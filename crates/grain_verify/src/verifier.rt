@@ -21,11 +21,11 @@ use crate::meter::Meter;
 use crate::refusal::Refusal;
 use crate::scratch::Scratch;
 use crate::walk::{Prepared, Traversal};
+use grain_base::{Caps, Dynamic};
 use grain_code::{Chunk, Function, Growing, Starts};
 use grain_rules::{
     Pools, Read, VerifyError, check_code, check_constants, check_functions, start_code,
 };
-use grain_values::{Caps, Dynamic};
 use std::alloc::{AllocError, Global};
 use std::mem;
 

@@ -34,9 +34,9 @@ use crate::lists::Lists;
 use crate::sinking::check_stays;
 use crate::state::{Arrival, State, check_same};
 use crate::states::States;
+use grain_base::{Caps, Flags};
 use grain_code::{Chunk, Flow, Head, Instruction, Starts, TagRow};
 use grain_rules::{Effect, Read, VerifyError, missing};
-use grain_values::{Caps, Flags};
 use std::alloc::{AllocError, Global};
 use std::marker::Model;
 

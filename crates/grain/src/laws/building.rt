@@ -2,7 +2,7 @@
 ghost use Rattle.std.specs.Prelude.{◌↔◌, ℕ, List};
 ghost use Rattle.grain_rules.specs.Accepted.{AreDeepest, IsAccepted};
 ghost use Rattle.grain.specs.Build.{AreDeepestByIndex, CanBuild, CanLay, Draft, IsLaid};
-ghost use Rattle.grain_program.specs.Program.{Program, input_of};
+ghost use Rattle.grain.specs.Program.{Program, input_of};
 
 /// What a compiler hands over passes by index exactly where the program that is laid of it is accepted, and with the same
 /// numbers.

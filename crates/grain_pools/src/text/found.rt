@@ -7,7 +7,7 @@ use crate::assign_op::AssignOp;
 use crate::chain::Chain;
 use crate::lookups::Lookups;
 use crate::switch::Switch;
-use grain_values::{Dynamic, Token};
+use grain_base::{Dynamic, Token};
 
 /// The name at the index.
 pub fn find_name<L: Lookups>(lookups: &L, index: u32) -> Result<&str, DisassembleError>

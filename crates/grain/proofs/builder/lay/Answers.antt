@@ -4,7 +4,7 @@ use Rattle.std.proofs.Math.ListN.{get_or-map}
 use Rattle.std.proofs.lemmas.List.{length-map}
 use Rattle.std.proofs.lemmas.Result.{err_from_is_err_and}
 use Rattle.grain_pools.specs.Dispatch.{AreWithin, IsFirstPast, arms}
-use Rattle.grain_pools.specs.declared.error.AssembleError.{AssembleError}
+use Rattle.grain_bytecode.specs.declared.assemble_error.AssembleError.{AssembleError}
 use Rattle.grain_pools.specs.declared.switch.Switch.{Switch}
 use Rattle.grain.specs.Build.{BuildFlaw, draft, of_assemble, span_of}
 use Rattle.grain_rules.specs.ByIndex.{IsCut}

@@ -1,4 +1,4 @@
-use Rattle.grain_values.proofs.KnownCaps.{all_caps, known_caps}
+use Rattle.grain_base.proofs.KnownCaps.{all_caps, known_caps}
 use Rattle.grain_base.proofs.laws.capabilities_have_the_lowest_bits.Goals as goal
 
 pub returns-clause-all : goal.returns-clause-all

@@ -2,7 +2,8 @@ use Rattle.std.proofs.Common.{◌≡◌, ◌∙◌, ℕ, List, ap, subst}
 use Rattle.std.proofs.lemmas.Result.{MatchResult-weaker}
 use Rattle.grain_code.specs.declared.field.Field.{Field}
 use Rattle.grain_code.specs.InstructionTable.{form}
-use Rattle.grain_code.specs.Assembly.{AreWritable, AccusesFirst, named_receiver}
+use Rattle.grain_code.specs.Assembly.{AreWritable}
+use Rattle.grain_bytecode.specs.AssemblyFlaws.{AccusesFirst, named_receiver}
 use Rattle.grain_bytecode.proofs.Flaws.{behind_front}
 use Rattle.grain_bytecode.proofs.assembler.check_op.Goals as goal
 

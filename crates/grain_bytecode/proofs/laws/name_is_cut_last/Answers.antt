@@ -1,4 +1,4 @@
-use Rattle.grain_names.proofs.Cuts.{last_cut_is, last_cut_none}
+use Rattle.grain_pools.proofs.Cuts.{last_cut_is, last_cut_none}
 use Rattle.grain_bytecode.proofs.laws.name_is_cut_last.Goals as goal
 
 pub returns-clause-cut : goal.returns-clause-cut

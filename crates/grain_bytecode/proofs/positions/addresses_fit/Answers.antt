@@ -2,7 +2,7 @@ use Rattle.std.proofs.Common.{◌≡◌, ◌<◌, ◌^◌, All, Some, None, unwr
 use Rattle.std.proofs.lemmas.List.{take_all}
 use Rattle.std.proofs.lemmas.List.Elements.{All-nil, All-push}
 use Rattle.grain_base.specs.AddressTable.{Entry}
-use Rattle.grain_values.specs.Place.{place_of, line_of, column_of}
+use Rattle.grain_base.specs.Place.{place_of, line_of, column_of}
 use Rattle.grain_bytecode.specs.Positions.{entries_at_places}
 use Rattle.grain_bytecode.proofs.Entering.{with_line, without_line, too_high}
 use Rattle.grain_bytecode.proofs.positions.addresses_fit.Goals as goal

@@ -1,7 +1,7 @@
 use Rattle.std.proofs.Common.{◌≡◌, ◌≤◌, ◌^◌, ◌∙◌, ◌∷◌, [], ◌++◌, Some, None, unwrap_or, map, take, get_or, ap, sym, subst, arith}
 use Rattle.std.proofs.lemmas.List.{take_all}
 use Rattle.grain_base.specs.AddressTable.{Entry}
-use Rattle.grain_values.specs.Place.{place_of, line_of, column_of}
+use Rattle.grain_base.specs.Place.{place_of, line_of, column_of}
 use Rattle.grain_bytecode.specs.Positions.{entries_at_places}
 use Rattle.grain_bytecode.proofs.Entering.{with_line, without_line, too_high, fits_or_not}
 use Rattle.grain_bytecode.proofs.positions.sites_of.Goals as goal

@@ -1,5 +1,5 @@
 use Rattle.std.proofs.Common.{◌≡◌, map, take, Some}
-use Rattle.grain_values.specs.Place.{place_of}
+use Rattle.grain_base.specs.Place.{place_of}
 use Rattle.grain_bytecode.specs.Positions.{entries_at_places}
 use Rattle.grain_bytecode.proofs.positions.sites_of.Given as goal
 

@@ -3,7 +3,7 @@ use Rattle.std.specs.Int.{from_be_bytes, w16}
 use Rattle.std.specs.Prelude.{option_and_then}
 use Rattle.std.specs.Option.{option_map}
 use Rattle.std.specs.Result.{result_ok}
-use Rattle.grain_values.proofs.KnownCaps.{known_caps}
+use Rattle.grain_base.proofs.KnownCaps.{known_caps}
 use Rattle.grain_cases.specs.Fields.{if_known}
 use Rattle.grain_cases.proofs.FieldLaws.{decoded, known_set}
 use Rattle.grain_cases.proofs.fields.caps_of.Goals as goal

@@ -1,6 +1,6 @@
 use Rattle.std.proofs.Common.{◌≡◌, ◌++◌}
 use Rattle.std.specs.List.{flat_map, AllByRecursion}
-use Rattle.grain_names.specs.NamesLeft.{names_left}
+use Rattle.grain_pools.specs.NamesLeft.{names_left}
 use Rattle.grain_file.specs.Texts.{counted_bytes}
 use Rattle.grain_file.specs.TextLaws.{TextFits}
 use Rattle.grain_file.proofs.names.put_names.Given as goal

@@ -1,5 +1,5 @@
 use Rattle.std.proofs.Common.{◌≡◌, ◌-◌}
-use Rattle.grain_names.specs.Names.{texts}
+use Rattle.grain_pools.specs.Names.{texts}
 use Rattle.grain_file.specs.Texts.{text_at}
 use Rattle.grain_file.specs.Lists.{repeat_at}
 use Rattle.grain_file.proofs.Loop.{with_front}

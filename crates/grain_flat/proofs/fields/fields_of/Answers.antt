@@ -1,6 +1,6 @@
 use Rattle.std.proofs.Common.{◌≡◌, length, ap, arith, rules}
 use Rattle.std.specs.Prelude.{sum_by}
-use Rattle.grain_bytecode.specs.InstructionTable.{size_of}
+use Rattle.grain_code.specs.InstructionTable.{size_of}
 use Rattle.grain_flat.proofs.FieldSizes.{sizes_of_two, sizes_of_three}
 use Rattle.grain_flat.proofs.fields.fields_of.Goals as goal
 

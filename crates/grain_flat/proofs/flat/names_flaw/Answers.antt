@@ -1,5 +1,5 @@
 use Rattle.std.proofs.Common.{◌≡◌, ℕ, None, subst, ◌∙◌, get_or}
-use Rattle.grain_names.specs.Names.{span_flaw}
+use Rattle.grain_pools.specs.Names.{span_flaw}
 use Rattle.grain_flat.proofs.PoolsFlaws.{cut_more, flaw_after, flaw_none, next_start, rest_of}
 use Rattle.grain_flat.proofs.flat.names_flaw.Goals as goal
 

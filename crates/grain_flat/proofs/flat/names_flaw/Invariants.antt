@@ -1,5 +1,5 @@
 use Rattle.std.proofs.Common.{◌≡◌, ◌<◌, ℕ, drop, get_or}
-use Rattle.grain_names.specs.Names.{first_flaw, flaw_from}
+use Rattle.grain_pools.specs.Names.{first_flaw, flaw_from}
 use Rattle.grain_flat.specs.PoolsFlaws.{IsCut}
 use Rattle.grain_flat.proofs.flat.names_flaw.Given as goal
 

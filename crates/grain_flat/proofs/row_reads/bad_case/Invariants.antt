@@ -1,5 +1,5 @@
 use Rattle.std.proofs.Common.{◌≡◌, drop, map}
-use Rattle.grain_bytecode.specs.Dispatch.{first_past}
+use Rattle.grain_pools.specs.Dispatch.{first_past}
 use Rattle.grain_flat.specs.declared.records.CCase.{CCase}
 use Rattle.grain_flat.proofs.row_reads.bad_case.Given as goal
 

@@ -1,7 +1,7 @@
 use Rattle.std.proofs.Common.{◌≡◌, ◌<◌, ◌∙◌, length, slice_index_or, refl, ap, arith}
 use Rattle.std.proofs.Math.Seq.{map-set_same}
 use Rattle.std.proofs.lemmas.List.{length-set}
-use Rattle.grain_bytecode.specs.Span.{Span, undeclared_chunk}
+use Rattle.grain_code.specs.Span.{Span, undeclared_chunk}
 use Rattle.grain_flat.proofs.Redeclared.{declared_next}
 use Rattle.grain_flat.proofs.tightening.declare.Goals as goal
 

@@ -1,5 +1,5 @@
 use Rattle.std.proofs.Common.{◌≡◌, map, length, take}
-use Rattle.grain_bytecode.specs.Span.{undeclared_chunk}
+use Rattle.grain_code.specs.Span.{undeclared_chunk}
 use Rattle.grain_flat.proofs.tightening.declare.Given as goal
 
 -- so many chunks declare their numbers

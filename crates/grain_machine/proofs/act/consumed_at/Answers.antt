@@ -1,6 +1,6 @@
 use Rattle.std.proofs.Common.{List, slice_get, ap, sym, ◌∙◌, option_map}
 use Rattle.std.specs.Borrow.{Bor}
-use Rattle.grain_bytecode.specs.declared.Chain.{Chain}
+use Rattle.grain_pools.specs.declared.chain.Chain.{Chain}
 use Rattle.grain_rules.specs.Facts.{ChainFacts, chain_facts}
 use Rattle.grain_rules.proofs.Said.{said_at, said_nowhere}
 use Rattle.grain_machine.proofs.act.consumed_at.Goals as goal

@@ -1,6 +1,6 @@
 use Rattle.std.proofs.Common.{ℕ, sym, subst}
 use Rattle.std.specs.List.{Contains}
-use Rattle.grain_values.specs.View.{content}
+use Rattle.grain_base.specs.View.{content}
 use Rattle.grain_rules.specs.Code.{switch_targets}
 use Rattle.grain_pools.specs.Dispatch.{arms}
 use Rattle.grain_pools.proofs.Dispatching.{dispatched_among}

@@ -1,6 +1,6 @@
 use Rattle.std.proofs.Common.{◌≡◌, ◌∙◌, Some, map, ap, sym}
 use Rattle.grain_base.specs.AddressTable.{kept}
-use Rattle.grain_values.specs.Place.{place_of}
+use Rattle.grain_base.specs.Place.{place_of}
 use Rattle.grain_bytecode.specs.Positions.{places, entries_at_places}
 use Rattle.grain_bytecode.proofs.Entering.{entries_ascend, entries_kept}
 use Rattle.grain_bytecode.proofs.positions.Positions.to_table.Goals as goal

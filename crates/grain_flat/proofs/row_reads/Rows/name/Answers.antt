@@ -1,5 +1,5 @@
 use Rattle.std.proofs.Common.{rules, ◌≡◌, ◌+◌, ℕ, List, None, Some, slice_get, ap, sym, ◌∙◌}
-use Rattle.grain_names.proofs.Tables.{past_before, past_of, span_of, table_of, text_of}
+use Rattle.grain_pools.proofs.Tables.{past_before, past_of, span_of, table_of, text_of}
 use Rattle.grain_flat.proofs.row_reads.Rows.name.Goals as goal
 
 pub returns-in_err-from : goal.returns-in_err-from

@@ -1,5 +1,5 @@
 use Rattle.std.proofs.Common.{rules, ◌≡◌, [], None, slice_get, ap, map, sym, ◌∙◌}
-use Rattle.grain_bytecode.specs.Dispatch.{first_past}
+use Rattle.grain_pools.specs.Dispatch.{first_past}
 use Rattle.grain_flat.specs.RowFacts.{facts_told, parts}
 use Rattle.grain_flat.specs.declared.records.CCase.{CCase}
 use Rattle.grain_flat.proofs.RowEntries.{cases_in, nothing_past, told_at}

@@ -1,6 +1,6 @@
 use Rattle.std.proofs.Common.{rules, ◌≡◌, None, slice_get, sym, ◌∙◌}
 use Rattle.grain_rules.specs.Capabilities.{name_caps}
-use Rattle.grain_names.specs.Names.{names_in}
+use Rattle.grain_pools.specs.Names.{names_in}
 use Rattle.grain_flat.proofs.RowEntries.{nothing_past}
 use Rattle.grain_flat.proofs.row_reads.RowsRead.name_asks.Goals as goal
 

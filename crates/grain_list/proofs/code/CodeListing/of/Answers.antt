@@ -1,5 +1,5 @@
 use Rattle.std.proofs.Common.{refl, subst}
-use Rattle.grain.specs.Disassembly.{IsDisassembly}
+use Rattle.grain_code.specs.Disassembly.{IsDisassembly}
 use Rattle.grain_list.proofs.code.CodeListing.of.Goals as goal
 
 pub returns : goal.returns

@@ -1,5 +1,5 @@
 use Rattle.std.proofs.Common.{◌≡◌, ◌<◌, ◌∷◌, length, subst, arith}
-use Rattle.grain_program.specs.Program.{Program}
+use Rattle.grain.specs.Program.{Program}
 use Rattle.grain_machine.specs.Calls.{Turns}
 use Rattle.grain_machine.specs.Ends.{StackEnds}
 use Rattle.grain_machine.specs.Standing.{IsStanding, stack_of}

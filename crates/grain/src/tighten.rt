@@ -1,0 +1,93 @@
+//! Verifying a program, and declaring no more operands than it stacks.
+ghost use Rattle.std.specs.Prelude.{◌≡◌, ◌⊎◌, IfErr, IfOk, OnErr, OnOk, length, map};
+ghost use Rattle.grain_rules.specs.Accepted.{IsAccepted};
+ghost use Rattle.grain_rules.specs.Flaw.{Flaw};
+ghost use Rattle.grain.specs.Lookups.{FindsIndices};
+ghost use Rattle.grain.specs.Program.{chunks_of, declared_by, input_of};
+ghost use Rattle.grain.specs.Tightened.{IsTightened, undeclared, undeclared_function};
+ghost use Rattle.grain_rules.specs.Verdict.{IsVerdict};
+
+use crate::program::Program;
+use grain_code::{Chunk, Function};
+use grain_rules::VerifyError;
+use grain_verify::verify;
+use std::alloc::AllocError;
+
+impl Program {
+    /// The greatest operand count that any run of each chunk reaches, the main chunk before those of the functions, or why
+    /// the program is refused. It costs as much as [`verify`](grain_verify::verify) of what the program has, and promises of kept
+    /// runs, and asks of a machine, what that does.
+    ///
+    /// # Errors
+    /// As [`verify`](grain_verify::verify) of what the program has. `OutOfMemory` may come before any test.
+    pub fn verify(&self) -> Result<Vec<u16>, VerifyError>
+        // The headline, of what the program has.
+        ensures verdict { IsVerdict (input_of self.now) result }
+
+        // Each index of its instructions is found by its lookup.
+        ensures found { OnOk result (FindsIndices self.now) }
+    {
+        let chunks = self.chunks()?;
+        let pools = self.pools();
+        verify(
+            self.alloc,
+            self.caps,
+            &self.parts.consts,
+            &self.code,
+            &self.functions,
+            &chunks,
+            &pools,
+        )
+    }
+
+    /// Has each chunk declare the number that [`Program::verify`] answers for it, and costs as much. The number is that of
+    /// kept runs: what it asks of a machine is said at [`verify`](grain_verify::verify).
+    ///
+    /// # Errors
+    /// As [`Program::verify`], the program being unchanged.
+    pub fn tighten_stack(&mut self) -> Result<(), VerifyError>
+        ensures ok { OnOk result (IsTightened self.old self.new) }
+        ensures accepts { IsAccepted (input_of self.old)
+            → IfErr result (λ e. e ≡ VerifyError.OutOfMemory) }
+        ensures flaws { IfErr result
+            (λ e. (e ≡ VerifyError.OutOfMemory) ⊎ Flaw (input_of self.old) e) }
+        ensures unchanged { OnErr result (self.new ≡ self.old) }
+    {
+        let numbers = self.verify()?;
+        self.declare(&numbers);
+        Ok(())
+    }
+
+    /// The chunks, the main one first.
+    fn chunks(&self) -> Result<Vec<Chunk>, AllocError>
+        ensures { IfOk result (λ v. v.items ≡ chunks_of self.now) }
+    {
+        let mut chunks = Vec::with_capacity(self.alloc, self.functions.len() + 1)?;
+        chunks.push(self.main)?;
+        for function in &self.functions {
+            chunks.push(function.chunk)?;
+        }
+        Ok(chunks)
+    }
+
+    /// Declares these numbers, chunk by chunk.
+    fn declare(&mut self, numbers: &[u16])
+        requires { length numbers.now ≡ length (chunks_of self.old) }
+        ensures declared { declared_by self.new ≡ numbers.now }
+        ensures rest { undeclared self.new ≡ undeclared self.old }
+    {
+        self.main.set_max_stack(numbers[0]);
+        declare_all(&mut self.functions, &numbers[1..]);
+    }
+}
+
+/// Declares these numbers, function by function.
+fn declare_all(functions: &mut [Function], numbers: &[u16])
+    requires { length numbers.now ≡ length functions.old }
+    ensures declared { map (λ f. f.chunk.max_stack) functions.new ≡ numbers.now }
+    ensures rest { map undeclared_function functions.new ≡ map undeclared_function functions.old }
+{
+    for (index, function) in functions.iter_mut().enumerate() {
+        function.chunk.set_max_stack(numbers[index]);
+    }
+}

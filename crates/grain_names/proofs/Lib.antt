@@ -1,4 +1,0 @@
-pub mod Cuts
-pub mod Growing
-pub mod Left
-pub mod Tables

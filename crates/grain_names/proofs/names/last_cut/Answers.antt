@@ -1,5 +1,0 @@
-use Rattle.grain_names.proofs.Cuts.{last_cut_found}
-use Rattle.grain_names.proofs.names.last_cut.Goals as goal
-
-pub returns : goal.returns
-returns c = last_cut_found c.args.name.now c.rsplit_once.result c.rsplit_once.ensures.cases

@@ -1,2 +1,0 @@
-pub mod KnownCaps
-pub mod Parts

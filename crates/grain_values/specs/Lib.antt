@@ -1,5 +1,0 @@
-pub mod CapBits
-pub mod Content
-pub mod ContentLaws
-pub mod Place
-pub mod View
