@@ -3,6 +3,7 @@
 use bitflags::{Flag, Flags};
 
 /// A set of capabilities, one bit for each; no capability has the highest bit. Each call takes constant time.
+// It has no model: `Flags` lends constants, and the kit refuses a borrowed constant of a type that has one.
 #[derive(Clone, Copy, Debug, PartialEq, Eq)]
 pub struct Caps(u16);
 

@@ -87,7 +87,7 @@ impl fmt::Display for Error {
 
 impl std::error::Error for Error {}
 
-/// The error as it is written in code.
+/// The error as it is written in code. By hand: the text of `TableError::Malformed` has it, and derived printing promises nothing.
 impl fmt::Debug for Error {
     ghost use Rattle.std.specs.Prelude.{Some};
     ghost use Rattle.grain_base.specs.AddressTable.{debug_text_of};

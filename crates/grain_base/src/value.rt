@@ -95,7 +95,10 @@ impl Dynamic {
         }
     }
 
-    /// The value without the shared marks around it. It takes time by their number.
+    /// The value without the shared marks around it. It takes time linear in their number.
+    ///
+    /// It is public so that a caller who compares often takes the marks off once, as [`PartialEq`] and `Switch::dispatch` do:
+    /// marks nested on both sides then cost their sum and not their product.
     #[must_use]
     pub fn unshared(&self) -> &Dynamic
         ensures same_content { content result.now ≡ content self.now }

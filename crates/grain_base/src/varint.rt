@@ -52,6 +52,7 @@ const TENTH_MAX: u8 = 1;
 ///
 /// `Truncated` where fewer than ten bytes are left, each of which says that another follows; so also at the end of the
 /// bytes and beyond it. Else `Overflow`: the tenth group is above 1 or says that another follows.
+// Read in place: it is called for each number of a table, and a call takes as long as a number of one group.
 #[inline(always)]
 pub fn u64(bytes: &[u8], at: &mut usize) -> Result<u64, Error>
     // A number is read exactly where one is spelled.

@@ -56,6 +56,7 @@ pub fn hex_of(alloc: Global, word: &[u8]) -> Result<Option<Vec<u8>>, AllocError>
 pub fn u32_of(word: &[u8]) -> Option<u32>
     ensures { result ≡ u32_of word.now }
 {
+    // std takes a sign here, and the form of a line doesn't.
     if word.starts_with(b"+") {
         return None;
     }

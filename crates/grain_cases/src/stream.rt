@@ -96,7 +96,8 @@ impl<R: io::Read> Source for OverRead<R> {
         ensures unmarked { OnOk result (failed_reads self.new ≡ failed_reads self.old) }
         ensures marked { OnErr result (failed_reads self.new ≢ failed_reads self.old) }
 
-        // It counts the failures, and is a read of the reader's own bytes.
+        // It promises more than the trait requires: it counts the failures, and is a read of the reader's own bytes, though as a
+        // `Source` it has none.
         ensures counted { OnErr result
             (failed_reads self.new ≡ (failed_reads self.old + 1) % 2 ^ 64) }
         ensures reads { ReadConsumes (R.remaining (reader_of self.old))

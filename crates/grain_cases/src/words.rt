@@ -4,7 +4,7 @@ ghost use Rattle.std.specs.Prelude.{◌≡◌, ◌<◌, ◌≤◌, [], ◌∷◌
 ghost use Rattle.std.specs.Prelude.{Contains, IfSome, IfNone};
 ghost use Rattle.grain_cases.specs.Words.{words, Lacks, Skips, StartsWord};
 
-/// How many bytes a search tests together, which is much faster than one after another.
+/// How many bytes a search tests together: std's `contains` has no branch for each byte, so that this is much faster.
 const BLOCK: usize = 32;
 
 /// The text without the blocks at its front that lack the byte, up to one that has it.

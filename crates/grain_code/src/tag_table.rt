@@ -105,7 +105,8 @@ const NONE: TagRow = TagRow {
     flow: Flow::Falls,
 };
 
-/// The row of each byte.
+/// The row of each byte. A `match` on the tag takes three times as long. A row has eight bytes, so that one is found without a
+/// multiplication; a macro fills the table up, since the value of a constant is computed without loops.
 pub static TAG_ROWS: [TagRow; 256] = rows![
     NONE,
     row!(LOAD_CONST:            3 INDEX    LOUD  PLAIN 0 0 1 Falls),
