@@ -10,7 +10,8 @@ tags (crates/grain_code/src/tag.rt), wherever it stands.
   specs/TagNames.antt (names by tags) and src/mnemonics.rt (names of operations).
 - The table read from tags to operations is the list `rows` in crates/grain_code/proofs/Rows.antt, which the prover compares
   with the table.
-- What a tag says of its instructions is the list `TAG_ROWS` in crates/grain_code/src/tag_table.rt.
+- In crates/grain_code/src, what a tag says of its instructions is the list `TAG_ROWS` in tag_table.rt; encoding.rt (the tag and
+  the fields of an operation) and decoder.rt (the operation of a tag and bytes) are written as a whole.
 - The table for machines in Rust is the list of hosts/rust/src/opcode.rs: names, tags, fields, flow and quiet instructions.
 
 .ci/documents asks whether all of it is as this writes it.
@@ -172,6 +173,160 @@ def tag_rows():
         yield f"    row!({name + ':':<22} {' '.join(words)}),\n"
 
 
+# What a field of the table is in Rattle: how `layout` writes it, and how decoding reads it from its bytes.
+RATTLE_FIELDS = {"Slot": ("Field::Slot({})", "slot({}, {})"), "Count": ("Field::Count({})", "{}"), "Target": ("Field::Target({})", "target")}
+WRITTEN = "//! Written by bench/from_table.py from the instruction table. Don't edit it."
+
+
+def encoded():
+    """Of each row of `encoding`: the pattern of its operation, its tag, its fields as kinds and variables, and the values of the
+    flags that aren't written."""
+    for text, body in instruction_table.clauses("grain_code/specs/InstructionTable.antt", "encoding"):
+        tag, list_, unwritten = re.fullmatch(r"\((0x\w+), (\[\]|.*? ∷ \[\]), (.*)\)", body).groups()
+        items = [item.rsplit(" ", 1) for item in list_.split(" ∷ ")[:-1]]
+        yield text, int(tag, 16), items, dict(re.findall(r"\((\w+), (\w+)\)", unwritten))
+
+
+def rattle_op(text, values, fields, rest=False):
+    """A pattern of `encoding` in Rattle, with these in the place of variables; what has none is left to `..` where there is a rest."""
+    def part(each):
+        name, *inner = instruction_table.split(each)
+        if name in values:
+            return values[name]
+        word = name.replace("receiver.", "Receiver::")
+        if word not in ("true", "false", "None", "Some") and not word.startswith("Receiver::"):
+            return None
+        return f"{word}({part(inner[0])})" if inner else word
+
+    name, arguments = instruction_table.pattern(text)
+    given = [part(each) for each in arguments]
+    if not fields[name]:
+        return f"Op::{name}"
+    if fields[name] == [""]:
+        return f"Op::{name}({given[0]})"
+    said = [field if field == each else f"{field}: {each}" for field, each in zip(fields[name], given) if each is not None]
+    return f"Op::{name} {{ {', '.join(said + ['..'] * (rest and None in given))} }}"
+
+
+def layout():
+    """The whole of crates/grain_code/src/encoding.rt."""
+    names, fields = tags(), instruction_table.op_fields()
+    counts = ["None", "One", "Two", "Three"]
+    arms = []
+    for text, tag, items, _ in encoded():
+        told = {variable: variable.replace("'", "2") for _, variable in items}
+        listed = []
+        for kind, variable in items:
+            pool = kind.removeprefix("Index ")
+            form = f"Field::Index(Pool::{pool}, {{}})" if pool != kind else RATTLE_FIELDS[kind][0]
+            listed.append(form.format(told[variable]))
+        value = f"Fields::{counts[len(listed)]}" + (f"([{', '.join(listed)}])" if listed else "")
+        arms.append(f"        {rattle_op(text, told, fields, rest=True)} => (tag::{names[tag]}, {value}),\n")
+    return f"""{WRITTEN}
+//!
+//! The tag of an operation and its fields.
+ghost use Rattle.std.specs.Prelude.{{◌≡◌}};
+ghost use Rattle.grain_code.specs.Fields.{{field_list}};
+ghost use Rattle.grain_code.specs.InstructionTable.{{form}};
+
+use crate::field::{{Field, Fields, Pool}};
+use crate::op::{{Op, Receiver}};
+use crate::tag;
+
+/// The tag of an operation and its fields: the instruction table (docs/FORMAT.md, "Instructions").
+#[must_use]
+pub fn layout(op: &Op) -> (u8, Fields)
+    ensures {{ (result.0, field_list result.1) ≡ form op.now }}
+{{
+    match *op {{
+{"".join(arms)}    }}
+}}
+"""
+
+
+DECODERS = [
+    ("bare", "without fields"), ("with_one", "and one byte"), ("with_two", "and two bytes"), ("with_three", "and three bytes"),
+    ("with_four", "and four bytes"), ("with_five", "and five bytes"), ("with_six", "and six bytes"),
+]
+
+
+def decoder_of(count):
+    """The function that decodes the instructions whose fields have this many bytes."""
+    names, fields = tags(), instruction_table.op_fields()
+    letters, arms, is_aimed = "abcdef"[:count], [], False
+    for text, tag, items, unwritten in sorted(encoded(), key=lambda row: row[1]):
+        sizes = [4 if kind == "Target" else 1 if kind == "Count" else 2 for kind, _ in items]
+        if sum(sizes) != count:
+            continue
+        values, at = dict(unwritten), 0
+        for (kind, variable), size in zip(items, sizes):
+            form = "index({}, {})" if kind.startswith("Index ") else RATTLE_FIELDS[kind][1]
+            values[variable] = form.format(*letters[at:at + size])
+            is_aimed, at = is_aimed or kind == "Target", at + size
+        arms.append(f"        tag::{names[tag]} => Some({rattle_op(text, values, fields)}),\n")
+    name, what = DECODERS[count]
+    bytes_ = " ∷ ".join(["tag", *letters, "[]"])
+    aim = "    let target = u32::from_le_bytes([a, b, c, d]);\n" if is_aimed else ""
+    return f"""/// The instruction of a tag {what}.
+#[inline(always)]
+fn {name}({", ".join(f"{each}: u8" for each in ["tag", *letters])}) -> Option<Op>
+    ensures found {{ IfSome result (λ op. Instr ({bytes_}) op) }}
+    ensures none {{ IfNone result ((op : Op) → Instr ({bytes_}) op → ⊥) }}
+{{
+{aim}    match tag {{
+{"".join(arms)}        _ => None,
+    }}
+}}
+
+"""
+
+
+def decoder():
+    """The whole of crates/grain_code/src/decoder.rt."""
+    calls = "".join(
+        f"        [{', '.join('abcdef'[:count])}] => {name}({', '.join(['tag', *('*' + each for each in 'abcdef'[:count])])}),\n"
+        for count, (name, _) in enumerate(DECODERS))
+    return f"""{WRITTEN}
+//!
+//! Decoding: what a tag and the bytes after it are. The width of the tag says how many bytes belong to it. One function for
+//! each number of bytes then has an arm for each tag.
+ghost use Rattle.std.specs.Prelude.{{◌≡◌, IfSome, IfNone, [], ◌∷◌}};
+ghost use Rattle.std.specs.Int.{{w16, from_le_bytes}};
+ghost use Rattle.grain_code.specs.InstructionTable.{{Instr}};
+ghost use Rattle.grain_code.specs.declared.op.Op.{{Op}};
+
+use crate::op::{{Op, Receiver}};
+use crate::tag;
+
+/// An index into a pool.
+#[inline(always)]
+fn index(low: u8, high: u8) -> u32
+    ensures {{ result ≡ from_le_bytes w16 (low ∷ high ∷ []) }}
+{{
+    u32::from(u16::from_le_bytes([low, high]))
+}}
+
+/// A slot, a depth or a length.
+#[inline(always)]
+fn slot(low: u8, high: u8) -> u16
+    ensures {{ result ≡ from_le_bytes w16 (low ∷ high ∷ []) }}
+{{
+    u16::from_le_bytes([low, high])
+}}
+
+{"".join(decoder_of(count) for count in range(len(DECODERS)))}/// The instruction of a tag and the bytes of its fields, or `None` where they are none.
+#[inline(always)]
+pub(crate) fn op_of(tag: u8, fields: &[u8]) -> Option<Op>
+    ensures found {{ IfSome result (λ op. Instr (tag ∷ fields.now) op) }}
+    ensures none {{ IfNone result ((op : Op) → Instr (tag ∷ fields.now) op → ⊥) }}
+{{
+    match fields {{
+{calls}        _ => None,
+    }}
+}}
+"""
+
+
 def blocks():
     """Of each file where they stand: what stands before, the block itself, and what stands behind."""
     names = tags()
@@ -194,17 +349,25 @@ def plain(text):
     return re.sub(r",(?=[})\]])", "", re.sub(r"\s", "", text))
 
 
-def header_differences(write):
-    path = TOP / "hosts/c/grain_instructions.h"
-    text = instructions_header()
-    if write:
-        path.write_text(text)
-    elif not path.is_file() or path.read_text() != text:
-        yield "hosts/c/grain_instructions.h differs from the instruction table: bench/from_table.py --write"
+def file_differences(write):
+    """The files that are written as a whole. A formatter may lay those in Rattle out."""
+    files = {
+        "hosts/c/grain_instructions.h": (instructions_header, str),
+        "crates/grain_code/src/encoding.rt": (layout, plain),
+        "crates/grain_code/src/decoder.rt": (decoder, plain),
+    }
+    for name, (made, compared) in files.items():
+        path, text = TOP / name, made()
+        if path.is_file() and compared(path.read_text()) == compared(text):
+            continue
+        if write:
+            path.write_text(text)
+        else:
+            yield f"{name} differs from the instruction table: bench/from_table.py --write"
 
 
 def differences(write=False):
-    yield from header_differences(write)
+    yield from file_differences(write)
     for name, (before, block, behind) in blocks().items():
         path = TOP / name
         text = path.read_text()
@@ -222,7 +385,8 @@ def main():
     write = sys.argv[1:] == ["--write"]
     untrue = list(differences(write))
     if write:
-        subprocess.run(["rt", "fmt"], cwd=TOP / "crates/grain_flat", check=True, stdout=subprocess.DEVNULL)
+        for crate in ("grain_code", "grain_flat"):
+            subprocess.run(["rt", "fmt"], cwd=TOP / "crates" / crate, check=True, stdout=subprocess.DEVNULL)
     print("\n".join(untrue) if untrue else "all is as it follows from the instruction table")
     return 1 if untrue else 0
 

@@ -6,7 +6,7 @@ ghost use Rattle.grain.specs.Explanations.{IsExplanation};
 use grain_base::{Caps, Dynamic};
 use grain_code::{Chunk, Function};
 use grain_explain::{ExplainError, ExplainedChunk, explain_chunks};
-use grain_rules::{Read, VerifyError};
+use grain_rules::{Candidate, Read, VerifyError};
 use grain_verify::{Meter, Refusal, verify_read};
 use std::alloc::Global;
 
@@ -30,22 +30,20 @@ pub struct Explained {
 /// # Errors
 /// `OutOfMemory` where memory was refused; `Unfinished` as [`explain_chunks`] says.
 #[tactic(auto, using(crate::proofs::Refusing::placed_explained, crate::proofs::Refusing::accepted_explained))]
-pub fn explain<P: Read>(
+pub fn explain<'a, P: Read>(
     alloc: Global,
     caps: Caps,
-    consts: &[Dynamic],
-    code: &[u8],
-    functions: &[Function],
-    chunks: &[Chunk],
-    pools: &P,
+    consts: &'a [Dynamic],
+    code: &'a [u8],
+    functions: &'a [Function],
+    chunks: &'a [Chunk],
+    pools: &'a P,
 ) -> Result<Explained, ExplainError>
     ensures explained { IfOk result (IsExplanation (input_beside caps.0 consts.now code.now
         functions.now chunks.now (P.facts pools.now) (P.leads pools.now))) }
 {
-    let mut meter = Meter::new();
-    match verify_read(
-        alloc, caps, consts, code, functions, chunks, pools, &mut meter,
-    ) {
+    let candidate = Candidate::new(caps, consts, code, functions, chunks, pools);
+    match verify_read(alloc, &candidate, &mut Meter::new()) {
         Ok(deepest) => {
             let chunks = explain_chunks(alloc, caps, code, chunks, pools)?;
             Ok(Explained {

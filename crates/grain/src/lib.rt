@@ -44,8 +44,8 @@ pub use grain_pools::{
     StepFlags, Strings, StringsError, Switch, SwitchRange, Tail, names,
 };
 pub use grain_rules::{
-    Asks, BadIndex, Bound, Effect, NoPools, Pools, Read, Targets, VerifyError, asked_beside,
-    check_among, check_below, constant_caps, name_caps,
+    Asks, BadIndex, Bound, Candidate, Effect, NoPools, Pools, Read, Targets, VerifyError,
+    asked_beside, check_among, check_below, constant_caps, name_caps,
 };
 pub use grain_verify::{
     Meter, Refusal, Scratch, is_quiet, verify, verify_metered, verify_placed, verify_read,

@@ -90,8 +90,12 @@ impl fmt::Display for StreamError {
 
 impl std::error::Error for StreamError {}
 
-/// Reads the next slot.
-fn next_slot(stream: &[u8], at: &mut usize) -> Result<Option<Site>, varint::Error>
+/// Reads the next slot of a stream, whose count has been read, from an address on, and moves that behind it: its site, or `None`
+/// where its line is 0.
+///
+/// # Errors
+/// Those of [`varint::u32`], of the line or the column.
+pub fn next_slot(stream: &[u8], at: &mut usize) -> Result<Option<Site>, varint::Error>
     ensures ok { IfOk result (λ site. (line column : ℕ)
         × BeginsNumbers (drop at.old stream.now) (line ∷ column ∷ []) (drop at.new stream.now)
         × (site ≡ site_of line column)) }

@@ -11,7 +11,7 @@ ghost use Rattle.grain_cases.specs.Verdict.{VerifyVerdict, accepted_text, progra
 use crate::case::Case;
 use grain_base::{Caps, pos};
 use grain_code::{Chunk, count_instructions};
-use grain_rules::{NoPools, VerifyError};
+use grain_rules::{Candidate, NoPools, VerifyError};
 use grain_verify::{Meter, Scratch};
 use std::alloc::{AllocError, Global};
 
@@ -53,20 +53,20 @@ pub fn write_accepted(text: &mut String, numbers: &[u16]) -> Result<(), AllocErr
 
 /// The greatest operand count that any run of each chunk reaches, or why the program is refused. It
 /// has no constants and no functions, and all its pools are empty.
-fn judged(
+fn judged<'a>(
     alloc: Global,
     scratch: &mut Scratch,
     caps: Caps,
-    code: &[u8],
-    chunks: &[Chunk],
+    code: &'a [u8],
+    chunks: &'a [Chunk],
 ) -> Result<Vec<u16>, VerifyError>
     ensures accepted { IfOk result (λ numbers.
         IsJudged (program (set_of caps) code.now chunks.now) (Ok numbers.items)) }
     ensures refused { IfErr result (λ error. error ≢ VerifyError.OutOfMemory
         → IsJudged (program (set_of caps) code.now chunks.now) (Err error)) }
 {
-    let mut meter = Meter::new();
-    match scratch.verify(alloc, caps, &[], code, &[], chunks, &NoPools, &mut meter) {
+    let candidate = Candidate::new(caps, &[], code, &[], chunks, &NoPools);
+    match scratch.verify(alloc, &candidate, &mut Meter::new()) {
         Ok(numbers) => Ok(numbers),
         Err(refusal) => Err(refusal.error),
     }

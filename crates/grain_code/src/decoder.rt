@@ -1,8 +1,7 @@
-//! Decoding: what a tag and the bytes behind it are.
+//! Written by bench/from_table.py from the instruction table. Don't edit it.
 //!
-//! The width of the tag tells how many bytes belong to it. One function for each number of bytes then has an arm for
-//! each tag.
-
+//! Decoding: what a tag and the bytes after it are. The width of the tag says how many bytes belong to it. One function for
+//! each number of bytes then has an arm for each tag.
 ghost use Rattle.std.specs.Prelude.{◌≡◌, IfSome, IfNone, [], ◌∷◌};
 ghost use Rattle.std.specs.Int.{w16, from_le_bytes};
 ghost use Rattle.grain_code.specs.InstructionTable.{Instr};
@@ -218,8 +217,8 @@ fn with_four(tag: u8, a: u8, b: u8, c: u8, d: u8) -> Option<Op>
             op: None,
         }),
         tag::JUMP => Some(Op::Jump(target)),
-        tag::JUMP_IF_TRUE => Some(Op::JumpIfTrue { target: target }),
-        tag::JUMP_IF_FALSE => Some(Op::JumpIfFalse { target: target }),
+        tag::JUMP_IF_TRUE => Some(Op::JumpIfTrue { target }),
+        tag::JUMP_IF_FALSE => Some(Op::JumpIfFalse { target }),
         tag::ASSIGN_NAMED_OP => Some(Op::AssignNamed {
             name: index(a, b),
             op: Some(index(c, d)),
@@ -232,7 +231,7 @@ fn with_four(tag: u8, a: u8, b: u8, c: u8, d: u8) -> Option<Op>
             target,
             catch_var: None,
         }),
-        tag::SKIP_IF_NOT_UNIT => Some(Op::SkipIfNotUnit { target: target }),
+        tag::SKIP_IF_NOT_UNIT => Some(Op::SkipIfNotUnit { target }),
         tag::EXPORT_LOCAL => Some(Op::ExportLocal {
             slot: slot(a, b),
             alias: index(c, d),

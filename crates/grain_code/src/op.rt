@@ -3,8 +3,6 @@
 //! A jump target is the index of an operation before assembling, and an address in bytes once the code is assembled.
 //! A name, a constant and the like is an index into the pool of the program that holds such things.
 
-use std::alloc::AllocError;
-
 /// Where a call that passes a variable by reference finds that variable.
 #[derive(Clone, Copy, Debug, PartialEq, Eq)]
 pub enum Receiver {
@@ -21,7 +19,7 @@ pub enum Receiver {
 /// The instruction table of docs/FORMAT.md gives each its tag, its fields and what it does to the operand stack. A few
 /// values can't be told apart once they are written: what is decoded is the canonical form (docs/FORMAT.md, "Canonical
 /// form").
-#[derive(Debug, PartialEq, Eq, Drop)]
+#[derive(Clone, Copy, Debug, PartialEq, Eq)]
 pub enum Op {
     /// Pushes a constant of the pool.
     Const(u32),
@@ -246,111 +244,4 @@ pub enum Op {
         /// The index of the name.
         alias: u32,
     },
-}
-
-// Written out: a derived `clone` may fail at each field, and its proof takes ten times as long.
-impl Clone for Op {
-    fn clone(&self) -> Result<Op, AllocError> {
-        Ok(match *self {
-            Op::Const(index) => Op::Const(index),
-            Op::Unit => Op::Unit,
-            Op::Bool(value) => Op::Bool(value),
-            Op::LoadLocal(slot) => Op::LoadLocal(slot),
-            Op::ExportLocal { slot, alias } => Op::ExportLocal { slot, alias },
-            Op::StoreLocal { slot, is_const } => Op::StoreLocal { slot, is_const },
-            Op::LoadNamed(index) => Op::LoadNamed(index),
-            Op::ExportNamed { name, alias } => Op::ExportNamed { name, alias },
-            Op::AssignNamed { name, op } => Op::AssignNamed { name, op },
-            Op::AssignLocal { slot, var_name, op } => Op::AssignLocal { slot, var_name, op },
-            Op::DeclareLocal {
-                name,
-                is_const,
-                is_global,
-            } => Op::DeclareLocal {
-                name,
-                is_const,
-                is_global,
-            },
-            Op::Pop => Op::Pop,
-            Op::Jump(target) => Op::Jump(target),
-            Op::JumpIfTrue { target } => Op::JumpIfTrue { target },
-            Op::JumpIfFalse { target } => Op::JumpIfFalse { target },
-            Op::SkipIfNotUnit { target } => Op::SkipIfNotUnit { target },
-            Op::Call {
-                name,
-                argc,
-                op,
-                capture_parent_scope,
-            } => Op::Call {
-                name,
-                argc,
-                op,
-                capture_parent_scope,
-            },
-            Op::CallRef {
-                name,
-                argc,
-                receiver,
-                capture_parent_scope,
-            } => Op::CallRef {
-                name,
-                argc,
-                receiver,
-                capture_parent_scope,
-            },
-            Op::Rotate(depth) => Op::Rotate(depth),
-            Op::Switch(index) => Op::Switch(index),
-            Op::Share(slot) => Op::Share(slot),
-            Op::ShareNamed(index) => Op::ShareNamed(index),
-            Op::LoadShared(slot) => Op::LoadShared(slot),
-            Op::LoadSharedNamed(index) => Op::LoadSharedNamed(index),
-            Op::MakeClosure(index) => Op::MakeClosure(index),
-            Op::MakeFnPtr => Op::MakeFnPtr,
-            Op::IsShared => Op::IsShared,
-            Op::Curry(argc) => Op::Curry(argc),
-            Op::CallFnPtr {
-                argc,
-                is_method,
-                capture_parent_scope,
-                receiver,
-            } => Op::CallFnPtr {
-                argc,
-                is_method,
-                capture_parent_scope,
-                receiver,
-            },
-            Op::Chain(index) => Op::Chain(index),
-            Op::MakeArray(len) => Op::MakeArray(len),
-            Op::MakeMap(len) => Op::MakeMap(len),
-            Op::CheckSize { index, is_map } => Op::CheckSize { index, is_map },
-            Op::InterpolateStart => Op::InterpolateStart,
-            Op::InterpolateAppend => Op::InterpolateAppend,
-            Op::InterpolateEnd => Op::InterpolateEnd,
-            Op::UnwindTo(depth) => Op::UnwindTo(depth),
-            Op::Tick => Op::Tick,
-            Op::Checkpoint => Op::Checkpoint,
-            Op::Statement { depth } => Op::Statement { depth },
-            Op::Throw => Op::Throw,
-            Op::IterInit => Op::IterInit,
-            Op::IterNext { exit, counter_slot } => Op::IterNext { exit, counter_slot },
-            Op::IterDrop => Op::IterDrop,
-            Op::PushHandler { target, catch_var } => Op::PushHandler { target, catch_var },
-            Op::PopHandler => Op::PopHandler,
-            Op::StoreShared(slot) => Op::StoreShared(slot),
-            Op::Return => Op::Return,
-            Op::LoadThis => Op::LoadThis,
-            Op::LoadThisShared => Op::LoadThisShared,
-            Op::RequireThis => Op::RequireThis,
-            Op::AssignThis { op } => Op::AssignThis { op },
-            Op::EvalAst {
-                residual,
-                rewind_scope,
-            } => Op::EvalAst {
-                residual,
-                rewind_scope,
-            },
-            Op::CustomSyntax(index) => Op::CustomSyntax(index),
-            Op::Import { alias } => Op::Import { alias },
-        })
-    }
 }

@@ -4,7 +4,7 @@ ghost use Rattle.grain_flat.specs.Judging.{IsMeteredOf, IsVerdictOf, judged_inpu
 use crate::row_reads::Rows;
 use grain_base::Caps;
 use grain_code::{Chunk, Function};
-use grain_rules::VerifyError;
+use grain_rules::{Candidate, VerifyError};
 use grain_verify::{Meter, Refusal, Scratch};
 use std::alloc::{AllocError, Global};
 
@@ -38,28 +38,26 @@ impl From<AllocError> for Stop {
     }
 }
 
-impl Judge<'_> {
+impl<'a> Judge<'a> {
     /// The numbers of the chunks, or why it isn't accepted with them. The meter counts what is looked at until then.
     pub(crate) fn verdict(
         &self,
         scratch: &mut Scratch,
-        chunks: &[Chunk],
+        chunks: &'a [Chunk],
         meter: &mut Meter,
     ) -> Result<Vec<u16>, Stop>
         ensures verdict { IsVerdictOf (judged_input self.now chunks.now) result }
         ensures metered { IsMeteredOf (judged_input self.now chunks.now) meter.old meter.new result }
     {
-        let judged = scratch.verify(
-            self.alloc,
+        let candidate = Candidate::new(
             self.caps,
             &[],
             self.code,
             self.functions,
             chunks,
             self.rows,
-            meter,
         );
-        match judged {
+        match scratch.verify(self.alloc, &candidate, meter) {
             Ok(numbers) => Ok(numbers),
             Err(refusal) => match refusal.error {
                 VerifyError::OutOfMemory => Err(Stop::OutOfMemory),

@@ -1,13 +1,13 @@
 //! The entries of address tables and the sites of streams, written into room of the caller's. No call takes memory.
-ghost use Rattle.std.specs.Prelude.{◌≡◌, ◌<◌, ◌≤◌, ℕ, List, Option, [], ◌∷◌, IfErr, IfNone, IfOk, IfSome, OnOk, cond, drop, length, map, nat_lt, slice_set};
+ghost use Rattle.std.specs.Prelude.{◌≡◌, List, Option, IfNone, IfSome, cond, length, map, nat_lt, slice_set};
 ghost use Rattle.grain_base.specs.AddressTable.{Entry, LongestFront};
-ghost use Rattle.grain_bytecode.specs.ChainStream.{Stream, site_of};
-ghost use Rattle.grain_base.specs.Varint.{BeginsNumbers, U32Flaw};
 ghost use Rattle.grain_base.specs.declared.pos.Site.{Site};
+ghost use Rattle.grain_bytecode.specs.ChainStream.{Stream};
 ghost use Rattle.grain_flat.specs.Listing.{entry_row, filled, place_row};
 
 use crate::records::{CEntry, CPlace};
-use grain_base::{pos, varint};
+use grain_base::pos::{self, Site};
+use grain_base::varint;
 use grain_bytecode::sites;
 
 /// Writes items in front of the room, as many as it has places for.
@@ -46,23 +46,14 @@ pub fn list_entries(table: &[u8], room: &mut [CEntry]) -> usize
     count
 }
 
-/// Reads the next slot of a stream.
-fn next_place(stream: &[u8], at: &mut usize) -> Result<CPlace, varint::Error>
-    ensures ok { IfOk result (λ place. (line column : ℕ)
-        × BeginsNumbers (drop at.old stream.now) (line ∷ column ∷ []) (drop at.new stream.now)
-        × (place ≡ place_row (site_of line column))) }
-    ensures inside { OnOk result (at.new ≤ length stream.now) }
-    ensures err { IfErr result (λ error. (numbers left : List ℕ)
-        × BeginsNumbers (drop at.old stream.now) numbers left × (length numbers < 2)
-        × U32Flaw left error) }
+/// The record of a slot's site.
+fn place_of(site: Option<Site>) -> CPlace
+    ensures { result ≡ place_row site }
 {
-    let line = varint::u32(stream, at)?;
-    let column = varint::u32(stream, at)?;
-    Ok(if line == 0 {
-        CPlace { line: 0, column: 0 }
-    } else {
-        CPlace { line, column }
-    })
+    match site {
+        Some(Site { line, column }) => CPlace { line, column },
+        None => CPlace { line: 0, column: 0 },
+    }
 }
 
 /// Writes the sites of a stream, slot by slot, in front of the room, as many as it has places for; and answers how many slots
@@ -81,10 +72,10 @@ pub fn list_sites(stream: &[u8], room: &mut [CPlace]) -> Option<usize>
         return None;
     };
     'slots: for turn in 0..count {
-        let Ok(place) = next_place(stream, &mut at) else {
+        let Ok(site) = sites::next_slot(stream, &mut at) else {
             return None;
         };
-        put_at(room, turn as usize, place);
+        put_at(room, turn as usize, place_of(site));
     }
     Some(count as usize)
 }

@@ -1,7 +1,7 @@
 use crate::samples::{assert_same, made, pools};
 use grain_base::{Caps, Flags};
 use grain_bytecode::{Chunk, Strings};
-use grain_rules::{NoPools, VerifyError};
+use grain_rules::{Candidate, NoPools, VerifyError};
 use grain_verify::{Meter, Refusal, Scratch, verify_placed, verify_read};
 use std::alloc::Global;
 use std::test::Fail;
@@ -35,9 +35,8 @@ fn a_refusal_has_the_place_of_its_chunk(rt: HostRuntime) {
 /// What is said beside no pools of code with a chunk from its start to here.
 fn said_beside_none(alloc: Global, code: &[u8], end: u32) -> Result<Option<u16>, Refusal> {
     let chunks = [Chunk::new(0, end, 8)];
-    let mut meter = Meter::new();
-    let caps = Caps::all();
-    match verify_read(alloc, caps, &[], code, &[], &chunks, &NoPools, &mut meter) {
+    let candidate = Candidate::new(Caps::all(), &[], code, &[], &chunks, &NoPools);
+    match verify_read(alloc, &candidate, &mut Meter::new()) {
         Ok(numbers) => Ok(numbers.last().copied()),
         Err(refusal) => Err(refusal),
     }
@@ -68,9 +67,8 @@ fn code_is_verified_beside_no_pools(rt: HostRuntime) {
 /// What is said of the code with a chunk from its start to here, in a scratch.
 fn said_with(alloc: Global, scratch: &mut Scratch, code: &[u8], end: u32) -> Result<u16, Refusal> {
     let chunks = [Chunk::new(0, end, 8)];
-    let mut meter = Meter::new();
-    let caps = Caps::all();
-    let numbers = scratch.verify(alloc, caps, &[], code, &[], &chunks, &NoPools, &mut meter)?;
+    let candidate = Candidate::new(Caps::all(), &[], code, &[], &chunks, &NoPools);
+    let numbers = scratch.verify(alloc, &candidate, &mut Meter::new())?;
     let number = numbers.last().copied().unwrap_or(0);
     scratch.keep(numbers);
     Ok(number)

@@ -9,7 +9,7 @@ use std::fmt;
 /// Why a program is refused (docs/FORMAT.md, "Verification").
 ///
 /// `at` is the address of an instruction. It prints as the verdict lines of the program `grain_check` have it.
-#[derive(Debug, PartialEq, Eq, Drop)]
+#[derive(Clone, Copy, Debug, PartialEq, Eq)]
 pub enum VerifyError {
     /// The host lacks capabilities that a constant, the functions or a reached instruction ask. Let through, the script would
     /// do what the host has taken out, or what was never built into it.
@@ -122,58 +122,6 @@ pub enum VerifyError {
     },
     /// A growth was refused.
     OutOfMemory,
-}
-
-// Written out: a derived `clone` may fail at each field, and its proof takes ten times as long.
-impl Clone for VerifyError {
-    fn clone(&self) -> Result<VerifyError, AllocError> {
-        Ok(match *self {
-            VerifyError::MissingCaps {
-                artifact,
-                missing,
-                at,
-            } => VerifyError::MissingCaps {
-                artifact,
-                missing,
-                at,
-            },
-            VerifyError::Undecodable { at } => VerifyError::Undecodable { at },
-            VerifyError::TrailingBytes { at, len } => VerifyError::TrailingBytes { at, len },
-            VerifyError::ChunkOutOfRange { entry, end, len } => VerifyError::ChunkOutOfRange {
-                entry,
-                end,
-                len,
-            },
-            VerifyError::JumpOutOfRange { at, target } => VerifyError::JumpOutOfRange {
-                at,
-                target,
-            },
-            VerifyError::JumpIntoAnInstruction { at, target } =>
-                VerifyError::JumpIntoAnInstruction { at, target },
-            VerifyError::DepthConflict {
-                at,
-                expected,
-                found,
-            } => VerifyError::DepthConflict {
-                at,
-                expected,
-                found,
-            },
-            VerifyError::Underflow { at, need, have } => VerifyError::Underflow { at, need, have },
-            VerifyError::FallsOffTheEnd => VerifyError::FallsOffTheEnd,
-            VerifyError::StackExceedsDeclared { needed, declared } =>
-                VerifyError::StackExceedsDeclared { needed, declared },
-            VerifyError::IteratorUnderflow { at } => VerifyError::IteratorUnderflow { at },
-            VerifyError::HandlerUnderflow { at } => VerifyError::HandlerUnderflow { at },
-            VerifyError::SinksBelowHandler { at, need, have } => VerifyError::SinksBelowHandler {
-                at,
-                need,
-                have,
-            },
-            VerifyError::BadIndex { at, what, index } => VerifyError::BadIndex { at, what, index },
-            VerifyError::OutOfMemory => VerifyError::OutOfMemory,
-        })
-    }
 }
 
 impl fmt::Display for VerifyError {

@@ -7,6 +7,7 @@
 
 mod asks;
 mod bounds;
+mod candidate;
 mod capabilities;
 mod code_test;
 mod constants;
@@ -25,6 +26,7 @@ mod unindexed;
 
 pub use asks::{Asks, asked_beside, chain_caps, name_caps};
 pub use bounds::{BadIndex, Bound, check_among, check_below};
+pub use candidate::Candidate;
 pub use capabilities::{allows, missing};
 pub use code_test::{Started, check_code, start_code};
 pub use constants::{check_constants, constant_caps};

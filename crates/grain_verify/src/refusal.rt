@@ -6,7 +6,7 @@ use grain_rules::VerifyError;
 use std::alloc::AllocError;
 
 /// Why a program is refused, and for which of its chunks.
-#[derive(Clone, Debug, PartialEq, Eq, Drop)]
+#[derive(Clone, Copy, Debug, PartialEq, Eq)]
 pub struct Refusal {
     /// The place of the chunk in the list of chunks, where one is refused, each before it having passed. There is none where
     /// a test before the chunks fails, and where memory was wanted.

@@ -1,10 +1,9 @@
 //! The verifier.
 ghost use Rattle.std.specs.Prelude.{◌≡◌, ℕ, IfErr, IfOk, IfSome, IsTrue, List, OnOk};
 ghost use Rattle.std.specs.List.{All, AllZip};
-ghost use Rattle.grain_code.specs.Span.{Span};
 ghost use Rattle.grain_code.specs.Split.{Split};
-ghost use Rattle.grain_rules.specs.Accepted.{AreIndexed, ChunkPasses, input, input_beside};
-ghost use Rattle.grain_rules.specs.Code.{bytecode_beside, coded};
+ghost use Rattle.grain_rules.specs.Accepted.{AreIndexed, ChunkPasses, CodePasses, input};
+ghost use Rattle.grain_rules.specs.Code.{coded};
 ghost use Rattle.grain_rules.specs.Flaw.{CodeFlaw, Flaw};
 ghost use Rattle.grain_verify.specs.Meter.{IsMetered};
 ghost use Rattle.grain_verify.specs.Progress.{AreMeteredChunks};
@@ -24,7 +23,7 @@ use crate::walk::{Prepared, Traversal};
 use grain_base::{Caps, Dynamic};
 use grain_code::{Chunk, Function, Growing, Starts};
 use grain_rules::{
-    Pools, Read, VerifyError, check_code, check_constants, check_functions, start_code,
+    Candidate, Pools, Read, VerifyError, check_code, check_constants, check_functions, start_code,
 };
 use std::alloc::{AllocError, Global};
 use std::mem;
@@ -107,7 +106,7 @@ fn check_code_within<P: Read>(
 }
 
 /// The tests before the chunks: of the constants, of the code and its indices, and of the functions. They take no
-/// memory. It answers whether the starts are those of the code then: it makes them so where the code isn't short and they
+/// memory. The result says whether the starts are those of the code then: it makes them so where the code isn't short and they
 /// have room for it.
 ///
 /// # Errors
@@ -115,24 +114,17 @@ fn check_code_within<P: Read>(
 fn check_before_chunks<P: Read>(
     alloc: Global,
     starts: &mut Starts,
-    caps: Caps,
-    consts: &[Dynamic],
-    code: &[u8],
-    functions: &[Function],
-    pools: &P,
+    candidate: &Candidate<'_, P>,
 ) -> Result<bool, VerifyError>
-    ensures ok { (chunks : List Span) → OnOk result (ReachesChunks (input_beside caps.0 consts.now
-        code.now functions.now chunks (P.facts pools.now) (P.leads pools.now))) }
-    ensures known { IfOk result (λ known. IsTrue known → Split code.now starts.new.starts) }
-    ensures refused { (chunks : List Span) → ReachesChunks (input_beside caps.0 consts.now
-        code.now functions.now chunks (P.facts pools.now) (P.leads pools.now))
-        → IfErr result (λ _. ⊥) }
-    ensures flaws { (chunks : List Span) → IfErr result (Flaw (input_beside caps.0 consts.now
-        code.now functions.now chunks (P.facts pools.now) (P.leads pools.now))) }
+    ensures ok { OnOk result (ReachesChunks candidate.now) }
+    ensures known { IfOk result (λ known. IsTrue known
+        → Split candidate.now.code.bytes starts.new.starts) }
+    ensures refused { ReachesChunks candidate.now → IfErr result (λ _. ⊥) }
+    ensures flaws { IfErr result (Flaw candidate.now) }
 {
-    check_constants(caps, consts)?;
-    let is_known = check_code_within(alloc, starts, code, pools)?;
-    check_functions(caps, functions)?;
+    check_constants(candidate.caps, candidate.consts)?;
+    let is_known = check_code_within(alloc, starts, candidate.code, candidate.pools)?;
+    check_functions(candidate.caps, candidate.functions)?;
     Ok(is_known)
 }
 
@@ -230,32 +222,33 @@ fn verify_chunks<P: Read>(
     alloc: Global,
     scratch: &mut Scratch,
     is_known: bool,
-    caps: Caps,
-    code: &[u8],
-    pools: &P,
-    chunks: &[Chunk],
+    candidate: &Candidate<'_, P>,
     meter: &mut Meter,
 ) -> Result<Vec<u16>, Refusal>
-    requires indexed { AreIndexed (with_caps caps.0 (P.facts pools.now)) code.now }
-    requires known { IsTrue is_known → Split code.now scratch.old.starts.starts }
-    ensures passes { OnOk result (All (ChunkPasses (bytecode_beside caps.0
-        (P.facts pools.now) (P.leads pools.now) code.now)) chunks.now) }
-    ensures typed { IfOk result (λ v. AllZip (HasTyping (coded (bytecode_beside caps.0
-        (P.facts pools.now) (P.leads pools.now) code.now))) chunks.now v.items) }
-    ensures deepest { IfOk result (λ v. AllZip (IsDeepest (coded (bytecode_beside caps.0
-        (P.facts pools.now) (P.leads pools.now) code.now))) chunks.now v.items) }
-    ensures accepts { All (ChunkPasses (bytecode_beside caps.0
-        (P.facts pools.now) (P.leads pools.now) code.now)) chunks.now
+    requires indexed { CodePasses candidate.now }
+    requires known { IsTrue is_known → Split candidate.now.code.bytes scratch.old.starts.starts }
+    ensures passes { OnOk result (All (ChunkPasses candidate.now.code) candidate.now.chunks) }
+    ensures typed { IfOk result (λ v. AllZip (HasTyping (coded candidate.now.code))
+        candidate.now.chunks v.items) }
+    ensures deepest { IfOk result (λ v. AllZip (IsDeepest (coded candidate.now.code))
+        candidate.now.chunks v.items) }
+    ensures accepts { All (ChunkPasses candidate.now.code) candidate.now.chunks
         → IfErr result (λ r. r.error ≡ VerifyError.OutOfMemory) }
-    ensures flaws { IfErr result (IsChunkRefusal (bytecode_beside caps.0
-        (P.facts pools.now) (P.leads pools.now) code.now) chunks.now) }
-    ensures metered { (starts : List ℕ) → Split code.now starts → AreMeteredChunks
-        (bytecode_beside caps.0 (P.facts pools.now) (P.leads pools.now) code.now)
-        starts chunks.now meter.old meter.new result }
+    ensures flaws { IfErr result (IsChunkRefusal candidate.now.code candidate.now.chunks) }
+    ensures metered { (starts : List ℕ) → Split candidate.now.code.bytes starts
+        → AreMeteredChunks candidate.now.code starts candidate.now.chunks meter.old meter.new
+        result }
 {
+    let Candidate {
+        caps,
+        code,
+        chunks,
+        pools,
+        ..
+    } = candidate;
     let room = mem::replace(&mut scratch.starts, Starts::none(alloc));
     let starts = starts_of(room, is_known, code)?;
-    let prepared = Prepared::new(caps, code, pools, starts);
+    let prepared = Prepared::new(*caps, code, *pools, starts);
     let walked = walk_chunks(alloc, &prepared, chunks, scratch, meter);
     scratch.starts = prepared.into_starts();
     walked?;
@@ -336,14 +329,14 @@ pub fn verify_metered(
 /// # Errors
 /// Those of [`verify`], each with the place of the chunk that it is of, all before which pass; without a place where it is
 /// of no chunk.
-pub fn verify_placed(
+pub fn verify_placed<'a>(
     alloc: Global,
     caps: Caps,
-    consts: &[Dynamic],
-    code: &[u8],
-    functions: &[Function],
-    chunks: &[Chunk],
-    pools: &Pools<'_>,
+    consts: &'a [Dynamic],
+    code: &'a [u8],
+    functions: &'a [Function],
+    chunks: &'a [Chunk],
+    pools: &'a Pools<'a>,
     meter: &mut Meter,
 ) -> Result<Vec<u16>, Refusal>
     ensures verdict { IsVerdict
@@ -357,37 +350,28 @@ pub fn verify_placed(
         (input caps consts.now code.now functions.now chunks.now pools.now)
         meter.old meter.new (without_place result) }
 {
-    verify_read(alloc, caps, consts, code, functions, chunks, pools, meter)
+    let candidate = Candidate::new(caps, consts, code, functions, chunks, pools);
+    verify_read(alloc, &candidate, meter)
 }
 
-/// Verifies as [`verify_placed`] does, beside pools that are kept otherwise. Of these it makes nothing: it reads what is
-/// looked at where it is looked at.
+/// Verifies as [`verify_placed`] does, with pools in any form that can be read. It makes no pools: it reads what is looked at
+/// where it is looked at.
 ///
 /// # Errors
 /// Those of [`verify_placed`].
 pub fn verify_read<P: Read>(
     alloc: Global,
-    caps: Caps,
-    consts: &[Dynamic],
-    code: &[u8],
-    functions: &[Function],
-    chunks: &[Chunk],
-    pools: &P,
+    candidate: &Candidate<'_, P>,
     meter: &mut Meter,
 ) -> Result<Vec<u16>, Refusal>
-    ensures verdict { IsVerdict (input_beside caps.0 consts.now code.now functions.now
-        chunks.now (P.facts pools.now) (P.leads pools.now)) (without_place result) }
-    ensures placed { IfErr result (IsPlacedRefusal (input_beside caps.0 consts.now code.now
-        functions.now chunks.now (P.facts pools.now) (P.leads pools.now))) }
+    ensures verdict { IsVerdict candidate.now (without_place result) }
+    ensures placed { IfErr result (IsPlacedRefusal candidate.now) }
     ensures memory { IfErr result (λ r. r.error ≡ VerifyError.OutOfMemory
-        → ReachesChunks (input_beside caps.0 consts.now code.now functions.now chunks.now
-        (P.facts pools.now) (P.leads pools.now))) }
-    ensures metered { IsMetered (input_beside caps.0 consts.now code.now functions.now
-        chunks.now (P.facts pools.now) (P.leads pools.now))
-        meter.old meter.new (without_place result) }
+        → ReachesChunks candidate.now) }
+    ensures metered { IsMetered candidate.now meter.old meter.new (without_place result) }
 {
     let mut scratch = Scratch::new(alloc);
-    scratch.verify(alloc, caps, consts, code, functions, chunks, pools, meter)
+    scratch.verify(alloc, candidate, meter)
 }
 
 impl Scratch {
@@ -399,28 +383,17 @@ impl Scratch {
     pub fn verify<P: Read>(
         &mut self,
         alloc: Global,
-        caps: Caps,
-        consts: &[Dynamic],
-        code: &[u8],
-        functions: &[Function],
-        chunks: &[Chunk],
-        pools: &P,
+        candidate: &Candidate<'_, P>,
         meter: &mut Meter,
     ) -> Result<Vec<u16>, Refusal>
-        ensures verdict { IsVerdict (input_beside caps.0 consts.now code.now functions.now
-            chunks.now (P.facts pools.now) (P.leads pools.now)) (without_place result) }
-        ensures placed { IfErr result (IsPlacedRefusal (input_beside caps.0 consts.now
-            code.now functions.now chunks.now (P.facts pools.now) (P.leads pools.now))) }
+        ensures verdict { IsVerdict candidate.now (without_place result) }
+        ensures placed { IfErr result (IsPlacedRefusal candidate.now) }
         ensures memory { IfErr result (λ r. r.error ≡ VerifyError.OutOfMemory
-            → ReachesChunks (input_beside caps.0 consts.now code.now functions.now chunks.now
-            (P.facts pools.now) (P.leads pools.now))) }
-        ensures metered { IsMetered (input_beside caps.0 consts.now code.now functions.now
-            chunks.now (P.facts pools.now) (P.leads pools.now))
-            meter.old meter.new (without_place result) }
+            → ReachesChunks candidate.now) }
+        ensures metered { IsMetered candidate.now meter.old meter.new (without_place result) }
     {
-        let starts = &mut self.starts;
-        match check_before_chunks(alloc, starts, caps, consts, code, functions, pools) {
-            Ok(is_known) => verify_chunks(alloc, self, is_known, caps, code, pools, chunks, meter),
+        match check_before_chunks(alloc, &mut self.starts, candidate) {
+            Ok(is_known) => verify_chunks(alloc, self, is_known, candidate, meter),
             Err(error) => Err(Refusal::of_whole(error)),
         }
     }

@@ -15,23 +15,23 @@ slots-init c =
     let fits : c.in-Ok.count < 2 ^ 32 = search rules in
     ([], slots_none _ c.in-Ok.count c.u32.new.at (begins_at _ _ _ _ c.in-Ok.ensures.found fits) c.in-Ok.ensures.found.0, refl, filled_none c.args.room.now)
 
-pub returns-in_default-next_place-clause-none : goal.returns-in_default-next_place-clause-none
-returns-in_default-next_place-clause-none c slots is =
-    flawless _ _ (slots, is) (unreadable _ _ (slots_broken _ c.in-Ok.count c.slots.turn c.slots.at _ _ c.slots.invariant.1 (omega arith) c.in_default-next_place.ensures.err))
+pub returns-in_default-next_slot-clause-none : goal.returns-in_default-next_slot-clause-none
+returns-in_default-next_slot-clause-none c slots is =
+    flawless _ _ (slots, is) (unreadable _ _ (slots_broken _ c.in-Ok.count c.slots.turn c.slots.at _ _ c.slots.invariant.1 (omega arith) c.in_default-next_slot.ensures.err))
 
-pub returns-in_default-next_place-clause-kept : goal.returns-in_default-next_place-clause-kept
-returns-in_default-next_place-clause-kept c =
-    absurd (flawless _ _ (c.check.ensures.ok.0 (search rules)) (unreadable _ _ (slots_broken _ c.in-Ok.count c.slots.turn c.slots.at _ _ c.slots.invariant.1 (omega arith) c.in_default-next_place.ensures.err)))
+pub returns-in_default-next_slot-clause-kept : goal.returns-in_default-next_slot-clause-kept
+returns-in_default-next_slot-clause-kept c =
+    absurd (flawless _ _ (c.check.ensures.ok.0 (search rules)) (unreadable _ _ (slots_broken _ c.in-Ok.count c.slots.turn c.slots.at _ _ c.slots.invariant.1 (omega arith) c.in_default-next_slot.ensures.err)))
 
 pub slots-preserved : goal.slots-preserved
 slots-preserved c =
-    let ok = c.in-Ok-next_place.ensures.ok in
+    let ok = c.in-Ok-next_slot.ensures.ok in
     let done = c.slots.invariant in (
       done.0 ++ site_of ok.0 ok.1 ∷ [],
-      slots_more _ _ c.slots.turn c.slots.at c.next_place.new.at ok.0 ok.1 _ done.1 ok.2 c.in-Ok-next_place.ensures.inside,
+      slots_more _ _ c.slots.turn c.slots.at c.next_slot.new.at ok.0 ok.1 _ done.1 ok.2 c.in-Ok-next_slot.ensures.inside,
       omega (arith, done.2, length-append done.0 (site_of ok.0 ok.1 ∷ [])),
       mapped_more place_row done.0 c.args.room.now c.slots.room c.put_at.new.room c.slots.turn (site_of ok.0 ok.1) done.3 done.2
-          (subst (λ place. c.put_at.new.room ≡ cond (nat_lt c.slots.turn (length c.slots.room)) (slice_set c.slots.room c.slots.turn place) c.slots.room) ok.3 c.put_at.ensures),
+          (rw (← ok.3, ← c.place_of.ensures) c.put_at.ensures),
     )
 
 pub returns-clause-some : goal.returns-clause-some
