@@ -42,8 +42,9 @@ pub fn explain<'a, P: Read>(
     ensures explained { IfOk result (IsExplanation (input_beside caps.0 consts.now code.now
         functions.now chunks.now (P.facts pools.now) (P.leads pools.now))) }
 {
+    let mut meter = Meter::new();
     let candidate = Candidate::new(caps, consts, code, functions, chunks, pools);
-    match verify_read(alloc, &candidate, &mut Meter::new()) {
+    match verify_read(alloc, &candidate, &mut meter) {
         Ok(deepest) => {
             let chunks = explain_chunks(alloc, caps, code, chunks, pools)?;
             Ok(Explained {
