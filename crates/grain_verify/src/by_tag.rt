@@ -92,7 +92,8 @@ pub(crate) fn plain_next(row: &TagRow, head: Head, here: Arrival, floor: u64) ->
         → IsPlainStep code lists here next) }
 {
     let state = here.state;
-    if row.is_plain && floor + u64::from(row.needs) <= u64::from(state.operands) {
+    // The operands come first: the walk compares them again where the row isn't plain, and so keeps one register less.
+    if floor + u64::from(row.needs) <= u64::from(state.operands) && row.is_plain {
         let left = state.operands - u32::from(row.takes) + u32::from(row.gives);
         let after = State {
             operands: left,
