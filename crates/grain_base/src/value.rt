@@ -192,7 +192,7 @@ fn are_equal(left: &Dynamic, right: &Dynamic) -> bool
     }
 }
 
-// Whether two values with no shared mark around them are equal.
+/// Whether two values with no shared mark around them are equal.
 #[cycle(equal)]
 fn are_bare_equal(left: &Dynamic, right: &Dynamic) -> bool
     requires bare_left { is_shared left.now ≡ false }
@@ -284,7 +284,7 @@ impl Hash for FnPtr {
     }
 }
 
-// Feeds a number for the kind, and then the content. The numbers serve the hash alone.
+/// Feeds a number for the kind, and then the content. The numbers serve the hash alone.
 #[cycle(feed)]
 fn feed<H: Hasher>(value: &Dynamic, state: &mut H)
     ensures { state.new ≡ fold H.write state.old (hash_writes (content value.now)) }

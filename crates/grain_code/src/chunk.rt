@@ -94,7 +94,7 @@ impl Chunk {
         disassemble_from(self.front(code), self.entry() as usize)
     }
 
-    // The code up to the chunk's end, which is empty where the code ends before.
+    /// The code up to the chunk's end, which is empty where the code ends before.
     fn front<'a>(&self, code: &'a [u8]) -> &'a [u8]
         ensures { result.now ≡ front self.now code.now }
     {

@@ -244,7 +244,7 @@ impl Starts {
         ensures whole { (starts : List ℕ) → Split code.now starts
             → IfOk result (λ s. s ≡ record { end = length code.now; starts = starts }) }
     {
-        Starts::none(alloc).again(code)
+        Starts::none(alloc).refill(code)
     }
 
     /// What [`Starts::of`] answers, in the memory of these, of which more is taken where it doesn't suffice.
@@ -252,7 +252,7 @@ impl Starts {
     /// # Errors
     ///
     /// [`AllocError`] where the memory was refused. Then that of these is given back.
-    pub fn again(self, code: &[u8]) -> Result<Starts, AllocError>
+    pub fn refill(self, code: &[u8]) -> Result<Starts, AllocError>
         ensures front { IfOk result (IsLongestFront code.now) }
         ensures whole { (starts : List ℕ) → Split code.now starts
             → IfOk result (λ s. s ≡ record { end = length code.now; starts = starts }) }

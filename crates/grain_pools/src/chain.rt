@@ -123,7 +123,7 @@ impl Step {
         }
     }
 
-    // Replaces the position of the slot, counted from the step's first.
+    /// Replaces the position of the slot, counted from the step's first.
     fn set_position(&mut self, slot: u32, position: Position)
         requires { slot < length (step_positions self.old) }
         ensures positions { step_positions self.new
@@ -189,7 +189,7 @@ impl Root {
         }
     }
 
-    // Replaces the position, which the root has to have.
+    /// Replaces the position, which the root has to have.
     fn set_position(&mut self, position: Position)
         requires { length (root_positions self.old) ≡ 1 }
         ensures positions { root_positions self.new ≡ position ∷ [] }
@@ -357,7 +357,7 @@ impl Iterator for ChainPositions<'_> {
     }
 }
 
-// How many positions the steps carry.
+/// How many positions the steps carry.
 fn slots_of(steps: &[Step]) -> u32
     requires { sum_by (λ s. length (step_positions s)) steps.now < 2 ^ 32 }
     ensures { result ≡ sum_by (λ s. length (step_positions s)) steps.now }
@@ -365,7 +365,7 @@ fn slots_of(steps: &[Step]) -> u32
     steps.iter().map(Step::position_slots).sum()
 }
 
-// Replaces the position of one slot of the steps.
+/// Replaces the position of one slot of the steps.
 fn set_step_position(steps: &mut [Step], slot: u32, position: Position)
     requires { slot < length (steps_positions steps.old) }
     ensures positions { steps_positions steps.new

@@ -29,7 +29,7 @@ pub fn split_qualified(name: &str) -> Option<(&str, &str)>
     }
 }
 
-// What stands before the last separator, and what stands after it.
+/// What stands before the last separator, and what stands after it.
 fn last_cut(name: &str) -> Option<(&str, &str)>
     ensures { option_map (λ parts. (parts.0.now, parts.1.now)) result ≡ last_cut name.now }
 {

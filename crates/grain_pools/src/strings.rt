@@ -270,7 +270,7 @@ impl<'a> Iterator for Names<'a> {
     }
 }
 
-// How many bytes the names have, where a start of 32 bits can count them.
+/// How many bytes the names have, where a start of 32 bits can count them.
 fn total_len(names: &[&str]) -> Option<u32>
     ensures some { IfSome result (λ len. len ≡ length (concat (texts names.now))) }
     ensures none { IfNone result (2 ^ 32 ≤ length (concat (texts names.now))) }
@@ -307,7 +307,7 @@ pub fn text_in(blob: &[u8], from: usize, to: usize) -> &str
     unsafe { str::from_utf8_unchecked(&blob[from..to]) }
 }
 
-// What is wrong with the starts, if they don't cut the whole blob into texts.
+/// What is wrong with the starts, if they don't cut the whole blob into texts.
 fn check(blob: &[u8], starts: &[u32]) -> Result<(), BadTable>
     ensures { MatchResult result (λ _. first_flaw blob.now starts.now ≡ None)
         (λ e. first_flaw blob.now starts.now ≡ Some e) }
@@ -330,7 +330,7 @@ fn check(blob: &[u8], starts: &[u32]) -> Result<(), BadTable>
     }
 }
 
-// What is wrong with the span, if it isn't a text in the blob.
+/// What is wrong with the span, if it isn't a text in the blob.
 fn span_flaw(blob: &[u8], from: usize, to: usize) -> Option<BadTable>
     ensures { result ≡ span_flaw blob.now from to }
 {

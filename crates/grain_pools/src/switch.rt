@@ -69,7 +69,7 @@ impl Switch {
         }
     }
 
-    // The target of the case that is equal to the subject.
+    /// The target of the case that is equal to the subject.
     fn case_target(&self, subject: &Dynamic) -> Option<u32>
         ensures { result ≡ by_cases (arms self.now).cases (content subject.now) }
     {
@@ -77,7 +77,7 @@ impl Switch {
         Some(*target)
     }
 
-    // The target of the first range that contains the subject.
+    /// The target of the first range that contains the subject.
     fn range_target(&self, subject: &Dynamic) -> Option<u32>
         ensures { result ≡ by_ranges self.now.ranges.items (content subject.now) }
     {

@@ -31,7 +31,7 @@ impl Asked {
     }
 
     /// Nothing is known any more. What memory there is stays for what other pools ask.
-    #[tactic(auto, using(crate::proofs::Knowing::nothing_known))]
+    #[tactic(auto, using(crate::proofs::KnownCapabilities::nothing_known))]
     pub(crate) fn forget(&mut self)
         ensures { (facts : Facts) → Knows facts self.new }
     {
@@ -124,7 +124,7 @@ fn known_at(known: &[Option<Caps>], index: u32) -> Option<Caps>
 }
 
 /// Makes room for what so many ask, where nothing is known.
-#[tactic(auto, using(crate::proofs::Knowing::none_known))]
+#[tactic(auto, using(crate::proofs::KnownCapabilities::none_known))]
 fn make_room(known: &mut Vec<Option<Caps>>, count: usize) -> Result<(), AllocError>
     ensures { (asks : List ℕ) → AreKnown asks known.old.items
         → OnOk result (AreKnown asks known.new.items) }
@@ -136,7 +136,7 @@ fn make_room(known: &mut Vec<Option<Caps>>, count: usize) -> Result<(), AllocErr
 }
 
 /// Notes what is asked at an index among so many.
-#[tactic(auto, using(crate::proofs::Knowing::known_more))]
+#[tactic(auto, using(crate::proofs::KnownCapabilities::known_more))]
 fn note(
     known: &mut Vec<Option<Caps>>,
     count: usize,

@@ -57,7 +57,7 @@ impl States {
     ///
     /// # Errors
     /// [`AllocError`] where the memory was refused: 16 bytes for each of them.
-    pub(crate) fn fit(&mut self, count: usize) -> Result<(), AllocError>
+    pub(crate) fn make_room(&mut self, count: usize) -> Result<(), AllocError>
         ensures { OnOk result (length self.new ≡ count) }
     {
         self.entries.resize(count, Entry::NONE)

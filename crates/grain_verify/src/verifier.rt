@@ -61,27 +61,6 @@ fn start_within<P: Read>(
     }
 }
 
-/// Does the same of code that isn't short.
-#[inline(always)]
-fn check_and_start<P: Read>(
-    alloc: Global,
-    starts: &mut Starts,
-    code: &[u8],
-    pools: &P,
-) -> Option<Result<(), VerifyError>>
-    ensures ok { IfSome result (λ tested. OnOk tested
-        ((caps : ℕ) → AreIndexed (with_caps caps (P.facts pools.now)) code.now)) }
-    ensures known { IfSome result (λ tested. OnOk tested
-        (Split code.now starts.new.starts)) }
-    ensures err { IfSome result (λ tested. IfErr tested
-        (λ e. (caps : ℕ) → CodeFlaw (with_caps caps (P.facts pools.now)) code.now e)) }
-{
-    if code.len() < SHORT_CODE {
-        return None;
-    }
-    start_within(alloc, starts, code, pools)
-}
-
 /// Tests the code and its indices, and says whether the starts are those of the code now.
 fn check_code_within<P: Read>(
     alloc: Global,
@@ -95,13 +74,16 @@ fn check_code_within<P: Read>(
     ensures err { IfErr result
         (λ e. (caps : ℕ) → CodeFlaw (with_caps caps (P.facts pools.now)) code.now e) }
 {
-    match check_and_start(alloc, starts, code, pools) {
-        Some(Ok(())) => Ok(true),
-        Some(Err(error)) => Err(error),
-        None => match check_code(pools, code) {
-            Ok(()) => Ok(false),
-            Err(error) => Err(error),
-        },
+    if code.len() >= SHORT_CODE {
+        match start_within(alloc, starts, code, pools) {
+            Some(Ok(())) => return Ok(true),
+            Some(Err(error)) => return Err(error),
+            None => {}
+        }
+    }
+    match check_code(pools, code) {
+        Ok(()) => Ok(false),
+        Err(error) => Err(error),
     }
 }
 
@@ -151,7 +133,7 @@ fn walk_each<P: Read>(
     ensures metered { AreMeteredChunks prepared.now.code prepared.now.starts
         chunks.now meter.old meter.new result }
 {
-    prepared.fit(traversal)?;
+    prepared.make_room(traversal)?;
     asked.forget();
     deepest.clear();
     deepest.try_reserve_exact(chunks.len())?;
@@ -213,7 +195,7 @@ fn starts_of(room: Starts, is_known: bool, code: &[u8]) -> Result<Starts, AllocE
     ensures { (starts : List ℕ) → Split code.now starts
         → IfOk result (λ s. s.starts ≡ starts) }
 {
-    if is_known { Ok(room) } else { room.again(code) }
+    if is_known { Ok(room) } else { room.refill(code) }
 }
 
 /// The deepest operand stack of each chunk of code that is whole instructions, or why the first is refused that is.

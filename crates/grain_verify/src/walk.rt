@@ -88,12 +88,12 @@ impl Traversal {
     ///
     /// # Errors
     /// [`AllocError`] where the memory was refused.
-    fn fit(&mut self, instructions: usize, switches: usize) -> Result<(), AllocError>
+    fn make_room(&mut self, instructions: usize, switches: usize) -> Result<(), AllocError>
         ensures states { OnOk result (length self.new.states ≡ instructions) }
         ensures sent { OnOk result (length self.new.sent ≡ switches) }
     {
-        self.states.fit(instructions)?;
-        self.sent.fit(switches)
+        self.states.make_room(instructions)?;
+        self.sent.make_room(switches)
     }
 
     /// Begins the next chunk, in which nothing was visited. A state that stayed from another chunk would pass for a visit in
@@ -267,10 +267,10 @@ impl<'a, P: Read> Prepared<'a, P> {
     ///
     /// # Errors
     /// [`AllocError`] where the memory was refused.
-    pub(crate) fn fit(&self, traversal: &mut Traversal) -> Result<(), AllocError>
+    pub(crate) fn make_room(&self, traversal: &mut Traversal) -> Result<(), AllocError>
         ensures { OnOk result (Fits self.now traversal.new) }
     {
-        traversal.fit(self.starts.count(), self.pools.switches())
+        traversal.make_room(self.starts.count(), self.pools.switches())
     }
 
     /// Where the instructions begin, once all walks are over.

@@ -36,7 +36,7 @@ impl Function {
     }
 }
 
-// Writes the type of the receiver of a function that is declared for one.
+/// Writes the type of the receiver of a function that is declared for one.
 fn write_receiver<L: Lookups>(
     out: &mut String,
     lookups: &L,
@@ -52,7 +52,7 @@ fn write_receiver<L: Lookups>(
     Ok(())
 }
 
-// Writes names with commas between them.
+/// Writes names with commas between them.
 fn write_names<L: Lookups>(
     out: &mut String,
     lookups: &L,

@@ -86,7 +86,7 @@ fn write_op<L: Lookups>(out: &mut String, lookups: &L, op: &Op) -> Result<(), Di
     }
 }
 
-// Writes the operation and the constant at the index.
+/// Writes the operation and the constant at the index.
 fn write_constant<L: Lookups>(
     out: &mut String,
     lookups: &L,
@@ -100,7 +100,7 @@ fn write_constant<L: Lookups>(
     Ok(())
 }
 
-// Writes the operation and the name at the index.
+/// Writes the operation and the name at the index.
 fn write_named<L: Lookups>(
     out: &mut String,
     lookups: &L,
@@ -114,7 +114,7 @@ fn write_named<L: Lookups>(
     Ok(())
 }
 
-// Writes the operation, how it declares a variable, and the variable's name at the index.
+/// Writes the operation, how it declares a variable, and the variable's name at the index.
 fn write_declared<L: Lookups>(
     out: &mut String,
     lookups: &L,
@@ -132,7 +132,7 @@ fn write_declared<L: Lookups>(
     Ok(())
 }
 
-// Writes the operation and the name at the index under which it exports.
+/// Writes the operation and the name at the index under which it exports.
 fn write_exported<L: Lookups>(
     out: &mut String,
     lookups: &L,
@@ -146,7 +146,7 @@ fn write_exported<L: Lookups>(
     Ok(())
 }
 
-// Writes the operation, the name of what it exports, and the name under which it does.
+/// Writes the operation, the name of what it exports, and the name under which it does.
 fn write_exported_name<L: Lookups>(
     out: &mut String,
     lookups: &L,
@@ -162,7 +162,7 @@ fn write_exported_name<L: Lookups>(
     Ok(())
 }
 
-// Writes the op-assignment that an assignment goes through, if it does.
+/// Writes the op-assignment that an assignment goes through, if it does.
 fn write_assigned<L: Lookups>(
     out: &mut String,
     lookups: &L,
@@ -179,7 +179,7 @@ fn write_assigned<L: Lookups>(
     }
 }
 
-// Writes the operator that a call stands for, if it does.
+/// Writes the operator that a call stands for, if it does.
 fn write_operator<L: Lookups>(
     out: &mut String,
     lookups: &L,
@@ -197,7 +197,7 @@ fn write_operator<L: Lookups>(
     }
 }
 
-// Writes an assignment to the bound `this` through the op-assignment at the index, whose text is quoted.
+/// Writes an assignment to the bound `this` through the op-assignment at the index, whose text is quoted.
 fn write_assigned_this<L: Lookups>(
     out: &mut String,
     lookups: &L,

@@ -1,4 +1,4 @@
-use Rattle.grain_verify.proofs.Telling.{told_by, sound_at}
+use Rattle.grain_verify.proofs.TagTable.{told_by, sound_at}
 use Rattle.grain_verify.proofs.by_tag.row_of.Goals as goal
 
 pub returns : goal.returns

@@ -3,7 +3,7 @@ use Rattle.std.specs.List.{Contains}
 use Rattle.grain_code.specs.Split.{Split}
 use Rattle.grain_rules.specs.Layout.{IsBoundary}
 use Rattle.grain_verify.proofs.Places.{contains_place, placed_contains}
-use Rattle.grain_verify.proofs.Refusing.{start_listed}
+use Rattle.grain_verify.proofs.RefusalsAreFlaws.{start_listed}
 use Rattle.grain_verify.proofs.chunk.check_frame.Goals as goal
 use Rattle.grain_verify.proofs.chunk.check_frame.Goals.{else-end-len-2-via-then-end-len-2+else-not-is_start, else-end-len-2-via-else-end-len-2}
 

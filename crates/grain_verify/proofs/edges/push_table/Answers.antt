@@ -3,7 +3,7 @@ use Rattle.std.specs.List.{All}
 use Rattle.std.proofs.lemmas.Result.{err_from_is_err_and}
 use Rattle.grain_verify.specs.Arrivals.{IsStartIn, RefusesSwitch, RefusesTargetOf, all_underway, underway}
 use Rattle.grain_rules.specs.Flow.{Switches}
-use Rattle.grain_verify.proofs.Refusing.{err_so}
+use Rattle.grain_verify.proofs.RefusalsAreFlaws.{err_so}
 use Rattle.grain_verify.proofs.edges.push_table.Goals as goal
 
 pub returns-in_err-push_targets-in-None-clause-err : goal.returns-in_err-push_targets-in-None-clause-err

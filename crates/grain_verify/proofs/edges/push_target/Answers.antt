@@ -1,4 +1,4 @@
-use Rattle.grain_verify.proofs.Pushing.{pushed_one}
+use Rattle.grain_verify.proofs.PushedTargets.{pushed_one}
 use Rattle.grain_verify.proofs.edges.push_target.Goals as goal
 
 pub returns-clause-pushed : goal.returns-clause-pushed

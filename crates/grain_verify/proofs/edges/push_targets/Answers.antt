@@ -1,6 +1,6 @@
 use Rattle.std.proofs.Common.{refl, subst}
 use Rattle.std.proofs.lemmas.Result.{err_from_is_err_and}
-use Rattle.grain_verify.proofs.Pushing.{PushesUpTo, all_pushed, next_refused, none_pushed, one_pushed}
+use Rattle.grain_verify.proofs.PushedTargets.{PushesUpTo, all_pushed, next_refused, none_pushed, one_pushed}
 use Rattle.grain_verify.proofs.edges.push_targets.Goals as goal
 
 pub loop-target-init : goal.loop-target-init

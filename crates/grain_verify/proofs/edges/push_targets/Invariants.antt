@@ -1,5 +1,5 @@
 use Rattle.std.proofs.Common.{length}
-use Rattle.grain_verify.proofs.Pushing.{PushesUpTo}
+use Rattle.grain_verify.proofs.PushedTargets.{PushesUpTo}
 use Rattle.grain_verify.proofs.edges.push_targets.Given as goal
 
 abbrev pub invariant-loop-target : goal.invariant-loop-target

@@ -5,8 +5,8 @@ use Rattle.grain_rules.specs.EffectView.{flow}
 use Rattle.grain_rules.specs.Sinking.{ReachesUpTo, untouched}
 use Rattle.grain_verify.specs.declared.state.State.{State}
 use Rattle.grain_rules.proofs.Indexing.{tag_of}
-use Rattle.grain_verify.proofs.Refusing.{ok_so}
-use Rattle.grain_verify.proofs.Staying.{untouched_known}
+use Rattle.grain_verify.proofs.RefusalsAreFlaws.{ok_so}
+use Rattle.grain_verify.proofs.AboveLastBase.{untouched_known}
 use Rattle.grain_verify.proofs.sinking.check_stays.Goals as goal
 
 pub returns-clause-stays : goal.returns-clause-stays

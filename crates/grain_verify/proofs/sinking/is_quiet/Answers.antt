@@ -1,4 +1,4 @@
-use Rattle.grain_verify.proofs.Quietness.{quiet_by}
+use Rattle.grain_verify.proofs.QuietTags.{quiet_by}
 use Rattle.grain_verify.proofs.sinking.is_quiet.Goals as goal
 
 pub returns : goal.returns

@@ -8,4 +8,4 @@ pub returns-then-is_known : goal.returns-then-is_known
 returns-then-is_known c starts split = one_split c.args.code.now c.args.room.starts starts (c.requires c.if-is_known.true) split
 
 pub returns-else-is_known : goal.returns-else-is_known
-returns-else-is_known c starts split = IfOk-weaker c.again.result _ _ (λ s is. ap (λ (f : Front). f.starts) is) (c.again.ensures.whole starts split)
+returns-else-is_known c starts split = IfOk-weaker c.refill.result _ _ (λ s is. ap (λ (f : Front). f.starts) is) (c.refill.ensures.whole starts split)

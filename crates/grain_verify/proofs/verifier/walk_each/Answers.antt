@@ -1,9 +1,9 @@
 use Rattle.std.proofs.Common.{[], ◌∙◌, refl, arith}
 use Rattle.grain_rules.specs.Code.{coded}
 use Rattle.grain_rules.specs.Typing.{HasTyping, IsDeepest}
-use Rattle.grain_verify.proofs.Metering.{counted_more, counted_refused}
-use Rattle.grain_verify.proofs.Ticks.{counted_nothing}
-use Rattle.grain_verify.proofs.Chunks.{passes_more, passes_there, refused_at, number_more}
+use Rattle.grain_verify.proofs.MeteredChunks.{counted_more, counted_refused}
+use Rattle.grain_verify.proofs.MeterArithmetic.{counted_nothing}
+use Rattle.grain_verify.proofs.ChunkInduction.{passes_more, passes_there, refused_at, number_more}
 use Rattle.grain_verify.proofs.verifier.walk_each.Goals as goal
 
 pub returns-in-Err-clause-accepts : goal.returns-in-Err-clause-accepts
@@ -49,7 +49,7 @@ loop-place-init g c =
     let room = c.in_ok-try_reserve_exact.ensures in
     let none = room.items ∙ c.clear.ensures.items in
     record {
-      fits = c.in_ok-fit.ensures;
+      fits = c.in_ok-make_room.ensures;
       knows = c.forget.ensures c.args.prepared.now.code.setting.facts;
       counted = record { visits = 0; within = omega arith; counted = counted_nothing c.args.meter.now; reached = ([], tt, refl) };
       one_each = room.len ∙ c.clear.ensures.len;

@@ -4,8 +4,8 @@ use Rattle.grain_verify.specs.Arrivals.{RefusesSwitch, RefusesTargetOf, Sends, u
 use Rattle.grain_rules.specs.Flow as flows
 use Rattle.grain_rules.specs.FlowFields.{targets_for}
 use Rattle.grain_verify.specs.declared.state.State.{State}
-use Rattle.grain_verify.proofs.Following.{ended_refused, followed, followed_on, followed_to, goes_on, refused_there, some_list}
-use Rattle.grain_verify.proofs.Pushing.{pushed_one}
+use Rattle.grain_verify.proofs.FollowedFlow.{ended_refused, followed, followed_on, followed_to, goes_on, refused_there, some_list}
+use Rattle.grain_verify.proofs.PushedTargets.{pushed_one}
 use Rattle.grain_verify.proofs.walk.follow.Goals as goal
 
 pub returns-in-Falls-clause-followed : goal.returns-in-Falls-clause-followed

@@ -1,6 +1,6 @@
 use Rattle.std.proofs.Common.{◌<◌, ap, sym, arith}
 use Rattle.grain_rules.specs.Counts.{last_base}
-use Rattle.grain_verify.proofs.Sharing.{named_read}
+use Rattle.grain_verify.proofs.SharedLists.{named_read}
 use Rattle.grain_verify.proofs.lists.Lists.last_base.Goals as goal
 
 pub returns : goal.returns

@@ -8,8 +8,8 @@ use Rattle.std.specs.declared.alloc.Global.{Global}
 use Rattle.grain_verify.specs.Lists.{AreFirsts, base_cmp, first_on, firsts_of, no_node, node_cmp}
 use Rattle.grain_verify.specs.declared.lists.Base.{Base}
 use Rattle.grain_verify.specs.declared.lists.Node.{Node}
-use Rattle.grain_verify.proofs.Sharing.{found_list, pushed_list}
-use Rattle.grain_verify.proofs.FirstLists.{first_found, first_inside, grows_first, grows_other, other_found, some_first}
+use Rattle.grain_verify.proofs.SharedLists.{found_list, pushed_list}
+use Rattle.grain_verify.proofs.NodeLookup.{first_found, first_inside, grows_first, grows_other, other_found, some_first}
 use Rattle.grain_verify.proofs.lists.Lists.with_base.Goals as goal
 
 -- the derived `==` on bases, and where it fails

@@ -1,6 +1,6 @@
 use Rattle.std.proofs.Common.{◌<◌, ap, sym, arith}
 use Rattle.grain_rules.specs.Counts.{without_last}
-use Rattle.grain_verify.proofs.Sharing.{named_read}
+use Rattle.grain_verify.proofs.SharedLists.{named_read}
 use Rattle.grain_verify.proofs.lists.Lists.without_last.Goals as goal
 
 pub returns-clause-list : goal.returns-clause-list

@@ -1,8 +1,8 @@
 use Rattle.std.proofs.Common.{inr, refl}
 use Rattle.grain_code.specs.Split.{Split, starts_from}
 use Rattle.grain_rules.proofs.Verdicts.{memory_before, refused_before}
-use Rattle.grain_verify.proofs.Metering.{metered_before, metered_placed}
-use Rattle.grain_verify.proofs.Placing.{memory_placed, placed_before, placed_chunks, placed_verdict}
+use Rattle.grain_verify.proofs.MeteredChunks.{metered_before, metered_placed}
+use Rattle.grain_verify.proofs.RefusedPlace.{memory_placed, placed_before, placed_chunks, placed_verdict}
 use Rattle.grain_verify.proofs.scratch.Scratch.verify.Goals as goal
 
 pub returns-in-Err-clause-verdict : goal.returns-in-Err-clause-verdict

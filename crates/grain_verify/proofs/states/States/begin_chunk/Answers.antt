@@ -6,7 +6,7 @@ use Rattle.std.proofs.lemmas.List.{length-map, length-replicate}
 use Rattle.grain_verify.specs.States.{no_state, state_in}
 use Rattle.grain_verify.specs.declared.state.State.{State}
 use Rattle.grain_verify.specs.declared.states.Entry.{Entry}
-use Rattle.grain_verify.proofs.Numbering.{nothing_later}
+use Rattle.grain_verify.proofs.ChunkNumbers.{nothing_later}
 use Rattle.grain_verify.proofs.states.States.begin_chunk.Goals as goal
 use Rattle.grain_verify.proofs.states.States.begin_chunk.Goals.{then-self-eq0, else-self-eq0}
 

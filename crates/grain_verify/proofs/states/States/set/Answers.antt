@@ -1,6 +1,6 @@
 use Rattle.std.proofs.Common.{List, Option, Some, set, ap, ◌∙◌}
 use Rattle.grain_verify.specs.declared.state.State.{State}
-use Rattle.grain_verify.proofs.Numbering.{set_here}
+use Rattle.grain_verify.proofs.ChunkNumbers.{set_here}
 use Rattle.grain_verify.proofs.states.States.set.Goals as goal
 
 pub returns : goal.returns

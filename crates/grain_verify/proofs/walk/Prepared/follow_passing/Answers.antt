@@ -14,13 +14,13 @@ use Rattle.grain_rules.specs.EffectView.{flow}
 use Rattle.grain_rules.specs.Typing.{StandsIn}
 use Rattle.grain_rules.specs.declared.error.VerifyError.TheVariants.{OutOfMemory}
 use Rattle.grain_verify.specs.Walk.{Walked}
-use Rattle.grain_verify.proofs.Flows.{passes_known, short_state}
-use Rattle.grain_verify.proofs.Most.{followed_few}
+use Rattle.grain_verify.proofs.OperationsByFlow.{passes_known, short_state}
+use Rattle.grain_verify.proofs.OutDegree.{followed_few}
 use Rattle.grain_verify.proofs.Ordinals.{ordinal_low}
-use Rattle.grain_verify.proofs.Refusing.{all_ok, err_so, refused_state, refused_target}
+use Rattle.grain_verify.proofs.RefusalsAreFlaws.{all_ok, err_so, refused_state, refused_target}
 use Rattle.grain_rules.proofs.Splits.{boundary_apart}
-use Rattle.grain_verify.proofs.Taking.{taken_inside, taken_named, taken_place, taken_reached, taken_room, taken_small}
-use Rattle.grain_verify.proofs.Turns.{refused_switch, visited}
+use Rattle.grain_verify.proofs.TakenArrival.{taken_inside, taken_named, taken_place, taken_reached, taken_room, taken_small}
+use Rattle.grain_verify.proofs.VisitStep.{refused_switch, visited}
 use Rattle.grain_verify.proofs.walk.Prepared.follow_passing.Goals as goal
 
 pub follow-requires-clause-long : goal.follow-requires-clause-long

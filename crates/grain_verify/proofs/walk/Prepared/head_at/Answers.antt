@@ -1,7 +1,7 @@
 use Rattle.std.proofs.Common.{IfSome, subst, sym, arith}
 use Rattle.grain_rules.specs.Layout.{IsStart}
 use Rattle.grain_verify.specs.Walk.{HasHead, Walked}
-use Rattle.grain_verify.proofs.Heads.{head_there}
+use Rattle.grain_verify.proofs.InstructionHeads.{head_there}
 use Rattle.grain_verify.proofs.walk.Prepared.head_at.Goals as goal
 
 pub returns-clause-headed : goal.returns-clause-headed

@@ -1,6 +1,6 @@
 use Rattle.std.proofs.Common.{ap, ◌∙◌, arith}
 use Rattle.grain_verify.specs.Progress.{visits_in}
-use Rattle.grain_verify.proofs.Taking.{taken_known, taken_more_within, taken_room}
+use Rattle.grain_verify.proofs.TakenArrival.{taken_known, taken_more_within, taken_room}
 use Rattle.grain_verify.proofs.VisitCounts.{visited_more}
 use Rattle.grain_verify.proofs.walk.Prepared.mark.Goals as goal
 

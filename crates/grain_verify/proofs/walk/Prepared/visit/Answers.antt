@@ -8,9 +8,9 @@ use Rattle.grain_rules.specs.Typing.{StandsIn}
 use Rattle.grain_rules.specs.EffectView.{flow}
 use Rattle.grain_rules.specs.declared.error.VerifyError.TheVariants.{OutOfMemory}
 use Rattle.grain_verify.specs.Walk.{Walked}
-use Rattle.grain_verify.proofs.Flows.{meets_known, short_state}
-use Rattle.grain_verify.proofs.Refusing.{refused_sinking, refused_state}
-use Rattle.grain_verify.proofs.Taking.{taken_inside, taken_named, taken_reached}
+use Rattle.grain_verify.proofs.OperationsByFlow.{meets_known, short_state}
+use Rattle.grain_verify.proofs.RefusalsAreFlaws.{refused_sinking, refused_state}
+use Rattle.grain_verify.proofs.TakenArrival.{taken_inside, taken_named, taken_reached}
 use Rattle.grain_verify.proofs.walk.Prepared.visit.Goals as goal
 
 pub returns-in_err-check_needs-clause-err : goal.returns-in_err-check_needs-clause-err

@@ -10,8 +10,8 @@ use Rattle.grain_rules.specs.Sinking.{ReachesUpTo}
 use Rattle.grain_verify.specs.Visits.{CarriesFloor, IsVisited}
 use Rattle.grain_code.specs.declared.flow.Flow.{Flow}
 use Rattle.grain_verify.specs.declared.state.Arrival.{Arrival}
-use Rattle.grain_verify.proofs.Flows.{goes_freely, nothing_missing}
-use Rattle.grain_verify.proofs.Staying.{untouched_known}
+use Rattle.grain_verify.proofs.OperationsByFlow.{goes_freely, nothing_missing}
+use Rattle.grain_verify.proofs.AboveLastBase.{untouched_known}
 use Rattle.grain_verify.proofs.walk.Prepared.visit_by_tag.Goals as goal
 
 pub follow_passing-requires-clause-passing : goal.follow_passing-requires-clause-passing

@@ -2,7 +2,7 @@ use Rattle.std.proofs.Common.{rules, length, sym, ◌∙◌, ap, subst}
 use Rattle.grain_rules.specs.Code.{coded}
 use Rattle.grain_verify.specs.Progress.{visits_in}
 use Rattle.grain_rules.specs.Typing.{IsReachedCount}
-use Rattle.grain_verify.proofs.Visiting.{walk_ended, walking_begun}
+use Rattle.grain_verify.proofs.PlainWalk.{walk_ended, walking_begun}
 use Rattle.grain_verify.proofs.VisitCounts.{visits_nothing}
 use Rattle.grain_verify.proofs.walk.Prepared.walk.Goals as goal
 

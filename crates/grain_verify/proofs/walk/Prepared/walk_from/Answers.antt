@@ -6,12 +6,12 @@ use Rattle.grain_verify.specs.Progress.{IsWalking, visits_in}
 use Rattle.grain_verify.specs.Visits.{IsVisited}
 use Rattle.grain_verify.specs.declared.state.Arrival.{Arrival}
 use Rattle.grain_verify.specs.declared.state.State.{State}
-use Rattle.grain_verify.proofs.Most.{fewer_left, lighter_still, lighter_visited, next_visited}
+use Rattle.grain_verify.proofs.OutDegree.{fewer_left, lighter_still, lighter_visited, next_visited}
 use Rattle.grain_verify.proofs.Ordinals.{ordinal_low}
-use Rattle.grain_verify.proofs.Refusing.{err_so, ok_so}
+use Rattle.grain_verify.proofs.RefusalsAreFlaws.{err_so, ok_so}
 use Rattle.grain_rules.proofs.Splits.{boundary_apart}
-use Rattle.grain_verify.proofs.Taking.{taken_conflicts, taken_falls, taken_inside, taken_known, taken_named, taken_place, taken_skipped, taken_small, taken_within}
-use Rattle.grain_verify.proofs.Visiting.{plain_visited}
+use Rattle.grain_verify.proofs.TakenArrival.{taken_conflicts, taken_falls, taken_inside, taken_known, taken_named, taken_place, taken_skipped, taken_small, taken_within}
+use Rattle.grain_verify.proofs.PlainWalk.{plain_visited}
 use Rattle.grain_verify.proofs.walk.Prepared.walk_from.Goals as goal
 
 pub others-init : goal.others-init

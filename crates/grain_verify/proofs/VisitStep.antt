@@ -33,15 +33,15 @@ use Rattle.grain_verify.specs.declared.state.Arrival.{Arrival}
 use Rattle.grain_verify.specs.declared.state.State.{State}
 use Rattle.grain_verify.specs.declared.walk.Traversal.{Traversal}
 use Rattle.grain_rules.proofs.Splits.{in_nil}
-use Rattle.grain_verify.proofs.Flows.{left_is, passes_known}
-use Rattle.grain_verify.proofs.NamedLists.{all_named_more, arrivals_named_more, fallen_named, jumped_named, named_more, named_set, named_there, view_kept, walking_kept}
+use Rattle.grain_verify.proofs.OperationsByFlow.{left_is, passes_known}
+use Rattle.grain_verify.proofs.ListNumbers.{all_named_more, arrivals_named_more, fallen_named, jumped_named, named_more, named_set, named_there, view_kept, walking_kept}
 use Rattle.grain_verify.proofs.Ordinals.{next_ordinal}
-use Rattle.grain_verify.proofs.Leading.{jumps_to}
-use Rattle.grain_verify.proofs.Refusing.{start_in}
-use Rattle.grain_verify.proofs.Sending.{come_all, come_none, noted_cases, sends_named, switches_named, unlike_views, view_fallen, view_jumped, was_sent}
+use Rattle.grain_verify.proofs.EdgeTargets.{jumps_to}
+use Rattle.grain_verify.proofs.RefusalsAreFlaws.{start_in}
+use Rattle.grain_verify.proofs.SentCounts.{come_all, come_none, noted_cases, sends_named, switches_named, unlike_views, view_fallen, view_jumped, was_sent}
 use Rattle.grain_verify.proofs.VisitCounts.{visited_more}
-use Rattle.grain_verify.proofs.Taking.{left_named, left_placed, taken_inside, taken_known, taken_named, taken_place, taken_reached, taken_walking}
-use Rattle.grain_verify.proofs.Walking.{JumpsTo, pending_reached, sent_before, walking_visit}
+use Rattle.grain_verify.proofs.TakenArrival.{left_named, left_placed, taken_inside, taken_known, taken_named, taken_place, taken_reached, taken_walking}
+use Rattle.grain_verify.proofs.WalkIsSearch.{JumpsTo, pending_reached, sent_before, walking_visit}
 
 -- the edges of an instruction at which the walk halts are followed, where lists may since have come to those that there were
 module _ (p : Walked) (chunk : Span) (t new : Traversal) (here : Arrival) (deepest : ℕ) (op : Op) (pushed falls_on : List Arrival) (ready : IsReady p)

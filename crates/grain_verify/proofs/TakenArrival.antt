@@ -18,11 +18,11 @@ use Rattle.grain_verify.specs.declared.lists.Lists.{Lists}
 use Rattle.grain_verify.specs.declared.state.Arrival.{Arrival}
 use Rattle.grain_verify.specs.declared.state.State.{State}
 use Rattle.grain_verify.specs.declared.walk.Traversal.{Traversal}
-use Rattle.grain_verify.proofs.Leading.{Lands, walks_lands, walks_reached, walks_small}
-use Rattle.grain_verify.proofs.NamedLists.{named_there}
-use Rattle.grain_verify.proofs.Sending.{unlike_views}
+use Rattle.grain_verify.proofs.EdgeTargets.{Lands, walks_lands, walks_reached, walks_small}
+use Rattle.grain_verify.proofs.ListNumbers.{named_there}
+use Rattle.grain_verify.proofs.SentCounts.{unlike_views}
 use Rattle.grain_verify.proofs.VisitCounts.{visits_more_within, visits_room, visits_within}
-use Rattle.grain_verify.proofs.Walking.{pending_reached, walking_skip}
+use Rattle.grain_verify.proofs.WalkIsSearch.{pending_reached, walking_skip}
 
 module _ {p : Walked} {chunk : Span} {lists : Lists} {t : Traversal} {deepest : ℕ} (rest : List Arrival) (a : Arrival) (w : IsWalking p chunk lists t (rest ++ a ∷ []) deepest) where
   pub taken_walking : Walking p.code chunk p.starts lists t.states (sent_by lists t.sent) (map (coming lists) rest ++ coming lists a ∷ []) deepest

@@ -22,12 +22,12 @@ use Rattle.grain_verify.specs.declared.state.Arrival.{Arrival}
 use Rattle.grain_verify.specs.declared.state.State.{State}
 use Rattle.grain_verify.specs.declared.walk.Traversal.{Traversal}
 use Rattle.grain_verify.specs.States.{no_state as none}
-use Rattle.grain_verify.proofs.Flows.{nothing_missing}
-use Rattle.grain_verify.proofs.NamedLists.{grows_not, none_named}
-use Rattle.grain_verify.proofs.Staying.{plain_stays}
-use Rattle.grain_verify.proofs.Taking.{taken_named}
-use Rattle.grain_verify.proofs.Turns.{visited}
-use Rattle.grain_verify.proofs.Walking.{nothing_at, walking_end, walking_start}
+use Rattle.grain_verify.proofs.OperationsByFlow.{nothing_missing}
+use Rattle.grain_verify.proofs.ListNumbers.{grows_not, none_named}
+use Rattle.grain_verify.proofs.AboveLastBase.{plain_stays}
+use Rattle.grain_verify.proofs.TakenArrival.{taken_named}
+use Rattle.grain_verify.proofs.VisitStep.{visited}
+use Rattle.grain_verify.proofs.WalkIsSearch.{nothing_at, walking_end, walking_start}
 
 -- a plain instruction that is marked leads to the next arrival
 pub plain_visited : (p : Walked) (chunk : Span) (lists : Lists) (t : Traversal) (here next : Arrival) (deepest : ℕ) → IsReady p → IsFramed p.code chunk

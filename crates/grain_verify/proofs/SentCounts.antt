@@ -16,9 +16,9 @@ use Rattle.grain_verify.specs.Progress.{NameLists, NamesList}
 use Rattle.grain_verify.specs.declared.lists.Lists.{Lists}
 use Rattle.grain_verify.specs.declared.state.Arrival.{Arrival}
 use Rattle.grain_verify.specs.declared.state.State.{State}
-use Rattle.grain_verify.proofs.NamedLists.{arrivals_named, named_set, sent_named, underway_named}
+use Rattle.grain_verify.proofs.ListNumbers.{arrivals_named, named_set, sent_named, underway_named}
 use Rattle.grain_verify.proofs.Places.{set_cases}
-use Rattle.grain_verify.proofs.Sharing.{one_number}
+use Rattle.grain_verify.proofs.SharedLists.{one_number}
 
 -- other states stand for other counts
 pub unlike_views : (lists : Lists) (s t : State) → IsShared lists → NamesList lists s → NamesList lists t → s ≢ t → view lists s ≢ view lists t

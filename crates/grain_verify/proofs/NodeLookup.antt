@@ -10,7 +10,7 @@ use Rattle.grain_verify.specs.Lists.{AreFirsts, Grows, IsShared, IsSharing, base
 use Rattle.grain_verify.specs.declared.lists.Base as kept
 use Rattle.grain_verify.specs.declared.lists.Lists.{Lists}
 use Rattle.grain_verify.specs.declared.lists.Node.{Node}
-use Rattle.grain_verify.proofs.Sharing.{either, named_push, node_exact, sharing_push}
+use Rattle.grain_verify.proofs.SharedLists.{either, named_push, node_exact, sharing_push}
 
 -- nodes on one list are compared by their bases, and those on two differ
 same_parent : (x q : Node) → q.parent ≡ x.parent → is_eq (node_cmp x q) ≡ is_eq (base_cmp x.base q.base)

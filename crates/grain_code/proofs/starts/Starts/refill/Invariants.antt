@@ -1,7 +1,7 @@
 use Rattle.std.proofs.Common.{length, ◌*◌, ◌+◌, ◌-◌, ◌/◌, ◌<◌, ◌≤◌, vec_capacity}
 use Rattle.grain_code.specs.Split.{NoneStandsAt}
 use Rattle.grain_code.specs.Starts.{ReadTo}
-use Rattle.grain_code.proofs.starts.Starts.again.Given as goal
+use Rattle.grain_code.proofs.starts.Starts.refill.Given as goal
 
 -- the code is read up to where the front ends so far, in a word behind those that are closed
 abbrev pub invariant-loop-front : goal.invariant-loop-front

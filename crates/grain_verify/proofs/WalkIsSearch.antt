@@ -31,7 +31,7 @@ use Rattle.grain_verify.specs.States.{no_state as none}
 use Rattle.grain_verify.specs.declared.lists.Lists.{Lists}
 use Rattle.grain_verify.specs.declared.state.Arrival.{Arrival}
 use Rattle.grain_verify.specs.declared.state.State.{State}
-use Rattle.grain_verify.proofs.Leading.{falls_in, walks_reached}
+use Rattle.grain_verify.proofs.EdgeTargets.{falls_in, walks_reached}
 use Rattle.grain_verify.proofs.Ordinals.{one_ordinal}
 use Rattle.grain_verify.proofs.Places.{set_cases}
 use Rattle.grain_verify.proofs.VisitCounts.{visited_more, visits_nothing}

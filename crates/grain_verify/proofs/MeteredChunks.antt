@@ -15,8 +15,8 @@ use Rattle.grain_rules.specs.Typing.{IsReachedCount}
 use Rattle.grain_rules.specs.declared.error.VerifyError.{VerifyError}
 use Rattle.grain_verify.specs.Refusals.{without_place}
 use Rattle.grain_verify.specs.declared.refusal.Refusal.{Refusal}
-use Rattle.grain_verify.proofs.Chunks.{number_more}
-use Rattle.grain_verify.proofs.Ticks.{counted_both, counted_nothing}
+use Rattle.grain_verify.proofs.ChunkInduction.{number_more}
+use Rattle.grain_verify.proofs.MeterArithmetic.{counted_both, counted_nothing}
 
 sum_more : (starts : List ℕ) (chunks : List Span) (i : ℕ) (x : Span) → i < length chunks → x ≡ get_or chunks i x
     → sum_by (starts_within starts) (take (i + 1) chunks) ≡ sum_by (starts_within starts) (take i chunks) + starts_within starts x
