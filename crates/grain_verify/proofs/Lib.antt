@@ -2,7 +2,6 @@ pub mod Chunks
 pub mod FirstLists
 pub mod Flows
 pub mod Following
-pub mod Growth
 pub mod Heads
 pub mod Knowing
 pub mod Leading
