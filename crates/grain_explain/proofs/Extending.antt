@@ -57,7 +57,7 @@ module _ (old new : List LinkedBase) (linked : AreLinked old) (x : Extends old n
     is = (let P : List Base → Counts = λ bs. record { operands = s.operands; iterators = s.iterators; bases = bs } in ap P (list_kept s.bases h.listed)) ∙ h.is;
   }
 
-  stop_kept : (a : Arrival) → a.row.bases ≤ length old → arrival_stop old a ≡ arrival_stop new a
+  pub stop_kept : (a : Arrival) → a.row.bases ≤ length old → arrival_stop old a ≡ arrival_stop new a
   stop_kept a l = let P : Counts → Stop = λ c. (a.row.at, c) in ap P (sym (counts_kept a.row l))
 
   module _ (s : Seen) (slots : List (Option Arrival)) (held : AreCome s old slots) where
@@ -68,19 +68,23 @@ module _ (old new : List LinkedBase) (linked : AreLinked old) (x : Extends old n
     origin_kept a (Some k) l (y, e, f) = (
       y,
       e,
-      subst (λ (z : Stop). Follows s.code s.chunk z (arrival_stop new a)) (stop_kept y (held k y e).listed)
+      subst (λ (z : Stop). Follows s.code s.chunk z (arrival_stop new a)) (stop_kept y (held k y e).come.listed)
           (subst (λ (z : Stop). Follows s.code s.chunk (arrival_stop old y) z) (stop_kept a l) f),
     )
 
     pub come_more : (a : Arrival) → IsCome s old slots a → IsCome s new slots a
     come_more a h = record {
       listed = (let m = longer in let l = h.listed in omega arith);
+      inside = h.inside;
       reached = subst (Reached (coded s.code) s.chunk a.row.at) (sym (counts_kept a.row h.listed)) h.reached;
       origin = origin_kept a a.from h.listed h.origin;
+      bounded = h.bounded;
     }
 
     pub held_more : AreCome s new slots
-    held_more k a e = come_more a (held k a e)
+    held_more k a e =
+        let h = held k a e in
+        record { come = come_more a h.come; placed = h.placed; earlier = h.earlier; fewer = h.fewer; bounded = h.bounded }
 
     pub waits_more : (work : List Arrival) → All (IsCome s old slots) work → All (IsCome s new slots) work
     waits_more work all = All-weaker (IsCome s old slots) (IsCome s new slots) come_more work all

@@ -4,9 +4,12 @@ pub mod Matching
 pub mod Certified
 pub mod SharedLists
 pub mod Bases
+pub mod Tracing
 pub mod Extending
 pub mod Laying
 pub mod Halving
 pub mod Sceneries
 pub mod Refused
+pub mod Pursuing
+pub mod Walked
 pub mod Chunkwise

@@ -1,31 +1,36 @@
 -- Starts, frames and arrivals.
-use Rattle.std.proofs.Common.{◌≡◌, ◌⊎◌, inl, inr, ℕ, ◌<◌, ◌≤◌, List, [], length, get_or, Option, Some, None, set, zero, suc, true, false, nat_lt, Result, Ok, Err, OnOk, IfErr}
+use Rattle.std.proofs.Common.{◌≡◌, ◌⊎◌, inl, inr, ℕ, ◌+◌, ◌-◌, ◌<◌, ◌≤◌, List, [], length, get_or, replicate, Option, Some, None, set, zero, suc, true, false, nat_lt, Result, Ok, Err, IfNone, IfOk, OnOk, IfErr}
 use Rattle.std.proofs.Common.{refl, sym, ap, subst, ◌∙◌, arith, ◌++◌, ◌∷◌}
-use Rattle.std.specs.List.{All, AllZip, Contains}
+use Rattle.std.specs.List.{AllZip, Contains}
 use Rattle.std.specs.Result.{is_err}
 use Rattle.std.specs.Prelude.{MatchOption}
 use Rattle.std.proofs.lemmas.Bool.{cases_lt}
 use Rattle.std.proofs.lemmas.Bool.Decides.{nat_tests}
-use Rattle.std.proofs.lemmas.List.{get_or-set_other, get_or_default, get_or_past}
+use Rattle.std.proofs.lemmas.List.{get_or_default, get_or_past}
 use Rattle.std.proofs.lemmas.Option.{none-some, same_Some}
+use Rattle.grain_code.specs.InstructionTable.{width_of}
 use Rattle.grain_code.specs.Split.{Split}
+use Rattle.grain_code.specs.declared.op.Op.{Op}
 use Rattle.grain_code.proofs.Splits.{one_split}
 use Rattle.grain_rules.specs.Code.{coded}
 use Rattle.grain_rules.specs.Counts.{Counts}
 use Rattle.grain_rules.specs.Effects.{Edge}
 use Rattle.grain_rules.specs.FlowFields.{falls_for, targets_for}
 use Rattle.grain_rules.specs.Layout.{IsStart}
-use Rattle.grain_rules.specs.Typing.{Reached, begin, onward}
+use Rattle.grain_rules.specs.Typing.{IsInChunk, Reached, StandsIn, begin, onward}
+use Rattle.grain_rules.proofs.CountGrowth.{edge_small}
+use Rattle.grain_rules.proofs.Splits.{boundary_apart, next_start}
 use Rattle.grain_explain.specs.Claimed.{falling_on, jumping}
 use Rattle.grain_rules.specs.EffectView.{flow_in}
 use Rattle.grain_explain.specs.RowView.{counts_of}
-use Rattle.grain_explain.specs.Scenes.{AreCome, Comes, IsCome, IsLeft, Seen}
+use Rattle.grain_explain.specs.Scenes.{AreCome, Comes, IsCome, IsHeld, IsLeft, IsReadyScene, Seen, visit_count}
 use Rattle.grain_explain.specs.Ways.{Follows, Stop, arrival_stop, first_stop, row_stop, stops_of}
 use Rattle.grain_explain.specs.declared.arrival.Arrival.{Arrival}
 use Rattle.grain_explain.specs.declared.row.LinkedBase.{LinkedBase}
 use Rattle.grain_explain.specs.declared.row.Row.{Row}
 use Rattle.grain_explain.specs.declared.walk.Departure.{Departure}
 use Rattle.grain_explain.proofs.Matching.{falling_known, jumping_known}
+use Rattle.grain_explain.proofs.Tracing.{bounded_more, leads_more, stays_set, visit_more}
 
 -- a start is one of the starts, and each of these is one
 pub start_listed : (code starts : List ℕ) (at : ℕ) → Split code starts → IsStart code at → Contains starts at
@@ -33,6 +38,14 @@ start_listed code starts at split s = subst (λ (xs : List ℕ). Contains xs at)
 
 pub listed_start : (code starts : List ℕ) (at : ℕ) → Split code starts → Contains starts at → IsStart code at
 listed_start code starts at split h = record { starts = starts; split = split; here = h }
+
+-- there is a place for each address of the chunk
+pub place_within : (s : Seen) (slots : List (Option Arrival)) (at entry : ℕ) → entry ≡ s.chunk.entry → length slots ≡ s.chunk.end - s.chunk.entry → IsInChunk (coded s.code) s.chunk at → at - entry < length slots
+place_within s slots at entry same sized inside = let low = inside.entry in let high = inside.end in omega arith
+
+-- a place that holds something is one of the list
+pub held_within : (slots : List (Option Arrival)) (k : ℕ) (a : Arrival) → get_or slots k None ≡ Some a → k < length slots
+held_within slots k a e = elim (cases_lt k (length slots)) [ inl l ↦ l | inr g ↦ absurd (none-some a (sym (get_or_past slots k None g) ∙ e)) ]
 
 -- what was read at a place
 pub slot_held : (slots : List (Option Arrival)) (i : ℕ) (x : Option Arrival) (a : Arrival) → i < length slots → x ≡ get_or slots i x → x ≡ Some a → get_or slots i None ≡ Some a
@@ -50,12 +63,17 @@ pub way_more : (bases : List LinkedBase) (rows : List Row) (row : Row) (x y : St
 way_more bases [] row x y earlier same = ap (λ (z : Stop). z ∷ (y ∷ earlier)) same
 way_more bases (r ∷ rs) row x y earlier same = ap (λ (zs : List Stop). row_stop bases r ∷ zs) (way_more bases rs row x y earlier same)
 
--- where nothing has come anywhere nothing is held
-pub none_come : (s : Seen) (bases : List LinkedBase) (slots : List (Option Arrival)) → All (λ (slot : Option Arrival). slot ≡ None) slots → AreCome s bases slots
-none_come s bases slots all k a e = elim (cases_lt k (length slots)) [
-  | inl l ↦ absurd (none-some a (sym (all k None l) ∙ e))
-  | inr g ↦ absurd (none-some a (sym (get_or_past slots k None g) ∙ e))
-]
+abbrev pub no_arrival : Option Arrival
+no_arrival = None
+
+-- where nothing was visited nothing is held
+pub none_held : (n k : ℕ) (a : Arrival) → get_or (replicate n no_arrival) k None ≡ Some a → ⊥
+none_held zero k a e = none-some a e
+none_held (suc n) zero a e = none-some a e
+none_held (suc n) (suc k) a e = none_held n k a e
+
+pub none_come : (s : Seen) (bases : List LinkedBase) (n : ℕ) → AreCome s bases (replicate n None)
+none_come s bases n k a e = absurd (none_held n k a e)
 
 -- what is said of lists is said of these as they are read
 pub come_read : (s : Seen) (bases read_bases : List LinkedBase) (slots read_slots : List (Option Arrival)) (a : Arrival) → read_bases ≡ bases → read_slots ≡ slots → IsCome s bases slots a → IsCome s read_bases read_slots a
@@ -65,21 +83,43 @@ pub held_read : (s : Seen) (bases read_bases : List LinkedBase) (slots read_slot
 held_read s bases read_bases slots read_slots e f h = subst (λ (bs : List LinkedBase). AreCome s bs read_slots) (sym e) (subst (AreCome s bases) (sym f) h)
 
 -- what the chunk begins with has come
-pub first_come : (s : Seen) (bases : List LinkedBase) (slots : List (Option Arrival)) (a : Arrival) → a.row.bases ≤ length bases → arrival_stop bases a ≡ first_stop s.chunk → a.from ≡ None → IsCome s bases slots a
-first_come s bases slots a listed same none = record {
-  listed = listed;
-  reached = subst (λ (x : Stop). Reached (coded s.code) s.chunk x.0 x.1) (sym same) begin;
-  origin = rw none same;
-}
+pub first_come : (s : Seen) (bases : List LinkedBase) (slots : List (Option Arrival)) (a : Arrival) → IsReadyScene s → a.row.bases ≤ length bases → arrival_stop bases a ≡ first_stop s.chunk → a.from ≡ None
+    → IsCome s bases slots a
+first_come s bases slots a ready listed same none =
+    let at : a.row.at ≡ s.chunk.entry = ap (λ (x : Stop). x.0) same in
+    let operands : a.row.operands ≡ 0 = ap (λ (x : Stop). x.1.operands) same in
+    let iterators : a.row.iterators ≡ 0 = ap (λ (x : Stop). x.1.iterators) same in
+    let holds = ready.holds in
+    record {
+      listed = listed;
+      inside = subst (IsInChunk (coded s.code) s.chunk) (sym at) (record { entry = omega arith; end = holds; place = ready.framed.entry });
+      reached = subst (λ (x : Stop). Reached (coded s.code) s.chunk x.0 x.1) (sym same) begin;
+      origin = rw none same;
+      bounded = record { back = rw none tt; operands = omega arith; iterators = omega arith };
+    }
 
 module _ (s : Seen) (d : Departure) (left : IsLeft s d) where
   -- what comes along an edge has come
-  pub along_come : (a : Arrival) → a.row.bases ≤ length d.visited.bases.now → a.from ≡ Some d.place → Edge (coded s.code) left.op d.here.now.row.at (counts_of d.visited.bases.now d.here.now.row) a.row.at (counts_of d.visited.bases.now a.row) → Comes s d.visited a
-  along_come a listed from edge = record {
-    listed = listed;
-    reached = onward (left.come d.place d.here.now left.held).reached left.passes edge;
-    origin = rw from (d.here.now, left.held, (left.op, left.passes, edge));
-  }
+  pub along_come : (a : Arrival) → a.row.bases ≤ length d.visited.bases.now → a.from ≡ Some d.place → IsInChunk (coded s.code) s.chunk a.row.at
+      → Edge (coded s.code) left.op d.here.now.row.at (counts_of d.visited.bases.now d.here.now.row) a.row.at (counts_of d.visited.bases.now a.row) → Comes s d.visited a
+  along_come a listed from inside edge =
+      let slots = d.visited.slots.now in
+      let bases = d.visited.bases.now in
+      let held = left.come d.place d.here.now left.held in
+      let fewer = held.fewer in
+      let small = edge_small (coded s.code) left.op d.here.now.row.at held.earlier (counts_of bases d.here.now.row) a.row.at (counts_of bases a.row) left.passes.meets
+      (record { operands = held.bounded.operands; iterators = held.bounded.iterators }) edge in
+      record {
+        listed = listed;
+        inside = inside;
+        reached = onward held.come.reached left.passes edge;
+        origin = rw from (d.here.now, left.held, (left.op, left.passes, edge));
+        bounded = record {
+          back = rw from (d.here.now, left.held, leads_more slots slots (λ k y e. e) (suc held.earlier) (visit_count slots) d.here.now (omega arith) held.bounded.back);
+          operands = (let k = small.operands in omega arith);
+          iterators = (let k = small.iterators in omega arith);
+        };
+      }
 
   pub jump_edge : (row : Row) (t : ℕ) (c : Counts) → row_stop d.visited.bases.now row ≡ (t, c) → Contains (targets_for s.code.switches (flow_in d.effect.now)) t → c ≡ jumping d.visited.bases.now d.here.now.row d.effect.now
       → Edge (coded s.code) left.op d.here.now.row.at (counts_of d.visited.bases.now d.here.now.row) row.at (counts_of d.visited.bases.now row)
@@ -102,35 +142,87 @@ pub not_err : {A E P : Type 0} (r : Result A E) → is_err r ≡ false → OnOk 
 not_err (Ok x) e h = h
 not_err (Err x) e h = absurd (cc)
 
+-- what follows where nothing is found
+pub if_none : {A E P Q S : Type 0} (r : Result (Option A) E) → (P → Q → S) → OnOk r P → IfOk r (λ o. IfNone o Q) → IfOk r (λ o. IfNone o S)
+if_none (Ok None) f p q = f p q
+if_none (Ok (Some x)) f p q = tt
+if_none (Err e) f p q = tt
+
 -- the error of a failure, with what holds of it
 pub of_err : {A E : Type 0} {P : E → Type 0} (r : Result A E) → is_err r ≡ true → IfErr r P → (e : E) × P e
 of_err (Ok x) e h = absurd (cc)
 of_err (Err x) e h = (x, h)
 
 -- what is in a list of places after one was set
-set_place : {A : Type 0} (xs : List (Option A)) (j k : ℕ) (a b : A) → get_or (set xs j (Some a)) k None ≡ Some b → ((k ≡ j) × (a ≡ b)) ⊎ (get_or xs k None ≡ Some b)
+pub set_place : {A : Type 0} (xs : List (Option A)) (j k : ℕ) (a b : A) → get_or (set xs j (Some a)) k None ≡ Some b → ((k ≡ j) × (a ≡ b)) ⊎ (get_or xs k None ≡ Some b)
 set_place [] j k a b e = inr e
 set_place (x ∷ xs) zero zero a b e = inl (refl, same_Some a b e)
 set_place (x ∷ xs) zero (suc k) a b e = inr e
 set_place (x ∷ xs) (suc j) zero a b e = inr e
 set_place (x ∷ xs) (suc j) (suc k) a b e = elim (set_place xs j k a b e) [ inl h ↦ inl (ap suc h.0, h.1) | inr old ↦ inr old ]
 
-module _ (s : Seen) (bases : List LinkedBase) (slots : List (Option Arrival)) (j : ℕ) (a : Arrival) (free : get_or slots j None ≡ None) where
+module _ (s : Seen) (bases : List LinkedBase) (slots : List (Option Arrival)) (j : ℕ) (a : Arrival) (inside : j < length slots) (free : get_or slots j None ≡ None) where
   kept_origin : (x : Stop) (o : Option ℕ) → MatchOption o (x ≡ first_stop s.chunk) (λ k. (y : Arrival) × (get_or slots k None ≡ Some y) × Follows s.code s.chunk (arrival_stop bases y) x)
       → MatchOption o (x ≡ first_stop s.chunk) (λ k. (y : Arrival) × (get_or (set slots j (Some a)) k None ≡ Some y) × Follows s.code s.chunk (arrival_stop bases y) x)
   kept_origin x None h = h
-  kept_origin x (Some k) (y, e, f) =
-      (y, get_or-set_other slots j k (Some a) None (λ same. none-some y (sym free ∙ (ap (λ n. get_or slots n None) (sym same) ∙ e))) ∙ e, f)
+  kept_origin x (Some k) (y, e, f) = (y, stays_set slots j a free k y e, f)
 
   -- what has come has come, once another is put in its place
   pub come_kept : (b : Arrival) → IsCome s bases slots b → IsCome s bases (set slots j (Some a)) b
-  come_kept b h = record { listed = h.listed; reached = h.reached; origin = kept_origin (arrival_stop bases b) b.from h.origin }
+  come_kept b h =
+      let more = visit_more slots j a inside free in
+      record {
+        listed = h.listed;
+        inside = h.inside;
+        reached = h.reached;
+        origin = kept_origin (arrival_stop bases b) b.from h.origin;
+        bounded = bounded_more slots (set slots j (Some a)) (stays_set slots j a free) (visit_count slots) (visit_count (set slots j (Some a))) b (omega (arith, more)) h.bounded;
+      }
 
-  pub come_set : AreCome s bases slots → IsCome s bases slots a → AreCome s bases (set slots j (Some a))
-  come_set all here k b e = elim (set_place slots j k a b e) [
-    | inl h ↦ subst (IsCome s bases (set slots j (Some a))) h.1 (come_kept a here)
-    | inr old ↦ come_kept b (all k b old)
-  ]
+  pub come_set : AreCome s bases slots → IsCome s bases slots a → a.row.at ≡ s.chunk.entry + j → AreCome s bases (set slots j (Some a))
+  come_set all here placed k b e =
+      let more = visit_more slots j a inside free in
+      let put = set slots j (Some a) in
+      let stays = stays_set slots j a free in
+      elim (set_place slots j k a b e) [
+        | inl h ↦
+            let at : a.row.at ≡ s.chunk.entry + k = omega (arith, h.0, placed) in
+            subst (IsHeld s bases put k) h.1 (record {
+              come = come_kept a here;
+              placed = at;
+              earlier = visit_count slots;
+              fewer = omega (arith, more);
+              bounded = bounded_more slots put stays (visit_count slots) (visit_count slots) a (omega arith) here.bounded;
+            })
+        | inr old ↦
+            let held = all k b old in
+            let fewer = held.fewer in
+            record {
+              come = come_kept b held.come;
+              placed = held.placed;
+              earlier = held.earlier;
+              fewer = omega (arith, more, fewer);
+              bounded = bounded_more slots put stays held.earlier held.earlier b (omega arith) held.bounded;
+            }
+      ]
+
+-- an instruction of the chunk whose next address isn't the chunk's end is followed by one of the chunk
+pub next_inside : (s : Seen) (at next : ℕ) (op : Op) → IsReadyScene s → StandsIn (coded s.code) s.chunk at op → next ≡ at + width_of op → (next ≡ s.chunk.end → ⊥) → IsInChunk (coded s.code) s.chunk next
+next_inside s at next op ready stands is unlike =
+    let within = stands.within in
+    let low = within.entry in
+    let there : IsInChunk (coded s.code) s.chunk (at + width_of op) = elim (next_start s.code.bytes at s.chunk.end op within.place ready.framed.end stands.is within.end ready.framed.inside) [
+      | inl k ↦ record { entry = omega arith; end = k.0; place = k.1 }
+      | inr e ↦ absurd (unlike (is ∙ e))
+    ] in
+    subst (IsInChunk (coded s.code) s.chunk) (sym is) there
+
+-- and its next address lies in the chunk, or is the chunk's end
+pub next_within : (s : Seen) (at next : ℕ) (op : Op) → IsReadyScene s → StandsIn (coded s.code) s.chunk at op → next ≡ at + width_of op → next ≤ s.chunk.end
+next_within s at next op ready stands is =
+    let within = stands.within in
+    let e : at + width_of op ≤ s.chunk.end = boundary_apart s.code.bytes at s.chunk.end op within.place ready.framed.end stands.is within.end in
+    omega arith
 
 module _ (s : Seen) (d : Departure) (left : IsLeft s d) where
   pub fall_edge : (row : Row) (t : ℕ) (c : Counts) → row_stop d.visited.bases.now row ≡ (t, c) → t ≡ d.next → falls_for (flow_in d.effect.now) ≡ true → c ≡ falling_on d.visited.bases.now d.here.now.row d.effect.now

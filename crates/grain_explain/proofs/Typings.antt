@@ -1,6 +1,8 @@
 -- Rows as a typing.
-use Rattle.std.proofs.Common.{◌≡◌, ℕ, zero, suc, ◌<◌, List, [], ◌∷◌, Bool, true, false, cond, Some, None, nat_eq, slice_get, refl, subst, arith}
+use Rattle.std.proofs.Common.{◌≡◌, ◌⊎◌, inl, inr, ℕ, zero, suc, ◌<◌, List, [], ◌∷◌, ◌++◌, Bool, true, false, cond, Some, None, nat_eq, slice_get, refl, subst, arith}
+use Rattle.std.specs.List.{All}
 use Rattle.std.proofs.lemmas.Bool.Decides.{nat_tests}
+use Rattle.std.proofs.lemmas.List.Elements.{All-head, All-tail}
 use Rattle.std.proofs.lemmas.Option.{none-some, same_Some}
 use Rattle.grain_rules.specs.Counts.{Counts}
 use Rattle.grain_explain.specs.RowView.{AreAscending, counts_of, typing_of}
@@ -51,6 +53,28 @@ row_typed bases (h ∷ hs) zero r up e =
 row_typed bases (h ∷ hs) (suc k) r up e =
     let below : h.at < r.at = up 0 (suc k) h r (omega arith) refl e in
     rw (other_place r.at h.at below) (row_typed bases hs k r (tail_ascending h hs up) e)
+
+above_first : (h : Row) (hs : List Row) (r b : Row) (j : ℕ) → AreAscending (h ∷ hs) → h.at < r.at → slice_get (hs ++ r ∷ []) j ≡ Some b → h.at < b.at
+above_first h hs r b j up low e = elim (slice_get_push hs r b j e) [
+  | inl old ↦ up 0 (suc j) h b (omega arith) refl old
+  | inr same ↦ subst (λ (x : Row). h.at < x.at) same low
+]
+  where
+    slice_get_push : (rows : List Row) (r b : Row) (j : ℕ) → slice_get (rows ++ r ∷ []) j ≡ Some b → (slice_get rows j ≡ Some b) ⊎ (r ≡ b)
+    slice_get_push [] r b zero e = inr (same_Some r b e)
+    slice_get_push [] r b (suc j) e = absurd (none-some b e)
+    slice_get_push (h ∷ hs) r b zero e = inl e
+    slice_get_push (h ∷ hs) r b (suc j) e = slice_get_push hs r b j e
+
+-- a row above all others may come last
+pub ascending_push : (rows : List Row) (r : Row) → AreAscending rows → All (λ (x : Row). x.at < r.at) rows → AreAscending (rows ++ r ∷ [])
+ascending_push [] r up below i zero a b l ea eb = absurd (omega arith)
+ascending_push [] r up below i (suc j) a b l ea eb = absurd (none-some b eb)
+ascending_push (h ∷ hs) r up below i zero a b l ea eb = absurd (omega arith)
+ascending_push (h ∷ hs) r up below zero (suc j) a b l ea eb =
+    subst (λ (x : Row). x.at < b.at) (same_Some h a ea) (above_first h hs r b j up (All-head (λ (x : Row). x.at < r.at) h hs below) eb)
+ascending_push (h ∷ hs) r up below (suc i) (suc j) a b l ea eb =
+    ascending_push hs r (tail_ascending h hs up) (All-tail (λ (x : Row). x.at < r.at) h hs below) i j a b (omega arith) ea eb
 
 -- an address that no row has
 pub none_typed : (bases : List LinkedBase) (rows : List Row) (at : ℕ) → ((k : ℕ) (r : Row) → slice_get rows k ≡ Some r → r.at ≡ at → ⊥) → typing_of bases rows at ≡ None

@@ -7,7 +7,7 @@ use Rattle.grain_rules.specs.Code.{Bytecode, coded}
 use Rattle.grain_rules.specs.Counts.{Counts}
 use Rattle.grain_rules.specs.Typing.{Reached}
 use Rattle.grain_explain.specs.Certificate.{IsCertificate}
-use Rattle.grain_explain.specs.RowView.{counts_of, typing_of}
+use Rattle.grain_explain.specs.RowView.{AreAscending, counts_of, typing_of}
 use Rattle.grain_explain.specs.Ways.{Follows, IsShownRefusal, first_stop, row_stop}
 use Rattle.grain_explain.specs.declared.refusal.ExplainError.{ExplainError}
 use Rattle.grain_explain.specs.declared.refusal.ExplainError.TheVariants.{BadCode}
@@ -29,9 +29,10 @@ pub record IsTypedBy (code : Bytecode) (chunk : Span) (bases : List LinkedBase) 
   pub certificate : IsCertificate code chunk bases rows
   pub just : (at : ℕ) (c : Counts) → Reached (coded code) chunk at c ↔ (typing_of bases rows at ≡ Some c)
 
--- Each row is reached, from where it says; and the rows are a typing and just what is reached, or else the chunk has the flaw
+-- The rows are in the order of their addresses, so that no address has two. Each row is reached, from where it says; and the rows are a typing and just what is reached, or else the chunk has the flaw
 -- that is named, and its ways show it.
 pub record IsExplained (code : Bytecode) (chunk : Span) (x : ExplainedChunk) : Type 0 where
+  pub ascending : AreAscending x.rows.items
   pub reached : All (IsReachedRow code chunk x.bases.items) x.rows.items
   pub origins : AllZip (IsOrigin code chunk x.bases.items) x.rows.items x.origins.items
   pub explains : MatchOption x.refusal (IsTypedBy code chunk x.bases.items x.rows.items) (IsShownRefusal code chunk x.bases.items)

@@ -5,4 +5,5 @@ pub mod Certificate
 pub mod Claimed
 pub mod Ways
 pub mod Scenes
+pub mod Pursuits
 pub mod Explaining

@@ -13,6 +13,11 @@ abbrev pub handlers_in : List LinkedBase → Handlers → List Base
 handlers_in bases (Kept list) = list_in bases list
 handlers_in bases (Pushed b) = base_of b ∷ list_in bases b.next
 
+-- how many bases they add
+abbrev pub pushed_in : Handlers → ℕ
+pushed_in (Kept list) = 0
+pushed_in (Pushed b) = 1
+
 -- the list that they name is there
 abbrev pub IsListedIn : List LinkedBase → Handlers → Type 0
 IsListedIn bases (Kept list) = list ≤ length bases

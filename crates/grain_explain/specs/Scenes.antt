@@ -1,6 +1,7 @@
 -- What the walk over a chunk has come to.
-use Rattle.std.specs.Prelude.{◌≡◌, ◌⊎◌, ℕ, ◌+◌, ◌<◌, ◌≤◌, List, ◌++◌, Option, None, Some, MatchOption, get_or, length}
-use Rattle.std.specs.List.{All, Contains}
+use Rattle.std.specs.Prelude.{◌≡◌, ◌⊎◌, ⊤, ℕ, zero, suc, ◌+◌, ◌-◌, ◌<◌, ◌≤◌, ◌^◌, List, ◌++◌, Option, None, Some, MatchOption, get_or, length}
+use Rattle.std.specs.List.{All, Contains, count_by}
+use Rattle.std.specs.Option.{is_some}
 use Rattle.grain_base.specs.declared.caps.Caps.{Caps}
 use Rattle.grain_code.specs.InstructionTable.{width_of}
 use Rattle.grain_code.specs.Span.{Span}
@@ -10,7 +11,7 @@ use Rattle.grain_rules.specs.Accepted.{IsFramed}
 use Rattle.grain_rules.specs.Code.{Bytecode, bytecode_beside, coded}
 use Rattle.grain_rules.specs.Facts.{Facts}
 use Rattle.grain_rules.specs.Layout.{IsStart}
-use Rattle.grain_rules.specs.Typing.{Passes, Reached}
+use Rattle.grain_rules.specs.Typing.{IsInChunk, Passes, Reached}
 use Rattle.grain_rules.specs.declared.error.VerifyError.{VerifyError}
 use Rattle.grain_rules.specs.declared.error.VerifyError.TheVariants as flaws
 use Rattle.grain_explain.specs.Lacking.{DoesTo}
@@ -66,16 +67,41 @@ MissesTarget s at target e =
 abbrev pub MissesTargetOf : Seen → ℕ → List ℕ → VerifyError → Type 0
 MissesTargetOf s at ts e = (t : ℕ) × Contains ts t × MissesTarget s at t e
 
--- An arrival names a list that is there; it is reached, and is what the chunk begins with, or comes along an edge of what is in
--- its place.
+-- how many places were visited
+abbrev pub visit_count : List (Option Arrival) → ℕ
+visit_count slots = count_by is_some slots
+
+-- fewer than so many steps lead from an arrival back to the entry, from place to place
+abbrev pub LeadsBack : List (Option Arrival) → ℕ → Arrival → Type 0
+LeadsBack slots zero a = ⊥
+LeadsBack slots (suc n) a = MatchOption a.from ⊤ (λ k. (y : Arrival) × (get_or slots k None ≡ Some y) × LeadsBack slots n y)
+
+-- so many steps lead back at most, and no more operands or iterators are there
+pub record IsBounded (slots : List (Option Arrival)) (n : ℕ) (a : Arrival) : Type 0 where
+  pub back : LeadsBack slots (suc n) a
+  pub operands : a.row.operands ≤ n
+  pub iterators : a.row.iterators ≤ n
+
+-- An arrival names a list that is there; it is at an instruction of the chunk; it is reached, and is what the chunk begins with,
+-- or comes along an edge of what is in its place.
 pub record IsCome (s : Seen) (bases : List LinkedBase) (slots : List (Option Arrival)) (a : Arrival) : Type 0 where
   pub listed : a.row.bases ≤ length bases
+  pub inside : IsInChunk (coded s.code) s.chunk a.row.at
   pub reached : Reached (coded s.code) s.chunk a.row.at (counts_of bases a.row)
   pub origin : MatchOption a.from (arrival_stop bases a ≡ first_stop s.chunk)
       (λ k. (y : Arrival) × (get_or slots k None ≡ Some y) × Follows s.code s.chunk (arrival_stop bases y) (arrival_stop bases a))
+  pub bounded : IsBounded slots (visit_count slots) a
+
+-- an arrival that was visited is in the place of its address, and others were visited before it
+pub record IsHeld (s : Seen) (bases : List LinkedBase) (slots : List (Option Arrival)) (k : ℕ) (a : Arrival) : Type 0 where
+  pub come : IsCome s bases slots a
+  pub placed : a.row.at ≡ s.chunk.entry + k
+  pub earlier : ℕ
+  pub fewer : earlier < visit_count slots
+  pub bounded : IsBounded slots earlier a
 
 abbrev pub AreCome : Seen → List LinkedBase → List (Option Arrival) → Type 0
-AreCome s bases slots = (k : ℕ) (a : Arrival) → get_or slots k None ≡ Some a → IsCome s bases slots a
+AreCome s bases slots = (k : ℕ) (a : Arrival) → get_or slots k None ≡ Some a → IsHeld s bases slots k a
 
 -- the same of what a walk has visited
 abbrev pub Comes : Seen → Visited → Arrival → Type 0
@@ -84,9 +110,12 @@ Comes s v a = IsCome s v.bases.now v.slots.now a
 abbrev pub AreHeld : Seen → Visited → Type 0
 AreHeld s v = AreCome s v.bases.now v.slots.now
 
--- so is all that was visited, and all that waits
+-- there is a place for each address of the chunk, and no more bases than visits; all that was visited has come, and all that waits
 pub record IsSearching (s : Seen) (x : Search) : Type 0 where
   pub linked : AreLinked x.arming.bases.items
+  pub sized : length x.slots.items ≡ s.chunk.end - s.chunk.entry
+  pub short : length x.slots.items < 2 ^ 32
+  pub few : length x.arming.bases.items ≤ visit_count x.slots.items
   pub held : AreCome s x.arming.bases.items x.slots.items
   pub waits : All (IsCome s x.arming.bases.items x.slots.items) x.work.items
 

@@ -1,9 +1,10 @@
 //! Counts on the edges on which an operation is left.
-ghost use Rattle.std.specs.Prelude.{◌≡◌, ◌≤◌, ◌↔◌, IsTrue, List, length};
+ghost use Rattle.std.specs.Prelude.{◌≡◌, ◌≤◌, ◌+◌, ◌↔◌, IsTrue, List, length};
 ghost use Rattle.grain_rules.specs.Counts.{nothing, without_last};
 ghost use Rattle.grain_rules.specs.FlowFields.{fall_for, jump_for};
 ghost use Rattle.grain_rules.specs.EffectView.{flow_in};
 ghost use Rattle.grain_explain.specs.OnEdges.{IsListedIn, counts_on, handlers_in, left_by};
+ghost use Rattle.grain_explain.specs.OnEdges.{pushed_in};
 ghost use Rattle.grain_explain.specs.RowView.{AreLinked, counts_of, list_in};
 ghost use Rattle.grain_explain.specs.declared.row.LinkedBase.{LinkedBase};
 
@@ -99,6 +100,11 @@ impl OnEdge {
             (left_by effect.now row.now.operands) (counts_of bases row.now) }
         ensures listed { (bases : List LinkedBase) → row.now.bases ≤ length bases
             → IsListedIn bases result.handlers }
+        ensures operands { effect.now.needs ≤ row.now.operands
+            → result.operands ≤ row.now.operands + 1 }
+        ensures iterators { result.iterators ≤ row.now.iterators + 1 }
+        ensures kept { (effect.now.flow ≡ Flow.PushesHandler → ⊥)
+            → pushed_in result.handlers ≡ 0 }
     {
         let here = OnEdge::at(row);
         match effect.flow {
@@ -131,6 +137,11 @@ impl OnEdge {
         ensures counts { counts_on bases.now result ≡ fall_for (flow_in effect.now)
             (left_by effect.now row.now.operands) (counts_of bases.now row.now) }
         ensures listed { IsListedIn bases.now result.handlers }
+        ensures operands { effect.now.needs ≤ row.now.operands
+            → result.operands ≤ row.now.operands + 1 }
+        ensures iterators { result.iterators ≤ row.now.iterators + 1 }
+        ensures kept { (effect.now.flow ≡ Flow.PushesHandler → ⊥)
+            → pushed_in result.handlers ≡ 0 }
     {
         let here = OnEdge::at(row);
         match effect.flow {

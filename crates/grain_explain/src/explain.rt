@@ -23,7 +23,7 @@ use std::alloc::Global;
 /// number of its instructions that are visited, and with the arms of their switches. Rows share their lists of bases.
 ///
 /// # Errors
-/// `BadCode` exactly where the code isn't such code; `OutOfMemory`; `Unfinished`.
+/// `BadCode` exactly where the code isn't such code; `OutOfMemory` where an allocation failed.
 pub fn explain_chunks<P: Read>(
     alloc: Global,
     caps: Caps,

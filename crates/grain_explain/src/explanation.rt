@@ -1,25 +1,25 @@
 //! Why a chunk is accepted or refused.
-ghost use Rattle.std.specs.Prelude.{◌≡◌, ◌≤◌, None, length, IfOk, IfSome, MatchOption};
+ghost use Rattle.std.specs.Prelude.{◌≡◌, ◌≤◌, ◌⊎◌, ⊤, [], None, replicate, IfOk, IfSome, MatchOption};
 ghost use Rattle.std.specs.List.{All, AllZip};
 ghost use Rattle.grain_rules.specs.Flaw.{ChunkFlaw};
 ghost use Rattle.grain_explain.specs.Explaining.{IsExplained, IsOrigin, IsReachedRow, IsTypedBy};
 ghost use Rattle.grain_explain.specs.Scenes.{AreHeld, Comes, IsReadyScene, IsRefusalAt};
 ghost use Rattle.grain_explain.specs.Scenes.{IsSearching, IsStarted, seen};
-ghost use Rattle.grain_explain.specs.Claimed.{claimed};
-ghost use Rattle.grain_explain.specs.RowView.{AreLinked};
+ghost use Rattle.grain_explain.specs.Pursuits.{ArePursued, HasRows, Holds, IsRowIn};
+ghost use Rattle.grain_explain.specs.RowView.{AreAscending, AreLinked};
 ghost use Rattle.grain_explain.specs.Ways.{IsFrameFlaw};
+ghost use Rattle.grain_explain.specs.declared.arrival.Arrival.{Arrival};
 
 use crate::arrival::Arrival;
-use crate::claim::Claim;
-use crate::error::TypingError;
-use crate::refusal::{ExplainedChunk, Refusal, SearchError};
-use crate::row::{LinkedBase, Row};
+use crate::refusal::{ExplainedChunk, Refusal};
+use crate::row::Row;
 use crate::scene::Scene;
 use crate::stacks::Arming;
 use crate::walk::{Search, Visited};
 use grain_rules::{Read, VerifyError};
+use std::alloc::AllocError;
 
-/// The rows of what was come to, and where each was come from.
+/// The rows of what was visited, and from where each was reached.
 #[derive(Drop)]
 pub(crate) struct Rows {
     pub(crate) rows: Vec<Row>,
@@ -30,8 +30,8 @@ impl<P: Read> Scene<'_, P> {
     /// Explains the chunk.
     ///
     /// # Errors
-    /// `OutOfMemory`, `Unfinished`.
-    pub(crate) fn explain(&self) -> Result<ExplainedChunk, SearchError>
+    /// [`AllocError`] where an allocation failed.
+    pub(crate) fn explain(&self) -> Result<ExplainedChunk, AllocError>
         requires { IsStarted (seen P.facts P.leads self.now) }
         ensures { IfOk result (IsExplained (seen P.facts P.leads self.now).code
             self.now.chunk.now) }
@@ -85,9 +85,12 @@ impl<P: Read> Scene<'_, P> {
     /// A walk at the chunk's entry.
     ///
     /// # Errors
-    /// `OutOfMemory`.
-    fn begin(&self) -> Result<Search, SearchError>
-        ensures { IfOk result (IsSearching (seen P.facts P.leads self.now)) }
+    /// [`AllocError`] where an allocation failed.
+    fn begin(&self) -> Result<Search, AllocError>
+        requires { IsReadyScene (seen P.facts P.leads self.now) }
+        ensures searching { IfOk result (IsSearching (seen P.facts P.leads self.now)) }
+        ensures pursued { IfOk result (λ x. ArePursued (seen P.facts P.leads self.now) x.arming.bases.items x.slots.items
+            x.work.items) }
     {
         let mut work = Vec::new(self.alloc);
         work.push(Arrival {
@@ -99,7 +102,7 @@ impl<P: Read> Scene<'_, P> {
             },
             from: None,
         })?;
-        let length = (self.chunk.end() as usize).saturating_sub(self.chunk.entry() as usize);
+        let length = self.chunk.end() as usize - self.chunk.entry() as usize;
         Ok(Search {
             slots: self.free_slots(length)?,
             work,
@@ -107,173 +110,115 @@ impl<P: Read> Scene<'_, P> {
         })
     }
 
-    /// So many places to which nothing has come.
-    fn free_slots(&self, length: usize) -> Result<Vec<Option<Arrival>>, SearchError>
-        ensures { IfOk result (λ v. All (λ slot. slot ≡ None) v.items) }
+    /// So many places that were not visited.
+    ///
+    /// # Errors
+    /// [`AllocError`] where an allocation failed.
+    fn free_slots(&self, length: usize) -> Result<Vec<Option<Arrival>>, AllocError>
+        ensures { IfOk result (λ v. v.items ≡ replicate length None) }
     {
         let mut slots = Vec::new(self.alloc);
-        for _ in 0..length {
-            slots.push(None)?;
-        }
+        slots.resize(length, None)?;
         Ok(slots)
     }
 
-    /// The rows of what was come to, in the order of their places, each with the address from which it was come to.
+    /// The rows of what was visited, in the order of their places, each with the address from which it was reached.
     ///
     /// # Errors
-    /// `OutOfMemory`, `Unfinished`.
-    fn rows_of(&self, visited: &Visited<'_>) -> Result<Rows, SearchError>
+    /// [`AllocError`] where an allocation failed.
+    fn rows_of(&self, visited: &Visited<'_>) -> Result<Rows, AllocError>
         requires { AreHeld (seen P.facts P.leads self.now) visited.now }
         ensures reached { IfOk result (λ x. All
-            (IsReachedRow (seen P.facts P.leads self.now).code self.now.chunk.now
-            visited.now.bases.now)
+            (IsReachedRow (seen P.facts P.leads self.now).code self.now.chunk.now visited.now.bases.now)
             x.rows.items) }
         ensures origins { IfOk result (λ x. AllZip
             (IsOrigin (seen P.facts P.leads self.now).code self.now.chunk.now visited.now.bases.now)
             x.rows.items x.origins.items) }
-        ensures listed { IfOk result (λ x. All
-            (λ r. r.bases ≤ length visited.now.bases.now) x.rows.items) }
+        ensures ascending { IfOk result (λ x. AreAscending x.rows.items) }
+        ensures held { IfOk result (λ x. All (IsRowIn visited.now.slots.now) x.rows.items) }
+        ensures whole { IfOk result (λ x. HasRows x.rows.items visited.now.slots.now) }
     {
         let mut rows = Vec::new(self.alloc);
         let mut origins = Vec::new(self.alloc);
         for slot in visited.slots {
             if let Some(arrival) = slot {
-                let origin = self.origin_of(visited, arrival)?;
                 rows.push(arrival.row)?;
-                origins.push(origin)?;
+                origins.push(self.origin_of(visited, arrival))?;
             }
         }
         Ok(Rows { rows, origins })
     }
 
     /// The address from which an arrival came.
-    ///
-    /// # Errors
-    /// `Unfinished`.
-    fn origin_of(
-        &self,
-        visited: &Visited<'_>,
-        arrival: &Arrival,
-    ) -> Result<Option<u32>, SearchError>
+    fn origin_of(&self, visited: &Visited<'_>, arrival: &Arrival) -> Option<u32>
         requires come { AreHeld (seen P.facts P.leads self.now) visited.now }
         requires arrival { Comes (seen P.facts P.leads self.now) visited.now arrival.now }
-        ensures { IfOk result (IsOrigin
-            (seen P.facts P.leads self.now).code self.now.chunk.now
-            visited.now.bases.now arrival.now.row) }
+        ensures { IsOrigin (seen P.facts P.leads self.now).code self.now.chunk.now
+            visited.now.bases.now arrival.now.row result }
     {
-        let Some(place) = arrival.from else {
-            return Ok(None);
-        };
-        match visited.slots.get(place) {
-            Some(Some(before)) => Ok(Some(before.row.at)),
-            _ => Err(SearchError::Unfinished),
+        match arrival.from {
+            Some(place) => Some(visited.at(place).row.at),
+            None => None,
         }
     }
 
-    /// Tests that the rows of a walk that met no flaw are a typing, or else too deep.
+    /// Whether the rows of a walk that met no flaw are too deep. Else they are a typing.
     ///
     /// # Errors
-    /// `OutOfMemory`, `Unfinished`.
-    fn certify(&self, visited: &Visited<'_>, rows: &[Row]) -> Result<Option<Refusal>, SearchError>
+    /// [`AllocError`] where an allocation failed.
+    fn certify(&self, visited: &Visited<'_>, rows: &[Row]) -> Result<Option<Refusal>, AllocError>
         requires ready { IsReadyScene (seen P.facts P.leads self.now) }
         requires linked { AreLinked visited.now.bases.now }
-        requires listed { All (λ r. r.bases ≤ length visited.now.bases.now) rows.now }
         requires come { AreHeld (seen P.facts P.leads self.now) visited.now }
-        requires reached { All (IsReachedRow
-            (seen P.facts P.leads self.now).code self.now.chunk.now
-            visited.now.bases.now) rows.now }
+        requires pursued { ArePursued (seen P.facts P.leads self.now) visited.now.bases.now visited.now.slots.now [] }
+        requires ascending { AreAscending rows.now }
+        requires held { All (IsRowIn visited.now.slots.now) rows.now }
+        requires whole { HasRows rows.now visited.now.slots.now }
         ensures { IfOk result (λ r. MatchOption r
             (IsTypedBy (seen P.facts P.leads self.now).code self.now.chunk.now visited.now.bases.now
             rows.now)
             (IsRefusalAt (seen P.facts P.leads self.now) visited.now.bases.now)) }
     {
-        let claim = self.claim(visited.bases, rows, u32::from(self.chunk.max_stack()));
-        match claim.check_from(self.chunk.entry() as usize) {
-            Ok(()) => Ok(None),
-            Err(TypingError::TooDeep { .. }) => Ok(Some(self.too_deep(visited, rows)?)),
-            Err(_) => Err(SearchError::Unfinished),
-        }
-    }
-
-    /// Rows with the chunk, of which each may have so many operands.
-    fn claim<'a>(&'a self, bases: &'a [LinkedBase], rows: &'a [Row], most: u32) -> Claim<'a, P>
-        ensures { claimed P.facts P.leads result ≡ record {
-          code = (seen P.facts P.leads self.now).code;
-          chunk = self.now.chunk.now;
-          bases = bases.now;
-          rows = rows.now;
-          most = most;
-        } }
-    {
-        Claim {
-            caps: self.caps,
-            code: self.code,
-            chunk: self.chunk,
-            pools: self.pools,
-            bases,
-            rows,
-            most,
-        }
-    }
-
-    /// The refusal of a chunk that is deeper than it declares.
-    ///
-    /// # Errors
-    /// `OutOfMemory`, `Unfinished`.
-    fn too_deep(&self, visited: &Visited<'_>, rows: &[Row]) -> Result<Refusal, SearchError>
-        requires ready { IsReadyScene (seen P.facts P.leads self.now) }
-        requires linked { AreLinked visited.now.bases.now }
-        requires listed { All (λ r. r.bases ≤ length visited.now.bases.now) rows.now }
-        requires come { AreHeld (seen P.facts P.leads self.now) visited.now }
-        requires reached { All (IsReachedRow
-            (seen P.facts P.leads self.now).code self.now.chunk.now
-            visited.now.bases.now) rows.now }
-        ensures { IfOk result (IsRefusalAt (seen P.facts P.leads self.now) visited.now.bases.now) }
-    {
-        let needed = greatest(rows);
+        let Some(here) = self.deepest(visited) else {
+            return Ok(None);
+        };
         let declared = self.chunk.max_stack();
-        let claim = self.claim(visited.bases, rows, u32::MAX);
-        let checked = claim.check_from(self.chunk.entry() as usize);
-        if needed <= u32::from(declared) || checked.is_err() {
-            return Err(SearchError::Unfinished);
+        if here.row.operands <= u32::from(declared) {
+            return Ok(None);
         }
-        match self.deepest(visited, needed) {
-            Some(here) => {
-                let error = VerifyError::StackExceedsDeclared {
-                    needed: needed as usize,
-                    declared,
-                };
-                self.refuse(visited, here, error)
-            }
-            None => Err(SearchError::Unfinished),
-        }
+        let error = VerifyError::StackExceedsDeclared {
+            needed: here.row.operands as usize,
+            declared,
+        };
+        Ok(Some(self.refuse(visited, here, error)?))
     }
 
-    /// What was come to with so many operands.
-    fn deepest<'a>(&self, visited: &Visited<'a>, operands: u32) -> Option<&'a Arrival>
-        requires { AreHeld (seen P.facts P.leads self.now) visited.now }
-        ensures come { IfSome result (λ a. Comes
-            (seen P.facts P.leads self.now) visited.now a.now) }
-        ensures deep { IfSome result (λ a. a.now.row.operands ≡ operands) }
+    /// What was visited with the most operands.
+    fn deepest<'a>(&self, visited: &Visited<'a>) -> Option<&'a Arrival>
+        ensures holds { IfSome result (λ a. Holds visited.now.slots.now a.now) }
+        ensures most { MatchOption result ((a : Arrival) → Holds visited.now.slots.now a → ⊥)
+            (λ deepest. (a : Arrival) → Holds visited.now.slots.now a
+            → a.row.operands ≤ deepest.now.row.operands) }
     {
+        let mut deepest = None;
         for slot in visited.slots {
             if let Some(arrival) = slot {
-                if arrival.row.operands == operands {
-                    return Some(arrival);
-                }
+                deepest = Some(deeper(deepest, arrival));
             }
         }
-        None
+        deepest
     }
 }
 
-/// The greatest number of operands of a row.
-fn greatest(rows: &[Row]) -> u32
-    ensures { All (λ r. r.operands ≤ result) rows.now }
+/// Of two arrivals the one with more operands.
+fn deeper<'a>(before: Option<&'a Arrival>, arrival: &'a Arrival) -> &'a Arrival
+    ensures either { (result.now ≡ arrival.now)
+        ⊎ MatchOption before.entry ⊥ (λ b. result.now ≡ b.now) }
+    ensures most { arrival.now.row.operands ≤ result.now.row.operands }
+    ensures before { MatchOption before.entry ⊤ (λ b. b.now.row.operands ≤ result.now.row.operands) }
 {
-    let mut most = 0;
-    for row in rows {
-        most = most.max(row.operands);
+    match before {
+        Some(before) if before.row.operands > arrival.row.operands => before,
+        _ => arrival,
     }
-    most
 }

@@ -1,6 +1,6 @@
 //! What explaining answers.
 ghost use Rattle.std.specs.Prelude.{◌≡◌};
-ghost use Rattle.grain_explain.specs.declared.refusal.ExplainError.TheVariants.{BadCode, OutOfMemory};
+ghost use Rattle.grain_explain.specs.declared.refusal.ExplainError.TheVariants.{OutOfMemory};
 
 use crate::row::{LinkedBase, Row};
 use grain_rules::VerifyError;
@@ -40,18 +40,6 @@ pub enum ExplainError {
     BadCode,
     /// A growth was refused.
     OutOfMemory,
-    /// What the walk found isn't what it has to be. All that is answered is tested, and so proved; that this test never fails
-    /// isn't proved.
-    Unfinished,
-}
-
-/// Why a walk ends without an answer.
-#[derive(Clone, Copy)]
-pub(crate) enum SearchError {
-    /// A growth was refused.
-    OutOfMemory,
-    /// What it found isn't what it has to be.
-    Unfinished,
 }
 
 impl fmt::Display for ExplainError {
@@ -59,25 +47,11 @@ impl fmt::Display for ExplainError {
         f.write_str(match *self {
             ExplainError::BadCode => "bad code",
             ExplainError::OutOfMemory => "out of memory",
-            ExplainError::Unfinished => "unfinished",
         })
     }
 }
 
 impl std::error::Error for ExplainError {}
-
-impl From<SearchError> for ExplainError {
-    ghost use Rattle.std.specs.Prelude.{◌≢◌};
-
-    ghost from_gives = { λ _ e. e ≢ BadCode };
-
-    fn from(error: SearchError) -> ExplainError {
-        match error {
-            SearchError::OutOfMemory => ExplainError::OutOfMemory,
-            SearchError::Unfinished => ExplainError::Unfinished,
-        }
-    }
-}
 
 impl From<AllocError> for ExplainError {
     ghost from_gives = { λ _ e. e ≡ OutOfMemory };
@@ -92,17 +66,5 @@ impl<T: Drop> From<AllocFailed<T>> for ExplainError {
 
     fn from(_: AllocFailed<T>) -> ExplainError {
         ExplainError::OutOfMemory
-    }
-}
-
-impl From<AllocError> for SearchError {
-    fn from(_: AllocError) -> SearchError {
-        SearchError::OutOfMemory
-    }
-}
-
-impl<T: Drop> From<AllocFailed<T>> for SearchError {
-    fn from(_: AllocFailed<T>) -> SearchError {
-        SearchError::OutOfMemory
     }
 }

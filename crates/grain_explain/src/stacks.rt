@@ -1,15 +1,15 @@
 //! What stands on the edges on which a walk leaves an instruction, with its lists of bases.
-ghost use Rattle.std.specs.Prelude.{◌≡◌, ◌<◌, ◌≤◌, [], IfOk, IfSome, OnOk, Some, length, slice_get, ◌-◌};
-ghost use Rattle.grain_explain.specs.OnEdges.{IsListedIn, counts_on, handlers_in};
+ghost use Rattle.std.specs.Prelude.{◌≡◌, ◌<◌, ◌≤◌, ◌+◌, ◌^◌, ◌↔◌, [], IfOk, IsTrue, IfSome, OnOk, Some, length, slice_get, ◌-◌};
+ghost use Rattle.grain_explain.specs.OnEdges.{IsListedIn, counts_on, handlers_in, pushed_in};
 ghost use Rattle.grain_explain.specs.RowView.{AreLinked, list_in};
 ghost use Rattle.grain_explain.specs.Scenes.{Extends, Lands, Leaves};
 
 use crate::edge::{Handlers, OnEdge};
 use crate::lists::is_headed_by;
-use crate::refusal::SearchError;
 use crate::row::{LinkedBase, Row};
+use grain_code::Flow;
 use grain_rules::Effect;
-use std::alloc::Global;
+use std::alloc::{AllocError, Global};
 use std::collections::BTreeMap;
 
 /// What stands on an edge.
@@ -85,11 +85,14 @@ impl Arming {
     /// The list with a base in front of the one that it names.
     ///
     /// # Errors
-    /// `OutOfMemory`; `Unfinished` where there are more bases than numbers.
-    fn with_base(&mut self, base: LinkedBase) -> Result<u32, SearchError>
+    /// [`AllocError`] where an allocation failed.
+    fn with_base(&mut self, base: LinkedBase) -> Result<u32, AllocError>
         requires linked { AreLinked self.old.bases.items }
         requires listed { base.next ≤ length self.old.bases.items }
+        requires room { length self.old.bases.items + 1 < 2 ^ 32 }
         ensures extends { OnOk result (Extends self.old.bases.items self.new.bases.items) }
+        ensures grows { OnOk result (length self.new.bases.items
+            ≤ length self.old.bases.items + 1) }
         ensures listed { IfOk result (λ n. n ≤ length self.new.bases.items) }
         ensures bases { IfOk result (λ n. list_in self.new.bases.items n
             ≡ handlers_in self.old.bases.items (Handlers.Pushed base)) }
@@ -98,9 +101,7 @@ impl Arming {
             return Ok(list);
         }
         self.bases.push(base)?;
-        let Ok(list) = u32::try_from(self.bases.len()) else {
-            return Err(SearchError::Unfinished);
-        };
+        let list = self.bases.len() as u32;
         self.numbers.insert(base, list)?;
         Ok(list)
     }
@@ -109,10 +110,13 @@ impl Arming {
     ///
     /// # Errors
     /// Those of [`Arming::with_base`].
-    fn list_on(&mut self, handlers: Handlers) -> Result<u32, SearchError>
+    fn list_on(&mut self, handlers: Handlers) -> Result<u32, AllocError>
         requires linked { AreLinked self.old.bases.items }
         requires listed { IsListedIn self.old.bases.items handlers }
+        requires room { length self.old.bases.items + 1 < 2 ^ 32 }
         ensures extends { OnOk result (Extends self.old.bases.items self.new.bases.items) }
+        ensures grows { OnOk result (length self.new.bases.items
+            ≤ length self.old.bases.items + pushed_in handlers) }
         ensures listed { IfOk result (λ n. n ≤ length self.new.bases.items) }
         ensures bases { IfOk result (λ n. list_in self.new.bases.items n
             ≡ handlers_in self.old.bases.items handlers) }
@@ -126,24 +130,23 @@ impl Arming {
     /// What stands on an edge, with the list of its handlers.
     ///
     /// # Errors
-    /// `OutOfMemory`; `Unfinished` where a count is too large for a row.
-    fn land(&mut self, edge: &OnEdge) -> Result<Stacks, SearchError>
+    /// [`AllocError`] where an allocation failed.
+    fn land(&mut self, edge: &OnEdge) -> Result<Stacks, AllocError>
         requires linked { AreLinked self.old.bases.items }
         requires listed { IsListedIn self.old.bases.items edge.now.handlers }
+        requires operands { edge.now.operands < 2 ^ 32 }
+        requires iterators { edge.now.iterators < 2 ^ 32 }
+        requires room { length self.old.bases.items + 1 < 2 ^ 32 }
         ensures extends { OnOk result (Extends self.old.bases.items self.new.bases.items) }
+        ensures grows { OnOk result (length self.new.bases.items
+            ≤ length self.old.bases.items + pushed_in edge.now.handlers) }
         ensures lands { IfOk result (λ s. Lands self.new.bases.items s
             (counts_on self.old.bases.items edge.now)) }
     {
-        let (Ok(operands), Ok(iterators)) = (
-            u32::try_from(edge.operands),
-            u32::try_from(edge.iterators),
-        ) else {
-            return Err(SearchError::Unfinished);
-        };
         let bases = self.list_on(edge.handlers)?;
         Ok(Stacks {
-            operands,
-            iterators,
+            operands: edge.operands as u32,
+            iterators: edge.iterators as u32,
             bases,
         })
     }
@@ -151,17 +154,44 @@ impl Arming {
     /// What stands on the edges of an operation that finds a row.
     ///
     /// # Errors
-    /// `OutOfMemory`, `Unfinished`.
-    pub(crate) fn leave(&mut self, row: &Row, effect: &Effect) -> Result<Leaving, SearchError>
+    /// [`AllocError`] where an allocation failed.
+    pub(crate) fn leave(&mut self, row: &Row, effect: &Effect) -> Result<Leaving, AllocError>
         requires linked { AreLinked self.old.bases.items }
         requires listed { row.now.bases ≤ length self.old.bases.items }
+        requires needs { effect.now.needs ≤ row.now.operands }
+        requires operands { row.now.operands + 1 < 2 ^ 32 }
+        requires iterators { row.now.iterators + 1 < 2 ^ 32 }
+        requires room { length self.old.bases.items + 1 < 2 ^ 32 }
         ensures extends { OnOk result (Extends self.old.bases.items self.new.bases.items) }
+        ensures grows { OnOk result (length self.new.bases.items
+            ≤ length self.old.bases.items + 1) }
         ensures leaves { IfOk result (Leaves self.new.bases.items row.now effect.now) }
     {
         let jump = OnEdge::to_targets(row, effect);
         let jump = self.land(&jump)?;
+        if arms_handler(effect.flow) {
+            return Ok(Leaving { jump, fall: jump });
+        }
         let fall = OnEdge::to_next(&self.bases, row, effect);
         let fall = self.land(&fall)?;
         Ok(Leaving { jump, fall })
+    }
+}
+
+/// Whether an operation that is left so arms a handler, which is then armed on both its edges.
+fn arms_handler(flow: Flow) -> bool
+    ensures { IsTrue result ↔ (flow ≡ Flow.PushesHandler) }
+{
+    match flow {
+        Flow::PushesHandler => true,
+        Flow::Falls
+        | Flow::Ends
+        | Flow::Jumps
+        | Flow::Branches
+        | Flow::Switches
+        | Flow::BeginsIterator
+        | Flow::AdvancesIterator
+        | Flow::EndsIterator
+        | Flow::PopsHandler => false,
     }
 }

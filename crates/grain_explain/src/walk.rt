@@ -1,27 +1,32 @@
 //! The walk over one chunk: what it visits, on which path, and the flaw that it meets.
-ghost use Rattle.std.specs.Prelude.{◌≡◌, ◌<◌, None, Some, get_or, length, true};
-ghost use Rattle.std.specs.Prelude.{IfErr, IfOk, IfSome, OnOk};
-ghost use Rattle.std.specs.List.{All};
+ghost use Rattle.std.specs.Prelude.{◌≡◌, ◌+◌, ◌<◌, ◌≤◌, ◌^◌, [], None, Some, get_or, length, true};
+ghost use Rattle.std.specs.Prelude.{IfErr, IfNone, IfOk, IfSome, OnOk};
+ghost use Rattle.std.specs.List.{All, Contains};
+ghost use Rattle.grain_rules.specs.Code.{coded};
 ghost use Rattle.grain_rules.specs.Flaw.{ChunkFlaw};
 ghost use Rattle.grain_rules.specs.FlowFields.{falls_for, targets_for};
 ghost use Rattle.grain_rules.specs.EffectView.{flow_in};
+ghost use Rattle.grain_rules.specs.Typing.{IsInChunk};
+ghost use Rattle.grain_explain.specs.Pursuits.{ArePursued, Holds, IsNext, IsPursued, IsTurn, Keeps};
+ghost use Rattle.grain_explain.specs.Pursuits.{fallen, sent_to};
 ghost use Rattle.grain_explain.specs.Scenes.{AreCome, AreHeld, Comes, IsCome, IsReadyScene};
-ghost use Rattle.grain_explain.specs.Scenes.{IsRefusalAt};
-ghost use Rattle.grain_explain.specs.Scenes.{IsSearching};
+ghost use Rattle.grain_explain.specs.Scenes.{IsHeld, IsRefusalAt, IsSearching};
 ghost use Rattle.grain_explain.specs.Scenes.{Extends, IsLeft, MissesTargetOf, error_lacking, seen};
+ghost use Rattle.grain_explain.specs.Scenes.{visit_count};
 ghost use Rattle.grain_explain.specs.RowView.{AreLinked};
 ghost use Rattle.grain_explain.specs.Ways.{IsWayTo, Shows, arrival_stop, stops_of};
 
 use crate::arrival::Arrival;
 use crate::edge::OnEdge;
 use crate::needs::{Lack, check_needs};
-use crate::refusal::{Refusal, SearchError};
+use crate::refusal::Refusal;
 use crate::row::{LinkedBase, Row};
 use crate::scene::Scene;
 use crate::stacks::{Arming, Leaving};
 use crate::switches::targets_of;
-use grain_code::{decode, width};
+use grain_code::decode_standing;
 use grain_rules::{Effect, Read, VerifyError};
+use std::alloc::AllocError;
 
 /// What a walk has visited, by the distance from the chunk's entry, what waits, and the handlers that it has seen armed.
 #[derive(Drop)]
@@ -31,6 +36,17 @@ pub(crate) struct Search {
     pub(crate) arming: Arming,
 }
 
+/// What a walk does next.
+#[derive(Drop)]
+pub(crate) enum Turn {
+    /// Nothing waits.
+    Finished,
+    /// It visits an instruction, whose place is free.
+    Visit(usize, Arrival),
+    /// It ends with the refusal of a conflict.
+    Refused(Refusal),
+}
+
 /// What a walk has visited, by the distance from the chunk's entry, and the bases whose lists are named there.
 #[derive(Clone, Copy)]
 pub(crate) struct Visited<'a> {
@@ -38,7 +54,7 @@ pub(crate) struct Visited<'a> {
     pub(crate) bases: &'a [LinkedBase],
 }
 
-/// An instruction that is left: what is there, its place, what it does, what stands on its edges, and the address behind it.
+/// An instruction that is left: what is there, its place, what it does, what stands on its edges, and the address of the next.
 #[derive(Clone, Copy)]
 pub(crate) struct Departure<'a> {
     pub(crate) visited: Visited<'a>,
@@ -49,90 +65,107 @@ pub(crate) struct Departure<'a> {
     pub(crate) next: usize,
 }
 
+impl Visited<'_> {
+    /// What was visited at a place.
+    pub(crate) fn at(&self, place: usize) -> &Arrival
+        requires { (a : Arrival) × (get_or self.now.slots.now place None ≡ Some a) }
+        ensures { get_or self.now.slots.now place None ≡ Some result.now }
+    {
+        let Some(arrival) = &self.slots[place] else {
+            unreachable!()
+        };
+        arrival
+    }
+}
+
 impl<P: Read> Scene<'_, P> {
-    /// Walks until nothing waits, or a flaw is met.
+    /// Walks until nothing waits, or a flaw is met. Each turn visits a place that was free, so that it ends.
     ///
     /// # Errors
-    /// `OutOfMemory`, `Unfinished`.
-    pub(crate) fn run(&self, search: &mut Search) -> Result<Option<Refusal>, SearchError>
+    /// [`AllocError`] where an allocation failed.
+    pub(crate) fn run(&self, search: &mut Search) -> Result<Option<Refusal>, AllocError>
         requires ready { IsReadyScene (seen P.facts P.leads self.now) }
         requires searching { IsSearching (seen P.facts P.leads self.now) search.old }
-        ensures come { OnOk result
-            (AreCome (seen P.facts P.leads self.now)
+        requires pursued { ArePursued (seen P.facts P.leads self.now) search.old.arming.bases.items
+            search.old.slots.items search.old.work.items }
+        ensures come { OnOk result (AreCome (seen P.facts P.leads self.now)
             search.new.arming.bases.items search.new.slots.items) }
         ensures linked { OnOk result (AreLinked search.new.arming.bases.items) }
-        ensures refusal { IfOk result
-            (λ r. IfSome r (IsRefusalAt (seen P.facts P.leads self.now)
+        ensures pursued { IfOk result (λ r. IfNone r (ArePursued (seen P.facts P.leads self.now)
+            search.new.arming.bases.items search.new.slots.items [])) }
+        ensures refusal { IfOk result (λ r. IfSome r (IsRefusalAt (seen P.facts P.leads self.now)
             search.new.arming.bases.items)) }
     {
-        for _ in 0..u64::MAX {
-            let Some(arrival) = search.work.pop() else {
-                return Ok(None);
-            };
-            let refusal = self.arrive(search, arrival)?;
-            if refusal.is_some() {
-                return Ok(refusal);
+        'turns: loop {
+            match self.turn(search)? {
+                Turn::Finished => return Ok(None),
+                Turn::Refused(refusal) => return Ok(Some(refusal)),
+                Turn::Visit(place, arrival) => {
+                    let refusal = self.visit(search, place, arrival)?;
+                    if refusal.is_some() {
+                        return Ok(refusal);
+                    }
+                }
             }
         }
-        Err(SearchError::Unfinished)
     }
 
-    /// Takes an arrival: visits the instruction where none was come to, else compares what is there.
+    /// Takes arrivals whose places were visited, and compares each with what is there, until one's place is free.
     ///
     /// # Errors
-    /// `OutOfMemory`, `Unfinished`.
-    fn arrive(&self, search: &mut Search, arrival: Arrival) -> Result<Option<Refusal>, SearchError>
+    /// [`AllocError`] where an allocation failed.
+    fn turn(&self, search: &mut Search) -> Result<Turn, AllocError>
         requires ready { IsReadyScene (seen P.facts P.leads self.now) }
         requires searching { IsSearching (seen P.facts P.leads self.now) search.old }
-        requires come { IsCome (seen P.facts P.leads self.now) search.old.arming.bases.items
-            search.old.slots.items arrival }
+        requires pursued { ArePursued (seen P.facts P.leads self.now) search.old.arming.bases.items
+            search.old.slots.items search.old.work.items }
+        ensures slots { OnOk result (search.new.slots.items ≡ search.old.slots.items) }
         ensures searching { OnOk result (IsSearching (seen P.facts P.leads self.now) search.new) }
-        ensures refusal { IfOk result
-            (λ r. IfSome r (IsRefusalAt (seen P.facts P.leads self.now)
-            search.new.arming.bases.items)) }
+        ensures turn { IfOk result (IsTurn (seen P.facts P.leads self.now) search.new) }
     {
-        let place = (arrival.row.at as usize).saturating_sub(self.chunk.entry() as usize);
-        match search.slots.get(place) {
-            Some(Some(before)) => {
-                let visited = Visited {
-                    slots: &search.slots,
-                    bases: &search.arming.bases,
-                };
-                self.compare(&visited, before, &arrival)
+        while let Some(arrival) = search.work.pop() {
+            let place = arrival.row.at as usize - self.chunk.entry() as usize;
+            let Some(before) = &search.slots[place] else {
+                return Ok(Turn::Visit(place, arrival));
+            };
+            let visited = Visited {
+                slots: &search.slots,
+                bases: &search.arming.bases,
+            };
+            if let Some(refusal) = self.compare(&visited, before, &arrival)? {
+                return Ok(Turn::Refused(refusal));
             }
-            Some(None) => self.visit(search, place, arrival),
-            None => Err(SearchError::Unfinished),
         }
+        Ok(Turn::Finished)
     }
 
-    /// Compares what comes to an instruction with what is there.
+    /// Compares what leads to an instruction with what is there.
     ///
     /// # Errors
-    /// `OutOfMemory`, `Unfinished`.
+    /// [`AllocError`] where an allocation failed.
     fn compare(
         &self,
         visited: &Visited<'_>,
         before: &Arrival,
         arrival: &Arrival,
-    ) -> Result<Option<Refusal>, SearchError>
+    ) -> Result<Option<Refusal>, AllocError>
         requires ready { IsReadyScene (seen P.facts P.leads self.now) }
         requires linked { AreLinked visited.now.bases.now }
         requires come { AreHeld (seen P.facts P.leads self.now) visited.now }
         requires before { Comes (seen P.facts P.leads self.now) visited.now before.now }
         requires arrival { Comes (seen P.facts P.leads self.now) visited.now arrival.now }
-        ensures { IfOk result (λ r. IfSome r (IsRefusalAt (seen P.facts P.leads self.now)
+        requires there { before.now.row.at ≡ arrival.now.row.at }
+        ensures same { IfOk result (λ r. IfNone r (arrival_stop visited.now.bases.now before.now
+            ≡ arrival_stop visited.now.bases.now arrival.now)) }
+        ensures refusal { IfOk result (λ r. IfSome r (IsRefusalAt (seen P.facts P.leads self.now)
             visited.now.bases.now)) }
     {
-        let at = before.row.at;
-        if at != arrival.row.at || self.check_target(at, at).is_err() {
-            return Err(SearchError::Unfinished);
-        }
         if OnEdge::at(&before.row).is_at(visited.bases, &arrival.row) {
             return Ok(None);
         }
         Ok(Some(Refusal {
             error: VerifyError::DepthConflict {
-                at: at as usize,
+                at: before.row.at as usize,
                 expected: before.row.operands as usize,
                 found: arrival.row.operands as usize,
             },
@@ -144,22 +177,22 @@ impl<P: Read> Scene<'_, P> {
     /// Puts an arrival in its place, and sends counts along its edges.
     ///
     /// # Errors
-    /// `OutOfMemory`, `Unfinished`.
+    /// [`AllocError`] where an allocation failed.
     fn visit(
         &self,
         search: &mut Search,
         place: usize,
         arrival: Arrival,
-    ) -> Result<Option<Refusal>, SearchError>
+    ) -> Result<Option<Refusal>, AllocError>
         requires ready { IsReadyScene (seen P.facts P.leads self.now) }
         requires searching { IsSearching (seen P.facts P.leads self.now) search.old }
-        requires come { IsCome (seen P.facts P.leads self.now) search.old.arming.bases.items
-            search.old.slots.items arrival }
-        requires inside { place < length search.old.slots.items }
-        requires free { get_or search.old.slots.items place None ≡ None }
+        requires next { IsNext (seen P.facts P.leads self.now) search.old place arrival }
+        ensures more { OnOk result (visit_count search.new.slots.items
+            ≡ visit_count search.old.slots.items + 1) }
         ensures searching { OnOk result (IsSearching (seen P.facts P.leads self.now) search.new) }
-        ensures refusal { IfOk result
-            (λ r. IfSome r (IsRefusalAt (seen P.facts P.leads self.now)
+        ensures pursued { IfOk result (λ r. IfNone r (ArePursued (seen P.facts P.leads self.now)
+            search.new.arming.bases.items search.new.slots.items search.new.work.items)) }
+        ensures refusal { IfOk result (λ r. IfSome r (IsRefusalAt (seen P.facts P.leads self.now)
             search.new.arming.bases.items)) }
     {
         search.slots[place] = Some(arrival);
@@ -175,7 +208,7 @@ impl<P: Read> Scene<'_, P> {
     /// Tests what an instruction needs, and sends counts along its edges.
     ///
     /// # Errors
-    /// `OutOfMemory`, `Unfinished`.
+    /// [`AllocError`] where an allocation failed.
     fn look(
         &self,
         slots: &[Option<Arrival>],
@@ -183,31 +216,26 @@ impl<P: Read> Scene<'_, P> {
         here: &Arrival,
         arming: &mut Arming,
         work: &mut Vec<Arrival>,
-    ) -> Result<Option<Refusal>, SearchError>
+    ) -> Result<Option<Refusal>, AllocError>
         requires ready { IsReadyScene (seen P.facts P.leads self.now) }
         requires linked { AreLinked arming.old.bases.items }
         requires come { AreCome (seen P.facts P.leads self.now) arming.old.bases.items slots.now }
         requires held { get_or slots.now place None ≡ Some here.now }
-        requires waits { All (IsCome
-            (seen P.facts P.leads self.now) arming.old.bases.items slots.now) work.old.items }
+        requires short { length slots.now < 2 ^ 32 }
+        requires few { length arming.old.bases.items < visit_count slots.now }
+        requires waits { All (IsCome (seen P.facts P.leads self.now) arming.old.bases.items slots.now) work.old.items }
+        ensures few { OnOk result (length arming.new.bases.items ≤ visit_count slots.now) }
         ensures extends { OnOk result (Extends arming.old.bases.items arming.new.bases.items) }
         ensures waits { OnOk result
-            (All (IsCome (seen P.facts P.leads self.now) arming.new.bases.items slots.now)
-            work.new.items) }
+            (All (IsCome (seen P.facts P.leads self.now) arming.new.bases.items slots.now) work.new.items) }
+        ensures keeps { OnOk result (Keeps work.old.items work.new.items) }
+        ensures pursued { IfOk result (λ r. IfNone r (IsPursued (seen P.facts P.leads self.now)
+            arming.new.bases.items slots.now work.new.items here.now)) }
         ensures refusal { IfOk result
             (λ r. IfSome r (IsRefusalAt (seen P.facts P.leads self.now) arming.new.bases.items)) }
     {
         let row = &here.row;
-        let at = row.at as usize;
-        let Some(op) = decode(self.code, at) else {
-            return Err(SearchError::Unfinished);
-        };
-        let Some(width) = width(self.code, at) else {
-            return Err(SearchError::Unfinished);
-        };
-        if self.check_target(row.at, row.at).is_err() {
-            return Err(SearchError::Unfinished);
-        }
+        let (op, next) = decode_standing(self.code, row.at as usize);
         match check_needs(self.caps, self.pools, &op, &arming.bases, row) {
             Ok(effect) => {
                 let leaving = arming.leave(row, &effect)?;
@@ -220,7 +248,7 @@ impl<P: Read> Scene<'_, P> {
                     place,
                     effect: &effect,
                     leaving,
-                    next: at + width,
+                    next,
                 };
                 self.send(&departure, work)
             }
@@ -264,21 +292,23 @@ impl<P: Read> Scene<'_, P> {
     /// Sends counts along the edges of an instruction.
     ///
     /// # Errors
-    /// `OutOfMemory`, `Unfinished`.
+    /// [`AllocError`] where an allocation failed.
     fn send(
         &self,
         departure: &Departure<'_>,
         work: &mut Vec<Arrival>,
-    ) -> Result<Option<Refusal>, SearchError>
+    ) -> Result<Option<Refusal>, AllocError>
         requires ready { IsReadyScene (seen P.facts P.leads self.now) }
         requires left { IsLeft (seen P.facts P.leads self.now) departure.now }
         requires waits { All (Comes (seen P.facts P.leads self.now) departure.now.visited)
             work.old.items }
-        ensures waits { OnOk result (All (Comes
-            (seen P.facts P.leads self.now) departure.now.visited) work.new.items) }
-        ensures refusal { IfOk result
-            (λ r. IfSome r (IsRefusalAt
-            (seen P.facts P.leads self.now) departure.now.visited.bases.now)) }
+        ensures waits { OnOk result (All (Comes (seen P.facts P.leads self.now) departure.now.visited) work.new.items) }
+        ensures keeps { OnOk result (Keeps work.old.items work.new.items) }
+        ensures pursued { IfOk result (λ r. IfNone r (IsPursued (seen P.facts P.leads self.now)
+            departure.now.visited.bases.now departure.now.visited.slots.now work.new.items
+            departure.now.here.now)) }
+        ensures refusal { IfOk result (λ r. IfSome r (IsRefusalAt (seen P.facts P.leads self.now)
+            departure.now.visited.bases.now)) }
     {
         let here = departure.here;
         let effect = departure.effect;
@@ -298,31 +328,28 @@ impl<P: Read> Scene<'_, P> {
     /// Sends counts along the edge to the next instruction.
     ///
     /// # Errors
-    /// `OutOfMemory`, `Unfinished`.
+    /// [`AllocError`] where an allocation failed.
     fn fall(
         &self,
         departure: &Departure<'_>,
         work: &mut Vec<Arrival>,
-    ) -> Result<Option<Refusal>, SearchError>
+    ) -> Result<Option<Refusal>, AllocError>
         requires ready { IsReadyScene (seen P.facts P.leads self.now) }
         requires left { IsLeft (seen P.facts P.leads self.now) departure.now }
         requires falls { falls_for (flow_in departure.now.effect.now) ≡ true }
-        requires waits { All (Comes (seen P.facts P.leads self.now) departure.now.visited)
-            work.old.items }
-        ensures waits { OnOk result (All (Comes
-            (seen P.facts P.leads self.now) departure.now.visited) work.new.items) }
-        ensures refusal { IfOk result
-            (λ r. IfSome r (IsRefusalAt
-            (seen P.facts P.leads self.now) departure.now.visited.bases.now)) }
+        requires waits { All (Comes (seen P.facts P.leads self.now) departure.now.visited) work.old.items }
+        ensures waits { OnOk result (All (Comes (seen P.facts P.leads self.now) departure.now.visited) work.new.items) }
+        ensures keeps { OnOk result (Keeps work.old.items work.new.items) }
+        ensures sent { IfOk result (λ r. IfNone r (Contains work.new.items (fallen departure.now))) }
+        ensures refusal { IfOk result (λ r. IfSome r (IsRefusalAt (seen P.facts P.leads self.now)
+            departure.now.visited.bases.now)) }
     {
         if departure.next == self.chunk.end() as usize {
             let error = VerifyError::FallsOffTheEnd;
             let refusal = self.refuse(&departure.visited, departure.here, error)?;
             return Ok(Some(refusal));
         }
-        let Ok(at) = u32::try_from(departure.next) else {
-            return Err(SearchError::Unfinished);
-        };
+        let at = departure.next as u32;
         work.push(Arrival {
             row: departure.leaving.fall.at(at),
             from: Some(departure.place),
@@ -336,7 +363,9 @@ impl<P: Read> Scene<'_, P> {
     /// That of the first that is none.
     fn check_targets(&self, at: u32, targets: &[u32]) -> Result<(), VerifyError>
         requires { IsReadyScene (seen P.facts P.leads self.now) }
-        ensures { IfErr result (MissesTargetOf (seen P.facts P.leads self.now) at targets.now) }
+        ensures inside { OnOk result (All (IsInChunk (coded (seen P.facts P.leads self.now).code) self.now.chunk.now)
+            targets.now) }
+        ensures err { IfErr result (MissesTargetOf (seen P.facts P.leads self.now) at targets.now) }
     {
         for target in targets {
             self.check_target(at, *target)?;
@@ -347,20 +376,22 @@ impl<P: Read> Scene<'_, P> {
     /// Sends what stands on the edges to targets to each of these.
     ///
     /// # Errors
-    /// `OutOfMemory`.
+    /// [`AllocError`] where an allocation failed.
     fn push_all(
         &self,
         departure: &Departure<'_>,
         targets: &[u32],
         work: &mut Vec<Arrival>,
-    ) -> Result<(), SearchError>
+    ) -> Result<(), AllocError>
         requires left { IsLeft (seen P.facts P.leads self.now) departure.now }
         requires targets { targets.now ≡ targets_for (seen P.facts P.leads self.now).code.switches
             (flow_in departure.now.effect.now) }
-        requires waits { All (Comes (seen P.facts P.leads self.now) departure.now.visited)
-            work.old.items }
-        ensures { OnOk result (All (Comes (seen P.facts P.leads self.now) departure.now.visited)
-            work.new.items) }
+        requires inside { All (IsInChunk (coded (seen P.facts P.leads self.now).code) self.now.chunk.now) targets.now }
+        requires waits { All (Comes (seen P.facts P.leads self.now) departure.now.visited) work.old.items }
+        ensures waits { OnOk result (All (Comes (seen P.facts P.leads self.now) departure.now.visited) work.new.items) }
+        ensures keeps { OnOk result (Keeps work.old.items work.new.items) }
+        ensures sent { OnOk result (All (λ t. Contains work.new.items (sent_to departure.now t))
+            targets.now) }
     {
         for target in targets {
             work.push(Arrival {
@@ -371,16 +402,16 @@ impl<P: Read> Scene<'_, P> {
         Ok(())
     }
 
-    /// A refusal with the way to the instruction that shows it.
+    /// A refusal with the path to the instruction that shows it.
     ///
     /// # Errors
-    /// `OutOfMemory`, `Unfinished`.
+    /// [`AllocError`] where an allocation failed.
     pub(crate) fn refuse(
         &self,
         visited: &Visited<'_>,
         here: &Arrival,
         error: VerifyError,
-    ) -> Result<Refusal, SearchError>
+    ) -> Result<Refusal, AllocError>
         requires come { AreHeld (seen P.facts P.leads self.now) visited.now }
         requires here { Comes (seen P.facts P.leads self.now) visited.now here.now }
         requires shows { Shows (seen P.facts P.leads self.now).code self.now.chunk.now
@@ -395,11 +426,11 @@ impl<P: Read> Scene<'_, P> {
         })
     }
 
-    /// The way to an arrival: from it back to the chunk's entry.
+    /// The path to an arrival: from it back to the chunk's entry.
     ///
     /// # Errors
-    /// `OutOfMemory`, `Unfinished`.
-    fn way_to(&self, visited: &Visited<'_>, last: &Arrival) -> Result<Vec<Row>, SearchError>
+    /// [`AllocError`] where an allocation failed.
+    fn way_to(&self, visited: &Visited<'_>, last: &Arrival) -> Result<Vec<Row>, AllocError>
         requires come { AreHeld (seen P.facts P.leads self.now) visited.now }
         requires last { Comes (seen P.facts P.leads self.now) visited.now last.now }
         ensures { IfOk result (λ v. IsWayTo (seen P.facts P.leads self.now).code self.now.chunk.now
@@ -408,16 +439,12 @@ impl<P: Read> Scene<'_, P> {
     {
         let mut way = Vec::new(self.alloc);
         let mut here = last;
-        for _ in 0..=visited.slots.len() {
+        'back: loop {
             way.push(here.row)?;
             let Some(place) = here.from else {
                 return Ok(way);
             };
-            let Some(Some(before)) = visited.slots.get(place) else {
-                return Err(SearchError::Unfinished);
-            };
-            here = before;
+            here = visited.at(place);
         }
-        Err(SearchError::Unfinished)
     }
 }

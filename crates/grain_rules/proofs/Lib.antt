@@ -4,6 +4,7 @@ pub mod ByDepth
 pub mod ChainTests
 pub mod Exact
 pub mod FourDigits
+pub mod CountGrowth
 pub mod Indexing
 pub mod Law
 pub mod Offsets

@@ -11,7 +11,7 @@ use Rattle.grain_rules.proofs.Splits.{in_nil, in_cons, in_head, in_tail, next_st
 use Rattle.grain_verify.specs.Arrivals.{Coming, all_to}
 use Rattle.grain_verify.specs.Graph.{along, at_start}
 use Rattle.grain_verify.specs.Progress.{Walks}
-use Rattle.grain_verify.proofs.CountGrowth.{IsSmall, edge_small}
+use Rattle.grain_rules.proofs.CountGrowth.{IsSmall, edge_small}
 
 -- what is on its way to each of these addresses
 pub jumps_to : (c : Counts) (ts : List ℕ) (x : Coming) → Contains (all_to c ts) x ↔ (Contains ts x.0 × (x.1 ≡ c))

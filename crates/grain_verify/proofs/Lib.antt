@@ -1,7 +1,6 @@
 pub mod AboveLastBase
 pub mod ChunkInduction
 pub mod ChunkNumbers
-pub mod CountGrowth
 pub mod EdgeTargets
 pub mod FollowedFlow
 pub mod InstructionHeads

@@ -1,25 +1,34 @@
 use Rattle.std.proofs.Common.{◌≡◌, ℕ, true, ap, refl, sym, subst, ◌∙◌}
 use Rattle.grain_rules.specs.Code.{coded}
+use Rattle.grain_rules.specs.Counts.{Counts}
 use Rattle.grain_rules.specs.Typing.{Reached}
 use Rattle.grain_explain.specs.OnEdges.{counts_on}
 use Rattle.grain_explain.specs.RowView.{counts_of}
 use Rattle.grain_explain.specs.Scenes.{seen}
-use Rattle.grain_explain.specs.Ways.{arrival_stop, of_conflict}
-use Rattle.grain_explain.proofs.Sceneries.{not_err}
+use Rattle.grain_explain.specs.Ways.{Stop, arrival_stop, of_conflict}
 use Rattle.grain_explain.proofs.scene.Scene.compare.Goals as goal
 
-pub returns : goal.returns
-returns g c =
+pub returns-then-is_at-clause-same : goal.returns-then-is_at-clause-same
+returns-then-is_at-clause-same g c =
     let bases = c.args.visited.now.bases.now in
     let before = c.args.before.now in
     let arrival = c.args.arrival.now in
-    let there = c.if-at-arrival.false in
-    let inside = not_err c.check_target.result (sym c.is_err.ensures.value ∙ c.if-is_err.false) c.check_target.ensures.inside in
+    let counts : counts_of bases arrival.row ≡ counts_of bases before.row = c.is_at.ensures.0 c.if-is_at.true ∙ ap (counts_on bases) c.at.ensures in
+    let P : Counts → Stop = λ x. (arrival.row.at, x) in
+    let Q : ℕ → Stop = λ n. (n, counts_of bases before.row) in
+    ap Q c.requires.there ∙ ap P (sym counts)
+
+pub returns-clause-refusal : goal.returns-clause-refusal
+returns-clause-refusal g c =
+    let bases = c.args.visited.now.bases.now in
+    let before = c.args.before.now in
+    let arrival = c.args.arrival.now in
+    let there = c.requires.there in
     let unlike : counts_of bases before.row ≡ counts_of bases arrival.row → ⊥ = λ e. (let t : c.is_at.result ≡ true = c.is_at.ensures.1 (sym e ∙ sym (ap (counts_on bases) c.at.ensures)) in let f = c.if-is_at.false in cc) in
     record {
       flaw = (
         c.requires.ready.framed,
-        inside,
+        c.requires.before.inside,
         record {
           one = counts_of bases before.row;
           other = counts_of bases arrival.row;

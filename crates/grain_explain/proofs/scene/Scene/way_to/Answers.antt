@@ -1,28 +1,46 @@
-use Rattle.std.proofs.Common.{◌∷◌, ◌++◌, List, ap, refl, subst, sym, ◌∙◌}
+use Rattle.std.proofs.Common.{◌∷◌, ◌++◌, suc, List, length, ap, refl, subst, sym, ◌∙◌, arith}
+use Rattle.std.proofs.lemmas.List.{length_push}
 use Rattle.std.proofs.lemmas.Option.{same_Some}
-use Rattle.grain_explain.specs.Scenes.{seen}
+use Rattle.grain_explain.specs.Scenes.{seen, visit_count}
 use Rattle.grain_explain.specs.Ways.{Follows, IsWayTo, arrival_stop, stops_of}
 use Rattle.grain_explain.specs.declared.arrival.Arrival.{Arrival}
 use Rattle.grain_explain.specs.declared.row.Row.{Row}
-use Rattle.grain_explain.proofs.Sceneries.{slot_found, way_more}
+use Rattle.grain_explain.proofs.Sceneries.{way_more}
+use Rattle.grain_explain.proofs.Tracing.{back_from}
 use Rattle.grain_explain.proofs.scene.Scene.way_to.Goals as goal
 
-pub loop-preserved : goal.loop-preserved
-loop-preserved g c =
+pub at-here-requires : goal.at-here-requires
+at-here-requires g c = let (y, held, follows) = rw c.in-Some.is at c.back.invariant.come.origin in (y, held)
+
+pub back-preserved : goal.back-preserved
+back-preserved g c =
     let code = (seen g.P.Read.facts g.P.Read.leads c.args.self.now).code in
     let chunk = c.args.self.now.chunk.now in
     let bases = c.args.visited.now.bases.now in
-    let before = c.in-Some-Some.before in
-    let here = c.loop.here.now in
-    let lookup = c.in-Some-Some.ensures.lookup in
-    let found = slot_found c.args.visited.now.slots.now c.in-Some.place c.in-Some-Some.field-0.now before lookup.0 lookup.1 c.in-Some-Some.field-0-is in
-    let (y, held, follows) = rw c.in-Some.is at c.loop.invariant.come.origin in
+    let slots = c.args.visited.now.slots.now in
+    let here = c.back.here.now in
+    let before = c.at-here.result.now in
+    let found = c.at-here.ensures in
+    let (y, held, follows) = rw c.in-Some.is at c.back.invariant.come.origin in
     let edge = subst (λ (a : Arrival). Follows code chunk (arrival_stop bases a) (arrival_stop bases here)) (same_Some y before (sym held ∙ found)) follows in
+    let (n, total, back) = c.back.invariant.back in
+    let (m, less, earlier) = back_from slots n here before c.in-Some.place c.in-Some.is found back in
+    let grown = ap (λ (rows : List Row). length rows) c.in_ok-push.ensures.items ∙ length_push c.back.way.items here.row in
     record {
-      come = c.requires.come c.in-Some.place before found;
+      come = (c.requires.come c.in-Some.place before found).come;
+      back = (m, omega (arith, grown, total, less), earlier);
       so_far = λ earlier way. (
           let items = ap (λ (rows : List Row). stops_of bases rows ++ arrival_stop bases before ∷ earlier) c.in_ok-push.ensures.items in
-          let more = way_more bases c.loop.way.items here.row (arrival_stop bases here) (arrival_stop bases before) earlier refl in
-          subst (IsWayTo code chunk (arrival_stop bases c.args.last.now)) (sym (items ∙ more)) (c.loop.invariant.so_far (arrival_stop bases before ∷ earlier) (edge, way))
+          let more = way_more bases c.back.way.items here.row (arrival_stop bases here) (arrival_stop bases before) earlier refl in
+          subst (IsWayTo code chunk (arrival_stop bases c.args.last.now)) (sym (items ∙ more)) (c.back.invariant.so_far (arrival_stop bases before ∷ earlier) (edge, way))
           );
+    }
+
+pub back-init : goal.back-init
+back-init g c =
+    let slots = c.args.visited.now.slots.now in
+    record {
+      come = c.requires.last;
+      back = (suc (visit_count slots), rw c.new-way.ensures.items (omega arith), c.requires.last.bounded.back);
+      so_far = λ earlier way. rw c.new-way.ensures.items (record { earlier = earlier; is = refl; along = way });
     }

@@ -16,5 +16,5 @@ returns-clause-bases c =
     let items = c.in_ok-push.ensures.items in
     let grown = ap (λ (bs : List LinkedBase). length bs) items in
     let more = length_push old c.args.base in
-    let number : c.in-Ok.list ≡ suc (length old) = omega (arith, c.in-Ok.ensures, c.len.ensures) in
+    let number : c.len-list.result ≡ suc (length old) = omega (arith, c.len-list.ensures) in
     rw (items, number) (list_push old c.args.base c.requires.linked c.requires.listed)
