@@ -44,7 +44,7 @@ TESTS = {
     "grain": "grain_tests",
     "grain_explain": "grain_tests",
     "grain_machine": "grain_machine_tests",
-    "grain_cases": "grain_tests",
+    "grain_lines": "grain_tests",
 }
 
 # The call of each test.
@@ -100,7 +100,7 @@ CALLS = {
         "run": "`Runnable::run` on a try",
         "run_call": "`Runnable::run` on a call, of which two are the host's",
     },
-    "grain_cases": {
+    "grain_lines": {
         "run": "`run` on `code` lines",
         "run_on_other_lines": "`run` on `site` and `verify` lines",
     },

@@ -1,9 +1,11 @@
 -- What a verification answers.
-use Rattle.std.specs.Prelude.{◌≡◌, ◌≢◌, ◌⊎◌, ◌↔◌, ℕ, ◌<◌, ◌≤◌, All, Option, length}
+use Rattle.std.specs.Prelude.{◌≡◌, ◌≢◌, ◌⊎◌, ◌↔◌, ℕ, ◌<◌, ◌≤◌, ◌++◌, All, List, Option, drop, length}
+use Rattle.grain_code.specs.Span.{Span}
 use Rattle.grain_rules.specs.declared.error.VerifyError.{VerifyError}
-use Rattle.grain_flat.specs.Answers.{Refuses, Visits, VisitsWithin, told}
+use Rattle.grain_flat.specs.Answers.{Accepts, Refuses, Visits, VisitsWithin, told}
 use Rattle.grain_flat.specs.Asking.{RowPasses}
 use Rattle.grain_flat.specs.Flat.{Pooled}
+use Rattle.grain_flat.specs.Tightening.{Tightens}
 use Rattle.grain_flat.specs.Work.{work_of}
 use Rattle.grain_flat.specs.declared.records.CProgram.{CProgram}
 use Rattle.grain_flat.specs.declared.records.CReport.{CReport}
@@ -27,3 +29,13 @@ pub record IsAnswer (caps limit : ℕ) (program : CProgram) (room : ℕ) (old ne
   -- what stays as it was
   pub refusal_kept : status ≢ REFUSED → new.refusal ≡ old.refusal
   pub visited_kept : status ≢ ACCEPTED → status ≢ REFUSED → new.visited ≡ old.visited
+
+-- What a verification writes in the room for depths: the headline, of all that has this flat form, or nothing.
+pub record WritesDepths (caps : ℕ) (program : CProgram) (old new : List ℕ) (status : ℕ) : Type 0 where
+  pub accepted : status ≡ ACCEPTED → (found : List ℕ) × (new ≡ found ++ drop (length found) old) × (length found ≡ length program.chunks.now) × Accepts caps program.code.now program.chunks.now program.pools found
+  pub kept : status ≢ ACCEPTED → new ≡ old
+
+-- What tightening writes in the room for chunks: those of an accepted program, each declaring its depth, or nothing.
+pub record WritesTight (caps : ℕ) (program : CProgram) (old new : List Span) (status : ℕ) : Type 0 where
+  pub accepted : status ≡ ACCEPTED → (tight : List Span) × (new ≡ tight ++ drop (length tight) old) × (length tight ≡ length program.chunks.now) × Tightens caps program.code.now program.chunks.now tight program.pools
+  pub kept : status ≢ ACCEPTED → new ≡ old

@@ -1,8 +1,6 @@
 //! Verification, and chunks that declare their depths.
-ghost use Rattle.std.specs.Prelude.{◌≡◌, ◌≢◌, ◌++◌, List, drop, length};
-ghost use Rattle.grain_code.specs.Span.{Span};
-ghost use Rattle.grain_c.specs.Answers.{IsAnswer};
-ghost use Rattle.grain_flat.specs.Tightening.{Tightens};
+ghost use Rattle.std.specs.Prelude.{length};
+ghost use Rattle.grain_c.specs.Answers.{IsAnswer, WritesTight};
 
 use crate::handle::{CScratch, keep, take};
 use crate::judge::judge;
@@ -21,13 +19,9 @@ fn tighten_in(
     tightened: &mut [CChunk],
     report: &mut CReport,
 ) -> u32
-    ensures accepted { result ≡ ACCEPTED → (tight : List Span)
-        × (tightened.new ≡ tight ++ drop (length tight) tightened.old)
-        × (length tight ≡ length program.now.chunks.now)
-        × Tightens caps program.now.code.now program.now.chunks.now tight program.now.pools }
+    ensures tightened { WritesTight caps program.now tightened.old tightened.new result }
     ensures answer { IsAnswer
         caps limit program.now (length tightened.old) report.old report.new result }
-    ensures kept { result ≢ ACCEPTED → tightened.new ≡ tightened.old }
 {
     match judge(
         alloc,
@@ -60,17 +54,11 @@ pub extern "C" fn grain_proved_tighten(
     report: &mut CReport,
 ) -> u32
     // The headline, of all that has this flat form.
-    ensures accepted { result ≡ ACCEPTED → (tight : List Span)
-        × (tightened.new ≡ tight ++ drop (length tight) tightened.old)
-        × (length tight ≡ length program.now.chunks.now)
-        × Tightens caps program.now.code.now program.now.chunks.now tight program.now.pools }
+    ensures tightened { WritesTight caps program.now tightened.old tightened.new result }
 
     // Refusals, the other answers, and the report.
     ensures answer { IsAnswer
         caps limit program.now (length tightened.old) report.old report.new result }
-
-    // What isn't written stays as it was.
-    ensures kept { result ≢ ACCEPTED → tightened.new ≡ tightened.old }
 {
     match take(alloc, scratch).or_else(|| Box::new(alloc, Scratch::new(alloc)).ok()) {
         Some(mut kept) => {

@@ -1,7 +1,6 @@
 //! Verification, over pools in their flat form.
-ghost use Rattle.std.specs.Prelude.{◌≡◌, ◌≢◌, ◌≤◌, ◌++◌, ℕ, List, drop, length};
-ghost use Rattle.grain_c.specs.Answers.{IsAnswer};
-ghost use Rattle.grain_flat.specs.Answers.{Accepts};
+ghost use Rattle.std.specs.Prelude.{◌≡◌, ◌≤◌, ◌++◌, drop, length};
+ghost use Rattle.grain_c.specs.Answers.{IsAnswer, WritesDepths};
 
 use crate::handle::{CScratch, keep, take};
 use crate::judge::judge;
@@ -28,13 +27,9 @@ fn verify_in(
     depths: &mut [u16],
     report: &mut CReport,
 ) -> u32
-    ensures accepted { result ≡ ACCEPTED → (found : List ℕ)
-        × (depths.new ≡ found ++ drop (length found) depths.old)
-        × (length found ≡ length program.now.chunks.now)
-        × Accepts caps program.now.code.now program.now.chunks.now program.now.pools found }
+    ensures depths { WritesDepths caps program.now depths.old depths.new result }
     ensures answer { IsAnswer
         caps limit program.now (length depths.old) report.old report.new result }
-    ensures kept { result ≢ ACCEPTED → depths.new ≡ depths.old }
 {
     match judge(alloc, scratch, caps, limit, program, depths.len(), report) {
         Ok(found) => {
@@ -62,17 +57,11 @@ pub extern "C" fn grain_proved_verify(
     report: &mut CReport,
 ) -> u32
     // The headline, of all that has this flat form.
-    ensures accepted { result ≡ ACCEPTED → (found : List ℕ)
-        × (depths.new ≡ found ++ drop (length found) depths.old)
-        × (length found ≡ length program.now.chunks.now)
-        × Accepts caps program.now.code.now program.now.chunks.now program.now.pools found }
+    ensures depths { WritesDepths caps program.now depths.old depths.new result }
 
     // Refusals, the other answers, and the report.
     ensures answer { IsAnswer
         caps limit program.now (length depths.old) report.old report.new result }
-
-    // What isn't written stays as it was.
-    ensures kept { result ≢ ACCEPTED → depths.new ≡ depths.old }
 {
     verify_in(
         alloc,
@@ -100,17 +89,11 @@ pub extern "C" fn grain_proved_verify_with(
     report: &mut CReport,
 ) -> u32
     // The headline, of all that has this flat form.
-    ensures accepted { result ≡ ACCEPTED → (found : List ℕ)
-        × (depths.new ≡ found ++ drop (length found) depths.old)
-        × (length found ≡ length program.now.chunks.now)
-        × Accepts caps program.now.code.now program.now.chunks.now program.now.pools found }
+    ensures depths { WritesDepths caps program.now depths.old depths.new result }
 
     // Refusals, the other answers, and the report.
     ensures answer { IsAnswer
         caps limit program.now (length depths.old) report.old report.new result }
-
-    // What isn't written stays as it was.
-    ensures kept { result ≢ ACCEPTED → depths.new ≡ depths.old }
 {
     match take(alloc, scratch).or_else(|| Box::new(alloc, Scratch::new(alloc)).ok()) {
         Some(mut kept) => {

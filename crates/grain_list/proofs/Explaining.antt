@@ -6,9 +6,9 @@ use Rattle.grain_rules.specs.Verdict.{IsVerdict}
 use Rattle.grain.specs.declared.explanation.Explained.{Explained}
 use Rattle.grain_verify.specs.declared.refusal.Refusal.{Refusal}
 use Rattle.grain_rules.specs.declared.error.VerifyError.TheVariants.{OutOfMemory}
-use Rattle.grain_cases.specs.Case.{Asked, code, site, verify}
-use Rattle.grain_cases.specs.Verdict.{Adds, IsVerdictOn, accepted_text, program, refused_text}
-use Rattle.grain_cases.proofs.VerdictLaws.{adds_accepted, adds_refused}
+use Rattle.grain_lines.specs.Case.{Asked, code, site, verify}
+use Rattle.grain_lines.specs.Verdict.{Adds, IsVerdictOn, accepted_text, program, refused_text}
+use Rattle.grain_lines.proofs.VerdictLaws.{adds_accepted, adds_refused}
 use Rattle.grain_list.specs.Listed.{Explains}
 
 pub adds_numbers : (question : Option Asked) (x : Explained) (numbers : Vec ℕ Global) (old new : List ℕ) → Explains question x → x.verdict ≡ Ok numbers

@@ -3,8 +3,8 @@ use Rattle.std.specs.Prelude.{◌≡◌, ℕ, List, Option, None, Some}
 use Rattle.grain.specs.Explanations.{IsExplanation}
 use Rattle.grain_code.specs.Span.{Span}
 use Rattle.grain.specs.declared.explanation.Explained.{Explained}
-use Rattle.grain_cases.specs.Case.{Asked, code, site, verify}
-use Rattle.grain_cases.specs.Verdict.{program}
+use Rattle.grain_lines.specs.Case.{Asked, code, site, verify}
+use Rattle.grain_lines.specs.Verdict.{program}
 use Rattle.grain_list.specs.ListedCode.{IsListedCode}
 use Rattle.grain_list.specs.declared.code.CodeListing.{CodeListing}
 use Rattle.grain_list.specs.declared.listing.Body.{Body}

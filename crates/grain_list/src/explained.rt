@@ -2,13 +2,13 @@
 
 ghost use Rattle.std.specs.Prelude.{◌≡◌, IfOk, IfSome, OnOk, Option, string_bytes};
 ghost use Rattle.std.specs.Option.{option_map};
-ghost use Rattle.grain_cases.specs.Case.{Asked, as_asked};
-ghost use Rattle.grain_cases.specs.Verdict.{Adds, IsVerdictOn};
+ghost use Rattle.grain_lines.specs.Case.{Asked, as_asked};
+ghost use Rattle.grain_lines.specs.Verdict.{Adds, IsVerdictOn};
 ghost use Rattle.grain_list.specs.Listed.{Explains};
 
 use grain::{Explained, explain};
-use grain_cases::{Case, write_accepted};
 use grain_explain::ExplainError;
+use grain_lines::{Case, write_accepted};
 use grain_rules::{NoPools, VerifyError};
 use std::alloc::{AllocError, Global};
 

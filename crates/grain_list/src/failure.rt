@@ -3,7 +3,7 @@
 ghost use Rattle.std.specs.Prelude.{◌≡◌};
 ghost use Rattle.grain_list.specs.Ending.{ending_status};
 
-use grain_cases::{RunError, status};
+use grain_lines::{RunError, status};
 use std::alloc::AllocError;
 use std::io;
 use thiserror::Error;

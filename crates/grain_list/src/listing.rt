@@ -2,8 +2,8 @@
 
 ghost use Rattle.std.specs.Prelude.{◌≡◌, IfOk, IfSome, Option, is_none, string_bytes};
 ghost use Rattle.std.specs.Option.{option_map};
-ghost use Rattle.grain_cases.specs.Case.{Asked, as_asked, asked};
-ghost use Rattle.grain_cases.specs.Verdict.{Verdict};
+ghost use Rattle.grain_lines.specs.Case.{Asked, as_asked, asked};
+ghost use Rattle.grain_lines.specs.Verdict.{Verdict};
 ghost use Rattle.grain_list.specs.Listed.{Explains, IsShown};
 
 use crate::code::CodeListing;
@@ -11,8 +11,8 @@ use crate::explained::{explained_of, write_explained};
 use crate::handlers::all_depths;
 use crate::problem::Problem;
 use grain::Explained;
-use grain_cases::{Case, case_of, write_verdict};
 use grain_code::Chunk;
+use grain_lines::{Case, case_of, write_verdict};
 use std::alloc::{AllocError, Global};
 
 /// A program with its explanation.

@@ -22,7 +22,7 @@ use crate::driver::{Form, run};
 use crate::failure::{Failure, WRONG_ARGUMENTS};
 use crate::paint::Paint;
 use clap::error::ErrorKind;
-use grain_cases::status;
+use grain_lines::status;
 use std::alloc::AllocError;
 use std::env;
 use std::env::VarError;

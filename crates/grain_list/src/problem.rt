@@ -1,6 +1,6 @@
 //! What is wrong with a bad case.
 
-use grain_cases::{are_hex_digits, caps_of, chunk_of, next_word, u32_of};
+use grain_lines::{are_hex_digits, caps_of, chunk_of, next_word, u32_of};
 use std::fmt;
 
 /// What is wrong with a bad case. Words are counted from 1.

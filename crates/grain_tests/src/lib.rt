@@ -1,4 +1,4 @@
-//! The tests of `grain`, which call it as a host does, and of `grain_cases`: a test that changes has no crate proved again but
+//! The tests of `grain`, which call it as a host does, and of `grain_lines`: a test that changes has no crate proved again but
 //! this one.
 //!
 //! `host` shows how a host calls the verifier. `changes` has code that was changed on its way, `large` what is many. `run` has

@@ -4,7 +4,7 @@ ghost use Rattle.std.specs.Prelude.{◌≤◌, Some, take};
 ghost use Rattle.grain_tests.specs.declared.run.TheConstants.{ROOM};
 
 use crate::samples::{assert_same, made};
-use grain_cases::{Failed, RunError, Sink, Source, Summary, run, status};
+use grain_lines::{Failed, RunError, Sink, Source, Summary, run, status};
 use std::alloc::{AllocError, Global};
 
 /// Gives its bytes, at most so many a call, and fails once so many were given.

@@ -1,5 +1,5 @@
 use Rattle.std.proofs.Common.{◌++◌, ◌∙◌, ap, string_bytes}
-use Rattle.grain_cases.specs.Verdict.{accepted_text}
+use Rattle.grain_lines.specs.Verdict.{accepted_text}
 use Rattle.grain_list.proofs.Explaining.{adds_numbers, adds_refusal}
 use Rattle.grain_list.proofs.explained.write_explained.Goals as goal
 

@@ -1,0 +1,82 @@
+//! A whole run, from the bytes of a source to those of a sink.
+
+ghost use Rattle.std.specs.Prelude.{◌≡◌, ◌≢◌, ◌<◌, vec_len, IfOk};
+ghost use Rattle.std.specs.Result.{IsErrOf};
+ghost use Rattle.grain_lines.specs.Driver.{AnswersAll, AnswersComplete, AnswersFirst};
+ghost use Rattle.grain_lines.specs.Driver.{AnswersFront, ReadFailed};
+
+use crate::outcome::{RunError, Summary};
+use crate::report::Report;
+use crate::stream::{Sink, Source};
+use std::alloc::{AllocError, Global};
+
+/// How many bytes a read asks for at most.
+const BUFFER_LEN: usize = 65536;
+
+/// Room for a read.
+fn room(alloc: Global) -> Result<Vec<u8>, AllocError>
+    ensures { IfOk result (λ buffer. 0 < vec_len buffer) }
+{
+    vec![in alloc; 0u8; BUFFER_LEN]
+}
+
+/// Reads all there is, and writes a verdict for each case as soon as its line is complete or the
+/// input has ended.
+///
+/// Lines, cases and verdicts are those of docs/FORMAT.md, "Lines, cases and verdicts". It holds one
+/// line at a time with the bytes that its digits spell, one buffer of the input and the verdicts on
+/// the cases of that buffer. It goes over each line a few times, and makes the call that the case
+/// asks for (docs/COSTS.md). Nothing is tried again after an error.
+///
+/// # Errors
+/// - [`RunError::Read`] where a read failed, or 18446744073709551615 reads gave bytes. The complete
+///   cases that were read are answered.
+/// - [`RunError::Write`] where a write failed or took none of some bytes. A beginning of the
+///   verdicts was written, but not all of them.
+/// - [`RunError::OutOfMemory`] where memory was refused. The first of the cases are answered.
+pub fn run<S: Source, K: Sink>(
+    alloc: Global,
+    reader: &mut S,
+    writer: &mut K,
+) -> Result<Summary, RunError>
+    ensures ok { IfOk result (AnswersAll (S.remaining reader.old) (S.remaining reader.new)
+        (K.taken writer.old) (K.taken writer.new)) }
+
+    // What went out where the run stopped before the end.
+    ensures read { IsErrOf result RunError.Read → AnswersComplete (S.remaining reader.old)
+        (S.remaining reader.new) (K.taken writer.old) (K.taken writer.new) }
+    ensures write { IsErrOf result RunError.Write → AnswersFront (S.remaining reader.old)
+        (S.remaining reader.new) (K.taken writer.old) (K.taken writer.new) }
+    ensures memory { IsErrOf result RunError.OutOfMemory → AnswersFirst (S.remaining reader.old)
+        (S.remaining reader.new) (K.taken writer.old) (K.taken writer.new) }
+
+    // It stops so only where the source or the sink failed in this call.
+    ensures read_failed { IsErrOf result RunError.Read → ReadFailed (S.remaining reader.old)
+        (S.remaining reader.new) (S.mark reader.old) (S.mark reader.new) }
+    ensures write_failed { IsErrOf result RunError.Write → K.mark writer.new ≢ K.mark writer.old }
+
+    // No failure is passed over.
+    ensures all_read { ¬ IsErrOf result RunError.Read → S.mark reader.new ≡ S.mark reader.old }
+    ensures all_written { ¬ IsErrOf result RunError.Write → K.mark writer.new ≡ K.mark writer.old }
+{
+    let mut memory = room(alloc)?;
+    let buffer = memory.as_mut_slice();
+    let mut report = Report::new(alloc);
+    'reading: for _turn in 0..u64::MAX {
+        let Ok(count) = reader.read(buffer) else {
+            return Err(RunError::Read);
+        };
+        if count == 0 {
+            report.finish()?;
+            let Ok(()) = report.send_to(writer) else {
+                return Err(RunError::Write);
+            };
+            return Ok(report.summary());
+        }
+        report.feed(&buffer[..count])?;
+        let Ok(()) = report.send_to(writer) else {
+            return Err(RunError::Write);
+        };
+    }
+    Err(RunError::Read)
+}
