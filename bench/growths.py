@@ -217,7 +217,7 @@ def rows_of(folder, jobs, last):
 def report(room, crates, jobs, last):
     """Prints the rows of these crates. Answers whether each call has its test, is counted to its end and has no third answer."""
     good = True
-    print("| Crate | Call | Growths | Want of memory | Undisturbed | Third answers |")
+    print("| Crate | Call | Growths | Out of memory | Undisturbed | Third answers |")
     print("|---|---|---|---|---|---|", flush=True)
     known = {}
     for crate in crates:
