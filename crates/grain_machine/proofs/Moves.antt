@@ -1,5 +1,5 @@
 -- What moves a run makes.
-use Rattle.std.proofs.Common.{◌≡◌, ℕ, ◌+◌, ◌-◌, ◌≤◌, inl, inr, true, false, List, [], ◌∷◌, length, refl, sym, ap, ◌∙◌, arith}
+use Rattle.std.proofs.Common.{◌≡◌, ℕ, ◌+◌, ◌-◌, ◌≤◌, inl, inr, true, false, List, ◌∷◌, refl, sym, ap, ◌∙◌, arith}
 use Rattle.std.specs.List.{Contains}
 use Rattle.grain_code.specs.declared.op.Op.{Op}
 use Rattle.grain_rules.specs.Counts.{Counts}
@@ -8,7 +8,7 @@ use Rattle.grain_rules.specs.Flow as flows
 use Rattle.grain_rules.specs.Flow.{Flow}
 use Rattle.grain_rules.specs.FlowFields.{fall_for, falls_for, jumps_for}
 use Rattle.grain_rules.specs.Layout.{switches}
-use Rattle.grain_rules.specs.Machine.{Catches, Handler, IsKept, Machine, counts, first, handlers_after, handlers_behind, innermost}
+use Rattle.grain_rules.specs.Machine.{Catches, Handler, IsKept, Machine, counts, handlers_after, handlers_behind, innermost}
 use Rattle.grain.specs.Program.{setting_of}
 use Rattle.grain_rules.specs.Rows.{flow_of, is_quiet, takes}
 use Rattle.grain_rules.proofs.Law.{typing_covers_run}
@@ -64,10 +64,6 @@ goes_back r s x t op behind runs at sounds eh low high ei er lands et =
 -- a move leads to a state of a kept run
 pub ready_again : (r : Runs) (s t : State) → IsUnderWay r s → MakesMove r s t → IsUnderWay r t
 ready_again r s t ready goes = ((s.machine ∷ ready.0.0, (goes.0, ready.0.1)), let e = goes.1 in let l = ready.1 in omega arith)
-
--- it is one move longer
-pub way_on : (r : Runs) (s t : State) (way : IsUnderWay r s) → MakesMove r s t → (after : IsUnderWay r t) × (length after.0.0 ≡ length way.0.0 + 1)
-way_on r s t way goes = (((s.machine ∷ way.0.0, (goes.0, way.0.1)), let e = goes.1 in let l = way.1 in omega arith), omega arith)
 
 -- there is room for the operands after a move
 pub room_for : (r : Runs) (s t : State) → IsRunnable r → IsUnderWay r s → MakesMove r s t → t.machine.operands ≤ s.room
@@ -125,7 +121,3 @@ pub popped_back : (r : Runs) (s x t : State) (op : Op) (behind : ℕ) → IsAt r
 popped_back r s x t op behind at sounds one e lands room =
     let o : x.machine.operands ≡ s.machine.operands - 1 = ap (λ (y : State). y.machine.operands) e in
     goes_back r s x t op behind at.runs at sounds (ap (λ (y : State). y.machine.handlers) e) (omega arith) (omega arith) (ap (λ (y : State). y.machine.iterators) e) (ap (λ (y : State). y.room) e) lands room
-
--- a run begins, and has made no move
-pub begun : (r : Runs) (s : State) → s.machine ≡ first r.chunk → r.room ≤ s.room → (way : IsUnderWay r s) × (length way.0.0 ≡ 0)
-begun r s e l = ((([], e), l), refl)

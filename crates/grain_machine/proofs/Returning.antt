@@ -1,12 +1,12 @@
 -- Frames that wait, and go on.
-use Rattle.std.proofs.Common.{◌≡◌, ℕ, ◌+◌, ◌-◌, ◌<◌, ◌≤◌, List, ◌∷◌, length, refl, sym, ◌∙◌, subst}
+use Rattle.std.proofs.Common.{◌≡◌, ℕ, ◌+◌, ◌-◌, ◌<◌, ◌≤◌, List, ◌∷◌, Option, None, IsSome, Result, Ok, Err, IfErr, length, refl, sym, ◌∙◌, subst}
 use Rattle.std.specs.List.{All}
 use Rattle.std.proofs.lemmas.List.Elements.{All-cons, All-weaker}
 use Rattle.grain.specs.Program.{Program}
-use Rattle.grain_rules.specs.Machine.{IsOnKeptRun}
+use Rattle.grain_rules.specs.Machine.{IsOnKeptRun, innermost}
 use Rattle.grain_machine.specs.Asked.{program_code}
-use Rattle.grain_machine.specs.Calls.{Activation, CallStack, IsCaughtBy, IsGivenBack, IsRunOfCalls, catcher, outermost_of}
-use Rattle.grain_machine.specs.Ends.{EndsAfter, IsEnded, StackEnds}
+use Rattle.grain_machine.specs.Calls.{Activation, CallStack, IsCaughtBy, IsGivenBack, IsRunOfCalls, Sounds, catcher, outermost_of}
+use Rattle.grain_machine.specs.Ends.{EndsAfter, IsEnded, IsFaultOf, StackEnds}
 use Rattle.grain_machine.specs.Standing.{IsStanding, IsWaiting, activation_of, stack_of}
 use Rattle.grain_machine.specs.State.{IsUnderWay, Lands, MakesMove, Runs, State}
 use Rattle.grain_machine.specs.declared.frames.Caller.{Caller}
@@ -14,7 +14,7 @@ use Rattle.grain_machine.specs.declared.frames.Frames.{Frames}
 use Rattle.grain_machine.specs.declared.run.Limits.{Limits}
 use Rattle.grain_machine.specs.declared.step.How.{How}
 use Rattle.grain_machine.specs.declared.step.How.TheVariants as hows
-use Rattle.grain_machine.proofs.Calling.{all_waiting, caught_first, outer_runs}
+use Rattle.grain_machine.proofs.Calling.{all_waiting, caught_first, outer_runs, uncaught_first}
 use Rattle.grain_machine.proofs.Moves.{plain_on, plain_room, ready_again, stood, whole_back}
 
 -- there is room for what the function returns
@@ -107,3 +107,18 @@ pub spent : {V I W F : Type 0} (r : Runs) (limits : Limits) (f : Frames V I) (at
     → IsRunOfCalls r.program limits.depth r.chunk (stack_of f) earlier → IsStanding r.program f → at ≡ (outermost_of (stack_of f)).machine.address
     → length earlier ≡ limits.fuel → IsEnded {V = W} {F = F} r limits at hows.OutOfFuel
 spent r limits f at earlier run standing e l = ended_so r limits f at hows.OutOfFuel earlier run standing e l
+
+-- a fault that leaves the frame on top may end the run as it ends in those that wait
+fault_ends : {V F : Type 0} (p : Program) (a : Activation) (callers : List Activation) (how : How V F) → Sounds (program_code p) a.machine → innermost a.machine.handlers ≡ None
+    → IsFaultOf callers how → StackEnds p (record { top = a; callers = callers }) how
+fault_ends p a callers (hows.Returned v) sounds none e = absurd e
+fault_ends p a callers (hows.Faulted x) sounds none e = (sounds, uncaught_first a callers none ∙ e)
+fault_ends p a callers (hows.Uncatchable x) sounds none e =
+    (sounds, subst (λ (o : Option (Activation × List Activation)). IsSome o) (sym (uncaught_first a callers none)) e)
+fault_ends p a callers hows.OutOfFuel sounds none e = absurd e
+fault_ends p a callers hows.OutOfMemory sounds none e = absurd e
+
+pub fault_may_end : {T V F : Type 0} (p : Program) (a : Activation) (callers : List Activation) (result : Result T (How V F)) → Sounds (program_code p) a.machine
+    → innermost a.machine.handlers ≡ None → IfErr result (IsFaultOf callers) → IfErr result (StackEnds p (record { top = a; callers = callers }))
+fault_may_end p a callers (Ok v) sounds none e = tt
+fault_may_end p a callers (Err how) sounds none e = fault_ends p a callers how sounds none e

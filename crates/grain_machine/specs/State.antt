@@ -1,13 +1,13 @@
 -- What contracts see of a frame and of a chunk that can be run.
-use Rattle.std.specs.Prelude.{◌≡◌, ◌≤◌, ℕ, List, ◌∷◌, Some, map, min, reverse, true}
+use Rattle.std.specs.Prelude.{◌≡◌, ℕ, List, ◌∷◌, Some, map, min, reverse, slice_get, true}
 use Rattle.grain_code.specs.Span.{Span}
 use Rattle.grain_code.specs.declared.op.Op.{Op}
-use Rattle.grain_rules.specs.Accepted.{AreTyped}
+use Rattle.grain_rules.specs.Accepted.{AreSafe, AreTyped, IsAccepted, IsSafe}
 use Rattle.grain_rules.specs.Rows.{needs}
 use Rattle.grain_rules.specs.Layout.{next as place_behind}
 use Rattle.grain.specs.Lookups.{FindsIndices}
 use Rattle.grain_rules.specs.Machine.{Finds, Handler, IsOnKeptRun, Machine, Moves, innermost}
-use Rattle.grain.specs.Program.{Program, input_of, setting_of}
+use Rattle.grain.specs.Program.{Program, chunks_of, input_of, setting_of}
 use Rattle.grain_rules.specs.Typing.{HasTyping}
 use Rattle.grain_machine.specs.Asked.{IsAsked, program_code}
 use Rattle.grain_machine.specs.declared.frame.Armed.{Armed}
@@ -56,8 +56,13 @@ pub record Runs : Type 0 where
   pub chunk : Span
   pub room : ℕ
 
--- the chunk is typed within its room, and the program's lookups find what its code names
+-- The program is accepted, and its lookups find what its code names. The chunk is one of its own, and the room is its number:
+-- it is typed within it, and no kept run has more operands, while some has as many.
 pub record IsRunnable (r : Runs) : Type 0 where
+  pub accepted : IsAccepted (input_of r.program)
+  pub place : ℕ
+  pub there : slice_get (chunks_of r.program) place ≡ Some r.chunk
+  pub safe : IsSafe (input_of r.program).code r.chunk r.room
   pub typed : HasTyping (program_code r.program) r.chunk r.room
   pub finds : FindsIndices r.program
 
@@ -66,13 +71,16 @@ pub record Numbered : Type 0 where
   pub program : Program
   pub numbers : List ℕ
 
+-- the program is accepted, and these are the numbers of its chunks
 pub record IsNumbered (a : Numbered) : Type 0 where
+  pub accepted : IsAccepted (input_of a.program)
+  pub safe : AreSafe (input_of a.program) a.numbers
   pub typed : AreTyped (input_of a.program) a.numbers
   pub finds : FindsIndices a.program
 
--- some kept run of the chunk is in this state
+-- some kept run of the chunk is in this state, with just the room of the chunk
 abbrev pub IsUnderWay : Runs → State → Type 0
-IsUnderWay r s = IsOnKeptRun (program_code r.program) r.chunk s.machine × (r.room ≤ s.room)
+IsUnderWay r s = IsOnKeptRun (program_code r.program) r.chunk s.machine × (s.room ≡ r.room)
 
 -- the run finds this operation, behind which the next one stands there
 pub record IsAt (r : Runs) (s : State) (op : Op) (behind : ℕ) : Type 0 where

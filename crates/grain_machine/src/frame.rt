@@ -61,7 +61,7 @@ impl<V: Drop, I: Drop> Frame<V, I> {
     pub(crate) fn new(alloc: Global, entry: u32, room: u16) -> Result<Frame<V, I>, AllocError>
         ensures machine { IfOk result (λ frame. frame.machine
             ≡ record { address = entry; operands = 0; iterators = 0; handlers = [] }) }
-        ensures room { IfOk result (λ frame. room ≤ frame.room) }
+        ensures room { IfOk result (λ frame. frame.room ≡ room) }
     {
         Ok(Frame {
             at: entry as usize,

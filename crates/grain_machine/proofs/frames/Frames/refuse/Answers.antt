@@ -1,5 +1,9 @@
-use Rattle.std.proofs.Common.{inl, refl}
+use Rattle.std.proofs.Common.{inl, inr, refl}
+use Rattle.std.proofs.lemmas.Result.{on_ok_weaker}
+use Rattle.grain_machine.specs.Standing.{stack_of}
 use Rattle.grain_machine.proofs.Moves.{ready_again, whole_back}
+use Rattle.grain_machine.proofs.Returning.{fault_may_end}
+use Rattle.grain_machine.proofs.Stopping.{sounds_here}
 use Rattle.grain_machine.proofs.frames.Frames.refuse.Goals as goal
 
 pub returns-in-Ok-clause-standing : goal.returns-in-Ok-clause-standing
@@ -15,3 +19,18 @@ returns-in-Ok-clause-goes g c =
     let at = c.requires.calling in
     let goes = whole_back f.body f.frame f.frame c.catch.new.self at.op c.args.next at.at at.sounds refl c.in-Some.ensures.caught c.catch.ensures.room in
     inl (record { goes = record { chunk = refl; moves = goes.0 }; callers = refl })
+
+pub returns-in-None-clause-goes : goal.returns-in-None-clause-goes
+returns-in-None-clause-goes g c =
+    let f = c.args.self.now in
+    let at = c.requires.calling in
+    on_ok_weaker c.unwind.result
+    (λ caught. inr (record { sounds = sounds_here f.body f.frame at.op c.args.next at.at at.sounds; uncaught = c.in-None.ensures.caught; caught = caught }))
+    c.unwind.ensures.caught
+
+pub returns-in-None-clause-ends : goal.returns-in-None-clause-ends
+returns-in-None-clause-ends g c =
+    let f = c.args.self.now in
+    let at = c.requires.calling in
+    fault_may_end f.body.program (stack_of f).top (stack_of f).callers c.unwind.result (sounds_here f.body f.frame at.op c.args.next at.at at.sounds) c.in-None.ensures.caught
+    c.unwind.ensures.ends
