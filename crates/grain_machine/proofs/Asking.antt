@@ -1,9 +1,7 @@
 -- What follows from what a host is asked for.
-use Rattle.std.proofs.Common.{◌≡◌, ℕ, ◌+◌, ◌<◌, ◌≤◌, List, slice_get, Some, cond, refl, ◌∙◌, arith}
+use Rattle.std.proofs.Common.{◌≡◌, ℕ, ◌+◌, ◌<◌, ◌≤◌, slice_get, Some, cond, refl, ◌∙◌, arith}
 use Rattle.std.specs.List.{Contains}
 use Rattle.grain_code.specs.Span.{Span}
-use Rattle.grain_code.specs.Split.{AreInstructions}
-use Rattle.grain_code.specs.declared.op.Op.{Op}
 use Rattle.grain_code.specs.declared.op.Op.TheVariants as ops
 use Rattle.grain_pools.specs.Chain.{TakesOperand, assigns, consumed, roots_on_stack}
 use Rattle.grain_pools.specs.declared.chain.Chain.{Chain}
