@@ -1,13 +1,14 @@
 -- The chunks of an accepted program.
 use Rattle.std.proofs.Common.{◌≡◌, ℕ, ◌+◌, ◌<◌, List, length, slice_get, Some, option_map, sym, ap, ◌∙◌, add-one, arith}
 use Rattle.std.specs.Prelude.{get_or}
-use Rattle.std.specs.List.{AllZip}
+use Rattle.std.specs.List.{AllZip, Contains}
 use Rattle.std.proofs.lemmas.List.{length-map}
-use Rattle.std.proofs.lemmas.Option.{slice_get-map, slice_get-get_or}
+use Rattle.std.proofs.lemmas.Option.{get_or_from_slice_get, slice_get-map, slice_get-get_or, slice_get_within}
 use Rattle.std.proofs.lemmas.Slice.Zip.{AllZip-left, AllZip-long}
 use Rattle.grain_code.specs.Span.{Span}
 use Rattle.grain_code.specs.declared.function.Function.{Function}
-use Rattle.grain.specs.Program.{Program, chunks_of}
+use Rattle.grain.specs.Program.{Program, chunks_of, input_of}
+use Rattle.grain_rules.specs.Accepted.{IsSafe}
 use Rattle.grain_rules.specs.Typing.{HasTyping}
 use Rattle.grain_machine.specs.Asked.{program_code}
 use Rattle.grain_machine.specs.State.{IsNumbered, IsRunnable, Numbered}
@@ -20,10 +21,21 @@ numbers_long a h = let e = AllZip-long (HasTyping (program_code a.program)) (chu
 related : {A B : Type 0} (R : A → B → Type 0) (xs : List A) (ys : List B) (k : ℕ) (x : A) (y : B) → AllZip R xs ys → slice_get xs k ≡ Some x → slice_get ys k ≡ Some y → R x y
 related R xs ys k x y h ex ey = rw (ex, ey) at (AllZip-left R xs ys h k)
 
+-- what is found at a place is among the list
+pub placed : {X : Type 0} (xs : List X) (k : ℕ) (x : X) → slice_get xs k ≡ Some x → Contains xs x
+placed xs k x e = (k, slice_get_within xs k x e, get_or_from_slice_get xs k x x e)
+
 -- a chunk with its number is runnable
 pub runnable : (a : Numbered) (k : ℕ) (chunk : Span) (room : ℕ) → IsNumbered a → slice_get (chunks_of a.program) k ≡ Some chunk
     → slice_get a.numbers k ≡ Some room → IsRunnable (record { program = a.program; chunk = chunk; room = room })
-runnable a k chunk room h ec er = record { typed = related (HasTyping (program_code a.program)) (chunks_of a.program) a.numbers k chunk room h.typed ec er; finds = h.finds }
+runnable a k chunk room h ec er = record {
+  accepted = h.accepted;
+  place = k;
+  there = ec;
+  safe = related (IsSafe (input_of a.program).code) (chunks_of a.program) a.numbers k chunk room h.safe ec er;
+  typed = related (HasTyping (program_code a.program)) (chunks_of a.program) a.numbers k chunk room h.typed ec er;
+  finds = h.finds;
+}
 
 -- the chunk of a function stands behind the main chunk
 pub function_chunk : (p : Program) (functions : List Function) (index : ℕ) (d : Function) → functions ≡ p.functions → index < length p.functions

@@ -1,5 +1,5 @@
 -- What moves a run makes.
-use Rattle.std.proofs.Common.{◌≡◌, ℕ, ◌+◌, ◌-◌, ◌≤◌, inl, inr, true, false, List, [], ◌∷◌, length, refl, sym, ap, ◌∙◌, arith}
+use Rattle.std.proofs.Common.{◌≡◌, ℕ, ◌+◌, ◌-◌, ◌≤◌, inl, inr, true, false, List, ◌∷◌, min, Some, refl, sym, ap, ◌∙◌, arith}
 use Rattle.std.specs.List.{Contains}
 use Rattle.grain_code.specs.declared.op.Op.{Op}
 use Rattle.grain_rules.specs.Counts.{Counts}
@@ -8,14 +8,14 @@ use Rattle.grain_rules.specs.Flow as flows
 use Rattle.grain_rules.specs.Flow.{Flow}
 use Rattle.grain_rules.specs.FlowFields.{fall_for, falls_for, jumps_for}
 use Rattle.grain_rules.specs.Layout.{switches}
-use Rattle.grain_rules.specs.Machine.{Catches, Handler, IsKept, Machine, counts, first, handlers_after, handlers_behind, innermost}
+use Rattle.grain_rules.specs.Machine.{Catches, Handler, IsKept, Machine, counts, handlers_after, handlers_behind, innermost}
 use Rattle.grain.specs.Program.{setting_of}
 use Rattle.grain_rules.specs.Rows.{flow_of, is_quiet, takes}
 use Rattle.grain_rules.proofs.Law.{typing_covers_run}
 use Rattle.grain_rules.proofs.Quiet.{move_from_run}
 use Rattle.grain_machine.specs.Act.{IsForHost}
 use Rattle.grain_machine.specs.Asked.{program_code}
-use Rattle.grain_machine.specs.State.{MakesMove, IsAt, IsUnderWay, IsRunnable, Lands, Runs, State}
+use Rattle.grain_machine.specs.State.{Goes, IsAt, IsUnderWay, IsRunnable, Runs, State}
 
 -- the state with this machine, and room as before
 abbrev pub stood : ℕ → ℕ → ℕ → List Handler → ℕ → State
@@ -24,7 +24,7 @@ stood address operands iterators handlers room = record { machine = record { add
 -- an operation that falls through
 pub goes_on : (r : Runs) (s : State) (op : Op) (behind x y : ℕ) (hs : List Handler) → IsAt r s op behind → falls_through op ≡ true
     → x ≡ (after_fall (setting_of r.program) op (counts s.machine)).operands → y ≡ (after_fall (setting_of r.program) op (counts s.machine)).iterators
-    → hs ≡ handlers_after op s.machine → MakesMove r s (stood behind x y hs s.room)
+    → hs ≡ handlers_after op s.machine → Goes r s (stood behind x y hs s.room)
 goes_on r s op behind x y hs at falls ex ey eh =
     let counted = after_fall (setting_of r.program) op (counts s.machine) in
     (inl (record { op = op; counted = counted; finds = at.finds; edge = inr (falls, at.next, refl); operands = ex; iterators = ey; handlers = eh }), refl)
@@ -33,16 +33,28 @@ goes_on r s op behind x y hs at falls ex ey eh =
 pub goes_to : (r : Runs) (s : State) (op : Op) (behind target x y : ℕ) (hs : List Handler) → IsAt r s op behind → jumps_for (flow_of op) ≡ true
     → Contains (targets (switches (program_code r.program).layout) op) target → x ≡ (after_jump (setting_of r.program) op (counts s.machine)).operands
     → y ≡ (after_jump (setting_of r.program) op (counts s.machine)).iterators → hs ≡ handlers_after op s.machine
-    → MakesMove r s (stood target x y hs s.room)
+    → Goes r s (stood target x y hs s.room)
 goes_to r s op behind target x y hs at jumps among ex ey eh =
     let counted = after_jump (setting_of r.program) op (counts s.machine) in
     (inl (record { op = op; counted = counted; finds = at.finds; edge = inl (jumps, (among, refl)); operands = ex; iterators = ey; handlers = eh }), refl)
 
+-- a fault lands there, by the counts
+pub record LandsSo (m n : Machine) : Type 0 where
+  pub handler : Handler
+  pub outer : List Handler
+  pub caught : innermost m.handlers ≡ Some (handler, outer)
+  pub lands : n ≡ record {
+    address = handler.target;
+    operands = min m.operands handler.operands;
+    iterators = min m.iterators handler.iterators;
+    handlers = record handler { spent = true } ∷ outer;
+  }
+
 -- a fault that finds the stacks as they are then
 pub goes_back : (r : Runs) (s x t : State) (op : Op) (behind : ℕ) → IsRunnable r → IsAt r s op behind → is_quiet op ≡ false
     → x.machine.handlers ≡ s.machine.handlers → s.machine.operands - takes (setting_of r.program) op ≤ x.machine.operands
-    → x.machine.operands ≤ s.machine.operands → x.machine.iterators ≡ s.machine.iterators → x.room ≡ s.room → Lands x.machine t.machine
-    → t.room ≡ x.room → MakesMove r s t
+    → x.machine.operands ≤ s.machine.operands → x.machine.iterators ≡ s.machine.iterators → x.room ≡ s.room → LandsSo x.machine t.machine
+    → t.room ≡ x.room → Goes r s t
 goes_back r s x t op behind runs at sounds eh low high ei er lands et =
     let fault : Catches (program_code r.program) r.chunk s.machine t.machine = record {
       op = op;
@@ -62,15 +74,11 @@ goes_back r s x t op behind runs at sounds eh low high ei er lands et =
     (move_from_run (program_code r.program) r.chunk r.room runs.typed s.machine t.machine at.ready.0 (inr (fault, loud)), et ∙ er)
 
 -- a move leads to a state of a kept run
-pub ready_again : (r : Runs) (s t : State) → IsUnderWay r s → MakesMove r s t → IsUnderWay r t
+pub ready_again : (r : Runs) (s t : State) → IsUnderWay r s → Goes r s t → IsUnderWay r t
 ready_again r s t ready goes = ((s.machine ∷ ready.0.0, (goes.0, ready.0.1)), let e = goes.1 in let l = ready.1 in omega arith)
 
--- it is one move longer
-pub way_on : (r : Runs) (s t : State) (way : IsUnderWay r s) → MakesMove r s t → (after : IsUnderWay r t) × (length after.0.0 ≡ length way.0.0 + 1)
-way_on r s t way goes = (((s.machine ∷ way.0.0, (goes.0, way.0.1)), let e = goes.1 in let l = way.1 in omega arith), omega arith)
-
 -- there is room for the operands after a move
-pub room_for : (r : Runs) (s t : State) → IsRunnable r → IsUnderWay r s → MakesMove r s t → t.machine.operands ≤ s.room
+pub room_for : (r : Runs) (s t : State) → IsRunnable r → IsUnderWay r s → Goes r s t → t.machine.operands ≤ s.room
 room_for r s t runs ready goes =
     let after = ready_again r s t ready goes in
     let l = (typing_covers_run (program_code r.program) r.chunk r.room runs.typed.0 runs.typed.1 t.machine after.0).1 in
@@ -95,7 +103,7 @@ plain_handlers m op e = ap (λ (f : Flow). handlers_behind f m) (sym e)
 
 pub plain_on : (r : Runs) (s : State) (op : Op) (behind needs' takes' gives' x : ℕ) → IsAt r s op behind
     → IsForHost (setting_of r.program) op needs' takes' gives' → x ≡ s.machine.operands - takes' + gives'
-    → MakesMove r s (stood behind x s.machine.iterators s.machine.handlers s.room)
+    → Goes r s (stood behind x s.machine.iterators s.machine.handlers s.room)
 plain_on r s op behind needs' takes' gives' x at plain e =
     let c = plain_after r s op needs' takes' gives' plain in
     goes_on r s op behind x s.machine.iterators s.machine.handlers at
@@ -104,28 +112,3 @@ plain_on r s op behind needs' takes' gives' x at plain e =
 pub plain_room : (r : Runs) (s : State) (op : Op) (behind needs' takes' gives' : ℕ) → IsAt r s op behind
     → IsForHost (setting_of r.program) op needs' takes' gives' → s.machine.operands - takes' + gives' ≤ s.room
 plain_room r s op behind needs' takes' gives' at plain = room_for r s _ at.runs at.ready (plain_on r s op behind needs' takes' gives' (s.machine.operands - takes' + gives') at plain refl)
-
--- a fault at a plain operation, which finds the stacks whole
-pub plain_back : (r : Runs) (s x t : State) (op : Op) (behind needs' takes' gives' : ℕ) → IsAt r s op behind
-    → IsForHost (setting_of r.program) op needs' takes' gives' → x ≡ s → Lands x.machine t.machine → t.room ≡ x.room → MakesMove r s t
-plain_back r s x t op behind needs' takes' gives' at plain e lands room =
-    let o : x.machine.operands ≡ s.machine.operands = ap (λ (y : State). y.machine.operands) e in
-    goes_back r s x t op behind at.runs at plain.sounds (ap (λ (y : State). y.machine.handlers) e) (omega arith) (omega arith) (ap (λ (y : State). y.machine.iterators) e) (ap (λ (y : State). y.room) e) lands room
-
--- a fault at an operation that found the stacks whole
-pub whole_back : (r : Runs) (s x t : State) (op : Op) (behind : ℕ) → IsAt r s op behind → is_quiet op ≡ false → x ≡ s → Lands x.machine t.machine → t.room ≡ x.room → MakesMove r s t
-whole_back r s x t op behind at sounds e lands room =
-    let o : x.machine.operands ≡ s.machine.operands = ap (λ (y : State). y.machine.operands) e in
-    goes_back r s x t op behind at.runs at sounds (ap (λ (y : State). y.machine.handlers) e) (omega arith) (omega arith) (ap (λ (y : State). y.machine.iterators) e) (ap (λ (y : State). y.room) e) lands room
-
--- a fault at an operation that has taken its one operand
-pub popped_back : (r : Runs) (s x t : State) (op : Op) (behind : ℕ) → IsAt r s op behind → is_quiet op ≡ false → takes (setting_of r.program) op ≡ 1
-    → x ≡ record s { machine = record s.machine { operands = s.machine.operands - 1 } } → Lands x.machine t.machine → t.room ≡ x.room
-    → MakesMove r s t
-popped_back r s x t op behind at sounds one e lands room =
-    let o : x.machine.operands ≡ s.machine.operands - 1 = ap (λ (y : State). y.machine.operands) e in
-    goes_back r s x t op behind at.runs at sounds (ap (λ (y : State). y.machine.handlers) e) (omega arith) (omega arith) (ap (λ (y : State). y.machine.iterators) e) (ap (λ (y : State). y.room) e) lands room
-
--- a run begins, and has made no move
-pub begun : (r : Runs) (s : State) → s.machine ≡ first r.chunk → r.room ≤ s.room → (way : IsUnderWay r s) × (length way.0.0 ≡ 0)
-begun r s e l = ((([], e), l), refl)

@@ -5,6 +5,7 @@ use Rattle.std.proofs.lemmas.List.{drop_at, drop-drop}
 use Rattle.std.proofs.lemmas.List.Concat.{flat_map-cons}
 use Rattle.std.proofs.lemmas.List.Elements.{All-contains}
 use Rattle.grain_code.specs.InstructionTable.{spelling, width_of}
+use Rattle.grain_code.specs.Span.{Span}
 use Rattle.grain_code.specs.Split.{AreInstructions, Begins, StandsAt, starts_from}
 use Rattle.grain_code.specs.declared.op.Op.{Op}
 use Rattle.grain_code.proofs.Instructions.{begins_spelling, spelling_width}
@@ -12,13 +13,14 @@ use Rattle.grain_code.proofs.Splits.{one_split}
 use Rattle.grain_rules.specs.Layout.{IsStart}
 use Rattle.grain.specs.Lookups.{AreFound, FindsIndices}
 use Rattle.grain_rules.specs.Machine.{counts}
-use Rattle.grain.specs.Program.{Program}
+use Rattle.grain.specs.Program.{Program, chunks_of}
 use Rattle.grain_rules.specs.Typing.{Passes}
 use Rattle.grain_rules.proofs.Law.{run_passes}
 use Rattle.grain_rules.proofs.Once.{stands_once}
 use Rattle.grain_rules.proofs.Splits.{in_cons, in_head, in_nil, in_tail, op_fits}
-use Rattle.grain_machine.specs.Asked.{program_code}
+use Rattle.grain_machine.specs.Asked.{IsAsked, program_code}
 use Rattle.grain_machine.specs.State.{IsAt, IsUnderWay, IsRunnable, Runs, State}
+use Rattle.grain_machine.proofs.Chunks.{placed}
 
 -- what stands at a start is among the instructions that the code is
 standing_among : (code : List ℕ) (at : ℕ) (ops : List Op) (a : ℕ) (op : Op) → at ≤ length code → AreInstructions (drop at code) ops
@@ -40,6 +42,17 @@ found_here p at op finds start stands =
     let among = standing_among p.code 0 finds.0 at op (omega arith) finds.1 (subst (λ (xs : List ℕ). Contains xs at) same start.here) stands in
     All-contains (AreFound p) finds.0 op finds.2 among
 
+-- what a host is asked for is one of the instructions that the code is
+pub instruction_here : (p : Program) (chunk : Span) (at : ℕ) (op : Op) {n : ℕ} → IsAsked p chunk at op n
+    → (all : List Op) × AreInstructions p.code all × Contains all op
+instruction_here p chunk at op asked =
+    let all = asked.accepted.code in
+    let here = asked.met.finds.stands in
+    let start = here.within.place in
+    let same = one_split p.code start.starts (starts_from 0 all.0) start.split (all.0, all.1, refl) in
+    let among : Contains (starts_from 0 all.0) asked.met.state.address = subst (λ (xs : List ℕ). Contains xs asked.met.state.address) same start.here in
+    (all.0, all.1, standing_among p.code 0 all.0 asked.met.state.address op (omega arith) all.1 among here.is)
+
 -- some operation stands where the run is, and passes
 pub passes_here : (r : Runs) (s : State) → IsRunnable r → IsUnderWay r s → (op : Op) × Passes (program_code r.program) r.chunk s.machine.address (counts s.machine) op
 passes_here r s runs ready = run_passes (program_code r.program) r.chunk r.room runs.typed s.machine ready.0
@@ -58,6 +71,8 @@ is_at r s op behind runs ready stands e =
       finds = record { stands = p.stands; meets = p.meets };
       next = e;
       asked = record {
+        accepted = runs.accepted;
+        among = placed (chunks_of r.program) runs.place r.chunk runs.there;
         met = record { state = s.machine; on_run = ready.0; here = refl; finds = record { stands = p.stands; meets = p.meets } };
         allowed = p.allowed;
         found = found_here r.program s.machine.address op runs.finds p.stands.within.place stands;

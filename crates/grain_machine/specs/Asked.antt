@@ -1,13 +1,15 @@
 -- What the host is asked for.
 use Rattle.std.specs.Prelude.{◌≡◌, ℕ}
+use Rattle.std.specs.List.{Contains}
 use Rattle.grain_code.specs.Span.{Span}
 use Rattle.grain_code.specs.declared.op.Op.{Op}
+use Rattle.grain_rules.specs.Accepted.{IsAccepted}
 use Rattle.grain_rules.specs.Capabilities.{Allows}
 use Rattle.grain_rules.specs.Code.{Code, coded}
 use Rattle.grain_rules.specs.Machine.{Finds, IsOnKeptRun, Machine}
 use Rattle.grain_rules.specs.Rows.{caps_of, needs}
 use Rattle.grain.specs.Lookups.{AreFound}
-use Rattle.grain.specs.Program.{Program, input_of, setting_of}
+use Rattle.grain.specs.Program.{Program, chunks_of, input_of, setting_of}
 
 -- the code of a program
 abbrev pub program_code : Program → Code
@@ -20,9 +22,11 @@ pub record IsMet (p : Program) (chunk : Span) (at : ℕ) (op : Op) : Type 0 wher
   pub here : state.address ≡ at
   pub finds : Finds (program_code p) chunk state op
 
--- A kept run of the chunk meets the operation at this address, its capabilities are there, its indices are found, and it is
--- given just the operands that it needs.
+-- The program is accepted and the chunk is one of its own. A kept run of it meets the operation at this address, its
+-- capabilities are there, its indices are found, and it is given just the operands that it needs.
 pub record IsAsked (p : Program) (chunk : Span) (at : ℕ) (op : Op) (n : ℕ) : Type 0 where
+  pub accepted : IsAccepted (input_of p)
+  pub among : Contains (chunks_of p) chunk
   pub met : IsMet p chunk at op
   pub allowed : Allows p.caps.0 (caps_of (setting_of p) op)
   pub found : AreFound p op

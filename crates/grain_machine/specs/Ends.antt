@@ -1,5 +1,5 @@
 -- How runs end.
-use Rattle.std.specs.Prelude.{◌≡◌, ◌↔◌, ◌<◌, ◌≤◌, ◌⊎◌, ℕ, List, [], ◌∷◌, Option, None, IsSome, length}
+use Rattle.std.specs.Prelude.{◌≡◌, ◌<◌, ◌≤◌, ◌⊎◌, ℕ, List, [], ◌∷◌, Option, None, IsSome, length}
 use Rattle.std.specs.List.{All}
 use Rattle.grain_code.specs.declared.op.Op.{Op}
 use Rattle.grain_code.specs.declared.op.Op.TheVariants as ops
@@ -12,32 +12,33 @@ use Rattle.grain.specs.Program.{Program}
 use Rattle.grain_machine.specs.Asked.{program_code}
 use Rattle.grain_machine.specs.Calls.{Activation, CallStack, IsRunOfCalls, Sounds, catcher, outermost_of}
 use Rattle.grain_machine.specs.State.{Runs}
+use Rattle.grain_machine.specs.Values.{ValueMachine, counted, top}
 use Rattle.grain_machine.specs.declared.run.Limits.{Limits}
 use Rattle.grain_machine.specs.declared.step.How.{How}
 use Rattle.grain_machine.specs.declared.step.How.TheVariants as hows
 
 -- `Return` stands here, and the top of the operand stack is the value, if there is one
-pub record Returns {V : Type 0} (code : Code) (m : Machine) (value : Option V) : Type 0 where
+pub record Returns {V I : Type 0} (code : Code) (m : ValueMachine V I) (value : Option V) : Type 0 where
   pub stands : Reads code.layout m.address ops.Return
-  pub value_there : IsSome value ↔ (0 < m.operands)
+  pub value_is : value ≡ top m.operands
 
 -- an operation stands here that begins an iterator or arms a handler
-pub record WantsRoom (code : Code) (m : Machine) : Type 0 where
+pub record WantsRoom (code : Code) (address : ℕ) : Type 0 where
   pub op : Op
-  pub stands : Reads code.layout m.address op
+  pub stands : Reads code.layout address op
   pub grows : (flow_of op ≡ flows.BeginsIterator) ⊎ ((target : ℕ) × (flow_of op ≡ flows.PushesHandler target))
 
 -- An operation may end a frame so in this state: `Return` alone returns, no quiet operation faults, all handlers have caught
 -- where a fault finds none, and memory is wanted for iterators and handlers alone.
-abbrev pub MayEnd : {V F : Type 0} → Code → Machine → How V F → Type 0
+abbrev pub MayEnd : {V I F : Type 0} → Code → ValueMachine V I → How V F → Type 0
 MayEnd code m (hows.Returned value) = Returns code m value
-MayEnd code m (hows.Faulted fault) = Sounds code m × (innermost m.handlers ≡ None)
-MayEnd code m (hows.Uncatchable fault) = Sounds code m × IsSome (innermost m.handlers)
+MayEnd code m (hows.Faulted fault) = Sounds code m.address × (innermost m.handlers ≡ None)
+MayEnd code m (hows.Uncatchable fault) = Sounds code m.address × IsSome (innermost m.handlers)
 MayEnd code m hows.OutOfFuel = ⊥
-MayEnd code m hows.OutOfMemory = WantsRoom code m
+MayEnd code m hows.OutOfMemory = WantsRoom code m.address
 
 -- it is a fault, which finds these handlers
-abbrev pub IsFault : {V F : Type 0} → Machine → How V F → Type 0
+abbrev pub IsFault : {V I F : Type 0} → ValueMachine V I → How V F → Type 0
 IsFault m (hows.Returned value) = ⊥
 IsFault m (hows.Faulted fault) = innermost m.handlers ≡ None
 IsFault m (hows.Uncatchable fault) = IsSome (innermost m.handlers)
@@ -45,7 +46,7 @@ IsFault m hows.OutOfFuel = ⊥
 IsFault m hows.OutOfMemory = ⊥
 
 -- it is a fault, which finds these frames
-abbrev pub IsFaultOf : {V F : Type 0} → List Activation → How V F → Type 0
+abbrev pub IsFaultOf : {V I F : Type 0} → List (Activation V I) → How V F → Type 0
 IsFaultOf frames (hows.Returned value) = ⊥
 IsFaultOf frames (hows.Faulted fault) = catcher frames ≡ None
 IsFaultOf frames (hows.Uncatchable fault) = IsSome (catcher frames)
@@ -54,35 +55,35 @@ IsFaultOf frames hows.OutOfMemory = ⊥
 
 -- A turn may end a run so: `Return` alone returns, where no frame waits; no quiet operation faults, and all handlers of all
 -- frames have caught where a fault finds none; and memory is wanted for iterators and handlers alone.
-abbrev pub StackEnds : {V F : Type 0} → Program → CallStack → How V F → Type 0
+abbrev pub StackEnds : {V I F : Type 0} → Program → CallStack V I → How V F → Type 0
 StackEnds p s (hows.Returned value) = Returns (program_code p) s.top.machine value × (s.callers ≡ [])
-StackEnds p s (hows.Faulted fault) = Sounds (program_code p) s.top.machine × (catcher (s.top ∷ s.callers) ≡ None)
-StackEnds p s (hows.Uncatchable fault) = Sounds (program_code p) s.top.machine × IsSome (catcher (s.top ∷ s.callers))
+StackEnds p s (hows.Faulted fault) = Sounds (program_code p) s.top.machine.address × (catcher (s.top ∷ s.callers) ≡ None)
+StackEnds p s (hows.Uncatchable fault) = Sounds (program_code p) s.top.machine.address × IsSome (catcher (s.top ∷ s.callers))
 StackEnds p s hows.OutOfFuel = ⊥
-StackEnds p s hows.OutOfMemory = WantsRoom (program_code p) s.top.machine
+StackEnds p s hows.OutOfMemory = WantsRoom (program_code p) s.top.machine.address
 
 -- A run that may take so many turns ends so after so many: at an operation that ends it, or with its fuel spent.
-abbrev pub EndsAfter : {V F : Type 0} → Program → ℕ → ℕ → CallStack → How V F → Type 0
+abbrev pub EndsAfter : {V I F : Type 0} → Program → ℕ → ℕ → CallStack V I → How V F → Type 0
 EndsAfter p fuel turns s (hows.Returned value) = (turns < fuel) × Returns (program_code p) s.top.machine value × (s.callers ≡ [])
-EndsAfter p fuel turns s (hows.Faulted fault) = (turns < fuel) × Sounds (program_code p) s.top.machine × (catcher (s.top ∷ s.callers) ≡ None)
-EndsAfter p fuel turns s (hows.Uncatchable fault) = (turns < fuel) × Sounds (program_code p) s.top.machine × IsSome (catcher (s.top ∷ s.callers))
+EndsAfter p fuel turns s (hows.Faulted fault) = (turns < fuel) × Sounds (program_code p) s.top.machine.address × (catcher (s.top ∷ s.callers) ≡ None)
+EndsAfter p fuel turns s (hows.Uncatchable fault) = (turns < fuel) × Sounds (program_code p) s.top.machine.address × IsSome (catcher (s.top ∷ s.callers))
 EndsAfter p fuel turns s hows.OutOfFuel = turns ≡ fuel
-EndsAfter p fuel turns s hows.OutOfMemory = (turns < fuel) × WantsRoom (program_code p) s.top.machine
+EndsAfter p fuel turns s hows.OutOfMemory = (turns < fuel) × WantsRoom (program_code p) s.top.machine.address
 
 -- The outermost frame of a run is at this address on a kept run of its chunk, which has made no more moves than this.
-pub record IsOutermost (r : Runs) (a : Activation) (turns at : ℕ) : Type 0 where
+pub record IsOutermost {V I : Type 0} (r : Runs) (a : Activation V I) (turns at : ℕ) : Type 0 where
   pub chunk : a.chunk ≡ r.chunk
   pub earlier : List Machine
-  pub run : IsKeptRun (program_code r.program) r.chunk a.machine earlier
+  pub run : IsKeptRun (program_code r.program) r.chunk (counted a.machine) earlier
   pub moves : length earlier ≤ turns
   pub here : a.machine.address ≡ at
 
 -- A run of the chunk within the limits ends so, and stands at this address of the chunk; each frame is on a kept run of its
 -- own chunk.
-pub record IsEnded {V F : Type 0} (r : Runs) (limits : Limits) (at : ℕ) (how : How V F) : Type 0 where
-  pub stack : CallStack
-  pub earlier : List CallStack
+pub record IsEnded {V F : Type 0} (I : Type 0) (r : Runs) (limits : Limits) (at : ℕ) (how : How V F) : Type 0 where
+  pub stack : CallStack V I
+  pub earlier : List (CallStack V I)
   pub run : IsRunOfCalls r.program limits.depth r.chunk stack earlier
   pub outermost : IsOutermost r (outermost_of stack) (length earlier) at
-  pub kept : All (λ a. IsOnKeptRun (program_code r.program) a.chunk a.machine) (stack.top ∷ stack.callers)
+  pub kept : All (λ a. IsOnKeptRun (program_code r.program) a.chunk (counted a.machine)) (stack.top ∷ stack.callers)
   pub ends : EndsAfter r.program limits.fuel (length earlier) stack how

@@ -1,7 +1,7 @@
 -- What the host gives.
-use Rattle.std.specs.Prelude.{◌≡◌, ◌+◌, ◌-◌, ◌<◌, ⊤, ℕ, Option, Some, None, length}
+use Rattle.std.specs.Prelude.{◌<◌, ⊤, ℕ, Option, Some, None, length}
 use Rattle.grain.specs.Program.{Program}
-use Rattle.grain_machine.specs.State.{State, state_with_operands}
+use Rattle.grain_machine.specs.State.{FrameState, Replaces}
 use Rattle.grain_machine.specs.declared.host.Given.{Given}
 use Rattle.grain_machine.specs.declared.host.Given.TheVariants as givens
 
@@ -10,7 +10,8 @@ abbrev pub NamesFunction : {V : Type 0} → Program → Given V → Type 0
 NamesFunction p (givens.Value value) = ⊤
 NamesFunction p (givens.Call function) = function < length p.functions
 
--- the value is in the place of what the operation takes, or a function of the program is to be run and the stacks are as they were
-abbrev pub IsGivenHere : Program → ℕ → State → State → Option ℕ → Type 0
-IsGivenHere p takes s t None = t ≡ state_with_operands (s.machine.operands - takes + 1) s
-IsGivenHere p takes s t (Some function) = (function < length p.functions) × (t ≡ s)
+-- a value is in the place of what the operation takes, or a function of the program is to be run and only the operands that
+-- the host was lent may have changed
+abbrev pub IsGivenHere : {V I : Type 0} → Program → ℕ → FrameState V I → FrameState V I → Option ℕ → Type 0
+IsGivenHere p takes s t None = Replaces takes 1 s t
+IsGivenHere p takes s t (Some function) = (function < length p.functions) × Replaces takes takes s t

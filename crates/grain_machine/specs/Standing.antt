@@ -6,7 +6,7 @@ use Rattle.grain_rules.specs.Rows.{is_quiet}
 use Rattle.grain.specs.Program.{Program, setting_of}
 use Rattle.grain_machine.specs.Act.{IsForHost}
 use Rattle.grain_machine.specs.Calls.{Activation, CallStack}
-use Rattle.grain_machine.specs.State.{IsAt, IsUnderWay, MakesMove, Runs, State}
+use Rattle.grain_machine.specs.State.{FrameState, IsAt, IsUnderWay, MakesMove, Replaces, Runs, State, state_of}
 use Rattle.grain_machine.specs.declared.frames.Caller.{Caller}
 use Rattle.grain_machine.specs.declared.frames.Frames.{Frames}
 use Rattle.grain_machine.specs.declared.step.Turn.{Turn}
@@ -25,30 +25,30 @@ pub record IsCalling (r : Runs) (s : State) (function taken behind : ℕ) : Type
   pub gives : IsForHost (setting_of r.program) op taken taken 1
   pub within : function < length r.program.functions
 
--- the run has made a move, or waits where it stands for a function
-abbrev pub DoesTurn : Runs → State → State → Turn → Type 0
+-- the run has made a move, or waits where it stands for a function, whose arguments the host has taken out of the operands
+abbrev pub DoesTurn : {V I : Type 0} → Runs → FrameState V I → FrameState V I → Turn → Type 0
 DoesTurn r s t turns.Moved = MakesMove r s t
-DoesTurn r s t (turns.Calls function taken behind) = IsCalling r s function taken behind × (t ≡ s)
+DoesTurn r s t (turns.Calls function taken behind) = IsCalling r (state_of s) function taken behind × Replaces taken taken s t
 
 -- the frame is under way in the program, and waits at an operation that gives a value
 pub record IsWaiting {V I : Type 0} (p : Program) (c : Caller V I) : Type 0 where
   pub program : c.body.program ≡ p
   pub op : Op
-  pub at : IsAt c.body c.frame op c.next
+  pub at : IsAt c.body (state_of c.frame) op c.next
   pub gives : IsForHost (setting_of c.body.program) op c.takes c.takes 1
 
 -- each frame is under way in the program, and all but the one on top wait
 pub record IsStanding {V I : Type 0} (p : Program) (f : Frames V I) : Type 0 where
   pub program : f.body.program ≡ p
-  pub ready : IsUnderWay f.body f.frame
+  pub ready : IsUnderWay f.body (state_of f.frame)
   pub waiting : All (IsWaiting p) f.callers.items
 
-abbrev pub activation_of : {V I : Type 0} → Caller V I → Activation
+abbrev pub activation_of : {V I : Type 0} → Caller V I → Activation V I
 activation_of c = record { chunk = c.body.chunk; machine = c.frame.machine }
 
 -- the last that called first
-abbrev pub waiting_of : {V I : Type 0} → List (Caller V I) → List Activation
+abbrev pub waiting_of : {V I : Type 0} → List (Caller V I) → List (Activation V I)
 waiting_of all = map activation_of (reverse all)
 
-abbrev pub stack_of : {V I : Type 0} → Frames V I → CallStack
+abbrev pub stack_of : {V I : Type 0} → Frames V I → CallStack V I
 stack_of f = record { top = record { chunk = f.body.chunk; machine = f.frame.machine }; callers = waiting_of f.callers.items }

@@ -1,15 +1,16 @@
 -- What contracts see of a frame and of a chunk that can be run.
-use Rattle.std.specs.Prelude.{◌≡◌, ◌≤◌, ℕ, List, ◌∷◌, Some, map, min, reverse, true}
+use Rattle.std.specs.Prelude.{◌≡◌, ℕ, List, [], ◌∷◌, ◌++◌, Some, length, map, reverse, slice_get}
 use Rattle.grain_code.specs.Span.{Span}
 use Rattle.grain_code.specs.declared.op.Op.{Op}
-use Rattle.grain_rules.specs.Accepted.{AreTyped}
+use Rattle.grain_rules.specs.Accepted.{AreSafe, AreTyped, IsAccepted, IsSafe}
 use Rattle.grain_rules.specs.Rows.{needs}
 use Rattle.grain_rules.specs.Layout.{next as place_behind}
 use Rattle.grain.specs.Lookups.{FindsIndices}
-use Rattle.grain_rules.specs.Machine.{Finds, Handler, IsOnKeptRun, Machine, Moves, innermost}
-use Rattle.grain.specs.Program.{Program, input_of, setting_of}
+use Rattle.grain_rules.specs.Machine.{Finds, Handler, IsOnKeptRun, Machine, Moves}
+use Rattle.grain.specs.Program.{Program, chunks_of, input_of, setting_of}
 use Rattle.grain_rules.specs.Typing.{HasTyping}
 use Rattle.grain_machine.specs.Asked.{IsAsked, program_code}
+use Rattle.grain_machine.specs.Values.{PassesOn, ValueMachine, below, counted}
 use Rattle.grain_machine.specs.declared.frame.Armed.{Armed}
 
 -- the machine as it is defined, and how many operands there is room for
@@ -17,18 +18,34 @@ pub record State : Type 0 where
   pub machine : Machine
   pub room : ℕ
 
--- the same state but for its address, or for how many operands or iterators there are, or for the handlers
-abbrev pub state_at : ℕ → State → State
-state_at address s = record s { machine = record s.machine { address = address } }
+-- what contracts see of a frame: the machine with its values, and how many operands there is room for
+pub record FrameState (V I : Type 0) : Type 0 where
+  pub machine : ValueMachine V I
+  pub room : ℕ
 
-abbrev pub state_with_operands : ℕ → State → State
-state_with_operands operands s = record s { machine = record s.machine { operands = operands } }
+abbrev pub state_of : {V I : Type 0} → FrameState V I → State
+state_of f = record { machine = counted f.machine; room = f.room }
 
-abbrev pub state_with_iterators : ℕ → State → State
-state_with_iterators iterators s = record s { machine = record s.machine { iterators = iterators } }
+-- the same frame at another address, or with other operands, iterators or handlers
+abbrev pub frame_at : {V I : Type 0} → ℕ → FrameState V I → FrameState V I
+frame_at address f = record f { machine = record f.machine { address = address } }
 
-abbrev pub state_with_handlers : List Handler → State → State
-state_with_handlers handlers s = record s { machine = record s.machine { handlers = handlers } }
+abbrev pub frame_with_operands : {V I : Type 0} → List V → FrameState V I → FrameState V I
+frame_with_operands operands f = record f { machine = record f.machine { operands = operands } }
+
+abbrev pub frame_with_iterators : {V I : Type 0} → List I → FrameState V I → FrameState V I
+frame_with_iterators iterators f = record f { machine = record f.machine { iterators = iterators } }
+
+abbrev pub frame_with_handlers : {V I : Type 0} → List Handler → FrameState V I → FrameState V I
+frame_with_handlers handlers f = record f { machine = record f.machine { handlers = handlers } }
+
+-- so many of the topmost operands were replaced by so many others
+abbrev pub Replaces : {V I : Type 0} → ℕ → ℕ → FrameState V I → FrameState V I → Type 0
+Replaces {V} taken given f g = (others : List V) × (length others ≡ given) × (g ≡ frame_with_operands (below taken f.machine.operands ++ others) f)
+
+-- the innermost iterator went on
+abbrev pub Advances : {V I : Type 0} → FrameState V I → FrameState V I → Type 0
+Advances {V} {I} f g = (iterator : I) × (g ≡ frame_with_iterators (below 1 f.machine.iterators ++ iterator ∷ []) f)
 
 abbrev pub handler_of : Armed → Handler
 handler_of a = record { target = a.target; operands = a.operands; iterators = a.iterators; spent = a.spent }
@@ -37,27 +54,19 @@ handler_of a = record { target = a.target; operands = a.operands; iterators = a.
 abbrev pub innermost_first : List Armed → List Handler
 innermost_first all = map handler_of (reverse all)
 
--- A fault at this state lands there: the innermost handler that isn't spent catches it, and the stacks are cut to what
--- stood when that handler was armed.
-pub record Lands (m n : Machine) : Type 0 where
-  pub handler : Handler
-  pub outer : List Handler
-  pub caught : innermost m.handlers ≡ Some (handler, outer)
-  pub lands : n ≡ record {
-    address = handler.target;
-    operands = min m.operands handler.operands;
-    iterators = min m.iterators handler.iterators;
-    handlers = record handler { spent = true } ∷ outer;
-  }
-
 -- a chunk of a program, and how many operands are room for each run of it
 pub record Runs : Type 0 where
   pub program : Program
   pub chunk : Span
   pub room : ℕ
 
--- the chunk is typed within its room, and the program's lookups find what its code names
+-- The program is accepted, and its lookups find what its code names. The chunk is one of its own, and the room is its number:
+-- it is typed within it, and no kept run has more operands, while some has as many.
 pub record IsRunnable (r : Runs) : Type 0 where
+  pub accepted : IsAccepted (input_of r.program)
+  pub place : ℕ
+  pub there : slice_get (chunks_of r.program) place ≡ Some r.chunk
+  pub safe : IsSafe (input_of r.program).code r.chunk r.room
   pub typed : HasTyping (program_code r.program) r.chunk r.room
   pub finds : FindsIndices r.program
 
@@ -66,13 +75,16 @@ pub record Numbered : Type 0 where
   pub program : Program
   pub numbers : List ℕ
 
+-- the program is accepted, and these are the numbers of its chunks
 pub record IsNumbered (a : Numbered) : Type 0 where
+  pub accepted : IsAccepted (input_of a.program)
+  pub safe : AreSafe (input_of a.program) a.numbers
   pub typed : AreTyped (input_of a.program) a.numbers
   pub finds : FindsIndices a.program
 
--- some kept run of the chunk is in this state
+-- some kept run of the chunk is in this state, with just the room of the chunk
 abbrev pub IsUnderWay : Runs → State → Type 0
-IsUnderWay r s = IsOnKeptRun (program_code r.program) r.chunk s.machine × (r.room ≤ s.room)
+IsUnderWay r s = IsOnKeptRun (program_code r.program) r.chunk s.machine × (s.room ≡ r.room)
 
 -- the run finds this operation, behind which the next one stands there
 pub record IsAt (r : Runs) (s : State) (op : Op) (behind : ℕ) : Type 0 where
@@ -82,6 +94,11 @@ pub record IsAt (r : Runs) (s : State) (op : Op) (behind : ℕ) : Type 0 where
   pub next : behind ≡ place_behind (program_code r.program).layout s.machine.address op
   pub asked : IsAsked r.program r.chunk s.machine.address op (needs (setting_of r.program) op)
 
+-- the run makes a move, by its counts
+abbrev pub Goes : Runs → State → State → Type 0
+Goes r s t = Moves (program_code r.program) r.chunk s.machine t.machine × (t.room ≡ s.room)
+
 -- the run makes a move
-abbrev pub MakesMove : Runs → State → State → Type 0
-MakesMove r s t = Moves (program_code r.program) r.chunk s.machine t.machine × (t.room ≡ s.room)
+pub record MakesMove {V I : Type 0} (r : Runs) (f g : FrameState V I) : Type 0 where
+  pub goes : Goes r (state_of f) (state_of g)
+  pub passes : PassesOn r.program f.machine g.machine

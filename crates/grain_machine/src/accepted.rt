@@ -3,9 +3,9 @@ ghost use Rattle.std.specs.Prelude.{◌≡◌, ◌+◌, ◌<◌, ◌⊎◌, IfEr
 ghost use Rattle.std.specs.Prelude.{slice_get};
 ghost use Rattle.grain_rules.specs.Accepted.{AreSafe, IsAccepted};
 ghost use Rattle.grain_rules.specs.Flaw.{Flaw};
-ghost use Rattle.grain_rules.specs.Machine.{first};
 ghost use Rattle.grain.specs.Program.{chunks_of, input_of};
-ghost use Rattle.grain_machine.specs.State.{IsUnderWay};
+ghost use Rattle.grain_machine.specs.Calls.{begins};
+ghost use Rattle.grain_machine.specs.State.{IsUnderWay, state_of};
 
 use crate::frame::Frame;
 use grain::Program;
@@ -145,8 +145,8 @@ impl<'a> Runnable<'a> {
         &self,
         alloc: Global,
     ) -> Result<Frame<V, I>, AllocError>
-        ensures first { IfOk result (λ frame. frame.machine ≡ first self.now.chunk) }
-        ensures ready { IfOk result (IsUnderWay self.now) }
+        ensures first { IfOk result (λ frame. frame.machine ≡ (begins self.now.chunk).machine) }
+        ensures ready { IfOk result (λ frame. IsUnderWay self.now (state_of frame)) }
     {
         Frame::new(alloc, self.chunk.entry(), self.room)
     }

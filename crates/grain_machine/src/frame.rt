@@ -1,5 +1,5 @@
 //! The stacks of a run, and its address.
-ghost use Rattle.std.specs.Prelude.{◌≡◌, ◌↔◌, ◌+◌, ◌-◌, ◌<◌, ◌≤◌, [], ◌∷◌, IfOk, IsSome, OnOk, OnErr};
+ghost use Rattle.std.specs.Prelude.{◌≡◌, ◌+◌, ◌-◌, ◌<◌, ◌≤◌, [], ◌∷◌, ◌++◌, IfOk, OnOk, OnErr, Some};
 ghost use Rattle.std.specs.Prelude.{MatchOption, None, false, length};
 ghost use Rattle.grain_rules.specs.Counts.{without_last};
 ghost use Rattle.grain_rules.specs.Machine.{innermost};
@@ -7,8 +7,9 @@ ghost use Rattle.grain_rules.specs.Rows.{gives};
 ghost use Rattle.grain.specs.Program.{setting_of};
 ghost use Rattle.grain_machine.specs.Asked.{IsAsked};
 ghost use Rattle.grain_machine.specs.Given.{IsGivenHere};
-ghost use Rattle.grain_machine.specs.State.{Lands, state_at, state_with_handlers};
-ghost use Rattle.grain_machine.specs.State.{state_with_iterators, state_with_operands};
+ghost use Rattle.grain_machine.specs.State.{Advances, Replaces, frame_at, frame_with_handlers};
+ghost use Rattle.grain_machine.specs.State.{frame_with_iterators, frame_with_operands};
+ghost use Rattle.grain_machine.specs.Values.{Lands, below, rotated, top};
 
 use crate::host::{Given, Host, Request};
 use std::alloc::{AllocError, Global};
@@ -30,7 +31,7 @@ pub(crate) struct Armed {
 
 /// Where a run stands.
 ///
-/// Contracts see a `State`: the machine as `grain_rules` defines it, which counts operands, and the room.
+/// Contracts see a `FrameState`: the machine with its operands and iterators, and the room.
 #[derive(Drop)]
 pub(crate) struct Frame<V, I> {
     at: usize,
@@ -40,16 +41,16 @@ pub(crate) struct Frame<V, I> {
 }
 
 impl<V, I> Model for Frame<V, I> {
-    ghost use Rattle.std.specs.Prelude.{vec_len, vec_capacity};
-    ghost use Rattle.grain_machine.specs.State.{State, innermost_first};
+    ghost use Rattle.std.specs.Prelude.{vec_capacity};
+    ghost use Rattle.grain_machine.specs.State.{FrameState, innermost_first};
 
-    ghost Value = { State };
+    ghost Value = { FrameState V I };
 
     ghost view = { λ f. record {
       machine = record {
         address = f.at;
-        operands = vec_len f.operands;
-        iterators = vec_len f.iterators;
+        operands = f.operands.items;
+        iterators = f.iterators.items;
         handlers = innermost_first f.handlers.items;
       };
       room = vec_capacity f.operands;
@@ -60,8 +61,8 @@ impl<V: Drop, I: Drop> Frame<V, I> {
     /// A run begins at the entry, with room for so many operands.
     pub(crate) fn new(alloc: Global, entry: u32, room: u16) -> Result<Frame<V, I>, AllocError>
         ensures machine { IfOk result (λ frame. frame.machine
-            ≡ record { address = entry; operands = 0; iterators = 0; handlers = [] }) }
-        ensures room { IfOk result (λ frame. room ≤ frame.room) }
+            ≡ record { address = entry; operands = []; iterators = []; handlers = [] }) }
+        ensures room { IfOk result (λ frame. frame.room ≡ room) }
     {
         Ok(Frame {
             at: entry as usize,
@@ -82,7 +83,7 @@ impl<V: Drop, I: Drop> Frame<V, I> {
     /// Goes there.
     #[inline(always)]
     pub(crate) fn go(&mut self, at: usize)
-        ensures { self.new ≡ state_at at self.old }
+        ensures { self.new ≡ frame_at at self.old }
     {
         self.at = at;
     }
@@ -90,9 +91,9 @@ impl<V: Drop, I: Drop> Frame<V, I> {
     /// Pushes an operand.
     #[inline(always)]
     pub(crate) fn push(&mut self, value: V)
-        requires { self.old.machine.operands < self.old.room }
-        ensures { self.new ≡ state_with_operands
-            (self.old.machine.operands + 1) self.old }
+        requires { length self.old.machine.operands < self.old.room }
+        ensures { self.new ≡ frame_with_operands
+            (self.old.machine.operands ++ value ∷ []) self.old }
     {
         self.operands.push_reserved(value);
     }
@@ -100,9 +101,10 @@ impl<V: Drop, I: Drop> Frame<V, I> {
     /// Pops an operand.
     #[inline(always)]
     pub(crate) fn pop(&mut self) -> V
-        requires { 0 < self.old.machine.operands }
-        ensures { self.new ≡ state_with_operands
-            (self.old.machine.operands - 1) self.old }
+        requires { 0 < length self.old.machine.operands }
+        ensures value { top self.old.machine.operands ≡ Some result }
+        ensures rest { self.new ≡ frame_with_operands
+            (below 1 self.old.machine.operands) self.old }
     {
         self.operands.swap_remove(self.operands.len() - 1)
     }
@@ -110,9 +112,9 @@ impl<V: Drop, I: Drop> Frame<V, I> {
     /// Pops an operand, and asks the host whether it holds.
     #[inline(always)]
     pub(crate) fn condition<H: Host<Value = V>>(&mut self, host: &mut H) -> Result<bool, H::Fault>
-        requires { 0 < self.old.machine.operands }
-        ensures { self.new ≡ state_with_operands
-            (self.old.machine.operands - 1) self.old }
+        requires { 0 < length self.old.machine.operands }
+        ensures { self.new ≡ frame_with_operands
+            (below 1 self.old.machine.operands) self.old }
     {
         let condition = self.pop();
         host.is_true(&condition)
@@ -121,14 +123,15 @@ impl<V: Drop, I: Drop> Frame<V, I> {
     /// The top of the operand stack.
     #[inline(always)]
     pub(crate) fn top(&self) -> &V
-        requires { 0 < self.now.machine.operands }
+        requires { 0 < length self.now.machine.operands }
+        ensures { top self.now.machine.operands ≡ Some result.now }
     {
         &self.operands[self.operands.len() - 1]
     }
 
     /// The top of the operand stack, if there is one.
     pub(crate) fn result(&mut self) -> Option<V>
-        ensures { IsSome result ↔ (0 < self.old.machine.operands) }
+        ensures { result ≡ top self.old.machine.operands }
     {
         self.operands.pop()
     }
@@ -136,8 +139,9 @@ impl<V: Drop, I: Drop> Frame<V, I> {
     /// Moves the top of the operand stack below so many others.
     #[inline(always)]
     pub(crate) fn rotate(&mut self, depth: usize)
-        requires { depth < self.old.machine.operands }
-        ensures { self.new ≡ self.old }
+        requires { depth < length self.old.machine.operands }
+        ensures { self.new ≡ frame_with_operands
+            (rotated depth self.old.machine.operands) self.old }
     {
         let base = self.operands.len() - 1 - depth;
         self.operands[base..].rotate_right(1);
@@ -151,14 +155,14 @@ impl<V: Drop, I: Drop> Frame<V, I> {
         request: &Request<'_>,
         takes: usize,
     ) -> Result<Option<usize>, H::Fault>
-        requires there { takes ≤ self.old.machine.operands }
-        requires room { self.old.machine.operands - takes < self.old.room }
+        requires there { takes ≤ length self.old.machine.operands }
+        requires room { length self.old.machine.operands - takes < self.old.room }
         requires asked { IsAsked request.now.program.now request.now.chunk request.now.at
             request.now.op.now takes }
         requires gives { gives (setting_of request.now.program.now) request.now.op.now ≡ 1 }
         ensures ok { IfOk result
             (IsGivenHere request.now.program.now takes self.old self.new) }
-        ensures err { OnErr result (self.new ≡ self.old) }
+        ensures err { OnErr result (Replaces takes takes self.old self.new) }
     {
         let base = self.operands.len() - takes;
         match host.give(request, &mut self.operands[base..])? {
@@ -173,10 +177,10 @@ impl<V: Drop, I: Drop> Frame<V, I> {
     /// Puts a value in the place of so many operands.
     #[inline(always)]
     pub(crate) fn replace(&mut self, takes: usize, value: V)
-        requires there { takes ≤ self.old.machine.operands }
-        requires room { self.old.machine.operands - takes < self.old.room }
-        ensures { self.new ≡ state_with_operands
-            (self.old.machine.operands - takes + 1) self.old }
+        requires there { takes ≤ length self.old.machine.operands }
+        requires room { length self.old.machine.operands - takes < self.old.room }
+        ensures { self.new ≡ frame_with_operands
+            (below takes self.old.machine.operands ++ value ∷ []) self.old }
     {
         self.operands.truncate(self.operands.len() - takes);
         self.operands.push_reserved(value);
@@ -191,14 +195,13 @@ impl<V: Drop, I: Drop> Frame<V, I> {
         needs: usize,
         takes: usize,
     ) -> Result<(), H::Fault>
-        requires there { needs ≤ self.old.machine.operands }
+        requires there { needs ≤ length self.old.machine.operands }
         requires within { takes ≤ needs }
         requires asked { IsAsked request.now.program.now request.now.chunk request.now.at
             request.now.op.now needs }
         requires gives { gives (setting_of request.now.program.now) request.now.op.now ≡ 0 }
-        ensures ok { OnOk result (self.new ≡ state_with_operands
-            (self.old.machine.operands - takes) self.old) }
-        ensures err { OnErr result (self.new ≡ self.old) }
+        ensures ok { OnOk result (Replaces needs (needs - takes) self.old self.new) }
+        ensures err { OnErr result (Replaces needs needs self.old self.new) }
     {
         let len = self.operands.len();
         host.take(request, &mut self.operands[len - needs..])?;
@@ -208,8 +211,8 @@ impl<V: Drop, I: Drop> Frame<V, I> {
 
     /// Begins an iterator.
     pub(crate) fn begin(&mut self, iterator: I) -> Result<(), AllocError>
-        ensures { OnOk result (self.new ≡ state_with_iterators
-            (self.old.machine.iterators + 1) self.old) }
+        ensures { OnOk result (self.new ≡ frame_with_iterators
+            (self.old.machine.iterators ++ iterator ∷ []) self.old) }
     {
         self.iterators.push(iterator)?;
         Ok(())
@@ -222,8 +225,8 @@ impl<V: Drop, I: Drop> Frame<V, I> {
         host: &mut H,
         counter: Option<u16>,
     ) -> Result<Option<V>, H::Fault>
-        requires { 0 < self.old.machine.iterators }
-        ensures { self.new ≡ self.old }
+        requires { 0 < length self.old.machine.iterators }
+        ensures { Advances self.old self.new }
     {
         let last = self.iterators.len() - 1;
         host.advance(&mut self.iterators[last], counter)
@@ -231,19 +234,19 @@ impl<V: Drop, I: Drop> Frame<V, I> {
 
     /// Ends the innermost iterator.
     pub(crate) fn end(&mut self)
-        requires { 0 < self.old.machine.iterators }
-        ensures { self.new ≡ state_with_iterators
-            (self.old.machine.iterators - 1) self.old }
+        requires { 0 < length self.old.machine.iterators }
+        ensures { self.new ≡ frame_with_iterators
+            (below 1 self.old.machine.iterators) self.old }
     {
         let _ = self.iterators.pop();
     }
 
     /// Arms a handler.
     pub(crate) fn arm(&mut self, target: u32, name: Option<u32>) -> Result<(), AllocError>
-        ensures { OnOk result (self.new ≡ state_with_handlers (record {
+        ensures { OnOk result (self.new ≡ frame_with_handlers (record {
           target = target;
-          operands = self.old.machine.operands;
-          iterators = self.old.machine.iterators;
+          operands = length self.old.machine.operands;
+          iterators = length self.old.machine.iterators;
           spent = false;
         } ∷ self.old.machine.handlers) self.old) }
     {
@@ -260,7 +263,7 @@ impl<V: Drop, I: Drop> Frame<V, I> {
     /// Disarms the innermost handler.
     pub(crate) fn disarm(&mut self)
         requires { 0 < length self.old.machine.handlers }
-        ensures { self.new ≡ state_with_handlers
+        ensures { self.new ≡ frame_with_handlers
             (without_last self.old.machine.handlers) self.old }
     {
         let _ = self.handlers.pop();

@@ -1,13 +1,13 @@
 //! The frames of a run: the one that runs, and those that wait for a function that they called.
-ghost use Rattle.std.specs.Prelude.{◌≡◌, ◌<◌, [], ◌∷◌, ◌++◌, IfErr, IfOk, OnOk};
+ghost use Rattle.std.specs.Prelude.{◌≡◌, ◌<◌, [], ◌∷◌, ◌++◌, IfErr, IfOk, IfSome, OnOk};
 ghost use Rattle.std.specs.Prelude.{vec_capacity, vec_len};
 ghost use Rattle.std.specs.List.{All};
-ghost use Rattle.grain_rules.specs.Machine.{first};
 ghost use Rattle.grain_machine.specs.Calls.{IsCaughtBy, IsGivenBack, IsRaised, Turns};
-ghost use Rattle.grain_machine.specs.Calls.{outermost_of};
+ghost use Rattle.grain_machine.specs.Calls.{begins, outermost_of};
 ghost use Rattle.grain_machine.specs.Ends.{IsFaultOf, StackEnds};
 ghost use Rattle.grain_machine.specs.Standing.{IsCalling, IsStanding, IsWaiting, MayCallHere};
 ghost use Rattle.grain_machine.specs.Standing.{stack_of, waiting_of};
+ghost use Rattle.grain_machine.specs.State.{state_of};
 ghost use Rattle.grain_machine.specs.declared.step.How.TheVariants as hows;
 
 use crate::accepted::Runnable;
@@ -44,7 +44,7 @@ impl<'a, V: Drop, I: Drop> Frames<'a, V, I> {
     pub(crate) fn new(alloc: Global, body: &Runnable<'a>) -> Result<Frames<'a, V, I>, AllocError>
         ensures standing { IfOk result (IsStanding body.now.program) }
         ensures first { IfOk result (λ frames. stack_of frames ≡ record {
-          top = record { chunk = body.now.chunk; machine = first body.now.chunk };
+          top = begins body.now.chunk;
           callers = [];
         }) }
     {
@@ -110,12 +110,12 @@ impl<'a, V: Drop, I: Drop> Frames<'a, V, I> {
         next: usize,
     ) -> Result<(), How<V, H::Fault>>
         requires standing { IsStanding self.old.body.program self.old }
-        requires calling { IsCalling self.old.body self.old.frame function takes next }
+        requires calling { IsCalling self.old.body (state_of self.old.frame) function takes next }
         ensures standing { OnOk result (IsStanding self.old.body.program self.new) }
         ensures goes { OnOk result
             (Turns self.old.body.program depth (stack_of self.old) (stack_of self.new)) }
-        ensures ends { IfErr result
-            (StackEnds self.old.body.program (stack_of self.old)) }
+        ensures ends { IfErr result (IsFaultOf
+            ((stack_of self.old).top ∷ (stack_of self.old).callers)) }
     {
         if self.callers.len() >= depth {
             return self.refuse(host, function, CallError::TooDeep, next);
@@ -164,12 +164,12 @@ impl<'a, V: Drop, I: Drop> Frames<'a, V, I> {
         next: usize,
     ) -> Result<(), How<V, H::Fault>>
         requires standing { IsStanding self.old.body.program self.old }
-        requires calling { MayCallHere self.old.body self.old.frame next }
+        requires calling { MayCallHere self.old.body (state_of self.old.frame) next }
         ensures standing { OnOk result (IsStanding self.old.body.program self.new) }
         ensures goes { OnOk result (IsRaised self.old.body.program
             (stack_of self.old) (stack_of self.new)) }
-        ensures ends { IfErr result
-            (StackEnds self.old.body.program (stack_of self.old)) }
+        ensures ends { IfErr result (IsFaultOf
+            ((stack_of self.old).top ∷ (stack_of self.old).callers)) }
     {
         let fault = host.refused(function, why);
         match self.frame.catch() {
@@ -190,7 +190,7 @@ impl<'a, V: Drop, I: Drop> Frames<'a, V, I> {
         requires { All (IsWaiting self.old.body.program) self.old.callers.items }
         ensures standing { OnOk result (IsStanding self.old.body.program self.new) }
         ensures goes { OnOk result (IsGivenBack self.old.body.program
-            (waiting_of self.old.callers.items) (stack_of self.new)) }
+            (waiting_of self.old.callers.items) value (stack_of self.new)) }
         ensures ends { IfErr result (λ how. (how ≡ hows.Returned value)
             × (waiting_of self.old.callers.items ≡ [])) }
     {
@@ -204,10 +204,7 @@ impl<'a, V: Drop, I: Drop> Frames<'a, V, I> {
             takes,
             next,
         } = caller;
-        let given = match value {
-            Some(value) => value,
-            None => host.unit(),
-        };
+        let given = value_or_unit(host, value);
         frame.replace(takes, given);
         frame.go(next);
         self.body = body;
@@ -255,5 +252,16 @@ impl<'a, V: Drop, I: Drop> Frames<'a, V, I> {
         for _ in 0..self.callers.len() {
             host.left();
         }
+    }
+}
+
+/// The value that a function returned, or unit where it returned none.
+#[inline(always)]
+fn value_or_unit<H: Host>(host: &mut H, value: Option<H::Value>) -> H::Value
+    ensures { IfSome value (λ returned. result ≡ returned) }
+{
+    match value {
+        Some(value) => value,
+        None => host.unit(),
     }
 }

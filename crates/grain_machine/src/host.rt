@@ -1,6 +1,8 @@
 //! What the machine asks of its host.
 ghost use Rattle.std.specs.Prelude.{◌≡◌, IfOk, length};
 ghost use Rattle.std.specs.List.{Contains};
+ghost use Rattle.grain_base.specs.View.{content};
+ghost use Rattle.grain_pools.specs.Dispatch.{arms, dispatched};
 ghost use Rattle.grain_rules.specs.Code.{switch_targets};
 ghost use Rattle.grain_rules.specs.Rows.{gives};
 ghost use Rattle.grain.specs.Program.{setting_of};
@@ -17,7 +19,7 @@ use grain_pools::Switch;
 pub struct Request<'a> {
     /// The program, which is accepted.
     pub program: &'a Program,
-    /// The chunk that is run.
+    /// The chunk that is run, one of the program's.
     pub chunk: Chunk,
     /// The address of the operation.
     pub at: usize,
@@ -46,8 +48,9 @@ pub enum CallError {
 
 /// It knows values, iterators and faults, and does what operations do with them.
 ///
-/// Each operation that `give` and `take` are asked for is one that a kept run of the chunk meets at its address. The program
-/// has its capabilities, and finds its indices; and the host is given just the operands that it needs, the topmost last.
+/// Each operation that `give` and `take` are asked for is one that a kept run of a chunk of the accepted program meets at its
+/// address. The program has its capabilities, and finds its indices; and the host is given just the operands that it needs,
+/// the topmost last.
 pub trait Host {
     /// A value of the script.
     type Value: Drop;
@@ -147,9 +150,13 @@ pub trait Host {
     fn caught(&mut self, fault: Self::Fault, name: Option<u32>) -> Result<(), Self::Fault>;
 }
 
-/// Where the switch leads with this subject, for a host whose values have a [`Dynamic`] to show.
+/// Where the switch leads with this subject, for a host whose values have a [`Dynamic`] to show: the target of the first case
+/// that has it, else of the first range, else the default, as [`Switch::dispatch`].
 pub fn dispatch(switch: &Switch, subject: &Dynamic) -> u32
-    ensures { Contains (switch_targets switch.now) result }
+    ensures target { result ≡ dispatched (arms switch.now) (content subject.now) }
+
+    // So it is one of its targets.
+    ensures among { Contains (switch_targets switch.now) result }
 {
     switch.dispatch(subject)
 }

@@ -43,7 +43,7 @@ impl<'a> Runnable<'a> {
         limits: Limits,
     ) -> Result<Ending<H::Value, H::Fault>, AllocError>
         // A kept run of the chunk ends so, there and within the fuel, and with it those of the functions that it called.
-        ensures ended { IfOk result (λ ending. IsEnded self.now limits ending.at ending.how) }
+        ensures ended { IfOk result (λ ending. IsEnded H.Iterator self.now limits ending.at ending.how) }
 
         // Without room for its operands no run begins.
         ensures unasked { OnErr result (host.new ≡ host.old) }

@@ -6,7 +6,8 @@ ghost use Rattle.grain.specs.Program.{setting_of};
 ghost use Rattle.grain_machine.specs.Ends.{IsFault, MayEnd};
 ghost use Rattle.grain_machine.specs.Asked.{program_code};
 ghost use Rattle.grain_machine.specs.Standing.{DoesTurn};
-ghost use Rattle.grain_machine.specs.State.{MakesMove, IsAt, IsUnderWay, Lands};
+ghost use Rattle.grain_machine.specs.State.{MakesMove, IsAt, IsUnderWay, state_of};
+ghost use Rattle.grain_machine.specs.Values.{Lands};
 
 use crate::accepted::Runnable;
 use crate::act::{Act, Guards, Iterates, Leads, Stacks};
@@ -46,8 +47,8 @@ impl<'a> Runnable<'a> {
     /// The operation that stands where the run is, and the address behind it.
     #[inline(always)]
     fn read<V: Drop, I: Drop>(&self, frame: &Frame<V, I>) -> (Op, usize)
-        requires { IsUnderWay self.now frame.now }
-        ensures { IsAt self.now frame.now result.0 result.1 }
+        requires { IsUnderWay self.now (state_of frame.now) }
+        ensures { IsAt self.now (state_of frame.now) result.0 result.1 }
     {
         decode_standing(self.program.code(), frame.at())
     }
@@ -76,7 +77,7 @@ impl<'a> Runnable<'a> {
         frame: &mut Frame<H::Value, H::Iterator>,
         host: &mut H,
     ) -> Result<Turn, How<H::Value, H::Fault>>
-        requires { IsUnderWay self.now frame.old }
+        requires { IsUnderWay self.now (state_of frame.old) }
         ensures goes { IfOk result (DoesTurn self.now frame.old frame.new) }
         ensures ends { IfErr result (MayEnd (program_code self.now.program) frame.old.machine) }
     {
@@ -114,7 +115,7 @@ impl<'a> Runnable<'a> {
         next: usize,
         act: Stacks,
     )
-        requires { IsAt self.now frame.old (stacking act) next }
+        requires { IsAt self.now (state_of frame.old) (stacking act) next }
         ensures { MakesMove self.now frame.old frame.new }
     {
         match act {
@@ -143,7 +144,7 @@ impl<'a> Runnable<'a> {
         next: usize,
         act: Leads,
     ) -> Result<(), How<H::Value, H::Fault>>
-        requires { IsAt self.now frame.old (leading act) next }
+        requires { IsAt self.now (state_of frame.old) (leading act) next }
         ensures goes { OnOk result (MakesMove self.now frame.old frame.new) }
         ensures ends { IfErr result (MayEnd (program_code self.now.program) frame.old.machine) }
     {
@@ -175,7 +176,7 @@ impl<'a> Runnable<'a> {
         next: usize,
         act: Iterates,
     ) -> Result<(), How<H::Value, H::Fault>>
-        requires { IsAt self.now frame.old (iterating act) next }
+        requires { IsAt self.now (state_of frame.old) (iterating act) next }
         ensures goes { OnOk result (MakesMove self.now frame.old frame.new) }
         ensures ends { IfErr result (MayEnd (program_code self.now.program) frame.old.machine) }
     {
@@ -196,7 +197,7 @@ impl<'a> Runnable<'a> {
         next: usize,
         act: Guards,
     ) -> Result<(), How<V, F>>
-        requires { IsAt self.now frame.old (guarding act) next }
+        requires { IsAt self.now (state_of frame.old) (guarding act) next }
         ensures goes { OnOk result (MakesMove self.now frame.old frame.new) }
         ensures ends { IfErr result (MayEnd (program_code self.now.program) frame.old.machine) }
     {
@@ -218,7 +219,7 @@ impl<'a> Runnable<'a> {
         next: usize,
         takes: usize,
     ) -> Result<Turn, How<H::Value, H::Fault>>
-        requires at { IsAt self.now frame.old op.now next }
+        requires at { IsAt self.now (state_of frame.old) op.now next }
         requires plain { IsForHost (setting_of self.now.program) op.now takes takes 1 }
         ensures goes { IfOk result (DoesTurn self.now frame.old frame.new) }
         ensures ends { IfErr result (MayEnd (program_code self.now.program) frame.old.machine) }
@@ -251,7 +252,7 @@ impl<'a> Runnable<'a> {
         needs: usize,
         takes: usize,
     ) -> Result<(), How<H::Value, H::Fault>>
-        requires at { IsAt self.now frame.old op.now next }
+        requires at { IsAt self.now (state_of frame.old) op.now next }
         requires plain { IsForHost (setting_of self.now.program) op.now needs takes 0 }
         requires within { takes ≤ needs }
         ensures goes { OnOk result (MakesMove self.now frame.old frame.new) }
@@ -269,7 +270,7 @@ impl<'a> Runnable<'a> {
 
     #[inline(always)]
     fn unit<V: Drop, I: Drop>(&self, frame: &mut Frame<V, I>, next: usize, unit: V)
-        requires { IsAt self.now frame.old Op.Unit next }
+        requires { IsAt self.now (state_of frame.old) Op.Unit next }
         ensures { MakesMove self.now frame.old frame.new }
     {
         frame.push(unit);
@@ -278,7 +279,7 @@ impl<'a> Runnable<'a> {
 
     #[inline(always)]
     fn truth<V: Drop, I: Drop>(&self, frame: &mut Frame<V, I>, next: usize, value: bool, truth: V)
-        requires { IsAt self.now frame.old (Op.Bool value) next }
+        requires { IsAt self.now (state_of frame.old) (Op.Bool value) next }
         ensures { MakesMove self.now frame.old frame.new }
     {
         frame.push(truth);
@@ -287,7 +288,7 @@ impl<'a> Runnable<'a> {
 
     #[inline(always)]
     fn pop<V: Drop, I: Drop>(&self, frame: &mut Frame<V, I>, next: usize)
-        requires { IsAt self.now frame.old Op.Pop next }
+        requires { IsAt self.now (state_of frame.old) Op.Pop next }
         ensures { MakesMove self.now frame.old frame.new }
     {
         let _ = frame.pop();
@@ -296,7 +297,7 @@ impl<'a> Runnable<'a> {
 
     #[inline(always)]
     fn rotate<V: Drop, I: Drop>(&self, frame: &mut Frame<V, I>, next: usize, depth: usize)
-        requires { IsAt self.now frame.old (Op.Rotate depth) next }
+        requires { IsAt self.now (state_of frame.old) (Op.Rotate depth) next }
         ensures { MakesMove self.now frame.old frame.new }
     {
         frame.rotate(depth);
@@ -305,7 +306,7 @@ impl<'a> Runnable<'a> {
 
     #[inline(always)]
     fn unwind<V: Drop, I: Drop>(&self, frame: &mut Frame<V, I>, next: usize, depth: u16)
-        requires { IsAt self.now frame.old (Op.UnwindTo depth) next }
+        requires { IsAt self.now (state_of frame.old) (Op.UnwindTo depth) next }
         ensures { MakesMove self.now frame.old frame.new }
     {
         frame.go(next);
@@ -313,7 +314,7 @@ impl<'a> Runnable<'a> {
 
     #[inline(always)]
     fn jump<V: Drop, I: Drop>(&self, frame: &mut Frame<V, I>, next: usize, target: u32)
-        requires { IsAt self.now frame.old (Op.Jump target) next }
+        requires { IsAt self.now (state_of frame.old) (Op.Jump target) next }
         ensures { MakesMove self.now frame.old frame.new }
     {
         frame.go(target as usize);
@@ -327,7 +328,7 @@ impl<'a> Runnable<'a> {
         next: usize,
         target: u32,
     ) -> Result<(), How<H::Value, H::Fault>>
-        requires { IsAt self.now frame.old (Op.JumpIfTrue target) next }
+        requires { IsAt self.now (state_of frame.old) (Op.JumpIfTrue target) next }
         ensures goes { OnOk result (MakesMove self.now frame.old frame.new) }
         ensures ends { IfErr result (MayEnd (program_code self.now.program) frame.old.machine) }
     {
@@ -352,7 +353,7 @@ impl<'a> Runnable<'a> {
         next: usize,
         target: u32,
     ) -> Result<(), How<H::Value, H::Fault>>
-        requires { IsAt self.now frame.old (Op.JumpIfFalse target) next }
+        requires { IsAt self.now (state_of frame.old) (Op.JumpIfFalse target) next }
         ensures goes { OnOk result (MakesMove self.now frame.old frame.new) }
         ensures ends { IfErr result (MayEnd (program_code self.now.program) frame.old.machine) }
     {
@@ -377,7 +378,7 @@ impl<'a> Runnable<'a> {
         next: usize,
         target: u32,
     )
-        requires { IsAt self.now frame.old (Op.SkipIfNotUnit target) next }
+        requires { IsAt self.now (state_of frame.old) (Op.SkipIfNotUnit target) next }
         ensures { MakesMove self.now frame.old frame.new }
     {
         if host.is_unit(frame.top()) {
@@ -395,7 +396,7 @@ impl<'a> Runnable<'a> {
         next: usize,
         index: u32,
     ) -> Result<(), How<H::Value, H::Fault>>
-        requires { IsAt self.now frame.old (Op.Switch index) next }
+        requires { IsAt self.now (state_of frame.old) (Op.Switch index) next }
         ensures goes { OnOk result (MakesMove self.now frame.old frame.new) }
         ensures ends { IfErr result (MayEnd (program_code self.now.program) frame.old.machine) }
     {
@@ -416,7 +417,7 @@ impl<'a> Runnable<'a> {
         host: &mut H,
         next: usize,
     ) -> Result<(), How<H::Value, H::Fault>>
-        requires { IsAt self.now frame.old Op.Throw next }
+        requires { IsAt self.now (state_of frame.old) Op.Throw next }
         ensures goes { OnOk result (MakesMove self.now frame.old frame.new) }
         ensures ends { IfErr result (MayEnd (program_code self.now.program) frame.old.machine) }
     {
@@ -432,7 +433,7 @@ impl<'a> Runnable<'a> {
         host: &mut H,
         next: usize,
     ) -> Result<(), How<H::Value, H::Fault>>
-        requires { IsAt self.now frame.old Op.IterInit next }
+        requires { IsAt self.now (state_of frame.old) Op.IterInit next }
         ensures goes { OnOk result (MakesMove self.now frame.old frame.new) }
         ensures ends { IfErr result (MayEnd (program_code self.now.program) frame.old.machine) }
     {
@@ -458,7 +459,7 @@ impl<'a> Runnable<'a> {
         exit: u32,
         counter: Option<u16>,
     ) -> Result<(), How<H::Value, H::Fault>>
-        requires { IsAt self.now frame.old (Op.IterNext exit counter) next }
+        requires { IsAt self.now (state_of frame.old) (Op.IterNext exit counter) next }
         ensures goes { OnOk result (MakesMove self.now frame.old frame.new) }
         ensures ends { IfErr result (MayEnd (program_code self.now.program) frame.old.machine) }
     {
@@ -479,7 +480,7 @@ impl<'a> Runnable<'a> {
 
     #[inline(always)]
     fn end<V: Drop, I: Drop>(&self, frame: &mut Frame<V, I>, next: usize)
-        requires { IsAt self.now frame.old Op.IterDrop next }
+        requires { IsAt self.now (state_of frame.old) Op.IterDrop next }
         ensures { MakesMove self.now frame.old frame.new }
     {
         frame.end();
@@ -494,7 +495,7 @@ impl<'a> Runnable<'a> {
         target: u32,
         name: Option<u32>,
     ) -> Result<(), How<V, F>>
-        requires { IsAt self.now frame.old (Op.PushHandler target name) next }
+        requires { IsAt self.now (state_of frame.old) (Op.PushHandler target name) next }
         ensures goes { OnOk result (MakesMove self.now frame.old frame.new) }
         ensures ends { IfErr result (MayEnd (program_code self.now.program) frame.old.machine) }
     {
@@ -509,7 +510,7 @@ impl<'a> Runnable<'a> {
 
     #[inline(always)]
     fn disarm<V: Drop, I: Drop>(&self, frame: &mut Frame<V, I>, next: usize)
-        requires { IsAt self.now frame.old Op.PopHandler next }
+        requires { IsAt self.now (state_of frame.old) Op.PopHandler next }
         ensures { MakesMove self.now frame.old frame.new }
     {
         frame.disarm();

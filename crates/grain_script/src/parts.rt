@@ -1,5 +1,7 @@
 //! Parts of values, by the steps of chains, and values made of parts.
-ghost use Rattle.std.specs.Prelude.{◌<◌, IfSome};
+ghost use Rattle.std.specs.Prelude.{◌<◌, IfSome, length};
+ghost use Rattle.std.specs.List.{All};
+ghost use Rattle.grain_script.specs.Parts.{TakesWithin};
 
 use crate::copies::copied;
 use crate::fault::Why;
@@ -16,7 +18,9 @@ pub(crate) fn part_along<'v>(
     value: &'v Dynamic,
     steps: &[Step],
     operands: &[Dynamic],
-) -> Result<&'v Dynamic, Why> {
+) -> Result<&'v Dynamic, Why>
+    requires { All (TakesWithin (length operands.now)) steps.now }
+{
     let mut found = value;
     for step in steps {
         found = part(program, found, step, operands)?;
@@ -31,7 +35,9 @@ pub(crate) fn copy_along(
     value: &Dynamic,
     steps: &[Step],
     operands: &[Dynamic],
-) -> Result<Dynamic, Why> {
+) -> Result<Dynamic, Why>
+    requires { All (TakesWithin (length operands.now)) steps.now }
+{
     let part = part_along(program, value, steps, operands)?;
     Ok(copied(alloc, part)?)
 }
@@ -42,10 +48,12 @@ fn part<'v>(
     value: &'v Dynamic,
     step: &Step,
     operands: &[Dynamic],
-) -> Result<&'v Dynamic, Why> {
+) -> Result<&'v Dynamic, Why>
+    requires { TakesWithin (length operands.now) step.now }
+{
     match (value.unshared(), step) {
         (Dynamic::Array(items), Step::Index { operand, .. }) => {
-            match place_in(items.len(), operands.get(*operand as usize)) {
+            match place_in(items.len(), &operands[*operand as usize]) {
                 Some(place) => Ok(&items[place]),
                 None => Err(Why::NoPart),
             }
@@ -69,10 +77,10 @@ fn entry<'v>(entries: &'v BTreeMap<String, Dynamic>, name: &str) -> Result<&'v D
 }
 
 /// The place of an index among so many items, counted from their end where it is below 0.
-fn place_in(len: usize, index: Option<&Dynamic>) -> Option<usize>
+fn place_in(len: usize, index: &Dynamic) -> Option<usize>
     ensures { IfSome result (λ place. place < len) }
 {
-    let Some(Dynamic::Int(index)) = index else {
+    let Dynamic::Int(index) = index else {
         return None;
     };
     let place = if *index < 0 {
@@ -85,9 +93,11 @@ fn place_in(len: usize, index: Option<&Dynamic>) -> Option<usize>
 }
 
 /// The name of the entry to which a step leads.
-fn name_in<'v>(program: &'v Program, step: &Step, operands: &'v [Dynamic]) -> Option<&'v str> {
+fn name_in<'v>(program: &'v Program, step: &Step, operands: &'v [Dynamic]) -> Option<&'v str>
+    requires { TakesWithin (length operands.now) step.now }
+{
     match step {
-        Step::Index { operand, .. } => match operands.get(*operand as usize)? {
+        Step::Index { operand, .. } => match &operands[*operand as usize] {
             Dynamic::Str(name) => Some(name.as_str()),
             _ => None,
         },
@@ -104,13 +114,15 @@ pub(crate) fn assign_part(
     steps: &[Step],
     operands: &[Dynamic],
     assigned: Dynamic,
-) -> Result<(), Why> {
+) -> Result<(), Why>
+    requires { All (TakesWithin (length operands.now)) steps.now }
+{
     let [step] = steps else {
         return Err(Why::Unsupported);
     };
     match (value, step) {
         (Dynamic::Array(items), Step::Index { operand, .. }) => {
-            match place_in(items.len(), operands.get(*operand as usize)) {
+            match place_in(items.len(), &operands[*operand as usize]) {
                 Some(place) => {
                     items[place] = assigned;
                     Ok(())

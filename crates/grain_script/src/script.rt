@@ -1,6 +1,9 @@
 //! The host: what operations do.
-ghost use Rattle.std.specs.Prelude.{◌≡◌, IfErr, IfOk};
+ghost use Rattle.std.specs.Prelude.{◌≡◌, IfErr, IfOk, length};
+ghost use Rattle.std.specs.List.{All};
+ghost use Rattle.grain_machine.specs.Asked.{IsAsked};
 ghost use Rattle.grain_machine.specs.Given.{NamesFunction};
+ghost use Rattle.grain_script.specs.Parts.{TakesWithin};
 
 use crate::copies::{copied, copied_with_mark, is_marked, marked};
 use crate::fault::{Fault, Why};
@@ -108,6 +111,8 @@ impl Script {
         request: &Request<'_>,
         operands: &mut [Dynamic],
     ) -> Result<Given<Dynamic>, Why>
+        requires { IsAsked request.now.program.now request.now.chunk request.now.at request.now.op.now
+            (length operands.old) }
         ensures at { self.new.at ≡ self.old.at }
         ensures names { IfOk result (NamesFunction request.now.program.now) }
     {
@@ -189,6 +194,7 @@ impl Script {
         chain: &Chain,
         operands: &mut [Dynamic],
     ) -> Result<Dynamic, Why>
+        requires { All (TakesWithin (length operands.old)) chain.now.steps.items }
         ensures { self.new.at ≡ self.old.at }
     {
         if let Tail::Assign { op } = &chain.tail {
@@ -220,6 +226,7 @@ impl Script {
         op: &Option<u32>,
         operands: &mut [Dynamic],
     ) -> Result<(), Why>
+        requires { All (TakesWithin (length operands.old)) chain.now.steps.items }
         ensures { self.new.at ≡ self.old.at }
     {
         let Root::Local { slot, .. } = &chain.root else {
@@ -321,6 +328,8 @@ impl Host for Script {
         request: &Request<'_>,
         operands: &mut [Dynamic],
     ) -> Result<Given<Dynamic>, Fault>
+        requires { IsAsked request.now.program.now request.now.chunk request.now.at request.now.op.now
+            (length operands.old) }
         ensures names { IfOk result (NamesFunction request.now.program.now) }
         ensures at { IfErr result (λ fault. fault.at ≡ request.now.at) }
     {

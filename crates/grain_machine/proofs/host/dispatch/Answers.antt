@@ -6,5 +6,5 @@ use Rattle.grain_pools.specs.Dispatch.{arms}
 use Rattle.grain_pools.proofs.Dispatching.{dispatched_among}
 use Rattle.grain_machine.proofs.host.dispatch.Goals as goal
 
-pub returns : goal.returns
-returns c = subst (λ (target : ℕ). Contains (switch_targets c.args.switch.now) target) (sym c.dispatch.ensures) (dispatched_among (arms c.args.switch.now) (content c.args.subject.now))
+pub returns-clause-among : goal.returns-clause-among
+returns-clause-among c = subst (λ (target : ℕ). Contains (switch_targets c.args.switch.now) target) (sym c.dispatch.ensures) (dispatched_among (arms c.args.switch.now) (content c.args.subject.now))

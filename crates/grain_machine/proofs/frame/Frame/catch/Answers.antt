@@ -1,7 +1,7 @@
-use Rattle.std.proofs.Common.{◌≡◌, ◌∷◌, true, min, refl, sym, ap, ◌∙◌, vec_len, arith}
+use Rattle.std.proofs.Common.{◌≡◌, ◌∷◌, true, Global, Vec, refl, sym, take, ap, ◌∙◌}
 use Rattle.std.proofs.lemmas.Bool.{not-true}
 use Rattle.grain_rules.specs.Machine.{innermost}
-use Rattle.grain_machine.specs.State.{State, handler_of, innermost_first}
+use Rattle.grain_machine.specs.State.{FrameState, handler_of, innermost_first}
 use Rattle.grain_machine.proofs.Handlers.{innermost_is, last_first, same_machine}
 use Rattle.grain_machine.proofs.frame.Frame.catch.Goals as goal
 
@@ -12,14 +12,16 @@ returns-then-not-handler-clause-caught g c =
     let popped : innermost_first c.loop-handler.self-inside.handlers.items ≡ handler_of h ∷ rest = ap innermost_first c.in-Some.ensures.items ∙ last_first c.pop.new.self.items h in
     let pushed : innermost_first c.push_reserved.new.self.items ≡ record (handler_of h) { spent = true } ∷ rest =
     ap innermost_first c.push_reserved.ensures.items ∙ last_first c.pop.new.self.items (record h { spent = true }) in
-    let seen : c.args.self.now.machine.handlers ≡ innermost_first c.self.inside.handlers.items = ap (λ (s : State). s.machine.handlers) (sym c.self.view_is) in
-    let operands : vec_len c.loop-handler.self-inside.operands ≡ c.args.self.now.machine.operands = ap vec_len c.loop-handler.invariant.rest ∙ ap (λ (s : State). s.machine.operands) c.self.view_is in
-    let iterators : vec_len c.loop-handler.self-inside.iterators ≡ c.args.self.now.machine.iterators = ap vec_len c.loop-handler.invariant.iterators ∙ ap (λ (s : State). s.machine.iterators) c.self.view_is in
-    let eo : vec_len c.truncate.new.self ≡ min c.args.self.now.machine.operands h.operands = omega (arith, c.truncate.ensures.len) in
-    let ei : vec_len c.truncate-then-not-handler.new.self ≡ min c.args.self.now.machine.iterators h.iterators = omega (arith, c.truncate-then-not-handler.ensures.len) in
+    let seen : c.args.self.now.machine.handlers ≡ innermost_first c.self.inside.handlers.items =
+    ap (λ (s : FrameState g.row.V.Denot g.row.I.Denot). s.machine.handlers) (sym c.self.view_is) in
+    let operands : c.loop-handler.self-inside.operands.items ≡ c.args.self.now.machine.operands =
+    ap (λ (v : Vec g.row.V.Denot Global). v.items) c.loop-handler.invariant.rest ∙ ap (λ (s : FrameState g.row.V.Denot g.row.I.Denot). s.machine.operands) c.self.view_is in
+    let iterators : c.loop-handler.self-inside.iterators.items ≡ c.args.self.now.machine.iterators =
+    ap (λ (v : Vec g.row.I.Denot Global). v.items) c.loop-handler.invariant.iterators ∙ ap (λ (s : FrameState g.row.V.Denot g.row.I.Denot). s.machine.iterators) c.self.view_is in
     record {
       handler = handler_of h;
       outer = rest;
       caught = ap innermost seen ∙ (sym c.loop-handler.invariant.same ∙ (ap innermost popped ∙ innermost_is (handler_of h) rest (not-true h.spent c.if-not-handler.true)));
-      lands = same_machine _ _ _ _ _ _ _ _ refl eo ei pushed;
+      lands = same_machine _ _ _ _ _ _ _ _ refl (c.truncate.ensures.items ∙ ap (take h.operands) operands)
+          (c.truncate-then-not-handler.ensures.items ∙ ap (take h.iterators) iterators) pushed;
     }

@@ -2,9 +2,10 @@ use Rattle.std.proofs.Common.{◌≡◌, ◌<◌, ◌++◌, List, [], ◌∷◌,
 use Rattle.std.specs.List.{All}
 use Rattle.std.proofs.lemmas.List.Elements.{All-push}
 use Rattle.grain_machine.specs.Standing.{IsWaiting, waiting_of}
-use Rattle.grain_machine.specs.State.{Runs, State}
+use Rattle.grain_machine.specs.State.{FrameState, Runs}
 use Rattle.grain_machine.specs.declared.frames.Caller.{Caller}
 use Rattle.grain_machine.proofs.Calling.{last_called, same_activation, waiting_long}
+use Rattle.grain_machine.proofs.Keeping.{kept_self}
 use Rattle.grain_machine.proofs.frames.Frames.call.Goals as goal
 
 pub returns-in-Ok-reserve-clause-standing : goal.returns-in-Ok-reserve-clause-standing
@@ -37,9 +38,11 @@ returns-in-Ok-reserve-clause-goes g c =
       chunk = c.callee-body.result.chunk;
       taken = c.args.takes;
       behind = c.args.next;
+      caller = record { chunk = f.body.chunk; machine = f.frame.machine };
       may = record { op = calling.op; finds = calling.at.finds; gives = calling.gives; next = calling.at.next };
       there = c.callee-body.ensures.chunk;
-      top = same_activation _ _ _ _ (ap (λ (r : Runs). r.chunk) c.enter.ensures.runs) (ap (λ (s : State). s.machine) c.enter.ensures.stands ∙ c.in-Ok.ensures.first);
+      top = same_activation _ _ _ _ (ap (λ (r : Runs). r.chunk) c.enter.ensures.runs) (ap (λ (s : FrameState g.row.V.Denot g.row.I.Denot). s.machine) c.enter.ensures.stands ∙ c.in-Ok.ensures.first);
+      waits = record { chunk = refl; counts = refl; operands = kept_self _ _; iterators = refl };
       callers = ap waiting_of items ∙ last_called f.callers.items w;
       within = within;
     }))

@@ -1,0 +1,2 @@
+-- what is promised
+pub mod Parts
