@@ -130,7 +130,7 @@ impl From<AllocError> for BuildError {
     }
 }
 
-/// Tests whether each cut is a part of so many operations.
+/// Tests whether each cut is a part of this many operations.
 fn check_cuts(cuts: &[Cut], count: usize) -> Result<(), BuildError>
     ensures ok { OnOk result (All (IsCut count) (map span_of cuts.now)) }
     ensures err { IfErr result (λ e. (place : ℕ)
@@ -199,7 +199,7 @@ fn lay(
 
 /// Builds a program from operations whose targets are indices, and verifies it.
 ///
-/// The first cut is the top level, and each other is the body of the function whose head stands at its place. Targets of
+/// The first cut is the top level, and each other is the body of the function whose head is at its place. Targets of
 /// jumps and of the switches of the parts are indices of operations, or the number of operations for their end. Answers
 /// the program, whose targets are addresses, and the greatest operand count that any run of each cut reaches. All that
 /// decides, and the numbers, are said of the operations by index alone.
@@ -229,7 +229,7 @@ pub fn build(
     ensures deepest { IfOk result (λ built.
         AreDeepestByIndex (draft caps ops.now cuts.now heads.items parts) built.1.items) }
 
-    // What passes by index is built, want of memory aside, and each refusal but that is a flaw.
+    // What passes by index is built unless memory runs out, and each other refusal is a flaw.
     ensures accepts { CanBuild (draft caps ops.now cuts.now heads.items parts)
         → IfErr result (λ e. e ≡ BuildError.OutOfMemory) }
     ensures flaws { IfErr result (λ e. (e ≡ BuildError.OutOfMemory)

@@ -3,8 +3,8 @@
 //!
 //! [`verify`] says whether a program may be run in place, and how many operands each of its chunks needs. The promise is
 //! that of *kept* runs: a machine has to step as docs/FORMAT.md says ("Verification"), and at the eight quiet instructions
-//! it faults never, or only with at least what stood when the handler was armed that catches. What the answer means is
-//! defined in the folder `specs/` of the crate `grain_rules`, over operations where they stand (`Layout`):
+//! it faults never, or only with at least what was on the stacks when the handler was armed that catches. What the result means is
+//! defined in the folder `specs/` of the crate `grain_rules`, over operations where they are (`Layout`):
 //! in bytes, as `verify` is given them, or in a list, so that a program built from a list of operations by index is judged
 //! by the same words. Capabilities are made and joined through the trait [`Flags`].
 //!

@@ -39,7 +39,7 @@ impl Lookups for Program {
 }
 
 impl Program {
-    /// The first function of this name and so many parameters that is declared for no receiver. The name is an index.
+    /// The first function of this name and as many parameters that is declared for no receiver. The name is an index.
     ///
     /// It takes time by the number of functions, and no memory.
     pub fn function(&self, name: u32, argc: usize) -> Option<&Function>
@@ -50,10 +50,10 @@ impl Program {
             .find(|function| is_untyped(function, name, argc))
     }
 
-    /// The first function of this name and so many parameters that is declared for a receiver of that type; where there is
+    /// The first function of this name and as many parameters that is declared for a receiver of that type; where there is
     /// none, the first that is declared for no receiver. The name is an index, the type a text.
     ///
-    /// It takes time by the number of functions and, for those of this name and so many parameters, by the length of the
+    /// It takes time by the number of functions and, for those of this name and as many parameters, by the length of the
     /// text, with which names as long as it are compared; and no memory.
     pub fn method(&self, name: u32, argc: usize, typed: &str) -> Option<&Function>
         ensures { MatchOption
@@ -74,9 +74,9 @@ impl Program {
         untyped
     }
 
-    /// The first function of this name and so many parameters that is declared for no receiver. The name is a text.
+    /// The first function of this name and as many parameters that is declared for no receiver. The name is a text.
     ///
-    /// It takes time by the number of functions and, for those of so many parameters and no receiver, by the length of the
+    /// It takes time by the number of functions and, for those of as many parameters and no receiver, by the length of the
     /// text, with which names as long as it are compared; and no memory.
     pub fn function_named(&self, name: &str, argc: usize) -> Option<&Function>
         ensures { option_copied result
@@ -141,14 +141,14 @@ impl<'a> Sought<'a> {
     }
 }
 
-/// Whether the function has this name and so many parameters, and is declared for no receiver.
+/// Whether the function has this name and as many parameters, and is declared for no receiver.
 fn is_untyped(function: &Function, name: u32, argc: usize) -> bool
     ensures { result ≡ is_untyped name argc function.now }
 {
     function.name == name && function.params.len() == argc && function.this_type.is_none()
 }
 
-/// Whether the function has this name and so many parameters, and is declared for a receiver of the type that is sought.
+/// Whether the function has this name and as many parameters, and is declared for a receiver of the type that is sought.
 fn is_typed(receiver: &mut Sought<'_>, function: &Function, name: u32, argc: usize) -> bool
     ensures typed { result
         ≡ is_typed receiver.old.names.now name argc receiver.old.text.now function.now }
@@ -161,7 +161,7 @@ fn is_typed(receiver: &mut Sought<'_>, function: &Function, name: u32, argc: usi
     function.name == name && function.params.len() == argc && receiver.is_at(this_type)
 }
 
-/// Whether the function has the name that is sought and so many parameters, and is declared for no receiver.
+/// Whether the function has the name that is sought and as many parameters, and is declared for no receiver.
 fn is_named(name: &mut Sought<'_>, function: &Function, argc: usize) -> bool
     ensures named { result ≡ is_named name.old.names.now name.old.text.now argc function.now }
     ensures names { name.new.names.now ≡ name.old.names.now }

@@ -18,7 +18,7 @@ use std::marker::Model;
 /// What a program has besides its code and its chunks: its positions and the pools that instructions point into.
 #[derive(Drop)]
 pub struct Parts {
-    /// Where the bytes of the code stand in the source text.
+    /// Where the bytes of the code are in the source text.
     pub positions: Positions,
     /// Which program this is. Positions that are kept apart carry the same number.
     pub debug_id: u128,
@@ -43,7 +43,7 @@ pub struct Parts {
 /// A compiled script, as a host keeps it. Nothing says that it passes [`Program::verify`].
 ///
 /// Contracts see a record of what it has. Its allocator and the room that its lists keep are no part of that. A call that
-/// makes one, tells what it has or finds something by an index takes constant time, unless its own text says more.
+/// makes one, says what it has or finds something by an index takes constant time, unless its own text says more.
 #[derive(Drop)]
 pub struct Program {
     pub(crate) alloc: Global,
@@ -89,7 +89,7 @@ impl Program {
         }
     }
 
-    /// The capabilities that the program may ask for.
+    /// The capabilities that the program may require.
     pub fn caps(&self) -> Caps
         ensures { result ≡ self.now.caps }
     {
@@ -214,7 +214,7 @@ impl Program {
         &self.parts.switches
     }
 
-    /// The pools as [`verify`](grain_verify::verify) asks them.
+    /// The pools as [`verify`](grain_verify::verify) takes them.
     pub fn pools(&self) -> Pools<'_>
         ensures consts { result.consts ≡ length self.now.consts }
         ensures names { result.names.now ≡ self.now.names }
@@ -242,7 +242,7 @@ impl Program {
         self.parts.positions.get(pc)
     }
 
-    /// Where the bytes of the code stand in the source text.
+    /// Where the bytes of the code are in the source text.
     pub fn positions(&self) -> &Positions
         ensures { listed_positions result.now ≡ self.now.positions }
     {

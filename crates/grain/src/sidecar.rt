@@ -31,7 +31,7 @@ impl Program {
     /// Writes the positions of the program, which keeps them, as [`Positions::to_table`] and [`sites::encode`] do.
     ///
     /// # Errors
-    /// `AddressTooWide` where a position that has a line stands above 4294967295, and `OutOfMemory` where there is no memory
+    /// `AddressTooWide` where a position that has a line is above 4294967295, and `OutOfMemory` where there is no memory
     /// for what is written.
     pub fn sidecar(&self) -> Result<Sidecar, StripError>
         ensures ok { IfOk result (IsSidecar self.now) }

@@ -16,7 +16,7 @@ use std::alloc::AllocError;
 impl Program {
     /// The greatest operand count that any run of each chunk reaches, the main chunk before those of the functions, or why
     /// the program is refused. It costs as much as [`verify`](grain_verify::verify) of what the program has, and promises of kept
-    /// runs, and asks of a machine, what that does.
+    /// runs, and requires of a machine, what that does.
     ///
     /// # Errors
     /// As [`verify`](grain_verify::verify) of what the program has. `OutOfMemory` may come before any test.
@@ -40,8 +40,8 @@ impl Program {
         )
     }
 
-    /// Has each chunk declare the number that [`Program::verify`] answers for it, and costs as much. The number is that of
-    /// kept runs: what it asks of a machine is said at [`verify`](grain_verify::verify).
+    /// Has each chunk declare the number that [`Program::verify`] returns for it, and costs as much. The number is that of
+    /// kept runs: what it requires of a machine is said at [`verify`](grain_verify::verify).
     ///
     /// # Errors
     /// As [`Program::verify`], the program being unchanged.

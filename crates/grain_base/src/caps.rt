@@ -1,4 +1,4 @@
-//! What a program may ask of its host.
+//! What a program may require of its host.
 
 use bitflags::{Flag, Flags};
 

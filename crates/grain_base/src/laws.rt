@@ -17,7 +17,7 @@ pub fn no_spelling_begins_another()
         → a ++ x ≡ b ++ y → (a ≡ b) × (m ≡ n) }
 {}
 
-/// A number that is written is read again, whatever stands before it and whatever follows it.
+/// A number that is written is read again, whatever precedes and follows it.
 pub fn written_is_read()
     ensures { (before spelling after : List ℕ) (n : ℕ) → IsShortest spelling n
         → NumberStandsAt (before ++ spelling ++ after) (length before) n
@@ -54,14 +54,14 @@ pub fn capabilities_have_the_lowest_bits()
     ensures known { (bits : ℕ) → (bit_and bits (known_bits caps_table) ≡ bits) ↔ (bits < 2 ^ 15) }
 {}
 
-/// `Position::NONE`, which this answers, has no place.
+/// `Position::NONE`, which this returns, has no place.
 pub fn none_has_no_place() -> Position
     ensures { place_of result ≡ None }
 {
     Position::NONE
 }
 
-/// Values are equal exactly where they have one content, in which a shared value stands for what it holds.
+/// Values are equal exactly where they have one content, in which a shared value is what it holds.
 pub fn equality_is_of_content()
     ensures { (x y : Content) → IsTrue (same x y) ↔ (x ≡ y) }
 {}

@@ -1,10 +1,10 @@
-//! The address table: at which line and column of a script an instruction's address stands.
+//! The address table: the line and column of a script at which each instruction's address is.
 //!
-//! An address table is a count and then, for each entry, how far its address lies behind the one before it, its line and its
+//! An address table is a count and then, for each entry, how far its address is after the one before it, its line and its
 //! column, each a varint that fits a `u32`. Addresses strictly ascend. docs/FORMAT.md, "Address table", has the format.
 //!
-//! Address tables come from strangers. [`check`] tells whether bytes are one. [`resolve`] answers for any bytes: what is whole
-//! in front of the first damage counts, and nothing behind it. No call that reads takes memory.
+//! Address tables come from strangers. [`check`] says whether bytes are one. [`resolve`] has a result for any bytes: what is whole
+//! before the first damage counts, and nothing after it. No call that reads allocates.
 
 ghost use Rattle.std.specs.Prelude.{◌≡◌, ℕ, ◌^◌, ◌<◌, ◌↔◌, List, [], ◌∷◌, length, drop, Ok, Err, IsOk, IsTrue, IfOk, OnErr};
 ghost use Rattle.std.specs.Iterator.{Drains};
@@ -21,12 +21,12 @@ use std::alloc::{AllocError, Global};
 use std::fmt;
 pub use walk::Entries;
 
-/// Where something stands in a script.
+/// Where something is in a script.
 #[derive(Clone, Copy, Debug, PartialEq, Eq)]
 pub struct Site {
     /// Lines count from 1. In an address table 0 says that the line isn't known.
     pub line: u32,
-    /// Characters of the line count from 1. 0 stands before the first.
+    /// Characters of the line count from 1. 0 is before the first.
     pub column: u32,
 }
 
@@ -120,8 +120,8 @@ fn entry(table: &[u8], at: &mut usize, before: u32) -> Result<(u32, Site), varin
 
 /// The entries of an address table in order, each with its address: docs/FORMAT.md, "Address table".
 ///
-/// They are those that stand whole in front of the first damage, and no more than the count says; entries of line 0 and
-/// repeated addresses are among them. Behind the last there is nothing more, however often it is asked. Where the bytes
+/// They are those that are whole before the first damage, and no more than the count says; entries of line 0 and
+/// repeated addresses are among them. After the last there is nothing more, however often it is called. Where the bytes
 /// begin with no count that fits a `u32` there are none.
 ///
 /// To read them all takes time by the length of the address table, and no memory.
@@ -152,7 +152,7 @@ pub fn entries(table: &[u8]) -> Entries<'_>
 /// Looks up an address: the site of the first entry there.
 ///
 /// `None` where no entry has the address, and where the line of the first that has it is 0. The entries are those that
-/// stand whole in front of the first damage, and no more than the count says. An address that is repeated is no damage
+/// are whole before the first damage, and no more than the count says. An address that is repeated is no damage
 /// here.
 ///
 /// It reads the address table up to the entry, and takes no memory.
@@ -164,7 +164,7 @@ pub fn resolve(table: &[u8], address: u32) -> Option<Site>
         if here == address {
             return if site.line == 0 { None } else { Some(site) };
         }
-        // The entries behind this one are no lower.
+        // The entries after this one are no lower.
         if here > address {
             return None;
         }
@@ -191,7 +191,7 @@ pub fn count(table: &[u8]) -> Result<u32, Error>
 ///
 /// # Errors
 ///
-/// What is wrong first, in the order in which the numbers stand.
+/// What is wrong first, in the order of the numbers.
 pub fn check(table: &[u8]) -> Result<(), Error>
     ensures ok { IsOk result ↔ ((list : List Entry) × Table table.now list) }
     ensures err { (e : TableError) → (result ≡ Err e) ↔ FirstFlaw table.now e }
@@ -214,7 +214,7 @@ pub fn check(table: &[u8]) -> Result<(), Error>
     }
 }
 
-/// Whether the addresses of the entries that have a line strictly ascend, as [`encode`] asks. It goes over the entries
+/// Whether the addresses of the entries that have a line strictly ascend, as [`encode`] requires. It goes over the entries
 /// once, and takes no memory.
 #[must_use]
 pub fn is_ascending(sites: &[(u32, Site)]) -> bool
@@ -244,7 +244,7 @@ fn count_kept(sites: &[(u32, Site)]) -> usize
 
 /// Writes the address table of the entries that have a line, in the shortest spellings.
 ///
-/// Their addresses have to ascend strictly: [`is_ascending`] tells whether they do. What is written of 2 to the power 32
+/// Their addresses have to ascend strictly: [`is_ascending`] says whether they do. What is written of 2 to the power 32
 /// such entries and more is no address table, since its count doesn't fit.
 ///
 /// It goes over the entries twice, and takes memory for what it writes.

@@ -5,7 +5,7 @@ use std::fmt;
 
 /// A line of the source text and a column in it, or no place at all.
 ///
-/// Lines and columns are counted from 1; a column of 0 stands for the line as a whole. Each call takes constant time.
+/// Lines and columns are counted from 1; a column of 0 means the line as a whole. Each call takes constant time.
 #[derive(Clone, Copy, PartialEq, Eq)]
 pub struct Position {
     line: u16,
@@ -21,7 +21,7 @@ impl Position {
     /// No place in the source text.
     pub const NONE: Position = Position { line: 0, column: 0 };
 
-    /// The place at this line and column; a column of 0 stands for the line as a whole.
+    /// The place at this line and column; a column of 0 means the line as a whole.
     ///
     /// The line has to be 1 or more.
     #[must_use]

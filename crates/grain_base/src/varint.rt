@@ -6,7 +6,7 @@
 //! -2v - 1 where it is negative, so that numbers near 0 are short on both sides. docs/FORMAT.md, "Varints", has the
 //! format.
 //!
-//! A cursor is handed from call to call: each call reads from `at` on, and leaves it behind the bytes that it read. It
+//! A cursor is handed from call to call: each call reads from `at` on, and leaves it after the bytes that it read. It
 //! takes constant time, since these are ten at most.
 
 ghost use Rattle.std.specs.Prelude.{◌≡◌, ℕ, ℤ, ◌+◌, ◌^◌, ◌<◌, ◌↔◌, length, take, drop, Ok, Err, IfOk, OnOk, OnErr};
@@ -41,7 +41,7 @@ impl fmt::Display for Error {
 
 impl std::error::Error for Error {}
 
-/// The greatest tenth group: behind nine of them one of 64 bits is left.
+/// The greatest tenth group: after nine of them one of 64 bits is left.
 const TENTH_MAX: u8 = 1;
 
 /// Reads the number that is spelled at the cursor, and moves the cursor past its spelling.
@@ -99,14 +99,14 @@ fn groups(bytes: &[u8], at: &mut usize) -> Result<u64, Error>
     Ok(value | u64::from(*byte) << 63)
 }
 
-/// Reads the signed number that is spelled at the cursor, as [`u64`] does: 2v stands for v, -2v - 1 for a negative v.
+/// Reads the signed number that is spelled at the cursor, as [`u64`] does: 2v encodes v, -2v - 1 a negative v.
 ///
 /// # Errors
 ///
 /// As [`u64`].
 #[inline]
 pub fn i64(bytes: &[u8], at: &mut usize) -> Result<i64, Error>
-    // Each number that is spelled stands for a signed one.
+    // Each number that is spelled encodes a signed one.
     ensures found { IfOk result (λ v. NumberStandsAt bytes.now at.old (zigzag v) at.new) }
     ensures spelled { (v : ℤ) (end : ℕ) → NumberStandsAt bytes.now at.old (zigzag v) end
         → (result ≡ Ok v) × (at.new ≡ end) }
@@ -144,7 +144,7 @@ pub fn u32(bytes: &[u8], at: &mut usize) -> Result<u32, Error>
     }
 }
 
-/// Appends the shortest spelling of a number. It takes constant time, but for a growth of `out`, which doubles its room.
+/// Appends the shortest spelling of a number. It takes constant time, except for a growth of `out`, which doubles its room.
 ///
 /// # Errors
 ///

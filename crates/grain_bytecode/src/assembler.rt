@@ -1,7 +1,7 @@
 //! Operations to code.
 //!
-//! Three passes over the operations: the first tests whether they can be assembled, before memory is asked for; the
-//! second tells where each is written, so that a jump can be written before its target is; and the third writes.
+//! Three passes over the operations: the first tests whether they can be assembled, before anything is allocated; the
+//! second finds where each is written, so that a jump can be written before its target is; and the third writes.
 
 ghost use Rattle.std.specs.Prelude.{◌≡◌, ◌+◌, ◌-◌, ◌^◌, ◌<◌, ◌≤◌, ◌⊎◌, ◌++◌, ◌∷◌, [], ℕ, List, Some, slice_get, IfSome, IfOk, IfErr, OnOk, IsOkUnless, MatchResult, length, map, slice_index};
 ghost use Rattle.std.specs.List.{flat_map, AllByRecursion};
@@ -32,7 +32,7 @@ fn check_index(pool: Pool, index: u32) -> Result<(), AssembleError>
     Ok(())
 }
 
-/// Tests a field of the operation at an index, of so many in all.
+/// Tests a field of the operation at an index, of this many in all.
 fn check_field(count: usize, at: usize, field: Field) -> Result<(), AssembleError>
     ensures { MatchResult result (λ _. IsWritable count field)
         (λ error. (IsWritable count field → ⊥) × Accuses at field error) }
@@ -72,7 +72,7 @@ fn check_receiver(count: usize, at: usize, tag: u8, fields: &[Field]) -> Result<
     }
 }
 
-/// Tests the operation at an index, of so many in all.
+/// Tests the operation at an index, of this many in all.
 fn check_op(count: usize, at: usize, op: &Op) -> Result<(), AssembleError>
     ensures { MatchResult result
         (λ _. AreWritable count (form op.now).1) (AccusesFirst count at (tested op.now)) }
@@ -97,7 +97,7 @@ fn check_length(ops: &[Op]) -> Result<(), AssembleError>
     Ok(())
 }
 
-/// Tests whether operations can be assembled. No memory is asked for.
+/// Tests whether operations can be assembled. It allocates nothing.
 fn check(ops: &[Op]) -> Result<(), AssembleError>
     ensures { MatchResult result (λ _. CanAssemble ops.now) (IsAssemblyFlaw ops.now) }
 {
@@ -159,7 +159,7 @@ fn put(code: &mut Vec<u8>, offsets: &[u32], op: &Op) -> Result<(), AllocError>
     put_fields(code, offsets, tag, fields.as_slice())
 }
 
-/// Where each operation is written, and behind these where the last one ends.
+/// Where each operation is written, and after these where the last one ends.
 fn offsets_of(alloc: Global, ops: &[Op]) -> Result<Vec<u32>, AllocError>
     requires { HasShortCode ops.now }
     ensures { IfOk result (λ offsets. offsets.items ≡ offsets_from 0 ops.now) }

@@ -40,7 +40,7 @@ pub fn no_instruction_begins_another()
         → bytes ++ x ≡ other ++ y → (bytes ≡ other) × (op ≡ op') }
 {}
 
-/// One instruction stands at an address at most.
+/// At most one instruction is at an address.
 pub fn one_instruction_stands()
     ensures { (code : List ℕ) (at : ℕ) (op op' : Op) → StandsAt code at op → StandsAt code at op'
         → op ≡ op' }
@@ -111,7 +111,7 @@ pub fn flags_have_the_lowest_bit()
     ensures known { (bits : ℕ) → (bit_and bits (known_bits flags_table) ≡ bits) ↔ (bits < 2) }
 {}
 
-/// A name is cut at the last place where the separator stands, if it stands anywhere.
+/// A name is cut at the last separator, if it has one.
 pub fn name_is_cut_last()
     ensures cut { (name before after : List ℕ) → (last_cut name ≡ Some (before, after))
         ↔ IsLastCut name before after }

@@ -1,7 +1,7 @@
-//! Where in the source text the bytes of code stand.
+//! Where in the source text the bytes of code come from.
 //!
 //! Positions travel apart from code, as an address table (docs/FORMAT.md, "Address table"). It belongs to code where each
-//! of its entries stands at an address at which reading the code arrives.
+//! of its entries is at an address at which reading the code arrives.
 
 ghost use Rattle.std.specs.Prelude.{◌≡◌, ◌↔◌, ℕ, ◌^◌, ◌<◌, ◌≤◌, List, ◌∷◌, length, map, Some, None, is_none, option_to_list, All, Any, Err, IsOk, IfOk, IfErr};
 ghost use Rattle.std.specs.Bool.{OnTrue, OnFalse};
@@ -31,7 +31,7 @@ pub enum Positions {
 /// Why positions can't be written as an address table.
 #[derive(Clone, Debug, PartialEq, Eq, Drop)]
 pub enum StripError {
-    /// A position that has a line stands at an address above 4294967295.
+    /// A position that has a line is at an address above 4294967295.
     AddressTooWide,
     /// A growth was refused.
     OutOfMemory,
@@ -223,7 +223,7 @@ impl Positions {
     ///
     /// # Errors
     ///
-    /// `AddressTooWide` where one of these stands above 4294967295; else `OutOfMemory` where there is no memory for the
+    /// `AddressTooWide` where one of these is above 4294967295; else `OutOfMemory` where there is no memory for the
     /// address table.
     pub fn to_table(&self, alloc: Global) -> Result<Vec<u8>, StripError>
         ensures written { let list = entries_at_places (places self.now) in
@@ -318,7 +318,7 @@ fn sites_of(alloc: Global, positions: &[Position]) -> Result<Vec<(u32, Site)>, A
     Ok(sites)
 }
 
-/// The site of an entry for an address of the code: none where the entry stands elsewhere or its line is 0.
+/// The site of an entry for an address of the code: none where the entry is elsewhere or its line is 0.
 fn site_of(entry: Option<(u32, Site)>, at: usize) -> Option<Site>
     ensures { result ≡ code_site (option_to_list entry) at }
 {
@@ -329,7 +329,7 @@ fn site_of(entry: Option<(u32, Site)>, at: usize) -> Option<Site>
     Some(site)
 }
 
-/// Keeps the position of an entry for an address of the code, and tells whether it has a site for it.
+/// Keeps the position of an entry for an address of the code, and says whether it has a site for it.
 fn place(entry: Option<(u32, Site)>, at: usize, positions: &mut [Position]) -> bool
     requires { at < length positions.old }
     ensures { IsPlaced (code_site (option_to_list entry) at) at
@@ -342,7 +342,7 @@ fn place(entry: Option<(u32, Site)>, at: usize, positions: &mut [Position]) -> b
     true
 }
 
-/// The first entry at an address or behind it, of one that was read and those that are left.
+/// The first entry at an address or after it, of one that was read and those that are left.
 fn entry_from(
     entries: &mut Entries<'_>,
     read: Option<(u32, Site)>,

@@ -1,10 +1,10 @@
-//! The stream of the positions of chains, which stands beside code.
+//! The stream of the positions of chains, which is stored next to code.
 //!
 //! A stream is a count of slots and then, for each slot, a line and a column, each a varint that fits a `u32`. Line 0
 //! says that a slot has no site. The slots are those of all chains of a program, chain by chain (docs/FORMAT.md,
 //! "Chain stream").
 //!
-//! [`resolve`] is asked while a failure is reported, so that it never refuses: it answers what stands before the
+//! [`resolve`] is called while a failure is reported, so that it never refuses: it returns what is recorded before the
 //! first damage. [`check`] says whether a stream is sound, and [`decode`] reads all of it.
 
 ghost use Rattle.std.specs.Prelude.{◌≡◌, ◌<◌, ◌≤◌, ◌+◌, ◌^◌, ◌↔◌, ◌⊎◌, ℕ, List, [], ◌∷◌, ◌++◌, length, drop, map, Some, Err, IsOk, IfOk, IfErr, IfSome, IfNone, IsOkUnless, OnOk, Option};
@@ -90,7 +90,7 @@ impl fmt::Display for StreamError {
 
 impl std::error::Error for StreamError {}
 
-/// Reads the next slot of a stream, whose count has been read, from an address on, and moves that behind it: its site, or `None`
+/// Reads the next slot of a stream, whose count has been read, from an address on, and moves that past it: its site, or `None`
 /// where its line is 0.
 ///
 /// # Errors
@@ -163,7 +163,7 @@ pub fn check(stream: &[u8]) -> Result<(), StreamError>
 ///
 /// # Errors
 ///
-/// As [`check`], and `OutOfMemory` where a growth was refused, which is asked for only where the bytes are a stream.
+/// As [`check`], and `OutOfMemory` where an allocation failed, which is made only where the bytes are a stream.
 /// Nothing is reserved for more slots than bytes are left.
 pub fn decode(alloc: Global, stream: &[u8]) -> Result<Vec<Option<Site>>, StreamError>
     ensures ok { IfOk result (λ sites. Stream stream.now sites.items) }
@@ -183,7 +183,7 @@ pub fn decode(alloc: Global, stream: &[u8]) -> Result<Vec<Option<Site>>, StreamE
     Ok(sites)
 }
 
-/// For how many slots room is made before they are read, where so many are counted and so many bytes are left.
+/// For how many slots room is made before they are read, where this many are counted and this many bytes are left.
 fn reserve(count: u32, left: usize) -> usize
     ensures counted { result ≤ count }
     ensures there { result ≤ left }

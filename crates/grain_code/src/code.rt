@@ -1,6 +1,6 @@
 //! The executable form: instructions as bytes.
 //!
-//! No call here takes memory, and each answers for every address.
+//! No call here allocates, and each has a result for every address.
 
 ghost use Rattle.std.specs.Prelude.{◌≡◌, ℕ, ◌+◌, ◌<◌, ◌≤◌, List, Ok, IfSome, IfNone, length};
 ghost use Rattle.std.specs.Int.{w16, w32};
@@ -35,7 +35,7 @@ pub fn u32_at(code: &[u8], at: usize) -> Option<u32>
     }
 }
 
-/// The instruction at an address, or `None` where none stands. It takes constant time.
+/// The instruction at an address, or `None` where there is none. It takes constant time.
 #[inline(always)]
 #[must_use]
 pub fn decode(code: &[u8], at: usize) -> Option<Op>

@@ -1,4 +1,4 @@
-//! The fields of an instruction, as they are written behind its tag (docs/FORMAT.md, "Fields").
+//! The fields of an instruction, as they are written after its tag (docs/FORMAT.md, "Fields").
 
 ghost use Rattle.std.specs.Prelude.{◌≡◌};
 ghost use Rattle.grain_code.specs.Assembly.{name_of};
@@ -91,7 +91,7 @@ impl Fields {
 }
 
 impl Op {
-    /// The fields with which it is written behind its tag (docs/FORMAT.md, "Instructions").
+    /// The fields with which it is written after its tag (docs/FORMAT.md, "Instructions").
     #[must_use]
     pub fn fields(&self) -> Fields
         ensures { field_list result ≡ (form self.now).1 }

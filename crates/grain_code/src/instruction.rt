@@ -1,4 +1,4 @@
-//! An instruction where it stands in code, as its bytes.
+//! An instruction where it is in code, as its bytes.
 ghost use Rattle.std.specs.Prelude.{◌≡◌, ℕ, ◌+◌, ◌<◌, ◌≤◌, ◌∷◌, IfSome, IfNone, List, None, Some, length};
 ghost use Rattle.grain_code.specs.InstructionTable.{Instr, form, width_of};
 ghost use Rattle.grain_code.specs.Split.{StandsAt, NoneStandsAt};
@@ -17,12 +17,12 @@ use crate::tag_widths::{standing_width, width};
 pub struct Instruction<'a> {
     /// The first byte.
     pub tag: u8,
-    /// The bytes behind it.
+    /// The bytes after it.
     pub fields: &'a [u8],
 }
 
 impl<'a> Instruction<'a> {
-    /// The instruction at an address, or `None` where none stands. It takes no memory.
+    /// The instruction at an address, or `None` where there is none. It allocates nothing.
     #[inline(always)]
     #[must_use]
     pub fn at(code: &'a [u8], at: usize) -> Option<Instruction<'a>>
@@ -48,7 +48,7 @@ impl<'a> Instruction<'a> {
     }
 
     /// The target of a jump, an iterator's exit or a catch, which is the first field of each instruction that has one; the
-    /// first four bytes behind the tag. `None` where there are fewer.
+    /// first four bytes after the tag. `None` where there are fewer.
     #[inline(always)]
     #[must_use]
     pub fn target(&self) -> Option<u32>
@@ -75,9 +75,9 @@ impl<'a> Instruction<'a> {
     }
 }
 
-/// The operation that stands at an address where one is known to stand, and the address behind it.
+/// The operation at an address where one is known to be, and the address after it.
 ///
-/// It asks neither whether the address is in the code nor whether its byte is a tag nor whether the fields are there, as
+/// It tests neither whether the address is in the code nor whether its byte is a tag nor whether the fields are there, as
 /// [`Instruction::at`] does. It takes constant time and no memory.
 #[inline(always)]
 #[must_use]
@@ -94,7 +94,7 @@ pub fn decode_standing(code: &[u8], at: usize) -> (Op, usize)
     (op, at + width)
 }
 
-/// The instruction at an address and its width, or `None` where none stands.
+/// The instruction at an address and its width, or `None` where there is none.
 #[inline(always)]
 pub(crate) fn read(code: &[u8], at: usize) -> Option<(Op, usize)>
     ensures found { IfSome result (λ found. StandsAt code.now at found.0

@@ -3,7 +3,7 @@
 //!
 //! Code is a sequence of instructions of one to seven bytes: a tag and its fields (docs/FORMAT.md).
 //! `specs/InstructionTable.antt` is the instruction table that every contract on code speaks of. A host uses
-//! `grain_bytecode` or `grain`, which give out all that is public here but how an operation is laid out and how starts are
+//! `grain_bytecode` or `grain`, which re-export all that is public here except how an operation is laid out and how starts are
 //! written down.
 #![tactic(auto)]
 

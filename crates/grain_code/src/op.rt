@@ -17,7 +17,7 @@ pub enum Receiver {
 /// One instruction.
 ///
 /// The instruction table of docs/FORMAT.md gives each its tag, its fields and what it does to the operand stack. A few
-/// values can't be told apart once they are written: what is decoded is the canonical form (docs/FORMAT.md, "Canonical
+/// values can't be distinguished once they are written: what is decoded is the canonical form (docs/FORMAT.md, "Canonical
 /// form").
 #[derive(Clone, Copy, Debug, PartialEq, Eq)]
 pub enum Op {
@@ -123,7 +123,7 @@ pub enum Op {
         /// Whether the callee sees the caller's scope. The code doesn't say so.
         capture_parent_scope: bool,
     },
-    /// Moves the top of the operand stack below so many others, as a receiver that was read last goes below its arguments.
+    /// Moves the top of the operand stack below this many others, as a receiver that was read last goes below its arguments.
     Rotate(u8),
     /// Looks at the top of the operand stack, and jumps where a switch leads it. The value stays below what the arms push,
     /// and each way out of them has to pop it.
@@ -143,7 +143,7 @@ pub enum Op {
     MakeFnPtr,
     /// Pops a value and pushes whether it is shared.
     IsShared,
-    /// Pops a function pointer and so many arguments, and pushes the pointer with these curried.
+    /// Pops a function pointer and this many arguments, and pushes the pointer with these curried.
     Curry(u8),
     /// Calls a function pointer that lies below its arguments, so that it needs an operand more than they are.
     CallFnPtr {
@@ -158,12 +158,12 @@ pub enum Op {
     },
     /// Walks a chain of the pool: index, property and method steps from a root.
     Chain(u32),
-    /// Pops so many values and pushes an array of them.
+    /// Pops this many values and pushes an array of them.
     MakeArray(u16),
-    /// Pops so many keys and values over a map, and pushes the map with these.
+    /// Pops this many keys and values over a map, and pushes the map with these.
     MakeMap(u16),
-    /// Tests the size that an array or a map literal has come to, at this element. It is an instruction of its own since the
-    /// limit is told at the element that passed it, and an instruction has one position.
+    /// Tests the size that an array or a map literal has reached, at this element. It is an instruction of its own since the
+    /// limit is reported at the element that passed it, and an instruction has one position.
     CheckSize {
         /// The index of the element within its literal.
         index: u16,
@@ -172,12 +172,12 @@ pub enum Op {
     },
     /// Pushes the empty text that an interpolation starts with.
     InterpolateStart,
-    /// Pops a value and adds its text to the one below. Each piece has an instruction, since the limit is told at the piece
+    /// Pops a value and adds its text to the one below. Each piece has an instruction, since the limit is reported at the piece
     /// that passed it.
     InterpolateAppend,
     /// Ends the text of an interpolation.
     InterpolateEnd,
-    /// Drops local variables down to so many. Without it a loop would leave those of each round behind.
+    /// Drops local variables down to this many. Without it a loop would leave those of each round.
     UnwindTo(u16),
     /// Counts an operation against the limit, where a loop begins and each time it goes round. Without it nothing would stop
     /// a loop that never ends.
@@ -200,9 +200,9 @@ pub enum Op {
         /// The slot that counts the items, if one does.
         counter_slot: Option<u16>,
     },
-    /// Drops the innermost iterator. A loop that is left early has to, since it doesn't come to its [`Op::IterNext`] again.
+    /// Drops the innermost iterator. A loop that is left early has to, since it doesn't reach its [`Op::IterNext`] again.
     IterDrop,
-    /// Arms a handler for faults. It notes how high the stacks stand, to which a catch cuts them: what a fault leaves behind
+    /// Arms a handler for faults. It notes how high the stacks are, to which a catch cuts them: what a fault leaves on top
     /// depends on where it came.
     PushHandler {
         /// Where a fault that is caught jumps.

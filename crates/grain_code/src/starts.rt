@@ -69,7 +69,7 @@ impl Model for Growing {
         g.words.items g.word.before g.word.bits g.count g.end (vec_capacity g.words) };
 }
 
-/// Closes each word that lies before the end of the front, the open one first, and answers the one that is open then.
+/// Closes each word that lies before the end of the front, the open one first, and returns the one that is open then.
 #[inline(always)]
 fn close(words: &mut Vec<Word>, word: Word, count: usize, end: usize) -> Word
     requires room { end / 64 < vec_capacity words.old }
@@ -107,7 +107,7 @@ impl Growing {
         }
     }
 
-    /// None so far, in the memory of these starts, where it suffices for code of so many bytes.
+    /// None so far, in the memory of these starts, where it suffices for code of this many bytes.
     ///
     /// It takes constant time.
     ///
@@ -127,7 +127,7 @@ impl Growing {
         Ok(Growing::begin(words))
     }
 
-    /// Where the front ends: behind the instruction that was written down last.
+    /// Where the front ends: after the instruction that was written down last.
     ///
     /// It takes constant time.
     #[inline(always)]
@@ -138,7 +138,7 @@ impl Growing {
         self.end
     }
 
-    /// One instruction more, which begins where the front ended, and the address behind it.
+    /// One instruction more, which begins where the front ended, and the address after it.
     ///
     /// It takes constant time, and time by the words in between where the instruction has more than 64 bytes.
     #[inline(always)]
@@ -185,7 +185,7 @@ struct Reading {
     count: usize,
 }
 
-/// Reads on from an address, with so many starts before it, up to a limit or to what is no instruction.
+/// Reads on from an address, with this many starts before it, up to a limit or to what is no instruction.
 #[inline(always)]
 fn read_word(code: &[u8], from: usize, before: usize, limit: usize) -> Reading
     requires inside { from ≤ length code.now }
@@ -247,7 +247,7 @@ impl Starts {
         Starts::none(alloc).refill(code)
     }
 
-    /// What [`Starts::of`] answers, in the memory of these, of which more is taken where it doesn't suffice.
+    /// The result of [`Starts::of`], in the memory of these, of which more is taken where it doesn't suffice.
     ///
     /// # Errors
     ///

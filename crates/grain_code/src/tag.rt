@@ -48,7 +48,7 @@ pub const CALL: u8 = 0x0f;
 /// Calls a function that stands for an operator. Fields: name, argument count, operator.
 pub const CALL_OP: u8 = 0x10;
 
-/// Drops local variables down to so many. Fields: depth.
+/// Drops local variables down to this many. Fields: depth.
 pub const UNWIND_TO: u8 = 0x11;
 
 /// Counts an operation.
@@ -66,7 +66,7 @@ pub const EVAL_AST_KEEP: u8 = 0x15;
 /// Walks a chain. Fields: chain.
 pub const CHAIN: u8 = 0x16;
 
-/// Makes an array of so many values. Fields: length.
+/// Makes an array of this many values. Fields: length.
 pub const MAKE_ARRAY: u8 = 0x17;
 
 /// Jumps where a switch leads. Fields: switch.
@@ -153,13 +153,13 @@ pub const CHECK_ARRAY_SIZE: u8 = 0x32;
 /// Tests the size of a map literal. Fields: index of the element.
 pub const CHECK_MAP_SIZE: u8 = 0x33;
 
-/// Makes a map of so many keys and values. Fields: length.
+/// Makes a map of this many keys and values. Fields: length.
 pub const MAKE_MAP: u8 = 0x34;
 
 /// Calls a function on a local slot by reference. Fields: name, argument count, slot.
 pub const CALL_LOCAL_REF: u8 = 0x35;
 
-/// Moves the top operand below so many others. Fields: count.
+/// Moves the top operand below this many others. Fields: count.
 pub const ROTATE: u8 = 0x36;
 
 /// Calls a function on a variable by reference. Fields: name, argument count, the variable's name.

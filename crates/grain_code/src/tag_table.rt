@@ -1,4 +1,4 @@
-//! What tags tell of instructions: a row for each.
+//! What a tag says about its instructions: a row for each.
 ghost use Rattle.std.specs.Prelude.{◌≡◌, get_or};
 ghost use Rattle.grain_code.specs.Flows.{is_fixed};
 ghost use Rattle.grain_code.specs.declared.tag_table.TheConstants.{TAG_ROWS};
@@ -80,7 +80,7 @@ macro_rules! row {
     };
 }
 
-/// These rows, and [`NONE`] for each byte behind them.
+/// These rows, and [`NONE`] for each byte after them.
 macro_rules! rows {
     (@four [$($row:expr,)*] $($rest:expr,)*) => {
         rows!(@sixteen [$($row,)*] $($rest,)* $($rest,)* $($rest,)* $($rest,)*)
@@ -190,7 +190,7 @@ pub static TAG_ROWS: [TagRow; 256] = rows![
     row!(IMPORT:                3 INDEX    LOUD  OTHER 0 0 0 Falls),
 ];
 
-/// What a tag tells.
+/// The row of a tag.
 #[inline(always)]
 #[must_use]
 pub fn tag_row(tag: u8) -> &'static TagRow

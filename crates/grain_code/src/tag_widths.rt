@@ -7,7 +7,7 @@ ghost use Rattle.grain_code.specs.declared.op.Op.{Op};
 
 use crate::tag_table::tag_row;
 
-/// What the first byte of an instruction tells: its tag, and how many bytes instructions with that tag take
+/// What the first byte of an instruction says: its tag, and how many bytes instructions with that tag take
 /// (docs/FORMAT.md, "Instructions").
 #[derive(Clone, Copy, Debug, PartialEq, Eq)]
 pub struct Head {
@@ -20,7 +20,7 @@ pub struct Head {
 impl Head {
     /// The head at an address, or `None` past the end of the code.
     ///
-    /// The width is 0 where no instruction has the tag; whether an instruction stands there it doesn't say. It takes no
+    /// The width is 0 where no instruction has the tag; whether an instruction is there it doesn't say. It takes no
     /// memory, and constant time.
     #[inline(always)]
     #[must_use]
@@ -40,7 +40,7 @@ impl Head {
     }
 }
 
-/// How many bytes the instruction at an address takes, or `None` where none stands.
+/// How many bytes the instruction at an address takes, or `None` where there is none.
 ///
 /// The tag and the length of the code decide, whatever the fields hold. It takes constant time.
 #[inline(always)]
@@ -60,7 +60,7 @@ pub fn width(code: &[u8], at: usize) -> Option<usize>
     Some(width)
 }
 
-/// How many bytes the instruction takes that stands at an address where one is known to stand.
+/// How many bytes the instruction at an address takes, where one is known to be.
 #[inline(always)]
 pub(crate) fn standing_width(code: &[u8], at: usize) -> usize
     requires { (op : Op) × StandsAt code.now at op }

@@ -11,7 +11,7 @@ use grain_base::Caps;
 use grain_code::Chunk;
 use std::alloc::{AllocError, Global};
 
-/// What a case asks, one variant for each form (docs/FORMAT.md, "Lines, cases and verdicts").
+/// What a case means, one variant for each form (docs/FORMAT.md, "Lines, cases and verdicts").
 #[derive(Drop)]
 pub enum Case {
     /// How many instructions this code is.
@@ -31,7 +31,7 @@ pub enum Case {
     },
 }
 
-/// The case of a line whose first word is `code`, by what stands after that word.
+/// The case of a line whose first word is `code`, by what follows that word.
 fn code_case(alloc: Global, fields: &[u8]) -> Result<Option<Case>, AllocError>
     ensures ok { IfOk result (λ found. option_map as_asked found ≡ code_by (words fields.now)) }
     ensures memory { OnErr result (IsSomeAnd (code_by (words fields.now)) TakesMemory) }
@@ -45,7 +45,7 @@ fn code_case(alloc: Global, fields: &[u8]) -> Result<Option<Case>, AllocError>
     Ok(hex_of(alloc, hex)?.map(|code| Case::Code { code }))
 }
 
-/// The case of a line whose first word is `site`, by what stands after that word.
+/// The case of a line whose first word is `site`, by what follows that word.
 fn site_case(alloc: Global, fields: &[u8]) -> Result<Option<Case>, AllocError>
     ensures ok { IfOk result (λ found. option_map as_asked found ≡ site_by (words fields.now)) }
     ensures memory { OnErr result (IsSomeAnd (site_by (words fields.now)) TakesMemory) }
@@ -65,7 +65,7 @@ fn site_case(alloc: Global, fields: &[u8]) -> Result<Option<Case>, AllocError>
     Ok(hex_of(alloc, hex)?.map(|table| Case::Site { table, address }))
 }
 
-/// The case of a line whose first word is `verify`, by what stands after that word.
+/// The case of a line whose first word is `verify`, by what follows that word.
 fn verify_case(alloc: Global, fields: &[u8]) -> Result<Option<Case>, AllocError>
     ensures ok { IfOk result (λ found. option_map as_asked found ≡ verify_by (words fields.now)) }
     ensures memory { OnErr result (IsSomeAnd (verify_by (words fields.now)) TakesMemory) }

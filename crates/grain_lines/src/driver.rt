@@ -10,7 +10,7 @@ use crate::report::Report;
 use crate::stream::{Sink, Source};
 use std::alloc::{AllocError, Global};
 
-/// How many bytes a read asks for at most.
+/// How many bytes a read requests at most.
 const BUFFER_LEN: usize = 65536;
 
 /// Room for a read.

@@ -1,4 +1,4 @@
-//! The lines of the program `grain_check`, and of others that read them: which are cases, what a case asks, and the verdict on it.
+//! The lines of the program `grain_check`, and of others that read them: which are cases, what a case means, and the verdict on it.
 //!
 //! Lines, cases and verdicts are those of docs/FORMAT.md, "Lines, cases and verdicts".
 #![tactic(auto)]

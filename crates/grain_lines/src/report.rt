@@ -60,7 +60,7 @@ impl Verdicts {
     }
 }
 
-/// Takes the bytes of an input, and answers each line once it is complete.
+/// Takes the bytes of an input, and processes each line once it is complete.
 #[derive(Drop)]
 pub(crate) struct Report {
     alloc: Global,
@@ -100,7 +100,7 @@ impl Report {
         Ok(())
     }
 
-    /// Takes the next bytes of the input, and answers the lines that are complete now.
+    /// Takes the next bytes of the input, and processes the lines that are complete now.
     ///
     /// # Errors
     /// [`AllocError`] where memory was refused.

@@ -13,13 +13,13 @@ pub struct Failed;
 
 /// Gives bytes.
 pub trait Source {
-    // The bytes yet to come, or nothing where the source doesn't tell.
+    // The bytes yet to come, or nothing where the source doesn't say.
     ghost remaining: { Self → Option (List ℕ) };
 
     // Changes with each failure and with nothing else.
     ghost mark: { Self → ℕ };
 
-    /// Reads into the front of the buffer, and answers how many bytes. 0 for a buffer with room is
+    /// Reads into the front of the buffer, and returns how many bytes. 0 for a buffer with room is
     /// the end.
     ///
     /// # Errors
@@ -34,13 +34,13 @@ pub trait Source {
 
 /// Takes bytes.
 pub trait Sink {
-    // The bytes taken, or nothing where the sink doesn't tell.
+    // The bytes taken, or nothing where the sink doesn't say.
     ghost taken: { Self → Option (List ℕ) };
 
     // Changes with each failure, a write of none of some bytes too, and with nothing else.
     ghost mark: { Self → ℕ };
 
-    /// Takes bytes from the front, and answers how many. 0 of some bytes is a failure too.
+    /// Takes bytes from the front, and returns how many. 0 of some bytes is a failure too.
     ///
     /// # Errors
     /// [`Failed`] where nothing could be written. The bytes taken stay.
@@ -59,7 +59,7 @@ fn one_more(failures: u64) -> u64
     failures.wrapping_add(1)
 }
 
-/// One of std's readers as a source that doesn't tell its bytes.
+/// One of std's readers as a source that doesn't say what its bytes are.
 ///
 /// Its mark is how many reads failed, modulo 2^64.
 #[derive(Drop)]
@@ -113,7 +113,7 @@ impl<R: io::Read> Source for OverRead<R> {
     }
 }
 
-/// One of std's writers as a sink that doesn't tell its bytes.
+/// One of std's writers as a sink that doesn't say what its bytes are.
 ///
 /// Its mark is how many writes failed, modulo 2^64.
 #[derive(Drop)]

@@ -15,7 +15,7 @@ use grain_rules::{Candidate, NoPools, VerifyError};
 use grain_verify::{Meter, Scratch};
 use std::alloc::{AllocError, Global};
 
-/// Writes the verdict on code behind the text.
+/// Appends the verdict on code to the text.
 fn write_count(text: &mut String, code: &[u8]) -> Result<(), AllocError>
     ensures { OnOk result
         (Adds (CodeVerdict code.now) (string_bytes text.old) (string_bytes text.new)) }
@@ -27,7 +27,7 @@ fn write_count(text: &mut String, code: &[u8]) -> Result<(), AllocError>
     Ok(())
 }
 
-/// Writes the verdict on an address behind the text.
+/// Appends the verdict on an address to the text.
 fn write_site(text: &mut String, table: &[u8], address: u32) -> Result<(), AllocError>
     ensures { OnOk result (Adds (SiteVerdict table.now address)
         (string_bytes text.old) (string_bytes text.new)) }
@@ -39,7 +39,7 @@ fn write_site(text: &mut String, table: &[u8], address: u32) -> Result<(), Alloc
     Ok(())
 }
 
-/// Writes acceptance behind the text, with the number of each chunk.
+/// Appends acceptance to the text, with the number of each chunk.
 pub fn write_accepted(text: &mut String, numbers: &[u16]) -> Result<(), AllocError>
     ensures { OnOk result
         (string_bytes text.new ≡ string_bytes text.old ++ accepted_text numbers.now) }
@@ -72,7 +72,7 @@ fn judged<'a>(
     }
 }
 
-/// Writes the verdict on a program behind the text, and nothing for want of memory.
+/// Appends the verdict on a program to the text, and nothing where memory runs out.
 fn write_judged(
     alloc: Global,
     scratch: &mut Scratch,
@@ -97,7 +97,7 @@ fn write_judged(
     Ok(())
 }
 
-/// Writes the verdict on a case behind the text, or `bad case` for a line without a form, in the
+/// Appends the verdict on a case to the text, or `bad case` for a line without a form, in the
 /// memory of a scratch, whatever that was used for before.
 ///
 /// # Errors
@@ -121,7 +121,7 @@ pub(crate) fn write_verdict_with(
     }
 }
 
-/// Writes the verdict on a case behind the text, or `bad case` for a line without a form.
+/// Appends the verdict on a case to the text, or `bad case` for a line without a form.
 ///
 /// # Errors
 /// [`AllocError`] where memory was refused, to the text or to the verifier.

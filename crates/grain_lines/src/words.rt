@@ -1,4 +1,4 @@
-//! The words of a line: a search for a byte, and what stands before and after it.
+//! The words of a line: a search for a byte, and what is before and after it.
 
 ghost use Rattle.std.specs.Prelude.{◌≡◌, ◌<◌, ◌≤◌, [], ◌∷◌, ◌++◌, length, slice_index, take};
 ghost use Rattle.std.specs.Prelude.{Contains, IfSome, IfNone};
@@ -22,7 +22,7 @@ fn skip_blocks(text: &[u8], byte: u8) -> &[u8]
     rest
 }
 
-/// Where the first such byte stands.
+/// Where the first such byte is.
 fn position_of(text: &[u8], byte: u8) -> Option<usize>
     ensures some { IfSome result (λ at. (at < length text.now) × (slice_index text.now at ≡ byte)) }
     ensures first { IfSome result (λ at. Lacks byte (take at text.now)) }
@@ -33,7 +33,7 @@ fn position_of(text: &[u8], byte: u8) -> Option<usize>
     Some(text.len() - rest.len() + near)
 }
 
-/// What stands before the first such byte, and what after it.
+/// What is before the first such byte, and what is after it.
 pub fn split_at_byte(text: &[u8], byte: u8) -> Option<(&[u8], &[u8])>
     ensures parts { IfSome result (λ found. text.now ≡ found.0.now ++ byte ∷ found.1.now) }
     ensures first { IfSome result (λ found. Lacks byte found.0.now) }
@@ -54,7 +54,7 @@ fn skip_spaces(text: &[u8]) -> &[u8]
     rest
 }
 
-/// The first word, and what stands after it.
+/// The first word, and what follows it.
 pub fn next_word(text: &[u8]) -> Option<(&[u8], &[u8])>
     ensures some { IfSome result (λ found. words text.now ≡ found.0.now ∷ words found.1.now) }
     ensures none { IfNone result (words text.now ≡ []) }

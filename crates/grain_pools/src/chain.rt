@@ -1,6 +1,6 @@
 //! Chains of accesses, as `a.b[i].c(x)`, and the positions that they carry.
 //!
-//! A chain is one instruction, so the positions of its parts stand in the chain. In order they are that of the root,
+//! A chain is one instruction, so the positions of its parts are in the chain. In order they are that of the root,
 //! where it has one, and then step by step: of an index its own and that of the bracket, of any other step its own. Each
 //! of them is a slot, counted from 0.
 ghost use Rattle.std.specs.Prelude.{◌≡◌, ◌<◌, ◌≤◌, ◌^◌, ◌∷◌, [], ◌↔◌, IsTrue, IfSome, length, map, slice_set, sum_by};
@@ -61,7 +61,7 @@ pub enum Step {
         flags: StepFlags,
         /// Where the index itself begins in the source.
         pos: Position,
-        /// Where the bracket before the index stands.
+        /// Where the bracket before the index is.
         bracket: Position,
     },
     /// `.name`, which is read by one function and written by another; both have names of their own in the pool, so that no
@@ -75,10 +75,10 @@ pub enum Step {
         setter: u32,
         /// How the step behaves.
         flags: StepFlags,
-        /// Where the property's name stands in the source.
+        /// Where the property's name is in the source.
         pos: Position,
     },
-    /// `.name(arguments)`. What it is called on is what the chain has come to, and isn't an operand.
+    /// `.name(arguments)`. What it is called on is what the chain has reached, and isn't an operand.
     Method {
         /// The name of the method.
         name: u32,
@@ -88,7 +88,7 @@ pub enum Step {
         operand: u16,
         /// How the step behaves.
         flags: StepFlags,
-        /// Where the call stands in the source.
+        /// Where the call is in the source.
         pos: Position,
     },
 }
@@ -142,9 +142,9 @@ impl Step {
 /// What a chain does at its end.
 #[derive(Clone, Debug, PartialEq, Eq, Drop)]
 pub enum Tail {
-    /// It gives the value that it has come to.
+    /// It gives the value that it has reached.
     Read,
-    /// It assigns to what it has come to.
+    /// It assigns to what it has reached.
     Assign {
         /// The op-assignment to go through, or none for a plain assignment.
         op: Option<u32>,
@@ -165,12 +165,12 @@ pub enum Root {
     Named {
         /// The index of the name.
         name: u32,
-        /// Where the name stands in the source.
+        /// Where the name is in the source.
         pos: Position,
     },
     /// At the receiver of the function.
     This {
-        /// Where `this` stands in the source.
+        /// Where `this` is in the source.
         pos: Position,
     },
     /// At a value that lies on the operand stack above the operands of the steps.
@@ -262,7 +262,7 @@ impl Chain {
 
     /// How many positions the chain carries. It takes time by the number of steps.
     ///
-    /// Their number has to fit 32 bits: [`Chain::slots_fit`] tells whether it does.
+    /// Their number has to fit 32 bits: [`Chain::slots_fit`] says whether it does.
     #[must_use]
     pub fn position_slots(&self) -> u32
         requires { SlotsFit self.now }
@@ -273,7 +273,7 @@ impl Chain {
 
     /// The first slot of the step at the index, or `None` past the steps.
     ///
-    /// The number of the chain's positions has to fit 32 bits: [`Chain::slots_fit`] tells whether it does. The slot is
+    /// The number of the chain's positions has to fit 32 bits: [`Chain::slots_fit`] says whether it does. The slot is
     /// below [`Chain::position_slots`], so that [`Chain::set_position`] takes it. It takes time by the number of steps
     /// before that one.
     #[must_use]
@@ -306,7 +306,7 @@ impl Chain {
 
     /// Replaces the position of one slot, and nothing else.
     ///
-    /// The number of the chain's positions has to fit 32 bits, which [`Chain::slots_fit`] tells, and the slot has to be
+    /// The number of the chain's positions has to fit 32 bits, which [`Chain::slots_fit`] says, and the slot has to be
     /// below it, below [`Chain::position_slots`]. It takes time by the number of steps before the slot.
     pub fn set_position(&mut self, slot: u32, pos: Position)
         requires fit { SlotsFit self.old }

@@ -1,4 +1,4 @@
-//! Names that are qualified by the namespace that they stand in.
+//! Names that are qualified by the namespace that they are in.
 ghost use Rattle.std.specs.Prelude.{◌≡◌, ◌++◌, IfOk, option_map, string_bytes};
 ghost use Rattle.grain_pools.specs.Qualified.{last_cut, separator, split_qualified};
 
@@ -13,9 +13,9 @@ pub fn qualify(alloc: Global, namespace: &str, name: &str) -> Result<String, All
     format!(in alloc; "{namespace}{SEPARATOR}{name}")
 }
 
-/// The namespace and the name in it, cut at the last place where `::` stands.
+/// The namespace and the name in it, cut at the last `::`.
 ///
-/// `None` where `::` stands nowhere, or nothing stands before that place or after it. A `!` at the end is a part of the
+/// `None` where there is no `::`, or nothing before the last one or after it. A `!` at the end is a part of the
 /// name. It takes time by the length of the name, and no memory.
 #[must_use]
 pub fn split_qualified(name: &str) -> Option<(&str, &str)>
@@ -29,7 +29,7 @@ pub fn split_qualified(name: &str) -> Option<(&str, &str)>
     }
 }
 
-/// What stands before the last separator, and what stands after it.
+/// What is before the last separator, and what is after it.
 fn last_cut(name: &str) -> Option<(&str, &str)>
     ensures { option_map (λ parts. (parts.0.now, parts.1.now)) result ≡ last_cut name.now }
 {

@@ -288,7 +288,7 @@ fn total_len(names: &[&str]) -> Option<u32>
     Some(len)
 }
 
-/// Where the name at an index begins, or for the index behind the last name where that ends; past these nothing.
+/// Where the name at an index begins, or for the index after the last name where that ends; past these nothing.
 #[must_use]
 pub fn start_at(starts: &[u32], at: usize) -> Option<usize>
     ensures { result ≡ slice_get starts.now at }

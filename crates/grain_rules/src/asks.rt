@@ -1,4 +1,4 @@
-//! What operations, names and chains ask of the host.
+//! What operations, names and chains require of the host.
 ghost use Rattle.std.specs.Prelude.{◌≡◌, ℕ, get_or, map};
 ghost use Rattle.grain_rules.specs.Capabilities.{chain_caps, name_caps, root_caps, step_caps};
 ghost use Rattle.grain_rules.specs.EffectView.{asked_in};
@@ -9,22 +9,22 @@ use grain_base::{Caps, Flags};
 use grain_pools::names::split_qualified;
 use grain_pools::{Chain, Root, Step};
 
-/// What an operation asks of the host. What a name or a chain asks is told by the pools that it stands in.
+/// What an operation requires of the host. What a name or a chain requires is in the pools.
 #[derive(Clone, Copy, Debug, PartialEq, Eq)]
 pub enum Asks {
     /// Nothing.
     Nothing,
     /// These capabilities.
     These(Caps),
-    /// What the name of an index asks.
+    /// What the name of an index requires.
     Name(u32),
-    /// `THIS`, and what the name of an index asks.
+    /// `THIS`, and what the name of an index requires.
     NameOnThis(u32),
-    /// What the chain of an index asks.
+    /// What the chain of an index requires.
     Chain(u32),
 }
 
-/// What naming a variable or a function so asks: a qualified name is one of a module.
+/// What naming a variable or a function so requires: a qualified name is one of a module.
 #[must_use]
 pub fn name_caps(name: &str) -> Caps
     ensures { result.0 ≡ name_caps name.now }
@@ -35,7 +35,7 @@ pub fn name_caps(name: &str) -> Caps
     }
 }
 
-/// What a chain asks: what its root and each of its steps do. It goes through the steps.
+/// What a chain requires: what its root and each of its steps do. It goes through the steps.
 #[must_use]
 pub fn chain_caps(chain: &Chain) -> Caps
     ensures { result.0 ≡ chain_caps chain.now }
@@ -66,7 +66,7 @@ fn step_caps(step: &Step) -> Caps
     }
 }
 
-/// What an operation asks that stands beside these pools; an index past a pool asks nothing. It goes through the name or the
+/// What an operation requires with these pools; an index past a pool requires nothing. It goes through the name or the
 /// chain.
 #[must_use]
 pub fn asked_beside<P: Read>(pools: &P, asks: Asks) -> Caps

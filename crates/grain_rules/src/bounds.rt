@@ -71,7 +71,7 @@ pub fn check_below(size: usize, pool: Pool, index: u32) -> Result<(), BadIndex>
     }
 }
 
-/// Tests a place among so many operands of a chain.
+/// Tests a place among the operands of a chain.
 ///
 /// # Errors
 /// The place, where there are no more operands than it says.

@@ -17,7 +17,7 @@ use crate::read::Read;
 use crate::unindexed::unindexed_width;
 use grain_code::{Growing, Instruction, Pool, Starts};
 
-/// What the test of code answers.
+/// The result of the test of code.
 #[derive(Drop)]
 pub(crate) struct Tested<F: Drop> {
     /// The front of the code up to which it passes.
@@ -26,7 +26,7 @@ pub(crate) struct Tested<F: Drop> {
     pub(crate) result: Result<(), VerifyError>,
 }
 
-/// What [`start_code`] answers.
+/// The result of [`start_code`].
 #[derive(Drop)]
 pub struct Started {
     /// The starts of the code, where it passes.

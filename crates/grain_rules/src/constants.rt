@@ -1,4 +1,4 @@
-//! What constants ask of the host.
+//! What constants require of the host.
 ghost use Rattle.std.specs.Prelude.{◌≡◌, Some, MatchOption, OnOk, IfErr, option_map};
 ghost use Rattle.std.specs.List.{All};
 ghost use Rattle.grain_rules.specs.Accepted.{ConstantPasses};
@@ -11,7 +11,7 @@ use crate::error::VerifyError;
 use grain_base::{Caps, Dynamic, Flags};
 use std::collections::BTreeMap;
 
-/// The capabilities that a constant asks, those of its parts among them (docs/FORMAT.md, "Capabilities").
+/// The capabilities that a constant requires, those of its parts among them (docs/FORMAT.md, "Capabilities").
 ///
 /// `None` for a value that can't be said to be a constant: one that is shared or the host's, or has such a part. It looks at
 /// each value in it once at most, and takes no memory but the call stack, by the depth.
@@ -58,10 +58,10 @@ fn add_entries(caps: Caps, entries: &BTreeMap<String, Dynamic>) -> Option<Caps>
     Some(all)
 }
 
-/// Tests that the host has what each constant asks.
+/// Tests that the host has what each constant requires.
 ///
 /// # Errors
-/// `MissingCaps` at address 0, with all that the first constant asks whose capabilities aren't all there.
+/// `MissingCaps` at address 0, with all that the first constant requires whose capabilities aren't all there.
 pub fn check_constants(caps: Caps, consts: &[Dynamic]) -> Result<(), VerifyError>
     ensures ok { OnOk result (All (ConstantPasses caps.0) consts.now) }
     ensures err { IfErr result (λ e. (asked : Caps) × (e ≡ VerifyError.MissingCaps caps asked 0)
@@ -79,7 +79,7 @@ pub fn check_constants(caps: Caps, consts: &[Dynamic]) -> Result<(), VerifyError
     Ok(())
 }
 
-/// The capabilities that the constant asks, where the host lacks some of them.
+/// The capabilities that the constant requires, where the host lacks some of them.
 fn refused_caps(caps: Caps, value: &Dynamic) -> Option<Caps>
     ensures { MatchOption result (ConstantPasses caps.0 value.now) (λ asked.
         (const_caps value.now ≡ Some asked.0) × (Allows caps.0 asked.0 → ⊥)) }

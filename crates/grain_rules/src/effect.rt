@@ -8,7 +8,7 @@ use grain_code::Flow;
 /// What an operation does: its row of the instruction table (docs/FORMAT.md, "Instructions").
 #[derive(Clone, Copy, Debug, PartialEq, Eq)]
 pub struct Effect {
-    /// What it asks of the host.
+    /// What it requires of the host.
     pub asks: Asks,
     /// How many operands there have to be.
     pub needs: u32,
@@ -29,7 +29,7 @@ pub struct Effect {
 }
 
 impl Effect {
-    /// Takes all that it needs, asks nothing of the host, falls through and isn't quiet.
+    /// Takes all that it needs, requires nothing of the host, falls through and isn't quiet.
     #[inline(always)]
     pub(crate) fn taking(takes: u32, gives: u32) -> Effect
         requires { gives ≤ takes + 1 }
@@ -73,7 +73,7 @@ impl Effect {
         }
     }
 
-    /// The same, with this asked of the host.
+    /// The same, with this required of the host.
     #[inline(always)]
     pub(crate) fn asking(mut self, asks: Asks) -> Effect
         ensures { result ≡ record self { asks = asks } }

@@ -11,23 +11,23 @@ use std::fmt;
 /// `at` is the address of an instruction. It prints as the verdict lines of the program `grain_check` have it.
 #[derive(Clone, Copy, Debug, PartialEq, Eq)]
 pub enum VerifyError {
-    /// The host lacks capabilities that a constant, the functions or a reached instruction ask. Let through, the script would
+    /// The host lacks capabilities that a constant, the functions or a reached instruction require. Let through, the script would
     /// do what the host has taken out, or what was never built into it.
     MissingCaps {
         /// The capabilities that were handed in.
         artifact: Caps,
-        /// Of an instruction, those that aren't there; of a constant, all that it asks; of functions, `FUNCTION`.
+        /// Of an instruction, those that aren't there; of a constant, all that it requires; of functions, `FUNCTION`.
         missing: Caps,
         /// 0 for a constant and for functions.
         at: usize,
     },
-    /// No instruction stands at the address. A machine that came there would take data for a tag, or read the fields of an
-    /// instruction behind the end of the code.
+    /// No instruction is at the address. A machine that got there would take data for a tag, or read the fields of an
+    /// instruction past the end of the code.
     Undecodable {
-        /// The address behind the longest front of the code that splits.
+        /// The address after the longest front of the code that splits.
         at: usize,
     },
-    /// Code goes on behind its last instruction. This is never answered: such code is `Undecodable`.
+    /// Code goes on after its last instruction. This is never returned: such code is `Undecodable`.
     TrailingBytes {
         /// The address where the code goes on.
         at: usize,
@@ -60,7 +60,7 @@ pub enum VerifyError {
         target: u32,
     },
     /// Two paths meet with unlike counts of operands or iterators, or with unlike bases of armed handlers. What is popped
-    /// behind that place would on one of them be another's, and a loop that leaves an operand each round would want a stack
+    /// after that place would on one of them be another's, and a loop that leaves an operand each round would want a stack
     /// without end.
     DepthConflict {
         /// The address where they meet.
@@ -80,7 +80,7 @@ pub enum VerifyError {
         /// How many operands there are.
         have: usize,
     },
-    /// A path runs past the end of its chunk, or the chunk is empty. The run would go on in whatever stands behind it.
+    /// A path runs past the end of its chunk, or the chunk is empty. The run would go on in whatever follows it.
     FallsOffTheEnd,
     /// A chunk needs more operands than it declares, and so more than a host makes room for.
     StackExceedsDeclared {
@@ -99,8 +99,8 @@ pub enum VerifyError {
         /// The instruction that needs one.
         at: usize,
     },
-    /// An instruction that isn't quiet doesn't leave what stood when the last handler was armed: so many operands, or
-    /// where there are enough, so many iterators (docs/FORMAT.md, "Verification"). Were it to fault, the handler would go on
+    /// An instruction that isn't quiet doesn't leave what was on the stacks when the last handler was armed: its operands, or
+    /// where there are enough of these, its iterators (docs/FORMAT.md, "Verification"). Were it to fault, the handler would go on
     /// with fewer than its code takes.
     SinksBelowHandler {
         /// The instruction.
@@ -111,7 +111,7 @@ pub enum VerifyError {
         have: usize,
     },
     /// An index is at or above the size of its pool, or a step takes an operand that its chain doesn't take. Looked up
-    /// without a test, it would name what stands behind the pool, or an operand that isn't the chain's.
+    /// without a test, it would name what lies past the pool, or an operand that isn't the chain's.
     BadIndex {
         /// The instruction that has the index, or names the chain or the switch that has it.
         at: usize,

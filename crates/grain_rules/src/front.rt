@@ -6,21 +6,21 @@ ghost use Rattle.grain_code.specs.declared.op.Op.{Op};
 
 use grain_code::Growing;
 
-/// How far code has been tested: the address behind the last instruction that has. Where the instructions begin may be
+/// How far code has been tested: the address after the last instruction that has. Where the instructions begin may be
 /// written down on the way. One loop serves both that way, and is compiled for each.
 pub(crate) trait Front: Drop {
-    /// The address behind the front.
+    /// The address after the front.
     ghost end_of: { Self → ℕ };
     /// There is room for all of this code.
     ghost HasRoom: { List ℕ → Self → Type 0 };
     /// What is written down is so of this code.
     ghost IsOf: { List ℕ → Self → Type 0 };
 
-    /// The address behind the front.
+    /// The address after the front.
     fn end(&self) -> usize
         ensures { result ≡ end_of self.now };
 
-    /// Takes in the instruction behind the front, up to this address.
+    /// Takes in the instruction after the front, up to this address.
     fn push(&mut self, next: usize)
         requires further { end_of self.old < next }
         requires room { (code : List ℕ) × HasRoom code self.old × (next ≤ length code) }

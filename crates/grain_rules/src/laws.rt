@@ -82,7 +82,7 @@ pub fn faults_land_on_catch_edges()
         (armed_counts fault.handler fault.outer)) }
 {}
 
-/// A typing whose lists of bases are replaced by their lengths is a typing by depth, so that whoever asks for less than
+/// A typing whose lists of bases are replaced by their lengths is a typing by depth, so that whoever needs less than
 /// these bases finds it in each chunk that is accepted.
 pub fn typings_are_typings_by_depth()
     ensures { (code : Code) (chunk : Span) (m : ℕ) (typing : ℕ → Option Counts)
@@ -90,7 +90,7 @@ pub fn typings_are_typings_by_depth()
         → IsDepthTyping code chunk m (λ at. option_map depths_of (typing at)) }
 {}
 
-/// The body of a chunk that passes is whole instructions, so that disassembling it comes to its end.
+/// The body of a chunk that passes is whole instructions, so that disassembling it reaches its end.
 pub fn bodies_are_instructions()
     ensures { (code : Bytecode) (chunk : Span) → ChunkPasses code chunk
         → (ops : List Op) × AreInstructions (body chunk code.bytes) ops }

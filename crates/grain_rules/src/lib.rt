@@ -1,8 +1,8 @@
 //! What acceptance of Rhai Grain bytecode means, and the tests of a program that take no memory.
 //!
 //! The definitions of the folder `specs/` are what the verifier's theorem says, and no more: what an operation does and
-//! asks, edges and typings, the machine and its kept runs, accepted input, flaws, and the verdict. `laws` are theorems
-//! about these definitions alone. A host uses `grain`, which gives out what is for hosts.
+//! requires, edges and typings, the machine and its kept runs, accepted input, flaws, and the verdict. `laws` are theorems
+//! about these definitions alone. A host uses `grain`, which re-exports what is for hosts.
 #![tactic(auto)]
 
 mod asks;

@@ -1,4 +1,4 @@
-//! What each operation needs of the stacks and leaves on them, what it asks of the host, and how it is left.
+//! What each operation needs of the stacks and leaves on them, what it requires of the host, and how it is left.
 ghost use Rattle.std.specs.Prelude.{◌≡◌, []};
 ghost use Rattle.std.specs.Option.{option_to_list};
 ghost use Rattle.grain_rules.specs.EffectView.{asked_in, flow_in, operand_numbers};
@@ -13,7 +13,7 @@ use grain_base::{Caps, Flags};
 use grain_code::{Flow, Op, Receiver};
 
 impl Effect {
-    /// What an operation does beside these pools; a chain that isn't there takes nothing.
+    /// What an operation does with these pools; a chain that isn't there takes nothing.
     #[inline(always)]
     #[must_use]
     pub fn of<P: Read>(op: &Op, pools: &P) -> Effect

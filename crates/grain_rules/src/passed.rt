@@ -5,10 +5,10 @@ ghost use Rattle.grain_rules.specs.Passed.{HasPassed};
 /// How many words have a bit for each of the 65536 entries of a pool that code can name.
 pub(crate) const WORDS: usize = 1024;
 
-/// How many words have a bit for each entry of small pools: so many are cleared in no time.
+/// How many words have a bit for each entry of small pools: they are cleared in no time.
 pub(crate) const FEW_WORDS: usize = 4;
 
-/// The chains and the switches that have passed, of the first so many words of entries.
+/// The chains and the switches that have passed, of the first entries, a word for 64 of them.
 #[derive(Drop)]
 pub(crate) struct Passed<const N: usize> {
     pub(crate) chains: [u64; N],

@@ -2,12 +2,12 @@
 
 use grain_pools::{Chain, Strings, Switch};
 
-/// The pools of a program, as the verifier asks them: what it has to look into, and how many there are of all else.
+/// The pools of a program, as the verifier needs them: what it must look into, and how many there are of all else.
 #[derive(Drop)]
 pub struct Pools<'a> {
     /// How many constants an index may name.
     pub consts: usize,
-    /// The names. Whether one is qualified decides what its instruction asks of the host.
+    /// The names. Whether one is qualified decides what its instruction requires of the host.
     pub names: &'a Strings,
     /// How many operators there are.
     pub tokens: usize,

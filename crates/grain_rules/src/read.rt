@@ -25,7 +25,7 @@ pub trait Targets: Drop {
 /// What verification reads of pools. No call takes memory; one that goes through a name, a chain or a switch takes time by its
 /// length.
 ///
-/// That `facts` and `leads` are those of the host's real pools is believed of an implementation. What its methods answer is
+/// That `facts` and `leads` are those of the host's real pools is believed of an implementation. What its methods return is
 /// proved of them, and that both are about the same number of switches.
 pub trait Read {
     /// What is said of the pools.
@@ -46,7 +46,7 @@ pub trait Read {
         ensures leads { result ≡ length (leads self.now) }
         ensures facts { result ≡ size (alone (facts self.now)) Switches };
 
-    /// What the name at an index asks of the host; past the names nothing.
+    /// What the name at an index requires of the host; past the names nothing.
     fn name_asks(&self, name: u32) -> Caps
         ensures { result.0 ≡ get_or (facts self.now).names name 0 };
 
@@ -54,7 +54,7 @@ pub trait Read {
     fn chain_takes(&self, chain: u32) -> u32
         ensures { result ≡ get_or (map (λ (c : ChainFacts). c.takes) (facts self.now).chains) chain 0 };
 
-    /// What the chain at an index asks of the host; past the chains nothing.
+    /// What the chain at an index requires of the host; past the chains nothing.
     fn chain_asks(&self, chain: u32) -> Caps
         ensures { result.0 ≡ get_or (map (λ (c : ChainFacts). c.asks) (facts self.now).chains) chain 0 };
 

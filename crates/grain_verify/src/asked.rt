@@ -1,4 +1,4 @@
-//! What names and chains ask, once code that is walked has named them.
+//! What names and chains require, once code that is walked has named them.
 ghost use Rattle.std.specs.Prelude.{◌≡◌, ℕ, IfOk, List, OnOk, get_or, map};
 ghost use Rattle.grain_rules.specs.EffectView.{asked_in};
 ghost use Rattle.grain_rules.specs.Facts.{ChainFacts, Facts};
@@ -10,7 +10,7 @@ use grain_code::Pool;
 use grain_rules::{Asks, Read};
 use std::alloc::{AllocError, Global};
 
-/// What names and chains ask of the host, as far as it is known.
+/// What names and chains require of the host, as far as it is known.
 ///
 /// It is read where code names one first, so that an operation costs no more where its name or its chain is long, and one
 /// that no code names takes no time. Memory is taken for all names where code names one, and so for chains.
@@ -30,7 +30,7 @@ impl Asked {
         }
     }
 
-    /// Nothing is known any more. What memory there is stays for what other pools ask.
+    /// Nothing is known any more. The memory stays for other pools.
     #[tactic(auto, using(crate::proofs::KnownCapabilities::nothing_known))]
     pub(crate) fn forget(&mut self)
         ensures { (facts : Facts) → Knows facts self.new }
@@ -39,10 +39,10 @@ impl Asked {
         self.chains.clear();
     }
 
-    /// What an operation asks.
+    /// What an operation requires.
     ///
     /// # Errors
-    /// [`AllocError`] where the memory for what all names, or all chains, ask was refused.
+    /// [`AllocError`] where the memory for what all names, or all chains, require was refused.
     #[inline(always)]
     pub(crate) fn of<P: Read>(&mut self, pools: &P, asks: Asks) -> Result<Caps, AllocError>
         requires { Knows (P.facts pools.now) self.old }
@@ -84,7 +84,7 @@ impl Asked {
         }
     }
 
-    /// What a name asks of which that isn't known yet. It is called once for each name, and compiled apart.
+    /// What a name requires of which that isn't known yet. It is called once for each name, and compiled apart.
     #[cold]
     #[inline(never)]
     fn read_name<P: Read>(&mut self, pools: &P, name: u32) -> Result<Caps, AllocError>
@@ -123,7 +123,7 @@ fn known_at(known: &[Option<Caps>], index: u32) -> Option<Caps>
     }
 }
 
-/// Makes room for what so many ask, where nothing is known.
+/// Makes room for what this many require, where nothing is known.
 #[tactic(auto, using(crate::proofs::KnownCapabilities::none_known))]
 fn make_room(known: &mut Vec<Option<Caps>>, count: usize) -> Result<(), AllocError>
     ensures { (asks : List ℕ) → AreKnown asks known.old.items
@@ -135,7 +135,7 @@ fn make_room(known: &mut Vec<Option<Caps>>, count: usize) -> Result<(), AllocErr
     Ok(())
 }
 
-/// Notes what is asked at an index among so many.
+/// Notes what is required at an index among this many.
 #[tactic(auto, using(crate::proofs::KnownCapabilities::known_more))]
 fn note(
     known: &mut Vec<Option<Caps>>,

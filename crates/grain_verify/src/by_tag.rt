@@ -1,4 +1,4 @@
-//! What an instruction does, and what comes next, where its tag and its target tell: most instructions need no more.
+//! What an instruction does, and what comes next, where its tag and its target decide: most instructions need no more.
 ghost use Rattle.std.specs.Prelude.{◌≡◌, ℕ, ◌+◌, ◌≤◌, ◌<◌, ◌^◌, ◌∷◌, IfSome, List, length, true};
 ghost use Rattle.grain_code.specs.Flows.{is_fixed};
 ghost use Rattle.grain_code.specs.InstructionTable.{Instr, form, width_of};
@@ -15,7 +15,7 @@ use crate::state::{Arrival, State};
 use grain_code::{Flow, Head, Instruction, TagRow, tag_row};
 use grain_rules::{Asks, Effect};
 
-/// What the table of tags tells of the instructions with a tag.
+/// What the table of tags says about the instructions with a tag.
 #[inline(always)]
 pub(crate) fn row_of(tag: u8) -> &'static TagRow
     ensures { IsRowOf result.now tag }
@@ -77,7 +77,7 @@ pub(crate) fn effect_by_tag(instruction: &Instruction<'_>, row: &TagRow) -> Opti
     Some(effect_by_row(instruction, row, row.flow))
 }
 
-/// What falls through a plain instruction, which does no more than its tag tells, where it finds the operands that it needs
+/// What falls through a plain instruction, which does no more than its tag says, where it finds the operands that it needs
 /// above the floor.
 #[inline(always)]
 pub(crate) fn plain_next(row: &TagRow, head: Head, here: Arrival, floor: u64) -> Option<Arrival>

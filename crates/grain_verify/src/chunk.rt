@@ -16,7 +16,7 @@ use crate::walk::{Prepared, Traversal};
 use grain_code::Chunk;
 use grain_rules::{Read, VerifyError};
 
-/// How many instructions stand before the chunk's entry, where the chunk lies in the code and begins and ends where
+/// How many instructions are before the chunk's entry, where the chunk lies in the code and begins and ends where
 /// instructions do.
 ///
 /// A walk that began within an instruction would read bytes that no test of the code has read as one, with indices that

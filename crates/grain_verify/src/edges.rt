@@ -14,7 +14,7 @@ use crate::states::States;
 use grain_code::{Chunk, Starts};
 use grain_rules::{Read, Targets, VerifyError};
 
-/// How many instructions stand before a target, which has to be a start of the chunk: elsewhere a run would come to code that
+/// How many instructions are before a target, which must be a start of the chunk: elsewhere a run would reach code that
 /// this walk doesn't visit, or read bytes within an instruction as another one.
 ///
 /// # Errors
@@ -110,7 +110,7 @@ pub(crate) fn push_ended(
     push_target(starts, chunk, at, exit, ended, work)
 }
 
-/// Arms a handler, and pushes the state that has it to where it catches. It answers that state, which falls through too.
+/// Arms a handler, and pushes the state that has it to where it catches. It returns that state, which falls through too.
 ///
 /// # Errors
 /// Those of [`push_target`].

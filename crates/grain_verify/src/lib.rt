@@ -1,6 +1,6 @@
 //! The verifier of Rhai Grain bytecode: the walk over each chunk, and what its parts promise each other.
 //!
-//! What its answer means is defined in `grain_rules`. A host uses `grain`, which re-exports what hosts need of it.
+//! What its result means is defined in `grain_rules`. A host uses `grain`, which re-exports what hosts need of it.
 #![tactic(auto)]
 
 mod asked;

@@ -21,7 +21,7 @@ pub(crate) struct Node {
     pub(crate) base: Base,
 }
 
-/// The lists that the walk over a chunk has come to.
+/// The lists that the walk over a chunk has reached.
 ///
 /// Number 0 is the empty list, number k + 1 the list whose last base is that of the node at k. Lists that begin alike
 /// share the nodes of what they have in common, and no two nodes are equal, so that two lists are compared as two
@@ -65,7 +65,7 @@ impl Lists {
         self.others.clear();
     }
 
-    /// The list with this base behind its last one.
+    /// The list with this base after its last one.
     ///
     /// # Errors
     /// [`AllocError`] where the memory was refused.
@@ -123,7 +123,7 @@ impl Lists {
         }
     }
 
-    /// Adds a node, and answers the number of its list, on which none lies yet.
+    /// Adds a node, and returns the number of its list, on which none lies yet.
     fn add(&mut self, node: Node) -> Result<u32, AllocError>
         requires { list_count self.old + 1 < 2 ^ 32 }
         ensures nodes { OnOk result (self.new.nodes.items ≡ self.old.nodes.items ++ node ∷ []) }

@@ -38,7 +38,7 @@ impl Meter {
         self.count
     }
 
-    /// Counts so many more.
+    /// Counts this many more.
     pub(crate) fn add(&mut self, visits: u32)
         ensures { HasCounted self.old self.new visits }
     {

@@ -9,7 +9,7 @@ use std::alloc::AllocError;
 #[derive(Clone, Copy, Debug, PartialEq, Eq)]
 pub struct Refusal {
     /// The place of the chunk in the list of chunks, where one is refused, each before it having passed. There is none where
-    /// a test before the chunks fails, and where memory was wanted.
+    /// a test before the chunks fails, and where an allocation failed.
     pub place: Option<usize>,
     /// What is wrong.
     pub error: VerifyError,
@@ -24,7 +24,7 @@ impl Refusal {
         Refusal { place: None, error }
     }
 
-    /// The refusal of the chunk at a place; of no chunk where memory was wanted.
+    /// The refusal of the chunk at a place; of no chunk where an allocation failed.
     pub(crate) fn of_chunk(place: usize, error: VerifyError) -> Refusal
         ensures error { result.error ≡ error }
         ensures place { error ≢ VerifyError.OutOfMemory → result.place ≡ Some place }

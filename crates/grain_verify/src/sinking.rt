@@ -23,7 +23,7 @@ use grain_rules::{Effect, VerifyError};
 ///
 /// # Errors
 /// `SinksBelowHandler` at its address. Where a handler is armed, the iterator that it takes is looked for first
-/// ([`State::without_iterators`]); else its flow asks for it.
+/// ([`State::without_iterators`]); else its flow needs it.
 #[inline(always)]
 pub(crate) fn check_stays(
     instruction: &Instruction<'_>,

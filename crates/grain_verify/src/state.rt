@@ -21,13 +21,13 @@ pub(crate) struct State {
 /// A state on its way to an address.
 #[derive(Clone, Copy)]
 pub(crate) struct Arrival {
-    /// How many instructions stand before the address in the code.
+    /// How many instructions are before the address in the code.
     pub(crate) ordinal: usize,
     pub(crate) at: u32,
     pub(crate) state: State,
 }
 
-/// Whether what is at an address already has the state that comes to it. All that follows was tested with the first one
+/// Whether what is at an address already has the state that reaches it. All that follows was tested with the first one
 /// alone, so that a run with another would find fewer operands than were tested, or another handler armed.
 ///
 /// # Errors
@@ -86,7 +86,7 @@ impl State {
         }
     }
 
-    /// The state with so many iterators fewer. A machine that ends or advances an iterator reaches below its stack where
+    /// The state with this many iterators fewer. A machine that ends or advances an iterator reaches below its stack where
     /// there is none.
     ///
     /// # Errors
@@ -168,7 +168,7 @@ impl State {
         u64::from(last.operands)
     }
 
-    /// How many operands have to stay where the last handler has just been armed: all that stand.
+    /// How many operands have to stay where the last handler has just been armed: all that are there.
     #[inline(always)]
     pub(crate) fn floor_armed(self) -> u64
         ensures small { result ≤ 2 ^ 32 }

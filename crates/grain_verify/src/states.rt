@@ -20,7 +20,7 @@ impl Entry {
     };
 }
 
-/// For each of so many things the state with which it was visited in the chunk that is walked, if it was.
+/// For each of some things the state with which it was visited in the chunk that is walked, if it was.
 ///
 /// An entry is valid where it has the number of the chunk that is walked, so that nothing need be cleared for the next
 /// chunk. Chunks are numbered downwards, below the number of entries of none. Contracts see a list of states that may be
@@ -53,7 +53,7 @@ impl States {
         }
     }
 
-    /// Makes room for the states of so many things. Which of them were visited is known once a chunk begins.
+    /// Makes room for the states of this many things. Which of them were visited is known once a chunk begins.
     ///
     /// # Errors
     /// [`AllocError`] where the memory was refused: 16 bytes for each of them.

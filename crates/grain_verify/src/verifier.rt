@@ -166,7 +166,7 @@ fn walk_chunks<P: Read>(
     ensures metered { AreMeteredChunks prepared.now.code prepared.now.starts
         chunks.now meter.old meter.new result }
 {
-    // Walks write into variables of this call, and not behind the scratch.
+    // Walks write into variables of this call, and not through the scratch.
     let mut traversal = mem::replace(&mut scratch.traversal, Traversal::new(alloc));
     let mut lists = mem::replace(&mut scratch.lists, Lists::new(alloc));
     let deepest = &mut scratch.deepest;
@@ -251,7 +251,7 @@ fn verify_chunks<P: Read>(
 /// the constants themselves, while `pools.consts` bounds the indices that name one. What it costs is in docs/COSTS.md.
 ///
 /// # Errors
-/// The first test that fails, by its name; within a chunk one of its flaws. `OutOfMemory` where memory was wanted, which
+/// The first test that fails, by its name; within a chunk one of its flaws. `OutOfMemory` where an allocation failed, which
 /// comes only where the tests before the chunks pass.
 pub fn verify(
     alloc: Global,
@@ -276,7 +276,7 @@ pub fn verify(
     )
 }
 
-/// Verifies as [`verify`] does, with the same promise of kept runs, which asks the same of a machine, and counts the
+/// Verifies as [`verify`] does, with the same promise of kept runs, which requires the same of a machine, and counts the
 /// instructions that the walks visit: where the program is accepted those that each chunk reaches, else no more than
 /// those that each chunk has.
 ///

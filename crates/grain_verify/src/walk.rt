@@ -40,7 +40,7 @@ use grain_rules::{Effect, Read, VerifyError, missing};
 use std::alloc::{AllocError, Global};
 use std::marker::Model;
 
-/// What the walks of all chunks share: code that is whole instructions with its indices in bounds, and the pools beside it.
+/// What the walks of all chunks share: code that is whole instructions with its indices in bounds, and its pools.
 #[derive(Drop)]
 pub(crate) struct Prepared<'a, P: Read> {
     caps: Caps,
@@ -84,7 +84,7 @@ impl Traversal {
         }
     }
 
-    /// Makes room for walks over so many instructions and switches.
+    /// Makes room for walks over this many instructions and switches.
     ///
     /// # Errors
     /// [`AllocError`] where the memory was refused.
@@ -97,7 +97,7 @@ impl Traversal {
     }
 
     /// Begins the next chunk, in which nothing was visited. A state that stayed from another chunk would pass for a visit in
-    /// this one, and what stands there would go untested.
+    /// this one, and the instruction would go untested.
     #[inline(never)]
     fn begin_chunk(&mut self)
         ensures states { self.new.states ≡ replicate (length self.old.states) None }
@@ -110,7 +110,7 @@ impl Traversal {
     }
 }
 
-/// The instruction that stands at an address, where its head is known: one look at its first byte has told its width.
+/// The instruction at an address, where its head is known: one look at its first byte has given its width.
 #[inline(always)]
 fn instruction_at<'a>(code: &'a [u8], at: usize, head: Head) -> Instruction<'a>
     requires { HasHead code.now at head }
@@ -125,8 +125,8 @@ fn instruction_at<'a>(code: &'a [u8], at: usize, head: Head) -> Instruction<'a>
     }
 }
 
-/// Sends the state that an instruction of this width leaves to its targets, where it has what it asks and the operands
-/// that it needs. It answers what falls through, or the target of a jump in place of pushing it. A way that was left out
+/// Sends the state that an instruction of this width leaves to its targets, where it has what it requires and the operands
+/// that it needs. It returns what falls through, or the target of a jump in place of pushing it. A path that was left out
 /// here would lead runs to code that was never tested, or with other counts than were tested.
 ///
 /// # Errors
@@ -227,7 +227,7 @@ fn follow<P: Read>(
 }
 
 impl<'a, P: Read> Prepared<'a, P> {
-    /// The code beside pools, whose instructions begin there.
+    /// The code with pools, whose instructions begin there.
     pub(crate) fn new(caps: Caps, code: &'a [u8], pools: &'a P, starts: Starts) -> Prepared<'a, P>
         ensures { result ≡ record {
           code = bytecode_beside caps.0 (P.facts pools.now) (P.leads pools.now) code.now;
@@ -256,7 +256,7 @@ impl<'a, P: Read> Prepared<'a, P> {
         self.starts.contains(at)
     }
 
-    /// How many instructions stand before an address, where one begins there.
+    /// How many instructions are before an address, where one begins there.
     pub(crate) fn ordinal(&self, at: usize) -> Option<usize>
         ensures { (k : ℕ) → (result ≡ Some k) ↔ (slice_get self.now.starts k ≡ Some at) }
     {
@@ -279,7 +279,7 @@ impl<'a, P: Read> Prepared<'a, P> {
         starts
     }
 
-    /// The instruction that stands at an address, where its head is known.
+    /// The instruction at an address, where its head is known.
     #[inline(always)]
     fn instruction(&self, at: u32, head: Head) -> Instruction<'a>
         requires { HasHead self.now.code.bytes at head }
@@ -290,7 +290,7 @@ impl<'a, P: Read> Prepared<'a, P> {
         instruction_at(self.code, at as usize, head)
     }
 
-    /// Whether the host has what the instruction asks, and the operand stack what it needs. Else a machine would do what the
+    /// Whether the host has what the instruction requires, and the operand stack what it needs. Else a machine would do what the
     /// host doesn't allow, or read below its operand stack.
     ///
     /// # Errors
@@ -345,9 +345,9 @@ impl<'a, P: Read> Prepared<'a, P> {
         Effect::of(&op, self.pools)
     }
 
-    /// Follows the flow of an instruction that has all that it asks and needs but maybe an iterator or a handler. It answers
+    /// Follows the flow of an instruction that has all that it requires and needs except maybe an iterator or a handler. It returns
     /// the next arrival, if there is one that isn't on the worklist. It is cut from [`Prepared::visit`] and
-    /// [`Prepared::visit_by_tag`] for the prover alone, which is told here once why the walk stays right.
+    /// [`Prepared::visit_by_tag`] for the prover alone, which learns here once why the walk stays right.
     ///
     /// # Errors
     /// Those of [`follow`].
@@ -382,7 +382,7 @@ impl<'a, P: Read> Prepared<'a, P> {
         )
     }
 
-    /// Visits an instruction: tests what it asks and needs and what it leaves as it was, and follows its flow. It answers the
+    /// Visits an instruction: tests what it requires and needs and what it leaves as it was, and follows its flow. It returns the
     /// next arrival, if there is one that isn't on the worklist.
     ///
     /// # Errors
@@ -415,8 +415,8 @@ impl<'a, P: Read> Prepared<'a, P> {
         self.follow_passing(chunk, here, &instruction, effect, lists, traversal)
     }
 
-    /// Visits an instruction that goes on and needs no iterator, of which its tag tells all, and that finds the operands that
-    /// it needs above the floor. It answers the next arrival. What [`Prepared::visit`] tests can't fail then: it asks nothing of
+    /// Visits an instruction that goes on and needs no iterator, of which its tag says all, and that finds the operands that
+    /// it needs above the floor. It returns the next arrival. What [`Prepared::visit`] tests can't fail then: it requires nothing of
     /// the host, and the operands above the floor are those that it may take.
     ///
     /// # Errors
@@ -454,7 +454,7 @@ impl<'a, P: Read> Prepared<'a, P> {
         }
     }
 
-    /// The head of the instruction at an address that was come to, or `None` at the end of the chunk. What stands behind the end
+    /// The head of the instruction at an address that was reached, or `None` at the end of the chunk. What follows the end
     /// is other code, whose counts this walk doesn't know.
     #[inline(always)]
     fn head_at(&self, chunk: &Chunk, at: u32) -> Option<Head>
@@ -502,10 +502,10 @@ impl<'a, P: Read> Prepared<'a, P> {
 
     /// Walks from an arrival on, until nothing comes next that wasn't visited.
     ///
-    /// What is come to twice is tested once, with the counts of the first path. So a second path has to bring the same: a run
+    /// What is reached twice is tested once, with the counts of the first path. So a second path must bring the same: a run
     /// on it would else find fewer operands than were tested, or leave other counts to all that follows.
     ///
-    /// What tags tell most often is visited without the tests of [`Prepared::visit`] where the operands are above the floor,
+    /// What tags decide most often is visited without the tests of [`Prepared::visit`] where the operands are above the floor,
     /// each flow in an arm of its own, which is compiled apart.
     ///
     /// # Errors
@@ -594,8 +594,8 @@ impl<'a, P: Read> Prepared<'a, P> {
         Err(VerifyError::FallsOffTheEnd)
     }
 
-    /// Walks from the chunk's entry, an instruction of this ordinal, and answers the greatest operand count that it meets.
-    /// It counts the instructions that it visits. No run starts elsewhere, so what it doesn't come to needs no test.
+    /// Walks from the chunk's entry, an instruction of this ordinal, and returns the greatest operand count that it meets.
+    /// It counts the instructions that it visits. No run starts elsewhere, so what it doesn't reach needs no test.
     ///
     /// # Errors
     /// Those of [`Prepared::walk_from`].

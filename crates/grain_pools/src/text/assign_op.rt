@@ -9,7 +9,7 @@ use crate::lookups::Lookups;
 use std::alloc::Global;
 
 impl AssignOp {
-    /// The text of the op-assignment: its name and its operator, and behind a `/` the same of the operator that it stands
+    /// The text of the op-assignment: its name and its operator, and after a `/` the same of the operator that it stands
     /// for (docs/FORMAT.md, "Texts"). It takes time by its length.
     ///
     /// # Errors
