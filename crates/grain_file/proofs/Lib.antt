@@ -10,3 +10,9 @@ pub mod Tags
 pub mod TextReads
 pub mod Whole
 pub mod Writable
+pub mod Bare
+pub mod CaseOrder
+pub mod CaseContents
+pub mod Copying
+pub mod Gathering
+pub mod CaseReading

@@ -1,11 +1,12 @@
 -- No reason stands against a program exactly where it is writable.
-use Rattle.std.proofs.Common.{◌≡◌, ℕ, zero, suc, List, [], ◌∷◌, ◌++◌, map, Option, None, Some, refl, sym, ap, ◌∙◌, inl, inr}
+use Rattle.std.proofs.Common.{◌≡◌, ℕ, zero, suc, Bool, true, false, List, [], ◌∷◌, ◌++◌, map, Option, None, Some, refl, sym, ap, ◌∙◌, inl, inr}
 use Rattle.std.specs.Prelude.{◌↔◌, option_map}
-use Rattle.std.specs.List.{AllByRecursion, flat_map}
+use Rattle.std.specs.List.{AllByRecursion, flat_map, list_all}
 use Rattle.grain_base.specs.Place.{place_of}
+use Rattle.grain_base.specs.declared.value.Dynamic.{Dynamic}
 use Rattle.grain_base.specs.declared.position.Position.{Position}
 use Rattle.grain_pools.specs.Chain.{positions, root_positions, step_positions, steps_positions}
-use Rattle.grain_pools.specs.Dispatch.{Case, arms, listed}
+use Rattle.grain_pools.specs.Dispatch.{arms, listed}
 use Rattle.grain_pools.specs.declared.chain.Chain.{Chain}
 use Rattle.grain_pools.specs.declared.chain.Root.{Root}
 use Rattle.grain_pools.specs.declared.chain.Root.TheVariants.{Local, Named, This, Temporary}
@@ -19,7 +20,8 @@ use Rattle.grain_file.specs.Refusals.{counted_refusal, optional_refusal}
 use Rattle.grain_file.specs.Functions.{FunctionParts, function_format}
 use Rattle.grain_file.specs.Tokens.{TokenParts, AssignOpParts, token_parts, assign_op_parts, token_format, assign_op_format}
 use Rattle.grain_file.specs.Chains.{Place, place_refusal, root_parts, root_format, step_parts, step_format, tail_format, chain_parts, chain_format}
-use Rattle.grain_file.specs.Switches.{cases_refusal, range_format, switch_parts, switch_format}
+use Rattle.grain_file.specs.Switches.{case_format, key_refusal, range_format, switch_parts, switch_refusal}
+use Rattle.grain_file.specs.Cases.{is_keyed}
 use Rattle.grain_file.specs.Form.{forms, value_refusal}
 use Rattle.grain_file.specs.ProgramFile.{CodeParts, code_format, pools_format, rest_format, versioned_format, body_format, file_format, residuals_refusal, kept, refusal_of}
 use Rattle.grain_file.specs.Writable.{IsWritable}
@@ -138,19 +140,20 @@ bare_chain c all =
 
 -- ---- switches
 
-no_case : (cs : List Case) → cases_refusal (map (λ c. c.1) cs) ≡ None → cs ≡ []
-no_case [] e = refl
-no_case (c ∷ cs) e = absurd cc
+is_true : (b : Bool) → key_refusal b ≡ None → b ≡ true
+is_true true e = refl
+is_true false e = absurd cc
 
-abbrev HasNoCase : Switch → Type 0
-HasNoCase s = listed (arms s).cases ≡ []
+module _ (constants : List Dynamic) where
+  abbrev AreKeyed : Switch → Type 0
+  AreKeyed s = list_all (is_keyed constants) (listed (arms s).cases) ≡ true
 
-switch_bare : (s : Switch) → switch_format.refusal (switch_parts s) ≡ None → HasNoCase s
-switch_bare s e = no_case (listed (arms s).cases) (or_none _ _ e).0
+  switch_keyed : (s : Switch) → switch_refusal (switch_parts constants s) ≡ None → AreKeyed s
+  switch_keyed s e = is_true (list_all (is_keyed constants) (listed (arms s).cases)) (or_none _ _ (or_none _ _ e).0).0
 
-bare_switch : (s : Switch) → HasNoCase s → switch_format.refusal (switch_parts s) ≡ None
-bare_switch s none =
-    rw (ap (λ (cs : List Case). cases_refusal (map (λ c. c.1) cs)) none, always range_format.refusal (λ r. refl) (switch_parts s).1.0) refl
+  keyed_switch : (s : Switch) → AreKeyed s → switch_refusal (switch_parts constants s) ≡ None
+  keyed_switch s keyed =
+      rw (keyed, always case_format.refusal (λ c. refl) (switch_parts constants s).0.1, always range_format.refusal (λ r. refl) (switch_parts constants s).1.0) refl
 
 -- ---- all else
 
@@ -190,7 +193,7 @@ abbrev of_chains : Program → Option Unkept
 of_chains p = counted_refusal chain_format.refusal (map chain_parts p.chains)
 
 abbrev of_switches : Program → Option Unkept
-of_switches p = counted_refusal switch_format.refusal (map switch_parts p.switches)
+of_switches p = counted_refusal switch_refusal (map (switch_parts p.consts) p.switches)
 
 abbrev of_rest : Program → Option Unkept
 of_rest p = or_refused (place_refusal (places_of p)) (residuals_refusal p.residuals)
@@ -213,7 +216,7 @@ is_writable p e =
     record {
       constants = counted_all value_refusal (forms p.consts) a.0;
       chains = flat positions p.chains (each_none chain_format.refusal chain_parts (λ c. AllByRecursion IsBare (positions c)) chain_bare p.chains b.0);
-      cases = each_none switch_format.refusal switch_parts HasNoCase switch_bare p.switches c.0;
+      cases = each_none switch_refusal (switch_parts p.consts) (AreKeyed p.consts) (switch_keyed p.consts) p.switches c.0;
       positions = no_places p.positions d.0;
       residuals = no_residuals p.residuals d.1;
     }
@@ -221,7 +224,7 @@ is_writable p e =
 is_kept : (p : Program) → IsWritable p → refusal_of (kept p) ≡ None
 is_kept p w =
     let chains : of_chains p ≡ None = none_each chain_format.refusal chain_parts (λ c. AllByRecursion IsBare (positions c)) bare_chain p.chains (unflat positions p.chains w.chains) in
-    let switches : of_switches p ≡ None = none_each switch_format.refusal switch_parts HasNoCase bare_switch p.switches w.cases in
+    let switches : of_switches p ≡ None = none_each switch_refusal (switch_parts p.consts) (AreKeyed p.consts) (keyed_switch p.consts) p.switches w.cases in
     let places : place_refusal (places_of p) ≡ None = ap (λ (o : Option (List Position)). place_refusal (option_map (λ ps. map place_of ps) o)) w.positions in
     let residuals : residuals_refusal p.residuals ≡ None = ap residuals_refusal w.residuals in
     reasons p ∙ none_or (of_consts p) (or_refused (of_chains p) (or_refused (of_switches p) (of_rest p))) (all_counted value_refusal (forms p.consts) w.constants)

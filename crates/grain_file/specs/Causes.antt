@@ -10,22 +10,22 @@ use Rattle.grain_file.specs.Functions.{function_parts}
 use Rattle.grain_file.specs.Tokens.{token_parts, assign_op_parts}
 use Rattle.grain_file.specs.Chains.{chain_parts}
 use Rattle.grain_file.specs.Switches.{switch_parts}
-use Rattle.grain_file.specs.ProgramFile.{CodeParts, PoolParts, halves, whole_at}
+use Rattle.grain_file.specs.ProgramFile.{Bounds, CodeParts, PoolParts, bounds_of, halves, whole_at}
 
 abbrev pub code_parts : Code → CodeParts
 code_parts c = (c.caps.0, (halves c.debug_id, (c.code.items, (c.main, map function_parts c.functions.items))))
 
 abbrev pub pool_parts : PoolFields → PoolParts
-pool_parts p = (p.names, (forms p.consts.items, (map token_parts p.tokens.items, (map assign_op_parts p.assign_ops.items, (map chain_parts p.chains.items, map switch_parts p.switches.items)))))
+pool_parts p = (p.names, (forms p.consts.items, (map token_parts p.tokens.items, (map assign_op_parts p.assign_ops.items, (map chain_parts p.chains.items, map (switch_parts p.consts.items) p.switches.items)))))
 
 -- the fault is the one at which reading ends, and stands at this byte
-abbrev pub IsFaultOf : ℕ → List ℕ → ReadError → Type 0
-IsFaultOf depth bytes errors.OutOfMemory = Unit {0}
-IsFaultOf depth bytes (errors.TooLarge size limit) = ⊥
-IsFaultOf depth bytes (errors.Malformed at fault) = (left : List ℕ) × (whole_at depth bytes ≡ Err (fault, left)) × (at ≡ length bytes - length left)
+abbrev pub IsFaultOf : Bounds → List ℕ → ReadError → Type 0
+IsFaultOf bounds bytes errors.OutOfMemory = Unit {0}
+IsFaultOf bounds bytes (errors.TooLarge size limit) = ⊥
+IsFaultOf bounds bytes (errors.Malformed at fault) = (left : List ℕ) × (whole_at bounds bytes ≡ Err (fault, left)) × (at ≡ length bytes - length left)
 
 -- The bytes are more than the limit, or else the fault is the one at which reading ends, with what follows from that byte on.
 abbrev pub IsCause : Limits → List ℕ → ReadError → Type 0
 IsCause limits bytes errors.OutOfMemory = Unit {0}
 IsCause limits bytes (errors.TooLarge size limit) = (size ≡ length bytes) × (limit ≡ limits.size) × (limits.size < length bytes)
-IsCause limits bytes (errors.Malformed at fault) = (at ≤ length bytes) × (whole_at limits.depth bytes ≡ Err (fault, drop at bytes))
+IsCause limits bytes (errors.Malformed at fault) = (at ≤ length bytes) × (whole_at (bounds_of limits) bytes ≡ Err (fault, drop at bytes))

@@ -8,7 +8,7 @@ use Rattle.grain_file.specs.Laws.{chosen, tail_are_bytes}
 use Rattle.grain_file.specs.Numbers.{number, groups_at, located, number_at, below_at}
 use Rattle.grain_file.specs.NumberLaws.{number_takes}
 use Rattle.grain_file.specs.Texts.{byte_at, bytes_at, text_at, tag_at}
-use Rattle.grain_file.specs.Lists.{both_at, checked_at, seen_at, repeat_at, counted_at, optional_at, alternative_at, headed_at}
+use Rattle.grain_file.specs.Lists.{both_at, depending_at, checked_at, seen_at, repeat_at, counted_at, optional_at, alternative_at, headed_at}
 use Rattle.grain_file.specs.ListLaws.{left_are_bytes}
 
 abbrev failed : {A E : Type 0} → E → Result A E
@@ -101,18 +101,21 @@ only_ends one bytes fault left are e = absurd cc
 
 -- ---- fields one after another
 
-module _ {A B : Type 0} (first : A → List ℕ) (First : A → Type 0) (first_at : List ℕ → Result (A × List ℕ) Flaw) (second_at : List ℕ → Result (B × List ℕ) Flaw) where
-  pub both_ends : Takes first First first_at → Ends first_at → Ends second_at → Ends (both_at first_at second_at)
-  both_ends take_first ends_first ends_second bytes fault left are e =
-      elim (bind_err (first_at bytes) (λ a. (second_at a.1 >>= λ b. Ok ((a.0, b.0), b.1))) (fault, left) e) [
+module _ {A B : Type 0} (first : A → List ℕ) (First : A → Type 0) (first_at : List ℕ → Result (A × List ℕ) Flaw) where
+  pub depending_ends : (second_at : A → List ℕ → Result (B × List ℕ) Flaw) → Takes first First first_at → Ends first_at → ((x : A) → Ends (second_at x)) → Ends (depending_at first_at second_at)
+  depending_ends second_at take_first ends_first ends_second bytes fault left are e =
+      elim (bind_err (first_at bytes) (λ a. (second_at a.0 a.1 >>= λ b. Ok ((a.0, b.0), b.1))) (fault, left) e) [
         | inl p ↦ ends_first bytes fault left are p
-        | inr a ↦ elim (bind_err (second_at a.0.1) (λ b. Ok ((a.0.0, b.0), b.1)) (fault, left) a.2) [
+        | inr a ↦ elim (bind_err (second_at a.0.0 a.0.1) (λ b. Ok ((a.0.0, b.0), b.1)) (fault, left) a.2) [
           | inl p ↦
               let t = take_first bytes a.0.0 a.0.1 are a.1 in
-              moved bytes (first a.0.0) a.0.1 left t.0 (ends_second a.0.1 fault left (left_are_bytes bytes (first a.0.0) a.0.1 are t.0) p)
+              moved bytes (first a.0.0) a.0.1 left t.0 (ends_second a.0.0 a.0.1 fault left (left_are_bytes bytes (first a.0.0) a.0.1 are t.0) p)
           | inr b ↦ absurd (let q = b.2 in cc)
         ]
       ]
+
+  pub both_ends : (second_at : List ℕ → Result (B × List ℕ) Flaw) → Takes first First first_at → Ends first_at → Ends second_at → Ends (both_at first_at second_at)
+  both_ends second_at take_first ends_first ends_second = depending_ends (λ x. second_at) take_first ends_first (λ x. ends_second)
 
 pub seen_ends : {A B : Type 0} (to : A → B) (reading : List ℕ → Result (A × List ℕ) Flaw) → Ends reading → Ends (seen_at to reading)
 seen_ends to reading ends bytes fault left are e =

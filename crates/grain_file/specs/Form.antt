@@ -1,4 +1,4 @@
--- What of a value is kept in a file: all that it holds, but not where that lies in memory; and how that is spelled.
+-- A value apart from where it is in memory, and how it is spelled in a file.
 use Rattle.std.specs.Prelude.{◌≡◌, ℕ, ℤ, suc, zero, ◌<◌, ◌^◌, Bool, true, false, List, [], ◌∷◌, ◌++◌, length, map, max, Option, Some, None, String, string_bytes, option_map, slice_get, ◌-◌}
 use Rattle.std.proofs.Math.Utf8.{scalar}
 use Rattle.std.specs.declared.alloc.Global.{Global}
@@ -31,8 +31,8 @@ mutual
     object_map : Entries → Form
     fn_ptr : List ℕ → Forms → Form
     shared : Form → Form
-    -- of a value that only the host knows nothing is kept
-    host : Form
+    -- no file keeps a value that only the host knows
+    host : List ℕ → ℕ → Form
 
   pub data Forms : Type 0 where
     no_forms : Forms
@@ -73,7 +73,7 @@ form_step (Dynamic-F.Blob v) = blob v.items
 form_step (Dynamic-F.Map m) = object_map (entries_of (map (λ e. (string_bytes e.0, e.1)) m.entries))
 form_step (Dynamic-F.FnPtr f) = f
 form_step (Dynamic-F.Shared x) = shared x.value
-form_step (Dynamic-F.Host h) = host
+form_step (Dynamic-F.Host h) = host (string_bytes h.type_name) h.id
 
 abbrev pub pointer_step : FnPtr-F Form Form → Form
 pointer_step f = fn_ptr (string_bytes f.name) (forms_of f.curry.items)
@@ -107,7 +107,7 @@ abbrev mutual
   spelled (object_map es) = 10 ∷ (number (length (listed_entries es)) ++ spelled_entries es)
   spelled (fn_ptr name xs) = 11 ∷ (counted_bytes name ++ (number (length (listed xs)) ++ spelled_forms xs))
   spelled (shared x) = 12 ∷ spelled x
-  spelled host = []
+  spelled (host t i) = []
 
   pub spelled_forms : Forms → List ℕ
   spelled_forms no_forms = []
@@ -132,7 +132,7 @@ abbrev mutual
   value_refusal (object_map es) = entries_refusal es
   value_refusal (fn_ptr name xs) = forms_refusal xs
   value_refusal (shared x) = value_refusal x
-  value_refusal host = Some HostValue
+  value_refusal (host t i) = Some HostValue
 
   pub forms_refusal : Forms → Option Unkept
   forms_refusal no_forms = None
@@ -157,7 +157,7 @@ abbrev mutual
   nesting (object_map es) = suc (entries_nesting es)
   nesting (fn_ptr name xs) = suc (forms_nesting xs)
   nesting (shared x) = suc (nesting x)
-  nesting host = 1
+  nesting (host t i) = 1
 
   pub forms_nesting : Forms → ℕ
   forms_nesting no_forms = 0
@@ -209,7 +209,7 @@ FitsAround Inner (blob b) = BytesFit b
 FitsAround Inner (object_map es) = CountedFit (EntryFits Inner) (listed_entries es) × Ascend None (listed_entries es)
 FitsAround Inner (fn_ptr name xs) = TextFits name × CountedFit Inner (listed xs)
 FitsAround Inner (shared x) = Inner x
-FitsAround Inner host = ⊥
+FitsAround Inner (host t i) = ⊥
 
 -- within a depth
 unfoldable pub FitsWithin : ℕ → Form → Type 0
@@ -231,7 +231,7 @@ abbrev mutual
   IsSound (object_map es) = ((length (listed_entries es) < 2 ^ 64) × AreSoundEntries es) × Ascend None (listed_entries es)
   IsSound (fn_ptr name xs) = TextFits name × ((length (listed xs) < 2 ^ 64) × AreSound xs)
   IsSound (shared x) = IsSound x
-  IsSound host = ⊥
+  IsSound (host t i) = ⊥
 
   pub AreSound : Forms → Type 0
   AreSound no_forms = Unit {0}

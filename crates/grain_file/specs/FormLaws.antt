@@ -202,4 +202,4 @@ value_again (suc depth) (object_map es) rest fits =
 value_again (suc depth) (fn_ptr name xs) rest fits =
     rw (forms_spelled xs, both_again counted_bytes TextFits text_at (counted_spelling spelled) (CountedFit (FitsWithin depth)) (counted_at (value_at depth)) text_again (counted_again spelled (FitsWithin depth) (value_at depth) (value_again depth)) (name, listed xs) rest fits, forms_of-listed xs) refl
 value_again (suc depth) (shared x) rest fits = rw (value_again depth x rest fits) refl
-value_again (suc depth) host rest fits = absurd fits
+value_again (suc depth) (host t i) rest fits = absurd fits

@@ -25,7 +25,7 @@ some (blob b) = omega arith
 some (object_map es) = omega arith
 some (fn_ptr name xs) = omega arith
 some (shared x) = omega arith
-some host = omega arith
+some (host t i) = omega arith
 
 module _ (d : ℕ) (one : (x : Form) → IsSound x → nesting x ≤ d → FitsWithin d x) where
   all_within : (xs : Forms) → AreSound xs → forms_nesting xs ≤ d → AllByRecursion (FitsWithin d) (listed xs)
@@ -51,7 +51,7 @@ within (suc d) (blob b) sound small = sound
 within (suc d) (object_map es) sound small = ((sound.0.0, entries_within d (within d) es sound.0.1 (omega arith)), sound.1)
 within (suc d) (fn_ptr name xs) sound small = (sound.0, (sound.1.0, all_within d (within d) xs sound.1.1 (omega arith)))
 within (suc d) (shared x) sound small = within d x sound (omega arith)
-within (suc d) host sound small = absurd sound
+within (suc d) (host t i) sound small = absurd sound
 
 -- the deepest of some values
 abbrev pub deepest : List Form → ℕ
@@ -86,7 +86,7 @@ module _ (P Q : Form → Type 0) (more : (x : Form) → P x → Q x) where
   around_more (object_map es) fits = ((fits.0.0, entries_more (listed_entries es) fits.0.1), fits.1)
   around_more (fn_ptr name xs) fits = (fits.0, (fits.1.0, each_more (listed xs) fits.1.1))
   around_more (shared x) fits = more x fits
-  around_more host fits = absurd fits
+  around_more (host t i) fits = absurd fits
 
 pub value_deeper : (d e : ℕ) → d ≤ e → (x : Form) → FitsWithin d x → FitsWithin e x
 unfolding FitsWithin
@@ -151,7 +151,7 @@ module _ (Inner : Form → Type 0) (kept : Keeps Inner value_refusal) where
   around_kept (object_map es) fits = entries_kept es fits.0.1
   around_kept (fn_ptr name xs) fits = forms_kept xs fits.1.1
   around_kept (shared x) fits = kept x fits
-  around_kept host fits = absurd fits
+  around_kept (host t i) fits = absurd fits
 
 pub value_keeps : (d : ℕ) → Keeps (FitsWithin d) value_refusal
 unfolding FitsWithin

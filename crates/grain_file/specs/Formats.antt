@@ -4,14 +4,14 @@ use Rattle.std.specs.Prelude.{ℕ, ◌<◌, ◌^◌, List, [], ◌∷◌, Option
 use Rattle.grain_file.specs.declared.error.Fault.{Fault}
 use Rattle.grain_file.specs.declared.error.Unkept.{Unkept}
 use Rattle.grain_file.specs.Reading.{Flaw, Takes, Again, Keeps, Ends}
-use Rattle.grain_file.specs.Ends.{number_ends, below_ends, bytes_ends, text_ends, byte_ends, tag_ends, only_ends, both_ends, seen_ends, checked_ends, counted_ends, optional_ends, alternative_ends, headed_ends}
-use Rattle.grain_file.specs.Refusals.{both_refusal, counted_refusal, optional_refusal, alternative_refusal, all_keeps, both_keeps, counted_keeps, optional_keeps, alternative_keeps, only_keeps}
+use Rattle.grain_file.specs.Ends.{number_ends, below_ends, bytes_ends, text_ends, byte_ends, tag_ends, only_ends, both_ends, depending_ends, seen_ends, checked_ends, counted_ends, optional_ends, alternative_ends, headed_ends}
+use Rattle.grain_file.specs.Refusals.{both_refusal, depending_refusal, counted_refusal, optional_refusal, alternative_refusal, all_keeps, both_keeps, depending_keeps, counted_keeps, optional_keeps, alternative_keeps, only_keeps}
 use Rattle.grain_file.specs.Numbers.{number, number_at, below_at}
 use Rattle.grain_file.specs.NumberLaws.{IsBelow, number_takes, number_again, below_takes, below_again}
 use Rattle.grain_file.specs.Texts.{counted_bytes, byte_at, bytes_at, text_at, tag_at}
 use Rattle.grain_file.specs.TextLaws.{BytesFit, TextFits, bytes_takes, bytes_again, text_takes, text_again, one_byte, byte_takes, byte_again, tag_takes, tag_again, Anything, nothing_takes, only_takes, only_again}
-use Rattle.grain_file.specs.Lists.{both_spelling, BothFit, both_at, checked_at, seen_at, counted_spelling, CountedFit, counted_at, optional_spelling, optional_at, alternative_spelling, AlternativeFits, alternative_at, BeginsOtherwise, headed_at}
-use Rattle.grain_file.specs.ListLaws.{both_takes, both_again, checked_takes, checked_again, seen_takes, seen_again, counted_takes, counted_again, optional_takes, optional_again, alternative_takes, alternative_again, headed_takes, headed_again}
+use Rattle.grain_file.specs.Lists.{both_spelling, BothFit, both_at, depending_spelling, DependingFit, depending_at, checked_at, seen_at, counted_spelling, CountedFit, counted_at, optional_spelling, optional_at, alternative_spelling, AlternativeFits, alternative_at, BeginsOtherwise, headed_at}
+use Rattle.grain_file.specs.ListLaws.{both_takes, both_again, depending_takes, depending_again, checked_takes, checked_again, seen_takes, seen_again, counted_takes, counted_again, optional_takes, optional_again, alternative_takes, alternative_again, headed_takes, headed_again}
 
 pub record Format (A : Type 0) : Type 1 where
   pub spelling : A → List ℕ
@@ -63,6 +63,24 @@ both F G = record {
   keeps = both_keeps F.Fits F.refusal G.Fits G.refusal F.keeps G.keeps;
   ends = both_ends F.spelling F.Fits F.reading G.reading F.takes F.ends G.ends;
 }
+
+-- one field, and then another, whose format depends on the first
+abbrev pub depending : {A B : Type 0} → Format A → (A → Format B) → Format (A × B)
+depending {A} {B} F G =
+    let spelling : A → B → List ℕ = λ x. (G x).spelling in
+    let Fits : A → B → Type 0 = λ x. (G x).Fits in
+    let reading : A → List ℕ → Result (B × List ℕ) Flaw = λ x. (G x).reading in
+    let refusal : A → B → Option Unkept = λ x. (G x).refusal in
+    record {
+      spelling = depending_spelling F.spelling spelling;
+      Fits = DependingFit F.Fits Fits;
+      reading = depending_at F.reading reading;
+      refusal = depending_refusal F.refusal refusal;
+      takes = depending_takes F.spelling F.Fits F.reading spelling Fits reading F.takes (λ x. (G x).takes);
+      again = depending_again F.spelling F.Fits F.reading spelling Fits reading F.again (λ x. (G x).again);
+      keeps = depending_keeps F.Fits F.refusal Fits refusal F.keeps (λ x. (G x).keeps);
+      ends = depending_ends F.spelling F.Fits F.reading reading F.takes F.ends (λ x. (G x).ends);
+    }
 
 -- a field seen otherwise
 abbrev pub seen : {A B : Type 0} (to : A → B) (from : B → A) → ((a : A) → from (to a) ≡ a) → ((b : B) → to (from b) ≡ b) → Format A → Format B

@@ -18,6 +18,8 @@ pub mod Functions
 pub mod Names
 pub mod Chains
 pub mod Tokens
+pub mod Bare
+pub mod Cases
 pub mod Switches
 pub mod ProgramFile
 pub mod Causes

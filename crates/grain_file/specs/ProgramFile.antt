@@ -7,12 +7,12 @@ use Rattle.grain_file.specs.declared.error.Fault.TheVariants.{Magic, Version, Ki
 use Rattle.grain_file.specs.declared.error.Unkept.{Unkept}
 use Rattle.grain_file.specs.declared.error.Unkept.TheVariants.{Residuals}
 use Rattle.grain_file.specs.Reading.{Flaw, ◌>>=◌}
-use Rattle.grain_file.specs.Formats.{Format, any_number, number_below, blob, text, only, both, counted, optional, headed}
+use Rattle.grain_file.specs.Formats.{Format, any_number, number_below, blob, text, only, both, depending, counted, optional, headed}
 use Rattle.grain_file.specs.Functions.{FunctionParts, function_parts, function_format, chunk_format}
 use Rattle.grain_file.specs.Names.{names_format}
 use Rattle.grain_file.specs.Tokens.{TokenParts, AssignOpParts, token_parts, token_format, assign_op_parts, assign_op_format}
 use Rattle.grain_file.specs.Chains.{Place, ChainParts, chain_parts, chain_format, place_refusal}
-use Rattle.grain_file.specs.Switches.{SwitchParts, switch_parts, switch_format}
+use Rattle.grain_file.specs.Switches.{SwitchParts, most_cases, switch_parts, switch_format}
 use Rattle.grain_file.specs.Form.{Form, forms, spelled, value_refusal, FitsWithin}
 use Rattle.grain_file.specs.FormAt.{value_at}
 use Rattle.grain_file.specs.FormLaws.{value_takes, value_again}
@@ -41,8 +41,19 @@ code_format = both (number_below (2 ^ 16)) (both (both any_number any_number) (b
 abbrev pub PoolParts : Type 0
 PoolParts = List (List ℕ) × (List Form × (List TokenParts × (List AssignOpParts × (List ChainParts × List SwitchParts))))
 
-unfoldable pub pools_format : ℕ → Format PoolParts
-pools_format depth = both names_format (both (counted (value_format depth)) (both (counted token_format) (both (counted assign_op_format) (both (counted chain_format) (counted switch_format)))))
+-- What readers bound: how deep values are nested, and how many cases a switch has.
+pub record Bounds : Type 0 where
+  pub depth : ℕ
+  pub cases : ℕ
+
+abbrev pub bounds_of : Limits → Bounds
+bounds_of limits = record { depth = limits.depth; cases = limits.cases }
+
+abbrev pub no_bounds : Bounds
+no_bounds = record { depth = 0; cases = 0 }
+
+unfoldable pub pools_format : Bounds → Format PoolParts
+pools_format bounds = both names_format (depending (counted (value_format bounds.depth)) (λ constants. both (counted token_format) (both (counted assign_op_format) (both (counted chain_format) (counted (switch_format bounds.cases constants))))))
 
 -- ---- all else
 
@@ -71,40 +82,49 @@ abbrev pub kept : Program → Kept
 kept p = (
   (p.caps.0, (halves p.debug_id, (p.code, (p.main, map function_parts p.functions)))),
   (
-    (p.names, (forms p.consts, (map token_parts p.tokens, (map assign_op_parts p.assign_ops, (map chain_parts p.chains, map switch_parts p.switches))))),
+    (p.names, (forms p.consts, (map token_parts p.tokens, (map assign_op_parts p.assign_ops, (map chain_parts p.chains, map (switch_parts p.consts) p.switches))))),
     (p.source, (places_of p, p.residuals)),
   ),
 )
 
-unfoldable pub body_format : ℕ → Format Kept
-body_format depth = both code_format (both (pools_format depth) rest_format)
+unfoldable pub body_format : Bounds → Format Kept
+body_format bounds = both code_format (both (pools_format bounds) rest_format)
 
 -- the version 1, the kind 0, and the program
-unfoldable pub versioned_format : ℕ → Format Kept
-versioned_format depth = headed 1 Version (headed 0 Kind (body_format depth))
+unfoldable pub versioned_format : Bounds → Format Kept
+versioned_format bounds = headed 1 Version (headed 0 Kind (body_format bounds))
 
 -- 00 67 72 6e, which is "grn" after a byte 0, and that
-unfoldable pub file_format : ℕ → Format Kept
-file_format depth = headed 0x00 Magic (headed 0x67 Magic (headed 0x72 Magic (headed 0x6e Magic (versioned_format depth))))
+unfoldable pub file_format : Bounds → Format Kept
+file_format bounds = headed 0x00 Magic (headed 0x67 Magic (headed 0x72 Magic (headed 0x6e Magic (versioned_format bounds))))
 
--- the bytes are a file of what is kept, with values nested so deep at most
-pub record IsFile (depth : ℕ) (bytes : List ℕ) (k : Kept) : Type 0 where
-  pub spelled : bytes ≡ (file_format depth).spelling k
-  pub fits : (file_format depth).Fits k
+-- the bytes are a file of what is kept, within what a reader bounds
+pub record IsFile (bounds : Bounds) (bytes : List ℕ) (k : Kept) : Type 0 where
+  pub spelled : bytes ≡ (file_format bounds).spelling k
+  pub fits : (file_format bounds).Fits k
 
 -- how deep the values are nested among the constants
 abbrev pub nesting_of : Kept → ℕ
 nesting_of k = deepest k.1.0.1.0
 
+-- how many cases the switch has that has most
+abbrev pub cases_of : Kept → ℕ
+cases_of k = most_cases k.1.0.1.1.1.1.1
+
+-- no value is nested deeper, and no switch has more cases
+pub record IsWithin (bounds : Bounds) (k : Kept) : Type 0 where
+  pub nesting : nesting_of k ≤ bounds.depth
+  pub cases : cases_of k ≤ bounds.cases
+
 -- the first reason for which what is kept has no file
 abbrev pub refusal_of : Kept → Option Unkept
-refusal_of k = (file_format 0).refusal k
+refusal_of k = (file_format no_bounds).refusal k
 
 -- it is a file within the limits
 pub record IsFileWithin (limits : Limits) (bytes : List ℕ) (k : Kept) : Type 0 where
   pub short : length bytes ≤ limits.size
-  pub file : IsFile limits.depth bytes k
+  pub file : IsFile (bounds_of limits) bytes k
 
 -- what reading all of the bytes gives
-unfoldable pub whole_at : ℕ → List ℕ → Result (Kept × List ℕ) Flaw
-whole_at depth bytes = (file_format depth).reading bytes >>= λ k. (if length k.1 == 0 then Ok k else Err (Trailing, k.1))
+unfoldable pub whole_at : Bounds → List ℕ → Result (Kept × List ℕ) Flaw
+whole_at bounds bytes = (file_format bounds).reading bytes >>= λ k. (if length k.1 == 0 then Ok k else Err (Trailing, k.1))

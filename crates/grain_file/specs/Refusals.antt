@@ -4,10 +4,13 @@ use Rattle.std.specs.Prelude.{IfSome}
 use Rattle.std.specs.List.{AllByRecursion}
 use Rattle.grain_file.specs.declared.error.Unkept.{Unkept}
 use Rattle.grain_file.specs.Reading.{or_refused, Keeps}
-use Rattle.grain_file.specs.Lists.{BothFit, CountedFit, AlternativeFits}
+use Rattle.grain_file.specs.Lists.{BothFit, DependingFit, CountedFit, AlternativeFits}
 
 abbrev pub both_refusal : {A B : Type 0} → (A → Option Unkept) → (B → Option Unkept) → A × B → Option Unkept
 both_refusal first second p = or_refused (first p.0) (second p.1)
+
+abbrev pub depending_refusal : {A B : Type 0} → (A → Option Unkept) → (A → B → Option Unkept) → A × B → Option Unkept
+depending_refusal first second p = or_refused (first p.0) (second p.0 p.1)
 
 -- the first reason against one of them
 abbrev pub counted_refusal : {A : Type 0} → (A → Option Unkept) → List A → Option Unkept
@@ -25,9 +28,12 @@ alternative_refusal first second (inr y) = second y
 pub all_keeps : {A : Type 0} (Fits : A → Type 0) → Keeps Fits (λ x. None)
 all_keeps Fits x fits = refl
 
+pub depending_keeps : {A B : Type 0} (First : A → Type 0) (first : A → Option Unkept) (Second : A → B → Type 0) (second : A → B → Option Unkept) → Keeps First first → ((x : A) → Keeps (Second x) (second x)) → Keeps (DependingFit First Second) (depending_refusal first second)
+depending_keeps First first Second second keep_first keep_second p fits = rw (keep_first p.0 fits.0) (keep_second p.0 p.1 fits.1)
+
 module _ {A B : Type 0} (First : A → Type 0) (first : A → Option Unkept) (Second : B → Type 0) (second : B → Option Unkept) where
   pub both_keeps : Keeps First first → Keeps Second second → Keeps (BothFit First Second) (both_refusal first second)
-  both_keeps keep_first keep_second p fits = rw (keep_first p.0 fits.0) (keep_second p.1 fits.1)
+  both_keeps keep_first keep_second = depending_keeps First first (λ x. Second) (λ x. second) keep_first (λ x. keep_second)
 
   pub alternative_keeps : Keeps First first → Keeps Second second → Keeps (AlternativeFits First Second) (alternative_refusal first second)
   alternative_keeps keep_first keep_second (inl x) fits = keep_first x fits

@@ -44,7 +44,19 @@ pub enum Fault {
     /// The names have more than 4294967295 bytes.
     #[error("names too long")]
     NamesTooLong,
-    /// The file has a part that this version doesn't read: cases of a switch, or positions.
+    /// The constants of the cases of a switch don't strictly ascend.
+    #[error("cases out of order")]
+    CaseOrder,
+    /// A switch has a case whose constant isn't there.
+    #[error("case without its constant")]
+    NoConstant,
+    /// A switch has more cases than the limit.
+    #[error("too many cases")]
+    TooManyCases,
+    /// Two cases of a switch are of the same value.
+    #[error("cases of the same value")]
+    SameCase,
+    /// The file has a part that this version doesn't read: positions.
     #[error("part not supported by this version")]
     Unsupported,
     /// Bytes follow the last field.
@@ -87,9 +99,9 @@ pub enum Unkept {
     /// [`Program::strip_positions`](grain::Program::strip_positions).
     #[error("positions")]
     Positions,
-    /// A switch with cases. Ranges and the default are kept.
-    #[error("a switch with cases")]
-    Cases,
+    /// A case of a switch whose key isn't the constant that it names, shared marks apart.
+    #[error("a case whose key isn't its constant")]
+    CaseKey,
     /// A constant that holds a value of the host.
     #[error("a value of the host")]
     HostValue,

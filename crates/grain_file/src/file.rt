@@ -7,7 +7,7 @@ ghost use Rattle.grain_file.specs.Functions.{function_parts};
 ghost use Rattle.grain_file.specs.Tokens.{token_parts, assign_op_parts};
 ghost use Rattle.grain_file.specs.Chains.{chain_parts};
 ghost use Rattle.grain_file.specs.Switches.{switch_parts};
-ghost use Rattle.grain_file.specs.ProgramFile.{CodeParts, IsFileWithin, Kept, PoolParts, body_format, code_format, file_format, halves, kept, pools_format, rest_format, versioned_format, whole_at};
+ghost use Rattle.grain_file.specs.ProgramFile.{CodeParts, bounds_of, IsFileWithin, Kept, PoolParts, body_format, code_format, file_format, halves, kept, pools_format, rest_format, versioned_format, whole_at};
 ghost use Rattle.grain_file.specs.Causes.{IsCause, IsFaultOf, code_parts, pool_parts};
 
 use crate::cursor::Cursor;
@@ -16,6 +16,7 @@ use crate::field::Field;
 use crate::lists::put_all;
 use crate::names::{put_names, read_names};
 use crate::number::put_bytes;
+use crate::switches::read_switches;
 use crate::values::{put_values, read_values};
 use grain::{Parts, Program};
 use grain_base::{Caps, Dynamic, Flags, Token};
@@ -34,14 +35,18 @@ pub struct Limits {
     pub size: usize,
     /// How deep values are nested at most. One that holds no other counts 1.
     pub depth: u32,
+    /// How many cases a switch has at most. To read one takes time by its cases, and by the square of their number where the
+    /// values were chosen so that their hashes are the same.
+    pub cases: usize,
 }
 
 impl Default for Limits {
-    /// A file of 64 MiB, and values nested 64 deep.
+    /// A file of 64 MiB, values nested 64 deep, and switches of 4096 cases.
     fn default() -> Limits {
         Limits {
             size: 64 * 1024 * 1024,
             depth: 64,
+            cases: 4096,
         }
     }
 }
@@ -93,15 +98,15 @@ pub fn read(alloc: Global, bytes: &[u8], limits: &Limits) -> Result<Program, Rea
             limit: limits.size,
         });
     }
-    read_whole(alloc, bytes, limits.depth)
+    read_whole(alloc, bytes, limits)
 }
 
-fn read_whole(alloc: Global, bytes: &[u8], depth: u32) -> Result<Program, ReadError>
-    ensures { MatchResult result (λ p. whole_at depth bytes.now ≡ Ok (kept p, []))
-        (IsFaultOf depth bytes.now) }
+fn read_whole(alloc: Global, bytes: &[u8], limits: &Limits) -> Result<Program, ReadError>
+    ensures { MatchResult result (λ p. whole_at (bounds_of limits.now) bytes.now ≡ Ok (kept p, []))
+        (IsFaultOf (bounds_of limits.now) bytes.now) }
 {
     let mut cursor = Cursor::new(alloc, bytes);
-    match read_file(&mut cursor, depth) {
+    match read_file(&mut cursor, limits) {
         Ok(program) => Ok(program),
         Err(Stop::OutOfMemory) => Err(ReadError::OutOfMemory),
         Err(Stop::Fault(fault)) => {
@@ -113,11 +118,11 @@ fn read_whole(alloc: Global, bytes: &[u8], depth: u32) -> Result<Program, ReadEr
 
 /// Reads a whole file, to the end of the bytes.
 #[tactic(auto, unfolding(crate::specs::ProgramFile::whole_at))]
-fn read_file(cursor: &mut Cursor<'_>, depth: u32) -> Result<Program, Stop>
-    ensures gives { Gives kept result cursor.new.left.now (whole_at depth cursor.old.left.now) }
+fn read_file(cursor: &mut Cursor<'_>, limits: &Limits) -> Result<Program, Stop>
+    ensures gives { Gives kept result cursor.new.left.now (whole_at (bounds_of limits.now) cursor.old.left.now) }
     ensures all { OnOk result (cursor.new.left.now ≡ []) }
 {
-    let program = read_headed(cursor, depth)?;
+    let program = read_headed(cursor, limits)?;
     if cursor.left.is_empty() {
         Ok(program)
     } else {
@@ -127,38 +132,38 @@ fn read_file(cursor: &mut Cursor<'_>, depth: u32) -> Result<Program, Stop>
 
 /// Reads what a file begins with, and what follows.
 #[tactic(auto, unfolding(crate::specs::ProgramFile::file_format, crate::specs::Texts::expected_at))]
-fn read_headed(cursor: &mut Cursor<'_>, depth: u32) -> Result<Program, Stop>
+fn read_headed(cursor: &mut Cursor<'_>, limits: &Limits) -> Result<Program, Stop>
     ensures { Gives kept result cursor.new.left.now
-        ((file_format depth).reading cursor.old.left.now) }
+        ((file_format (bounds_of limits.now)).reading cursor.old.left.now) }
 {
     cursor.expect(0x00, Fault::Magic)?;
     cursor.expect(0x67, Fault::Magic)?;
     cursor.expect(0x72, Fault::Magic)?;
     cursor.expect(0x6e, Fault::Magic)?;
-    let program = read_versioned(cursor, depth)?;
+    let program = read_versioned(cursor, limits)?;
     Ok(program)
 }
 
 /// Reads the version, the kind and the program.
 #[tactic(auto, unfolding(crate::specs::ProgramFile::versioned_format, crate::specs::Texts::expected_at))]
-fn read_versioned(cursor: &mut Cursor<'_>, depth: u32) -> Result<Program, Stop>
+fn read_versioned(cursor: &mut Cursor<'_>, limits: &Limits) -> Result<Program, Stop>
     ensures { Gives kept result cursor.new.left.now
-        ((versioned_format depth).reading cursor.old.left.now) }
+        ((versioned_format (bounds_of limits.now)).reading cursor.old.left.now) }
 {
     cursor.expect(1, Fault::Version)?;
     cursor.expect(0, Fault::Kind)?;
-    let program = read_body(cursor, depth)?;
+    let program = read_body(cursor, limits)?;
     Ok(program)
 }
 
 /// Reads the program.
 #[tactic(auto, unfolding(crate::specs::ProgramFile::body_format, crate::specs::ProgramFile::rest_format, crate::specs::Texts::expected_at))]
-fn read_body(cursor: &mut Cursor<'_>, depth: u32) -> Result<Program, Stop>
+fn read_body(cursor: &mut Cursor<'_>, limits: &Limits) -> Result<Program, Stop>
     ensures { Gives kept result cursor.new.left.now
-        ((body_format depth).reading cursor.old.left.now) }
+        ((body_format (bounds_of limits.now)).reading cursor.old.left.now) }
 {
     let code = read_code(cursor)?;
-    let pools = read_pools(cursor, depth)?;
+    let pools = read_pools(cursor, limits)?;
     let source = Option::<String>::read(cursor)?;
     cursor.expect(0, Fault::Unsupported)?;
     let parts = Parts {
@@ -237,16 +242,16 @@ struct PoolFields {
 
 /// Reads the names, constants, operators, op-assignments, chains and switches.
 #[tactic(auto, unfolding(crate::specs::ProgramFile::pools_format))]
-fn read_pools(cursor: &mut Cursor<'_>, depth: u32) -> Result<PoolFields, Stop>
+fn read_pools(cursor: &mut Cursor<'_>, limits: &Limits) -> Result<PoolFields, Stop>
     ensures { Gives pool_parts result cursor.new.left.now
-        ((pools_format depth).reading cursor.old.left.now) }
+        ((pools_format (bounds_of limits.now)).reading cursor.old.left.now) }
 {
     let names = read_names(cursor)?;
-    let consts = read_values(cursor, depth)?;
+    let consts = read_values(cursor, limits.depth)?;
     let tokens = Vec::<Token>::read(cursor)?;
     let assign_ops = Vec::<AssignOp>::read(cursor)?;
     let chains = Vec::<Chain>::read(cursor)?;
-    let switches = Vec::<Switch>::read(cursor)?;
+    let switches = read_switches(cursor, &consts, limits.cases)?;
     Ok(PoolFields {
         names,
         consts,

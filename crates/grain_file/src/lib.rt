@@ -6,7 +6,9 @@
 //! has one file, and a file is of one program.
 #![tactic(auto)]
 
+mod cases;
 mod chains;
+mod copy;
 mod cursor;
 mod error;
 mod field;

@@ -1,13 +1,23 @@
-//! Switches as fields. Those with cases are refused.
-ghost use Rattle.std.specs.Prelude.{◌≡◌, ℕ, [], Some, true, false};
-ghost use Rattle.grain_file.specs.declared.error.Unkept.TheVariants.{Cases};
+//! Switches as fields. Their cases depend on the constants.
+ghost use Rattle.std.specs.Prelude.{◌≡◌, ◌++◌, ℕ, IfOk, OnOk, map};
+ghost use Rattle.grain_pools.specs.Dispatch.{arms, listed};
+ghost use Rattle.grain_file.specs.Cases.{AreInOrder};
+ghost use Rattle.grain_file.specs.Form.{forms};
 ghost use Rattle.grain_file.specs.Formats.{tag_below};
-ghost use Rattle.grain_file.specs.Switches.{RangeParts, SwitchParts, bool_tag, cases_refusal, range_format, range_parts, switch_format, switch_parts};
+ghost use Rattle.grain_file.specs.Lists.{CountedFit, counted_at, counted_spelling};
+ghost use Rattle.grain_file.specs.Reading.{Decides, Gives};
+ghost use Rattle.grain_file.specs.Refusals.{counted_refusal};
+ghost use Rattle.grain_file.specs.Switches.{FitsAlone, RangeParts, bool_tag, range_format, range_parts, switch_format, switch_parts, switch_refusal, switch_spelling};
 
+use crate::cases::{Case, list_in_order, read_cases};
 use crate::cursor::Cursor;
-use crate::error::{Fault, Stop, Unkept, WriteError};
+use crate::error::{Stop, Unkept, WriteError};
 use crate::field::Field;
+use crate::lists::reserve;
+use crate::number::put_number;
+use grain_base::Dynamic;
 use grain_pools::{Switch, SwitchRange};
+use std::alloc::{AllocError, Global};
 
 impl Field for bool {
     ghost View = { ℕ };
@@ -61,43 +71,95 @@ impl Field for SwitchRange {
     }
 }
 
-/// Whether the switch has a case.
-fn has_cases(switch: &Switch) -> bool
-    ensures some { result ≡ true → cases_refusal (switch_parts switch.now).0 ≡ Some Cases }
-    ensures none { result ≡ false → (switch_parts switch.now).0 ≡ [] }
+/// Reads a switch, in which there are so many cases at most.
+fn read_switch(cursor: &mut Cursor<'_>, constants: &[Dynamic], most: usize) -> Result<Switch, Stop>
+    ensures { Gives (switch_parts constants.now) result cursor.new.left.now
+        ((switch_format most (forms constants.now)).reading cursor.old.left.now) }
+{
+    let cases = read_cases(cursor, constants, most)?;
+    let ranges = Vec::<SwitchRange>::read(cursor)?;
+    let default = u32::read(cursor)?;
+    Ok(Switch {
+        cases,
+        ranges,
+        default,
+    })
+}
+
+/// Reads how many switches there are, and each.
+pub(crate) fn read_switches(
+    cursor: &mut Cursor<'_>,
+    constants: &[Dynamic],
+    most: usize,
+) -> Result<Vec<Switch>, Stop>
+    ensures { Gives (λ v. map (switch_parts constants.now) v.items) result cursor.new.left.now
+        (counted_at (switch_format most (forms constants.now)).reading cursor.old.left.now) }
+{
+    let count = cursor.number()?;
+    let mut switches = Vec::with_capacity(cursor.alloc, reserve(count, cursor.left.len()))?;
+    'switches: for _ in 0..count {
+        let switch = read_switch(cursor, constants, most)?;
+        switches.push(switch)?;
+    }
+    Ok(switches)
+}
+
+/// The cases of a switch in the order of their constants.
+fn cases_in_order(
+    alloc: Global,
+    switch: &Switch,
+    constants: &[Dynamic],
+) -> Result<Option<Vec<Case>>, AllocError>
+    ensures { IfOk result (AreInOrder constants.now (listed (arms switch.now).cases)) }
 {
     match &switch.cases {
-        None => false,
-        Some(cases) => !cases.is_empty(),
+        None => Ok(Some(Vec::new(alloc))),
+        Some(cases) => list_in_order(alloc, cases, constants),
     }
 }
 
-impl Field for Switch {
-    ghost View = { SwitchParts };
+/// Appends a switch.
+///
+/// # Errors
+/// `Unkept` where the key of a case isn't its constant.
+fn put_switch(
+    alloc: Global,
+    out: &mut Vec<u8>,
+    switch: &Switch,
+    constants: &[Dynamic],
+) -> Result<(), WriteError>
+    ensures spelled { OnOk result (out.new.items
+        ≡ out.old.items ++ switch_spelling (switch_parts constants.now switch.now)) }
+    ensures fits { OnOk result
+        (FitsAlone (forms constants.now) (switch_parts constants.now switch.now)) }
+    ensures decides { Decides result (switch_refusal (switch_parts constants.now switch.now)) }
+{
+    let Some(cases) = cases_in_order(alloc, switch, constants)? else {
+        return Err(WriteError::Unkept(Unkept::CaseKey));
+    };
+    cases.write(out)?;
+    switch.ranges.write(out)?;
+    switch.default.write(out)?;
+    Ok(())
+}
 
-    ghost view = { switch_parts };
-
-    ghost format = { switch_format };
-
-    #[tactic(auto, unfolding(crate::specs::Texts::expected_at))]
-    fn read(cursor: &mut Cursor<'_>) -> Result<Switch, Stop> {
-        cursor.expect(0, Fault::Unsupported)?;
-        let ranges = Vec::<SwitchRange>::read(cursor)?;
-        let default = u32::read(cursor)?;
-        Ok(Switch {
-            cases: None,
-            ranges,
-            default,
-        })
+/// Appends how many switches there are, and each.
+pub(crate) fn put_switches(
+    alloc: Global,
+    out: &mut Vec<u8>,
+    switches: &[Switch],
+    constants: &[Dynamic],
+) -> Result<(), WriteError>
+    ensures spelled { OnOk result (out.new.items ≡ out.old.items
+        ++ counted_spelling switch_spelling (map (switch_parts constants.now) switches.now)) }
+    ensures fits { OnOk result (CountedFit (FitsAlone (forms constants.now))
+        (map (switch_parts constants.now) switches.now)) }
+    ensures decides { Decides result
+        (counted_refusal switch_refusal (map (switch_parts constants.now) switches.now)) }
+{
+    put_number(out, switches.len() as u64)?;
+    for switch in switches {
+        put_switch(alloc, out, switch, constants)?;
     }
-
-    fn write(&self, out: &mut Vec<u8>) -> Result<(), WriteError> {
-        if has_cases(self) {
-            return Err(WriteError::Unkept(Unkept::Cases));
-        }
-        out.push(0)?;
-        self.ranges.write(out)?;
-        self.default.write(out)?;
-        Ok(())
-    }
+    Ok(())
 }

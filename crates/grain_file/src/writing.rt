@@ -1,35 +1,35 @@
 //! Writing a program as a file.
-ghost use Rattle.std.specs.Prelude.{◌≡◌, ◌≤◌, ◌++◌, ◌/◌, ◌%◌, ◌^◌, ℕ, List, Option, IfOk, IfErr, OnOk, option_map};
+ghost use Rattle.std.specs.Prelude.{◌≡◌, ◌++◌, ◌/◌, ◌%◌, ◌^◌, ℕ, List, Option, IfOk, IfErr, OnOk, option_map};
 ghost use Rattle.grain_file.specs.Reading.{Decides};
 ghost use Rattle.grain_file.specs.Formats.{optional, text};
-ghost use Rattle.grain_file.specs.Form.{forms};
-ghost use Rattle.grain_file.specs.FormSound.{deepest};
-ghost use Rattle.grain_file.specs.ProgramFile.{IsFile, code_format, file_format, kept, nesting_of, pools_format, refusal_of, rest_format};
+ghost use Rattle.grain_file.specs.ProgramFile.{Bounds, IsFile, IsWithin, code_format, file_format, kept, no_bounds, pools_format, refusal_of, rest_format};
 
 use crate::error::{Unkept, WriteError};
 use crate::field::Field;
 use crate::lists::put_all;
 use crate::names::put_names;
 use crate::number::put_bytes;
+use crate::switches::put_switches;
 use crate::values::put_values;
 use grain::Program;
 use grain_base::Flags;
 use std::alloc::{AllocError, Global};
 
-/// The file of a program (docs/FORMAT.md, "Program files"). It goes over the program once.
+/// The file of a program (docs/FORMAT.md, "Program files"). It goes over the program once, and sorts the cases of switches.
 ///
 /// # Errors
 /// `Unkept` with the first thing that no file keeps, in the order of the file: a value of the host among the constants, a
-/// position in a chain, a case of a switch, positions of the code, and fragments of syntax. `OutOfMemory` where a growth was
+/// position in a chain, a case whose key is not its constant, positions of the code, and fragments of syntax. `OutOfMemory` where a growth was
 /// refused.
 pub fn write(alloc: Global, program: &Program) -> Result<Vec<u8>, WriteError>
-    // What is written is a file of the program, for readers that let values nest as deep as they do in it.
-    ensures file { IfOk result (λ v. (depth : ℕ) → nesting_of (kept program.now) ≤ depth
-        → IsFile depth v.items (kept program.now)) }
+    // What is written is a file of the program, for readers whose limits let values nest as deep as they do in it, and switches
+    // have as many cases.
+    ensures file { IfOk result (λ v. (bounds : Bounds) → IsWithin bounds (kept program.now)
+        → IsFile bounds v.items (kept program.now)) }
     // Unless memory runs out, it is written exactly where there is no reason against it; otherwise the first reason is named.
     ensures decides { Decides result (refusal_of (kept program.now)) }
     // A program that has a file is written, memory apart.
-    ensures accepts { (depth : ℕ) (bytes : List ℕ) → IsFile depth bytes (kept program.now)
+    ensures accepts { (bounds : Bounds) (bytes : List ℕ) → IsFile bounds bytes (kept program.now)
         → IfErr result (λ e. e ≡ WriteError.OutOfMemory) }
 {
     write_whole(alloc, program)
@@ -37,16 +37,16 @@ pub fn write(alloc: Global, program: &Program) -> Result<Vec<u8>, WriteError>
 
 #[tactic(auto, unfolding(crate::specs::ProgramFile::file_format, crate::specs::ProgramFile::versioned_format, crate::specs::ProgramFile::body_format))]
 fn write_whole(alloc: Global, program: &Program) -> Result<Vec<u8>, WriteError>
-    ensures spelled { IfOk result (λ v. (depth : ℕ)
-        → v.items ≡ (file_format depth).spelling (kept program.now)) }
-    ensures fits { OnOk result ((depth : ℕ) → nesting_of (kept program.now) ≤ depth
-        → (file_format depth).Fits (kept program.now)) }
+    ensures spelled { IfOk result (λ v. (bounds : Bounds)
+        → v.items ≡ (file_format bounds).spelling (kept program.now)) }
+    ensures fits { OnOk result ((bounds : Bounds) → IsWithin bounds (kept program.now)
+        → (file_format bounds).Fits (kept program.now)) }
     ensures decides { Decides result (refusal_of (kept program.now)) }
 {
     let mut out = Vec::new(alloc);
     out.extend_from_slice(b"\x00grn\x01\x00")?;
     put_code(&mut out, program)?;
-    put_pools(&mut out, program)?;
+    put_pools(alloc, &mut out, program)?;
     put_rest(&mut out, program)?;
     Ok(out)
 }
@@ -82,19 +82,19 @@ fn high_half(id: u128) -> u64
 
 /// Appends the names, constants, operators, op-assignments, chains and switches.
 #[tactic(auto, unfolding(crate::specs::ProgramFile::pools_format))]
-fn put_pools(out: &mut Vec<u8>, program: &Program) -> Result<(), WriteError>
-    ensures spelled { OnOk result ((depth : ℕ) → out.new.items
-        ≡ out.old.items ++ (pools_format depth).spelling (kept program.now).1.0) }
-    ensures fits { OnOk result ((depth : ℕ) → deepest (forms program.now.consts) ≤ depth
-        → (pools_format depth).Fits (kept program.now).1.0) }
-    ensures decides { Decides result ((pools_format 0).refusal (kept program.now).1.0) }
+fn put_pools(alloc: Global, out: &mut Vec<u8>, program: &Program) -> Result<(), WriteError>
+    ensures spelled { OnOk result ((bounds : Bounds) → out.new.items
+        ≡ out.old.items ++ (pools_format bounds).spelling (kept program.now).1.0) }
+    ensures fits { OnOk result ((bounds : Bounds) → IsWithin bounds (kept program.now)
+        → (pools_format bounds).Fits (kept program.now).1.0) }
+    ensures decides { Decides result ((pools_format no_bounds).refusal (kept program.now).1.0) }
 {
     put_names(out, program.names())?;
     put_values(out, program.consts())?;
     put_all(out, program.tokens())?;
     put_all(out, program.assign_ops())?;
     put_all(out, program.chains())?;
-    put_all(out, program.switches())?;
+    put_switches(alloc, out, program.switches(), program.consts())?;
     Ok(())
 }
 

@@ -32,10 +32,12 @@ fn of_chain_position(alloc: Global) -> Result<Option<WriteError>, Fail> {
     refusal(alloc, parts)
 }
 
-fn of_case(alloc: Global) -> Result<Option<WriteError>, Fail> {
+// A case of this value, of which constant 0, which is unit, is said to be the value.
+fn of_case(alloc: Global, value: Dynamic) -> Result<Option<WriteError>, Fail> {
     let mut cases = HashMap::new(alloc);
-    cases.insert(Dynamic::Unit, (0, 0))?;
+    cases.insert(value, (0, 0))?;
     let mut parts = parts(alloc)?;
+    parts.consts.push(Dynamic::Unit)?;
     parts.switches.push(Switch {
         cases: Some(cases),
         ranges: Vec::new(alloc),
@@ -66,8 +68,10 @@ fn what_no_file_keeps_is_named(rt: HostRuntime) {
     assert_same(&rt, host, unkept(Unkept::HostValue));
     let chain = made(&rt, of_chain_position(rt.alloc()));
     assert_same(&rt, chain, unkept(Unkept::Positions));
-    let case = made(&rt, of_case(rt.alloc()));
-    assert_same(&rt, case, unkept(Unkept::Cases));
+    let case = made(&rt, of_case(rt.alloc(), Dynamic::Bool(true)));
+    assert_same(&rt, case, unkept(Unkept::CaseKey));
+    let keyed = made(&rt, of_case(rt.alloc(), Dynamic::Unit));
+    assert_same(&rt, keyed, None);
     let positions = made(&rt, of_positions(rt.alloc()));
     assert_same(&rt, positions, unkept(Unkept::Positions));
     let residuals = made(&rt, of_residuals(rt.alloc()));

@@ -7,8 +7,8 @@ use Rattle.grain_file.proofs.Whole.{pools_fit}
 use Rattle.grain_file.proofs.writing.put_pools.Goals as goal
 
 pub returns-clause-fits : goal.returns-clause-fits
-returns-clause-fits c =
+returns-clause-fits c bounds within =
     let p = c.args.program.now in
-    pools_fit p.names (forms p.consts) (map token_parts p.tokens) (map assign_op_parts p.assign_ops) (map chain_parts p.chains) (map switch_parts p.switches)
+    pools_fit p.names (forms p.consts) (map token_parts p.tokens) (map assign_op_parts p.assign_ops) (map chain_parts p.chains) (map (switch_parts p.consts) p.switches)
     (rw c.names.ensures at c.in_ok-put_names.ensures.fits) (rw c.consts.ensures at c.in_ok-put_values.ensures.sound) (rw c.tokens.ensures at c.in_ok-put_all.ensures.fits)
-    (rw c.assign_ops.ensures at c.in_ok-put_all-2.ensures.fits) (rw c.chains.ensures at c.in_ok-put_all-3.ensures.fits) (rw c.switches.ensures at c.in_ok-put_all-4.ensures.fits)
+    (rw c.assign_ops.ensures at c.in_ok-put_all-2.ensures.fits) (rw c.chains.ensures at c.in_ok-put_all-3.ensures.fits) (rw (c.switches.ensures, c.consts-2.ensures) at c.in_ok-put_switches.ensures.fits) bounds within.nesting within.cases
