@@ -1,7 +1,7 @@
 //! Instructions as values.
 //!
 //! A jump target is the index of an operation before assembling, and an address in bytes once the code is assembled.
-//! A name, a constant and the like is an index into the pool of the program that holds such things.
+//! A name, a constant or a similar thing is an index into the pool of the program that holds such things.
 
 /// Where a call that passes a variable by reference finds that variable.
 #[derive(Clone, Copy, Debug, PartialEq, Eq)]

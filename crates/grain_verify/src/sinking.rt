@@ -1,4 +1,4 @@
-//! Whether an instruction sinks below what stood when the last handler was armed.
+//! Whether an instruction sinks below what was there when the last handler was armed.
 ghost use Rattle.std.specs.Prelude.{◌≡◌, ◌-◌, ◌≤◌, ◌∷◌, ◌⊎◌, false, IfErr, OnOk};
 ghost use Rattle.grain_code.specs.InstructionTable.{Instr, form};
 ghost use Rattle.grain_code.specs.declared.op.Op.{Op};
@@ -18,7 +18,7 @@ use crate::state::{Arrival, State};
 use grain_code::{Instruction, tag_row};
 use grain_rules::{Effect, VerifyError};
 
-/// Whether the instruction is quiet, or else leaves what stood when the last handler was armed. Where it faults, that handler's
+/// Whether the instruction is quiet, or else leaves what was there when the last handler was armed. Where it faults, that handler's
 /// code runs on what it left, and would find fewer operands or iterators than were tested there.
 ///
 /// # Errors
@@ -63,7 +63,7 @@ pub(crate) fn check_stays(
     check_sinking(instruction.tag, at, left, lists.last_base(state.list))
 }
 
-/// Whether the instruction at an address, by its tag, is quiet, or else leaves what stood when the last handler was armed.
+/// Whether the instruction at an address, by its tag, is quiet, or else leaves what was there when the last handler was armed.
 ///
 /// `left` is what it leaves as it was: the operands without those that it takes, and the iterators without the one that
 /// it needs.
@@ -94,7 +94,7 @@ fn check_sinking(tag: u8, at: u32, left: Base, last: Base) -> Result<(), VerifyE
 }
 
 /// Whether instructions with this tag are quiet: those eight (docs/FORMAT.md, "Verification") at which a machine has to fault
-/// never, or only with at least what stood when the last handler was armed. Of a byte with which no instruction begins
+/// never, or only with at least what was there when the last handler was armed. Of a byte with which no instruction begins
 /// nothing is said.
 #[inline(always)]
 #[must_use]

@@ -241,7 +241,7 @@ fn verify_chunks<P: Read>(
 ///
 /// What is accepted may be run in place on stacks of as many operands: no run lacks an operand, an iterator or a handler,
 /// or leaves the starts of the chunk's instructions. The promise and the numbers are those of *kept* runs, in which a
-/// fault that a handler catches finds at least what stood when the handler was armed. So a machine has to step as
+/// fault that a handler catches finds at least what was there when the handler was armed. So a machine has to step as
 /// docs/FORMAT.md says ("Verification"), and at the eight quiet instructions (`Unit`, `Bool`, `Pop`, `Rotate`,
 /// `PopHandler`, `IterDrop`, `UnwindTo`, `Return`) it has to fault never, or only with at least that much left; at all
 /// others accepted code sees to it.
