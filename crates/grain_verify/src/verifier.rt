@@ -195,7 +195,11 @@ fn starts_of(room: Starts, is_known: bool, code: &[u8]) -> Result<Starts, AllocE
     ensures { (starts : List ℕ) → Split code.now starts
         → IfOk result (λ s. s.starts ≡ starts) }
 {
-    if is_known { Ok(room) } else { room.refill(code) }
+    if is_known {
+        Ok(room)
+    } else {
+        room.refill(code)
+    }
 }
 
 /// The deepest operand stack of each chunk of code that is whole instructions, or why the first is refused that is.

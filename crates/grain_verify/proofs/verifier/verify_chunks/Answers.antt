@@ -15,16 +15,16 @@ pub returns-in_err-walked-clause-metered : goal.returns-in_err-walked-clause-met
 returns-in_err-walked-clause-metered g c =
     let p = err_from_is_err_and c.from_residual-in_err-walked.result c.from_residual-in_err-walked.ensures.1 in
     rw (← c.candidate.view_is) (λ starts split.
-      let same = c.in_ok-starts.ensures starts split in
-      let m = rw c.new-prepared.ensures at c.in_err-walked.ensures.metered in
-      rw (p.1, p.2, ← same) (record { visits = m.visits; within = m.within; counted = m.counted; reached = tt }))
+    let same = c.in_ok-starts.ensures starts split in
+    let m = rw c.new-prepared.ensures at c.in_err-walked.ensures.metered in
+    rw (p.1, p.2, ← same) (record { visits = m.visits; within = m.within; counted = m.counted; reached = tt }))
 
 pub returns-clause-metered : goal.returns-clause-metered
 returns-clause-metered g c =
     rw (← c.candidate.view_is) (λ starts split.
-      let same = c.in_ok-starts.ensures starts split in
-      let m = rw c.new-prepared.ensures at c.in_ok-walked.ensures.metered in
-      rw (← same) (record { visits = m.visits; within = m.within; counted = m.counted; reached = m.reached }))
+    let same = c.in_ok-starts.ensures starts split in
+    let m = rw c.new-prepared.ensures at c.in_ok-walked.ensures.metered in
+    rw (← same) (record { visits = m.visits; within = m.within; counted = m.counted; reached = m.reached }))
 
 pub returns-in_err-walked-clause-accepts : goal.returns-in_err-walked-clause-accepts
 returns-in_err-walked-clause-accepts g c =
