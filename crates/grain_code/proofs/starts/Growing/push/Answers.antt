@@ -1,5 +1,5 @@
-use Rattle.std.proofs.Common.{◌<◌, ◌+◌, ◌/◌, ◌∷◌, ◌++◌, [], ℕ, List, refl, sym, subst, arith}
-use Rattle.grain_code.specs.Starts.{Filling, Growth, all_bits, set_below}
+use Rattle.std.proofs.Common.{◌<◌, ◌+◌, ◌/◌, ℕ, List, refl, sym, subst, arith}
+use Rattle.grain_code.specs.Starts.{Filling, Growth}
 use Rattle.grain_code.proofs.Filling.{grown_start}
 use Rattle.grain_code.proofs.starts.Growing.push.Goals as goal
 
