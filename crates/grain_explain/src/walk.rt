@@ -365,8 +365,7 @@ impl<P: Read> Scene<'_, P> {
         ensures waits { OnOk result (All (Comes (seen P.facts P.leads self.now)
             departure.now.visited) work.new.items) }
         ensures keeps { OnOk result (Keeps work.old.items work.new.items) }
-        ensures sent { IfOk result (λ r. IfNone r (Contains work.new.items (fallen departure.now)))
-            }
+        ensures sent { IfOk result (λ r. IfNone r (Contains work.new.items (fallen departure.now))) }
         ensures refusal { IfOk result (λ r. IfSome r (IsFound (seen P.facts P.leads self.now)
             departure.now.visited.bases.now departure.now.visited.slots.now)) }
     {

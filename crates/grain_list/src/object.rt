@@ -258,9 +258,7 @@ fn write_problem(alloc: Global, body: &Body, json: &mut Writer) -> Result<(), Al
             let said = format!(in alloc; "{problem}")?;
             write_words("problem", said.as_str(), json)
         }
-        Body::Site | Body::Code(_) | Body::Program(_) => {
-            write_null("problem", json)
-        }
+        Body::Site | Body::Code(_) | Body::Program(_) => { write_null("problem", json) }
     }
 }
 
