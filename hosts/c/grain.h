@@ -93,8 +93,7 @@ typedef enum grain_status {
     GRAIN_TOO_MUCH_WORK = 5, /* the chunks span more of the code than the limit allows */
     GRAIN_NO_CHUNK = 6,      /* the program has no chunk with this index */
     GRAIN_BAD_CODE = 7,      /* nothing is explained: the code isn't whole instructions whose indices are in bounds */
-    GRAIN_UNFINISHED = 8,    /* nothing is explained, though the code is good: no test has met this, no proof excludes it */
-    GRAIN_STOPPED = 9        /* the caller's function asked to stop */
+    GRAIN_STOPPED = 8        /* the caller's function asked to stop */
 } grain_status;
 
 /* Why a program is refused. Next to each flaw is what `first` and `second` of its grain_refusal are; others are 0. */
@@ -323,7 +322,7 @@ typedef struct grain_row {
     uint32_t at;        /* the address of the instruction */
     uint32_t operands;  /* how many there are */
     uint32_t iterators; /* how many there are */
-    uint32_t from;      /* an address from which an edge leads here, or GRAIN_NO_ADDRESS: at the entry, and on a path */
+    uint32_t from;      /* an address from which an edge leads here, or GRAIN_NO_ADDRESS: at the entry alone, and on a path */
     uint32_t base;      /* the base of the last armed handler, an index into the bases, or GRAIN_NO_BASE */
 } grain_row;
 
@@ -355,7 +354,8 @@ typedef struct grain_pools_flaw {
  *
  * GRAIN_ACCEPTED: the depth of each chunk is written, which is the greatest number of operands that any run of it reaches.
  * GRAIN_REFUSED: report->refusal is written. In both cases report->visited is written: how many instructions the walks
- * visited, counted for each chunk apart. All other results leave everything as it was, as all do the rest of `depths`.
+ * visited, counted for each chunk apart; for a refused program it is proved to be no more than that. All other results leave
+ * everything as it was, as all do the rest of `depths`.
  *
  * No run of an accepted program leaves the instructions of its chunk, lacks an operand, an iterator or a handler, or has
  * more operands than the chunk's depth. This is true of kept runs: where a handler catches a fault, the stacks still have
@@ -363,10 +363,11 @@ typedef struct grain_pools_flaw {
  * ones (grain_is_quiet). So the machine must step as FORMAT.md says ("Verification"); and at a quiet instruction it must
  * never fault, or only where that much is left.
  *
- * `scratch` keeps memory from one program to the next; NULL: memory for this call alone. The result is the same whatever
- * the scratch was used for before. `limit` bounds the work: GRAIN_TOO_MUCH_WORK where the chunks span more bytes of the code
- * than this, each chunk counted for itself, so that `visited` never exceeds it. Chunks of one program usually don't
- * overlap: the length of the code is then enough. `report` may be NULL.
+ * `scratch` keeps memory from one program to the next; NULL: memory for this call alone. The result is right whatever
+ * the scratch was used for before; which of several flaws is named, and when memory runs out, may differ. `limit` bounds
+ * the work: GRAIN_TOO_MUCH_WORK where the chunks span more bytes of the code than this, each chunk counted for itself, so
+ * that `visited` never exceeds it. Chunks of one program usually don't overlap: the length of the code is then enough.
+ * `report` may be NULL.
  *
  * Tested in this order: the pools are flat, `depths` has a place for each chunk, the limit, then the program. */
 GRAIN_NODISCARD grain_status grain_verify(grain_scratch *scratch, uint16_t caps, uint64_t limit, const grain_program *program,
@@ -385,10 +386,11 @@ bool grain_check_pools(const grain_pools *pools, grain_pools_flaw *flaw);
 
 /* Explains a chunk of a program, the one with this index. Constants and functions aren't tested.
  *
- * GRAIN_ACCEPTED: the chunk passes. The rows are a stack typing of it, one for each reached instruction, in the order of
- * addresses. GRAIN_REFUSED: explanation->refusal is written. Each row is reached, in no promised order. The path leads to
- * the flaw. There is no path where the chunk is empty, isn't in the code, or begins or ends inside an instruction. In both
- * cases rows, path and other path are written one after another, as many as there is room for, and so are the bases;
+ * GRAIN_ACCEPTED: the chunk passes. The rows are a stack typing of it, one for each reached instruction.
+ * GRAIN_REFUSED: explanation->refusal is written. The path leads to the flaw, and each of its states has a row; which other
+ * rows there are is left open. There is no path where the chunk is empty, isn't in the code, or begins or ends inside an
+ * instruction. In both cases the rows are in the order of addresses, one for each at most, and each is reached. In both cases
+ * rows, path and other path are written one after another, as many as there is room for, and so are the bases;
  * explanation->rows, path, other and bases say how many there are. All other results leave everything as it was.
  *
  * At most (end - entry) rows of each kind and as many bases are written. Time and memory grow with the instructions

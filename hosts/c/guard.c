@@ -245,7 +245,7 @@ static void explain(uint16_t caps, const grain_program *program, size_t chunk, g
     CHECK(is_filled(pages.more.page, PAGE - bases_len * sizeof *bases, 0xa5));
     CHECK(grain_listing(caps, program, chunk, take, &listed) == explained);
     CHECK((listed != 0) == (explained == GRAIN_ACCEPTED || explained == GRAIN_REFUSED || explained == GRAIN_BAD_CODE));
-    CHECK((status == GRAIN_NOT_FLAT) == (explained == GRAIN_NOT_FLAT) && explained != GRAIN_UNFINISHED);
+    CHECK((status == GRAIN_NOT_FLAT) == (explained == GRAIN_NOT_FLAT));
     if (status == GRAIN_ACCEPTED)
         CHECK(explained == GRAIN_ACCEPTED);
     if (status == GRAIN_REFUSED && report->refusal.chunk == chunk)

@@ -309,8 +309,8 @@ static grain_status write_listing(listing *l, uint16_t caps, size_t chunk) {
     grain_status status = grain_explain(caps, l->program, chunk, l->rows, 3 * l->room, l->bases, l->room, &l->found);
     if (status != GRAIN_ACCEPTED && status != GRAIN_REFUSED && status != GRAIN_BAD_CODE)
         return status;
-    if (!is_complete(l))
-        return GRAIN_UNFINISHED;
+    if (!is_complete(l)) /* each list has an entry for each instruction at most, so there is room */
+        return GRAIN_OUT_OF_MEMORY;
     grain_status of_program = write_program(l, caps);
     if (of_program != GRAIN_ACCEPTED && of_program != GRAIN_REFUSED)
         return of_program;

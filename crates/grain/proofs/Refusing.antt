@@ -1,9 +1,12 @@
 -- What a refusal says of the tests before the chunks.
-use Rattle.std.proofs.Common.{◌≡◌, ◌≢◌, ℕ, [], Option, None, Some, Ok, Err, inl, inr, subst, Vec}
+use Rattle.std.proofs.Common.{◌≡◌, ◌≢◌, ℕ, [], Option, None, Some, Ok, Err, inl, inr, refl, subst, Vec}
 use Rattle.std.specs.List.{AllZip}
 use Rattle.std.specs.declared.alloc.Global.{Global}
 use Rattle.grain_explain.specs.declared.refusal.ExplainedChunk.{ExplainedChunk}
 use Rattle.grain_explain.specs.Explaining.{IsExact, IsExplained}
+use Rattle.grain_explain.specs.declared.refusal.ExplainError.{ExplainError}
+use Rattle.grain_explain.specs.declared.refusal.ExplainError.TheVariants.{BadCode}
+use Rattle.grain_explain.specs.declared.refusal.ExplainError.TheVariants as explain
 use Rattle.grain_rules.specs.Accepted.{Input, IsAccepted}
 use Rattle.grain_rules.specs.Flaw.{Flaw, FlawAt, IsFlawOfChunks, of_chunk, of_code, of_constant, of_functions}
 use Rattle.grain_rules.specs.Verdict.{IsVerdict, ReachesChunks}
@@ -38,7 +41,14 @@ none_explained i r chunks at known verdict (inr flaw) empty =
 no_place : (o : Option ℕ) (p : ℕ) → o ≡ None → o ≡ Some p → ⊥
 no_place o p none some = cc
 
--- where it has one, each is
+-- where it has one, the tests before the chunks pass
+pub placed_reaches : (i : Input) (r : Refusal) (p : ℕ) → r.place ≡ Some p → IsPlacedRefusal i r → ReachesChunks i
+placed_reaches i r p at (inl wants) = absurd (no_place r.place p wants.place at)
+placed_reaches i r p at (inr flaw) =
+    let there : FlawAt i (Some p) r.error = subst (λ p. FlawAt i p r.error) at flaw in
+    let f = there.0 in record { constants = f.constants; code = f.code; functions = f.functions }
+
+-- and each chunk is explained
 pub placed_explained : (i : Input) (r : Refusal) (p : ℕ) (chunks : Vec ExplainedChunk Global) → r.place ≡ Some p → IsVerdict i (Err r.error) → IsPlacedRefusal i r
     → AllZip (IsExplained i.code) i.chunks chunks.items → AllZip (IsExact i.code) i.chunks chunks.items
     → IsExplanation i (record { verdict = Err r; chunks = chunks })
@@ -65,3 +75,8 @@ accepted_explained i numbers chunks verdict explained exact =
       exact = λ _. exact;
       none = λ never. absurd (never (record { constants = a.constants; code = a.code; functions = a.functions }));
     }
+
+-- what isn't bad code is out of memory
+pub only_memory : (e : ExplainError) → (e ≡ BadCode → ⊥) → e ≡ explain.OutOfMemory
+only_memory BadCode none = absurd (none refl)
+only_memory explain.OutOfMemory none = refl

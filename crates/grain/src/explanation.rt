@@ -1,6 +1,7 @@
 //! The verdict on a program, with each chunk explained.
-ghost use Rattle.std.specs.Prelude.{IfOk};
+ghost use Rattle.std.specs.Prelude.{◌≡◌, IfErr, IfOk};
 ghost use Rattle.grain_rules.specs.Accepted.{input_beside};
+ghost use Rattle.grain_rules.specs.Verdict.{ReachesChunks};
 ghost use Rattle.grain.specs.Explanations.{IsExplanation};
 
 use grain_base::{Caps, Dynamic};
@@ -28,8 +29,8 @@ pub struct Explained {
 /// both, and memory as [`explain_chunks`] does.
 ///
 /// # Errors
-/// `OutOfMemory` where memory was refused; `Unfinished` as [`explain_chunks`] says.
-#[tactic(auto, using(crate::proofs::Refusing::placed_explained, crate::proofs::Refusing::accepted_explained))]
+/// `OutOfMemory` where an allocation failed, and no other: code that is bad is refused by the verdict, without an explained chunk.
+#[tactic(auto, using(crate::proofs::Refusing::placed_explained, crate::proofs::Refusing::accepted_explained, crate::proofs::Refusing::placed_reaches))]
 pub fn explain<'a, P: Read>(
     alloc: Global,
     caps: Caps,
@@ -41,6 +42,9 @@ pub fn explain<'a, P: Read>(
 ) -> Result<Explained, ExplainError>
     ensures explained { IfOk result (IsExplanation (input_beside caps.0 consts.now code.now
         functions.now chunks.now (P.facts pools.now) (P.leads pools.now))) }
+    ensures memory { IfErr result (λ e. (e ≡ ExplainError.OutOfMemory)
+        × ReachesChunks (input_beside caps.0 consts.now code.now functions.now chunks.now
+        (P.facts pools.now) (P.leads pools.now))) }
 {
     let mut meter = Meter::new();
     let candidate = Candidate::new(caps, consts, code, functions, chunks, pools);

@@ -9,7 +9,6 @@ ghost use Rattle.grain_flat.specs.Flat.{Pooled};
 
 use crate::status::{
     ACCEPTED, BAD_CODE, NO_CHUNK, NOT_FLAT, OUT_OF_MEMORY, REFUSED, SHORT, TOO_MUCH_WORK,
-    UNFINISHED,
 };
 use grain_base::{Caps, Flags};
 use grain_explain::{ExplainError, ExplainedChunk};
@@ -83,9 +82,7 @@ pub extern "C" fn grain_proved_explain(
         ↔ (Pooled program.now.pools × (length program.now.chunks.now ≤ chunk)) }
     ensures bad_code { result ≡ BAD_CODE → (beside : Beside program.now.pools)
         × (IsIndexedBeside caps program.now.code.now program.now.pools beside → ⊥) }
-    ensures unfinished { result ≡ UNFINISHED → (beside : Beside program.now.pools)
-        × IsIndexedBeside caps program.now.code.now program.now.pools beside }
-    ensures answers { (result ≤ UNFINISHED) × (result ≢ SHORT) × (result ≢ TOO_MUCH_WORK) }
+    ensures answers { (result ≤ BAD_CODE) × (result ≢ SHORT) × (result ≢ TOO_MUCH_WORK) }
 
     // What stays as it was.
     ensures kept { result ≢ ACCEPTED → result ≢ REFUSED → (rows.new ≡ rows.old)
@@ -102,7 +99,6 @@ pub extern "C" fn grain_proved_explain(
         Ok(found) => found,
         Err(ExplainError::OutOfMemory) => return OUT_OF_MEMORY,
         Err(ExplainError::BadCode) => return BAD_CODE,
-        Err(ExplainError::Unfinished) => return UNFINISHED,
     };
     let Ok(made) = rows_of(alloc, &found) else {
         return OUT_OF_MEMORY;

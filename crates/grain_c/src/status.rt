@@ -27,8 +27,5 @@ pub const NO_CHUNK: u32 = 6;
 /// Nothing is explained: the code isn't whole instructions whose indices are in bounds.
 pub const BAD_CODE: u32 = 7;
 
-/// Nothing is explained, though the code is good.
-pub const UNFINISHED: u32 = 8;
-
 /// The caller's function asked to stop. No function here answers this.
-pub const STOPPED: u32 = 9;
+pub const STOPPED: u32 = 8;

@@ -84,7 +84,7 @@ module _ (old new : List LinkedBase) (linked : AreLinked old) (x : Extends old n
     pub held_more : AreCome s new slots
     held_more k a e =
         let h = held k a e in
-        record { come = come_more a h.come; placed = h.placed; earlier = h.earlier; fewer = h.fewer; bounded = h.bounded }
+        record { come = come_more a h.come; placed = h.placed; first = h.first; earlier = h.earlier; fewer = h.fewer; bounded = h.bounded }
 
     pub waits_more : (work : List Arrival) → All (IsCome s old slots) work → All (IsCome s new slots) work
     waits_more work all = All-weaker (IsCome s old slots) (IsCome s new slots) come_more work all

@@ -1,7 +1,8 @@
 -- What is pursued stays so from one turn of a walk to the next.
-use Rattle.std.proofs.Common.{◌≡◌, inl, inr, ℕ, ◌<◌, ◌≤◌, ◌++◌, ◌∷◌, ◌∙◌, [], List, length, get_or, set, true, Option, None, Some, sym, ap, subst}
+use Rattle.std.proofs.Common.{◌≡◌, ◌⊎◌, ◌↔◌, ◌+◌, inl, inr, ℕ, ◌<◌, ◌≤◌, ◌++◌, ◌∷◌, ◌∙◌, [], List, length, get_or, set, true, Option, None, Some, sym, ap, subst, arith}
 use Rattle.std.specs.List.{All, Contains}
 use Rattle.std.proofs.lemmas.List.{get_or-set_same}
+use Rattle.std.proofs.lemmas.Option.{none-some}
 use Rattle.std.proofs.lemmas.List.Elements.{All-contains, Contains-push_cases}
 use Rattle.grain_rules.specs.Code.{coded}
 use Rattle.grain_rules.specs.Counts.{Counts}
@@ -9,7 +10,7 @@ use Rattle.grain_rules.specs.EffectView.{flow_in}
 use Rattle.grain_rules.specs.Effects.{Edge}
 use Rattle.grain_rules.specs.FlowFields.{falls_for, targets_for}
 use Rattle.grain_rules.specs.Typing.{Passes}
-use Rattle.grain_explain.specs.Pursuits.{ArePursued, Holds, IsAhead, IsPursued, Keeps, fallen, sent_to}
+use Rattle.grain_explain.specs.Pursuits.{ArePursued, Holds, IsAhead, IsBegun, IsPursued, Keeps, fallen, sent_to}
 use Rattle.grain_explain.specs.RowView.{AreLinked, counts_of}
 use Rattle.grain_explain.specs.Scenes.{AreCome, Extends, IsCome, IsLeft, Seen}
 use Rattle.grain_explain.specs.Ways.{Stop, arrival_stop}
@@ -19,6 +20,27 @@ use Rattle.grain_explain.specs.declared.walk.Departure.{Departure}
 use Rattle.grain_explain.proofs.Extending.{counts_kept, stop_kept}
 use Rattle.grain_explain.proofs.Matching.{falling_known, jumping_known}
 use Rattle.grain_explain.proofs.Tracing.{stays_set}
+
+-- once something is put in its place the entry was visited
+pub begun_set : (slots : List (Option Arrival)) (j : ℕ) (a : Arrival) → j < length slots → get_or slots j None ≡ None → (j ≡ 0) ⊎ IsBegun slots → IsBegun (set slots j (Some a))
+begun_set slots j a inside free (inl zero) = (a, subst (λ (n : ℕ). get_or (set slots j (Some a)) n None ≡ Some a) zero (get_or-set_same slots j (Some a) None inside))
+begun_set slots j a inside free (inr (b, e)) = (b, stays_set slots j a free 0 b e)
+
+-- a free place isn't that of the entry, once this was visited
+pub not_first : (slots : List (Option Arrival)) (j : ℕ) → get_or slots j None ≡ None → IsBegun slots → j ≡ 0 → ⊥
+not_first slots j free (b, e) zero = none-some b (sym free ∙ subst (λ (n : ℕ). get_or slots n None ≡ Some b) (sym zero) e)
+
+-- and what is to be put there has come from another
+pub comes_from : (s : Seen) (bases : List LinkedBase) (slots : List (Option Arrival)) (a : Arrival) (j : ℕ) → IsCome s bases slots a → a.row.at ≡ s.chunk.entry + j → get_or slots j None ≡ None → IsBegun slots
+    → (a.from ≡ None) ↔ (j ≡ 0)
+comes_from s bases slots a j come placed free begun = (
+  λ from. (
+      let same = rw from at come.origin in
+      let at : a.row.at ≡ s.chunk.entry = ap (λ (x : Stop). x.0) same in
+      omega arith
+      ),
+  λ zero. absurd (not_first slots j free begun zero),
+)
 
 -- an arrival whose state was visited need not wait
 module _ (s : Seen) (bases : List LinkedBase) (slots : List (Option Arrival)) (work : List Arrival) (a b : Arrival) (held : Holds slots b) (same : arrival_stop bases b ≡ arrival_stop bases a) where

@@ -1,5 +1,5 @@
 -- Starts, frames and arrivals.
-use Rattle.std.proofs.Common.{◌≡◌, ◌⊎◌, inl, inr, ℕ, ◌+◌, ◌-◌, ◌<◌, ◌≤◌, List, [], length, get_or, replicate, Option, Some, None, set, zero, suc, true, false, nat_lt, Result, Ok, Err, IfNone, IfOk, OnOk, IfErr}
+use Rattle.std.proofs.Common.{◌≡◌, ◌⊎◌, ◌↔◌, inl, inr, ℕ, ◌+◌, ◌-◌, ◌<◌, ◌≤◌, List, [], length, get_or, replicate, Option, Some, None, set, zero, suc, true, false, nat_lt, Result, Ok, Err, IfNone, IfOk, OnOk, IfErr}
 use Rattle.std.proofs.Common.{refl, sym, ap, subst, ◌∙◌, arith, ◌++◌, ◌∷◌}
 use Rattle.std.specs.List.{AllZip, Contains}
 use Rattle.std.specs.Result.{is_err}
@@ -71,6 +71,11 @@ pub none_held : (n k : ℕ) (a : Arrival) → get_or (replicate n no_arrival) k 
 none_held zero k a e = none-some a e
 none_held (suc n) zero a e = none-some a e
 none_held (suc n) (suc k) a e = none_held n k a e
+
+pub free_place : (n k : ℕ) → get_or (replicate n no_arrival) k None ≡ None
+free_place zero k = refl
+free_place (suc n) zero = refl
+free_place (suc n) (suc k) = free_place n k
 
 pub none_come : (s : Seen) (bases : List LinkedBase) (n : ℕ) → AreCome s bases (replicate n None)
 none_come s bases n k a e = absurd (none_held n k a e)
@@ -179,8 +184,8 @@ module _ (s : Seen) (bases : List LinkedBase) (slots : List (Option Arrival)) (j
         bounded = bounded_more slots (set slots j (Some a)) (stays_set slots j a free) (visit_count slots) (visit_count (set slots j (Some a))) b (omega (arith, more)) h.bounded;
       }
 
-  pub come_set : AreCome s bases slots → IsCome s bases slots a → a.row.at ≡ s.chunk.entry + j → AreCome s bases (set slots j (Some a))
-  come_set all here placed k b e =
+  pub come_set : AreCome s bases slots → IsCome s bases slots a → a.row.at ≡ s.chunk.entry + j → (a.from ≡ None) ↔ (j ≡ 0) → AreCome s bases (set slots j (Some a))
+  come_set all here placed first k b e =
       let more = visit_more slots j a inside free in
       let put = set slots j (Some a) in
       let stays = stays_set slots j a free in
@@ -190,6 +195,7 @@ module _ (s : Seen) (bases : List LinkedBase) (slots : List (Option Arrival)) (j
             subst (IsHeld s bases put k) h.1 (record {
               come = come_kept a here;
               placed = at;
+              first = (λ from. h.0 ∙ first.0 from, λ zero. first.1 (sym h.0 ∙ zero));
               earlier = visit_count slots;
               fewer = omega (arith, more);
               bounded = bounded_more slots put stays (visit_count slots) (visit_count slots) a (omega arith) here.bounded;
@@ -200,6 +206,7 @@ module _ (s : Seen) (bases : List LinkedBase) (slots : List (Option Arrival)) (j
             record {
               come = come_kept b held.come;
               placed = held.placed;
+              first = held.first;
               earlier = held.earlier;
               fewer = omega (arith, more, fewer);
               bounded = bounded_more slots put stays held.earlier held.earlier b (omega arith) held.bounded;

@@ -1,19 +1,21 @@
 -- The rows of a walk that met no flaw are a typing.
 use Rattle.std.specs.Prelude.{⊤, MatchOption}
 use Rattle.std.proofs.Common.{◌≡◌, ◌⊎◌, inl, inr, ℕ, ◌<◌, ◌≤◌, IfSome, [], List, length, get_or, slice_get, Option, None, Some, refl, sym, subst, arith}
-use Rattle.std.specs.List.{All}
+use Rattle.std.specs.List.{All, AllZip, Contains}
 use Rattle.std.proofs.lemmas.List.Elements.{All-weaker}
 use Rattle.std.proofs.lemmas.Option.{slice_get_read}
 use Rattle.grain_rules.specs.Code.{coded}
 use Rattle.grain_rules.specs.Typing.{IsInChunk}
 use Rattle.grain_explain.specs.Certificate.{IsCertificate}
 use Rattle.grain_explain.specs.Claimed.{ArePlaced, AreSound, IsSound}
-use Rattle.grain_explain.specs.Explaining.{IsReachedRow}
-use Rattle.grain_explain.specs.Pursuits.{ArePursued, HasRows, Holds, IsAhead, IsRowIn}
+use Rattle.grain_explain.specs.Explaining.{HasPath, IsExplained, IsOrigin, IsReachedRow, IsTypedBy}
+use Rattle.grain_explain.specs.Pursuits.{ArePursued, HasRows, IsFound, Holds, IsAhead, IsRowIn}
 use Rattle.grain_explain.specs.RowView.{AreAscending, AreLinked, AreListed, typing_of}
 use Rattle.grain_explain.specs.Scenes.{AreCome, IsReadyScene, Seen}
-use Rattle.grain_explain.specs.Ways.{Stop, first_stop}
+use Rattle.grain_explain.specs.Ways.{IsShownRefusal, Stop, first_stop}
 use Rattle.grain_explain.specs.declared.arrival.Arrival.{Arrival}
+use Rattle.grain_explain.specs.declared.refusal.ExplainedChunk.{ExplainedChunk}
+use Rattle.grain_explain.specs.declared.refusal.Refusal.{Refusal}
 use Rattle.grain_explain.specs.declared.row.LinkedBase.{LinkedBase}
 use Rattle.grain_explain.specs.declared.row.Row.{Row}
 use Rattle.grain_explain.proofs.Certified.{certified}
@@ -81,3 +83,19 @@ pub deepest_most : {B : Type 0} (now : B → Arrival) (slots : List (Option Arri
     → MatchOption o ((a : Arrival) → Holds slots a → ⊥) (λ b. (a : Arrival) → Holds slots a → a.row.operands ≤ (now b).row.operands)
 deepest_most now slots None n l h = λ a (k, e). (let w = held_within slots k a e in h k a (omega arith) e)
 deepest_most now slots (Some b) n l h = λ a (k, e). (let w = held_within slots k a e in h k a (omega arith) e)
+
+-- what is said of a chunk whose refusal, if it has one, was found
+pub explained_of : (s : Seen) (slots : List (Option Arrival)) (x : ExplainedChunk) → AreAscending x.rows.items → All (IsReachedRow s.code s.chunk x.bases.items) x.rows.items
+    → AllZip (IsOrigin s.code s.chunk x.bases.items) x.rows.items x.origins.items → HasRows x.rows.items slots
+    → MatchOption x.refusal (IsTypedBy s.code s.chunk x.bases.items x.rows.items) (IsFound s x.bases.items slots) → IsExplained s.code s.chunk x
+explained_of s slots x ascending reached origins whole found =
+    record { ascending = ascending; reached = reached; origins = origins; path = path_of x.refusal found; explains = shown_of x.refusal found }
+  where
+    path_of : (o : Option Refusal) → MatchOption o (IsTypedBy s.code s.chunk x.bases.items x.rows.items) (IsFound s x.bases.items slots) → HasPath x.rows.items o
+    path_of None h = tt
+    path_of (Some r) h = All-weaker (IsRowIn slots) (Contains x.rows.items) (λ row (a, held, same). subst (Contains x.rows.items) same (whole a held)) r.way.items h.visited
+
+    shown_of : (o : Option Refusal) → MatchOption o (IsTypedBy s.code s.chunk x.bases.items x.rows.items) (IsFound s x.bases.items slots)
+        → MatchOption o (IsTypedBy s.code s.chunk x.bases.items x.rows.items) (IsShownRefusal s.code s.chunk x.bases.items)
+    shown_of None h = h
+    shown_of (Some r) h = h.shown

@@ -1,6 +1,6 @@
 -- What explaining answers of a chunk and of a program.
-use Rattle.std.specs.Prelude.{◌≡◌, ◌≢◌, ◌↔◌, ℕ, List, Option, None, Some, MatchOption}
-use Rattle.std.specs.List.{All, AllZip}
+use Rattle.std.specs.Prelude.{◌≡◌, ◌≢◌, ◌↔◌, ⊤, ℕ, List, Option, None, Some, MatchOption}
+use Rattle.std.specs.List.{All, AllZip, Contains}
 use Rattle.grain_code.specs.Span.{Span}
 use Rattle.grain_rules.specs.Accepted.{AreIndexed, ChunkPasses}
 use Rattle.grain_rules.specs.Code.{Bytecode, coded}
@@ -12,6 +12,7 @@ use Rattle.grain_explain.specs.Ways.{Follows, IsShownRefusal, first_stop, row_st
 use Rattle.grain_explain.specs.declared.refusal.ExplainError.{ExplainError}
 use Rattle.grain_explain.specs.declared.refusal.ExplainError.TheVariants.{BadCode}
 use Rattle.grain_explain.specs.declared.refusal.ExplainedChunk.{ExplainedChunk}
+use Rattle.grain_explain.specs.declared.refusal.Refusal.{Refusal}
 use Rattle.grain_explain.specs.declared.row.LinkedBase.{LinkedBase}
 use Rattle.grain_explain.specs.declared.row.Row.{Row}
 
@@ -19,10 +20,15 @@ use Rattle.grain_explain.specs.declared.row.Row.{Row}
 abbrev pub IsReachedRow : Bytecode → Span → List LinkedBase → Row → Type 0
 IsReachedRow code chunk bases r = Reached (coded code) chunk r.at (counts_of bases r)
 
--- the row is what the chunk begins with, or an edge leads to it from what is reached at this address
-abbrev pub IsOrigin : Bytecode → Span → List LinkedBase → Row → Option ℕ → Type 0
-IsOrigin code chunk bases r origin = MatchOption origin (row_stop bases r ≡ first_stop chunk)
-    (λ p. (c : Counts) × Reached (coded code) chunk p c × Follows code chunk (p, c) (row_stop bases r))
+-- the row is what the chunk begins with, or an edge leads to it from what is reached at this address; the entry alone has no origin
+pub record IsOrigin (code : Bytecode) (chunk : Span) (bases : List LinkedBase) (r : Row) (origin : Option ℕ) : Type 0 where
+  pub from : MatchOption origin (row_stop bases r ≡ first_stop chunk)
+      (λ p. (c : Counts) × Reached (coded code) chunk p c × Follows code chunk (p, c) (row_stop bases r))
+  pub none : (origin ≡ None) ↔ (r.at ≡ chunk.entry)
+
+-- each state of the path to a flaw has its row
+abbrev pub HasPath : List Row → Option Refusal → Type 0
+HasPath rows refusal = MatchOption refusal ⊤ (λ r. All (Contains rows) r.way.items)
 
 -- the rows are a stack typing within the declared stack, and just what is reached
 pub record IsTypedBy (code : Bytecode) (chunk : Span) (bases : List LinkedBase) (rows : List Row) : Type 0 where
@@ -35,6 +41,7 @@ pub record IsExplained (code : Bytecode) (chunk : Span) (x : ExplainedChunk) : T
   pub ascending : AreAscending x.rows.items
   pub reached : All (IsReachedRow code chunk x.bases.items) x.rows.items
   pub origins : AllZip (IsOrigin code chunk x.bases.items) x.rows.items x.origins.items
+  pub path : HasPath x.rows.items x.refusal
   pub explains : MatchOption x.refusal (IsTypedBy code chunk x.bases.items x.rows.items) (IsShownRefusal code chunk x.bases.items)
 
 -- it isn't refused exactly where the chunk passes

@@ -1,6 +1,6 @@
 -- What a walk has still to visit: each edge of what it has visited leads to what it has visited, or to what waits.
-use Rattle.std.specs.Prelude.{◌≡◌, ◌⊎◌, ℕ, ◌+◌, ◌<◌, List, [], ◌∷◌, ◌++◌, Option, None, Some, get_or, length}
-use Rattle.std.specs.List.{Contains}
+use Rattle.std.specs.Prelude.{◌≡◌, ◌⊎◌, ◌↔◌, ℕ, ◌+◌, ◌<◌, List, [], ◌∷◌, ◌++◌, Option, None, Some, get_or, length}
+use Rattle.std.specs.List.{All, Contains}
 use Rattle.grain_code.specs.declared.op.Op.{Op}
 use Rattle.grain_rules.specs.Code.{coded}
 use Rattle.grain_rules.specs.Counts.{Counts}
@@ -10,6 +10,7 @@ use Rattle.grain_explain.specs.RowView.{counts_of}
 use Rattle.grain_explain.specs.Scenes.{IsCome, IsRefusalAt, Seen}
 use Rattle.grain_explain.specs.Ways.{Stop, arrival_stop, first_stop}
 use Rattle.grain_explain.specs.declared.arrival.Arrival.{Arrival}
+use Rattle.grain_explain.specs.declared.refusal.Refusal.{Refusal}
 use Rattle.grain_explain.specs.declared.row.LinkedBase.{LinkedBase}
 use Rattle.grain_explain.specs.declared.row.Row.{Row}
 use Rattle.grain_explain.specs.declared.walk.Departure.{Departure}
@@ -44,10 +45,21 @@ pub record ArePursued (s : Seen) (bases : List LinkedBase) (slots : List (Option
   pub entry : IsAhead bases slots work (first_stop s.chunk)
   pub each : (k : ℕ) (a : Arrival) → get_or slots k None ≡ Some a → IsPursued s bases slots work a
 
--- an arrival that was taken from the worklist, and whose place is free
+-- the entry was visited
+abbrev pub IsBegun : List (Option Arrival) → Type 0
+IsBegun slots = (a : Arrival) × (get_or slots 0 None ≡ Some a)
+
+-- the refusal is right, and each state of its path was visited
+pub record IsFound (s : Seen) (bases : List LinkedBase) (slots : List (Option Arrival)) (r : Refusal) : Type 0 where
+  pub shown : IsRefusalAt s bases r
+  pub visited : All (IsRowIn slots) r.way.items
+
+-- An arrival that is next, whose place is free: the entry, where nothing was visited, or what was taken from the worklist.
 pub record IsNext (s : Seen) (x : Search) (place : ℕ) (a : Arrival) : Type 0 where
   pub come : IsCome s x.arming.bases.items x.slots.items a
   pub placed : a.row.at ≡ s.chunk.entry + place
+  pub first : (a.from ≡ None) ↔ (place ≡ 0)
+  pub begun : (place ≡ 0) ⊎ IsBegun x.slots.items
   pub inside : place < length x.slots.items
   pub free : get_or x.slots.items place None ≡ None
   pub pursued : ArePursued s x.arming.bases.items x.slots.items (x.work.items ++ a ∷ [])
@@ -56,7 +68,7 @@ pub record IsNext (s : Seen) (x : Search) (place : ℕ) (a : Arrival) : Type 0 w
 abbrev pub IsTurn : Seen → Search → Turn → Type 0
 IsTurn s x turns.Finished = ArePursued s x.arming.bases.items x.slots.items []
 IsTurn s x (turns.Visit place a) = IsNext s x place a
-IsTurn s x (turns.Refused r) = IsRefusalAt s x.arming.bases.items r
+IsTurn s x (turns.Refused r) = IsFound s x.arming.bases.items x.slots.items r
 
 -- no arrival is lost
 abbrev pub Keeps : List Arrival → List Arrival → Type 0

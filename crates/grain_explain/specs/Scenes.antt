@@ -1,5 +1,5 @@
 -- What the walk over a chunk has come to.
-use Rattle.std.specs.Prelude.{◌≡◌, ◌⊎◌, ⊤, ℕ, zero, suc, ◌+◌, ◌-◌, ◌<◌, ◌≤◌, ◌^◌, List, ◌++◌, Option, None, Some, MatchOption, get_or, length}
+use Rattle.std.specs.Prelude.{◌≡◌, ◌⊎◌, ◌↔◌, ⊤, ℕ, zero, suc, ◌+◌, ◌-◌, ◌<◌, ◌≤◌, ◌^◌, List, ◌++◌, Option, None, Some, MatchOption, get_or, length}
 use Rattle.std.specs.List.{All, Contains, count_by}
 use Rattle.std.specs.Option.{is_some}
 use Rattle.grain_base.specs.declared.caps.Caps.{Caps}
@@ -67,6 +67,10 @@ MissesTarget s at target e =
 abbrev pub MissesTargetOf : Seen → ℕ → List ℕ → VerifyError → Type 0
 MissesTargetOf s at ts e = (t : ℕ) × Contains ts t × MissesTarget s at t e
 
+-- what a walk begins with
+abbrev pub first_arrival : Span → Arrival
+first_arrival chunk = record { row = record { at = chunk.entry; operands = 0; iterators = 0; bases = 0 }; from = None }
+
 -- how many places were visited
 abbrev pub visit_count : List (Option Arrival) → ℕ
 visit_count slots = count_by is_some slots
@@ -92,10 +96,12 @@ pub record IsCome (s : Seen) (bases : List LinkedBase) (slots : List (Option Arr
       (λ k. (y : Arrival) × (get_or slots k None ≡ Some y) × Follows s.code s.chunk (arrival_stop bases y) (arrival_stop bases a))
   pub bounded : IsBounded slots (visit_count slots) a
 
--- an arrival that was visited is in the place of its address, and others were visited before it
+-- an arrival that was visited is in the place of its address, has come from another unless that is the entry, and others were
+-- visited before it
 pub record IsHeld (s : Seen) (bases : List LinkedBase) (slots : List (Option Arrival)) (k : ℕ) (a : Arrival) : Type 0 where
   pub come : IsCome s bases slots a
   pub placed : a.row.at ≡ s.chunk.entry + k
+  pub first : (a.from ≡ None) ↔ (k ≡ 0)
   pub earlier : ℕ
   pub fewer : earlier < visit_count slots
   pub bounded : IsBounded slots earlier a

@@ -13,13 +13,16 @@ use std::alloc::Global;
 
 /// Why each chunk of code that is whole instructions with their indices in bounds is accepted or refused.
 ///
-/// Each chunk's rows say what stands at the instructions that its walk came to, each once, in the order of addresses, and from
-/// where each was come to first; and every row is reached. Where the chunk isn't refused the rows are a stack typing of it
-/// within its declared stack, and just what is reached: so [`crate::check_typing`] says yes of them. Else the refusal names a flaw
-/// of the chunk, with the way along edges to a state that shows it, to a conflict two ways, and where the stack is too deep the way to
-/// the greatest. So a chunk isn't refused here exactly where it passes, but which of its flaws is named is left open.
+/// Each chunk has rows, in ascending order of addresses and one for each address at most; each says with which counts its
+/// instruction is reached, and from which address an edge leads there with these counts. The entry alone has no such address.
+/// Where the chunk isn't refused the rows are a stack typing of it within its declared stack, and exactly what is reached, so
+/// that [`crate::check_typing`] accepts them. Otherwise the refusal names a flaw of the chunk, with a path along edges to a
+/// state that shows it (two for a conflict; to the greatest count where the stack is too deep), and each state of the path has its row.
+/// So a chunk isn't refused here exactly where it passes, but which of its flaws is named is left open, and so are which of
+/// several predecessors a row names and which other rows a refused chunk has: the first by which the walk visited the
+/// instruction, and all that it visited.
 ///
-/// All chunks are explained, those behind a refused one too. Time and memory grow with the length of each chunk, with the
+/// All chunks are explained, those after a refused one too. Time and memory grow with the length of each chunk, with the
 /// number of its instructions that are visited, and with the arms of their switches. Rows share their lists of bases.
 ///
 /// # Errors

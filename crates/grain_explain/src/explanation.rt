@@ -1,11 +1,12 @@
 //! Why a chunk is accepted or refused.
-ghost use Rattle.std.specs.Prelude.{◌≡◌, ◌≤◌, ◌⊎◌, ⊤, [], None, replicate, IfOk, IfSome, MatchOption};
+ghost use Rattle.std.specs.Prelude.{◌≡◌, ◌≤◌, ◌⊎◌, ⊤, [], None, replicate};
+ghost use Rattle.std.specs.Prelude.{IfOk, IfSome, MatchOption};
 ghost use Rattle.std.specs.List.{All, AllZip};
 ghost use Rattle.grain_rules.specs.Flaw.{ChunkFlaw};
 ghost use Rattle.grain_explain.specs.Explaining.{IsExplained, IsOrigin, IsReachedRow, IsTypedBy};
-ghost use Rattle.grain_explain.specs.Scenes.{AreHeld, Comes, IsReadyScene, IsRefusalAt};
+ghost use Rattle.grain_explain.specs.Scenes.{AreHeld, IsReadyScene, first_arrival};
 ghost use Rattle.grain_explain.specs.Scenes.{IsSearching, IsStarted, seen};
-ghost use Rattle.grain_explain.specs.Pursuits.{ArePursued, HasRows, Holds, IsRowIn};
+ghost use Rattle.grain_explain.specs.Pursuits.{ArePursued, HasRows, Holds, IsFound, IsNext, IsRowIn};
 ghost use Rattle.grain_explain.specs.RowView.{AreAscending, AreLinked};
 ghost use Rattle.grain_explain.specs.Ways.{IsFrameFlaw};
 ghost use Rattle.grain_explain.specs.declared.arrival.Arrival.{Arrival};
@@ -82,30 +83,20 @@ impl<P: Read> Scene<'_, P> {
         }
     }
 
-    /// A walk at the chunk's entry.
+    /// A walk that has visited nothing.
     ///
     /// # Errors
     /// [`AllocError`] where an allocation failed.
     fn begin(&self) -> Result<Search, AllocError>
         requires { IsReadyScene (seen P.facts P.leads self.now) }
         ensures searching { IfOk result (IsSearching (seen P.facts P.leads self.now)) }
-        ensures pursued { IfOk result (λ x. ArePursued (seen P.facts P.leads self.now) x.arming.bases.items x.slots.items
-            x.work.items) }
+        ensures next { IfOk result (λ x. IsNext (seen P.facts P.leads self.now) x 0
+            (first_arrival self.now.chunk.now)) }
     {
-        let mut work = Vec::new(self.alloc);
-        work.push(Arrival {
-            row: Row {
-                at: self.chunk.entry(),
-                operands: 0,
-                iterators: 0,
-                bases: 0,
-            },
-            from: None,
-        })?;
         let length = self.chunk.end() as usize - self.chunk.entry() as usize;
         Ok(Search {
             slots: self.free_slots(length)?,
-            work,
+            work: Vec::new(self.alloc),
             arming: Arming::new(self.alloc),
         })
     }
@@ -129,7 +120,8 @@ impl<P: Read> Scene<'_, P> {
     fn rows_of(&self, visited: &Visited<'_>) -> Result<Rows, AllocError>
         requires { AreHeld (seen P.facts P.leads self.now) visited.now }
         ensures reached { IfOk result (λ x. All
-            (IsReachedRow (seen P.facts P.leads self.now).code self.now.chunk.now visited.now.bases.now)
+            (IsReachedRow (seen P.facts P.leads self.now).code self.now.chunk.now
+            visited.now.bases.now)
             x.rows.items) }
         ensures origins { IfOk result (λ x. AllZip
             (IsOrigin (seen P.facts P.leads self.now).code self.now.chunk.now visited.now.bases.now)
@@ -152,7 +144,7 @@ impl<P: Read> Scene<'_, P> {
     /// The address from which an arrival came.
     fn origin_of(&self, visited: &Visited<'_>, arrival: &Arrival) -> Option<u32>
         requires come { AreHeld (seen P.facts P.leads self.now) visited.now }
-        requires arrival { Comes (seen P.facts P.leads self.now) visited.now arrival.now }
+        requires arrival { Holds visited.now.slots.now arrival.now }
         ensures { IsOrigin (seen P.facts P.leads self.now).code self.now.chunk.now
             visited.now.bases.now arrival.now.row result }
     {
@@ -170,14 +162,16 @@ impl<P: Read> Scene<'_, P> {
         requires ready { IsReadyScene (seen P.facts P.leads self.now) }
         requires linked { AreLinked visited.now.bases.now }
         requires come { AreHeld (seen P.facts P.leads self.now) visited.now }
-        requires pursued { ArePursued (seen P.facts P.leads self.now) visited.now.bases.now visited.now.slots.now [] }
+        requires pursued { ArePursued (seen P.facts P.leads self.now)
+            visited.now.bases.now visited.now.slots.now [] }
         requires ascending { AreAscending rows.now }
         requires held { All (IsRowIn visited.now.slots.now) rows.now }
         requires whole { HasRows rows.now visited.now.slots.now }
         ensures { IfOk result (λ r. MatchOption r
             (IsTypedBy (seen P.facts P.leads self.now).code self.now.chunk.now visited.now.bases.now
             rows.now)
-            (IsRefusalAt (seen P.facts P.leads self.now) visited.now.bases.now)) }
+            (IsFound (seen P.facts P.leads self.now) visited.now.bases.now
+            visited.now.slots.now)) }
     {
         let Some(here) = self.deepest(visited) else {
             return Ok(None);
@@ -215,7 +209,8 @@ fn deeper<'a>(before: Option<&'a Arrival>, arrival: &'a Arrival) -> &'a Arrival
     ensures either { (result.now ≡ arrival.now)
         ⊎ MatchOption before.entry ⊥ (λ b. result.now ≡ b.now) }
     ensures most { arrival.now.row.operands ≤ result.now.row.operands }
-    ensures before { MatchOption before.entry ⊤ (λ b. b.now.row.operands ≤ result.now.row.operands) }
+    ensures before { MatchOption before.entry ⊤
+        (λ b. b.now.row.operands ≤ result.now.row.operands) }
 {
     match before {
         Some(before) if before.row.operands > arrival.row.operands => before,

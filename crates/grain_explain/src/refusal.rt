@@ -7,25 +7,25 @@ use grain_rules::VerifyError;
 use std::alloc::{AllocError, AllocFailed};
 use std::fmt;
 
-/// Why a chunk is refused, and how its flaw is come to.
+/// Why a chunk is refused, and a path to its flaw.
 #[derive(Debug, PartialEq, Eq, Drop)]
 pub struct Refusal {
     /// The flaw.
     pub error: VerifyError,
-    /// The way to the flaw, the last state first and the chunk's entry last: of each instruction what stands there. The first
-    /// row shows the flaw. It is empty where the chunk's own frame is refused, to which nothing leads.
+    /// A path to the flaw, the last state first and the chunk's entry last. The first row shows the flaw. It is empty where the
+    /// chunk's own frame is refused, to which nothing leads.
     pub way: Vec<Row>,
-    /// Of a `DepthConflict` another way to the same address, with other counts. Else it is empty.
+    /// For a `DepthConflict` another path to the same address, with other counts. Otherwise it is empty.
     pub other: Vec<Row>,
 }
 
-/// What stands at each instruction of a chunk that its walk has come to, and why the chunk is refused, if it is.
+/// The states at instructions of a chunk, and why the chunk is refused, if it is.
 #[derive(Debug, PartialEq, Eq, Drop)]
 pub struct ExplainedChunk {
-    /// The rows, in ascending order of addresses. Where the chunk isn't refused they are a stack typing of it, and just what
-    /// is reached; else those that the walk had come to.
+    /// The rows, in ascending order of addresses, each of which is reached. Where the chunk isn't refused they are a stack typing
+    /// of it, and exactly what is reached; otherwise they are what the walk visited, among it all of the refusal's path.
     pub rows: Vec<Row>,
-    /// Of each row the address from which it was come to first; `None` at the entry.
+    /// For each row the address of a predecessor, from which an edge leads to the row; `None` at the entry and nowhere else.
     pub origins: Vec<Option<u32>>,
     /// The bases of armed handlers, whose lists the rows name.
     pub bases: Vec<LinkedBase>,
@@ -38,7 +38,7 @@ pub struct ExplainedChunk {
 pub enum ExplainError {
     /// The code isn't whole instructions with their indices in bounds.
     BadCode,
-    /// A growth was refused.
+    /// An allocation failed.
     OutOfMemory,
 }
 

@@ -7,12 +7,12 @@ ghost use Rattle.grain_rules.specs.Flaw.{ChunkFlaw};
 ghost use Rattle.grain_rules.specs.FlowFields.{falls_for, targets_for};
 ghost use Rattle.grain_rules.specs.EffectView.{flow_in};
 ghost use Rattle.grain_rules.specs.Typing.{IsInChunk};
-ghost use Rattle.grain_explain.specs.Pursuits.{ArePursued, Holds, IsNext, IsPursued, IsTurn, Keeps};
-ghost use Rattle.grain_explain.specs.Pursuits.{fallen, sent_to};
+ghost use Rattle.grain_explain.specs.Pursuits.{ArePursued, Holds, IsBegun, IsFound, IsNext};
+ghost use Rattle.grain_explain.specs.Pursuits.{IsPursued, IsRowIn, IsTurn, Keeps, fallen, sent_to};
 ghost use Rattle.grain_explain.specs.Scenes.{AreCome, AreHeld, Comes, IsCome, IsReadyScene};
-ghost use Rattle.grain_explain.specs.Scenes.{IsHeld, IsRefusalAt, IsSearching};
+ghost use Rattle.grain_explain.specs.Scenes.{IsHeld, IsSearching};
 ghost use Rattle.grain_explain.specs.Scenes.{Extends, IsLeft, MissesTargetOf, error_lacking, seen};
-ghost use Rattle.grain_explain.specs.Scenes.{visit_count};
+ghost use Rattle.grain_explain.specs.Scenes.{first_arrival, visit_count};
 ghost use Rattle.grain_explain.specs.RowView.{AreLinked};
 ghost use Rattle.grain_explain.specs.Ways.{IsWayTo, Shows, arrival_stop, stops_of};
 
@@ -86,18 +86,19 @@ impl<P: Read> Scene<'_, P> {
     pub(crate) fn run(&self, search: &mut Search) -> Result<Option<Refusal>, AllocError>
         requires ready { IsReadyScene (seen P.facts P.leads self.now) }
         requires searching { IsSearching (seen P.facts P.leads self.now) search.old }
-        requires pursued { ArePursued (seen P.facts P.leads self.now) search.old.arming.bases.items
-            search.old.slots.items search.old.work.items }
+        requires next { IsNext (seen P.facts P.leads self.now) search.old 0
+            (first_arrival self.now.chunk.now) }
         ensures come { OnOk result (AreCome (seen P.facts P.leads self.now)
             search.new.arming.bases.items search.new.slots.items) }
         ensures linked { OnOk result (AreLinked search.new.arming.bases.items) }
         ensures pursued { IfOk result (λ r. IfNone r (ArePursued (seen P.facts P.leads self.now)
             search.new.arming.bases.items search.new.slots.items [])) }
-        ensures refusal { IfOk result (λ r. IfSome r (IsRefusalAt (seen P.facts P.leads self.now)
-            search.new.arming.bases.items)) }
+        ensures refusal { IfOk result (λ r. IfSome r (IsFound (seen P.facts P.leads self.now)
+            search.new.arming.bases.items search.new.slots.items)) }
     {
+        let mut next = Turn::Visit(0, self.first());
         'turns: loop {
-            match self.turn(search)? {
+            match next {
                 Turn::Finished => return Ok(None),
                 Turn::Refused(refusal) => return Ok(Some(refusal)),
                 Turn::Visit(place, arrival) => {
@@ -105,8 +106,24 @@ impl<P: Read> Scene<'_, P> {
                     if refusal.is_some() {
                         return Ok(refusal);
                     }
+                    next = self.turn(search)?;
                 }
             }
+        }
+    }
+
+    /// What the walk begins with: the entry, with nothing on the stacks.
+    fn first(&self) -> Arrival
+        ensures { result ≡ first_arrival self.now.chunk.now }
+    {
+        Arrival {
+            row: Row {
+                at: self.chunk.entry(),
+                operands: 0,
+                iterators: 0,
+                bases: 0,
+            },
+            from: None,
         }
     }
 
@@ -119,6 +136,7 @@ impl<P: Read> Scene<'_, P> {
         requires searching { IsSearching (seen P.facts P.leads self.now) search.old }
         requires pursued { ArePursued (seen P.facts P.leads self.now) search.old.arming.bases.items
             search.old.slots.items search.old.work.items }
+        requires begun { IsBegun search.old.slots.items }
         ensures slots { OnOk result (search.new.slots.items ≡ search.old.slots.items) }
         ensures searching { OnOk result (IsSearching (seen P.facts P.leads self.now) search.new) }
         ensures turn { IfOk result (IsTurn (seen P.facts P.leads self.now) search.new) }
@@ -152,13 +170,13 @@ impl<P: Read> Scene<'_, P> {
         requires ready { IsReadyScene (seen P.facts P.leads self.now) }
         requires linked { AreLinked visited.now.bases.now }
         requires come { AreHeld (seen P.facts P.leads self.now) visited.now }
-        requires before { Comes (seen P.facts P.leads self.now) visited.now before.now }
+        requires before { Holds visited.now.slots.now before.now }
         requires arrival { Comes (seen P.facts P.leads self.now) visited.now arrival.now }
         requires there { before.now.row.at ≡ arrival.now.row.at }
         ensures same { IfOk result (λ r. IfNone r (arrival_stop visited.now.bases.now before.now
             ≡ arrival_stop visited.now.bases.now arrival.now)) }
-        ensures refusal { IfOk result (λ r. IfSome r (IsRefusalAt (seen P.facts P.leads self.now)
-            visited.now.bases.now)) }
+        ensures refusal { IfOk result (λ r. IfSome r (IsFound (seen P.facts P.leads self.now)
+            visited.now.bases.now visited.now.slots.now)) }
     {
         if OnEdge::at(&before.row).is_at(visited.bases, &arrival.row) {
             return Ok(None);
@@ -190,10 +208,11 @@ impl<P: Read> Scene<'_, P> {
         ensures more { OnOk result (visit_count search.new.slots.items
             ≡ visit_count search.old.slots.items + 1) }
         ensures searching { OnOk result (IsSearching (seen P.facts P.leads self.now) search.new) }
+        ensures begun { OnOk result (IsBegun search.new.slots.items) }
         ensures pursued { IfOk result (λ r. IfNone r (ArePursued (seen P.facts P.leads self.now)
             search.new.arming.bases.items search.new.slots.items search.new.work.items)) }
-        ensures refusal { IfOk result (λ r. IfSome r (IsRefusalAt (seen P.facts P.leads self.now)
-            search.new.arming.bases.items)) }
+        ensures refusal { IfOk result (λ r. IfSome r (IsFound (seen P.facts P.leads self.now)
+            search.new.arming.bases.items search.new.slots.items)) }
     {
         search.slots[place] = Some(arrival);
         self.look(
@@ -223,16 +242,19 @@ impl<P: Read> Scene<'_, P> {
         requires held { get_or slots.now place None ≡ Some here.now }
         requires short { length slots.now < 2 ^ 32 }
         requires few { length arming.old.bases.items < visit_count slots.now }
-        requires waits { All (IsCome (seen P.facts P.leads self.now) arming.old.bases.items slots.now) work.old.items }
+        requires waits { All (IsCome (seen P.facts P.leads self.now)
+            arming.old.bases.items slots.now) work.old.items }
         ensures few { OnOk result (length arming.new.bases.items ≤ visit_count slots.now) }
         ensures extends { OnOk result (Extends arming.old.bases.items arming.new.bases.items) }
         ensures waits { OnOk result
-            (All (IsCome (seen P.facts P.leads self.now) arming.new.bases.items slots.now) work.new.items) }
+            (All (IsCome (seen P.facts P.leads self.now)
+            arming.new.bases.items slots.now) work.new.items) }
         ensures keeps { OnOk result (Keeps work.old.items work.new.items) }
         ensures pursued { IfOk result (λ r. IfNone r (IsPursued (seen P.facts P.leads self.now)
             arming.new.bases.items slots.now work.new.items here.now)) }
         ensures refusal { IfOk result
-            (λ r. IfSome r (IsRefusalAt (seen P.facts P.leads self.now) arming.new.bases.items)) }
+            (λ r. IfSome r (IsFound (seen P.facts P.leads self.now)
+            arming.new.bases.items slots.now)) }
     {
         let row = &here.row;
         let (op, next) = decode_standing(self.code, row.at as usize);
@@ -302,13 +324,14 @@ impl<P: Read> Scene<'_, P> {
         requires left { IsLeft (seen P.facts P.leads self.now) departure.now }
         requires waits { All (Comes (seen P.facts P.leads self.now) departure.now.visited)
             work.old.items }
-        ensures waits { OnOk result (All (Comes (seen P.facts P.leads self.now) departure.now.visited) work.new.items) }
+        ensures waits { OnOk result (All (Comes (seen P.facts P.leads self.now)
+            departure.now.visited) work.new.items) }
         ensures keeps { OnOk result (Keeps work.old.items work.new.items) }
         ensures pursued { IfOk result (λ r. IfNone r (IsPursued (seen P.facts P.leads self.now)
             departure.now.visited.bases.now departure.now.visited.slots.now work.new.items
             departure.now.here.now)) }
-        ensures refusal { IfOk result (λ r. IfSome r (IsRefusalAt (seen P.facts P.leads self.now)
-            departure.now.visited.bases.now)) }
+        ensures refusal { IfOk result (λ r. IfSome r (IsFound (seen P.facts P.leads self.now)
+            departure.now.visited.bases.now departure.now.visited.slots.now)) }
     {
         let here = departure.here;
         let effect = departure.effect;
@@ -337,12 +360,14 @@ impl<P: Read> Scene<'_, P> {
         requires ready { IsReadyScene (seen P.facts P.leads self.now) }
         requires left { IsLeft (seen P.facts P.leads self.now) departure.now }
         requires falls { falls_for (flow_in departure.now.effect.now) ≡ true }
-        requires waits { All (Comes (seen P.facts P.leads self.now) departure.now.visited) work.old.items }
-        ensures waits { OnOk result (All (Comes (seen P.facts P.leads self.now) departure.now.visited) work.new.items) }
+        requires waits { All (Comes (seen P.facts P.leads self.now)
+            departure.now.visited) work.old.items }
+        ensures waits { OnOk result (All (Comes (seen P.facts P.leads self.now)
+            departure.now.visited) work.new.items) }
         ensures keeps { OnOk result (Keeps work.old.items work.new.items) }
         ensures sent { IfOk result (λ r. IfNone r (Contains work.new.items (fallen departure.now))) }
-        ensures refusal { IfOk result (λ r. IfSome r (IsRefusalAt (seen P.facts P.leads self.now)
-            departure.now.visited.bases.now)) }
+        ensures refusal { IfOk result (λ r. IfSome r (IsFound (seen P.facts P.leads self.now)
+            departure.now.visited.bases.now departure.now.visited.slots.now)) }
     {
         if departure.next == self.chunk.end() as usize {
             let error = VerifyError::FallsOffTheEnd;
@@ -363,7 +388,8 @@ impl<P: Read> Scene<'_, P> {
     /// That of the first that is none.
     fn check_targets(&self, at: u32, targets: &[u32]) -> Result<(), VerifyError>
         requires { IsReadyScene (seen P.facts P.leads self.now) }
-        ensures inside { OnOk result (All (IsInChunk (coded (seen P.facts P.leads self.now).code) self.now.chunk.now)
+        ensures inside { OnOk result (All (IsInChunk (coded (seen P.facts P.leads self.now).code)
+            self.now.chunk.now)
             targets.now) }
         ensures err { IfErr result (MissesTargetOf (seen P.facts P.leads self.now) at targets.now) }
     {
@@ -386,9 +412,12 @@ impl<P: Read> Scene<'_, P> {
         requires left { IsLeft (seen P.facts P.leads self.now) departure.now }
         requires targets { targets.now ≡ targets_for (seen P.facts P.leads self.now).code.switches
             (flow_in departure.now.effect.now) }
-        requires inside { All (IsInChunk (coded (seen P.facts P.leads self.now).code) self.now.chunk.now) targets.now }
-        requires waits { All (Comes (seen P.facts P.leads self.now) departure.now.visited) work.old.items }
-        ensures waits { OnOk result (All (Comes (seen P.facts P.leads self.now) departure.now.visited) work.new.items) }
+        requires inside { All (IsInChunk (coded (seen P.facts P.leads self.now).code)
+            self.now.chunk.now) targets.now }
+        requires waits { All (Comes (seen P.facts P.leads self.now)
+            departure.now.visited) work.old.items }
+        ensures waits { OnOk result (All (Comes (seen P.facts P.leads self.now)
+            departure.now.visited) work.new.items) }
         ensures keeps { OnOk result (Keeps work.old.items work.new.items) }
         ensures sent { OnOk result (All (λ t. Contains work.new.items (sent_to departure.now t))
             targets.now) }
@@ -413,11 +442,12 @@ impl<P: Read> Scene<'_, P> {
         error: VerifyError,
     ) -> Result<Refusal, AllocError>
         requires come { AreHeld (seen P.facts P.leads self.now) visited.now }
-        requires here { Comes (seen P.facts P.leads self.now) visited.now here.now }
+        requires here { Holds visited.now.slots.now here.now }
         requires shows { Shows (seen P.facts P.leads self.now).code self.now.chunk.now
             (arrival_stop visited.now.bases.now here.now) error }
         requires flaw { ChunkFlaw (seen P.facts P.leads self.now).code self.now.chunk.now error }
-        ensures { IfOk result (IsRefusalAt (seen P.facts P.leads self.now) visited.now.bases.now) }
+        ensures { IfOk result (IsFound (seen P.facts P.leads self.now)
+            visited.now.bases.now visited.now.slots.now) }
     {
         Ok(Refusal {
             error,
@@ -433,9 +463,11 @@ impl<P: Read> Scene<'_, P> {
     fn way_to(&self, visited: &Visited<'_>, last: &Arrival) -> Result<Vec<Row>, AllocError>
         requires come { AreHeld (seen P.facts P.leads self.now) visited.now }
         requires last { Comes (seen P.facts P.leads self.now) visited.now last.now }
-        ensures { IfOk result (λ v. IsWayTo (seen P.facts P.leads self.now).code self.now.chunk.now
-            (arrival_stop visited.now.bases.now last.now)
+        ensures way { IfOk result (λ v. IsWayTo (seen P.facts P.leads self.now).code
+            self.now.chunk.now (arrival_stop visited.now.bases.now last.now)
             (stops_of visited.now.bases.now v.items)) }
+        ensures visited { Holds visited.now.slots.now last.now
+            → IfOk result (λ v. All (IsRowIn visited.now.slots.now) v.items) }
     {
         let mut way = Vec::new(self.alloc);
         let mut here = last;

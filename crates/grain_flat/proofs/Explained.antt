@@ -28,7 +28,4 @@ one_explained code beside s chunk items rest x explained exact last same here =
 
 -- why nothing is explained, of the flat form
 pub flat_cause : (caps : ℕ) (bytes : List ℕ) (p : CPools) (beside : Beside p) (code : Bytecode) (e : ExplainError) → code ≡ code_with caps bytes p beside.chains beside.switches → IsCause code e → IsFlatCause caps bytes p e
-flat_cause caps bytes p beside code e is cause = record {
-  bad = λ named. (beside, λ indexed. cause.bad named (subst (λ (b : Bytecode). AreIndexed b.setting b.bytes) (sym is) indexed));
-  good = λ named. (beside, subst (λ (b : Bytecode). AreIndexed b.setting b.bytes) is (cause.good (λ bad. cc)));
-}
+flat_cause caps bytes p beside code e is cause = λ named. (beside, λ indexed. cause.bad named (subst (λ (b : Bytecode). AreIndexed b.setting b.bytes) (sym is) indexed))

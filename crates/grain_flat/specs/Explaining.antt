@@ -6,7 +6,7 @@ use Rattle.grain_pools.specs.Dispatch.{Arms}
 use Rattle.grain_explain.specs.Explaining.{IsExact, IsExplained}
 use Rattle.grain_code.specs.Span.{Span}
 use Rattle.grain_explain.specs.declared.refusal.ExplainError.{ExplainError}
-use Rattle.grain_explain.specs.declared.refusal.ExplainError.TheVariants.{BadCode, Unfinished}
+use Rattle.grain_explain.specs.declared.refusal.ExplainError.TheVariants.{BadCode}
 use Rattle.grain_explain.specs.declared.refusal.ExplainedChunk.{ExplainedChunk}
 use Rattle.grain_explain.specs.declared.refusal.Refusal.{Refusal}
 use Rattle.grain_explain.specs.declared.row.LinkedBase.{LinkedBase}
@@ -41,10 +41,9 @@ pub record Beside (p : CPools) : Type 0 where
 abbrev pub IsIndexedBeside : ℕ → List ℕ → (p : CPools) → Beside p → Type 0
 IsIndexedBeside caps bytes p beside = AreIndexed (code_with caps bytes p beside.chains beside.switches).setting bytes
 
--- bad code is named as such; a search that ends short was one of good code
-pub record IsFlatCause (caps : ℕ) (bytes : List ℕ) (p : CPools) (e : ExplainError) : Type 0 where
-  pub bad : e ≡ BadCode → (beside : Beside p) × (IsIndexedBeside caps bytes p beside → ⊥)
-  pub good : e ≡ Unfinished → (beside : Beside p) × IsIndexedBeside caps bytes p beside
+-- what is named bad code is such
+abbrev pub IsFlatCause : ℕ → List ℕ → CPools → ExplainError → Type 0
+IsFlatCause caps bytes p e = e ≡ BadCode → (beside : Beside p) × (IsIndexedBeside caps bytes p beside → ⊥)
 
 -- the place of the first base of a list, or that there is none
 abbrev pub list_place : ℕ → ℕ

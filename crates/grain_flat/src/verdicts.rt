@@ -91,8 +91,8 @@ fn verdict_with(
 }
 
 /// The verdict on all programs whose pools have this flat form, the first constant first of which not all that it asks is
-/// there. The meter rises as it does in [`grain_verify::verify_metered`]. Whatever the scratch was used for before, the answer is
-/// this one.
+/// there. The meter rises as it does in [`grain_verify::verify_metered`]. The result is right whatever the scratch was used for
+/// before.
 ///
 /// # Errors
 ///

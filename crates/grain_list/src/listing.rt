@@ -4,7 +4,7 @@ ghost use Rattle.std.specs.Prelude.{◌≡◌, IfOk, IfSome, Option, is_none, st
 ghost use Rattle.std.specs.Option.{option_map};
 ghost use Rattle.grain_lines.specs.Case.{Asked, as_asked, asked};
 ghost use Rattle.grain_lines.specs.Verdict.{Verdict};
-ghost use Rattle.grain_list.specs.Listed.{Explains, IsShown};
+ghost use Rattle.grain_list.specs.Listed.{IsExplanationOf, IsShown};
 
 use crate::code::CodeListing;
 use crate::explained::{explained_of, write_explained};
@@ -39,8 +39,6 @@ pub enum Body {
     Code(CodeListing),
     /// Code with its chunks.
     Program(ProgramListing),
-    /// Code whose chunks nothing explains, as `ExplainError::Unfinished` says.
-    Unexplained(CodeListing),
 }
 
 /// What is listed of a line.
@@ -74,7 +72,7 @@ fn body_of(
     case: Option<Case>,
     explained: Option<Explained>,
 ) -> Result<Body, AllocError>
-    requires { IfSome explained (Explains (option_map as_asked case)) }
+    requires { IsExplanationOf (option_map as_asked case) explained }
     ensures { IfOk result (IsShown (option_map as_asked case)) }
 {
     match case {
@@ -93,7 +91,7 @@ fn body_of(
                         depths,
                     }))
                 }
-                None => Ok(Body::Unexplained(code)),
+                None => unreachable!(),
             }
         }
     }

@@ -112,8 +112,6 @@ pub enum ExplainError {
     TooLarge,
     /// No pools have the flat form of the caller's lists.
     NotFlat(PoolsFlaw),
-    /// The walk through the chunk found no end. No test has met this; it isn't excluded.
-    Unfinished,
     /// The library returned a status that this package doesn't know.
     Unknown(
         /// The status.
@@ -130,7 +128,6 @@ impl fmt::Display for ExplainError {
             ExplainError::TooMuchWork => "the chunk spans more code than the limit allows",
             ExplainError::TooLarge => "the code or a list of the pools is too long",
             ExplainError::NotFlat(_) => "no pools have this flat form",
-            ExplainError::Unfinished => "the explanation found no end",
             ExplainError::Unknown(_) => "the library returned a status that is unknown here",
         })
     }

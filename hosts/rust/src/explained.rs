@@ -370,7 +370,6 @@ impl Explained<'_> {
                 Ok(None) => ExplainError::Unknown(status),
                 Err(failure) => failure,
             },
-            raw::UNFINISHED => ExplainError::Unfinished,
             status => ExplainError::Unknown(status),
         }
     }

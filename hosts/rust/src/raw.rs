@@ -16,8 +16,7 @@ pub(crate) const NOT_FLAT: u32 = 4;
 pub(crate) const TOO_MUCH_WORK: u32 = 5;
 pub(crate) const NO_CHUNK: u32 = 6;
 pub(crate) const BAD_CODE: u32 = 7;
-pub(crate) const UNFINISHED: u32 = 8;
-pub(crate) const STOPPED: u32 = 9;
+pub(crate) const STOPPED: u32 = 8;
 
 pub(crate) const INTERFACE: u32 = 2;
 pub(crate) const WHOLE_PROGRAM: u64 = u64::MAX;

@@ -6,12 +6,7 @@ use Rattle.grain_c.proofs.explain.grain_proved_explain.Goals as goal
 pub returns-in-Err-BadCode-clause-bad_code : goal.returns-in-Err-BadCode-clause-bad_code
 returns-in-Err-BadCode-clause-bad_code c is =
     let program = c.args.program.now in
-    subst (λ caps. (beside : Beside program.pools) × (IsIndexedBeside caps program.code.now program.pools beside → ⊥)) (c.from_bits_retain-caps.ensures tt) (c.in-Err-BadCode.ensures.cause.bad c.in-Err-BadCode.field-0-is)
-
-pub returns-in-Err-Unfinished-clause-unfinished : goal.returns-in-Err-Unfinished-clause-unfinished
-returns-in-Err-Unfinished-clause-unfinished c is =
-    let program = c.args.program.now in
-    subst (λ caps. (beside : Beside program.pools) × IsIndexedBeside caps program.code.now program.pools beside) (c.from_bits_retain-caps.ensures tt) (c.in-Err-Unfinished.ensures.cause.good c.in-Err-Unfinished.field-0-is)
+    subst (λ caps. (beside : Beside program.pools) × (IsIndexedBeside caps program.code.now program.pools beside → ⊥)) (c.from_bits_retain-caps.ensures tt) (c.in-Err-BadCode.ensures.cause c.in-Err-BadCode.field-0-is)
 
 pub returns-in-None-clause-accepted : goal.returns-in-None-clause-accepted
 returns-in-None-clause-accepted c is =

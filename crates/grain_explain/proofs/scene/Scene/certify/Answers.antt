@@ -28,7 +28,7 @@ returns-then-here-from g c =
     typed_rows s.code s.chunk bases rows sure (rows_reached s bases slots rows r.come r.held)
 
 pub refuse-requires-clause-here : goal.refuse-requires-clause-here
-refuse-requires-clause-here g c = let (k, e) = c.in-Some.ensures.holds in (c.requires.come k c.in-Some.here.now e).come
+refuse-requires-clause-here g c = c.in-Some.ensures.holds
 
 pub refuse-requires-clause-flaw : goal.refuse-requires-clause-flaw
 refuse-requires-clause-flaw g c =

@@ -24,20 +24,31 @@ returns-clause-refusal g c =
     let before = c.args.before.now in
     let arrival = c.args.arrival.now in
     let there = c.requires.there in
+    let (k, e) = c.requires.before in
+    let come = (c.requires.come k before e).come in
     let unlike : counts_of bases before.row ≡ counts_of bases arrival.row → ⊥ = λ e. (let t : c.is_at.result ≡ true = c.is_at.ensures.1 (sym e ∙ sym (ap (counts_on bases) c.at.ensures)) in let f = c.if-is_at.false in cc) in
     record {
-      flaw = (
-        c.requires.ready.framed,
-        c.requires.before.inside,
-        record {
-          one = counts_of bases before.row;
-          other = counts_of bases arrival.row;
-          one_reached = c.requires.before.reached;
-          other_reached = subst (λ (n : ℕ). Reached (coded (seen g.P.Read.facts g.P.Read.leads c.args.self.now).code) c.args.self.now.chunk.now n (counts_of bases arrival.row)) (sym there) c.requires.arrival.reached;
-          unlike = unlike;
-          expected_is = refl;
-          found_is = refl;
-        },
-      );
-      witness = of_conflict (arrival_stop bases before) (arrival_stop bases arrival) c.in_ok-way_to.ensures c.in_ok-way_to-2.ensures refl (sym there) unlike refl refl;
+      shown = record {
+        flaw = (
+          c.requires.ready.framed,
+          come.inside,
+          record {
+            one = counts_of bases before.row;
+            other = counts_of bases arrival.row;
+            one_reached = come.reached;
+            other_reached = subst (λ (n : ℕ). Reached (coded (seen g.P.Read.facts g.P.Read.leads c.args.self.now).code) c.args.self.now.chunk.now n (counts_of bases arrival.row)) (sym there) c.requires.arrival.reached;
+            unlike = unlike;
+            expected_is = refl;
+            found_is = refl;
+          },
+        );
+        witness = of_conflict (arrival_stop bases before) (arrival_stop bases arrival) c.in_ok-way_to.ensures.way c.in_ok-way_to-2.ensures.way refl (sym there) unlike refl refl;
+      };
+      visited = c.in_ok-way_to.ensures.visited c.requires.before;
     }
+
+pub way_to-requires-clause-last : goal.way_to-requires-clause-last
+way_to-requires-clause-last g c = let (k, e) = c.requires.before in (c.requires.come k c.args.before.now e).come
+
+pub is_at-requires-clause-listed : goal.is_at-requires-clause-listed
+is_at-requires-clause-listed g c = let (k, e) = c.requires.before in rw c.at.ensures (c.requires.come k c.args.before.now e).come.listed

@@ -8,7 +8,7 @@ use Rattle.grain_explain.proofs.Sceneries.{along_come, fall_edge, next_inside, n
 use Rattle.grain_explain.proofs.scene.Scene.fall.Goals as goal
 
 pub refuse-requires-clause-here : goal.refuse-requires-clause-here
-refuse-requires-clause-here g c = (c.requires.left.come c.args.departure.now.place c.args.departure.now.here.now c.requires.left.held).come
+refuse-requires-clause-here g c = (c.args.departure.now.place, c.requires.left.held)
 
 pub returns-clause-waits : goal.returns-clause-waits
 returns-clause-waits g c =

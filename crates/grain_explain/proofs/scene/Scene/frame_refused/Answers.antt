@@ -13,5 +13,6 @@ returns g c =
       ascending = rw c.new.ensures.items (λ i j a b l e f. absurd (none-some a e));
       reached = rw (c.new.ensures.items, c.new-3.ensures.items) (All-nil P);
       origins = rw (c.new.ensures.items, c.new-2.ensures.items) tt;
+      path = rw c.new-4.ensures.items (All-nil _);
       explains = record { flaw = c.requires.flaw; witness = rw (c.new-4.ensures.items, c.new-5.ensures.items) (of_frame c.requires.frame) };
     }

@@ -90,9 +90,7 @@ pub refuse-requires-clause-come : goal.refuse-requires-clause-come
 refuse-requires-clause-come g c = subst (λ (bases : List LinkedBase). AreCome (seen g.P.Read.facts g.P.Read.leads c.args.self.now) bases c.args.slots.now) (sym c.deref-in-Err.ensures.value) c.requires.come
 
 pub refuse-requires-clause-here : goal.refuse-requires-clause-here
-refuse-requires-clause-here g c =
-    subst (λ (bases : List LinkedBase). IsCome (seen g.P.Read.facts g.P.Read.leads c.args.self.now) bases c.args.slots.now c.args.here.now) (sym c.deref-in-Err.ensures.value)
-    (c.requires.come c.args.place c.args.here.now c.requires.held).come
+refuse-requires-clause-here g c = (c.args.place, c.requires.held)
 
 pub refuse-requires-clause-shows : goal.refuse-requires-clause-shows
 refuse-requires-clause-shows g c =

@@ -58,7 +58,7 @@ loop-slot-preserved g c =
     ]
 
 pub origin_of-requires-clause-arrival : goal.origin_of-requires-clause-arrival
-origin_of-requires-clause-arrival g c = (c.requires c.loop-slot.slot-index c.in-Some.arrival c.in-Some.is).come
+origin_of-requires-clause-arrival g c = (c.loop-slot.slot-index, c.in-Some.is)
 
 pub returns-clause-reached : goal.returns-clause-reached
 returns-clause-reached g c =

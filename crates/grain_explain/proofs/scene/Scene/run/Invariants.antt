@@ -1,12 +1,12 @@
 use Rattle.std.proofs.Common.{◌-◌, length}
-use Rattle.grain_explain.specs.Pursuits.{ArePursued}
+use Rattle.grain_explain.specs.Pursuits.{IsTurn}
 use Rattle.grain_explain.specs.Scenes.{IsSearching, seen, visit_count}
 use Rattle.grain_explain.proofs.scene.Scene.run.Given as goal
 
 abbrev pub invariant-turns : goal.invariant-turns
 invariant-turns g l = record {
   searching : IsSearching (seen g.P.Read.facts g.P.Read.leads l.self) l.search;
-  pursued : ArePursued (seen g.P.Read.facts g.P.Read.leads l.self) l.search.arming.bases.items l.search.slots.items l.search.work.items;
+  turn : IsTurn (seen g.P.Read.facts g.P.Read.leads l.self) l.search l.next;
 }
 
 abbrev pub decreases-turns : goal.decreases-turns

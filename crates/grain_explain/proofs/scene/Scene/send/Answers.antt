@@ -13,7 +13,7 @@ use Rattle.grain_explain.proofs.Refused.{target_flaw}
 use Rattle.grain_explain.proofs.scene.Scene.send.Goals as goal
 
 pub refuse-requires-clause-here : goal.refuse-requires-clause-here
-refuse-requires-clause-here g c = (c.requires.left.come c.args.departure.now.place c.args.departure.now.here.now c.requires.left.held).come
+refuse-requires-clause-here g c = (c.args.departure.now.place, c.requires.left.held)
 
 pub refuse-requires-clause-flaw : goal.refuse-requires-clause-flaw
 refuse-requires-clause-flaw g c =

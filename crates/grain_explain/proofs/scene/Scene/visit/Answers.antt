@@ -7,8 +7,8 @@ use Rattle.grain_explain.specs.Scenes.{AreCome, Extends, IsCome, seen, visit_cou
 use Rattle.grain_explain.specs.Ways.{first_stop}
 use Rattle.grain_explain.specs.declared.arrival.Arrival.{Arrival}
 use Rattle.grain_explain.proofs.Extending.{held_more}
-use Rattle.grain_explain.proofs.Matching.{both_ok}
-use Rattle.grain_explain.proofs.Pursuing.{ahead_more, each_more}
+use Rattle.grain_explain.proofs.Matching.{both_ok, on_ok}
+use Rattle.grain_explain.proofs.Pursuing.{ahead_more, begun_set, each_more}
 use Rattle.grain_explain.proofs.Sceneries.{come_kept, come_set, if_none, set_place}
 use Rattle.grain_explain.proofs.scene.Scene.visit.Goals as goal
 
@@ -18,7 +18,7 @@ look-requires-clause-come g c =
     let bases = c.args.search.now.arming.bases.items in
     let slots = c.args.search.now.slots.items in
     let next = c.requires.next in
-    subst (AreCome s bases) (sym c.deref.ensures.value) (come_set s bases slots c.args.place c.args.arrival next.inside next.free c.requires.searching.held next.come next.placed)
+    subst (AreCome s bases) (sym c.deref.ensures.value) (come_set s bases slots c.args.place c.args.arrival next.inside next.free c.requires.searching.held next.come next.placed next.first)
 
 pub look-requires-clause-waits : goal.look-requires-clause-waits
 look-requires-clause-waits g c =
@@ -47,7 +47,7 @@ returns-clause-searching g c =
     let next = c.requires.next in
     let r = c.requires.searching in
     let short = r.short in
-    let held = come_set s old slots c.args.place c.args.arrival next.inside next.free r.held next.come next.placed in
+    let held = come_set s old slots c.args.place c.args.arrival next.inside next.free r.held next.come next.placed next.first in
     both_ok c.look.result (λ (few : length new ≤ visit_count c.deref.result.now) (rest : Extends old new × All (IsCome s new c.deref.result.now) c.look.new.work.items). (let extends = rest.0 in record {
       linked = extends.linked;
       sized = long ∙ r.sized;
@@ -78,3 +78,9 @@ returns-clause-pursued g c =
         | inr h ↦ each_more s old new r.linked both.0 slots work more place arrival next.inside next.free r.held r.waits next.come both.1 a (r.held k a h).come.listed (next.pursued.each k a h)
       ];
     }) (both_ok c.look.result (λ (extends : Extends old new) (keeps : Keeps work more). (extends, keeps)) c.look.ensures.extends c.look.ensures.keeps) c.look.ensures.pursued
+
+pub returns-clause-begun : goal.returns-clause-begun
+returns-clause-begun g c =
+    let slots = c.args.search.now.slots.items in
+    let next = c.requires.next in
+    on_ok c.look.result (λ _. begun_set slots c.args.place c.args.arrival next.inside next.free next.begun) c.look.ensures.keeps

@@ -1,6 +1,8 @@
 use Rattle.std.proofs.Common.{◌∷◌, ◌++◌, suc, List, length, ap, refl, subst, sym, ◌∙◌, arith}
 use Rattle.std.proofs.lemmas.List.{length_push}
+use Rattle.std.proofs.lemmas.List.Elements.{All-nil, All-push}
 use Rattle.std.proofs.lemmas.Option.{same_Some}
+use Rattle.grain_explain.specs.Pursuits.{IsRowIn}
 use Rattle.grain_explain.specs.Scenes.{seen, visit_count}
 use Rattle.grain_explain.specs.Ways.{Follows, IsWayTo, arrival_stop, stops_of}
 use Rattle.grain_explain.specs.declared.arrival.Arrival.{Arrival}
@@ -29,6 +31,10 @@ back-preserved g c =
     record {
       come = (c.requires.come c.in-Some.place before found).come;
       back = (m, omega (arith, grown, total, less), earlier);
+      visited = λ h. (
+          let (there, all) = c.back.invariant.visited h in
+          ((c.in-Some.place, found), rw c.in_ok-push.ensures.items (All-push (IsRowIn slots) c.back.way.items here.row all (here, there, refl)))
+          );
       so_far = λ earlier way. (
           let items = ap (λ (rows : List Row). stops_of bases rows ++ arrival_stop bases before ∷ earlier) c.in_ok-push.ensures.items in
           let more = way_more bases c.back.way.items here.row (arrival_stop bases here) (arrival_stop bases before) earlier refl in
@@ -42,5 +48,11 @@ back-init g c =
     record {
       come = c.requires.last;
       back = (suc (visit_count slots), rw c.new-way.ensures.items (omega arith), c.requires.last.bounded.back);
+      visited = λ h. (h, rw c.new-way.ensures.items (All-nil (IsRowIn slots)));
       so_far = λ earlier way. rw c.new-way.ensures.items (record { earlier = earlier; is = refl; along = way });
     }
+
+pub returns-in_default-clause-visited : goal.returns-in_default-clause-visited
+returns-in_default-clause-visited g c h =
+    let (there, all) = c.back.invariant.visited h in
+    rw c.in_ok-push.ensures.items (All-push (IsRowIn c.args.visited.now.slots.now) c.back.way.items c.back.here.now.row all (c.back.here.now, there, refl))
