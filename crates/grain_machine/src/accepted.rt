@@ -97,7 +97,7 @@ impl<'a> Accepted<'a> {
         }
     }
 
-    /// The chunk of the function at an index.
+    /// The chunk of the function at an index, which has to be below the number of the program's functions.
     pub fn function(&self, index: usize) -> Runnable<'_>
         requires { index < length self.now.program.functions }
         ensures program { result.program ≡ self.now.program }
