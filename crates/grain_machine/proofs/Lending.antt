@@ -14,8 +14,8 @@ use Rattle.grain_machine.specs.Calls.{Activation, CallStack, IsCalled, MovesOn, 
 use Rattle.grain_machine.specs.Ends.{IsFaultOf, StackEnds}
 use Rattle.grain_machine.specs.State.{FrameState, IsAt, Runs, frame_with_operands, state_of}
 use Rattle.grain_machine.specs.Values.{KeepsFirst, below, counted, touched}
-use Rattle.grain_machine.specs.declared.step.How.{How}
-use Rattle.grain_machine.specs.declared.step.How.TheVariants as hows
+use Rattle.grain_machine.specs.declared.step.Outcome.{Outcome}
+use Rattle.grain_machine.specs.declared.step.Outcome.TheVariants as outcomes
 use Rattle.grain_machine.proofs.Calling.{uncaught_first}
 use Rattle.grain_machine.proofs.Keeping.{kept_before, kept_on, length-replaced}
 use Rattle.grain_machine.proofs.Passing.{no_rotation, plain_keeps, plain_there}
@@ -115,32 +115,32 @@ module _ {V I : Type 0} (a b : Activation V I) (callers : List (Activation V I))
   found_some None e = e
   found_some (Some h) e = refl
 
-  stack_fault : {F : Type 0} (p : Program) (how : How V F) → Sounds (program_code p) b.machine.address → IsFaultOf (a ∷ callers) how
-      → StackEnds p (record { top = b; callers = callers }) how
-  stack_fault p (hows.Returned v) sounds e = absurd e
-  stack_fault p (hows.Faulted x) sounds e =
+  stack_fault : {F : Type 0} (p : Program) (outcome : Outcome V F) → Sounds (program_code p) b.machine.address → IsFaultOf (a ∷ callers) outcome
+      → StackEnds p (record { top = b; callers = callers }) outcome
+  stack_fault p (outcomes.Returned v) sounds e = absurd e
+  stack_fault p (outcomes.Faulted x) sounds e =
       (sounds, subst (λ (hs : List Handler). option_map_or (λ _. Some (b, callers)) (innermost hs) (catcher callers) ≡ None) same (found_none (innermost a.machine.handlers) e))
-  stack_fault p (hows.Uncatchable x) sounds e =
+  stack_fault p (outcomes.Uncatchable x) sounds e =
       (sounds, subst (λ (hs : List Handler). IsSome (option_map_or (λ _. Some (b, callers)) (innermost hs) (catcher callers))) same (found_some (innermost a.machine.handlers) e))
-  stack_fault p hows.OutOfFuel sounds e = absurd e
-  stack_fault p hows.OutOfMemory sounds e = absurd e
+  stack_fault p outcomes.OutOfFuel sounds e = absurd e
+  stack_fault p outcomes.OutOfMemory sounds e = absurd e
 
-  pub stack_faults : {T F : Type 0} (p : Program) (result : Result T (How V F)) → Sounds (program_code p) b.machine.address → IfErr result (IsFaultOf (a ∷ callers))
+  pub stack_faults : {T F : Type 0} (p : Program) (result : Result T (Outcome V F)) → Sounds (program_code p) b.machine.address → IfErr result (IsFaultOf (a ∷ callers))
       → IfErr result (StackEnds p (record { top = b; callers = callers }))
   stack_faults p (Ok v) sounds e = tt
-  stack_faults p (Err how) sounds e = stack_fault p how sounds e
+  stack_faults p (Err outcome) sounds e = stack_fault p outcome sounds e
 
 -- a fault that leaves the frame on top ends the run as it ends in those that wait
-fault_beyond : {V I F : Type 0} (a : Activation V I) (callers : List (Activation V I)) (how : How V F) → innermost a.machine.handlers ≡ None
-    → IsFaultOf callers how → IsFaultOf (a ∷ callers) how
-fault_beyond a callers (hows.Returned v) none e = absurd e
-fault_beyond a callers (hows.Faulted x) none e = uncaught_first a callers none ∙ e
-fault_beyond {V} {I} a callers (hows.Uncatchable x) none e =
+fault_beyond : {V I F : Type 0} (a : Activation V I) (callers : List (Activation V I)) (outcome : Outcome V F) → innermost a.machine.handlers ≡ None
+    → IsFaultOf callers outcome → IsFaultOf (a ∷ callers) outcome
+fault_beyond a callers (outcomes.Returned v) none e = absurd e
+fault_beyond a callers (outcomes.Faulted x) none e = uncaught_first a callers none ∙ e
+fault_beyond {V} {I} a callers (outcomes.Uncatchable x) none e =
     subst (λ (o : Option (Activation V I × List (Activation V I))). IsSome o) (sym (uncaught_first a callers none)) e
-fault_beyond a callers hows.OutOfFuel none e = absurd e
-fault_beyond a callers hows.OutOfMemory none e = absurd e
+fault_beyond a callers outcomes.OutOfFuel none e = absurd e
+fault_beyond a callers outcomes.OutOfMemory none e = absurd e
 
-pub faults_beyond : {T V I F : Type 0} (a : Activation V I) (callers : List (Activation V I)) (result : Result T (How V F)) → innermost a.machine.handlers ≡ None
+pub faults_beyond : {T V I F : Type 0} (a : Activation V I) (callers : List (Activation V I)) (result : Result T (Outcome V F)) → innermost a.machine.handlers ≡ None
     → IfErr result (IsFaultOf callers) → IfErr result (IsFaultOf (a ∷ callers))
 faults_beyond a callers (Ok v) none e = tt
-faults_beyond a callers (Err how) none e = fault_beyond a callers how none e
+faults_beyond a callers (Err outcome) none e = fault_beyond a callers outcome none e

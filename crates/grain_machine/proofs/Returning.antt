@@ -13,8 +13,8 @@ use Rattle.grain_machine.specs.Values.{Lands, below, counted}
 use Rattle.grain_machine.specs.declared.frames.Caller.{Caller}
 use Rattle.grain_machine.specs.declared.frames.Frames.{Frames}
 use Rattle.grain_machine.specs.declared.run.Limits.{Limits}
-use Rattle.grain_machine.specs.declared.step.How.{How}
-use Rattle.grain_machine.specs.declared.step.How.TheVariants as hows
+use Rattle.grain_machine.specs.declared.step.Outcome.{Outcome}
+use Rattle.grain_machine.specs.declared.step.Outcome.TheVariants as outcomes
 use Rattle.grain_machine.proofs.Calling.{all_waiting, caught_first, outer_runs}
 use Rattle.grain_machine.proofs.Moves.{plain_room, ready_again}
 use Rattle.grain_machine.proofs.Passing.{filled, plain_went, whole_back}
@@ -87,17 +87,17 @@ kept_frames {V} {I} p f h =
     All-cons kept (stack_of f).top (stack_of f).callers top
     (all_waiting kept f.callers.items (All-weaker (IsWaiting p) (λ w. kept (activation_of w)) (kept_waiting p) f.callers.items h.waiting))
 
-ends_after : {V I F : Type 0} (p : Program) (fuel turns : ℕ) (s : CallStack V I) (how : How V F) → turns < fuel → StackEnds p s how → EndsAfter p fuel turns s how
-ends_after p fuel turns s (hows.Returned v) l e = (l, e.0, e.1)
-ends_after p fuel turns s (hows.Faulted x) l e = (l, e.0, e.1)
-ends_after p fuel turns s (hows.Uncatchable x) l e = (l, e.0, e.1)
-ends_after p fuel turns s hows.OutOfFuel l e = absurd e
-ends_after p fuel turns s hows.OutOfMemory l e = (l, e)
+ends_after : {V I F : Type 0} (p : Program) (fuel turns : ℕ) (s : CallStack V I) (outcome : Outcome V F) → turns < fuel → StackEnds p s outcome → EndsAfter p fuel turns s outcome
+ends_after p fuel turns s (outcomes.Returned v) l e = (l, e.0, e.1)
+ends_after p fuel turns s (outcomes.Faulted x) l e = (l, e.0, e.1)
+ends_after p fuel turns s (outcomes.Uncatchable x) l e = (l, e.0, e.1)
+ends_after p fuel turns s outcomes.OutOfFuel l e = absurd e
+ends_after p fuel turns s outcomes.OutOfMemory l e = (l, e)
 
-ended_so : {V I F : Type 0} (r : Runs) (limits : Limits) (f : Frames V I) (at : ℕ) (how : How V F) (earlier : List (CallStack V I))
+ended_so : {V I F : Type 0} (r : Runs) (limits : Limits) (f : Frames V I) (at : ℕ) (outcome : Outcome V F) (earlier : List (CallStack V I))
     → IsRunOfCalls r.program limits.depth r.chunk (stack_of f) earlier → IsStanding r.program f → at ≡ (outermost_of (stack_of f)).machine.address
-    → EndsAfter r.program limits.fuel (length earlier) (stack_of f) how → IsEnded I r limits at how
-ended_so r limits f at how earlier run standing e ends =
+    → EndsAfter r.program limits.fuel (length earlier) (stack_of f) outcome → IsEnded I r limits at outcome
+ended_so r limits f at outcome earlier run standing e ends =
     let outer = outer_runs r.program limits.depth r.chunk (stack_of f) earlier run in
     record {
       stack = stack_of f;
@@ -108,13 +108,13 @@ ended_so r limits f at how earlier run standing e ends =
       ends = ends;
     }
 
-pub ended : {V I F : Type 0} (r : Runs) (limits : Limits) (f : Frames V I) (at : ℕ) (how : How V F) (earlier : List (CallStack V I))
+pub ended : {V I F : Type 0} (r : Runs) (limits : Limits) (f : Frames V I) (at : ℕ) (outcome : Outcome V F) (earlier : List (CallStack V I))
     → IsRunOfCalls r.program limits.depth r.chunk (stack_of f) earlier → IsStanding r.program f → at ≡ (outermost_of (stack_of f)).machine.address
-    → length earlier < limits.fuel → StackEnds r.program (stack_of f) how → IsEnded I r limits at how
-ended r limits f at how earlier run standing e l ends =
-    ended_so r limits f at how earlier run standing e (ends_after r.program limits.fuel (length earlier) (stack_of f) how l ends)
+    → length earlier < limits.fuel → StackEnds r.program (stack_of f) outcome → IsEnded I r limits at outcome
+ended r limits f at outcome earlier run standing e l ends =
+    ended_so r limits f at outcome earlier run standing e (ends_after r.program limits.fuel (length earlier) (stack_of f) outcome l ends)
 
 pub spent : {V I F : Type 0} (r : Runs) (limits : Limits) (f : Frames V I) (at : ℕ) (earlier : List (CallStack V I))
     → IsRunOfCalls r.program limits.depth r.chunk (stack_of f) earlier → IsStanding r.program f → at ≡ (outermost_of (stack_of f)).machine.address
-    → length earlier ≡ limits.fuel → IsEnded {V = V} {F = F} I r limits at hows.OutOfFuel
-spent r limits f at earlier run standing e l = ended_so r limits f at hows.OutOfFuel earlier run standing e l
+    → length earlier ≡ limits.fuel → IsEnded {V = V} {F = F} I r limits at outcomes.OutOfFuel
+spent r limits f at earlier run standing e l = ended_so r limits f at outcomes.OutOfFuel earlier run standing e l

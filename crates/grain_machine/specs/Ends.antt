@@ -14,8 +14,8 @@ use Rattle.grain_machine.specs.Calls.{Activation, CallStack, IsRunOfCalls, Sound
 use Rattle.grain_machine.specs.State.{Runs}
 use Rattle.grain_machine.specs.Values.{ValueMachine, counted, top}
 use Rattle.grain_machine.specs.declared.run.Limits.{Limits}
-use Rattle.grain_machine.specs.declared.step.How.{How}
-use Rattle.grain_machine.specs.declared.step.How.TheVariants as hows
+use Rattle.grain_machine.specs.declared.step.Outcome.{Outcome}
+use Rattle.grain_machine.specs.declared.step.Outcome.TheVariants as outcomes
 
 -- `Return` stands here, and the top of the operand stack is the value, if there is one
 pub record Returns {V I : Type 0} (code : Code) (m : ValueMachine V I) (value : Option V) : Type 0 where
@@ -30,45 +30,45 @@ pub record WantsRoom (code : Code) (address : ℕ) : Type 0 where
 
 -- An operation may end a frame so in this state: `Return` alone returns, no quiet operation faults, all handlers have caught
 -- where a fault finds none, and memory is wanted for iterators and handlers alone.
-abbrev pub MayEnd : {V I F : Type 0} → Code → ValueMachine V I → How V F → Type 0
-MayEnd code m (hows.Returned value) = Returns code m value
-MayEnd code m (hows.Faulted fault) = Sounds code m.address × (innermost m.handlers ≡ None)
-MayEnd code m (hows.Uncatchable fault) = Sounds code m.address × IsSome (innermost m.handlers)
-MayEnd code m hows.OutOfFuel = ⊥
-MayEnd code m hows.OutOfMemory = WantsRoom code m.address
+abbrev pub MayEnd : {V I F : Type 0} → Code → ValueMachine V I → Outcome V F → Type 0
+MayEnd code m (outcomes.Returned value) = Returns code m value
+MayEnd code m (outcomes.Faulted fault) = Sounds code m.address × (innermost m.handlers ≡ None)
+MayEnd code m (outcomes.Uncatchable fault) = Sounds code m.address × IsSome (innermost m.handlers)
+MayEnd code m outcomes.OutOfFuel = ⊥
+MayEnd code m outcomes.OutOfMemory = WantsRoom code m.address
 
 -- it is a fault, which finds these handlers
-abbrev pub IsFault : {V I F : Type 0} → ValueMachine V I → How V F → Type 0
-IsFault m (hows.Returned value) = ⊥
-IsFault m (hows.Faulted fault) = innermost m.handlers ≡ None
-IsFault m (hows.Uncatchable fault) = IsSome (innermost m.handlers)
-IsFault m hows.OutOfFuel = ⊥
-IsFault m hows.OutOfMemory = ⊥
+abbrev pub IsFault : {V I F : Type 0} → ValueMachine V I → Outcome V F → Type 0
+IsFault m (outcomes.Returned value) = ⊥
+IsFault m (outcomes.Faulted fault) = innermost m.handlers ≡ None
+IsFault m (outcomes.Uncatchable fault) = IsSome (innermost m.handlers)
+IsFault m outcomes.OutOfFuel = ⊥
+IsFault m outcomes.OutOfMemory = ⊥
 
 -- it is a fault, which finds these frames
-abbrev pub IsFaultOf : {V I F : Type 0} → List (Activation V I) → How V F → Type 0
-IsFaultOf frames (hows.Returned value) = ⊥
-IsFaultOf frames (hows.Faulted fault) = catcher frames ≡ None
-IsFaultOf frames (hows.Uncatchable fault) = IsSome (catcher frames)
-IsFaultOf frames hows.OutOfFuel = ⊥
-IsFaultOf frames hows.OutOfMemory = ⊥
+abbrev pub IsFaultOf : {V I F : Type 0} → List (Activation V I) → Outcome V F → Type 0
+IsFaultOf frames (outcomes.Returned value) = ⊥
+IsFaultOf frames (outcomes.Faulted fault) = catcher frames ≡ None
+IsFaultOf frames (outcomes.Uncatchable fault) = IsSome (catcher frames)
+IsFaultOf frames outcomes.OutOfFuel = ⊥
+IsFaultOf frames outcomes.OutOfMemory = ⊥
 
 -- A turn may end a run so: `Return` alone returns, where no frame waits; no quiet operation faults, and all handlers of all
 -- frames have caught where a fault finds none; and memory is wanted for iterators and handlers alone.
-abbrev pub StackEnds : {V I F : Type 0} → Program → CallStack V I → How V F → Type 0
-StackEnds p s (hows.Returned value) = Returns (program_code p) s.top.machine value × (s.callers ≡ [])
-StackEnds p s (hows.Faulted fault) = Sounds (program_code p) s.top.machine.address × (catcher (s.top ∷ s.callers) ≡ None)
-StackEnds p s (hows.Uncatchable fault) = Sounds (program_code p) s.top.machine.address × IsSome (catcher (s.top ∷ s.callers))
-StackEnds p s hows.OutOfFuel = ⊥
-StackEnds p s hows.OutOfMemory = WantsRoom (program_code p) s.top.machine.address
+abbrev pub StackEnds : {V I F : Type 0} → Program → CallStack V I → Outcome V F → Type 0
+StackEnds p s (outcomes.Returned value) = Returns (program_code p) s.top.machine value × (s.callers ≡ [])
+StackEnds p s (outcomes.Faulted fault) = Sounds (program_code p) s.top.machine.address × (catcher (s.top ∷ s.callers) ≡ None)
+StackEnds p s (outcomes.Uncatchable fault) = Sounds (program_code p) s.top.machine.address × IsSome (catcher (s.top ∷ s.callers))
+StackEnds p s outcomes.OutOfFuel = ⊥
+StackEnds p s outcomes.OutOfMemory = WantsRoom (program_code p) s.top.machine.address
 
 -- A run that may take so many turns ends so after so many: at an operation that ends it, or with its fuel spent.
-abbrev pub EndsAfter : {V I F : Type 0} → Program → ℕ → ℕ → CallStack V I → How V F → Type 0
-EndsAfter p fuel turns s (hows.Returned value) = (turns < fuel) × Returns (program_code p) s.top.machine value × (s.callers ≡ [])
-EndsAfter p fuel turns s (hows.Faulted fault) = (turns < fuel) × Sounds (program_code p) s.top.machine.address × (catcher (s.top ∷ s.callers) ≡ None)
-EndsAfter p fuel turns s (hows.Uncatchable fault) = (turns < fuel) × Sounds (program_code p) s.top.machine.address × IsSome (catcher (s.top ∷ s.callers))
-EndsAfter p fuel turns s hows.OutOfFuel = turns ≡ fuel
-EndsAfter p fuel turns s hows.OutOfMemory = (turns < fuel) × WantsRoom (program_code p) s.top.machine.address
+abbrev pub EndsAfter : {V I F : Type 0} → Program → ℕ → ℕ → CallStack V I → Outcome V F → Type 0
+EndsAfter p fuel turns s (outcomes.Returned value) = (turns < fuel) × Returns (program_code p) s.top.machine value × (s.callers ≡ [])
+EndsAfter p fuel turns s (outcomes.Faulted fault) = (turns < fuel) × Sounds (program_code p) s.top.machine.address × (catcher (s.top ∷ s.callers) ≡ None)
+EndsAfter p fuel turns s (outcomes.Uncatchable fault) = (turns < fuel) × Sounds (program_code p) s.top.machine.address × IsSome (catcher (s.top ∷ s.callers))
+EndsAfter p fuel turns s outcomes.OutOfFuel = turns ≡ fuel
+EndsAfter p fuel turns s outcomes.OutOfMemory = (turns < fuel) × WantsRoom (program_code p) s.top.machine.address
 
 -- The outermost frame of a run is at this address on a kept run of its chunk, which has made no more moves than this.
 pub record IsOutermost {V I : Type 0} (r : Runs) (a : Activation V I) (turns at : ℕ) : Type 0 where
@@ -80,10 +80,10 @@ pub record IsOutermost {V I : Type 0} (r : Runs) (a : Activation V I) (turns at 
 
 -- A run of the chunk within the limits ends so, and stands at this address of the chunk; each frame is on a kept run of its
 -- own chunk.
-pub record IsEnded {V F : Type 0} (I : Type 0) (r : Runs) (limits : Limits) (at : ℕ) (how : How V F) : Type 0 where
+pub record IsEnded {V F : Type 0} (I : Type 0) (r : Runs) (limits : Limits) (at : ℕ) (outcome : Outcome V F) : Type 0 where
   pub stack : CallStack V I
   pub earlier : List (CallStack V I)
   pub run : IsRunOfCalls r.program limits.depth r.chunk stack earlier
   pub outermost : IsOutermost r (outermost_of stack) (length earlier) at
   pub kept : All (λ a. IsOnKeptRun (program_code r.program) a.chunk (counted a.machine)) (stack.top ∷ stack.callers)
-  pub ends : EndsAfter r.program limits.fuel (length earlier) stack how
+  pub ends : EndsAfter r.program limits.fuel (length earlier) stack outcome

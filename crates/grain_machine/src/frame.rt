@@ -6,12 +6,12 @@ ghost use Rattle.grain_rules.specs.Machine.{innermost};
 ghost use Rattle.grain_rules.specs.Rows.{gives};
 ghost use Rattle.grain.specs.Program.{setting_of};
 ghost use Rattle.grain_machine.specs.Asked.{IsAsked};
-ghost use Rattle.grain_machine.specs.Given.{IsGivenHere};
+ghost use Rattle.grain_machine.specs.Reply.{IsGivenHere};
 ghost use Rattle.grain_machine.specs.State.{Advances, Replaces, frame_at, frame_with_handlers};
 ghost use Rattle.grain_machine.specs.State.{frame_with_iterators, frame_with_operands};
 ghost use Rattle.grain_machine.specs.Values.{Lands, below, rotated, top};
 
-use crate::host::{Given, Host, Request};
+use crate::host::{Host, Reply, Request};
 use std::alloc::{AllocError, Global};
 use std::marker::Model;
 
@@ -166,11 +166,11 @@ impl<V: Drop, I: Drop> Frame<V, I> {
     {
         let base = self.operands.len() - takes;
         match host.give(request, &mut self.operands[base..])? {
-            Given::Value(value) => {
+            Reply::Value(value) => {
                 self.replace(takes, value);
                 Ok(None)
             }
-            Given::Call { function } => Ok(Some(function)),
+            Reply::Call { function } => Ok(Some(function)),
         }
     }
 

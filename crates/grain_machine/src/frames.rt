@@ -8,12 +8,12 @@ ghost use Rattle.grain_machine.specs.Ends.{IsFaultOf, StackEnds};
 ghost use Rattle.grain_machine.specs.Standing.{IsCalling, IsStanding, IsWaiting, MayCallHere};
 ghost use Rattle.grain_machine.specs.Standing.{stack_of, waiting_of};
 ghost use Rattle.grain_machine.specs.State.{state_of};
-ghost use Rattle.grain_machine.specs.declared.step.How.TheVariants as hows;
+ghost use Rattle.grain_machine.specs.declared.step.Outcome.TheVariants as outcomes;
 
 use crate::accepted::Runnable;
 use crate::frame::Frame;
 use crate::host::{CallError, Host};
-use crate::step::{How, Turn};
+use crate::step::{Outcome, Turn};
 use std::alloc::{AllocError, Global};
 use std::mem;
 
@@ -74,7 +74,7 @@ impl<'a, V: Drop, I: Drop> Frames<'a, V, I> {
         alloc: Global,
         host: &mut H,
         depth: usize,
-    ) -> Result<(), How<V, H::Fault>>
+    ) -> Result<(), Outcome<V, H::Fault>>
         requires { IsStanding self.old.body.program self.old }
         ensures standing { OnOk result (IsStanding self.old.body.program self.new) }
         ensures goes { OnOk result
@@ -91,11 +91,11 @@ impl<'a, V: Drop, I: Drop> Frames<'a, V, I> {
                     next,
                 },
             ) => self.call(alloc, host, depth, function, takes, next),
-            Err(How::Returned(value)) => self.give_back(host, value),
-            Err(How::Faulted(fault)) => self.unwind(host, fault),
-            Err(How::Uncatchable(fault)) => Err(How::Uncatchable(fault)),
-            Err(How::OutOfFuel) => Err(How::OutOfFuel),
-            Err(How::OutOfMemory) => Err(How::OutOfMemory),
+            Err(Outcome::Returned(value)) => self.give_back(host, value),
+            Err(Outcome::Faulted(fault)) => self.unwind(host, fault),
+            Err(Outcome::Uncatchable(fault)) => Err(Outcome::Uncatchable(fault)),
+            Err(Outcome::OutOfFuel) => Err(Outcome::OutOfFuel),
+            Err(Outcome::OutOfMemory) => Err(Outcome::OutOfMemory),
         }
     }
 
@@ -108,7 +108,7 @@ impl<'a, V: Drop, I: Drop> Frames<'a, V, I> {
         function: usize,
         takes: usize,
         next: usize,
-    ) -> Result<(), How<V, H::Fault>>
+    ) -> Result<(), Outcome<V, H::Fault>>
         requires standing { IsStanding self.old.body.program self.old }
         requires calling { IsCalling self.old.body (state_of self.old.frame) function takes next }
         ensures standing { OnOk result (IsStanding self.old.body.program self.new) }
@@ -162,7 +162,7 @@ impl<'a, V: Drop, I: Drop> Frames<'a, V, I> {
         function: usize,
         why: CallError,
         next: usize,
-    ) -> Result<(), How<V, H::Fault>>
+    ) -> Result<(), Outcome<V, H::Fault>>
         requires standing { IsStanding self.old.body.program self.old }
         requires calling { MayCallHere self.old.body (state_of self.old.frame) next }
         ensures standing { OnOk result (IsStanding self.old.body.program self.new) }
@@ -175,7 +175,7 @@ impl<'a, V: Drop, I: Drop> Frames<'a, V, I> {
         match self.frame.catch() {
             Some(name) => match host.caught(fault, name) {
                 Ok(()) => Ok(()),
-                Err(fault) => Err(How::Uncatchable(fault)),
+                Err(fault) => Err(Outcome::Uncatchable(fault)),
             },
             None => self.unwind(host, fault),
         }
@@ -186,16 +186,16 @@ impl<'a, V: Drop, I: Drop> Frames<'a, V, I> {
         &mut self,
         host: &mut H,
         value: Option<V>,
-    ) -> Result<(), How<V, H::Fault>>
+    ) -> Result<(), Outcome<V, H::Fault>>
         requires { All (IsWaiting self.old.body.program) self.old.callers.items }
         ensures standing { OnOk result (IsStanding self.old.body.program self.new) }
         ensures goes { OnOk result (IsGivenBack self.old.body.program
             (waiting_of self.old.callers.items) value (stack_of self.new)) }
-        ensures ends { IfErr result (λ how. (how ≡ hows.Returned value)
+        ensures ends { IfErr result (λ outcome. (outcome ≡ outcomes.Returned value)
             × (waiting_of self.old.callers.items ≡ [])) }
     {
         let Some(caller) = self.callers.pop() else {
-            return Err(How::Returned(value));
+            return Err(Outcome::Returned(value));
         };
         host.left();
         let Caller {
@@ -217,7 +217,7 @@ impl<'a, V: Drop, I: Drop> Frames<'a, V, I> {
         &mut self,
         host: &mut H,
         fault: H::Fault,
-    ) -> Result<(), How<V, H::Fault>>
+    ) -> Result<(), Outcome<V, H::Fault>>
         requires { All (IsWaiting self.old.body.program) self.old.callers.items }
         ensures standing { OnOk result (IsStanding self.old.body.program self.new) }
         ensures caught { OnOk result (IsCaughtBy self.old.body.program
@@ -238,13 +238,13 @@ impl<'a, V: Drop, I: Drop> Frames<'a, V, I> {
                     self.frame = frame;
                     return match host.caught(fault, name) {
                         Ok(()) => Ok(()),
-                        Err(fault) => Err(How::Uncatchable(fault)),
+                        Err(fault) => Err(Outcome::Uncatchable(fault)),
                     };
                 }
                 None => {}
             }
         }
-        Err(How::Faulted(fault))
+        Err(Outcome::Faulted(fault))
     }
 
     /// Tells the host that the frames above the outermost one have ended with the run.

@@ -7,7 +7,7 @@ ghost use Rattle.grain_rules.specs.Code.{switch_targets};
 ghost use Rattle.grain_rules.specs.Rows.{gives};
 ghost use Rattle.grain.specs.Program.{setting_of};
 ghost use Rattle.grain_machine.specs.Asked.{IsAsked};
-ghost use Rattle.grain_machine.specs.Given.{NamesFunction};
+ghost use Rattle.grain_machine.specs.Reply.{NamesFunction};
 
 use grain::Program;
 use grain_base::Dynamic;
@@ -29,7 +29,7 @@ pub struct Request<'a> {
 
 /// What a host answers where an operation gives a value.
 #[derive(Drop)]
-pub enum Given<V> {
+pub enum Reply<V> {
     /// The value.
     Value(V),
     /// The machine is to run the function of the program at this index, and what that returns is the value. The host has
@@ -77,7 +77,7 @@ pub trait Host {
         &mut self,
         request: &Request<'_>,
         operands: &mut [Self::Value],
-    ) -> Result<Given<Self::Value>, Self::Fault>
+    ) -> Result<Reply<Self::Value>, Self::Fault>
         requires asked { IsAsked request.now.program.now request.now.chunk request.now.at
             request.now.op.now (length operands.old) }
         requires gives { gives (setting_of request.now.program.now) request.now.op.now ≡ 1 }

@@ -15,6 +15,6 @@ mod run;
 mod step;
 
 pub use accepted::{Accepted, Runnable, accept};
-pub use host::{CallError, Given, Host, Request, dispatch};
+pub use host::{CallError, Host, Reply, Request, dispatch};
 pub use run::{Ending, Limits};
-pub use step::How;
+pub use step::Outcome;

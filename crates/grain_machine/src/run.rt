@@ -5,7 +5,7 @@ ghost use Rattle.grain_machine.specs.Ends.{IsEnded};
 use crate::accepted::Runnable;
 use crate::frames::Frames;
 use crate::host::Host;
-use crate::step::How;
+use crate::step::Outcome;
 use std::alloc::{AllocError, Global};
 
 /// How far a run may go.
@@ -25,7 +25,7 @@ pub struct Ending<V, F> {
     /// one that called the function in which the run ended.
     pub at: usize,
     /// How it ended.
-    pub how: How<V, F>,
+    pub outcome: Outcome<V, F>,
 }
 
 impl<'a> Runnable<'a> {
@@ -43,7 +43,7 @@ impl<'a> Runnable<'a> {
         limits: Limits,
     ) -> Result<Ending<H::Value, H::Fault>, AllocError>
         // A kept run of the chunk ends so, there and within the fuel, and with it those of the functions that it called.
-        ensures ended { IfOk result (λ ending. IsEnded H.Iterator self.now limits ending.at ending.how) }
+        ensures ended { IfOk result (λ ending. IsEnded H.Iterator self.now limits ending.at ending.outcome) }
 
         // Without room for its operands no run begins.
         ensures unasked { OnErr result (host.new ≡ host.old) }
@@ -53,16 +53,16 @@ impl<'a> Runnable<'a> {
             let at = frames.at();
             match frames.turn(alloc, host, limits.depth) {
                 Ok(()) => {}
-                Err(how) => {
+                Err(outcome) => {
                     frames.leave(host);
-                    return Ok(Ending { at, how });
+                    return Ok(Ending { at, outcome });
                 }
             }
         }
         frames.leave(host);
         Ok(Ending {
             at: frames.at(),
-            how: How::OutOfFuel,
+            outcome: Outcome::OutOfFuel,
         })
     }
 }

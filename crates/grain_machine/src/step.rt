@@ -17,7 +17,7 @@ use grain_code::{Op, decode_standing};
 
 /// How a run ends.
 #[derive(Drop)]
-pub enum How<V, F> {
+pub enum Outcome<V, F> {
     /// It came to `Return`, with this on top of the operand stack.
     Returned(Option<V>),
     /// A fault came, and no handler is armed that hasn't caught.
@@ -76,7 +76,7 @@ impl<'a> Runnable<'a> {
         &self,
         frame: &mut Frame<H::Value, H::Iterator>,
         host: &mut H,
-    ) -> Result<Turn, How<H::Value, H::Fault>>
+    ) -> Result<Turn, Outcome<H::Value, H::Fault>>
         requires { IsUnderWay self.now (state_of frame.old) }
         ensures goes { IfOk result (DoesTurn self.now frame.old frame.new) }
         ensures ends { IfErr result (MayEnd (program_code self.now.program) frame.old.machine) }
@@ -143,7 +143,7 @@ impl<'a> Runnable<'a> {
         host: &mut H,
         next: usize,
         act: Leads,
-    ) -> Result<(), How<H::Value, H::Fault>>
+    ) -> Result<(), Outcome<H::Value, H::Fault>>
         requires { IsAt self.now (state_of frame.old) (leading act) next }
         ensures goes { OnOk result (MakesMove self.now frame.old frame.new) }
         ensures ends { IfErr result (MayEnd (program_code self.now.program) frame.old.machine) }
@@ -163,7 +163,7 @@ impl<'a> Runnable<'a> {
                 Ok(())
             }
             Leads::Switch { index } => self.switch(frame, host, next, index),
-            Leads::Return => Err(How::Returned(frame.result())),
+            Leads::Return => Err(Outcome::Returned(frame.result())),
             Leads::Throw => self.throw(frame, host, next),
         }
     }
@@ -175,7 +175,7 @@ impl<'a> Runnable<'a> {
         host: &mut H,
         next: usize,
         act: Iterates,
-    ) -> Result<(), How<H::Value, H::Fault>>
+    ) -> Result<(), Outcome<H::Value, H::Fault>>
         requires { IsAt self.now (state_of frame.old) (iterating act) next }
         ensures goes { OnOk result (MakesMove self.now frame.old frame.new) }
         ensures ends { IfErr result (MayEnd (program_code self.now.program) frame.old.machine) }
@@ -196,7 +196,7 @@ impl<'a> Runnable<'a> {
         frame: &mut Frame<V, I>,
         next: usize,
         act: Guards,
-    ) -> Result<(), How<V, F>>
+    ) -> Result<(), Outcome<V, F>>
         requires { IsAt self.now (state_of frame.old) (guarding act) next }
         ensures goes { OnOk result (MakesMove self.now frame.old frame.new) }
         ensures ends { IfErr result (MayEnd (program_code self.now.program) frame.old.machine) }
@@ -218,7 +218,7 @@ impl<'a> Runnable<'a> {
         op: &Op,
         next: usize,
         takes: usize,
-    ) -> Result<Turn, How<H::Value, H::Fault>>
+    ) -> Result<Turn, Outcome<H::Value, H::Fault>>
         requires at { IsAt self.now (state_of frame.old) op.now next }
         requires plain { IsForHost (setting_of self.now.program) op.now takes takes 1 }
         ensures goes { IfOk result (DoesTurn self.now frame.old frame.new) }
@@ -237,7 +237,7 @@ impl<'a> Runnable<'a> {
             }),
             Err(fault) => match raise(frame, host, fault) {
                 Ok(()) => Ok(Turn::Moved),
-                Err(how) => Err(how),
+                Err(outcome) => Err(outcome),
             },
         }
     }
@@ -251,7 +251,7 @@ impl<'a> Runnable<'a> {
         next: usize,
         needs: usize,
         takes: usize,
-    ) -> Result<(), How<H::Value, H::Fault>>
+    ) -> Result<(), Outcome<H::Value, H::Fault>>
         requires at { IsAt self.now (state_of frame.old) op.now next }
         requires plain { IsForHost (setting_of self.now.program) op.now needs takes 0 }
         requires within { takes ≤ needs }
@@ -327,7 +327,7 @@ impl<'a> Runnable<'a> {
         host: &mut H,
         next: usize,
         target: u32,
-    ) -> Result<(), How<H::Value, H::Fault>>
+    ) -> Result<(), Outcome<H::Value, H::Fault>>
         requires { IsAt self.now (state_of frame.old) (Op.JumpIfTrue target) next }
         ensures goes { OnOk result (MakesMove self.now frame.old frame.new) }
         ensures ends { IfErr result (MayEnd (program_code self.now.program) frame.old.machine) }
@@ -352,7 +352,7 @@ impl<'a> Runnable<'a> {
         host: &mut H,
         next: usize,
         target: u32,
-    ) -> Result<(), How<H::Value, H::Fault>>
+    ) -> Result<(), Outcome<H::Value, H::Fault>>
         requires { IsAt self.now (state_of frame.old) (Op.JumpIfFalse target) next }
         ensures goes { OnOk result (MakesMove self.now frame.old frame.new) }
         ensures ends { IfErr result (MayEnd (program_code self.now.program) frame.old.machine) }
@@ -395,7 +395,7 @@ impl<'a> Runnable<'a> {
         host: &mut H,
         next: usize,
         index: u32,
-    ) -> Result<(), How<H::Value, H::Fault>>
+    ) -> Result<(), Outcome<H::Value, H::Fault>>
         requires { IsAt self.now (state_of frame.old) (Op.Switch index) next }
         ensures goes { OnOk result (MakesMove self.now frame.old frame.new) }
         ensures ends { IfErr result (MayEnd (program_code self.now.program) frame.old.machine) }
@@ -416,7 +416,7 @@ impl<'a> Runnable<'a> {
         frame: &mut Frame<H::Value, H::Iterator>,
         host: &mut H,
         next: usize,
-    ) -> Result<(), How<H::Value, H::Fault>>
+    ) -> Result<(), Outcome<H::Value, H::Fault>>
         requires { IsAt self.now (state_of frame.old) Op.Throw next }
         ensures goes { OnOk result (MakesMove self.now frame.old frame.new) }
         ensures ends { IfErr result (MayEnd (program_code self.now.program) frame.old.machine) }
@@ -432,7 +432,7 @@ impl<'a> Runnable<'a> {
         frame: &mut Frame<H::Value, H::Iterator>,
         host: &mut H,
         next: usize,
-    ) -> Result<(), How<H::Value, H::Fault>>
+    ) -> Result<(), Outcome<H::Value, H::Fault>>
         requires { IsAt self.now (state_of frame.old) Op.IterInit next }
         ensures goes { OnOk result (MakesMove self.now frame.old frame.new) }
         ensures ends { IfErr result (MayEnd (program_code self.now.program) frame.old.machine) }
@@ -444,7 +444,7 @@ impl<'a> Runnable<'a> {
                     frame.go(next);
                     Ok(())
                 }
-                Err(_) => Err(How::OutOfMemory),
+                Err(_) => Err(Outcome::OutOfMemory),
             },
             Err(fault) => raise(frame, host, fault),
         }
@@ -458,7 +458,7 @@ impl<'a> Runnable<'a> {
         next: usize,
         exit: u32,
         counter: Option<u16>,
-    ) -> Result<(), How<H::Value, H::Fault>>
+    ) -> Result<(), Outcome<H::Value, H::Fault>>
         requires { IsAt self.now (state_of frame.old) (Op.IterNext exit counter) next }
         ensures goes { OnOk result (MakesMove self.now frame.old frame.new) }
         ensures ends { IfErr result (MayEnd (program_code self.now.program) frame.old.machine) }
@@ -494,7 +494,7 @@ impl<'a> Runnable<'a> {
         next: usize,
         target: u32,
         name: Option<u32>,
-    ) -> Result<(), How<V, F>>
+    ) -> Result<(), Outcome<V, F>>
         requires { IsAt self.now (state_of frame.old) (Op.PushHandler target name) next }
         ensures goes { OnOk result (MakesMove self.now frame.old frame.new) }
         ensures ends { IfErr result (MayEnd (program_code self.now.program) frame.old.machine) }
@@ -504,7 +504,7 @@ impl<'a> Runnable<'a> {
                 frame.go(next);
                 Ok(())
             }
-            Err(_) => Err(How::OutOfMemory),
+            Err(_) => Err(Outcome::OutOfMemory),
         }
     }
 
@@ -523,7 +523,7 @@ fn raise<H: Host>(
     frame: &mut Frame<H::Value, H::Iterator>,
     host: &mut H,
     fault: H::Fault,
-) -> Result<(), How<H::Value, H::Fault>>
+) -> Result<(), Outcome<H::Value, H::Fault>>
     ensures lands { OnOk result (Lands frame.old.machine frame.new.machine) }
     ensures room { frame.new.room ≡ frame.old.room }
     ensures fault { IfErr result (IsFault frame.old.machine) }
@@ -531,8 +531,8 @@ fn raise<H: Host>(
     match frame.catch() {
         Some(name) => match host.caught(fault, name) {
             Ok(()) => Ok(()),
-            Err(fault) => Err(How::Uncatchable(fault)),
+            Err(fault) => Err(Outcome::Uncatchable(fault)),
         },
-        None => Err(How::Faulted(fault)),
+        None => Err(Outcome::Faulted(fault)),
     }
 }

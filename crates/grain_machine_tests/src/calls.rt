@@ -1,7 +1,7 @@
 //! Functions of a program that are called, and other ways that runs take.
 
 use crate::runs::{
-    ADD, DIVIDE, INVOKE, LESS, Outcome, ended, idle_script, program_of, with_function, with_switch,
+    ADD, DIVIDE, INVOKE, LESS, Seen, ended, idle_script, program_of, with_function, with_switch,
 };
 use crate::samples::{assert_same, made};
 use grain::{Dynamic, Op, Program, Switch, SwitchRange};
@@ -39,7 +39,7 @@ const HALVING_3: &[Op] = halving!(3);
 const HALVING_4: &[Op] = halving!(4);
 
 /// How a run of the program ends, and how many functions are under way then, as the host was told.
-fn told(alloc: Global, program: &Program, fuel: u64) -> Result<(Outcome, usize), Fail> {
+fn told(alloc: Global, program: &Program, fuel: u64) -> Result<(Seen, usize), Fail> {
     let accepted = accept(program)?;
     let mut script = idle_script(alloc);
     let main = accepted.main();
@@ -48,16 +48,16 @@ fn told(alloc: Global, program: &Program, fuel: u64) -> Result<(Outcome, usize),
 }
 
 /// The same of a top level, which ends at an operation, and a function.
-fn called(alloc: Global, ops: &[Op], end: usize, fuel: u64) -> Result<(Outcome, usize), Fail> {
+fn called(alloc: Global, ops: &[Op], end: usize, fuel: u64) -> Result<(Seen, usize), Fail> {
     told(alloc, &with_function(alloc, ops, end)?, fuel)
 }
 
 #[test]
 fn a_function_calls_itself(rt: HostRuntime) {
     let rows = [
-        (HALVING_3, 1000, Outcome::Returned(4)),
-        (HALVING_3, 20, Outcome::OutOfFuel),
-        (HALVING_4, 1000, Outcome::TooDeep),
+        (HALVING_3, 1000, Seen::Returned(4)),
+        (HALVING_3, 20, Seen::OutOfFuel),
+        (HALVING_4, 1000, Seen::TooDeep),
     ];
     for (ops, fuel, outcome) in rows {
         assert_same(
@@ -95,13 +95,13 @@ const THROWING: &[Op] = &[
 #[test]
 fn a_fault_leaves_functions_until_it_is_caught(rt: HostRuntime) {
     let found = made(&rt, called(rt.alloc(), THROWING, 8, 1000));
-    assert_same(&rt, found, (Outcome::Returned(9), 0));
+    assert_same(&rt, found, (Seen::Returned(9), 0));
 }
 
 const TWO: &[Op] = &[Op::Const(1), Op::Return, Op::Const(8), Op::Return];
 
 /// How a run of the program's only function ends, and where.
-fn function_ended(alloc: Global, program: &Program) -> Result<(Outcome, usize), Fail> {
+fn function_ended(alloc: Global, program: &Program) -> Result<(Seen, usize), Fail> {
     if program.functions().len() != 1 {
         return Err(Fail::new("not one function"));
     }
@@ -111,14 +111,14 @@ fn function_ended(alloc: Global, program: &Program) -> Result<(Outcome, usize), 
 }
 
 /// The same of the function that begins at the third of these operations.
-fn second_ended(alloc: Global, ops: &[Op]) -> Result<(Outcome, usize), Fail> {
+fn second_ended(alloc: Global, ops: &[Op]) -> Result<(Seen, usize), Fail> {
     function_ended(alloc, &with_function(alloc, ops, 2)?)
 }
 
 #[test]
 fn a_function_runs_by_itself(rt: HostRuntime) {
     let found = made(&rt, second_ended(rt.alloc(), TWO));
-    assert_same(&rt, found, (Outcome::Returned(8), 7));
+    assert_same(&rt, found, (Seen::Returned(8), 7));
 }
 
 /// switch x { 7 => 1, 2..=4 => 5, _ => 3 }
@@ -158,7 +158,7 @@ fn switch(alloc: Global) -> Result<Switch, AllocError> {
 }
 
 /// How a run of the operations with the switch ends.
-fn switched(alloc: Global, ops: &[Op]) -> Result<(Outcome, usize), Fail> {
+fn switched(alloc: Global, ops: &[Op]) -> Result<(Seen, usize), Fail> {
     let parts = with_switch(alloc, switch(alloc)?)?;
     told(alloc, &program_of(alloc, ops, parts)?, 10)
 }
@@ -169,6 +169,6 @@ const SWITCHES: [(&[Op], i64); 3] = [(switching!(7), 1), (switching!(4), 5), (sw
 fn a_switch_leads_where_its_subject_says(rt: HostRuntime) {
     for (ops, wanted) in SWITCHES {
         let found = made(&rt, switched(rt.alloc(), ops));
-        assert_same(&rt, found, (Outcome::Returned(wanted), 0));
+        assert_same(&rt, found, (Seen::Returned(wanted), 0));
     }
 }

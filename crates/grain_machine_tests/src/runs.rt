@@ -3,7 +3,7 @@ use grain::{
     BuildError, Caps, Cut, Dynamic, Flags, FnAccess, Head, Op, Parts, Positions, Program, Strings,
     Switch, build,
 };
-use grain_machine::{CallError, Given, Host, How, Limits, Request, Runnable, accept, dispatch};
+use grain_machine::{CallError, Host, Limits, Outcome, Reply, Request, Runnable, accept, dispatch};
 use std::alloc::{AllocError, Global};
 use std::test::Fail;
 
@@ -118,7 +118,7 @@ impl Host for Script {
         &mut self,
         request: &Request<'_>,
         operands: &mut [Dynamic],
-    ) -> Result<Given<Dynamic>, Fault> {
+    ) -> Result<Reply<Dynamic>, Fault> {
         // The names from `4` on are those of functions.
         if let Op::Call { name, .. } = request.op
             && *name >= 4
@@ -128,12 +128,12 @@ impl Host for Script {
                 return Err(Fault::Wrong);
             }
             return match self.pass(operands) {
-                Ok(()) => Ok(Given::Call { function }),
+                Ok(()) => Ok(Reply::Call { function }),
                 Err(_) => Err(Fault::OutOfMemory),
             };
         }
         match self.value(request, operands) {
-            Ok(value) => Ok(Given::Value(value)),
+            Ok(value) => Ok(Reply::Value(value)),
             Err(fault) => Err(fault),
         }
     }
@@ -144,9 +144,9 @@ impl Host for Script {
         }
     }
 
-    fn refused(&mut self, _: usize, why: CallError) -> Fault {
+    fn refused(&mut self, _: usize, cause: CallError) -> Fault {
         self.left();
-        match why {
+        match cause {
             CallError::TooDeep => Fault::TooDeep,
             CallError::OutOfMemory => Fault::OutOfMemory,
         }
@@ -369,7 +369,7 @@ pub(crate) fn program(alloc: Global, ops: &[Op]) -> Result<Program, Fail> {
 
 /// How a run ended, with the integer that it returned or threw.
 #[derive(Clone, Copy, Debug, PartialEq, Eq)]
-pub(crate) enum Outcome {
+pub(crate) enum Seen {
     Returned(i64),
     Thrown(i64),
     Wrong,
@@ -379,17 +379,17 @@ pub(crate) enum Outcome {
     OutOfMemory,
 }
 
-fn told(how: How<Dynamic, Fault>) -> Outcome {
-    match how {
-        How::Returned(Some(Dynamic::Int(x))) => Outcome::Returned(x),
-        How::Returned(_) => Outcome::Wrong,
-        How::Faulted(Fault::Thrown(Dynamic::Int(x))) => Outcome::Thrown(x),
-        How::Faulted(Fault::TooDeep) => Outcome::TooDeep,
-        How::Faulted(Fault::OutOfMemory) => Outcome::OutOfMemory,
-        How::Faulted(_) => Outcome::Wrong,
-        How::Uncatchable(_) => Outcome::Stopped,
-        How::OutOfFuel => Outcome::OutOfFuel,
-        How::OutOfMemory => Outcome::OutOfMemory,
+fn told(outcome: Outcome<Dynamic, Fault>) -> Seen {
+    match outcome {
+        Outcome::Returned(Some(Dynamic::Int(x))) => Seen::Returned(x),
+        Outcome::Returned(_) => Seen::Wrong,
+        Outcome::Faulted(Fault::Thrown(Dynamic::Int(x))) => Seen::Thrown(x),
+        Outcome::Faulted(Fault::TooDeep) => Seen::TooDeep,
+        Outcome::Faulted(Fault::OutOfMemory) => Seen::OutOfMemory,
+        Outcome::Faulted(_) => Seen::Wrong,
+        Outcome::Uncatchable(_) => Seen::Stopped,
+        Outcome::OutOfFuel => Seen::OutOfFuel,
+        Outcome::OutOfMemory => Seen::OutOfMemory,
     }
 }
 
@@ -409,11 +409,11 @@ pub(crate) fn ended(
     alloc: Global,
     script: &mut Script,
     fuel: u64,
-) -> Result<(Outcome, usize), AllocError> {
+) -> Result<(Seen, usize), AllocError> {
     let limits = Limits { fuel, depth: 3 };
     let ending = main.run(alloc, script, limits)?;
     let at = ending.at;
-    Ok((told(ending.how), at))
+    Ok((told(ending.outcome), at))
 }
 
 /// How a run of the program ends, where, and whether this was caught in it.
@@ -422,7 +422,7 @@ fn ends(
     program: &Program,
     fuel: u64,
     caught: &[i64],
-) -> Result<(Outcome, usize, bool), Fail> {
+) -> Result<(Seen, usize, bool), Fail> {
     let accepted = accept(program)?;
     let main = accepted.main();
     let mut script = idle_script(alloc);
@@ -431,12 +431,7 @@ fn ends(
 }
 
 /// How a run of the operations ends, where, and whether this was caught in it.
-fn ran(
-    alloc: Global,
-    ops: &[Op],
-    fuel: u64,
-    caught: &[i64],
-) -> Result<(Outcome, usize, bool), Fail> {
+fn ran(alloc: Global, ops: &[Op], fuel: u64, caught: &[i64]) -> Result<(Seen, usize, bool), Fail> {
     ends(alloc, &program(alloc, ops)?, fuel, caught)
 }
 
@@ -464,9 +459,9 @@ const LOOP: &[Op] = &[
 #[test]
 fn a_loop_runs_to_its_end(rt: HostRuntime) {
     let found = made(&rt, ran(rt.alloc(), LOOP, 1000, &[]));
-    assert_same(&rt, found, (Outcome::Returned(6), 44, true));
+    assert_same(&rt, found, (Seen::Returned(6), 44, true));
     let found = made(&rt, ran(rt.alloc(), LOOP, 9, &[]));
-    assert_same(&rt, found, (Outcome::OutOfFuel, 27, true));
+    assert_same(&rt, found, (Seen::OutOfFuel, 27, true));
 }
 
 /// try { try { 5 / 0 } catch { throw 7 } } catch { 9 }
@@ -490,9 +485,9 @@ const THROWING: &[Op] = &[Op::Const(4), Op::Throw];
 #[test]
 fn faults_are_caught_by_the_innermost_handler(rt: HostRuntime) {
     let found = made(&rt, ran(rt.alloc(), TRIES, 1000, &[-1, 7]));
-    assert_same(&rt, found, (Outcome::Returned(9), 30, true));
+    assert_same(&rt, found, (Seen::Returned(9), 30, true));
     let found = made(&rt, ran(rt.alloc(), THROWING, 1000, &[]));
-    assert_same(&rt, found, (Outcome::Thrown(4), 3, true));
+    assert_same(&rt, found, (Seen::Thrown(4), 3, true));
 }
 
 /// try { stop(1, 2) } catch { 9 }
@@ -510,7 +505,7 @@ const STOPPING: &[Op] = &[
 #[test]
 fn a_fault_that_is_not_let_be_caught_ends_the_run(rt: HostRuntime) {
     let found = made(&rt, ran(rt.alloc(), STOPPING, 1000, &[]));
-    assert_same(&rt, found, (Outcome::Stopped, 11, true));
+    assert_same(&rt, found, (Seen::Stopped, 11, true));
 }
 
 /// if a < b { 3 } else { 4 }
@@ -529,9 +524,9 @@ macro_rules! branching {
     };
 }
 
-const BRANCHES: [(&[Op], Outcome, usize); 2] = [
-    (branching!(1, 2), Outcome::Returned(3), 18),
-    (branching!(2, 1), Outcome::Returned(4), 22),
+const BRANCHES: [(&[Op], Seen, usize); 2] = [
+    (branching!(1, 2), Seen::Returned(3), 18),
+    (branching!(2, 1), Seen::Returned(4), 22),
 ];
 
 #[test]

@@ -6,7 +6,7 @@ use grain::{
     Positions, Program, Receiver, Root, Step, StepFlags, Strings, Switch, SwitchRange, Tail, Token,
     build,
 };
-use grain_machine::{Ending, How, Limits, accept};
+use grain_machine::{Ending, Limits, Outcome, accept};
 use grain_script::{Fault, Script};
 use std::alloc::{AllocError, Global};
 use std::collections::HashMap;
@@ -475,20 +475,24 @@ fn ending(alloc: Global, program: &Program) -> Result<Ending<Dynamic, Fault>, Fa
 }
 
 /// What it returned or how it failed, as a text.
-fn told(alloc: Global, program: &Program, how: &How<Dynamic, Fault>) -> Result<String, AllocError> {
-    match how {
-        How::Returned(Some(value)) => value.to_string(alloc),
-        How::Returned(None) => String::from_str(alloc, "nothing"),
-        How::Faulted(fault) | How::Uncatchable(fault) => fault.text(alloc, program),
-        How::OutOfFuel => String::from_str(alloc, "out of fuel"),
-        How::OutOfMemory => String::from_str(alloc, "out of memory"),
+fn told(
+    alloc: Global,
+    program: &Program,
+    outcome: &Outcome<Dynamic, Fault>,
+) -> Result<String, AllocError> {
+    match outcome {
+        Outcome::Returned(Some(value)) => value.to_string(alloc),
+        Outcome::Returned(None) => String::from_str(alloc, "nothing"),
+        Outcome::Faulted(fault) | Outcome::Uncatchable(fault) => fault.text(alloc, program),
+        Outcome::OutOfFuel => String::from_str(alloc, "out of fuel"),
+        Outcome::OutOfMemory => String::from_str(alloc, "out of memory"),
     }
 }
 
 /// What the program returns or how it fails, as a text.
 fn outcome(alloc: Global, program: &Program) -> Result<String, Fail> {
     let ending = ending(alloc, program)?;
-    Ok(told(alloc, program, &ending.how)?)
+    Ok(told(alloc, program, &ending.outcome)?)
 }
 
 /// What operations come to.

@@ -11,7 +11,7 @@ use std::fmt;
 
 /// Why an operation fails.
 #[derive(Drop)]
-pub enum Why {
+pub enum Cause {
     /// The script threw this value.
     Thrown(Dynamic),
     /// No variable has this name, or lies in this slot.
@@ -34,41 +34,41 @@ pub enum Why {
     Unsupported,
 }
 
-impl From<AllocError> for Why {
-    fn from(_: AllocError) -> Why {
-        Why::OutOfMemory
+impl From<AllocError> for Cause {
+    fn from(_: AllocError) -> Cause {
+        Cause::OutOfMemory
     }
 }
 
-impl<T: Drop> From<AllocFailed<T>> for Why {
-    fn from(_: AllocFailed<T>) -> Why {
-        Why::OutOfMemory
+impl<T: Drop> From<AllocFailed<T>> for Cause {
+    fn from(_: AllocFailed<T>) -> Cause {
+        Cause::OutOfMemory
     }
 }
 
-impl Why {
+impl Cause {
     /// What it is called.
     fn name(&self) -> &'static str {
         match self {
-            Why::Thrown(_) => "Runtime error",
-            Why::NoVariable => "Variable not found",
-            Why::NoFunction => "Function not found",
-            Why::WrongType => "Data type incorrect",
-            Why::Overflow => "Arithmetic overflow",
-            Why::DivisionByZero => "Division by zero",
-            Why::NoPart => "Index out of bounds",
-            Why::TooDeep => "Stack overflow",
-            Why::OutOfMemory => "Out of memory",
-            Why::Unsupported => "Unsupported operation",
+            Cause::Thrown(_) => "Runtime error",
+            Cause::NoVariable => "Variable not found",
+            Cause::NoFunction => "Function not found",
+            Cause::WrongType => "Data type incorrect",
+            Cause::Overflow => "Arithmetic overflow",
+            Cause::DivisionByZero => "Division by zero",
+            Cause::NoPart => "Index out of bounds",
+            Cause::TooDeep => "Stack overflow",
+            Cause::OutOfMemory => "Out of memory",
+            Cause::Unsupported => "Unsupported operation",
         }
     }
 }
 
-impl fmt::Display for Why {
+impl fmt::Display for Cause {
     fn fmt<W: fmt::Write>(&self, f: &mut fmt::Formatter<W>) -> fmt::Result {
         f.write_str(self.name())?;
         match self {
-            Why::Thrown(value) => write!(f, ": {value}"),
+            Cause::Thrown(value) => write!(f, ": {value}"),
             _ => Ok(()),
         }
     }
@@ -78,7 +78,7 @@ impl fmt::Display for Why {
 #[derive(Drop)]
 pub struct Fault {
     /// Why it came.
-    pub why: Why,
+    pub cause: Cause,
     /// The address of the operation that the host was asked for last in the chunk where it came. Where a value is no condition
     /// or nothing to go over, or is thrown, the host isn't told the address, and that operation stands before.
     pub at: usize,
@@ -97,14 +97,14 @@ impl Fault {
     /// # Errors
     /// There is no memory for the text.
     pub fn text(&self, alloc: Global, program: &Program) -> Result<String, AllocError> {
-        let why = &self.why;
+        let cause = &self.cause;
         let position = self.position(program);
         match (position.line(), position.position()) {
             (Some(line), Some(column)) => {
-                format!(in alloc; "{why} (line {line}, position {column})")
+                format!(in alloc; "{cause} (line {line}, position {column})")
             }
-            (Some(line), None) => format!(in alloc; "{why} (line {line})"),
-            (None, _) => format!(in alloc; "{why}"),
+            (Some(line), None) => format!(in alloc; "{cause} (line {line})"),
+            (None, _) => format!(in alloc; "{cause}"),
         }
     }
 }

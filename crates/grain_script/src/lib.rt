@@ -15,6 +15,6 @@ mod script;
 mod variables;
 mod walk;
 
-pub use fault::{Fault, Why};
+pub use fault::{Cause, Fault};
 pub use script::Script;
 pub use walk::Walk;

@@ -1,6 +1,6 @@
 //! Operators and functions that scripts call by name.
 
-use crate::fault::Why;
+use crate::fault::Cause;
 use grain_base::Dynamic;
 use std::alloc::Global;
 use std::cmp::Ordering;
@@ -11,7 +11,7 @@ pub(crate) fn operate(
     name: &str,
     left: &Dynamic,
     right: &Dynamic,
-) -> Result<Dynamic, Why> {
+) -> Result<Dynamic, Cause> {
     match name {
         "==" => Ok(Dynamic::Bool(left == right)),
         "!=" => Ok(Dynamic::Bool(left != right)),
@@ -22,7 +22,7 @@ pub(crate) fn operate(
             (Dynamic::Str(_), _) | (_, Dynamic::Str(_)) if name == "+" => {
                 Ok(Dynamic::Str(format!(in alloc; "{left}{right}")?))
             }
-            _ => Err(Why::NoFunction),
+            _ => Err(Cause::NoFunction),
         },
     }
 }
@@ -48,21 +48,21 @@ fn stands_so(name: &str, order: Option<Ordering>) -> bool {
     }
 }
 
-fn of_truths(name: &str, x: bool, y: bool) -> Result<Dynamic, Why> {
+fn of_truths(name: &str, x: bool, y: bool) -> Result<Dynamic, Cause> {
     match name {
         "&" => Ok(Dynamic::Bool(x && y)),
         "|" => Ok(Dynamic::Bool(x || y)),
         "^" => Ok(Dynamic::Bool(x != y)),
-        _ => Err(Why::NoFunction),
+        _ => Err(Cause::NoFunction),
     }
 }
 
-fn of_integers(name: &str, x: i64, y: i64) -> Result<Dynamic, Why> {
+fn of_integers(name: &str, x: i64, y: i64) -> Result<Dynamic, Cause> {
     let number = match name {
         "+" => x.checked_add(y),
         "-" => x.checked_sub(y),
         "*" => x.checked_mul(y),
-        "/" | "%" if y == 0 => return Err(Why::DivisionByZero),
+        "/" | "%" if y == 0 => return Err(Cause::DivisionByZero),
         "/" => x.checked_div(y),
         "%" => x.checked_rem(y),
         "&" => Some(x & y),
@@ -70,28 +70,28 @@ fn of_integers(name: &str, x: i64, y: i64) -> Result<Dynamic, Why> {
         "^" => Some(x ^ y),
         ".." => return Ok(Dynamic::Range(x, y)),
         "..=" => return Ok(Dynamic::RangeInclusive(x, y)),
-        _ => return Err(Why::NoFunction),
+        _ => return Err(Cause::NoFunction),
     };
     match number {
         Some(number) => Ok(Dynamic::Int(number)),
-        None => Err(Why::Overflow),
+        None => Err(Cause::Overflow),
     }
 }
 
 /// What an operator or a function of one argument gives.
-pub(crate) fn operate_on(alloc: Global, name: &str, value: &Dynamic) -> Result<Dynamic, Why> {
+pub(crate) fn operate_on(alloc: Global, name: &str, value: &Dynamic) -> Result<Dynamic, Cause> {
     match (name, value.unshared()) {
         ("-", Dynamic::Int(x)) => match x.checked_neg() {
             Some(number) => Ok(Dynamic::Int(number)),
-            None => Err(Why::Overflow),
+            None => Err(Cause::Overflow),
         },
         ("!", Dynamic::Bool(x)) => Ok(Dynamic::Bool(!*x)),
         ("len", value) => match length_of(value) {
             Some(len) => Ok(Dynamic::Int(len)),
-            None => Err(Why::NoFunction),
+            None => Err(Cause::NoFunction),
         },
         ("to_string", value) => Ok(Dynamic::Str(format!(in alloc; "{value}")?)),
-        _ => Err(Why::NoFunction),
+        _ => Err(Cause::NoFunction),
     }
 }
 

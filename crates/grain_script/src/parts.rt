@@ -4,7 +4,7 @@ ghost use Rattle.std.specs.List.{All};
 ghost use Rattle.grain_script.specs.Parts.{TakesWithin};
 
 use crate::copies::copied;
-use crate::fault::Why;
+use crate::fault::Cause;
 use crate::variables::taken;
 use grain::Program;
 use grain_base::Dynamic;
@@ -18,7 +18,7 @@ pub(crate) fn part_along<'v>(
     value: &'v Dynamic,
     steps: &[Step],
     operands: &[Dynamic],
-) -> Result<&'v Dynamic, Why>
+) -> Result<&'v Dynamic, Cause>
     requires { All (TakesWithin (length operands.now)) steps.now }
 {
     let mut found = value;
@@ -35,7 +35,7 @@ pub(crate) fn copy_along(
     value: &Dynamic,
     steps: &[Step],
     operands: &[Dynamic],
-) -> Result<Dynamic, Why>
+) -> Result<Dynamic, Cause>
     requires { All (TakesWithin (length operands.now)) steps.now }
 {
     let part = part_along(program, value, steps, operands)?;
@@ -48,32 +48,32 @@ fn part<'v>(
     value: &'v Dynamic,
     step: &Step,
     operands: &[Dynamic],
-) -> Result<&'v Dynamic, Why>
+) -> Result<&'v Dynamic, Cause>
     requires { TakesWithin (length operands.now) step.now }
 {
     match (value.unshared(), step) {
         (Dynamic::Array(items), Step::Index { operand, .. }) => {
             match place_in(items.len(), &operands[*operand as usize]) {
                 Some(place) => Ok(&items[place]),
-                None => Err(Why::NoPart),
+                None => Err(Cause::NoPart),
             }
         }
         (Dynamic::Map(entries), step) => match name_in(program, step, operands) {
             Some(name) => entry(entries, name),
-            None => Err(Why::WrongType),
+            None => Err(Cause::WrongType),
         },
-        _ => Err(Why::WrongType),
+        _ => Err(Cause::WrongType),
     }
 }
 
 /// The value that has this name.
-fn entry<'v>(entries: &'v BTreeMap<String, Dynamic>, name: &str) -> Result<&'v Dynamic, Why> {
+fn entry<'v>(entries: &'v BTreeMap<String, Dynamic>, name: &str) -> Result<&'v Dynamic, Cause> {
     for (key, value) in entries {
         if key.as_str() == name {
             return Ok(value);
         }
     }
-    Err(Why::NoPart)
+    Err(Cause::NoPart)
 }
 
 /// The place of an index among so many items, counted from their end where it is below 0.
@@ -114,11 +114,11 @@ pub(crate) fn assign_part(
     steps: &[Step],
     operands: &[Dynamic],
     assigned: Dynamic,
-) -> Result<(), Why>
+) -> Result<(), Cause>
     requires { All (TakesWithin (length operands.now)) steps.now }
 {
     let [step] = steps else {
-        return Err(Why::Unsupported);
+        return Err(Cause::Unsupported);
     };
     match (value, step) {
         (Dynamic::Array(items), Step::Index { operand, .. }) => {
@@ -127,7 +127,7 @@ pub(crate) fn assign_part(
                     items[place] = assigned;
                     Ok(())
                 }
-                None => Err(Why::NoPart),
+                None => Err(Cause::NoPart),
             }
         }
         (Dynamic::Map(entries), step) => match name_in(program, step, operands) {
@@ -135,21 +135,21 @@ pub(crate) fn assign_part(
                 let _ = entries.insert(String::from_str(alloc, name)?, assigned)?;
                 Ok(())
             }
-            None => Err(Why::WrongType),
+            None => Err(Cause::WrongType),
         },
-        _ => Err(Why::WrongType),
+        _ => Err(Cause::WrongType),
     }
 }
 
 /// The map that operands make: a map or unit, and above it names and values in turn.
-pub(crate) fn map_of(alloc: Global, operands: &mut [Dynamic]) -> Result<Dynamic, Why> {
+pub(crate) fn map_of(alloc: Global, operands: &mut [Dynamic]) -> Result<Dynamic, Cause> {
     let Some((first, rest)) = operands.split_first_mut() else {
-        return Err(Why::WrongType);
+        return Err(Cause::WrongType);
     };
     let mut entries = match taken(first) {
         Dynamic::Map(entries) => entries,
         Dynamic::Unit => BTreeMap::new(alloc),
-        _ => return Err(Why::WrongType),
+        _ => return Err(Cause::WrongType),
     };
     let mut key = None;
     for place in rest {
@@ -158,30 +158,30 @@ pub(crate) fn map_of(alloc: Global, operands: &mut [Dynamic]) -> Result<Dynamic,
             (Some(name), value) => {
                 let _ = entries.insert(name, value)?;
             }
-            (None, _) => return Err(Why::WrongType),
+            (None, _) => return Err(Cause::WrongType),
         }
     }
     Ok(Dynamic::Map(entries))
 }
 
 /// Pushes an item onto an array.
-pub(crate) fn pushed(array: &mut Dynamic, operands: &mut [Dynamic]) -> Result<Dynamic, Why> {
+pub(crate) fn pushed(array: &mut Dynamic, operands: &mut [Dynamic]) -> Result<Dynamic, Cause> {
     let Some(item) = operands.first_mut() else {
-        return Err(Why::NoFunction);
+        return Err(Cause::NoFunction);
     };
     match array {
         Dynamic::Array(items) => {
             items.push(taken(item))?;
             Ok(Dynamic::Unit)
         }
-        _ => Err(Why::NoFunction),
+        _ => Err(Cause::NoFunction),
     }
 }
 
 /// Takes the last item off an array, or gives unit where there is none.
-pub(crate) fn popped(array: &mut Dynamic) -> Result<Dynamic, Why> {
+pub(crate) fn popped(array: &mut Dynamic) -> Result<Dynamic, Cause> {
     match array {
         Dynamic::Array(items) => Ok(items.pop().unwrap_or(Dynamic::Unit)),
-        _ => Err(Why::NoFunction),
+        _ => Err(Cause::NoFunction),
     }
 }

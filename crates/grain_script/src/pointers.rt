@@ -2,7 +2,7 @@
 ghost use Rattle.std.specs.Prelude.{◌<◌, IfSome, length};
 
 use crate::copies::copied_items;
-use crate::fault::Why;
+use crate::fault::Cause;
 use crate::variables::taken;
 use grain::Program;
 use grain_base::{Dynamic, FnPtr};
@@ -23,18 +23,18 @@ pub(crate) fn function_of(program: &Program, name: &str, argc: usize) -> Option<
 }
 
 /// The name at an index.
-pub(crate) fn name_of(program: &Program, index: u32) -> Result<&str, Why> {
+pub(crate) fn name_of(program: &Program, index: u32) -> Result<&str, Cause> {
     match program.names().get(index) {
         Some(name) => Ok(name),
-        None => Err(Why::NoFunction),
+        None => Err(Cause::NoFunction),
     }
 }
 
 /// The name of the operator for which an op-assignment stands.
-pub(crate) fn operator_of(program: &Program, index: u32) -> Result<&str, Why> {
+pub(crate) fn operator_of(program: &Program, index: u32) -> Result<&str, Cause> {
     match program.assign_ops().get(index as usize) {
         Some(assign_op) => name_of(program, assign_op.op_name),
-        None => Err(Why::NoFunction),
+        None => Err(Cause::NoFunction),
     }
 }
 
@@ -43,7 +43,7 @@ pub(crate) fn arguments(
     alloc: Global,
     bound: &[Dynamic],
     places: &mut [Dynamic],
-) -> Result<Vec<Dynamic>, Why> {
+) -> Result<Vec<Dynamic>, Cause> {
     let mut arguments = copied_items(alloc, bound)?;
     for place in places {
         arguments.push(taken(place))?;
@@ -52,18 +52,18 @@ pub(crate) fn arguments(
 }
 
 /// The function pointer that lies below its arguments, and their places.
-pub(crate) fn pointer_below(operands: &mut [Dynamic]) -> Result<(FnPtr, &mut [Dynamic]), Why> {
+pub(crate) fn pointer_below(operands: &mut [Dynamic]) -> Result<(FnPtr, &mut [Dynamic]), Cause> {
     let Some((pointer, places)) = operands.split_first_mut() else {
-        return Err(Why::WrongType);
+        return Err(Cause::WrongType);
     };
     match taken(pointer) {
         Dynamic::FnPtr(pointer) => Ok((pointer, places)),
-        _ => Err(Why::WrongType),
+        _ => Err(Cause::WrongType),
     }
 }
 
 /// A pointer to the function of a name, without arguments.
-pub(crate) fn pointer_to(alloc: Global, name: &str) -> Result<Dynamic, Why> {
+pub(crate) fn pointer_to(alloc: Global, name: &str) -> Result<Dynamic, Cause> {
     Ok(Dynamic::FnPtr(FnPtr {
         name: String::from_str(alloc, name)?,
         curry: Vec::new(alloc),
@@ -71,15 +71,15 @@ pub(crate) fn pointer_to(alloc: Global, name: &str) -> Result<Dynamic, Why> {
 }
 
 /// A pointer to the function that a text names.
-pub(crate) fn pointer_named(alloc: Global, name: Option<&Dynamic>) -> Result<Dynamic, Why> {
+pub(crate) fn pointer_named(alloc: Global, name: Option<&Dynamic>) -> Result<Dynamic, Cause> {
     match name {
         Some(Dynamic::Str(name)) => pointer_to(alloc, name.as_str()),
-        _ => Err(Why::WrongType),
+        _ => Err(Cause::WrongType),
     }
 }
 
 /// The function pointer below arguments, with these bound.
-pub(crate) fn curried(alloc: Global, operands: &mut [Dynamic]) -> Result<Dynamic, Why> {
+pub(crate) fn curried(alloc: Global, operands: &mut [Dynamic]) -> Result<Dynamic, Cause> {
     let (pointer, places) = pointer_below(operands)?;
     let curry = arguments(alloc, &pointer.curry, places)?;
     let name = pointer.name.clone()?;

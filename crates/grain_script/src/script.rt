@@ -2,11 +2,11 @@
 ghost use Rattle.std.specs.Prelude.{◌≡◌, IfErr, IfOk, length};
 ghost use Rattle.std.specs.List.{All};
 ghost use Rattle.grain_machine.specs.Asked.{IsAsked};
-ghost use Rattle.grain_machine.specs.Given.{NamesFunction};
+ghost use Rattle.grain_machine.specs.Reply.{NamesFunction};
 ghost use Rattle.grain_script.specs.Parts.{TakesWithin};
 
 use crate::copies::{copied, copied_with_mark, is_marked, marked};
-use crate::fault::{Fault, Why};
+use crate::fault::{Cause, Fault};
 use crate::operators::{operate, operate_on};
 use crate::parts::{assign_part, copy_along, map_of, part_along, popped, pushed};
 use crate::pointers::{
@@ -17,7 +17,7 @@ use crate::walk::Walk;
 use grain::Program;
 use grain_base::Dynamic;
 use grain_code::{Op, Receiver};
-use grain_machine::{CallError, Given, Host, Request, dispatch};
+use grain_machine::{CallError, Host, Reply, Request, dispatch};
 use grain_pools::{Chain, Root, Switch, Tail};
 use std::alloc::{AllocError, Global};
 
@@ -60,18 +60,18 @@ impl Script {
         self.variables.set_variable(name, value)
     }
 
-    fn fault(&self, why: Why) -> Fault
+    fn fault(&self, cause: Cause) -> Fault
         ensures { result.at ≡ self.now.at }
     {
-        Fault { why, at: self.at }
+        Fault { cause, at: self.at }
     }
 
     /// What an operation gives that reads a constant or a variable, if it does.
-    fn read(&self, program: &Program, op: &Op) -> Result<Option<Dynamic>, Why> {
+    fn read(&self, program: &Program, op: &Op) -> Result<Option<Dynamic>, Cause> {
         let value = match op {
             Op::Const(index) => match program.consts().get(*index as usize) {
                 Some(value) => value,
-                None => return Err(Why::NoPart),
+                None => return Err(Cause::NoPart),
             },
             Op::LoadLocal(slot) => self.variables.local(*slot)?,
             Op::LoadNamed(name) => self.variables.variable(*name)?,
@@ -89,7 +89,7 @@ impl Script {
     }
 
     /// What an operation gives that makes a value of its operands, if it does.
-    fn make(&self, op: &Op, operands: &mut [Dynamic]) -> Result<Option<Dynamic>, Why> {
+    fn make(&self, op: &Op, operands: &mut [Dynamic]) -> Result<Option<Dynamic>, Cause> {
         let value = match op {
             Op::MakeArray(_) => Dynamic::Array(arguments(self.alloc, &[], operands)?),
             Op::MakeMap(_) => map_of(self.alloc, operands)?,
@@ -98,7 +98,7 @@ impl Script {
             Op::IsShared => Dynamic::Bool(is_marked(operands.first())),
             Op::InterpolateEnd | Op::CheckSize { .. } => match operands.first_mut() {
                 Some(value) => taken(value),
-                None => return Err(Why::WrongType),
+                None => return Err(Cause::WrongType),
             },
             _ => return Ok(None),
         };
@@ -110,7 +110,7 @@ impl Script {
         &mut self,
         request: &Request<'_>,
         operands: &mut [Dynamic],
-    ) -> Result<Given<Dynamic>, Why>
+    ) -> Result<Reply<Dynamic>, Cause>
         requires { IsAsked request.now.program.now request.now.chunk request.now.at request.now.op.now
             (length operands.old) }
         ensures at { self.new.at ≡ self.old.at }
@@ -118,10 +118,10 @@ impl Script {
     {
         let program = request.program;
         if let Some(value) = self.read(program, request.op)? {
-            return Ok(Given::Value(value));
+            return Ok(Reply::Value(value));
         }
         if let Some(value) = self.make(request.op, operands)? {
-            return Ok(Given::Value(value));
+            return Ok(Reply::Value(value));
         }
         match request.op {
             Op::Call { name, .. } => self.call(program, name_of(program, *name)?, &[], operands),
@@ -138,13 +138,13 @@ impl Script {
                 let mut local = self.variables.take_local(*slot)?;
                 let value = self.call_on(name, &mut local, operands);
                 self.variables.set_local(*slot, local)?;
-                Ok(Given::Value(value?))
+                Ok(Reply::Value(value?))
             }
             Op::Chain(index) => match program.chains().get(*index as usize) {
-                Some(chain) => Ok(Given::Value(self.chain(program, chain, operands)?)),
-                None => Err(Why::NoPart),
+                Some(chain) => Ok(Reply::Value(self.chain(program, chain, operands)?)),
+                None => Err(Cause::NoPart),
             },
-            _ => Err(Why::Unsupported),
+            _ => Err(Cause::Unsupported),
         }
     }
 
@@ -155,19 +155,19 @@ impl Script {
         name: &str,
         bound: &[Dynamic],
         operands: &mut [Dynamic],
-    ) -> Result<Given<Dynamic>, Why>
+    ) -> Result<Reply<Dynamic>, Cause>
         ensures at { self.new.at ≡ self.old.at }
         ensures names { IfOk result (NamesFunction program.now) }
     {
         let arguments = arguments(self.alloc, bound, operands)?;
         if let Some(function) = function_of(program, name, arguments.len()) {
             self.variables.begin(arguments, self.at)?;
-            return Ok(Given::Call { function });
+            return Ok(Reply::Call { function });
         }
         match arguments.as_slice() {
-            [value] => Ok(Given::Value(operate_on(self.alloc, name, value)?)),
-            [left, right] => Ok(Given::Value(operate(self.alloc, name, left, right)?)),
-            _ => Err(Why::NoFunction),
+            [value] => Ok(Reply::Value(operate_on(self.alloc, name, value)?)),
+            [left, right] => Ok(Reply::Value(operate(self.alloc, name, left, right)?)),
+            _ => Err(Cause::NoFunction),
         }
     }
 
@@ -177,12 +177,12 @@ impl Script {
         name: &str,
         receiver: &mut Dynamic,
         operands: &mut [Dynamic],
-    ) -> Result<Dynamic, Why> {
+    ) -> Result<Dynamic, Cause> {
         match name {
             "push" => pushed(receiver, operands),
             "pop" => popped(receiver),
             _ if operands.is_empty() => operate_on(self.alloc, name, receiver),
-            _ => Err(Why::NoFunction),
+            _ => Err(Cause::NoFunction),
         }
     }
 
@@ -193,7 +193,7 @@ impl Script {
         program: &Program,
         chain: &Chain,
         operands: &mut [Dynamic],
-    ) -> Result<Dynamic, Why>
+    ) -> Result<Dynamic, Cause>
         requires { All (TakesWithin (length operands.old)) chain.now.steps.items }
         ensures { self.new.at ≡ self.old.at }
     {
@@ -213,9 +213,9 @@ impl Script {
             }
             Root::Temporary => match operands.last() {
                 Some(value) => copy_along(self.alloc, program, value, steps, operands),
-                None => Err(Why::NoPart),
+                None => Err(Cause::NoPart),
             },
-            Root::This { .. } => Err(Why::Unsupported),
+            Root::This { .. } => Err(Cause::Unsupported),
         }
     }
 
@@ -225,15 +225,15 @@ impl Script {
         chain: &Chain,
         op: &Option<u32>,
         operands: &mut [Dynamic],
-    ) -> Result<(), Why>
+    ) -> Result<(), Cause>
         requires { All (TakesWithin (length operands.old)) chain.now.steps.items }
         ensures { self.new.at ≡ self.old.at }
     {
         let Root::Local { slot, .. } = &chain.root else {
-            return Err(Why::Unsupported);
+            return Err(Cause::Unsupported);
         };
         let Some(last) = operands.last_mut() else {
-            return Err(Why::NoPart);
+            return Err(Cause::NoPart);
         };
         let mut value = taken(last);
         if op.is_some() {
@@ -255,7 +255,7 @@ impl Script {
     }
 
     /// Does an operation that gives no value.
-    fn act(&mut self, request: &Request<'_>, operands: &mut [Dynamic]) -> Result<(), Why>
+    fn act(&mut self, request: &Request<'_>, operands: &mut [Dynamic]) -> Result<(), Cause>
         ensures { self.new.at ≡ self.old.at }
     {
         let program = request.program;
@@ -284,7 +284,7 @@ impl Script {
                 let value = self.variables.take_local(*slot)?;
                 self.variables.set_local(*slot, marked(self.alloc, value)?)
             }
-            _ => Err(Why::Unsupported),
+            _ => Err(Cause::Unsupported),
         }
     }
 }
@@ -296,7 +296,7 @@ fn assigned(
     op: &Option<u32>,
     old: &Dynamic,
     value: Dynamic,
-) -> Result<Dynamic, Why> {
+) -> Result<Dynamic, Cause> {
     match op {
         Some(op) => operate(alloc, operator_of(program, *op)?, old, &value),
         None => Ok(value),
@@ -327,7 +327,7 @@ impl Host for Script {
         &mut self,
         request: &Request<'_>,
         operands: &mut [Dynamic],
-    ) -> Result<Given<Dynamic>, Fault>
+    ) -> Result<Reply<Dynamic>, Fault>
         requires { IsAsked request.now.program.now request.now.chunk request.now.at request.now.op.now
             (length operands.old) }
         ensures names { IfOk result (NamesFunction request.now.program.now) }
@@ -336,7 +336,7 @@ impl Host for Script {
         self.at = request.at;
         match self.answer(request, operands) {
             Ok(given) => Ok(given),
-            Err(why) => Err(self.fault(why)),
+            Err(cause) => Err(self.fault(cause)),
         }
     }
 
@@ -346,11 +346,11 @@ impl Host for Script {
         }
     }
 
-    fn refused(&mut self, _: usize, why: CallError) -> Fault {
+    fn refused(&mut self, _: usize, cause: CallError) -> Fault {
         self.left();
-        match why {
-            CallError::TooDeep => self.fault(Why::TooDeep),
-            CallError::OutOfMemory => self.fault(Why::OutOfMemory),
+        match cause {
+            CallError::TooDeep => self.fault(Cause::TooDeep),
+            CallError::OutOfMemory => self.fault(Cause::OutOfMemory),
         }
     }
 
@@ -361,14 +361,14 @@ impl Host for Script {
         self.at = request.at;
         match self.act(request, operands) {
             Ok(()) => Ok(()),
-            Err(why) => Err(self.fault(why)),
+            Err(cause) => Err(self.fault(cause)),
         }
     }
 
     fn is_true(&mut self, value: &Dynamic) -> Result<bool, Fault> {
         match value.unshared() {
             Dynamic::Bool(value) => Ok(*value),
-            _ => Err(self.fault(Why::WrongType)),
+            _ => Err(self.fault(Cause::WrongType)),
         }
     }
 
@@ -386,7 +386,7 @@ impl Host for Script {
     fn begin(&mut self, value: Dynamic) -> Result<Walk, Fault> {
         match Walk::over(self.alloc, value) {
             Ok(walk) => Ok(walk),
-            Err(why) => Err(self.fault(why)),
+            Err(cause) => Err(self.fault(cause)),
         }
     }
 
@@ -395,23 +395,23 @@ impl Host for Script {
             return Ok(None);
         };
         if let Some(slot) = counter
-            && let Err(why) = self.variables.set_local(slot, Dynamic::Int(count))
+            && let Err(cause) = self.variables.set_local(slot, Dynamic::Int(count))
         {
-            return Err(self.fault(why));
+            return Err(self.fault(cause));
         }
         Ok(Some(item))
     }
 
     fn thrown(&mut self, value: Dynamic) -> Fault {
-        self.fault(Why::Thrown(value))
+        self.fault(Cause::Thrown(value))
     }
 
     fn caught(&mut self, fault: Fault, name: Option<u32>) -> Result<(), Fault> {
-        let Fault { why, at } = fault;
-        let value = match why {
-            Why::TooDeep | Why::OutOfMemory => return Err(Fault { why, at }),
-            Why::Thrown(value) => Ok(value),
-            why => format!(in self.alloc; "{why}").map(|text| Dynamic::Str(text)),
+        let Fault { cause, at } = fault;
+        let value = match cause {
+            Cause::TooDeep | Cause::OutOfMemory => return Err(Fault { cause, at }),
+            Cause::Thrown(value) => Ok(value),
+            cause => format!(in self.alloc; "{cause}").map(|text| Dynamic::Str(text)),
         };
         let Some(name) = name else {
             return Ok(());
@@ -423,7 +423,7 @@ impl Host for Script {
         match bound {
             Ok(()) => Ok(()),
             Err(_) => Err(Fault {
-                why: Why::OutOfMemory,
+                cause: Cause::OutOfMemory,
                 at,
             }),
         }

@@ -1,6 +1,6 @@
 //! Variables: local ones in slots, and those that have a name alone.
 
-use crate::fault::Why;
+use crate::fault::Cause;
 use grain_base::Dynamic;
 use std::alloc::{AllocError, Global};
 use std::mem;
@@ -47,21 +47,21 @@ impl Variables {
     }
 
     /// The value in a slot.
-    pub(crate) fn local(&self, slot: u16) -> Result<&Dynamic, Why> {
-        self.locals.get(self.place(slot)).ok_or(Why::NoVariable)
+    pub(crate) fn local(&self, slot: u16) -> Result<&Dynamic, Cause> {
+        self.locals.get(self.place(slot)).ok_or(Cause::NoVariable)
     }
 
     /// Takes the value out of a slot, which holds unit then.
-    pub(crate) fn take_local(&mut self, slot: u16) -> Result<Dynamic, Why> {
+    pub(crate) fn take_local(&mut self, slot: u16) -> Result<Dynamic, Cause> {
         let place = self.place(slot);
         match self.locals.get_mut(place) {
             Some(local) => Ok(taken(local)),
-            None => Err(Why::NoVariable),
+            None => Err(Cause::NoVariable),
         }
     }
 
     /// Puts a value into a slot, under its mark where it is shared.
-    pub(crate) fn set_local(&mut self, slot: u16, value: Dynamic) -> Result<(), Why> {
+    pub(crate) fn set_local(&mut self, slot: u16, value: Dynamic) -> Result<(), Cause> {
         let place = self.place(slot);
         match self.locals.get_mut(place) {
             Some(Dynamic::Shared(inner)) => {
@@ -72,12 +72,12 @@ impl Variables {
                 *local = value;
                 Ok(())
             }
-            None => Err(Why::NoVariable),
+            None => Err(Cause::NoVariable),
         }
     }
 
     /// Declares a local variable, whose slot is the next one.
-    pub(crate) fn declare(&mut self, value: Dynamic) -> Result<(), Why> {
+    pub(crate) fn declare(&mut self, value: Dynamic) -> Result<(), Cause> {
         self.locals.push(value)?;
         Ok(())
     }
@@ -89,13 +89,13 @@ impl Variables {
     }
 
     /// The value of a named variable.
-    pub(crate) fn variable(&self, name: u32) -> Result<&Dynamic, Why> {
+    pub(crate) fn variable(&self, name: u32) -> Result<&Dynamic, Cause> {
         for named in &self.named {
             if named.name == name {
                 return Ok(&named.value);
             }
         }
-        Err(Why::NoVariable)
+        Err(Cause::NoVariable)
     }
 
     /// Gives the variable of a name its value, and declares it where it isn't there.
@@ -111,7 +111,7 @@ impl Variables {
     }
 
     /// A function begins, whose first local variables are its arguments.
-    pub(crate) fn begin(&mut self, arguments: Vec<Dynamic>, at: usize) -> Result<(), Why> {
+    pub(crate) fn begin(&mut self, arguments: Vec<Dynamic>, at: usize) -> Result<(), Cause> {
         self.bases.reserve(1)?;
         self.locals.reserve(arguments.len())?;
         let locals = self.locals.len();

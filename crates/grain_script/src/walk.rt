@@ -1,6 +1,6 @@
 //! Walks over the items of values.
 
-use crate::fault::Why;
+use crate::fault::Cause;
 use grain_base::Dynamic;
 use std::alloc::Global;
 
@@ -43,7 +43,7 @@ pub struct Walk {
 
 impl Walk {
     /// Begins to go over a value.
-    pub(crate) fn over(alloc: Global, value: Dynamic) -> Result<Walk, Why> {
+    pub(crate) fn over(alloc: Global, value: Dynamic) -> Result<Walk, Cause> {
         let rest = match value {
             Dynamic::Array(items) => {
                 let mut items = items;
@@ -59,7 +59,7 @@ impl Walk {
                 last: to,
             }),
             Dynamic::Str(text) => Rest::Items(characters(alloc, text.as_str())?),
-            _ => return Err(Why::WrongType),
+            _ => return Err(Cause::WrongType),
         };
         Ok(Walk { rest, count: 0 })
     }
@@ -77,7 +77,7 @@ impl Walk {
 }
 
 /// The characters of a text, the first one last.
-fn characters(alloc: Global, text: &str) -> Result<Vec<Dynamic>, Why> {
+fn characters(alloc: Global, text: &str) -> Result<Vec<Dynamic>, Cause> {
     let mut items = Vec::new(alloc);
     for character in text.chars() {
         items.push(Dynamic::Char(character))?;

@@ -1,5 +1,5 @@
 use Rattle.std.proofs.Common.{◌+◌, ◌-◌, ◌≤◌, length, subst, arith}
-use Rattle.grain_machine.specs.Given.{IsGivenHere}
+use Rattle.grain_machine.specs.Reply.{IsGivenHere}
 use Rattle.grain_machine.specs.State.{Replaces, state_of}
 use Rattle.grain_machine.proofs.Moves.{plain_room}
 use Rattle.grain_machine.proofs.Passing.{plain_back, plain_went}

@@ -10,10 +10,10 @@ pub returns-in-Err-clause-ended : goal.returns-in-Err-clause-ended
 returns-in-Err-clause-ended g c =
     let i = c.turns.invariant in
     let s = stack_of c.turns.frames in
-    let ends = subst (λ (p : Program). StackEnds p s c.in-Err.how) i.standing.program c.in-Err.ensures.ends in
+    let ends = subst (λ (p : Program). StackEnds p s c.in-Err.outcome) i.standing.program c.in-Err.ensures.ends in
     let before : length i.earlier ≡ c.turns._turn = i.long in
     let fueled : length i.earlier < c.args.limits.fuel = omega (arith, c.turns-test.true) in
-    ended c.args.self.now c.args.limits c.turns.frames c.at-at.result c.in-Err.how i.earlier i.run i.standing c.at-at.ensures fueled ends
+    ended c.args.self.now c.args.limits c.turns.frames c.at-at.result c.in-Err.outcome i.earlier i.run i.standing c.at-at.ensures fueled ends
 
 pub turns-preserved : goal.turns-preserved
 turns-preserved g c =

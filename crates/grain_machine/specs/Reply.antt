@@ -2,11 +2,11 @@
 use Rattle.std.specs.Prelude.{◌<◌, ⊤, ℕ, Option, Some, None, length}
 use Rattle.grain.specs.Program.{Program}
 use Rattle.grain_machine.specs.State.{FrameState, Replaces}
-use Rattle.grain_machine.specs.declared.host.Given.{Given}
-use Rattle.grain_machine.specs.declared.host.Given.TheVariants as givens
+use Rattle.grain_machine.specs.declared.host.Reply.{Reply}
+use Rattle.grain_machine.specs.declared.host.Reply.TheVariants as givens
 
 -- a function that it names is one of the program
-abbrev pub NamesFunction : {V : Type 0} → Program → Given V → Type 0
+abbrev pub NamesFunction : {V : Type 0} → Program → Reply V → Type 0
 NamesFunction p (givens.Value value) = ⊤
 NamesFunction p (givens.Call function) = function < length p.functions
 
