@@ -41,7 +41,11 @@ none_explained i r chunks at known verdict (inr flaw) empty =
 no_place : (o : Option ℕ) (p : ℕ) → o ≡ None → o ≡ Some p → ⊥
 no_place o p none some = cc
 
--- where it has one, the tests before the chunks pass
+-- the tests before the chunks pass where the program is accepted
+pub accepted_reaches : (i : Input) → IsAccepted i → ReachesChunks i
+accepted_reaches i a = record { constants = a.constants; code = a.code; functions = a.functions }
+
+-- and where a refusal has a place
 pub placed_reaches : (i : Input) (r : Refusal) (p : ℕ) → r.place ≡ Some p → IsPlacedRefusal i r → ReachesChunks i
 placed_reaches i r p at (inl wants) = absurd (no_place r.place p wants.place at)
 placed_reaches i r p at (inr flaw) =

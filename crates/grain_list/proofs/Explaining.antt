@@ -1,7 +1,6 @@
 -- The verdict that an explanation has.
-use Rattle.std.proofs.Common.{◌≡◌, ◌≢◌, ℕ, List, ◌++◌, Option, None, Some, Ok, Err, Vec, inl, inr, sym, subst}
+use Rattle.std.proofs.Common.{◌≡◌, ◌≢◌, ℕ, List, ◌++◌, Option, None, Some, Ok, Err, Vec, inl, inr, subst}
 use Rattle.std.specs.declared.alloc.Global.{Global}
-use Rattle.std.proofs.lemmas.Option.{none-some}
 use Rattle.grain_verify.specs.Refusals.{without_place}
 use Rattle.grain_rules.specs.Verdict.{IsVerdict}
 use Rattle.grain.specs.declared.explanation.Explained.{Explained}
@@ -10,14 +9,7 @@ use Rattle.grain_rules.specs.declared.error.VerifyError.TheVariants.{OutOfMemory
 use Rattle.grain_lines.specs.Case.{Asked, code, site, verify}
 use Rattle.grain_lines.specs.Verdict.{Adds, IsVerdictOn, accepted_text, program, refused_text}
 use Rattle.grain_lines.proofs.VerdictLaws.{adds_accepted, adds_refused}
-use Rattle.grain_list.specs.Listed.{Explains, IsExplanationOf}
-
--- an explanation that was found is of a program
-pub explains_found : (question : Option Asked) (x : Explained) → IsExplanationOf question (Some x) → Explains question x
-explains_found None x h = absurd (none-some x (sym h))
-explains_found (Some (code bytes)) x h = absurd (none-some x (sym h))
-explains_found (Some (site table address)) x h = absurd (none-some x (sym h))
-explains_found (Some (verify caps bytes chunks)) x h = h
+use Rattle.grain_list.specs.Listed.{Explains}
 
 pub adds_numbers : (question : Option Asked) (x : Explained) (numbers : Vec ℕ Global) (old new : List ℕ) → Explains question x → x.verdict ≡ Ok numbers
     → new ≡ old ++ accepted_text numbers.items → Adds (IsVerdictOn question) old new

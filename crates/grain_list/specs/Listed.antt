@@ -1,5 +1,5 @@
 -- What is listed of a line, by what the line asks.
-use Rattle.std.specs.Prelude.{◌≡◌, ℕ, List, Option, None, Some, MatchOption}
+use Rattle.std.specs.Prelude.{◌≡◌, ℕ, List, Option, None, Some}
 use Rattle.grain.specs.Explanations.{IsExplanation}
 use Rattle.grain_code.specs.Span.{Span}
 use Rattle.grain.specs.declared.explanation.Explained.{Explained}
@@ -19,15 +19,8 @@ Explains (Some (code bytes)) x = ⊥
 Explains (Some (site table address)) x = ⊥
 Explains (Some (verify caps bytes chunks)) x = IsExplanation (program caps bytes chunks) x
 
--- the explanation of the program that is asked of, and none of what is no program
-abbrev pub IsExplanationOf : Option Asked → Option Explained → Type 0
-IsExplanationOf None found = found ≡ None
-IsExplanationOf (Some (code bytes)) found = found ≡ None
-IsExplanationOf (Some (site table address)) found = found ≡ None
-IsExplanationOf (Some (verify caps bytes chunks)) found = MatchOption found ⊥ (IsExplanation (program caps bytes chunks))
-
 -- What is shown behind the verdict: of a line without a form what is wrong with it, of code its instructions, and of a program
--- besides its chunks with an explanation of it.
+-- besides its chunks with an explanation of it, where there is one.
 pub data IsShown : Option Asked → Body → Type 0 where
   of_none : (p : Problem) → IsShown None (bodies.Bad p)
   of_site : (table : List ℕ) (address : ℕ) → IsShown (Some (site table address)) bodies.Site
@@ -35,3 +28,5 @@ pub data IsShown : Option Asked → Body → Type 0 where
   of_program : {caps : ℕ} {bytes : List ℕ} {chunks : List Span} {p : ProgramListing}
       → IsListedCode bytes p.code → p.chunks.items ≡ chunks → Explains (Some (verify caps bytes chunks)) p.explained
       → IsShown (Some (verify caps bytes chunks)) (bodies.Program p)
+  of_unexplained : {caps : ℕ} {bytes : List ℕ} {chunks : List Span} {c : CodeListing}
+      → IsListedCode bytes c → IsShown (Some (verify caps bytes chunks)) (bodies.Unexplained c)

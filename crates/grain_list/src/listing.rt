@@ -4,7 +4,7 @@ ghost use Rattle.std.specs.Prelude.{◌≡◌, IfOk, IfSome, Option, is_none, st
 ghost use Rattle.std.specs.Option.{option_map};
 ghost use Rattle.grain_lines.specs.Case.{Asked, as_asked, asked};
 ghost use Rattle.grain_lines.specs.Verdict.{Verdict};
-ghost use Rattle.grain_list.specs.Listed.{IsExplanationOf, IsShown};
+ghost use Rattle.grain_list.specs.Listed.{Explains, IsShown};
 
 use crate::code::CodeListing;
 use crate::explained::{explained_of, write_explained};
@@ -39,6 +39,8 @@ pub enum Body {
     Code(CodeListing),
     /// Code with its chunks.
     Program(ProgramListing),
+    /// Code alone, of a program that nothing explains: `explain` has no such error, as its clause `memory` says.
+    Unexplained(CodeListing),
 }
 
 /// What is listed of a line.
@@ -72,7 +74,7 @@ fn body_of(
     case: Option<Case>,
     explained: Option<Explained>,
 ) -> Result<Body, AllocError>
-    requires { IsExplanationOf (option_map as_asked case) explained }
+    requires { IfSome explained (Explains (option_map as_asked case)) }
     ensures { IfOk result (IsShown (option_map as_asked case)) }
 {
     match case {
@@ -91,7 +93,7 @@ fn body_of(
                         depths,
                     }))
                 }
-                None => unreachable!(),
+                None => Ok(Body::Unexplained(code)),
             }
         }
     }

@@ -258,7 +258,9 @@ fn write_problem(alloc: Global, body: &Body, json: &mut Writer) -> Result<(), Al
             let said = format!(in alloc; "{problem}")?;
             write_words("problem", said.as_str(), json)
         }
-        Body::Site | Body::Code(_) | Body::Program(_) => { write_null("problem", json) }
+        Body::Site | Body::Code(_) | Body::Program(_) | Body::Unexplained(_) => {
+            write_null("problem", json)
+        }
     }
 }
 
@@ -274,7 +276,7 @@ fn early_error(program: &ProgramListing) -> Option<&VerifyError> {
 fn write_early_refusal(alloc: Global, body: &Body, json: &mut Writer) -> Result<(), AllocError> {
     let error = match body {
         Body::Program(program) => early_error(program),
-        Body::Bad(_) | Body::Site | Body::Code(_) => None,
+        Body::Bad(_) | Body::Site | Body::Code(_) | Body::Unexplained(_) => None,
     };
     match error {
         Some(error) => write_refusal(alloc, error, NO_HANDLERS, &[], &[], json),
@@ -285,7 +287,7 @@ fn write_early_refusal(alloc: Global, body: &Body, json: &mut Writer) -> Result<
 /// The code that is listed without chunks, if there is any.
 fn bare_code(body: &Body) -> Option<&CodeListing> {
     match body {
-        Body::Code(code) => Some(code),
+        Body::Code(code) | Body::Unexplained(code) => Some(code),
         Body::Program(program) if program.explained.chunks.is_empty() => Some(&program.code),
         Body::Bad(_) | Body::Site | Body::Program(_) => None,
     }

@@ -344,7 +344,7 @@ pub fn write_text(paint: Paint, listing: &Listing, text: &mut String) -> Result<
     match &listing.body {
         Body::Bad(problem) => write!(text, "  {problem}\n")?,
         Body::Site => {}
-        Body::Code(code) => write_code(paint, code, text)?,
+        Body::Code(code) | Body::Unexplained(code) => write_code(paint, code, text)?,
         Body::Program(program) => write_program(paint, program, text)?,
     }
     text.push_str("\n")

@@ -134,8 +134,8 @@ impl<'a> Explained<'a> {
         self.chunk.map(|(index, _)| index)
     }
 
-    /// The states at the reached instructions of the chunk, in the order of addresses: all of them where the chunk passes;
-    /// where it is refused, those that the walk visited until it met the flaw.
+    /// The states at the reached instructions of the chunk, in the order of addresses, one for each at most: all of them where
+    /// the chunk passes; where it is refused, those of the path, and others that the walk visited until it met the flaw.
     #[must_use]
     pub fn rows(&self) -> &[Row] {
         &self.rows[..self.ends.0]

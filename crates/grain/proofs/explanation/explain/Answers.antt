@@ -1,6 +1,6 @@
 use Rattle.std.proofs.lemmas.Result.{err_from_is_err_and}
 use Rattle.grain_rules.specs.Accepted.{input_beside}
-use Rattle.grain.proofs.Refusing.{none_explained, only_memory, placed_explained, placed_reaches}
+use Rattle.grain.proofs.Refusing.{accepted_reaches, none_explained, only_memory, placed_explained, placed_reaches}
 use Rattle.grain.proofs.explanation.explain.Goals as goal
 
 pub returns-in_default : goal.returns-in_default
@@ -24,3 +24,11 @@ returns-in_err-chunks-in-Some-clause-memory g c =
     let reaches = placed_reaches i c.in-Err.refusal c.in-Some.field-0 c.in-Some.is (rw c.new-candidate.ensures at c.in-Err.ensures.placed) in
     let p = err_from_is_err_and c.from_residual-in_err-chunks-in-Some.result c.from_residual-in_err-chunks-in-Some.ensures.1 in
     rw (p.1, p.2) (only_memory c.in_err-chunks-in-Some.field-0.0 (λ bad. c.in_err-chunks-in-Some.ensures.cause.bad bad reaches.code), reaches)
+
+pub returns-in_err-chunks-in-Ok-clause-memory : goal.returns-in_err-chunks-in-Ok-clause-memory
+returns-in_err-chunks-in-Ok-clause-memory g c =
+    let i = input_beside c.args.caps.0 c.args.consts.now c.args.code.now c.args.functions.now c.args.chunks.now (g.P.Read.facts c.args.pools.now) (g.P.Read.leads c.args.pools.now) in
+    let verdict = rw c.new-candidate.ensures at c.in-Ok.ensures.verdict in
+    let reaches = accepted_reaches i verdict.accepted in
+    let p = err_from_is_err_and c.from_residual.result c.from_residual.ensures.1 in
+    rw (p.1, p.2) (only_memory c.in_err-chunks-in-Ok.field-0.0 (λ bad. c.in_err-chunks-in-Ok.ensures.cause.bad bad reaches.code), reaches)

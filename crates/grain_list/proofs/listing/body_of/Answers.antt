@@ -1,7 +1,7 @@
-use Rattle.std.proofs.Common.{Some, refl, subst}
+use Rattle.std.proofs.Common.{IfSome, Some, refl, subst}
 use Rattle.std.specs.Option.{option_map}
 use Rattle.grain_lines.specs.Case.{as_asked}
-use Rattle.grain_list.specs.Listed.{IsExplanationOf, of_code, of_none, of_program, of_site}
+use Rattle.grain_list.specs.Listed.{Explains, of_code, of_none, of_program, of_site, of_unexplained}
 use Rattle.grain_list.proofs.listing.body_of.Goals as goal
 
 pub returns-in-None : goal.returns-in-None
@@ -15,7 +15,10 @@ returns-in-Some-Code c = rw (c.in-Some-Code.is, c.in-Some-Code.field-0-is) (of_c
 
 pub returns-in-Some : goal.returns-in-Some
 returns-in-Some c =
-    let found = subst (IsExplanationOf (option_map as_asked c.args.case)) c.in-Some.is c.requires in
-    let of_case = subst (λ k. IsExplanationOf (option_map as_asked k) (Some c.in-Some.explained)) c.in-Some-Verify.is found in
-    let explains = subst (λ k. IsExplanationOf (Some (as_asked k)) (Some c.in-Some.explained)) c.in-Some-Verify.field-0-is of_case in
+    let found = subst (λ o. IfSome o (Explains (option_map as_asked c.args.case))) c.in-Some.is c.requires in
+    let of_case = subst (λ k. Explains (option_map as_asked k) c.in-Some.explained) c.in-Some-Verify.is found in
+    let explains = subst (λ k. Explains (Some (as_asked k)) c.in-Some.explained) c.in-Some-Verify.field-0-is of_case in
     rw (c.in-Some-Verify.is, c.in-Some-Verify.field-0-is) (of_program c.in_ok-code-in-Some-Verify.ensures refl explains)
+
+pub returns : goal.returns
+returns c = rw (c.in-Some-Verify.is, c.in-Some-Verify.field-0-is) (of_unexplained c.in_ok-code-in-Some-Verify.ensures)
