@@ -3,7 +3,7 @@ use Rattle.std.specs.Prelude.{◌≡◌, ℕ, ◌/◌, ◌%◌, ◌^◌, ◌≤�
 use Rattle.grain_code.specs.Span.{Span}
 use Rattle.grain.specs.Program.{Program, places_of}
 use Rattle.grain_file.specs.declared.file.Limits.{Limits}
-use Rattle.grain_file.specs.declared.error.Fault.TheVariants.{Magic, Version, Kind, Unsupported, Trailing}
+use Rattle.grain_file.specs.declared.error.Fault.TheVariants.{Magic, Version, Kind, Trailing}
 use Rattle.grain_file.specs.declared.error.Unkept.{Unkept}
 use Rattle.grain_file.specs.declared.error.Unkept.TheVariants.{Residuals}
 use Rattle.grain_file.specs.Reading.{Flaw, ◌>>=◌}
@@ -11,7 +11,7 @@ use Rattle.grain_file.specs.Formats.{Format, any_number, number_below, blob, tex
 use Rattle.grain_file.specs.Functions.{FunctionParts, function_parts, function_format, chunk_format}
 use Rattle.grain_file.specs.Names.{names_format}
 use Rattle.grain_file.specs.Tokens.{TokenParts, AssignOpParts, token_parts, token_format, assign_op_parts, assign_op_format}
-use Rattle.grain_file.specs.Chains.{Place, ChainParts, chain_parts, chain_format, place_refusal}
+use Rattle.grain_file.specs.Chains.{Place, ChainParts, chain_parts, chain_format, place_format}
 use Rattle.grain_file.specs.Switches.{SwitchParts, most_cases, switch_parts, switch_format}
 use Rattle.grain_file.specs.Form.{Form, forms, spelled, value_refusal, FitsWithin}
 use Rattle.grain_file.specs.FormAt.{value_at}
@@ -57,9 +57,9 @@ pools_format bounds = both names_format (depending (counted (value_format bounds
 
 -- ---- all else
 
--- the places of the code's bytes, if they are known, which is spelled by 0 where they aren't
+-- the places of the code's bytes, if they are known
 abbrev pub positions_format : Format (Option (List Place))
-positions_format = headed 0 Unsupported (only None place_refusal refl)
+positions_format = optional (counted place_format)
 
 abbrev pub residuals_refusal : ℕ → Option Unkept
 residuals_refusal zero = None
