@@ -15,7 +15,7 @@ pub enum Fault {
     #[error("unknown version")]
     Version,
     /// The file is of another kind.
-    #[error("not a program")]
+    #[error("a file of another kind")]
     Kind,
     /// The bytes end within a field.
     #[error("the file ends within a field")]

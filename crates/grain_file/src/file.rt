@@ -235,7 +235,7 @@ fn read_code(cursor: &mut Cursor<'_>) -> Result<Code, Stop>
 }
 
 /// The number of these halves.
-fn join(low: u64, high: u64) -> u128
+pub(crate) fn join(low: u64, high: u64) -> u128
     ensures { halves result ≡ (low, high) }
 {
     u128::from(high) * (1 << 64) + u128::from(low)

@@ -14,8 +14,8 @@ use crate::number::put_bytes;
 use crate::switches::put_switches;
 use crate::values::put_values;
 use grain::Program;
-use grain_bytecode::Positions;
 use grain_base::Flags;
+use grain_bytecode::Positions;
 use std::alloc::{AllocError, Global};
 
 /// The file of a program (docs/FORMAT.md, "Program files"). It goes over the program once, and sorts the cases of switches.
@@ -70,13 +70,13 @@ fn put_code(out: &mut Vec<u8>, program: &Program) -> Result<(), WriteError>
     Ok(())
 }
 
-fn low_half(id: u128) -> u64
+pub(crate) fn low_half(id: u128) -> u64
     ensures { result ≡ id % 2 ^ 64 }
 {
     (id % (1 << 64)) as u64
 }
 
-fn high_half(id: u128) -> u64
+pub(crate) fn high_half(id: u128) -> u64
     ensures { result ≡ id / 2 ^ 64 }
 {
     (id / (1 << 64)) as u64
