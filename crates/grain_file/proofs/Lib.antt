@@ -16,3 +16,5 @@ pub mod CaseContents
 pub mod Copying
 pub mod Gathering
 pub mod CaseReading
+pub mod AllBytes
+pub mod SidecarFiles

@@ -1,19 +1,16 @@
 -- All of the bytes are a file exactly where they are read.
-use Rattle.std.proofs.Common.{◌≡◌, ℕ, ◌+◌, ◌-◌, ◌≤◌, max, cond, eqb, List, [], ◌∷◌, ◌++◌, length, drop, Result, Ok, Err, None, refl, sym, ap, subst, ◌∙◌, arith, inl, inr, length-append}
+use Rattle.std.proofs.Common.{◌≡◌, ℕ, ◌≤◌, max, eqb, List, [], ◌∷◌, length, Result, Ok, Err, None, refl, sym, ap, ◌∙◌, arith, inl, inr}
 use Rattle.std.specs.Prelude.{MatchResult, IfOk, IfErr}
-use Rattle.std.proofs.lemmas.Bool.{eqb-true}
-use Rattle.std.proofs.lemmas.List.{append-nil, drop_at, nil_from_length}
 use Rattle.grain.specs.Program.{Program}
 use Rattle.grain_file.specs.declared.error.Fault.{Fault}
-use Rattle.grain_file.specs.declared.error.Fault.TheVariants.{Magic, Trailing}
+use Rattle.grain_file.specs.declared.error.Fault.TheVariants.{Magic}
 use Rattle.grain_file.specs.declared.error.WriteError.TheVariants as write_error
 use Rattle.grain_file.specs.declared.error.WriteError.{WriteError}
 use Rattle.grain_file.specs.declared.file.Limits.{Limits}
 use Rattle.grain_file.specs.declared.file.ReadError.{ReadError}
 use Rattle.grain_file.specs.declared.file.ReadError.TheVariants as errors
-use Rattle.grain_file.specs.Reading.{Flaw, AreBytes, Decides, Ends}
-use Rattle.grain_file.specs.Ends.{err_is, bind_err, at_whole, moved}
-use Rattle.grain_file.specs.Laws.{bind_ok, chosen, ok_is}
+use Rattle.grain_file.specs.Reading.{Flaw, AreBytes, Decides}
+use Rattle.grain_file.specs.Laws.{chosen, ok_is}
 use Rattle.grain_file.specs.ProgramFile.{Bounds, bounds_of, no_bounds, Kept, kept, pools_format, file_format, versioned_format, body_format, IsFile, IsFileWithin, refusal_of, whole_at}
 use Rattle.grain_file.specs.Texts.{expected_at}
 use Rattle.grain_file.specs.Lists.{CountedFit, headed_at}
@@ -24,45 +21,15 @@ use Rattle.grain_file.specs.Switches.{FitsAlone, SwitchParts, each_more, each_sw
 use Rattle.grain_file.specs.Form.{Form, IsSound}
 use Rattle.grain_file.specs.FormSound.{deepest, each_within, each_deeper}
 use Rattle.grain_file.specs.Causes.{IsCause, IsFaultOf}
+use Rattle.grain_file.proofs.AllBytes.{all_again, all_found, result_exact, result_only}
 
 pub whole_found : (bounds : Bounds) (bytes : List ℕ) (k : Kept) (rest : List ℕ) → AreBytes bytes → whole_at bounds bytes ≡ Ok (k, rest) → IsFile bounds bytes k
 unfolding whole_at
-whole_found bounds bytes k rest are e =
-    let a = bind_ok ((file_format bounds).reading bytes) (λ x. cond (eqb (length x.1) 0) (Ok x) (Err (Trailing, x.1))) (k, rest) e in
-    elim (chosen (eqb (length a.0.1) 0) (Ok a.0) (Err (Trailing, a.0.1)) (Ok (k, rest)) a.2) [
-      | inl p ↦
-          let t = (file_format bounds).takes bytes a.0.0 a.0.1 are a.1 in
-          let none : a.0.1 ≡ [] = nil_from_length a.0.1 (eqb-true (length a.0.1) 0 p.0) in
-          let all : bytes ≡ (file_format bounds).spelling a.0.0 = t.0 ∙ ap (λ (r : List ℕ). (file_format bounds).spelling a.0.0 ++ r) none ∙ append-nil ((file_format bounds).spelling a.0.0) in
-          subst (λ (y : Kept × List ℕ). IsFile bounds bytes y.0) (ok_is {E = Flaw} a.0 (k, rest) p.1) (record { spelled = all; fits = t.1 })
-      | inr p ↦ absurd (let q = p.1 in cc)
-    ]
+whole_found bounds bytes k rest are e = let p = all_found (file_format bounds) bytes k rest are e in record { spelled = p.0; fits = p.1 }
 
 pub whole_again : (bounds : Bounds) (bytes : List ℕ) (k : Kept) → IsFile bounds bytes k → whole_at bounds bytes ≡ Ok (k, [])
 unfolding whole_at
-whole_again bounds bytes k file =
-    let again = (file_format bounds).again k [] file.fits in
-    let e : bytes ≡ (file_format bounds).spelling k ++ [] = file.spelled ∙ sym (append-nil ((file_format bounds).spelling k)) in
-    rw (e, again) refl
-
-pub whole_ends : (bounds : Bounds) → Ends (whole_at bounds)
-unfolding whole_at
-whole_ends bounds bytes fault left are e =
-    elim (bind_err ((file_format bounds).reading bytes) (λ x. cond (eqb (length x.1) 0) (Ok x) (Err (Trailing, x.1))) (fault, left) e) [
-      | inl p ↦ (file_format bounds).ends bytes fault left are p
-      | inr a ↦ elim (chosen (eqb (length a.0.1) 0) (Ok a.0) (Err (Trailing, a.0.1)) (Err (fault, left)) a.2) [
-        | inl p ↦ absurd (let q = p.1 in cc)
-        | inr p ↦
-            let t = (file_format bounds).takes bytes a.0.0 a.0.1 are a.1 in
-            moved bytes ((file_format bounds).spelling a.0.0) a.0.1 left t.0 (at_whole a.0.1 Trailing fault left (err_is {A = Kept × List ℕ} {E = Flaw} (Trailing, a.0.1) (fault, left) p.1))
-      ]
-    ]
-
-place_of_end : (bytes front left : List ℕ) (at : ℕ) → bytes ≡ front ++ left → at ≡ length bytes - length left → (at ≤ length bytes) × (drop at bytes ≡ left)
-place_of_end bytes front left at e p =
-    let total : length bytes ≡ length front + length left = ap length e ∙ length-append front left in
-    let here : at ≡ length front = omega arith in
-    (omega arith, rw (here, e) (drop_at front left (length front) refl))
+whole_again bounds bytes k file = all_again (file_format bounds) bytes k (file.spelled, file.fits)
 
 abbrev Given : Bounds → List ℕ → Result Program ReadError → Type 0
 Given bounds bytes r = MatchResult r (λ p. whole_at bounds bytes ≡ Ok (kept p, [])) (IsFaultOf bounds bytes)
@@ -74,21 +41,12 @@ module _ (limits : Limits) (bytes : List ℕ) where
 
   pub only : (r : Result Program ReadError) → Given (bounds_of limits) bytes r → (k : Kept) → IsFileWithin limits bytes k
       → MatchResult r (λ p. kept p ≡ k) (λ e. e ≡ errors.OutOfMemory)
-  only (Ok p) given k within =
-      ap (λ (y : Kept × List ℕ). y.0) (ok_is {E = Flaw} (kept p, []) (k, []) (sym given ∙ whole_again (bounds_of limits) bytes k within.file))
-  only (Err errors.OutOfMemory) given k within = refl
-  only (Err (errors.TooLarge size limit)) given k within = absurd given
-  only (Err (errors.Malformed at fault)) given k within =
-      absurd (let e = sym given.1 ∙ whole_again (bounds_of limits) bytes k within.file in cc)
+  unfolding whole_at
+  only r given k within = result_only (file_format (bounds_of limits)) kept limits bytes r given k (within.file.spelled, within.file.fits)
 
   pub exact : (r : Result Program ReadError) → AreBytes bytes → Given (bounds_of limits) bytes r → IfErr r (IsCause limits bytes)
-  exact (Ok p) are given = tt
-  exact (Err errors.OutOfMemory) are given = tt
-  exact (Err (errors.TooLarge size limit)) are given = absurd given
-  exact (Err (errors.Malformed at fault)) are given =
-      let end = whole_ends (bounds_of limits) bytes fault given.0 are given.1 in
-      let d = place_of_end bytes end.front given.0 at end.is given.2 in
-      (d.0, rw d.1 given.1)
+  unfolding whole_at
+  exact r are given = result_exact (file_format (bounds_of limits)) kept limits bytes r are given
 
 -- ---- one file for one program, and one program for one file
 
@@ -152,11 +110,9 @@ headed_reads tag fault reading (b ∷ bytes) rest u e =
       | inr p ↦ absurd (let q = p.1 in cc)
     ]
 
-pub magic_reads : (bounds : Bounds) (a b c d e : List ℕ) (u v w x : Unit {0}) (y : Result (Kept × List ℕ) Flaw)
+pub magic_reads : {A : Type 0} (f : List ℕ → Result (A × List ℕ) Flaw) (a b c d e : List ℕ) (u v w x : Unit {0}) (y : Result (A × List ℕ) Flaw)
     → expected_at 0x00 Magic a ≡ Ok (u, b) → expected_at 0x67 Magic b ≡ Ok (v, c) → expected_at 0x72 Magic c ≡ Ok (w, d) → expected_at 0x6e Magic d ≡ Ok (x, e)
-    → (versioned_format bounds).reading e ≡ y → (file_format bounds).reading a ≡ y
-unfolding file_format
-magic_reads bounds a b c d e u v w x y first second third fourth more =
-    let f = (versioned_format bounds).reading in
+    → f e ≡ y → headed_at 0x00 Magic (headed_at 0x67 Magic (headed_at 0x72 Magic (headed_at 0x6e Magic f))) a ≡ y
+magic_reads f a b c d e u v w x y first second third fourth more =
     headed_reads 0x00 Magic (headed_at 0x67 Magic (headed_at 0x72 Magic (headed_at 0x6e Magic f))) a b u first ∙ headed_reads 0x67 Magic (headed_at 0x72 Magic (headed_at 0x6e Magic f)) b c v second
     ∙ headed_reads 0x72 Magic (headed_at 0x6e Magic f) c d w third ∙ headed_reads 0x6e Magic f d e x fourth ∙ more

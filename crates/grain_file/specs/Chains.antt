@@ -1,5 +1,6 @@
--- What of chains is kept: all but their positions, which have to be none.
-use Rattle.std.specs.Prelude.{ℕ, ◌^◌, ◌++◌, ◌⊎◌, List, map, Option, Some, None, refl}
+-- What of chains is kept: all of it, with the places that its positions name.
+use Rattle.std.specs.Prelude.{ℕ, Bool, nat_lt, ◌^◌, ◌++◌, ◌⊎◌, List, map, Option, Some, None, Result, Ok, refl}
+use Rattle.grain_file.specs.Reading.{Flaw, ◌>>=◌}
 use Rattle.std.proofs.Common.{inl, inr}
 use Rattle.grain_base.specs.Place.{place_of}
 use Rattle.grain_pools.specs.declared.chain.Chain.{Chain}
@@ -9,23 +10,27 @@ use Rattle.grain_pools.specs.declared.chain.Step.{Step}
 use Rattle.grain_pools.specs.declared.chain.Step.TheVariants.{Index, Property, Method}
 use Rattle.grain_pools.specs.declared.chain.Tail.{Tail}
 use Rattle.grain_pools.specs.declared.chain.Tail.TheVariants.{Read, Assign}
-use Rattle.grain_file.specs.declared.error.Fault.TheVariants.{UnknownTag}
-use Rattle.grain_file.specs.declared.error.Unkept.{Unkept}
-use Rattle.grain_file.specs.declared.error.Unkept.TheVariants.{Positions}
+use Rattle.grain_file.specs.declared.error.Fault.TheVariants.{NoLine, UnknownTag}
 use Rattle.grain_file.specs.Lists.{BeginsOtherwise}
-use Rattle.grain_file.specs.Formats.{Format, number_below, byte, nothing, only, both, counted, optional, alternative, headed}
+use Rattle.grain_file.specs.Formats.{Format, number_below, byte, nothing, both, checked, counted, optional, alternative, headed}
 
 -- a line and a column, or no place
 abbrev pub Place : Type 0
 Place = Option (ℕ × ℕ)
 
-abbrev pub place_refusal : {A : Type 0} → Option A → Option Unkept
-place_refusal None = None
-place_refusal (Some place) = Some Positions
+abbrev pub has_line : ℕ × ℕ → Bool
+has_line place = nat_lt 0 place.0
 
--- no place is spelled by no bytes
+abbrev pub line_and_column : Format (ℕ × ℕ)
+line_and_column = checked has_line NoLine (both (number_below (2 ^ 16)) (number_below (2 ^ 16)))
+
+-- what reading a line and a column gives, as a place
+abbrev pub placed_at : List ℕ → Result (Place × List ℕ) Flaw
+placed_at bytes = line_and_column.reading bytes >>= λ place. Ok (Some place.0, place.1)
+
+-- 0 for no place, or 1, a line above 0 and a column
 abbrev pub place_format : Format Place
-place_format = only None place_refusal refl
+place_format = optional line_and_column
 
 abbrev pub RootParts : Type 0
 RootParts = (ℕ × ℕ) ⊎ ((ℕ × Place) ⊎ (Place ⊎ Unit {0}))
@@ -51,7 +56,7 @@ named_apart (inl n) rest fits = refl
 named_apart (inr (inl u)) rest fits = refl
 named_apart (inr (inr u)) rest fits = refl
 
--- 0, a slot and a name; 1 and a name; 2 for `this`; or 3 for a temporary value
+-- 0, a slot and a name; 1, a name and its place; 2 and the place of `this`; or 3 for a temporary value
 abbrev pub root_format : Format RootParts
 root_format = alternative 0 (both (number_below (2 ^ 16)) (number_below (2 ^ 32))) named_or_those named_apart
 

@@ -1,9 +1,10 @@
 -- Formats: how values are spelled, which of them, what reading gives, and which are refused, with the four laws. A format of
 -- many fields is put together from those of its parts.
-use Rattle.std.specs.Prelude.{ℕ, ◌<◌, ◌^◌, List, [], ◌∷◌, Option, None, Result, Ok, refl, IfSome, ◌≡◌, ◌++◌, ◌⊎◌, Bool, true}
+use Rattle.std.specs.Prelude.{ℕ, ◌<◌, ◌^◌, List, [], ◌∷◌, Option, None, Result, Ok, Err, length, ◌==◌, if◌then◌else◌, refl, IfSome, ◌≡◌, ◌++◌, ◌⊎◌, Bool, true}
 use Rattle.grain_file.specs.declared.error.Fault.{Fault}
 use Rattle.grain_file.specs.declared.error.Unkept.{Unkept}
-use Rattle.grain_file.specs.Reading.{Flaw, Takes, Again, Keeps, Ends}
+use Rattle.grain_file.specs.declared.error.Fault.TheVariants.{Trailing}
+use Rattle.grain_file.specs.Reading.{Flaw, ◌>>=◌, Takes, Again, Keeps, Ends}
 use Rattle.grain_file.specs.Ends.{number_ends, below_ends, bytes_ends, text_ends, byte_ends, tag_ends, only_ends, both_ends, depending_ends, seen_ends, checked_ends, counted_ends, optional_ends, alternative_ends, headed_ends}
 use Rattle.grain_file.specs.Refusals.{both_refusal, depending_refusal, counted_refusal, optional_refusal, alternative_refusal, all_keeps, both_keeps, depending_keeps, counted_keeps, optional_keeps, alternative_keeps, only_keeps}
 use Rattle.grain_file.specs.Numbers.{number, number_at, below_at}
@@ -159,3 +160,7 @@ headed tag fault F = record {
   keeps = F.keeps;
   ends = headed_ends tag fault F.reading F.ends;
 }
+
+-- what reading all of the bytes gives
+abbrev pub whole : {A : Type 0} → Format A → List ℕ → Result (A × List ℕ) Flaw
+whole F bytes = F.reading bytes >>= λ x. (if length x.1 == 0 then Ok x else Err (Trailing, x.1))

@@ -22,6 +22,7 @@ pub mod Bare
 pub mod Cases
 pub mod Switches
 pub mod ProgramFile
+pub mod SidecarFile
 pub mod Causes
 pub mod Loading
 pub mod Writable

@@ -1,17 +1,17 @@
 -- What of a program is kept in a file, and how that is spelled.
-use Rattle.std.specs.Prelude.{◌≡◌, ℕ, ◌/◌, ◌%◌, ◌^◌, ◌≤◌, zero, suc, List, length, map, Option, Some, None, Result, Ok, Err, ◌==◌, if◌then◌else◌, refl}
+use Rattle.std.specs.Prelude.{◌≡◌, ℕ, ◌/◌, ◌%◌, ◌^◌, ◌≤◌, zero, suc, List, length, map, Option, Some, None, Result, refl}
 use Rattle.grain_code.specs.Span.{Span}
 use Rattle.grain.specs.Program.{Program, places_of}
 use Rattle.grain_file.specs.declared.file.Limits.{Limits}
-use Rattle.grain_file.specs.declared.error.Fault.TheVariants.{Magic, Version, Kind, Unsupported, Trailing}
+use Rattle.grain_file.specs.declared.error.Fault.TheVariants.{Magic, Version, Kind}
 use Rattle.grain_file.specs.declared.error.Unkept.{Unkept}
 use Rattle.grain_file.specs.declared.error.Unkept.TheVariants.{Residuals}
-use Rattle.grain_file.specs.Reading.{Flaw, ◌>>=◌}
-use Rattle.grain_file.specs.Formats.{Format, any_number, number_below, blob, text, only, both, depending, counted, optional, headed}
+use Rattle.grain_file.specs.Reading.{Flaw}
+use Rattle.grain_file.specs.Formats.{Format, any_number, number_below, blob, text, only, both, depending, counted, optional, headed, whole}
 use Rattle.grain_file.specs.Functions.{FunctionParts, function_parts, function_format, chunk_format}
 use Rattle.grain_file.specs.Names.{names_format}
 use Rattle.grain_file.specs.Tokens.{TokenParts, AssignOpParts, token_parts, token_format, assign_op_parts, assign_op_format}
-use Rattle.grain_file.specs.Chains.{Place, ChainParts, chain_parts, chain_format, place_refusal}
+use Rattle.grain_file.specs.Chains.{Place, ChainParts, chain_parts, chain_format, place_format}
 use Rattle.grain_file.specs.Switches.{SwitchParts, most_cases, switch_parts, switch_format}
 use Rattle.grain_file.specs.Form.{Form, forms, spelled, value_refusal, FitsWithin}
 use Rattle.grain_file.specs.FormAt.{value_at}
@@ -57,9 +57,9 @@ pools_format bounds = both names_format (depending (counted (value_format bounds
 
 -- ---- all else
 
--- the places of the code's bytes, if they are known, which is spelled by 0 where they aren't
+-- the places of the code's bytes, if they are known
 abbrev pub positions_format : Format (Option (List Place))
-positions_format = headed 0 Unsupported (only None place_refusal refl)
+positions_format = optional (counted place_format)
 
 abbrev pub residuals_refusal : ℕ → Option Unkept
 residuals_refusal zero = None
@@ -127,4 +127,4 @@ pub record IsFileWithin (limits : Limits) (bytes : List ℕ) (k : Kept) : Type 0
 
 -- what reading all of the bytes gives
 unfoldable pub whole_at : Bounds → List ℕ → Result (Kept × List ℕ) Flaw
-whole_at bounds bytes = (file_format bounds).reading bytes >>= λ k. (if length k.1 == 0 then Ok k else Err (Trailing, k.1))
+whole_at bounds bytes = whole (file_format bounds) bytes

@@ -15,7 +15,7 @@ pub enum Fault {
     #[error("unknown version")]
     Version,
     /// The file is of another kind.
-    #[error("not a program")]
+    #[error("a file of another kind")]
     Kind,
     /// The bytes end within a field.
     #[error("the file ends within a field")]
@@ -56,9 +56,9 @@ pub enum Fault {
     /// Two cases of a switch are of the same value.
     #[error("cases of the same value")]
     SameCase,
-    /// The file has a part that this version doesn't read: positions.
-    #[error("part not supported by this version")]
-    Unsupported,
+    /// A position has line 0.
+    #[error("position without a line")]
+    NoLine,
     /// Bytes follow the last field.
     #[error("bytes after the end")]
     Trailing,
@@ -95,10 +95,6 @@ pub enum Unkept {
     /// Fragments of syntax that weren't compiled.
     #[error("fragments of syntax")]
     Residuals,
-    /// Positions, in the code or in a chain. A program without them has a file: see
-    /// [`Program::strip_positions`](grain::Program::strip_positions).
-    #[error("positions")]
-    Positions,
     /// A case of a switch whose key isn't the constant that it names, shared marks apart.
     #[error("a case whose key isn't its constant")]
     CaseKey,

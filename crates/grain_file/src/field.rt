@@ -2,12 +2,12 @@
 ghost use Rattle.std.specs.Prelude.{◌≡◌, ◌++◌, ◌^◌, ℕ, ℤ, List, Option, OnOk, map, option_map, string_bytes};
 ghost use Rattle.grain_base.specs.Place.{place_of};
 ghost use Rattle.grain_file.specs.Reading.{Decides, Gives};
-ghost use Rattle.grain_file.specs.Chains.{Place, place_format};
+ghost use Rattle.grain_file.specs.Chains.{Place, place_format, placed_at};
 ghost use Rattle.grain_file.specs.Switches.{integer_format};
 ghost use Rattle.grain_file.specs.Formats.{Format, any_number, number_below, text, optional};
 
 use crate::cursor::Cursor;
-use crate::error::{Fault, Stop, Unkept, WriteError};
+use crate::error::{Fault, Stop, WriteError};
 use crate::integer::{put_integer, read_integer};
 use crate::number::{put_number, put_string};
 use grain_base::Position;
@@ -108,7 +108,6 @@ impl Field for i64 {
     }
 }
 
-/// A position has to be none, which no byte spells.
 impl Field for Position {
     ghost View = { Place };
 
@@ -116,17 +115,47 @@ impl Field for Position {
 
     ghost format = { place_format };
 
-    fn read(_cursor: &mut Cursor<'_>) -> Result<Position, Stop> {
-        Ok(Position::NONE)
-    }
-
-    fn write(&self, _out: &mut Vec<u8>) -> Result<(), WriteError> {
-        if self.is_none() {
-            Ok(())
-        } else {
-            Err(WriteError::Unkept(Unkept::Positions))
+    fn read(cursor: &mut Cursor<'_>) -> Result<Position, Stop> {
+        match cursor.left {
+            [] => Err(Stop::Fault(Fault::Truncated)),
+            [0, rest @ ..] => {
+                cursor.left = rest;
+                Ok(Position::NONE)
+            }
+            [1, rest @ ..] => {
+                cursor.left = rest;
+                let position = read_place(cursor)?;
+                Ok(position)
+            }
+            [_, ..] => Err(Stop::Fault(Fault::UnknownTag)),
         }
     }
+
+    fn write(&self, out: &mut Vec<u8>) -> Result<(), WriteError> {
+        let Some(line) = self.line() else {
+            out.push(0)?;
+            return Ok(());
+        };
+        let column = self.position().unwrap_or(0);
+        out.push(1)?;
+        put_number(out, line as u64)?;
+        put_number(out, column as u64)?;
+        Ok(())
+    }
+}
+
+/// Reads a line, which is not 0, and a column.
+fn read_place(cursor: &mut Cursor<'_>) -> Result<Position, Stop>
+    ensures { Gives place_of result cursor.new.left.now (placed_at cursor.old.left.now) }
+{
+    let start = cursor.left;
+    let line = u16::read(cursor)?;
+    let column = u16::read(cursor)?;
+    if line == 0 {
+        cursor.left = start;
+        return Err(Stop::Fault(Fault::NoLine));
+    }
+    Ok(Position::new(line, column))
 }
 
 impl Field for String {

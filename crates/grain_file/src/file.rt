@@ -1,6 +1,7 @@
 //! Whole files.
 ghost use Rattle.std.specs.Prelude.{◌≡◌, ◌≤◌, ◌⊎◌, ℕ, List, Option, Ok, [], IfOk, IfErr, OnOk, MatchResult, map, option_map, string_bytes};
-ghost use Rattle.grain.specs.Program.{Program};
+ghost use Rattle.grain.specs.Program.{Program, listed_positions};
+ghost use Rattle.grain_base.specs.Place.{place_of};
 ghost use Rattle.grain_file.specs.Reading.{Decides, Gives};
 ghost use Rattle.grain_file.specs.Form.{forms};
 ghost use Rattle.grain_file.specs.Functions.{function_parts};
@@ -19,7 +20,7 @@ use crate::number::put_bytes;
 use crate::switches::read_switches;
 use crate::values::{put_values, read_values};
 use grain::{Parts, Program};
-use grain_base::{Caps, Dynamic, Flags, Token};
+use grain_base::{Caps, Dynamic, Flags, Position, Token};
 use grain_bytecode::Positions;
 use grain_code::{Chunk, Function};
 use grain_pools::{AssignOp, Chain, Strings, Switch};
@@ -165,9 +166,9 @@ fn read_body(cursor: &mut Cursor<'_>, limits: &Limits) -> Result<Program, Stop>
     let code = read_code(cursor)?;
     let pools = read_pools(cursor, limits)?;
     let source = Option::<String>::read(cursor)?;
-    cursor.expect(0, Fault::Unsupported)?;
+    let positions = Option::<Vec<Position>>::read(cursor)?;
     let parts = Parts {
-        positions: Positions::Stripped,
+        positions: positions_of(positions),
         debug_id: code.debug_id,
         residuals: 0,
         consts: pools.consts,
@@ -187,6 +188,17 @@ fn read_body(cursor: &mut Cursor<'_>, limits: &Limits) -> Result<Program, Stop>
         code.functions,
         parts,
     ))
+}
+
+/// The positions, where they are known.
+fn positions_of(positions: Option<Vec<Position>>) -> Positions
+    ensures { option_map (λ list. map place_of list) (listed_positions result)
+        ≡ option_map (λ list. map place_of list.items) positions }
+{
+    match positions {
+        None => Positions::Stripped,
+        Some(list) => Positions::Dense(list),
+    }
 }
 
 /// The code of a program, with its chunks.
@@ -223,7 +235,7 @@ fn read_code(cursor: &mut Cursor<'_>) -> Result<Code, Stop>
 }
 
 /// The number of these halves.
-fn join(low: u64, high: u64) -> u128
+pub(crate) fn join(low: u64, high: u64) -> u128
     ensures { halves result ≡ (low, high) }
 {
     u128::from(high) * (1 << 64) + u128::from(low)

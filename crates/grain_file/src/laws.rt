@@ -4,6 +4,7 @@
 ghost use Rattle.std.specs.Prelude.{◌≡◌, ◌≤◌, ◌↔◌, ℕ, List, None};
 ghost use Rattle.grain.specs.Program.{Program};
 ghost use Rattle.grain_file.specs.ProgramFile.{Bounds, IsFile, Kept, kept, refusal_of};
+ghost use Rattle.grain_file.specs.SidecarFile.{IsSidecarFile, SidecarParts};
 ghost use Rattle.grain_file.specs.Writable.{IsWritable};
 
 /// A program has one file and a file is of one program, whatever the limits of readers. A file within limits is one within
@@ -20,4 +21,12 @@ pub fn files_are_canonical()
 /// No reason stands against a program, so that it is written, exactly where it has nothing that no file keeps.
 pub fn writable_programs_are_written()
     ensures { (p : Program) → (refusal_of (kept p) ≡ None) ↔ IsWritable p }
+{}
+
+/// A sidecar has one file, and a sidecar file is of one sidecar.
+pub fn sidecar_files_are_canonical()
+    ensures one_file { (a b : List ℕ) (k : SidecarParts)
+        → IsSidecarFile a k → IsSidecarFile b k → a ≡ b }
+    ensures one_sidecar { (a : List ℕ) (k l : SidecarParts)
+        → IsSidecarFile a k → IsSidecarFile a l → k ≡ l }
 {}

@@ -1,6 +1,7 @@
 //! Program files: from the bytes of a stranger's file to a verified program.
 //!
-//! [`read`] gives the program that bytes are a file of, [`write`] the file of a program, and [`load`] reads and verifies. What
+//! [`read`] gives the program that bytes are a file of, [`write`] the file of a program, and [`load`] reads and verifies. [`read_sidecar`] and [`write_sidecar`] do the same for
+//! positions that are kept apart. What
 //! a file is stands in docs/FORMAT.md ("Program files") and in the folder `specs/`: each field has a *format*, which says how
 //! it is spelled, what reading gives and which values are refused, with the laws that tie these to one another. So a program
 //! has one file, and a file is of one program.
@@ -20,6 +21,7 @@ mod lists;
 mod loading;
 mod names;
 mod number;
+mod sidecars;
 mod switches;
 mod tokens;
 mod values;
@@ -28,4 +30,5 @@ mod writing;
 pub use error::{Fault, Unkept, WriteError};
 pub use file::{Limits, ReadError, read};
 pub use loading::{LoadError, Loaded, load};
+pub use sidecars::{read_sidecar, write_sidecar};
 pub use writing::write;

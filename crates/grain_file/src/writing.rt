@@ -1,8 +1,10 @@
 //! Writing a program as a file.
-ghost use Rattle.std.specs.Prelude.{◌≡◌, ◌++◌, ◌/◌, ◌%◌, ◌^◌, ℕ, List, Option, IfOk, IfErr, OnOk, option_map};
+ghost use Rattle.std.specs.Prelude.{◌≡◌, ◌++◌, ◌/◌, ◌%◌, ◌^◌, ℕ, List, Option, IfOk, IfErr, OnOk, map, option_map};
+ghost use Rattle.grain.specs.Program.{listed_positions};
+ghost use Rattle.grain_base.specs.Place.{place_of};
 ghost use Rattle.grain_file.specs.Reading.{Decides};
 ghost use Rattle.grain_file.specs.Formats.{optional, text};
-ghost use Rattle.grain_file.specs.ProgramFile.{Bounds, IsFile, IsWithin, code_format, file_format, kept, no_bounds, pools_format, refusal_of, rest_format};
+ghost use Rattle.grain_file.specs.ProgramFile.{Bounds, IsFile, IsWithin, code_format, file_format, kept, no_bounds, pools_format, positions_format, refusal_of, rest_format};
 
 use crate::error::{Unkept, WriteError};
 use crate::field::Field;
@@ -13,14 +15,14 @@ use crate::switches::put_switches;
 use crate::values::put_values;
 use grain::Program;
 use grain_base::Flags;
+use grain_bytecode::Positions;
 use std::alloc::{AllocError, Global};
 
 /// The file of a program (docs/FORMAT.md, "Program files"). It goes over the program once, and sorts the cases of switches.
 ///
 /// # Errors
-/// `Unkept` with the first thing that no file keeps, in the order of the file: a value of the host among the constants, a
-/// position in a chain, a case whose key is not its constant, positions of the code, and fragments of syntax. `OutOfMemory` where a growth was
-/// refused.
+/// `Unkept` with the first thing that no file keeps, in the order of the file: a value of the host among the constants, a case
+/// whose key isn't its constant, and fragments of syntax. `OutOfMemory` where a growth was refused.
 pub fn write(alloc: Global, program: &Program) -> Result<Vec<u8>, WriteError>
     // What is written is a file of the program, for readers whose limits let values nest as deep as they do in it, and switches
     // have as many cases.
@@ -68,13 +70,13 @@ fn put_code(out: &mut Vec<u8>, program: &Program) -> Result<(), WriteError>
     Ok(())
 }
 
-fn low_half(id: u128) -> u64
+pub(crate) fn low_half(id: u128) -> u64
     ensures { result ≡ id % 2 ^ 64 }
 {
     (id % (1 << 64)) as u64
 }
 
-fn high_half(id: u128) -> u64
+pub(crate) fn high_half(id: u128) -> u64
     ensures { result ≡ id / 2 ^ 64 }
 {
     (id / (1 << 64)) as u64
@@ -98,7 +100,7 @@ fn put_pools(alloc: Global, out: &mut Vec<u8>, program: &Program) -> Result<(), 
     Ok(())
 }
 
-/// Appends the name of the source, and that there are no positions.
+/// Appends the name of the source and the positions.
 #[tactic(auto, unfolding(crate::specs::ProgramFile::rest_format))]
 fn put_rest(out: &mut Vec<u8>, program: &Program) -> Result<(), WriteError>
     ensures spelled { OnOk result
@@ -107,14 +109,33 @@ fn put_rest(out: &mut Vec<u8>, program: &Program) -> Result<(), WriteError>
     ensures decides { Decides result (rest_format.refusal (kept program.now).1.1) }
 {
     put_source(out, program.source())?;
-    if !program.positions().is_stripped() {
-        return Err(WriteError::Unkept(Unkept::Positions));
-    }
+    put_positions(out, program.positions())?;
     if program.residual_count() != 0 {
         return Err(WriteError::Unkept(Unkept::Residuals));
     }
-    out.push(0)?;
     Ok(())
+}
+
+/// Appends the positions, if they are known.
+fn put_positions(out: &mut Vec<u8>, positions: &Positions) -> Result<(), WriteError>
+    ensures spelled { OnOk result (out.new.items ≡ out.old.items ++ positions_format.spelling
+        (option_map (λ list. map place_of list) (listed_positions positions.now))) }
+    ensures fits { OnOk result (positions_format.Fits
+        (option_map (λ list. map place_of list) (listed_positions positions.now))) }
+    ensures decides { Decides result (positions_format.refusal
+        (option_map (λ list. map place_of list) (listed_positions positions.now))) }
+{
+    match positions {
+        Positions::Stripped => {
+            out.push(0)?;
+            Ok(())
+        }
+        Positions::Dense(list) => {
+            out.push(1)?;
+            put_all(out, list)?;
+            Ok(())
+        }
+    }
 }
 
 /// Appends the name of the source, if there is one.

@@ -14,4 +14,6 @@ mod round_trips;
 #[cfg(test)]
 mod samples;
 #[cfg(test)]
+mod sidecars;
+#[cfg(test)]
 mod unkept;

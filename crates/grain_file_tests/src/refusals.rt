@@ -123,11 +123,15 @@ fn fault_of_end(alloc: Global, end: &[u8]) -> Result<Option<(usize, Fault)>, Fai
 }
 
 #[test]
-fn parts_that_are_not_read_are_refused(rt: HostRuntime) {
+fn wrong_ends_are_refused(rt: HostRuntime) {
     let case = made(&rt, fault_of_end(rt.alloc(), &[0x01, 0x01, 0x00, 0x00]));
     assert_same(&rt, case, Some((20, Fault::NoConstant)));
     let positions = made(&rt, fault_of_end(rt.alloc(), &[0x00, 0x00, 0x01]));
-    assert_same(&rt, positions, Some((21, Fault::Unsupported)));
+    assert_same(&rt, positions, Some((22, Fault::Truncated)));
+    // One position, of which the line is 0.
+    let end = &[0x00, 0x00, 0x01, 0x01, 0x01, 0x00, 0x05];
+    let no_line = made(&rt, fault_of_end(rt.alloc(), end));
+    assert_same(&rt, no_line, Some((24, Fault::NoLine)));
     let trailing = made(&rt, fault_of_end(rt.alloc(), &[0x00, 0x00, 0x00, 0x00]));
     assert_same(&rt, trailing, Some((22, Fault::Trailing)));
 }

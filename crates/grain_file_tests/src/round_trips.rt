@@ -1,7 +1,7 @@
 use crate::samples::{EXAMPLE, assert_same, is_refused_or_again, is_written, made, parts, program};
 use grain::{
-    AssignOp, Chain, Chunk, Dynamic, FnAccess, Function, Parts, Position, Program, Root, Step,
-    StepFlags, Strings, Switch, SwitchRange, Tail, Token,
+    AssignOp, Chain, Chunk, Dynamic, FnAccess, Function, Parts, Position, Positions, Program, Root,
+    Step, StepFlags, Strings, Switch, SwitchRange, Tail, Token,
 };
 use grain_file::{Limits, read};
 use std::alloc::{AllocError, Global};
@@ -67,7 +67,7 @@ fn chain(alloc: Global) -> Result<Chain, Fail> {
         operand: 300,
         flags,
         pos,
-        bracket: pos,
+        bracket: Position::new(2, 0),
     })?;
     steps.push(Step::Property {
         name: 1,
@@ -84,7 +84,10 @@ fn chain(alloc: Global) -> Result<Chain, Fail> {
         pos,
     })?;
     Ok(Chain {
-        root: Root::Named { name: 70000, pos },
+        root: Root::Named {
+            name: 70000,
+            pos: Position::new(2, 5),
+        },
         steps,
         tail: Tail::Assign { op: Some(9) },
         operands: 400,
@@ -141,6 +144,7 @@ fn filled(alloc: Global) -> Result<Parts, Fail> {
         op: Token::Plus,
         op_name: 200,
     })?;
+    parts.positions = Positions::dense([Position::new(65535, 0)].to_vec(alloc)?);
     parts.chains = chains(alloc)?;
     parts.switches.push(switch(alloc)?)?;
     parts.source = Some(String::from_str(alloc, "a.rhai")?);
@@ -174,20 +178,20 @@ const FULL: &[u8] = &[
     0x02, 0x26, 0x27, 0x02, 0x3d, 0x3e, // operators: ^=, and => of the host
     0x01, 0x1c, 0x01, 0x00, 0xc8, 0x01, // op-assignment: +=, name 1, +, name 200
     0x04, // four chains
-    0x01, 0xf0, 0xa2, 0x04, // at the name 70000
+    0x01, 0xf0, 0xa2, 0x04, 0x01, 0x02, 0x05, // at the name 70000, line 2, column 5
     0x03, // three steps
-    0x00, 0xac, 0x02, 0x01, // index, operand 300
-    0x01, 0x01, 0x02, 0x03, 0x01, // property 1, 2, 3
-    0x02, 0x04, 0x05, 0x06, 0x01, // method 4 with 5 arguments from operand 6
+    0x00, 0xac, 0x02, 0x01, 0x00, 0x01, 0x02, 0x00, // index, operand 300, its bracket at line 2
+    0x01, 0x01, 0x02, 0x03, 0x01, 0x00, // property 1, 2, 3
+    0x02, 0x04, 0x05, 0x06, 0x01, 0x00, // method 4 with 5 arguments from operand 6
     0x01, 0x01, 0x09, 0x90, 0x03, // assigns by op-assignment 9; 400 operands
     0x00, 0x07, 0x08, 0x00, 0x01, 0x00, 0x00, // at slot 7, name 8; assigns
-    0x02, 0x00, 0x00, 0x00, // at this; reads
+    0x02, 0x00, 0x00, 0x00, 0x00, // at this; reads
     0x03, 0x00, 0x00, 0x00, // at a temporary value; reads
     0x01, 0x00, // one switch, no cases
     0x01, 0x09, 0x0a, 0x01, 0x80, 0x01, // one range: from -5 to 5 inclusive, to 128
     0x01, // default
     0x01, 0x06, 0x61, 0x2e, 0x72, 0x68, 0x61, 0x69, // the source is a.rhai
-    0x00, // no positions
+    0x01, 0x01, 0x01, 0xff, 0xff, 0x03, 0x00, // positions of one byte: line 65535
 ];
 
 fn full_is_written(alloc: Global) -> Result<bool, Fail> {

@@ -1,5 +1,5 @@
 use crate::samples::{assert_same, made, parts, program};
-use grain::{Chain, Dynamic, HostValue, Parts, Position, Positions, Root, Switch, Tail};
+use grain::{Dynamic, HostValue, Parts, Switch};
 use grain_file::{Unkept, WriteError, write};
 use std::alloc::Global;
 use std::collections::HashMap;
@@ -19,19 +19,6 @@ fn of_host_value(alloc: Global) -> Result<Option<WriteError>, Fail> {
     refusal(alloc, parts)
 }
 
-fn of_chain_position(alloc: Global) -> Result<Option<WriteError>, Fail> {
-    let mut parts = parts(alloc)?;
-    parts.chains.push(Chain {
-        root: Root::This {
-            pos: Position::new(1, 1),
-        },
-        steps: Vec::new(alloc),
-        tail: Tail::Read,
-        operands: 0,
-    })?;
-    refusal(alloc, parts)
-}
-
 // A case of this value, of which constant 0, which is unit, is said to be the value.
 fn of_case(alloc: Global, value: Dynamic) -> Result<Option<WriteError>, Fail> {
     let mut cases = HashMap::new(alloc);
@@ -43,12 +30,6 @@ fn of_case(alloc: Global, value: Dynamic) -> Result<Option<WriteError>, Fail> {
         ranges: Vec::new(alloc),
         default: 0,
     })?;
-    refusal(alloc, parts)
-}
-
-fn of_positions(alloc: Global) -> Result<Option<WriteError>, Fail> {
-    let mut parts = parts(alloc)?;
-    parts.positions = Positions::dense([Position::new(1, 1)].to_vec(alloc)?);
     refusal(alloc, parts)
 }
 
@@ -66,14 +47,10 @@ fn unkept(reason: Unkept) -> Option<WriteError> {
 fn what_no_file_keeps_is_named(rt: HostRuntime) {
     let host = made(&rt, of_host_value(rt.alloc()));
     assert_same(&rt, host, unkept(Unkept::HostValue));
-    let chain = made(&rt, of_chain_position(rt.alloc()));
-    assert_same(&rt, chain, unkept(Unkept::Positions));
     let case = made(&rt, of_case(rt.alloc(), Dynamic::Bool(true)));
     assert_same(&rt, case, unkept(Unkept::CaseKey));
     let keyed = made(&rt, of_case(rt.alloc(), Dynamic::Unit));
     assert_same(&rt, keyed, None);
-    let positions = made(&rt, of_positions(rt.alloc()));
-    assert_same(&rt, positions, unkept(Unkept::Positions));
     let residuals = made(&rt, of_residuals(rt.alloc()));
     assert_same(&rt, residuals, unkept(Unkept::Residuals));
 }

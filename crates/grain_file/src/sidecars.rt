@@ -1,0 +1,132 @@
+//! Sidecar files: the positions of a program, apart from it.
+ghost use Rattle.std.specs.Prelude.{◌≡◌, ◌++◌, [], List, IfOk, IfErr, MatchResult, Ok, OnOk};
+ghost use Rattle.grain_file.specs.Causes.{IsCauseIn, IsFaultIn};
+ghost use Rattle.grain_file.specs.Formats.{whole};
+ghost use Rattle.grain_file.specs.Reading.{Gives};
+ghost use Rattle.grain_file.specs.SidecarFile.{IsSidecarFile, IsSidecarFileWithin, SidecarParts, kind_format, sidecar_format, sidecar_parts, tables_format};
+
+use crate::cursor::Cursor;
+use crate::error::{Fault, Stop};
+use crate::field::Field;
+use crate::file::{Limits, ReadError, join};
+use crate::number::{put_bytes, put_number};
+use crate::writing::{high_half, low_half};
+use grain::Sidecar;
+use std::alloc::{AllocError, Global};
+
+/// The sidecar that the bytes are a file of (docs/FORMAT.md, "Sidecar files"). Nothing says that its tables are whole, or of
+/// which program they are: [`Program::attach_positions`](grain::Program::attach_positions) finds that.
+///
+/// It goes over the bytes once, and takes memory for the tables. Of the limits only the size counts.
+///
+/// # Errors
+/// As [`read`](crate::read).
+pub fn read_sidecar(alloc: Global, bytes: &[u8], limits: &Limits) -> Result<Sidecar, ReadError>
+    // What is read is what the bytes are a file of.
+    ensures found { IfOk result (λ s. IsSidecarFileWithin limits.now bytes.now (sidecar_parts s)) }
+    // Of whatever the bytes are a file within the limits, that is read, unless memory runs out.
+    ensures only { (k : SidecarParts) → IsSidecarFileWithin limits.now bytes.now k
+        → MatchResult result (λ s. sidecar_parts s ≡ k) (λ e. e ≡ ReadError.OutOfMemory) }
+    // Which fault it is, and where.
+    ensures exact { IfErr result (IsCauseIn (whole sidecar_format) limits.now bytes.now) }
+{
+    if bytes.len() > limits.size {
+        return Err(ReadError::TooLarge {
+            size: bytes.len(),
+            limit: limits.size,
+        });
+    }
+    read_all(alloc, bytes)
+}
+
+fn read_all(alloc: Global, bytes: &[u8]) -> Result<Sidecar, ReadError>
+    ensures { MatchResult result (λ s. whole sidecar_format bytes.now ≡ Ok (sidecar_parts s, []))
+        (IsFaultIn (whole sidecar_format) bytes.now) }
+{
+    let mut cursor = Cursor::new(alloc, bytes);
+    match read_file(&mut cursor) {
+        Ok(sidecar) => Ok(sidecar),
+        Err(Stop::OutOfMemory) => Err(ReadError::OutOfMemory),
+        Err(Stop::Fault(fault)) => {
+            let at = bytes.len().saturating_sub(cursor.left.len());
+            Err(ReadError::Malformed { at, fault })
+        }
+    }
+}
+
+/// Reads a whole file, to the end of the bytes.
+fn read_file(cursor: &mut Cursor<'_>) -> Result<Sidecar, Stop>
+    ensures gives { Gives sidecar_parts result cursor.new.left.now
+        (whole sidecar_format cursor.old.left.now) }
+    ensures all { OnOk result (cursor.new.left.now ≡ []) }
+{
+    let sidecar = read_headed(cursor)?;
+    if cursor.left.is_empty() {
+        Ok(sidecar)
+    } else {
+        Err(Stop::Fault(Fault::Trailing))
+    }
+}
+
+/// Reads what a file begins with, and what follows.
+#[tactic(auto, unfolding(crate::specs::SidecarFile::sidecar_format, crate::specs::Texts::expected_at))]
+fn read_headed(cursor: &mut Cursor<'_>) -> Result<Sidecar, Stop>
+    ensures { Gives sidecar_parts result cursor.new.left.now
+        (sidecar_format.reading cursor.old.left.now) }
+{
+    cursor.expect(0x00, Fault::Magic)?;
+    cursor.expect(0x67, Fault::Magic)?;
+    cursor.expect(0x72, Fault::Magic)?;
+    cursor.expect(0x6e, Fault::Magic)?;
+    let sidecar = read_kind(cursor)?;
+    Ok(sidecar)
+}
+
+/// Reads the version, the kind and the tables.
+#[tactic(auto, unfolding(crate::specs::SidecarFile::kind_format, crate::specs::Texts::expected_at))]
+fn read_kind(cursor: &mut Cursor<'_>) -> Result<Sidecar, Stop>
+    ensures { Gives sidecar_parts result cursor.new.left.now
+        (kind_format.reading cursor.old.left.now) }
+{
+    cursor.expect(1, Fault::Version)?;
+    cursor.expect(1, Fault::Kind)?;
+    let sidecar = read_tables(cursor)?;
+    Ok(sidecar)
+}
+
+/// Reads the number of the program and the tables.
+#[tactic(auto, unfolding(crate::specs::SidecarFile::tables_format))]
+fn read_tables(cursor: &mut Cursor<'_>) -> Result<Sidecar, Stop>
+    ensures { Gives sidecar_parts result cursor.new.left.now
+        (tables_format.reading cursor.old.left.now) }
+{
+    let low = u64::read(cursor)?;
+    let high = u64::read(cursor)?;
+    let debug_id = join(low, high);
+    let positions = cursor.bytes()?;
+    let positions = Vec::from_slice(cursor.alloc, positions)?;
+    let chains = cursor.bytes()?;
+    let chains = Vec::from_slice(cursor.alloc, chains)?;
+    Ok(Sidecar {
+        debug_id,
+        positions,
+        chains,
+    })
+}
+
+/// The file of a sidecar (docs/FORMAT.md, "Sidecar files").
+///
+/// # Errors
+/// Where a growth was refused.
+#[tactic(auto, unfolding(crate::specs::SidecarFile::sidecar_format, crate::specs::SidecarFile::kind_format, crate::specs::SidecarFile::tables_format))]
+pub fn write_sidecar(alloc: Global, sidecar: &Sidecar) -> Result<Vec<u8>, AllocError>
+    ensures { IfOk result (λ v. IsSidecarFile v.items (sidecar_parts sidecar.now)) }
+{
+    let mut out = Vec::new(alloc);
+    out.extend_from_slice(b"\x00grn\x01\x01")?;
+    put_number(&mut out, low_half(sidecar.debug_id))?;
+    put_number(&mut out, high_half(sidecar.debug_id))?;
+    put_bytes(&mut out, &sidecar.positions)?;
+    put_bytes(&mut out, &sidecar.chains)?;
+    Ok(out)
+}
