@@ -1,6 +1,6 @@
 use crate::samples::{BEFORE_CONSTANTS, assert_same, fault, is_written, made, parts, program};
 use grain::{Dynamic, Program, Switch};
-use grain_file::{Fault, Limits, ReadError, read, write};
+use grain_file::{Fault, Limits, ReadError, read};
 use std::alloc::Global;
 use std::collections::HashMap;
 use std::test::Fail;
@@ -45,31 +45,31 @@ fn cases_are_written(alloc: Global) -> Result<bool, Fail> {
     Ok(is_written(alloc, &with_cases(alloc)?, WITH_CASES))
 }
 
-// Where 5, 7 and unit lead in the first switch of the file.
-fn targets(alloc: Global, file: &[u8]) -> [Option<u32>; 3] {
-    let Ok(program) = read(alloc, file, &Limits::default()) else {
-        return [None; 3];
-    };
-    let subjects = [Dynamic::Int(5), Dynamic::Int(7), Dynamic::Unit];
-    let [five, seven, unit] = subjects;
-    [
-        target(&program, &five),
-        target(&program, &seven),
-        target(&program, &unit),
-    ]
+// Where the subject leads in the first switch of the file.
+fn target(alloc: Global, file: &[u8], subject: &Dynamic) -> Option<u32> {
+    match read(alloc, file, &Limits::default()) {
+        Ok(program) => first_target(program.switches(), subject),
+        Err(_) => None,
+    }
 }
 
-fn target(program: &Program, subject: &Dynamic) -> Option<u32> {
-    let switch = program.switches().first()?;
-    Some(switch.dispatch(subject))
+fn first_target(switches: &[Switch], subject: &Dynamic) -> Option<u32> {
+    match switches {
+        [first, ..] => Some(first.dispatch(subject)),
+        [] => None,
+    }
 }
 
 #[test]
 fn cases_are_written_and_read(rt: HostRuntime) {
     let written = made(&rt, cases_are_written(rt.alloc()));
     assert_same(&rt, written, true);
-    let targets = targets(rt.alloc(), WITH_CASES);
-    assert_same(&rt, targets, [Some(1), Some(3), Some(9)]);
+    let five = target(rt.alloc(), WITH_CASES, &Dynamic::Int(5));
+    assert_same(&rt, five, Some(1));
+    let seven = target(rt.alloc(), WITH_CASES, &Dynamic::Int(7));
+    assert_same(&rt, seven, Some(3));
+    let unit = target(rt.alloc(), WITH_CASES, &Dynamic::Unit);
+    assert_same(&rt, unit, Some(9));
 }
 
 // What is wrong with a switch whose cases are spelled so, over the constants 5, 5 and 6. The cases begin at byte 26.
