@@ -1,10 +1,10 @@
 //! Program files: from the bytes of a stranger's file to a verified program.
 //!
-//! [`read`] gives the program that bytes are a file of, [`write`] the file of a program, and [`load`] reads and verifies. [`read_sidecar`] and [`write_sidecar`] do the same for
-//! positions that are kept apart. What
-//! a file is stands in docs/FORMAT.md ("Program files") and in the folder `specs/`: each field has a *format*, which says how
-//! it is spelled, what reading gives and which values are refused, with the laws that tie these to one another. So a program
-//! has one file, and a file is of one program.
+//! [`read`] gives the program that bytes are a file of, [`write`] the file of a program, and [`load`] reads and verifies.
+//! [`read_sidecar`] and [`write_sidecar`] do the same for positions that are kept apart. What a file is stands in
+//! docs/FORMAT.md ("Program files", "Sidecar files") and in the folder `specs/`: each field has a *format*, which says how it is
+//! spelled, what reading gives and which values are refused, with the laws that tie these to one another. So a program has one
+//! file, and a file is of one program.
 #![tactic(auto)]
 
 mod cases;
