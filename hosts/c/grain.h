@@ -23,7 +23,8 @@
  * of its thread's stack.
  * The library is for x86-64 Linux, on processors with popcnt (x86-64-v2).
  *
- * FORMAT.md has the instructions, the tables and the rules of verification; COSTS.md says what each call costs. */
+ * FORMAT.md has the instructions, the tables and the rules of verification; EMBEDDING.md says what a host owes
+ * and what each call costs. */
 #ifndef GRAIN_H
 #define GRAIN_H
 
@@ -394,7 +395,7 @@ bool grain_check_pools(const grain_pools *pools, grain_pools_flaw *flaw);
  * explanation->rows, path, other and bases say how many there are. All other results leave everything as it was.
  *
  * At most (end - entry) rows of each kind and as many bases are written. Time and memory grow with the instructions
- * visited and the arms of the switches among them (COSTS.md). */
+ * visited and the arms of the switches among them (EMBEDDING.md). */
 GRAIN_NODISCARD grain_status grain_explain(uint16_t caps, const grain_program *program, size_t chunk, grain_row *rows,
                                            size_t rows_len, grain_base *bases, size_t bases_len,
                                            grain_explanation *explanation);

@@ -1,5 +1,5 @@
-//! Pools whose entries are large, and are named by many instructions; and what there are more than 65,535 of. COSTS.md has what
-//! each of these costs.
+//! Pools whose entries are large, and are named by many instructions; and what there are more than 65,535 of. EMBEDDING.md says
+//! what each of these costs.
 mod common;
 
 use common::{found, whole};
