@@ -53,7 +53,8 @@ fn target(alloc: Global, file: &[u8], subject: &Dynamic) -> Option<u32> {
     }
 }
 
-fn first_target(switches: &[Switch], subject: &Dynamic) -> Option<u32> {
+/// Where the subject leads in the first of the switches.
+pub(crate) fn first_target(switches: &[Switch], subject: &Dynamic) -> Option<u32> {
     match switches {
         [first, ..] => Some(first.dispatch(subject)),
         [] => None,

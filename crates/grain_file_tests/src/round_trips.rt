@@ -1,4 +1,8 @@
-use crate::samples::{EXAMPLE, assert_same, is_refused_or_again, is_written, made, parts, program};
+use crate::cases::first_target;
+use crate::samples::{
+    EXAMPLE, EXAMPLE_WITH_POSITIONS, assert_same, is_refused_or_again, is_written, made, parts,
+    program,
+};
 use grain::{
     AssignOp, Chain, Chunk, Dynamic, FnAccess, Function, Parts, Position, Positions, Program, Root,
     Step, StepFlags, Strings, Switch, SwitchRange, Tail, Token,
@@ -23,6 +27,26 @@ fn example_is_read(alloc: Global) -> [bool; 4] {
 #[test]
 fn the_example_is_read_and_written(rt: HostRuntime) {
     assert_same(&rt, example_is_read(rt.alloc()), [true; 4]);
+}
+
+// What the second example has: the name of its source, where its switch leads 5, what it records at 3 and 4, and whether it
+// is written again.
+fn second_example_is_read(alloc: Global) -> [bool; 5] {
+    let Ok(program) = read(alloc, EXAMPLE_WITH_POSITIONS, &Limits::default()) else {
+        return [false; 5];
+    };
+    [
+        program.source() == Some("a.rhai"),
+        first_target(program.switches(), &Dynamic::Int(5)) == Some(6),
+        program.position(3) == Position::new(1, 8),
+        program.position(4) == Position::NONE,
+        is_written(alloc, &program, EXAMPLE_WITH_POSITIONS),
+    ]
+}
+
+#[test]
+fn the_example_with_positions_is_read_and_written(rt: HostRuntime) {
+    assert_same(&rt, second_example_is_read(rt.alloc()), [true; 5]);
 }
 
 // How many fronts of the bytes, without the whole, are read as a program.
