@@ -7,7 +7,8 @@ use grain::{
     build,
 };
 use grain_machine::{Ending, Limits, Outcome, accept};
-use grain_script::{Fault, Script};
+use grain_script::{Fault, Recorder, Script};
+use grain_value::Value;
 use std::alloc::{AllocError, Global};
 use std::collections::HashMap;
 use std::test::Fail;
@@ -464,9 +465,16 @@ fn program(alloc: Global, ops: &[Op], end: usize, parts: Parts) -> Result<Progra
 }
 
 /// How a run of the program ends.
-fn ending(alloc: Global, program: &Program) -> Result<Ending<Dynamic, Fault>, Fail> {
+fn ending(alloc: Global, program: &Program) -> Result<Ending<Value, Fault>, Fail> {
     let accepted = accept(program)?;
-    let mut script = Script::new(alloc);
+    let Ok(mut script) = Script::new(
+        alloc,
+        program,
+        Recorder::new(alloc),
+        Script::<Recorder>::DEFAULT_LIMITS,
+    ) else {
+        return Err(Fail::from(AllocError));
+    };
     let limits = Limits {
         fuel: 100_000,
         depth: 50,
@@ -478,7 +486,7 @@ fn ending(alloc: Global, program: &Program) -> Result<Ending<Dynamic, Fault>, Fa
 fn told(
     alloc: Global,
     program: &Program,
-    outcome: &Outcome<Dynamic, Fault>,
+    outcome: &Outcome<Value, Fault>,
 ) -> Result<String, AllocError> {
     match outcome {
         Outcome::Returned(Some(value)) => value.to_string(alloc),

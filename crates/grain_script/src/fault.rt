@@ -5,82 +5,17 @@ ghost use Rattle.grain_bytecode.specs.Positions.{place_at};
 ghost use Rattle.grain.specs.Program.{places_of};
 
 use grain::Program;
-use grain_base::{Dynamic, Position};
-use std::alloc::{AllocError, AllocFailed, Global};
-use std::fmt;
-
-/// Why an operation fails.
-#[derive(Drop)]
-pub enum Cause {
-    /// The script threw this value.
-    Thrown(Dynamic),
-    /// No variable has this name, or lies in this slot.
-    NoVariable,
-    /// No function has this name and so many arguments of these types.
-    NoFunction,
-    /// An operand is of another type than the operation takes.
-    WrongType,
-    /// A result doesn't fit 64 bits.
-    Overflow,
-    /// A divisor is zero.
-    DivisionByZero,
-    /// Nothing lies at this index, or has this name.
-    NoPart,
-    /// As many functions are under way as may.
-    TooDeep,
-    /// Memory is wanted that isn't there.
-    OutOfMemory,
-    /// This host doesn't do the operation.
-    Unsupported,
-}
-
-impl From<AllocError> for Cause {
-    fn from(_: AllocError) -> Cause {
-        Cause::OutOfMemory
-    }
-}
-
-impl<T: Drop> From<AllocFailed<T>> for Cause {
-    fn from(_: AllocFailed<T>) -> Cause {
-        Cause::OutOfMemory
-    }
-}
-
-impl Cause {
-    /// What it is called.
-    fn name(&self) -> &'static str {
-        match self {
-            Cause::Thrown(_) => "Runtime error",
-            Cause::NoVariable => "Variable not found",
-            Cause::NoFunction => "Function not found",
-            Cause::WrongType => "Data type incorrect",
-            Cause::Overflow => "Arithmetic overflow",
-            Cause::DivisionByZero => "Division by zero",
-            Cause::NoPart => "Index out of bounds",
-            Cause::TooDeep => "Stack overflow",
-            Cause::OutOfMemory => "Out of memory",
-            Cause::Unsupported => "Unsupported operation",
-        }
-    }
-}
-
-impl fmt::Display for Cause {
-    fn fmt<W: fmt::Write>(&self, f: &mut fmt::Formatter<W>) -> fmt::Result {
-        f.write_str(self.name())?;
-        match self {
-            Cause::Thrown(value) => write!(f, ": {value}"),
-            _ => Ok(()),
-        }
-    }
-}
+use grain_base::Position;
+use grain_value::Cause;
+use std::alloc::{AllocError, Global};
 
 /// A fault of a script.
 #[derive(Drop)]
 pub struct Fault {
     /// Why it came.
     pub cause: Cause,
-    /// The address of the operation that the host was asked for last in the chunk where it came. Where a value is no condition
-    /// or nothing to go over, or is thrown, the host isn't told the address, and that operation stands before.
+    /// The address of the operation that the host did last in the chunk where the fault came. The machine names no address where a
+    /// value is no condition, can't be iterated over, or is thrown: there it is that of the operation before.
     pub at: usize,
 }
 
@@ -92,10 +27,10 @@ impl Fault {
         program.position(self.at)
     }
 
-    /// What is told of it: why it came, and behind that the line and the column, where the program's positions have them.
+    /// The cause, followed by the line and the column where the program's positions have them.
     ///
     /// # Errors
-    /// There is no memory for the text.
+    /// Out of memory.
     pub fn text(&self, alloc: Global, program: &Program) -> Result<String, AllocError> {
         let cause = &self.cause;
         let position = self.position(program);

@@ -1,20 +1,23 @@
-//! A host of `grain_machine` for scripts: values as [`Dynamic`](grain_base::Dynamic), local and named variables, operators, arrays, maps,
-//! ranges, texts with interpolation, and function pointers.
+//! A host of `grain_machine` for scripts: variables, calls, chains of accesses and iterators over the values of `grain_value`, with the
+//! functions and operators of `grain_library`.
 //!
-//! What operations do to the stacks is the machine's, and proved there. What they mean for values docs/FORMAT.md leaves open.
-//! Here it is as Rhai's documentation tells it, as far as that goes and as [`Script`] says; all else is this host's own. Proved of
-//! it is that each call is safe and ends, and that a fault of `give` or `take` has the address of the operation.
+//! What operations do to the stacks is the machine's, and proved there. What they mean for values docs/FORMAT.md leaves to a
+//! host: here it is as Rhai's documentation says, as far as docs/LANGUAGE.md lists it. Proved of this host is that each call is safe
+//! and ends, that it names only functions of the program, and that a fault of `give` or `take` has the address of the operation.
 #![tactic(auto)]
 
-mod copies;
+mod access;
+mod calls;
+mod chains;
 mod fault;
-mod operators;
-mod parts;
-mod pointers;
+mod host;
 mod script;
+mod table;
 mod variables;
 mod walk;
+mod world;
 
-pub use fault::{Cause, Fault};
+pub use fault::Fault;
 pub use script::Script;
 pub use walk::Walk;
+pub use world::{Recorder, World};

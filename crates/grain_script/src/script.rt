@@ -1,431 +1,374 @@
-//! The host: what operations do.
-ghost use Rattle.std.specs.Prelude.{◌≡◌, IfErr, IfOk, length};
-ghost use Rattle.std.specs.List.{All};
-ghost use Rattle.grain_machine.specs.Asked.{IsAsked};
+//! The script: what operations do.
+ghost use Rattle.std.specs.Prelude.{IfOk};
 ghost use Rattle.grain_machine.specs.Reply.{NamesFunction};
-ghost use Rattle.grain_script.specs.Parts.{TakesWithin};
 
-use crate::copies::{copied, copied_with_mark, is_marked, marked};
-use crate::fault::{Cause, Fault};
-use crate::operators::{operate, operate_on};
-use crate::parts::{assign_part, copy_along, map_of, part_along, popped, pushed};
-use crate::pointers::{
-    arguments, curried, function_of, name_of, operator_of, pointer_below, pointer_named, pointer_to,
-};
-use crate::variables::{Variables, taken};
-use crate::walk::Walk;
+use crate::chains::{Context, assign_to, swapped};
+use crate::table::Table;
+use crate::variables::{Ended, Lent, LentRoot, Variables};
+use crate::world::World;
 use grain::Program;
-use grain_base::Dynamic;
-use grain_code::{Op, Receiver};
-use grain_machine::{CallError, Host, Reply, Request, dispatch};
-use grain_pools::{Chain, Root, Switch, Tail};
+use grain_code::Op;
+use grain_machine::{Reply, Request};
+use grain_value::{Cause, Object, Pointer, SizeLimits, Value};
 use std::alloc::{AllocError, Global};
+use std::rc::Rc;
 
 /// The state of a script that runs.
 ///
-/// Integers, comparisons, ranges, indices below 0 and texts are as Rhai's documentation has them: overflow and division by zero
-/// are faults, values of two types are never equal and none is less than the other, a text is added to the text of a value, and
-/// `len` counts characters. These are this host's own:
+/// docs/LANGUAGE.md says what scripts can do. These are this host's own:
 ///
-/// - A caught fault is bound to a named variable: what was thrown, or the text of why it came. Too deep calls and want of memory
-///   are caught by no handler. Local variables stay as they are, and code cuts them by `UnwindTo`.
-/// - A shared value is marked, and copied as others are: two variables never hold the same one. It is assigned as a whole.
-/// - What a map hasn't is a fault, and not unit.
-/// - Of functions that aren't the program's, it has `push` and `pop` of an array in a variable, `len` and `to_string`.
-/// - It assigns along a chain of one step from a local variable. It does nothing with `this`, modules, methods in chains, and
-///   syntax that wasn't compiled, and it has no limits but the machine's.
+/// - A caught fault is bound to a named variable: what was thrown, or the text of the cause.
+/// - A limit that was reached, memory that ran out and a fault of the world are caught by no handler.
+/// - Values are shared until they are changed. A variable that closures share is one place for all of them.
+/// - It does nothing with modules and syntax that wasn't compiled.
 #[derive(Drop)]
-pub struct Script {
-    alloc: Global,
-    variables: Variables,
-    /// The address of the operation that was asked for last, in the chunk that runs.
-    at: usize,
+pub struct Script<W> {
+    pub(crate) alloc: Global,
+    pub(crate) world: W,
+    pub(crate) table: Table,
+    pub(crate) limits: SizeLimits,
+    pub(crate) variables: Variables,
+    /// What went wrong where the machine takes no fault, raised at the next operation.
+    pending: Option<Cause>,
+    /// The address of the operation that was done last, in the chunk that runs.
+    pub(crate) at: usize,
 }
 
-impl Script {
-    /// A script that has no variables.
-    pub fn new(alloc: Global) -> Script {
-        Script {
+impl<W: World + Drop> Script<W> {
+    /// Limits for scripts of strangers: sixteen million values and bytes in one value, nested at most 64 deep.
+    pub const DEFAULT_LIMITS: SizeLimits = SizeLimits {
+        size: 16_000_000,
+        depth: 64,
+    };
+
+    /// A script that has no variables, to run this program. It takes time and memory by the program's pools.
+    ///
+    /// # Errors
+    /// Out of memory, or [`Cause::Unsupported`] where a constant is a value of another host.
+    pub fn new(
+        alloc: Global,
+        program: &Program,
+        world: W,
+        limits: SizeLimits,
+    ) -> Result<Script<W>, Cause> {
+        Ok(Script {
             alloc,
+            world,
+            table: Table::of(alloc, program)?,
+            limits,
             variables: Variables::new(alloc),
+            pending: None,
             at: 0,
-        }
+        })
     }
 
     /// Gives the variable of the name at an index its value: one that code finds by its name, and in no slot.
     ///
     /// # Errors
-    /// There is no memory for it; the script is as it was.
-    pub fn set_variable(&mut self, name: u32, value: Dynamic) -> Result<(), AllocError> {
-        self.variables.set_variable(name, value)
+    /// Out of memory; the variable is as it was.
+    pub fn set_variable(&mut self, name: u32, value: Value) -> Result<(), AllocError> {
+        self.variables.set_named(name, value)
     }
 
-    fn fault(&self, cause: Cause) -> Fault
-        ensures { result.at ≡ self.now.at }
-    {
-        Fault { cause, at: self.at }
+    /// The world of the script.
+    pub fn world(&self) -> &W {
+        &self.world
     }
 
-    /// What an operation gives that reads a constant or a variable, if it does.
-    fn read(&self, program: &Program, op: &Op) -> Result<Option<Dynamic>, Cause> {
-        let value = match op {
-            Op::Const(index) => match program.consts().get(*index as usize) {
-                Some(value) => value,
-                None => return Err(Cause::NoPart),
-            },
-            Op::LoadLocal(slot) => self.variables.local(*slot)?,
-            Op::LoadNamed(name) => self.variables.variable(*name)?,
-            Op::LoadShared(slot) => {
-                let local = self.variables.local(*slot)?;
-                return Ok(Some(copied_with_mark(self.alloc, local)?));
-            }
-            Op::InterpolateStart => return Ok(Some(Dynamic::Str(String::new(self.alloc)))),
-            Op::MakeClosure(name) => {
-                return Ok(Some(pointer_to(self.alloc, name_of(program, *name)?)?));
-            }
-            _ => return Ok(None),
-        };
-        Ok(Some(copied(self.alloc, value)?))
+    /// The world of the script, to be changed.
+    pub fn world_mut(&mut self) -> &mut W {
+        &mut self.world
     }
 
-    /// What an operation gives that makes a value of its operands, if it does.
-    fn make(&self, op: &Op, operands: &mut [Dynamic]) -> Result<Option<Dynamic>, Cause> {
-        let value = match op {
-            Op::MakeArray(_) => Dynamic::Array(arguments(self.alloc, &[], operands)?),
-            Op::MakeMap(_) => map_of(self.alloc, operands)?,
-            Op::MakeFnPtr => pointer_named(self.alloc, operands.first())?,
-            Op::Curry(_) => curried(self.alloc, operands)?,
-            Op::IsShared => Dynamic::Bool(is_marked(operands.first())),
-            Op::InterpolateEnd | Op::CheckSize { .. } => match operands.first_mut() {
-                Some(value) => taken(value),
-                None => return Err(Cause::WrongType),
-            },
-            _ => return Ok(None),
-        };
-        Ok(Some(value))
+    pub(crate) fn context<'a>(&'a self, program: &'a Program) -> Context<'a> {
+        Context {
+            alloc: self.alloc,
+            limits: self.limits,
+            program,
+            table: &self.table,
+        }
     }
 
     /// What an operation gives.
-    fn answer(
+    #[inline]
+    pub(crate) fn answer(
         &mut self,
         request: &Request<'_>,
-        operands: &mut [Dynamic],
-    ) -> Result<Reply<Dynamic>, Cause>
-        requires { IsAsked request.now.program.now request.now.chunk request.now.at request.now.op.now
-            (length operands.old) }
-        ensures at { self.new.at ≡ self.old.at }
-        ensures names { IfOk result (NamesFunction request.now.program.now) }
+        operands: &mut [Value],
+    ) -> Result<Reply<Value>, Cause>
+        ensures { IfOk result (NamesFunction request.now.program.now) }
     {
         let program = request.program;
-        if let Some(value) = self.read(program, request.op)? {
-            return Ok(Reply::Value(value));
-        }
-        if let Some(value) = self.make(request.op, operands)? {
-            return Ok(Reply::Value(value));
-        }
-        match request.op {
-            Op::Call { name, .. } => self.call(program, name_of(program, *name)?, &[], operands),
-            Op::CallFnPtr { receiver: None, .. } => {
-                let (pointer, places) = pointer_below(operands)?;
-                self.call(program, pointer.name.as_str(), &pointer.curry, places)
-            }
-            Op::CallRef {
+        let value = match request.op {
+            Op::LoadLocal(slot) => self.variables.local(*slot)?.clone()?,
+            Op::Const(index) => match self.table.constant(*index) {
+                Some(value) => value.clone()?,
+                None => return Err(Cause::Unsupported),
+            },
+            Op::Call {
                 name,
-                receiver: Receiver::Local(slot),
+                op: Some(token),
                 ..
-            } => {
-                let name = name_of(program, *name)?;
-                let mut local = self.variables.take_local(*slot)?;
-                let value = self.call_on(name, &mut local, operands);
-                self.variables.set_local(*slot, local)?;
-                Ok(Reply::Value(value?))
-            }
+            } => return self.operator(program, *name, *token, operands),
+            Op::Call { name, op: None, .. } => return self.call(program, *name, operands),
             Op::Chain(index) => match program.chains().get(*index as usize) {
-                Some(chain) => Ok(Reply::Value(self.chain(program, chain, operands)?)),
-                None => Err(Cause::NoPart),
+                Some(chain) => return self.chain(program, chain, operands),
+                None => return Err(Cause::Unsupported),
             },
-            _ => Err(Cause::Unsupported),
+            Op::CallFnPtr { receiver, .. } => {
+                return self.call_pointer(program, receiver, operands);
+            }
+            Op::CallRef { name, receiver, .. } => {
+                return self.call_on(program, *name, receiver, operands);
+            }
+            op => self.load_or_make(program, op, operands)?,
+        };
+        Ok(Reply::Value(value))
+    }
+
+    /// The value, where the limits allow one as large.
+    pub(crate) fn allowed(&self, value: &Value) -> Result<(), Cause> {
+        if self.limits.allow(value.measure()) {
+            Ok(())
+        } else {
+            Err(Cause::TooLarge)
         }
     }
 
-    /// Calls a function by its name: one of the program's, or an operator or a function of this host.
-    fn call(
+    /// What went wrong before, where it couldn't be raised.
+    #[inline]
+    pub(crate) fn raise_pending(&mut self) -> Result<(), Cause> {
+        match self.pending.take() {
+            Some(cause) => Err(cause),
+            None => Ok(()),
+        }
+    }
+
+    /// What an operation gives that reads a variable, or makes a value of its operands.
+    fn load_or_make(
         &mut self,
         program: &Program,
-        name: &str,
-        bound: &[Dynamic],
-        operands: &mut [Dynamic],
-    ) -> Result<Reply<Dynamic>, Cause>
-        ensures at { self.new.at ≡ self.old.at }
-        ensures names { IfOk result (NamesFunction program.now) }
-    {
-        let arguments = arguments(self.alloc, bound, operands)?;
-        if let Some(function) = function_of(program, name, arguments.len()) {
-            self.variables.begin(arguments, self.at)?;
-            return Ok(Reply::Call { function });
-        }
-        match arguments.as_slice() {
-            [value] => Ok(Reply::Value(operate_on(self.alloc, name, value)?)),
-            [left, right] => Ok(Reply::Value(operate(self.alloc, name, left, right)?)),
-            _ => Err(Cause::NoFunction),
-        }
-    }
-
-    /// Calls a function of this host on a variable.
-    fn call_on(
-        &self,
-        name: &str,
-        receiver: &mut Dynamic,
-        operands: &mut [Dynamic],
-    ) -> Result<Dynamic, Cause> {
-        match name {
-            "push" => pushed(receiver, operands),
-            "pop" => popped(receiver),
-            _ if operands.is_empty() => operate_on(self.alloc, name, receiver),
-            _ => Err(Cause::NoFunction),
-        }
-    }
-
-    /// What a chain gives. Below all others lie the operands of its steps, above them its root, where that is a value, or what is
-    /// assigned.
-    fn chain(
-        &mut self,
-        program: &Program,
-        chain: &Chain,
-        operands: &mut [Dynamic],
-    ) -> Result<Dynamic, Cause>
-        requires { All (TakesWithin (length operands.old)) chain.now.steps.items }
-        ensures { self.new.at ≡ self.old.at }
-    {
-        if let Tail::Assign { op } = &chain.tail {
-            self.assign_along(program, chain, op, operands)?;
-            return Ok(Dynamic::Unit);
-        }
-        let steps = &chain.steps;
-        match &chain.root {
-            Root::Local { slot, .. } => {
-                let local = self.variables.local(*slot)?;
-                copy_along(self.alloc, program, local, steps, operands)
-            }
-            Root::Named { name, .. } => {
-                let variable = self.variables.variable(*name)?;
-                copy_along(self.alloc, program, variable, steps, operands)
-            }
-            Root::Temporary => match operands.last() {
-                Some(value) => copy_along(self.alloc, program, value, steps, operands),
-                None => Err(Cause::NoPart),
+        op: &Op,
+        operands: &mut [Value],
+    ) -> Result<Value, Cause> {
+        match op {
+            Op::LoadNamed(name) => match self.variables.named(*name) {
+                Some(value) => Ok(value.clone()?),
+                None => Err(self.no_variable(program, *name)),
             },
-            Root::This { .. } => Err(Cause::Unsupported),
+            Op::LoadShared(slot) => Ok(self.variables.raw(*slot)?.clone()?),
+            Op::LoadSharedNamed(name) => match self.variables.raw_named(*name) {
+                Some(value) => Ok(value.clone()?),
+                None => Err(self.no_variable(program, *name)),
+            },
+            Op::LoadThis | Op::LoadThisShared => match self.variables.this() {
+                Some(value) => Ok(value.clone()?),
+                None => Err(Cause::NoThis),
+            },
+            Op::MakeClosure(name) => match program.names().get(*name) {
+                Some(name) => pointer_to(self.alloc, name),
+                None => Err(Cause::Unsupported),
+            },
+            op => made(self.alloc, op, operands),
         }
     }
 
-    fn assign_along(
-        &mut self,
-        program: &Program,
-        chain: &Chain,
-        op: &Option<u32>,
-        operands: &mut [Dynamic],
-    ) -> Result<(), Cause>
-        requires { All (TakesWithin (length operands.old)) chain.now.steps.items }
-        ensures { self.new.at ≡ self.old.at }
-    {
-        let Root::Local { slot, .. } = &chain.root else {
-            return Err(Cause::Unsupported);
-        };
-        let Some(last) = operands.last_mut() else {
-            return Err(Cause::NoPart);
-        };
-        let mut value = taken(last);
-        if op.is_some() {
-            let local = self.variables.local(*slot)?;
-            let old = part_along(program, local, &chain.steps, operands)?;
-            value = assigned(self.alloc, program, op, old, value)?;
+    pub(crate) fn no_variable(&self, program: &Program, name: u32) -> Cause {
+        let name = program.names().get(name).unwrap_or("");
+        match String::from_str(self.alloc, name) {
+            Ok(name) => Cause::NoVariable(name),
+            Err(_) => Cause::OutOfMemory,
         }
-        let mut local = self.variables.take_local(*slot)?;
-        let done = assign_part(
-            self.alloc,
-            program,
-            &mut local,
-            &chain.steps,
-            operands,
-            value,
-        );
-        self.variables.set_local(*slot, local)?;
-        done
+    }
+
+    /// Puts a value back where it was taken from.
+    pub(crate) fn give_back(&mut self, value: Value, lent: Option<Lent>) -> Result<(), Cause> {
+        let Some(Lent { root, path }) = lent else {
+            return Ok(());
+        };
+        let place = match root {
+            LentRoot::Local(slot) => self.variables.local_mut(slot)?,
+            LentRoot::Named(name) => match self.variables.named_mut(name) {
+                Some(place) => place,
+                None => return Err(Cause::Unsupported),
+            },
+            LentRoot::This => match self.variables.this_mut() {
+                Some(place) => place,
+                None => return Err(Cause::NoThis),
+            },
+        };
+        let _ = swapped(place, path.as_slice(), value)?;
+        Ok(())
+    }
+
+    /// A function that was entered has ended: its variables go, and `this` goes back to where it was taken from.
+    pub(crate) fn ended(&mut self) {
+        let Some(Ended { at, this }) = self.variables.end() else {
+            return;
+        };
+        self.at = at;
+        if let Some((value, lent)) = this
+            && let Err(cause) = self.give_back(value, Some(lent))
+        {
+            self.pending = Some(cause);
+        }
     }
 
     /// Does an operation that gives no value.
-    fn act(&mut self, request: &Request<'_>, operands: &mut [Dynamic]) -> Result<(), Cause>
-        ensures { self.new.at ≡ self.old.at }
-    {
+    pub(crate) fn act(
+        &mut self,
+        request: &Request<'_>,
+        operands: &mut [Value],
+    ) -> Result<(), Cause> {
         let program = request.program;
-        match (request.op, operands) {
-            (Op::Tick | Op::Checkpoint | Op::Statement { .. }, _) => Ok(()),
-            (Op::DeclareLocal { .. }, [value]) => self.variables.declare(taken(value)),
-            (Op::StoreLocal { slot, .. } | Op::StoreShared(slot), [value]) => {
-                self.variables.set_local(*slot, taken(value))
+        match request.op {
+            Op::Tick | Op::Checkpoint | Op::Statement { .. } => Ok(()),
+            Op::DeclareLocal { .. } => self.variables.declare(only(operands)?),
+            Op::StoreLocal { slot, .. } | Op::StoreShared(slot) => {
+                self.variables.set_local(*slot, only(operands)?)
             }
-            (Op::AssignLocal { slot, op, .. }, [value]) => {
-                let old = self.variables.local(*slot)?;
-                let new = assigned(self.alloc, program, op, old, taken(value))?;
-                self.variables.set_local(*slot, new)
+            Op::AssignLocal { slot, op, .. } => {
+                self.assign(program, LentRoot::Local(*slot), *op, only(operands)?)
             }
-            (Op::AssignNamed { name, op }, [value]) => {
-                let old = self.variables.variable(*name)?;
-                let new = assigned(self.alloc, program, op, old, taken(value))?;
-                Ok(self.variables.set_variable(*name, new)?)
+            Op::AssignNamed { name, op } => {
+                self.assign(program, LentRoot::Named(*name), *op, only(operands)?)
             }
-            (Op::InterpolateAppend, [text, value]) => {
-                let longer = Dynamic::Str(format!(in self.alloc; "{text}{value}")?);
-                *text = longer;
-                Ok(())
-            }
-            (Op::Share(slot), _) => {
-                let value = self.variables.take_local(*slot)?;
-                self.variables.set_local(*slot, marked(self.alloc, value)?)
-            }
+            Op::AssignThis { op } => { self.assign(program, LentRoot::This, *op, only(operands)?) }
+            Op::InterpolateAppend => match operands.split_first_mut() {
+                Some((text, rest)) => self.interpolate(text, rest.first()),
+                None => Err(Cause::Unsupported),
+            },
+            Op::Share(slot) => self.variables.share(*slot),
+            Op::ShareNamed(name) => self.variables.share_named(*name),
+            Op::RequireThis => match self.variables.this() {
+                Some(_) => Ok(()),
+                None => Err(Cause::NoThis),
+            },
             _ => Err(Cause::Unsupported),
         }
     }
-}
 
-/// The value that an assignment leaves, by way of the op-assignment if there is one.
-fn assigned(
-    alloc: Global,
-    program: &Program,
-    op: &Option<u32>,
-    old: &Dynamic,
-    value: Dynamic,
-) -> Result<Dynamic, Cause> {
-    match op {
-        Some(op) => operate(alloc, operator_of(program, *op)?, old, &value),
-        None => Ok(value),
-    }
-}
-
-impl Host for Script {
-    type Value = Dynamic;
-
-    type Iterator = Walk;
-
-    type Fault = Fault;
-
-    fn unit(&mut self) -> Dynamic {
-        Dynamic::Unit
-    }
-
-    fn boolean(&mut self, value: bool) -> Dynamic {
-        Dynamic::Bool(value)
-    }
-
-    fn unwind_to(&mut self, depth: u16) {
-        self.variables.unwind_to(depth);
-    }
-
-    /// Its fault has the address of the operation.
-    fn give(
+    /// Assigns to a variable, by way of an op-assignment if there is one.
+    #[inline]
+    fn assign(
         &mut self,
-        request: &Request<'_>,
-        operands: &mut [Dynamic],
-    ) -> Result<Reply<Dynamic>, Fault>
-        requires { IsAsked request.now.program.now request.now.chunk request.now.at request.now.op.now
-            (length operands.old) }
-        ensures names { IfOk result (NamesFunction request.now.program.now) }
-        ensures at { IfErr result (λ fault. fault.at ≡ request.now.at) }
-    {
-        self.at = request.at;
-        match self.answer(request, operands) {
-            Ok(given) => Ok(given),
-            Err(cause) => Err(self.fault(cause)),
-        }
-    }
-
-    fn left(&mut self) {
-        if let Some(at) = self.variables.end() {
-            self.at = at;
-        }
-    }
-
-    fn refused(&mut self, _: usize, cause: CallError) -> Fault {
-        self.left();
-        match cause {
-            CallError::TooDeep => self.fault(Cause::TooDeep),
-            CallError::OutOfMemory => self.fault(Cause::OutOfMemory),
-        }
-    }
-
-    /// Its fault has the address of the operation.
-    fn take(&mut self, request: &Request<'_>, operands: &mut [Dynamic]) -> Result<(), Fault>
-        ensures { IfErr result (λ fault. fault.at ≡ request.now.at) }
-    {
-        self.at = request.at;
-        match self.act(request, operands) {
-            Ok(()) => Ok(()),
-            Err(cause) => Err(self.fault(cause)),
-        }
-    }
-
-    fn is_true(&mut self, value: &Dynamic) -> Result<bool, Fault> {
-        match value.unshared() {
-            Dynamic::Bool(value) => Ok(*value),
-            _ => Err(self.fault(Cause::WrongType)),
-        }
-    }
-
-    fn is_unit(&mut self, value: &Dynamic) -> bool {
-        match value.unshared() {
-            Dynamic::Unit => true,
-            _ => false,
-        }
-    }
-
-    fn dispatch(&mut self, switch: &Switch, subject: &Dynamic) -> Result<u32, Fault> {
-        Ok(dispatch(switch, subject))
-    }
-
-    fn begin(&mut self, value: Dynamic) -> Result<Walk, Fault> {
-        match Walk::over(self.alloc, value) {
-            Ok(walk) => Ok(walk),
-            Err(cause) => Err(self.fault(cause)),
-        }
-    }
-
-    fn advance(&mut self, walk: &mut Walk, counter: Option<u16>) -> Result<Option<Dynamic>, Fault> {
-        let Some((item, count)) = walk.next_item() else {
-            return Ok(None);
-        };
-        if let Some(slot) = counter
-            && let Err(cause) = self.variables.set_local(slot, Dynamic::Int(count))
-        {
-            return Err(self.fault(cause));
-        }
-        Ok(Some(item))
-    }
-
-    fn thrown(&mut self, value: Dynamic) -> Fault {
-        self.fault(Cause::Thrown(value))
-    }
-
-    fn caught(&mut self, fault: Fault, name: Option<u32>) -> Result<(), Fault> {
-        let Fault { cause, at } = fault;
-        let value = match cause {
-            Cause::TooDeep | Cause::OutOfMemory => return Err(Fault { cause, at }),
-            Cause::Thrown(value) => Ok(value),
-            cause => format!(in self.alloc; "{cause}").map(|text| Dynamic::Str(text)),
-        };
-        let Some(name) = name else {
+        program: &Program,
+        root: LentRoot,
+        op: Option<u32>,
+        value: Value,
+    ) -> Result<(), Cause> {
+        if op.is_none() {
+            *self.root_mut(program, root)? = value;
             return Ok(());
+        }
+        let mut place = self.root_mut(program, root)?.take();
+        let result = assign_to(&self.context(program), &mut place, op, value);
+        let allowed = self.allowed(&place);
+        *self.root_mut(program, root)? = place;
+        allowed?;
+        result
+    }
+
+    /// Appends what a value shows to a text.
+    fn interpolate(&self, text: &mut Value, value: Option<&Value>) -> Result<(), Cause> {
+        let Value::Text(text) = text else {
+            return Err(Cause::WrongType("string"));
         };
-        let bound = match value {
-            Ok(value) => self.variables.set_variable(name, value),
-            Err(wanted) => Err(wanted),
+        let Some(value) = value else {
+            return Err(Cause::Unsupported);
         };
-        match bound {
-            Ok(()) => Ok(()),
-            Err(_) => Err(Fault {
-                cause: Cause::OutOfMemory,
-                at,
-            }),
+        let shown = format!(in self.alloc; "{value}")?;
+        if text.len().saturating_add(shown.len()) > self.limits.size {
+            return Err(Cause::TooLarge);
+        }
+        Rc::make_mut(text)?.push_str(shown.as_str())?;
+        Ok(())
+    }
+}
+
+pub(crate) fn copies(alloc: Global, values: &[Value]) -> Result<Vec<Value>, Cause> {
+    let mut copies = Vec::new(alloc);
+    for value in values {
+        copies.push(value.clone()?)?;
+    }
+    Ok(copies)
+}
+
+/// What an operation makes of its operands.
+fn made(alloc: Global, op: &Op, operands: &mut [Value]) -> Result<Value, Cause> {
+    match op {
+        Op::InterpolateStart => Ok(Value::text(alloc, String::new(alloc))?),
+        Op::InterpolateEnd | Op::CheckSize { .. } => only(operands),
+        Op::MakeArray(_) => made_array(alloc, operands),
+        Op::MakeMap(_) => made_map(alloc, operands),
+        Op::MakeFnPtr => match only(operands)? {
+            Value::Text(name) => pointer_to(alloc, name.as_str()),
+            _ => Err(Cause::WrongType("string")),
+        },
+        Op::IsShared => Ok(Value::Bool(matches!(only(operands)?, Value::Shared(_)))),
+        Op::Curry(_) => curried(alloc, operands),
+        _ => Err(Cause::Unsupported),
+    }
+}
+
+/// The first operand, taken from its place.
+#[inline]
+fn only(operands: &mut [Value]) -> Result<Value, Cause> {
+    match operands.first_mut() {
+        Some(value) => Ok(value.take()),
+        None => Err(Cause::Unsupported),
+    }
+}
+
+fn made_array(alloc: Global, places: &mut [Value]) -> Result<Value, Cause> {
+    let mut items = Vec::new(alloc);
+    for place in places {
+        items.push(place.take())?;
+    }
+    Ok(Value::array(alloc, items)?)
+}
+
+/// The object map that operands make: one or unit, and above it names and values in turn.
+fn made_map(alloc: Global, operands: &mut [Value]) -> Result<Value, Cause> {
+    let Some((first, rest)) = operands.split_first_mut() else {
+        return Err(Cause::Unsupported);
+    };
+    let mut object = match first.take() {
+        Value::Map(object) => Rc::unwrap_or_clone(object)?,
+        Value::Unit => Object::new(alloc),
+        _ => return Err(Cause::WrongType("map")),
+    };
+    let mut key = None;
+    for place in rest {
+        match (key.take(), place.take()) {
+            (None, Value::Text(name)) => key = Some(name),
+            (Some(name), value) => {
+                let _ = object.insert(Rc::unwrap_or_clone(name)?, value)?;
+            }
+            (None, _) => return Err(Cause::WrongType("string")),
         }
     }
+    Ok(Value::Map(Rc::new(alloc, object)?))
+}
+
+/// A pointer to the function of a name, without arguments.
+fn pointer_to(alloc: Global, name: &str) -> Result<Value, Cause> {
+    let pointer = Pointer::new(String::from_str(alloc, name)?, Vec::new(alloc));
+    Ok(Value::Pointer(Rc::new(alloc, pointer)?))
+}
+
+/// The function pointer below arguments, with these bound.
+fn curried(alloc: Global, operands: &mut [Value]) -> Result<Value, Cause> {
+    let Some((pointer, places)) = operands.split_first_mut() else {
+        return Err(Cause::Unsupported);
+    };
+    let Value::Pointer(pointer) = pointer.take() else {
+        return Err(Cause::WrongType("Fn"));
+    };
+    let mut bound = copies(alloc, pointer.bound())?;
+    for place in places {
+        bound.push(place.take())?;
+    }
+    let name = String::from_str(alloc, pointer.name())?;
+    Ok(Value::Pointer(Rc::new(alloc, Pointer::new(name, bound))?))
 }

@@ -1,83 +1,129 @@
-//! Variables: local ones in slots, and those that have a name alone.
+//! Variables: local ones in slots, named ones, those that closures share, and `this`.
 
-use crate::fault::Cause;
-use grain_base::Dynamic;
+use crate::chains::Key;
+use grain_value::{Cause, Value};
 use std::alloc::{AllocError, Global};
-use std::mem;
 
-/// A variable that has a name and no slot.
+/// Where the value of `this` was taken from, and goes back to when the function ends.
 #[derive(Drop)]
-struct Named {
-    name: u32,
-    value: Dynamic,
+pub(crate) struct Lent {
+    pub(crate) root: LentRoot,
+    /// Where it lies inside the value of the variable.
+    pub(crate) path: Vec<Key>,
+}
+
+/// The variable that a value was taken from.
+#[derive(Clone, Copy, Drop)]
+pub(crate) enum LentRoot {
+    /// The local variable in a slot of the calling function.
+    Local(u16),
+    /// The variable of a name.
+    Named(u32),
+    /// `this` of the calling function.
+    This,
+}
+
+/// What is to be restored when a function ends.
+#[derive(Drop)]
+struct Call {
+    /// Where the local variables of the function begin.
+    base: usize,
+    /// The address of the operation that called it.
+    at: usize,
+    this: Option<Value>,
+    lent: Option<Lent>,
 }
 
 /// What a function leaves behind when it ends.
-#[derive(Clone, Copy, Drop)]
-struct Base {
-    /// How many local variables there were when it was called.
-    locals: usize,
+#[derive(Drop)]
+pub(crate) struct Ended {
     /// The address of the operation that called it.
-    at: usize,
+    pub(crate) at: usize,
+    /// The value of `this`, and where it goes back to.
+    pub(crate) this: Option<(Value, Lent)>,
 }
 
 /// The variables of a run. Each function sees its own local ones, and all named ones.
 #[derive(Drop)]
 pub(crate) struct Variables {
-    locals: Vec<Dynamic>,
-    named: Vec<Named>,
-    bases: Vec<Base>,
+    alloc: Global,
+    locals: Vec<Value>,
+    /// Where the local variables of the function that runs begin.
+    base: usize,
+    /// By the index of the name.
+    named: Vec<Option<Value>>,
+    /// What slots share: a slot holds the index.
+    shared: Vec<Value>,
+    calls: Vec<Call>,
 }
 
 impl Variables {
     pub(crate) fn new(alloc: Global) -> Variables {
         Variables {
+            alloc,
             locals: Vec::new(alloc),
+            base: 0,
             named: Vec::new(alloc),
-            bases: Vec::new(alloc),
+            shared: Vec::new(alloc),
+            calls: Vec::new(alloc),
         }
     }
 
-    /// The place of a slot of the function that runs.
     fn place(&self, slot: u16) -> usize {
-        match self.bases.last() {
-            Some(base) => base.locals.saturating_add(slot as usize),
-            None => slot as usize,
+        self.base.saturating_add(slot as usize)
+    }
+
+    /// What a slot holds, a share itself where it is one.
+    pub(crate) fn raw(&self, slot: u16) -> Result<&Value, Cause> {
+        match self.locals.get(self.place(slot)) {
+            Some(value) => Ok(value),
+            None => Err(self.no_slot(slot)),
         }
     }
 
-    /// The value in a slot.
-    pub(crate) fn local(&self, slot: u16) -> Result<&Dynamic, Cause> {
-        self.locals.get(self.place(slot)).ok_or(Cause::NoVariable)
+    /// The value of the local variable in a slot.
+    pub(crate) fn local(&self, slot: u16) -> Result<&Value, Cause> {
+        match self.locals.get(self.place(slot)) {
+            Some(Value::Shared(index)) => match self.shared.get(*index) {
+                Some(value) => Ok(value),
+                None => Err(self.no_slot(slot)),
+            },
+            Some(value) => Ok(value),
+            None => Err(self.no_slot(slot)),
+        }
     }
 
-    /// Takes the value out of a slot, which holds unit then.
-    pub(crate) fn take_local(&mut self, slot: u16) -> Result<Dynamic, Cause> {
+    /// The place of the value of the local variable in a slot.
+    pub(crate) fn local_mut(&mut self, slot: u16) -> Result<&mut Value, Cause> {
+        let alloc = self.alloc;
         let place = self.place(slot);
-        match self.locals.get_mut(place) {
-            Some(local) => Ok(taken(local)),
-            None => Err(Cause::NoVariable),
+        match self.shared_at(place) {
+            Some(index) => slot_in(alloc, self.shared.as_mut_slice(), index, slot),
+            None => slot_in(alloc, self.locals.as_mut_slice(), place, slot),
         }
     }
 
-    /// Puts a value into a slot, under its mark where it is shared.
-    pub(crate) fn set_local(&mut self, slot: u16, value: Dynamic) -> Result<(), Cause> {
-        let place = self.place(slot);
-        match self.locals.get_mut(place) {
-            Some(Dynamic::Shared(inner)) => {
-                **inner = value;
-                Ok(())
-            }
-            Some(local) => {
-                *local = value;
-                Ok(())
-            }
-            None => Err(Cause::NoVariable),
+    /// What the local variable at a place shares, if it does.
+    fn shared_at(&self, place: usize) -> Option<usize> {
+        match self.locals.get(place) {
+            Some(Value::Shared(index)) => Some(*index),
+            _ => None,
         }
+    }
+
+    fn no_slot(&self, slot: u16) -> Cause {
+        no_slot(self.alloc, slot)
+    }
+
+    /// Assigns to the local variable in a slot.
+    pub(crate) fn set_local(&mut self, slot: u16, value: Value) -> Result<(), Cause> {
+        let place = self.local_mut(slot)?;
+        *place = value;
+        Ok(())
     }
 
     /// Declares a local variable, whose slot is the next one.
-    pub(crate) fn declare(&mut self, value: Dynamic) -> Result<(), Cause> {
+    pub(crate) fn declare(&mut self, value: Value) -> Result<(), Cause> {
         self.locals.push(value)?;
         Ok(())
     }
@@ -88,49 +134,179 @@ impl Variables {
         self.locals.truncate(place);
     }
 
-    /// The value of a named variable.
-    pub(crate) fn variable(&self, name: u32) -> Result<&Dynamic, Cause> {
-        for named in &self.named {
-            if named.name == name {
-                return Ok(&named.value);
+    /// Makes a slot one that closures may share.
+    pub(crate) fn share(&mut self, slot: u16) -> Result<(), Cause> {
+        let index = self.shared.len();
+        let place = self.place(slot);
+        match self.locals.get_mut(place) {
+            Some(Value::Shared(_)) => Ok(()),
+            Some(local) => {
+                let value = local.take();
+                *local = Value::Shared(index);
+                self.shared.push(value)?;
+                Ok(())
             }
+            None => Err(no_slot(self.alloc, slot)),
         }
-        Err(Cause::NoVariable)
+    }
+
+    /// Makes the variable of a name one that closures may share.
+    pub(crate) fn share_named(&mut self, name: u32) -> Result<(), Cause> {
+        let index = self.shared.len();
+        match self.named.get_mut(name as usize) {
+            Some(Some(Value::Shared(_))) => Ok(()),
+            Some(Some(variable)) => {
+                let value = variable.take();
+                *variable = Value::Shared(index);
+                self.shared.push(value)?;
+                Ok(())
+            }
+            _ => Err(Cause::NoVariable(String::new(self.alloc))),
+        }
+    }
+
+    /// The value of a named variable, a share itself where it is one.
+    pub(crate) fn raw_named(&self, name: u32) -> Option<&Value> {
+        match self.named.get(name as usize) {
+            Some(Some(value)) => Some(value),
+            _ => None,
+        }
+    }
+
+    /// The value of a named variable.
+    pub(crate) fn named(&self, name: u32) -> Option<&Value> {
+        match self.raw_named(name)? {
+            Value::Shared(index) => self.shared.get(*index),
+            value => Some(value),
+        }
+    }
+
+    /// The place of the value of a named variable.
+    pub(crate) fn named_mut(&mut self, name: u32) -> Option<&mut Value> {
+        match self.shared_named(name) {
+            Some(index) => self.shared.get_mut(index),
+            None => match self.named.get_mut(name as usize) {
+                Some(Some(value)) => Some(value),
+                _ => None,
+            },
+        }
+    }
+
+    /// What the variable of a name shares, if it does.
+    fn shared_named(&self, name: u32) -> Option<usize> {
+        match self.raw_named(name) {
+            Some(Value::Shared(index)) => Some(*index),
+            _ => None,
+        }
     }
 
     /// Gives the variable of a name its value, and declares it where it isn't there.
-    pub(crate) fn set_variable(&mut self, name: u32, value: Dynamic) -> Result<(), AllocError> {
-        for named in &mut self.named {
-            if named.name == name {
-                named.value = value;
-                return Ok(());
-            }
+    pub(crate) fn set_named(&mut self, name: u32, value: Value) -> Result<(), AllocError> {
+        if let Some(variable) = self.named_mut(name) {
+            *variable = value;
+            return Ok(());
         }
-        self.named.push(Named { name, value })?;
+        let len = self.named.len();
+        for _ in len..(name as usize).saturating_add(1) {
+            self.named.push(None)?;
+        }
+        if let Some(place) = self.named.get_mut(name as usize) {
+            *place = Some(value);
+        }
         Ok(())
     }
 
-    /// A function begins, whose first local variables are its arguments.
-    pub(crate) fn begin(&mut self, arguments: Vec<Dynamic>, at: usize) -> Result<(), Cause> {
-        self.bases.reserve(1)?;
-        self.locals.reserve(arguments.len())?;
-        let locals = self.locals.len();
-        for argument in arguments {
-            self.locals.push(argument)?;
+    /// The value of `this` in the function that runs, if it has one.
+    pub(crate) fn this(&self) -> Option<&Value> {
+        match self.calls.last() {
+            Some(
+                Call {
+                    this: Some(value),
+                    ..
+                },
+            ) => Some(value),
+            _ => None,
         }
-        self.bases.push(Base { locals, at })?;
+    }
+
+    /// The place of the value of `this` in the function that runs, if it has one.
+    pub(crate) fn this_mut(&mut self) -> Option<&mut Value> {
+        match self.calls.last_mut() {
+            Some(
+                Call {
+                    this: Some(value),
+                    ..
+                },
+            ) => Some(value),
+            _ => None,
+        }
+    }
+
+    /// A function begins, whose first local variables are the bound arguments and then those in their places.
+    pub(crate) fn begin(
+        &mut self,
+        bound: &[Value],
+        places: &mut [Value],
+        this: Option<Value>,
+        lent: Option<Lent>,
+        at: usize,
+    ) -> Result<(), Cause> {
+        self.calls.reserve(1)?;
+        self.locals.reserve(bound.len())?;
+        self.locals
+            .reserve(bound.len().saturating_add(places.len()))?;
+        let base = self.locals.len();
+        for value in bound {
+            self.locals.push(value.clone()?)?;
+        }
+        for place in places {
+            self.locals.push(place.take())?;
+        }
+        self.calls.push(Call {
+            base: self.base,
+            at,
+            this,
+            lent,
+        })?;
+        self.base = base;
         Ok(())
     }
 
-    /// The last function ends that began, and its local variables with it. It answers the address of what called it.
-    pub(crate) fn end(&mut self) -> Option<usize> {
-        let base = self.bases.pop()?;
-        self.locals.truncate(base.locals);
-        Some(base.at)
+    /// The last function ends that began, and its local variables with it.
+    pub(crate) fn end(&mut self) -> Option<Ended> {
+        let Call {
+            base,
+            at,
+            this,
+            lent,
+        } = self.calls.pop()?;
+        self.locals.truncate(self.base);
+        self.base = base;
+        let this = match (this, lent) {
+            (Some(value), Some(lent)) => Some((value, lent)),
+            _ => None,
+        };
+        Some(Ended { at, this })
     }
 }
 
-/// Takes a value out of its place, and leaves unit there.
-pub(crate) fn taken(place: &mut Dynamic) -> Dynamic {
-    mem::replace(place, Dynamic::Unit)
+/// The value at a place, for the slot.
+fn slot_in(
+    alloc: Global,
+    values: &mut [Value],
+    place: usize,
+    slot: u16,
+) -> Result<&mut Value, Cause> {
+    match values.get_mut(place) {
+        Some(value) => Ok(value),
+        None => Err(no_slot(alloc, slot)),
+    }
+}
+
+/// The cause where a slot holds no variable. No compiled script meets it.
+fn no_slot(alloc: Global, slot: u16) -> Cause {
+    match format!(in alloc; "slot {slot}") {
+        Ok(text) => Cause::NoVariable(text),
+        Err(_) => Cause::OutOfMemory,
+    }
 }

@@ -1,14 +1,16 @@
 //! Walks over the items of values.
 
-use crate::fault::Cause;
-use grain_base::Dynamic;
+use grain_value::{Cause, List, Value};
 use std::alloc::Global;
+use std::rc::Rc;
 
-/// What is left of a value that is gone over.
+/// What is iterated over.
 #[derive(Drop)]
-enum Rest {
-    /// The items of an array or the characters of a text, the next one last.
-    Items(Vec<Dynamic>),
+enum Source {
+    /// The items of an array, from a place on.
+    Items(Rc<List>, usize),
+    /// The values in a list, the next one last.
+    Values(Vec<Value>),
     /// Integers, one after another.
     Numbers(Numbers),
 }
@@ -33,54 +35,70 @@ impl Numbers {
     }
 }
 
-/// A walk over the items of a value: of an array, of a range, or of the characters of a text.
+/// A walk over the items of a value: of an array, of a range, or the characters of a text.
 #[derive(Drop)]
 pub struct Walk {
-    rest: Rest,
+    source: Source,
     /// How many items came.
     count: i64,
 }
 
 impl Walk {
-    /// Begins to go over a value.
-    pub(crate) fn over(alloc: Global, value: Dynamic) -> Result<Walk, Cause> {
-        let rest = match value {
-            Dynamic::Array(items) => {
-                let mut items = items;
-                items.reverse();
-                Rest::Items(items)
-            }
-            Dynamic::Range(from, to) => Rest::Numbers(Numbers {
-                next: (from < to).then_some(from),
-                last: to.saturating_sub(1),
-            }),
-            Dynamic::RangeInclusive(from, to) => Rest::Numbers(Numbers {
-                next: Some(from),
-                last: to,
-            }),
-            Dynamic::Str(text) => Rest::Items(characters(alloc, text.as_str())?),
-            _ => return Err(Cause::WrongType),
+    /// Begins to go over a value. What changes in it later isn't seen.
+    pub(crate) fn over(alloc: Global, value: Value) -> Result<Walk, Cause> {
+        let source = match value {
+            Value::Array(list) => Source::Items(list, 0),
+            Value::Range(range) => match range.last() {
+                Some(last) => Source::Numbers(Numbers {
+                    next: Some(range.from),
+                    last,
+                }),
+                None => Source::Numbers(Numbers {
+                    next: None,
+                    last: 0,
+                }),
+            },
+            Value::Text(text) => Source::Values(characters(alloc, text.as_str())?),
+            _ => return Err(Cause::WrongType("a value to iterate over")),
         };
-        Ok(Walk { rest, count: 0 })
+        Ok(Walk { source, count: 0 })
     }
 
     /// The next item, with how many came before it.
-    pub(crate) fn next_item(&mut self) -> Option<(Dynamic, i64)> {
-        let item = match &mut self.rest {
-            Rest::Items(items) => items.pop()?,
-            Rest::Numbers(numbers) => Dynamic::Int(numbers.step()?),
+    pub(crate) fn next_item(&mut self) -> Result<Option<(Value, i64)>, Cause> {
+        let item = match &mut self.source {
+            Source::Items(list, place) => {
+                let Some(item) = list.items().get(*place) else {
+                    return Ok(None);
+                };
+                let item = item.clone()?;
+                *place = place.saturating_add(1);
+                item
+            }
+            Source::Values(values) => {
+                let Some(item) = values.pop() else {
+                    return Ok(None);
+                };
+                item
+            }
+            Source::Numbers(numbers) => {
+                let Some(number) = numbers.step() else {
+                    return Ok(None);
+                };
+                Value::Int(number)
+            }
         };
         let count = self.count;
         self.count = count.saturating_add(1);
-        Some((item, count))
+        Ok(Some((item, count)))
     }
 }
 
 /// The characters of a text, the first one last.
-fn characters(alloc: Global, text: &str) -> Result<Vec<Dynamic>, Cause> {
+fn characters(alloc: Global, text: &str) -> Result<Vec<Value>, Cause> {
     let mut items = Vec::new(alloc);
     for character in text.chars() {
-        items.push(Dynamic::Char(character))?;
+        items.push(Value::Char(character))?;
     }
     items.reverse();
     Ok(items)

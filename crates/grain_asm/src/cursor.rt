@@ -1,0 +1,243 @@
+//! A cursor over a line. What reads a thing moves it past that; where something is wrong, it stays at what is wrong.
+
+use crate::error::{Problem, Stop};
+use grain_base::Position;
+use std::alloc::Global;
+use std::str;
+
+/// What is left of a line.
+#[derive(Drop)]
+pub(crate) struct Cursor<'a> {
+    /// What takes the memory for what is read.
+    pub alloc: Global,
+    /// The bytes that weren't read yet.
+    pub left: &'a [u8],
+}
+
+fn is_word_byte(byte: u8) -> bool {
+    byte.is_ascii_alphanumeric() || byte == b'_' || byte == b'$'
+}
+
+/// The first bytes up to one that ends them, and the others.
+fn split_word(bytes: &[u8]) -> (&[u8], &[u8]) {
+    let len = bytes.iter().position(|byte| !is_word_byte(*byte));
+    split_front(bytes, len)
+}
+
+fn split_number(bytes: &[u8]) -> (&[u8], &[u8]) {
+    let len = bytes
+        .iter()
+        .position(|byte| !is_word_byte(*byte) && *byte != b'-');
+    split_front(bytes, len)
+}
+
+fn split_spelling(bytes: &[u8]) -> (&[u8], &[u8]) {
+    let len = bytes
+        .iter()
+        .position(|byte| matches!(*byte, b' ' | b'\t' | b';'));
+    split_front(bytes, len)
+}
+
+fn split_front(bytes: &[u8], len: Option<usize>) -> (&[u8], &[u8]) {
+    match len {
+        Some(len) => bytes.split_at_checked(len).unwrap_or((bytes, &[])),
+        None => (bytes, &[]),
+    }
+}
+
+/// The text of these bytes.
+fn text_of(bytes: &[u8]) -> Result<&str, Stop> {
+    match str::from_utf8(bytes) {
+        Ok(text) => Ok(text),
+        Err(_) => Err(Stop::Fault(Problem::NotText)),
+    }
+}
+
+/// The number that these digits are, decimal or after 0x hexadecimal.
+fn number_of(digits: &str) -> Result<u64, Stop> {
+    let number = match digits.strip_prefix("0x") {
+        Some(digits) => u64::from_str_radix(digits, 16),
+        None => digits.parse::<u64>(),
+    };
+    match number {
+        Ok(number) => Ok(number),
+        Err(_) => Err(Stop::Fault(Problem::NotNumber)),
+    }
+}
+
+impl<'a> Cursor<'a> {
+    /// Goes past spaces and tabs.
+    pub fn blanks(&mut self) {
+        let blanks = self
+            .left
+            .iter()
+            .position(|byte| !matches!(*byte, b' ' | b'\t'));
+        match blanks {
+            Some(blanks) => self.left = self.left.get(blanks..).unwrap_or_default(),
+            None => self.left = &[],
+        }
+    }
+
+    /// Whether nothing but a comment is left.
+    pub fn is_done(&mut self) -> bool {
+        self.blanks();
+        matches!(self.left, [] | [b';', ..])
+    }
+
+    /// Reads the end of the line.
+    pub fn end(&mut self) -> Result<(), Stop> {
+        if self.is_done() {
+            Ok(())
+        } else {
+            Err(Stop::Fault(Problem::Trailing))
+        }
+    }
+
+    /// Goes past a byte, if it is next.
+    pub fn eat(&mut self, byte: u8) -> bool {
+        self.blanks();
+        match self.left {
+            [first, rest @ ..] if *first == byte => {
+                self.left = rest;
+                true
+            }
+            _ => false,
+        }
+    }
+
+    /// Reads a byte that has to be next.
+    pub fn expect(&mut self, byte: u8) -> Result<(), Stop> {
+        if self.eat(byte) {
+            Ok(())
+        } else {
+            Err(Stop::Fault(Problem::Mark))
+        }
+    }
+
+    /// Reads a word: letters, digits, `_` and `$`.
+    pub fn word(&mut self) -> Result<&'a str, Stop> {
+        self.blanks();
+        let (word, rest) = split_word(self.left);
+        if word.is_empty() {
+            return Err(Stop::Fault(Problem::Missing));
+        }
+        let word = text_of(word)?;
+        self.left = rest;
+        Ok(word)
+    }
+
+    /// Goes past a word, if it is next.
+    pub fn eat_word(&mut self, wanted: &str) -> bool {
+        let start = self.left;
+        match self.word() {
+            Ok(word) if word == wanted => true,
+            _ => {
+                self.left = start;
+                false
+            }
+        }
+    }
+
+    /// Reads what ends at a blank or a comment.
+    pub fn spelling(&mut self) -> Result<&'a str, Stop> {
+        self.blanks();
+        let (spelling, rest) = split_spelling(self.left);
+        let spelling = text_of(spelling)?;
+        self.left = rest;
+        Ok(spelling)
+    }
+
+    /// Reads a number.
+    pub fn number(&mut self) -> Result<u64, Stop> {
+        self.blanks();
+        let start = self.left;
+        let word = self.word()?;
+        let number = number_of(word);
+        if number.is_err() {
+            self.left = start;
+        }
+        number
+    }
+
+    /// Reads a number up to a limit.
+    pub fn number_up_to(&mut self, limit: u64) -> Result<u64, Stop> {
+        self.blanks();
+        let start = self.left;
+        let number = self.number()?;
+        if number > limit {
+            self.left = start;
+            return Err(Stop::Fault(Problem::TooWide));
+        }
+        Ok(number)
+    }
+
+    /// Reads a number of 32 bits.
+    pub fn number_32(&mut self) -> Result<u32, Stop> {
+        let number = self.number_up_to(u64::from(u32::MAX))?;
+        u32::try_from(number).map_err(|_| Stop::Fault(Problem::TooWide))
+    }
+
+    /// Reads a number of 16 bits.
+    pub fn number_16(&mut self) -> Result<u16, Stop> {
+        let number = self.number_up_to(u64::from(u16::MAX))?;
+        u16::try_from(number).map_err(|_| Stop::Fault(Problem::TooWide))
+    }
+
+    /// Reads a number of 8 bits.
+    pub fn number_8(&mut self) -> Result<u8, Stop> {
+        let number = self.number_up_to(u64::from(u8::MAX))?;
+        u8::try_from(number).map_err(|_| Stop::Fault(Problem::TooWide))
+    }
+
+    /// Reads an integer, with a sign or without.
+    pub fn integer(&mut self) -> Result<i64, Stop> {
+        self.blanks();
+        let (digits, rest) = split_number(self.left);
+        let digits = text_of(digits)?;
+        match digits.parse::<i64>() {
+            Ok(integer) => {
+                self.left = rest;
+                Ok(integer)
+            }
+            Err(_) => Err(Stop::Fault(Problem::NotNumber)),
+        }
+    }
+
+    /// Reads `#` and an index, if these are next.
+    pub fn index(&mut self) -> Result<Option<u32>, Stop> {
+        self.blanks();
+        match self.left {
+            [b'#', b'0'..=b'9', ..] => {
+                let _mark = self.eat(b'#');
+                let index = self.number_32()?;
+                Ok(Some(index))
+            }
+            _ => Ok(None),
+        }
+    }
+
+    /// Reads a position, if one is next.
+    pub fn position(&mut self) -> Result<Option<Position>, Stop> {
+        if !self.eat(b'@') {
+            return Ok(None);
+        }
+        if self.eat_word("none") {
+            return Ok(Some(Position::NONE));
+        }
+        let start = self.left;
+        let line = self.number_16()?;
+        if line == 0 {
+            self.left = start;
+            return Err(Stop::Fault(Problem::NoLine));
+        }
+        self.expect(b':')?;
+        let column = self.number_16()?;
+        Ok(Some(Position::new(line, column)))
+    }
+
+    /// Reads a position, which is none where none is next.
+    pub fn position_or_none(&mut self) -> Result<Position, Stop> {
+        let position = self.position()?;
+        Ok(position.unwrap_or(Position::NONE))
+    }
+}

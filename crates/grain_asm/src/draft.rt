@@ -1,0 +1,332 @@
+//! A program while its text is read.
+
+use crate::chains::read_chain;
+use crate::chunks::{Chunks, declare};
+use crate::code::{eat_label, read_instruction};
+use crate::cursor::Cursor;
+use crate::error::{Problem, Stop, Unfinished};
+use crate::labels::Labels;
+use crate::literals::{read_text, read_text_or_word};
+use crate::operators::read_token;
+use crate::pools::Pools;
+use crate::sections::{Section, read_directive, section_named};
+use crate::switches::read_switch_line;
+use crate::values::{MAX_DEPTH, read_value};
+use grain::{Parts, Pools as PoolSizes, Positions, Program, VerifyError, verify};
+use grain_base::{Caps, Position};
+use grain_code::{Chunk, Function};
+use grain_pools::{Strings, StringsError};
+use std::alloc::{AllocError, Global};
+
+/// How many positions a text declares at most.
+pub const MAX_POSITIONS: u64 = 64 * 1024 * 1024;
+
+/// What a text says of a program besides its pools, chunks and code.
+#[derive(Drop)]
+pub(crate) struct Head {
+    caps: Caps,
+    debug_id: u128,
+    fragments: usize,
+    source: Option<String>,
+    /// How many bytes have a position, where the text says so.
+    positions: Option<usize>,
+}
+
+/// A program while its text is read.
+#[derive(Drop)]
+pub(crate) struct Draft {
+    head: Head,
+    pools: Pools,
+    chunks: Chunks,
+    code: Vec<u8>,
+    /// Addresses with their positions.
+    places: Vec<(usize, Position)>,
+    section: Section,
+}
+
+/// Reads the number of a program.
+fn read_id(cursor: &mut Cursor<'_>) -> Result<u128, Stop> {
+    cursor.blanks();
+    let start = cursor.left;
+    let digits = cursor.word()?;
+    match digits.parse::<u128>() {
+        Ok(id) => Ok(id),
+        Err(_) => {
+            cursor.left = start;
+            Err(Stop::Fault(Problem::NotNumber))
+        }
+    }
+}
+
+/// Reads capabilities: names with bars between them, in quotes.
+fn read_caps(cursor: &mut Cursor<'_>) -> Result<Caps, Stop> {
+    cursor.blanks();
+    let start = cursor.left;
+    let names = read_text(cursor)?;
+    match bitflags::parser::from_str::<Caps>(&names) {
+        Ok(caps) => Ok(caps),
+        Err(_) => {
+            cursor.left = start;
+            Err(Stop::Fault(Problem::NotCapability))
+        }
+    }
+}
+
+impl Head {
+    /// Reads what follows a directive that begins no section.
+    fn read(&mut self, cursor: &mut Cursor<'_>, directive: &str) -> Result<(), Stop> {
+        match directive {
+            ".caps" => self.caps = read_caps(cursor)?,
+            ".id" => self.debug_id = read_id(cursor)?,
+            ".fragments" => self.fragments = cursor.number()? as usize,
+            ".source" => self.source = Some(read_text(cursor)?),
+            ".positions" => self.positions = Some(cursor.number_up_to(MAX_POSITIONS)? as usize),
+            _ => return Err(Stop::Fault(Problem::Directive)),
+        }
+        Ok(())
+    }
+}
+
+impl Draft {
+    /// A program without anything.
+    pub fn new(alloc: Global) -> Draft {
+        Draft {
+            head: Head {
+                caps: <Caps as grain_base::Flags>::all(),
+                debug_id: 0,
+                fragments: 0,
+                source: None,
+                positions: None,
+            },
+            pools: Pools::new(alloc),
+            chunks: Chunks::new(alloc),
+            code: Vec::new(alloc),
+            places: Vec::new(alloc),
+            section: Section::Code,
+        }
+    }
+
+    /// Notes the position of an address.
+    fn place(&mut self, at: usize, position: Position) -> Result<(), Stop> {
+        match self.head.positions {
+            Some(len) if at >= len => Err(Stop::Fault(Problem::NoPosition)),
+            _ => {
+                self.places.push((at, position))?;
+                Ok(())
+            }
+        }
+    }
+
+    /// Reads a line of code.
+    fn read_code_line(&mut self, labels: &Labels, cursor: &mut Cursor<'_>) -> Result<(), Stop> {
+        if eat_label(cursor) {
+            return Ok(());
+        }
+        let at = self.code.len();
+        read_instruction(&mut self.pools, labels, &mut self.code, cursor)?;
+        match cursor.position()? {
+            Some(position) => self.place(at, position),
+            None => Ok(()),
+        }
+    }
+
+    /// Reads a position by its address.
+    fn read_place(&mut self, cursor: &mut Cursor<'_>) -> Result<(), Stop> {
+        let start = cursor.left;
+        let at = cursor.number_up_to(MAX_POSITIONS)? as usize;
+        let position = cursor.position_or_none()?;
+        if self.head.positions.is_none() {
+            cursor.left = start;
+            return Err(Stop::Fault(Problem::NoPosition));
+        }
+        self.place(at, position)
+    }
+
+    /// Reads an entry of a pool.
+    fn read_entry(&mut self, labels: &Labels, cursor: &mut Cursor<'_>) -> Result<(), Stop> {
+        match self.section {
+            Section::Names => self.pools.names.push(read_text_or_word(cursor)?)?,
+            Section::Constants => self.pools.consts.push(read_value(cursor, MAX_DEPTH)?)?,
+            Section::Operators => self.pools.tokens.push(read_token(cursor)?)?,
+            Section::OpAssignments => {
+                let assign_op = self.pools.read_assign_op_entry(cursor)?;
+                self.pools.assign_ops.push(assign_op)?;
+            }
+            Section::Chains => {
+                let chain = read_chain(&mut self.pools, cursor)?;
+                self.pools.chains.push(chain)?;
+            }
+            Section::Switches => read_switch_line(&mut self.pools, labels, cursor)?,
+            Section::Chunks => self.chunks.read_line(&mut self.pools, labels, cursor)?,
+            Section::Code => self.read_code_line(labels, cursor)?,
+            Section::Places => self.read_place(cursor)?,
+        }
+        Ok(())
+    }
+
+    /// Reads a line.
+    pub fn read_line(&mut self, labels: &Labels, cursor: &mut Cursor<'_>) -> Result<(), Stop> {
+        if cursor.is_done() {
+            return Ok(());
+        }
+        let start = cursor.left;
+        match read_directive(cursor)? {
+            None => self.read_entry(labels, cursor)?,
+            Some(directive) => match section_named(directive) {
+                Some(section) => self.section = section,
+                None => {
+                    if let Err(stop) = self.head.read(cursor, directive) {
+                        if stop == Stop::Fault(Problem::Directive) {
+                            cursor.left = start;
+                        }
+                        return Err(stop);
+                    }
+                }
+            },
+        }
+        cursor.end()
+    }
+
+    /// The program that was read.
+    pub fn finish(self, alloc: Global) -> Result<Program, Unfinished> {
+        let Draft {
+            head,
+            pools,
+            mut chunks,
+            code,
+            places,
+            section: _,
+        } = self;
+        let main = match chunks.complete(code.len()) {
+            Ok(main) => main,
+            Err(_) => return Err(Unfinished::OutOfMemory),
+        };
+        let positions = positions_of(alloc, head.positions, &places, code.len())?;
+        let Chunks {
+            main: _,
+            functions,
+            automatic,
+        } = chunks;
+        let parts = parts_of(
+            alloc,
+            head.debug_id,
+            head.fragments,
+            head.source,
+            pools,
+            positions,
+        )?;
+        assemble(alloc, head.caps, code, main, functions, parts, &automatic)
+    }
+}
+
+/// The positions of code.
+fn positions_of(
+    alloc: Global,
+    declared: Option<usize>,
+    places: &[(usize, Position)],
+    len: usize,
+) -> Result<Positions, AllocError> {
+    let len = match declared {
+        Some(len) => len,
+        None if places.is_empty() => return Ok(Positions::Stripped),
+        None => len,
+    };
+    let mut list = vec![in alloc; Position::NONE; len]?;
+    for (at, position) in places {
+        if let Some(place) = list.get_mut(*at) {
+            *place = *position;
+        }
+    }
+    Ok(Positions::Dense(list))
+}
+
+/// The names as a program has them.
+fn names_of(alloc: Global, names: &[String]) -> Result<Strings, Unfinished> {
+    let mut texts = Vec::with_capacity(alloc, names.len())?;
+    for name in names {
+        texts.push(name.as_str()).map_err(AllocError::from)?;
+    }
+    match Strings::new(alloc, &texts) {
+        Ok(names) => Ok(names),
+        Err(StringsError::TooLong) => Err(Unfinished::NamesTooLong),
+        Err(StringsError::OutOfMemory) => Err(Unfinished::OutOfMemory),
+    }
+}
+
+/// What a program has besides its code and its chunks.
+fn parts_of(
+    alloc: Global,
+    debug_id: u128,
+    residuals: usize,
+    source: Option<String>,
+    pools: Pools,
+    positions: Positions,
+) -> Result<Parts, Unfinished> {
+    let Pools {
+        alloc: _,
+        names,
+        consts,
+        tokens,
+        assign_ops,
+        chains,
+        switches,
+    } = pools;
+    Ok(Parts {
+        positions,
+        debug_id,
+        residuals,
+        consts,
+        names: names_of(alloc, &names)?,
+        tokens,
+        assign_ops,
+        chains,
+        switches,
+        source,
+    })
+}
+
+/// The greatest operand count that any run of each chunk reaches.
+fn numbers_of(
+    alloc: Global,
+    caps: Caps,
+    code: &[u8],
+    main: Chunk,
+    functions: &[Function],
+    parts: &Parts,
+) -> Result<Vec<u16>, VerifyError> {
+    let mut chunks = Vec::with_capacity(alloc, functions.len().saturating_add(1))?;
+    chunks.push(main)?;
+    for function in functions {
+        chunks.push(function.chunk)?;
+    }
+    let pools = PoolSizes {
+        consts: parts.consts.len(),
+        names: &parts.names,
+        tokens: parts.tokens.len(),
+        assign_ops: parts.assign_ops.len(),
+        residuals: parts.residuals,
+        chains: &parts.chains,
+        switches: &parts.switches,
+    };
+    verify(alloc, caps, &parts.consts, code, functions, &chunks, &pools)
+}
+
+/// The program of these parts, in which chunks that declare nothing declare what verification finds.
+fn assemble(
+    alloc: Global,
+    caps: Caps,
+    code: Vec<u8>,
+    mut main: Chunk,
+    mut functions: Vec<Function>,
+    parts: Parts,
+    automatic: &[usize],
+) -> Result<Program, Unfinished> {
+    if !automatic.is_empty() {
+        match numbers_of(alloc, caps, &code, main, &functions, &parts) {
+            Ok(numbers) => declare(&mut main, &mut functions, automatic, &numbers),
+            Err(VerifyError::OutOfMemory) => return Err(Unfinished::OutOfMemory),
+            Err(refusal) => return Err(Unfinished::Refused(refusal)),
+        }
+    }
+    Ok(Program::new(alloc, caps, code, main, functions, parts))
+}

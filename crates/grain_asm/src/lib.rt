@@ -1,0 +1,22 @@
+//! Assembly text (docs/ASSEMBLY.md): [`parse`] makes a program of it. The crate `grain_print` writes it.
+#![tactic(auto)]
+
+mod chains;
+mod chunks;
+mod code;
+mod cursor;
+mod draft;
+mod error;
+mod labels;
+mod literals;
+mod operators;
+mod parsing;
+mod pools;
+mod sections;
+mod switches;
+mod values;
+
+pub use draft::MAX_POSITIONS;
+pub use error::{ParseError, Problem, SyntaxError};
+pub use parsing::{parse, parse_accepted};
+pub use values::MAX_DEPTH;

@@ -1,0 +1,198 @@
+//! The pools of a program while its text is read. What is written in place gets an entry, unless there is the same already.
+
+use crate::cursor::Cursor;
+use crate::error::{Problem, Stop};
+use crate::literals::read_text_or_word;
+use crate::operators::{owned, plain_spelling, read_token, token_spelled};
+use crate::values::{MAX_DEPTH, read_value};
+use grain_base::{Dynamic, Token};
+use grain_pools::{AssignOp, Chain, Switch};
+use std::alloc::Global;
+
+/// The pools that instructions point into.
+#[derive(Drop)]
+pub(crate) struct Pools {
+    pub alloc: Global,
+    pub names: Vec<String>,
+    pub consts: Vec<Dynamic>,
+    pub tokens: Vec<Token>,
+    pub assign_ops: Vec<AssignOp>,
+    pub chains: Vec<Chain>,
+    pub switches: Vec<Switch>,
+}
+
+/// The index of the last of so many entries.
+fn last(count: usize) -> Result<u32, Stop> {
+    let Some(last) = count.checked_sub(1) else {
+        return Err(Stop::Fault(Problem::TooWide));
+    };
+    u32::try_from(last).map_err(|_| Stop::Fault(Problem::TooWide))
+}
+
+/// The index at a place.
+fn index_of(place: usize) -> Result<u32, Stop> {
+    u32::try_from(place).map_err(|_| Stop::Fault(Problem::TooWide))
+}
+
+/// Whether a value holds no other, so that one entry serves all that are equal to it.
+fn is_plain(value: &Dynamic) -> bool {
+    match value {
+        Dynamic::Unit
+        | Dynamic::Bool(_)
+        | Dynamic::Int(_)
+        | Dynamic::Char(_)
+        | Dynamic::Str(_)
+        | Dynamic::Range(_, _)
+        | Dynamic::RangeInclusive(_, _)
+        | Dynamic::Blob(_) => true,
+        Dynamic::Array(_)
+        | Dynamic::Map(_)
+        | Dynamic::FnPtr(_)
+        | Dynamic::Shared(_)
+        | Dynamic::Host(_) => false,
+    }
+}
+
+/// The place of a constant that is the same, neither under a mark that it is shared nor holding another value.
+fn place_of(consts: &[Dynamic], value: &Dynamic) -> Option<usize> {
+    consts
+        .iter()
+        .position(|constant| is_plain(constant) && *constant == *value)
+}
+
+impl Pools {
+    /// Pools without entries.
+    pub fn new(alloc: Global) -> Pools {
+        Pools {
+            alloc,
+            names: Vec::new(alloc),
+            consts: Vec::new(alloc),
+            tokens: Vec::new(alloc),
+            assign_ops: Vec::new(alloc),
+            chains: Vec::new(alloc),
+            switches: Vec::new(alloc),
+        }
+    }
+
+    /// The index of a name, which gets an entry where it has none.
+    fn name_index(&mut self, name: String) -> Result<u32, Stop> {
+        match self.names.iter().position(|other| *other == name) {
+            Some(place) => index_of(place),
+            None => {
+                self.names.push(name)?;
+                last(self.names.len())
+            }
+        }
+    }
+
+    /// The index of a constant, which gets an entry unless it is plain and there is the same.
+    pub fn constant_index(&mut self, value: Dynamic) -> Result<u32, Stop> {
+        match place_of(&self.consts, &value) {
+            Some(place) => index_of(place),
+            None => {
+                self.consts.push(value)?;
+                last(self.consts.len())
+            }
+        }
+    }
+
+    /// The index of an operator, which gets an entry where it has none.
+    fn token_index(&mut self, token: Token) -> Result<u32, Stop> {
+        match self.tokens.iter().position(|other| *other == token) {
+            Some(place) => index_of(place),
+            None => {
+                self.tokens.push(token)?;
+                last(self.tokens.len())
+            }
+        }
+    }
+
+    /// The index of an op-assignment, which gets an entry where it has none.
+    fn assign_op_index(&mut self, assign_op: AssignOp) -> Result<u32, Stop> {
+        match self.assign_ops.iter().position(|other| *other == assign_op) {
+            Some(place) => index_of(place),
+            None => {
+                self.assign_ops.push(assign_op)?;
+                last(self.assign_ops.len())
+            }
+        }
+    }
+
+    /// Reads a name: its index, or the name itself.
+    pub fn read_name(&mut self, cursor: &mut Cursor<'_>) -> Result<u32, Stop> {
+        if let Some(index) = cursor.index()? {
+            return Ok(index);
+        }
+        let name = read_text_or_word(cursor)?;
+        self.name_index(name)
+    }
+
+    /// Reads a constant: its index, or the value itself.
+    pub fn read_constant(&mut self, cursor: &mut Cursor<'_>) -> Result<u32, Stop> {
+        if let Some(index) = cursor.index()? {
+            return Ok(index);
+        }
+        let value = read_value(cursor, MAX_DEPTH)?;
+        self.constant_index(value)
+    }
+
+    /// Reads an operator: its index, or the operator itself.
+    pub fn read_operator(&mut self, cursor: &mut Cursor<'_>) -> Result<u32, Stop> {
+        if let Some(index) = cursor.index()? {
+            return Ok(index);
+        }
+        let token = read_token(cursor)?;
+        self.token_index(token)
+    }
+
+    /// Reads an op-assignment: its index, or its operator, as `+=`, which stands for the plain one under their own names.
+    pub fn read_assign_op(&mut self, cursor: &mut Cursor<'_>) -> Result<u32, Stop> {
+        if let Some(index) = cursor.index()? {
+            return Ok(index);
+        }
+        let start = cursor.left;
+        let spelling = cursor.spelling()?;
+        match self.plain_assign_op(spelling)? {
+            Some(assign_op) => self.assign_op_index(assign_op),
+            None => {
+                cursor.left = start;
+                Err(Stop::Fault(Problem::NotOperator))
+            }
+        }
+    }
+
+    /// The op-assignment of this spelling.
+    fn plain_assign_op(&mut self, spelling: &str) -> Result<Option<AssignOp>, Stop> {
+        let Some(plain) = plain_spelling(spelling) else {
+            return Ok(None);
+        };
+        let Some(op_assign) = token_spelled(spelling) else {
+            return Ok(None);
+        };
+        let Some(op) = token_spelled(plain) else {
+            return Ok(None);
+        };
+        let op_assign_name = self.name_index(owned(self.alloc, spelling)?)?;
+        let op_name = self.name_index(owned(self.alloc, plain)?)?;
+        Ok(Some(AssignOp {
+            op_assign,
+            op_assign_name,
+            op,
+            op_name,
+        }))
+    }
+
+    /// Reads an entry of the op-assignments: the operator and its name, the operator that it stands for and the name of that.
+    pub fn read_assign_op_entry(&mut self, cursor: &mut Cursor<'_>) -> Result<AssignOp, Stop> {
+        let op_assign = read_token(cursor)?;
+        let op_assign_name = self.read_name(cursor)?;
+        let op = read_token(cursor)?;
+        let op_name = self.read_name(cursor)?;
+        Ok(AssignOp {
+            op_assign,
+            op_assign_name,
+            op,
+            op_name,
+        })
+    }
+}

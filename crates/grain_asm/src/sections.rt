@@ -1,0 +1,52 @@
+//! Sections and directives.
+
+use crate::cursor::Cursor;
+use crate::error::Stop;
+
+/// What the lines that follow are.
+#[derive(Clone, Copy, Debug, PartialEq, Eq)]
+pub(crate) enum Section {
+    /// Names.
+    Names,
+    /// Constants.
+    Constants,
+    /// Operators.
+    Operators,
+    /// Op-assignments.
+    OpAssignments,
+    /// Chains.
+    Chains,
+    /// Switches, with their cases and ranges.
+    Switches,
+    /// The main chunk and the functions.
+    Chunks,
+    /// Instructions and labels. A text begins with these.
+    Code,
+    /// Positions by their addresses.
+    Places,
+}
+
+/// The section that a directive begins.
+pub(crate) fn section_named(directive: &str) -> Option<Section> {
+    match directive {
+        ".names" => Some(Section::Names),
+        ".constants" => Some(Section::Constants),
+        ".operators" => Some(Section::Operators),
+        ".op-assignments" => Some(Section::OpAssignments),
+        ".chains" => Some(Section::Chains),
+        ".switches" => Some(Section::Switches),
+        ".chunks" => Some(Section::Chunks),
+        ".code" => Some(Section::Code),
+        ".places" => Some(Section::Places),
+        _ => None,
+    }
+}
+
+/// Reads a directive, if the line begins with one: a dot and a letter.
+pub(crate) fn read_directive<'a>(cursor: &mut Cursor<'a>) -> Result<Option<&'a str>, Stop> {
+    cursor.blanks();
+    match cursor.left {
+        [b'.', b'a'..=b'z' | b'A'..=b'Z', ..] => Ok(Some(cursor.spelling()?)),
+        _ => Ok(None),
+    }
+}

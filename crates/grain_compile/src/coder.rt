@@ -1,0 +1,242 @@
+//! The code of expressions. The rules take the function that writes the code of an expression as a parameter, so that each is
+//! proved by itself and only `expr` calls itself.
+
+use grain::Op;
+use grain_emit::{Emitter, len_of};
+use grain_lexer::{CompileError, Operator, Place, Problem};
+use grain_syntax::{Entry, Expr, Form, Literal, Operation};
+
+/// The rules, at a depth.
+#[derive(Clone, Copy)]
+pub(crate) struct Coder<F> {
+    /// How deep expressions may still nest.
+    pub(crate) depth: usize,
+    /// Writes the code of an expression.
+    pub(crate) writes: F,
+}
+
+/// Writes the code of an expression, whose value is wanted or not.
+pub(crate) fn expr(
+    emitter: &mut Emitter,
+    from: &Expr,
+    depth: usize,
+    is_wanted: bool,
+) -> Result<(), CompileError> {
+    if depth == 0 {
+        return Err(CompileError::new(from.place, Problem::TooDeep));
+    }
+    Coder {
+        depth: depth - 1,
+        writes: expr,
+    }
+    .form(emitter, from, is_wanted)
+}
+
+impl<F: Fn(&mut Emitter, &Expr, usize, bool) -> Result<(), CompileError>> Coder<F> {
+    /// Writes the code of an expression, one level deeper.
+    pub(crate) fn expr(
+        &self,
+        emitter: &mut Emitter,
+        from: &Expr,
+        is_wanted: bool,
+    ) -> Result<(), CompileError>
+        requires { (m : _) (e : _) (w : _) → F.pre self.now.writes m e self.now.depth w }
+    {
+        (self.writes)(emitter, from, self.depth, is_wanted)
+    }
+
+    /// Writes the code of expressions, all of whose values are wanted.
+    pub(crate) fn all(&self, emitter: &mut Emitter, list: &[Expr]) -> Result<(), CompileError>
+        requires { (m : _) (e : _) (w : _) → F.pre self.now.writes m e self.now.depth w }
+    {
+        for item in list {
+            self.expr(emitter, item, true)?;
+        }
+        Ok(())
+    }
+
+    fn form(&self, emitter: &mut Emitter, from: &Expr, is_wanted: bool) -> Result<(), CompileError>
+        requires { (m : _) (e : _) (w : _) → F.pre self.now.writes m e self.now.depth w }
+    {
+        let place = from.place;
+        match &from.form {
+            Form::Literal(_)
+            | Form::Name(_)
+            | Form::Qualified(_, _)
+            | Form::This
+            | Form::Interpolated(_)
+            | Form::Array(_)
+            | Form::Map(_)
+            | Form::Prefixed(_, _)
+            | Form::Operations(_, _)
+            | Form::Call(_, _)
+            | Form::Access(_, _)
+            | Form::Closure(_) => {
+                self.value(emitter, place, &from.form)?;
+                emitter.given(place, is_wanted)
+            }
+            form => self.statement(emitter, place, form, is_wanted),
+        }
+    }
+
+    /// What gives a value.
+    fn value(&self, emitter: &mut Emitter, place: Place, form: &Form) -> Result<(), CompileError>
+        requires { (m : _) (e : _) (w : _) → F.pre self.now.writes m e self.now.depth w }
+    {
+        match form {
+            Form::Literal(literal) => emitter.literal(place, *literal),
+            Form::Name(name) => emitter.load(place, *name),
+            Form::This => emitter.put(place, Op::LoadThis, 0, 1),
+            Form::Interpolated(pieces) => self.interpolated(emitter, place, pieces),
+            Form::Array(items) => self.array(emitter, place, items),
+            Form::Map(entries) => self.map(emitter, place, entries),
+            Form::Prefixed(operator, operand) => self.prefixed(emitter, place, *operator, operand),
+            Form::Operations(first, rest) => self.operations(emitter, first, rest),
+            Form::Call(name, arguments) => self.call(emitter, place, *name, arguments),
+            Form::Access(root, steps) => self.access(emitter, place, root, steps),
+            Form::Closure(index) => emitter.closure(place, *index),
+            Form::Qualified(space, name) => emitter.qualified(place, *space, *name),
+            _ => Ok(()),
+        }
+    }
+
+    fn interpolated(
+        &self,
+        emitter: &mut Emitter,
+        place: Place,
+        pieces: &[Expr],
+    ) -> Result<(), CompileError>
+        requires { (m : _) (e : _) (w : _) → F.pre self.now.writes m e self.now.depth w }
+    {
+        emitter.put(place, Op::InterpolateStart, 0, 1)?;
+        for piece in pieces {
+            self.expr(emitter, piece, true)?;
+            emitter.put(piece.place, Op::InterpolateAppend, 2, 1)?;
+        }
+        emitter.put(place, Op::InterpolateEnd, 1, 1)
+    }
+
+    fn array(&self, emitter: &mut Emitter, place: Place, items: &[Expr]) -> Result<(), CompileError>
+        requires { (m : _) (e : _) (w : _) → F.pre self.now.writes m e self.now.depth w }
+    {
+        self.all(emitter, items)?;
+        let len = len_of(place, items.len())?;
+        emitter.put(place, Op::MakeArray(len), items.len(), 1)
+    }
+
+    fn map(
+        &self,
+        emitter: &mut Emitter,
+        place: Place,
+        entries: &[Entry],
+    ) -> Result<(), CompileError>
+        requires { (m : _) (e : _) (w : _) → F.pre self.now.writes m e self.now.depth w }
+    {
+        let height = emitter.height;
+        emitter.put(place, Op::Unit, 0, 1)?;
+        for entry in entries {
+            emitter.literal(entry.value.place, Literal::Text(entry.name))?;
+            self.expr(emitter, &entry.value, true)?;
+        }
+        let len = len_of(place, entries.len())?;
+        let takes = emitter.height.saturating_sub(height);
+        emitter.put(place, Op::MakeMap(len), takes, 1)
+    }
+
+    fn prefixed(
+        &self,
+        emitter: &mut Emitter,
+        place: Place,
+        operator: Operator,
+        operand: &Expr,
+    ) -> Result<(), CompileError>
+        requires { (m : _) (e : _) (w : _) → F.pre self.now.writes m e self.now.depth w }
+    {
+        self.expr(emitter, operand, true)?;
+        emitter.operate(place, operator, 1)
+    }
+
+    /// Operators between operands, done from left to right.
+    fn operations(
+        &self,
+        emitter: &mut Emitter,
+        first: &Expr,
+        rest: &[Operation],
+    ) -> Result<(), CompileError>
+        requires { (m : _) (e : _) (w : _) → F.pre self.now.writes m e self.now.depth w }
+    {
+        self.expr(emitter, first, true)?;
+        for operation in rest {
+            self.operation(emitter, operation)?;
+        }
+        Ok(())
+    }
+
+    /// An operator and its right operand, after the left one.
+    fn operation(&self, emitter: &mut Emitter, operation: &Operation) -> Result<(), CompileError>
+        requires { (m : _) (e : _) (w : _) → F.pre self.now.writes m e self.now.depth w }
+    {
+        match operation.operator {
+            Operator::And => self.junction(emitter, operation, false),
+            Operator::Or => self.junction(emitter, operation, true),
+            Operator::Coalesce => self.coalesce(emitter, operation),
+            Operator::In | Operator::NotIn => self.membership(emitter, operation),
+            operator => {
+                self.expr(emitter, &operation.right, true)?;
+                emitter.operate(operation.place, operator, 2)
+            }
+        }
+    }
+
+    /// `in` and `!in` call `contains` of the right operand.
+    fn membership(&self, emitter: &mut Emitter, operation: &Operation) -> Result<(), CompileError>
+        requires { (m : _) (e : _) (w : _) → F.pre self.now.writes m e self.now.depth w }
+    {
+        let place = operation.place;
+        self.expr(emitter, &operation.right, true)?;
+        emitter.put(place, Op::Rotate(1), 0, 0)?;
+        let contains = emitter.pools.name("contains")?;
+        emitter.call(place, contains, 2)?;
+        if operation.operator == Operator::NotIn {
+            emitter.operate(place, Operator::Bang, 1)?;
+        }
+        Ok(())
+    }
+
+    /// `&&` and `||`. The value is that of the left operand where that is `is_short`.
+    fn junction(
+        &self,
+        emitter: &mut Emitter,
+        operation: &Operation,
+        is_short: bool,
+    ) -> Result<(), CompileError>
+        requires { (m : _) (e : _) (w : _) → F.pre self.now.writes m e self.now.depth w }
+    {
+        let place = operation.place;
+        let short = emitter.label()?;
+        let end = emitter.label()?;
+        emitter.jump_where(place, is_short, short)?;
+        let height = emitter.height;
+        self.expr(emitter, &operation.right, true)?;
+        emitter.jump_where(operation.right.place, is_short, short)?;
+        emitter.put(place, Op::Bool(!is_short), 0, 1)?;
+        emitter.jump(place, end)?;
+        emitter.bind(short, height)?;
+        emitter.put(place, Op::Bool(is_short), 0, 1)?;
+        let height = emitter.height;
+        emitter.bind(end, height)
+    }
+
+    /// `??`
+    fn coalesce(&self, emitter: &mut Emitter, operation: &Operation) -> Result<(), CompileError>
+        requires { (m : _) (e : _) (w : _) → F.pre self.now.writes m e self.now.depth w }
+    {
+        let place = operation.place;
+        let end = emitter.label()?;
+        emitter.put(place, Op::SkipIfNotUnit { target: end }, 0, 0)?;
+        emitter.put(place, Op::Pop, 1, 0)?;
+        self.expr(emitter, &operation.right, true)?;
+        let height = emitter.height;
+        emitter.bind(end, height)
+    }
+}

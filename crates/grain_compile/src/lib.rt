@@ -1,0 +1,17 @@
+//! A compiler of Rhai: from a source text to a program that is accepted.
+//!
+//! [`compile`] reads a text by `grain_syntax`, and writes operations for it by `grain_emit`, which has [`grain::build`] assemble
+//! and verify them. docs/LANGUAGE.md says what is compiled.
+#![tactic(auto)]
+
+mod access;
+mod blocks;
+mod calls;
+mod coder;
+mod prelude;
+mod programs;
+mod switches;
+
+pub use grain_emit::Options;
+pub use grain_lexer::{CompileError, Place, Problem, Thing, report};
+pub use programs::compile;

@@ -1,0 +1,131 @@
+//! Whole programs.
+ghost use Rattle.std.specs.Prelude.{◌≡◌, IfOk};
+ghost use Rattle.grain_rules.specs.Accepted.{AreDeepest, IsAccepted};
+ghost use Rattle.grain.specs.Program.{declared_by, input_of};
+
+use crate::coder::{Coder, expr};
+use crate::prelude::{needed, with_functions};
+use grain::{Cut, Head, Op, Program};
+use grain_emit::{Emitter, Options, Pools, finish, global_constants, split_functions};
+use grain_lexer::{CompileError, Place};
+use grain_syntax::{Expr, MAX_DEPTH, Syntax, parse};
+use std::alloc::Global;
+
+/// How deep code nests: an expression of the source text is several of these levels.
+const MAX_LEVELS: usize = 8 * MAX_DEPTH;
+
+/// Compiles a source text. The result is the program, which is accepted, and the greatest operand count that any run of each
+/// chunk reaches, the top level first. Each chunk declares that number. It takes time linear in the length of the text, except
+/// that each use of a variable is compared with the local variables there.
+///
+/// # Errors
+/// The first thing that is wrong with the text, with its line and column. `TooMany` and `OutOfMemory` may have no place.
+pub fn compile(
+    alloc: Global,
+    source: &str,
+    options: &Options,
+) -> Result<(Program, Vec<u16>), CompileError>
+    ensures accepted { IfOk result (λ built. IsAccepted (input_of built.0)) }
+    ensures declared { IfOk result (λ built. declared_by built.0 ≡ built.1.items) }
+    ensures deepest { IfOk result (λ built. AreDeepest (input_of built.0) built.1.items) }
+{
+    let syntax = parse(alloc, source)?;
+    let functions = needed(alloc, &syntax)?;
+    if functions.is_empty() {
+        return compiled(alloc, options, syntax, u32::MAX);
+    }
+    let text = with_functions(alloc, source, functions.as_str())?;
+    let last_line = u32::try_from(source.split('\n').count()).unwrap_or(u32::MAX);
+    compiled(alloc, options, parse(alloc, text.as_str())?, last_line)
+}
+
+/// Compiles a syntax tree. What lies behind the last line of the script has no places.
+fn compiled(
+    alloc: Global,
+    options: &Options,
+    syntax: Syntax,
+    last_line: u32,
+) -> Result<(Program, Vec<u16>), CompileError>
+    ensures accepted { IfOk result (λ built. IsAccepted (input_of built.0)) }
+    ensures declared { IfOk result (λ built. declared_by built.0 ≡ built.1.items) }
+    ensures deepest { IfOk result (λ built. AreDeepest (input_of built.0) built.1.items) }
+{
+    let Syntax {
+        names,
+        texts,
+        functions,
+        body,
+    } = syntax;
+    let (signatures, bodies) = split_functions(alloc, functions)?;
+    let pools = Pools::new(alloc, names, texts);
+    let constants = global_constants(alloc, &body)?;
+    let mut emitter = Emitter::new(alloc, *options, pools, signatures, constants);
+    let (cuts, heads) = chunks(&mut emitter, &body, &bodies)?;
+    forget_places(&mut emitter.places, last_line);
+    finish(emitter, &cuts, heads)
+}
+
+/// Forgets the places behind a line.
+fn forget_places(places: &mut [Place], last_line: u32) {
+    for place in places {
+        if place.line > last_line {
+            *place = Place::NONE;
+        }
+    }
+}
+
+/// The code of the top level and of the functions. A closure comes after the code that makes it, which captures its variables.
+fn chunks(
+    emitter: &mut Emitter,
+    body: &[Expr],
+    bodies: &[Vec<Expr>],
+) -> Result<(Vec<Cut>, Vec<Head>), CompileError> {
+    let mut cuts = Vec::new(emitter.alloc);
+    let mut heads = Vec::new(emitter.alloc);
+    cuts.push(main_chunk(emitter, body)?)?;
+    for turn in 0..bodies.len() {
+        let index = bodies.len() - 1 - turn;
+        heads.push(emitter.head(index)?)?;
+        cuts.push(function_chunk(emitter, index, &bodies[index])?)?;
+    }
+    Ok((cuts, heads))
+}
+
+/// The top level. A checkpoint before each statement says which variables a fault in it keeps.
+fn main_chunk(emitter: &mut Emitter, body: &[Expr]) -> Result<Cut, CompileError> {
+    let start = Place::START;
+    let Some((last, others)) = body.split_last() else {
+        emitter.put(start, Op::Unit, 0, 1)?;
+        emitter.put(start, Op::Return, 1, 0)?;
+        return Ok(cut(0, emitter.ops.len()));
+    };
+    for statement in others {
+        emitter.put(statement.place, Op::Checkpoint, 0, 0)?;
+        expr(emitter, statement, MAX_LEVELS, false)?;
+    }
+    emitter.put(last.place, Op::Checkpoint, 0, 0)?;
+    expr(emitter, last, MAX_LEVELS, true)?;
+    emitter.put(last.place, Op::Return, 1, 0)?;
+    Ok(cut(0, emitter.ops.len()))
+}
+
+fn function_chunk(emitter: &mut Emitter, index: usize, body: &[Expr]) -> Result<Cut, CompileError> {
+    let first = emitter.ops.len();
+    let place = emitter.begin_function(index)?;
+    let coder = Coder {
+        depth: MAX_LEVELS,
+        writes: expr,
+    };
+    coder.statements(emitter, place, body, true)?;
+    emitter.put(place, Op::Return, 1, 0)?;
+    Ok(cut(first, emitter.ops.len()))
+}
+
+/// A chunk that declares as much as it may, since the verifier computes how much it takes.
+fn cut(first: usize, end: usize) -> Cut {
+    Cut {
+        first,
+        end,
+        max_stack: u16::MAX,
+    }
+}

@@ -1,0 +1,142 @@
+//! The parts of a program, made from pools.
+
+use crate::emitter::Emitter;
+use crate::operators::{assigning, spelling, token};
+use crate::pools::Pools;
+use crate::table::Table;
+use grain::{
+    AssignOp, Dynamic, Op, Parts, Position, Positions, Strings, Switch, SwitchRange, assemble,
+};
+use grain_lexer::{CompileError, Names, Operator, Place, Problem, Thing};
+use grain_syntax::Literal;
+use std::alloc::{AllocError, Global};
+use std::collections::HashMap;
+
+/// A place as a position of a program, which is none where its numbers are too great.
+pub fn position(place: Place) -> Position {
+    match (u16::try_from(place.line), u16::try_from(place.column)) {
+        (Ok(line), Ok(column)) if line > 0 => Position::new(line, column),
+        _ => Position::NONE,
+    }
+}
+
+/// The value of a literal.
+fn value(alloc: Global, texts: &Names, literal: Literal) -> Result<Dynamic, AllocError> {
+    match literal {
+        Literal::Unit => Ok(Dynamic::Unit),
+        Literal::Bool(value) => Ok(Dynamic::Bool(value)),
+        Literal::Int(value) => Ok(Dynamic::Int(value)),
+        Literal::Char(value) => Ok(Dynamic::Char(value)),
+        Literal::Text(text) => Ok(Dynamic::Str(String::from_str(alloc, texts.get(text))?)),
+    }
+}
+
+fn constants(pools: &Pools) -> Result<Vec<Dynamic>, CompileError> {
+    let mut consts = Vec::new(pools.alloc);
+    for literal in &pools.consts {
+        consts.push(value(pools.alloc, &pools.texts, *literal)?)?;
+    }
+    Ok(consts)
+}
+
+fn assign_op(pools: &mut Pools, operator: Operator) -> Result<AssignOp, CompileError> {
+    let (spelled, op_assign) = assigning(operator);
+    Ok(AssignOp {
+        op_assign,
+        op_assign_name: pools.name(spelled)?,
+        op: token(operator),
+        op_name: pools.name(spelling(operator))?,
+    })
+}
+
+fn assign_ops(pools: &mut Pools) -> Result<Vec<AssignOp>, CompileError> {
+    let mut found = Vec::new(pools.alloc);
+    for index in 0..pools.assign_ops.len() {
+        if let Some(operator) = pools.assign_ops.get(index).copied() {
+            found.push(assign_op(pools, operator)?)?;
+        }
+    }
+    Ok(found)
+}
+
+fn strings(alloc: Global, names: &Names) -> Result<Strings, CompileError> {
+    let mut list = Vec::new(alloc);
+    for name in names.list() {
+        list.push(name.as_str())?;
+    }
+    match Strings::new(alloc, &list) {
+        Ok(strings) => Ok(strings),
+        Err(_) => Err(CompileError::new(Place::NONE, Problem::TooMany(Thing::Names))),
+    }
+}
+
+/// A switch whose targets are operations.
+fn switch(emitter: &Emitter, table: &Table) -> Result<Switch, CompileError> {
+    let mut cases = HashMap::new(emitter.alloc);
+    for leading in &table.values {
+        let subject = value(emitter.alloc, &emitter.pools.texts, leading.value)?;
+        let target = emitter.target(leading.label);
+        let _ = cases.insert(subject, (target, leading.constant))?;
+    }
+    let mut ranges = Vec::new(emitter.alloc);
+    for range in &table.ranges {
+        ranges.push(SwitchRange {
+            from: range.from,
+            to: range.to,
+            inclusive: range.is_inclusive,
+            target: emitter.target(range.label),
+        })?;
+    }
+    Ok(Switch {
+        cases: Some(cases),
+        ranges,
+        default: emitter.target(table.default),
+    })
+}
+
+fn switches(emitter: &Emitter) -> Result<Vec<Switch>, CompileError> {
+    let mut switches = Vec::new(emitter.alloc);
+    for table in &emitter.pools.switches {
+        switches.push(switch(emitter, table)?)?;
+    }
+    Ok(switches)
+}
+
+/// The position of each byte of the code of the operations: none but where one begins.
+fn positions(alloc: Global, ops: &[Op], places: &[Place]) -> Result<Positions, CompileError> {
+    let Ok((code, offsets)) = assemble(alloc, ops) else {
+        return Err(CompileError::new(Place::NONE, Problem::TooMany(Thing::Operations)));
+    };
+    let mut positions = vec![in alloc; Position::NONE; code.len()]?;
+    for (offset, place) in offsets.iter().zip(places) {
+        if let Some(found) = positions.get_mut(*offset as usize) {
+            *found = position(*place);
+        }
+    }
+    Ok(Positions::dense(positions))
+}
+
+/// All that a program has except for code and chunks.
+pub fn parts(emitter: &mut Emitter) -> Result<Parts, CompileError> {
+    let alloc = emitter.alloc;
+    let assign_ops = assign_ops(&mut emitter.pools)?;
+    let mut tokens = Vec::new(alloc);
+    for operator in &emitter.pools.tokens {
+        tokens.push(token(*operator))?;
+    }
+    let positions = positions(alloc, &emitter.ops, &emitter.places)?;
+    let switches = switches(emitter)?;
+    let chains = emitter.take_chains();
+    Ok(Parts {
+        positions,
+        debug_id: emitter.options.debug_id,
+        residuals: 0,
+        consts: constants(&emitter.pools)?,
+        names: strings(alloc, &emitter.pools.names)?,
+        tokens,
+        assign_ops,
+        chains,
+        switches,
+        source: None,
+    })
+}

@@ -1,0 +1,75 @@
+//! Functions apart from their bodies, and constants that all functions see.
+
+use crate::emitter::Signature;
+use grain_lexer::{CompileError, Problem, Thing};
+use grain_syntax::{Expr, Form, Function, Literal};
+use std::alloc::Global;
+use std::collections::{HashMap, HashSet};
+
+/// The signatures of functions, apart from their bodies.
+pub fn split_functions(
+    alloc: Global,
+    functions: Vec<Function>,
+) -> Result<(Vec<Signature>, Vec<Vec<Expr>>), CompileError> {
+    let mut signatures = Vec::new(alloc);
+    let mut bodies = Vec::new(alloc);
+    for function in functions {
+        check_new(&signatures, &function)?;
+        signatures.push(Signature {
+            place: function.place,
+            name: function.name,
+            params: function.params,
+            this_type: function.this_type,
+            is_private: function.is_private,
+            is_closure: function.is_closure,
+            uses: function.uses,
+            captured: Vec::new(alloc),
+        })?;
+        bodies.push(function.body)?;
+    }
+    Ok((signatures, bodies))
+}
+
+/// No two functions have the same name, the same number of parameters and the same type of `this`.
+fn check_new(signatures: &[Signature], function: &Function) -> Result<(), CompileError> {
+    for signature in signatures {
+        if signature.name == function.name
+            && signature.params.len() == function.params.len()
+            && signature.this_type == function.this_type
+        {
+            return Err(CompileError::new(function.place, Problem::Repeated(Thing::Function)));
+        }
+    }
+    Ok(())
+}
+
+/// The constants of the top level that are declared once and whose values are literals, by their names.
+pub fn global_constants(
+    alloc: Global,
+    body: &[Expr],
+) -> Result<HashMap<u32, Literal>, CompileError> {
+    let mut constants = HashMap::new(alloc);
+    let mut seen = HashSet::new(alloc);
+    for statement in body {
+        let Form::Let(binding, is_const, value) = &statement.form else {
+            continue;
+        };
+        if !seen.insert(binding.name)? {
+            let _ = constants.remove(&binding.name);
+        } else if *is_const && let Some(literal) = literal_of(value) {
+            let _ = constants.insert(binding.name, literal)?;
+        }
+    }
+    Ok(constants)
+}
+
+/// The literal that a declaration has as its value.
+fn literal_of(value: &Option<Box<Expr>>) -> Option<Literal> {
+    let Some(value) = value else {
+        return None;
+    };
+    match &value.form {
+        Form::Literal(literal) => Some(*literal),
+        _ => None,
+    }
+}

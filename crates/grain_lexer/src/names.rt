@@ -1,0 +1,52 @@
+//! Texts without repeats, each with its index.
+
+use crate::error::{CompileError, Place, Problem, Thing};
+use std::alloc::Global;
+use std::collections::HashMap;
+
+/// Texts without repeats. Each has one index, by which it is found in constant time.
+#[derive(Drop)]
+pub struct Names {
+    list: Vec<String>,
+    places: HashMap<String, u32>,
+}
+
+impl Names {
+    /// No texts.
+    pub fn new(alloc: Global) -> Names {
+        Names {
+            list: Vec::new(alloc),
+            places: HashMap::new(alloc),
+        }
+    }
+
+    /// The index of the text, which is added if it isn't there.
+    ///
+    /// # Errors
+    /// There are more texts than 32 bits count, or the allocator refused.
+    pub fn index(&mut self, name: String) -> Result<u32, CompileError> {
+        if let Some(place) = self.places.get(name.as_str()) {
+            return Ok(*place);
+        }
+        let Ok(place) = u32::try_from(self.list.len()) else {
+            return Err(CompileError::new(Place::NONE, Problem::TooMany(Thing::Names)));
+        };
+        let copy = name.clone()?;
+        self.list.push(name)?;
+        let _ = self.places.insert(copy, place)?;
+        Ok(place)
+    }
+
+    /// The text at an index, or the empty text where there is none.
+    pub fn get(&self, index: u32) -> &str {
+        match self.list.get(index as usize) {
+            Some(name) => name.as_str(),
+            None => "",
+        }
+    }
+
+    /// All texts, by their indices.
+    pub fn list(&self) -> &[String] {
+        &self.list
+    }
+}

@@ -1,0 +1,208 @@
+//! Chains of accesses from variables and values, and methods of the script at their end.
+ghost use Rattle.std.specs.Prelude.{IfOk, IfSome, length, ◌<◌};
+ghost use Rattle.grain_machine.specs.Reply.{NamesFunction};
+
+use crate::chains::{Goal, keys_of, read, swapped, walk};
+use crate::script::Script;
+use crate::variables::{Lent, LentRoot};
+use crate::world::World;
+use grain::Program;
+use grain_machine::Reply;
+use grain_pools::{Chain, Root, Step, Tail};
+use grain_value::{Cause, Value};
+
+impl<W: World + Drop> Script<W> {
+    /// What a chain gives. Below all others lie the operands of its steps, above them its root, where that is a value, or what is
+    /// assigned.
+    pub(crate) fn chain(
+        &mut self,
+        program: &Program,
+        chain: &Chain,
+        operands: &mut [Value],
+    ) -> Result<Reply<Value>, Cause>
+        ensures { IfOk result (NamesFunction program.now) }
+    {
+        let steps = chain.steps.as_slice();
+        let goal = match &chain.tail {
+            Tail::Read => Goal::Read,
+            Tail::Assign { op } => match operands.last_mut() {
+                Some(value) => Goal::Assign {
+                    op: *op,
+                    value: value.take(),
+                },
+                None => return Err(Cause::Unsupported),
+            },
+        };
+        if self.may_be_method(steps.last())
+            && let Some(reply) = self.method(program, chain, operands)?
+        {
+            return Ok(reply);
+        }
+        let root = match &chain.root {
+            Root::Temporary => {
+                let Some(value) = operands.last_mut() else {
+                    return Err(Cause::Unsupported);
+                };
+                let mut value = value.take();
+                let context = self.context(program);
+                return Ok(Reply::Value(walk(&context, &mut value, steps, operands, goal)?));
+            }
+            root => variable_of(root)?,
+        };
+        Ok(Reply::Value(self.chain_from(program, root, steps, operands, goal)?))
+    }
+
+    /// Goes along the steps from a variable. Where only one item or entry is read, the variable isn't touched.
+    fn chain_from(
+        &mut self,
+        program: &Program,
+        root: LentRoot,
+        steps: &[Step],
+        operands: &mut [Value],
+        goal: Goal,
+    ) -> Result<Value, Cause> {
+        if let (Goal::Read, [step]) = (&goal, steps)
+            && !matches!(step, Step::Method { .. })
+        {
+            return self.read_from(program, root, step, operands);
+        }
+        let mut value = self.root_mut(program, root)?.take();
+        let context = self.context(program);
+        let result = walk(&context, &mut value, steps, operands, goal);
+        let allowed = self.allowed(&value);
+        *self.root_mut(program, root)? = value;
+        allowed?;
+        result
+    }
+
+    fn read_from(
+        &mut self,
+        program: &Program,
+        root: LentRoot,
+        step: &Step,
+        operands: &mut [Value],
+    ) -> Result<Value, Cause> {
+        let value = self.root_mut(program, root)?.clone()?;
+        if matches!(value, Value::Unit) {
+            let context = self.context(program);
+            let mut value = value;
+            return walk(&context, &mut value, &[step.clone()?], operands, Goal::Read);
+        }
+        read(&self.context(program), &value, step, operands)
+    }
+
+    /// Whether a function of the script may be what this step calls.
+    fn may_be_method(&self, step: Option<&Step>) -> bool {
+        match step {
+            Some(Step::Method { name, argc, .. }) => {
+                self.table.has_functions(*name, *argc as usize)
+            }
+            _ => false,
+        }
+    }
+
+    /// Begins the function of the script that the last step of a chain calls on the value before it, if it has one.
+    fn method(
+        &mut self,
+        program: &Program,
+        chain: &Chain,
+        operands: &mut [Value],
+    ) -> Result<Option<Reply<Value>>, Cause>
+        ensures { IfOk result (λ given. IfSome given (NamesFunction program.now)) }
+    {
+        let Some(called) = method_at_end(chain) else {
+            return Ok(None);
+        };
+        let path = chain.steps.get(..called.path).unwrap_or_default();
+        let (value, lent) = self.receiver(program, &chain.root, path, operands)?;
+        let method = self
+            .table
+            .method(program, called.name, called.count, &value);
+        let Some(function) = method else {
+            self.give_back(value, lent)?;
+            return Ok(None);
+        };
+        let end = called.first.saturating_add(called.count);
+        let Some(arguments) = operands.get_mut(called.first..end) else {
+            return Err(Cause::Unsupported);
+        };
+        self.variables
+            .begin(&[], arguments, Some(value), lent, self.at)?;
+        Ok(Some(Reply::Call { function }))
+    }
+
+    /// The value on which a method is called, taken out of its variable where it lies in one.
+    fn receiver(
+        &mut self,
+        program: &Program,
+        root: &Root,
+        path: &[Step],
+        operands: &mut [Value],
+    ) -> Result<(Value, Option<Lent>), Cause> {
+        if let Root::Temporary = root {
+            let Some(last) = operands.last() else {
+                return Err(Cause::Unsupported);
+            };
+            let mut value = last.clone()?;
+            let context = self.context(program);
+            return Ok((
+                walk(&context, &mut value, path, operands, Goal::Read)?,
+                None,
+            ));
+        }
+        let root = variable_of(root)?;
+        match keys_of(&self.context(program), path, operands)? {
+            Some(path) => {
+                let value = swapped(self.root_mut(program, root)?, path.as_slice(), Value::Unit)?;
+                Ok((value, Some(Lent { root, path })))
+            }
+            None => {
+                let value = self.chain_from(program, root, path, operands, Goal::Read)?;
+                Ok((value, None))
+            }
+        }
+    }
+}
+
+/// A method that a chain calls at its end.
+#[derive(Clone, Copy)]
+struct Called {
+    name: u32,
+    /// How many arguments it has.
+    count: usize,
+    /// Where the first of them lies among the operands.
+    first: usize,
+    /// How many steps lead to its receiver.
+    path: usize,
+}
+
+/// The method that the chain calls at its end, if it does.
+fn method_at_end(chain: &Chain) -> Option<Called> {
+    let path = chain.steps.len().checked_sub(1)?;
+    match chain.steps.get(path) {
+        Some(
+            Step::Method {
+                name,
+                argc,
+                operand,
+                ..
+            },
+        ) => Some(Called {
+            name: *name,
+            count: *argc as usize,
+            first: if *argc == 0 { 0 } else { *operand as usize },
+            path,
+        }),
+        _ => None,
+    }
+}
+
+/// The variable at which a chain begins.
+fn variable_of(root: &Root) -> Result<LentRoot, Cause> {
+    match root {
+        Root::Local { slot, .. } => Ok(LentRoot::Local(*slot)),
+        Root::Named { name, .. } => Ok(LentRoot::Named(*name)),
+        Root::This { .. } => Ok(LentRoot::This),
+        Root::Temporary => Err(Cause::Unsupported),
+    }
+}

@@ -1,0 +1,532 @@
+//! Chains of accesses: parts of values by index, property and method.
+
+use crate::table::{Callee, Table};
+use grain::Program;
+use grain_library::{Function, call, operate, place_of};
+use grain_pools::{Step, StepFlags};
+use grain_value::{Cause, List, Object, SizeLimits, Value};
+use std::alloc::Global;
+use std::mem;
+use std::rc::Rc;
+
+/// What accesses need to know of the script.
+#[derive(Clone, Copy)]
+pub(crate) struct Context<'a> {
+    pub(crate) alloc: Global,
+    pub(crate) limits: SizeLimits,
+    pub(crate) program: &'a Program,
+    pub(crate) table: &'a Table,
+}
+
+/// An index or a name by which a part of a value is found.
+#[derive(Drop)]
+pub(crate) enum Key {
+    Index(i64),
+    Name(String),
+}
+
+/// What is done with the part of the value to which a chain leads.
+#[derive(Drop)]
+pub(crate) enum Goal {
+    /// It is read.
+    Read,
+    /// This is assigned to it, by way of an op-assignment if there is one.
+    Assign { op: Option<u32>, value: Value },
+}
+
+/// A value on the way of a chain.
+#[derive(Drop)]
+struct Part {
+    value: Value,
+    /// Whether it was taken out of the value before it, and goes back there.
+    is_taken: bool,
+}
+
+/// Goes along the steps from a value, whose parts may be changed in place, and gives what is read at their end.
+pub(crate) fn walk(
+    context: &Context<'_>,
+    value: &mut Value,
+    steps: &[Step],
+    operands: &[Value],
+    goal: Goal,
+) -> Result<Value, Cause> {
+    let Some((step, rest)) = steps.split_first() else {
+        return finish(context, value, goal);
+    };
+    if ends_early(value, step) {
+        return Ok(Value::Unit);
+    }
+    if let Step::Method { .. } = step {
+        let mut given = called(context, value, step, operands)?;
+        return walk(context, &mut given, rest, operands, goal);
+    }
+    if rest.is_empty()
+        && let Goal::Assign {
+            op: None,
+            value: assigned,
+        } = goal
+    {
+        assign(context, value, step, operands, assigned)?;
+        return Ok(Value::Unit);
+    }
+    let mut part = taken(context, value, step, operands)?;
+    let result = walk(context, &mut part.value, rest, operands, goal);
+    if part.is_taken {
+        assign(context, value, step, operands, part.value)?;
+    }
+    result
+}
+
+/// What is done where no step is left.
+fn finish(context: &Context<'_>, value: &mut Value, goal: Goal) -> Result<Value, Cause> {
+    match goal {
+        Goal::Read => Ok(value.clone()?),
+        Goal::Assign { op, value: other } => {
+            assign_to(context, value, op, other)?;
+            Ok(Value::Unit)
+        }
+    }
+}
+
+/// Assigns to a variable or to a part of one, by way of an op-assignment if there is one.
+#[inline]
+pub(crate) fn assign_to(
+    context: &Context<'_>,
+    place: &mut Value,
+    op: Option<u32>,
+    value: Value,
+) -> Result<(), Cause> {
+    let Some(op) = op else {
+        *place = value;
+        return Ok(());
+    };
+    let Some(assign_op) = context.program.assign_ops().get(op as usize) else {
+        return Err(Cause::Unsupported);
+    };
+    match operate(context.alloc, &assign_op.op_assign, place, &value)? {
+        Some(new) => {
+            *place = new;
+            Ok(())
+        }
+        None => Err(no_operator(context, assign_op.op_assign_name, place, &value)),
+    }
+}
+
+/// The cause where an operator doesn't take such operands.
+pub(crate) fn no_operator(context: &Context<'_>, name: u32, left: &Value, right: &Value) -> Cause {
+    let name = context.program.names().get(name).unwrap_or("");
+    let first = left.type_name();
+    let second = right.type_name();
+    match format!(in context.alloc; "{name} ({first}, {second})") {
+        Ok(text) => Cause::NoFunction(text),
+        Err(_) => Cause::OutOfMemory,
+    }
+}
+
+/// Whether the step ends the chain, since it is taken on unit and says so.
+fn ends_early(value: &Value, step: &Step) -> bool {
+    let flags = match step {
+        Step::Index { flags, .. } | Step::Property { flags, .. } | Step::Method { flags, .. } => {
+            *flags
+        }
+    };
+    matches!(value, Value::Unit) && flags == StepFlags::SKIP_IF_UNIT
+}
+
+/// The part to which a step leads. It is taken out of an array or an object map, so that it can be changed in place.
+fn taken(
+    context: &Context<'_>,
+    value: &mut Value,
+    step: &Step,
+    operands: &[Value],
+) -> Result<Part, Cause> {
+    let taken = match value {
+        Value::Array(list) => taken_item(list, step, operands)?,
+        Value::Map(object) => {
+            let object = Rc::make_mut(object)?;
+            match replace_entry(context.program, object, step, operands, Value::Unit)? {
+                Some(value) => Some(value),
+                None => return Ok(made_part(Value::Unit)),
+            }
+        }
+        _ => None,
+    };
+    match taken {
+        Some(value) => Ok(Part {
+            value,
+            is_taken: true,
+        }),
+        None => Ok(made_part(read(context, value, step, operands)?)),
+    }
+}
+
+/// A value that goes back nowhere.
+fn made_part(value: Value) -> Part {
+    Part {
+        value,
+        is_taken: false,
+    }
+}
+
+/// The item to which a step leads, taken out of its array; `None` where the step is no index.
+fn taken_item(
+    list: &mut Rc<List>,
+    step: &Step,
+    operands: &[Value],
+) -> Result<Option<Value>, Cause> {
+    let Step::Index { operand, .. } = step else {
+        return Ok(None);
+    };
+    let place = item_place(list.len(), operands.get(*operand as usize))?;
+    Ok(Rc::make_mut(list)?.replace(place, Value::Unit))
+}
+
+/// The place of an item that has to be there.
+fn item_place(len: usize, index: Option<&Value>) -> Result<usize, Cause> {
+    let Some(Value::Int(index)) = index else {
+        return Err(Cause::WrongType("an integer as index"));
+    };
+    match place_of(len, *index) {
+        Some(place) => Ok(place),
+        None => Err(Cause::OutOfBounds(*index)),
+    }
+}
+
+/// The cause where a step names no entry of an object map.
+fn no_entry(step: &Step) -> Cause {
+    match step {
+        Step::Index { .. } => Cause::WrongType("a string as index"),
+        _ => Cause::Unsupported,
+    }
+}
+
+/// The text that is the operand of a step.
+fn text_operand<'o>(operands: &'o [Value], operand: u16) -> Option<&'o str> {
+    match operands.get(operand as usize) {
+        Some(Value::Text(name)) => Some(name.as_str()),
+        _ => None,
+    }
+}
+
+/// A copy of the entry to which a step leads, or unit where there is none.
+fn entry(
+    program: &Program,
+    object: &Object,
+    step: &Step,
+    operands: &[Value],
+) -> Result<Value, Cause> {
+    let found = match step {
+        Step::Index { operand, .. } => match text_operand(operands, *operand) {
+            Some(name) => object.get(name),
+            None => return Err(no_entry(step)),
+        },
+        Step::Property { name, .. } => match program.names().get(*name) {
+            Some(name) => object.get(name),
+            None => return Err(no_entry(step)),
+        },
+        Step::Method { .. } => return Err(no_entry(step)),
+    };
+    match found {
+        Some(value) => Ok(value.clone()?),
+        None => Ok(Value::Unit),
+    }
+}
+
+/// Puts a value in place of the entry to which a step leads, and gives that one back; `None` where there is none.
+fn replace_entry(
+    program: &Program,
+    object: &mut Object,
+    step: &Step,
+    operands: &[Value],
+    value: Value,
+) -> Result<Option<Value>, Cause> {
+    match step {
+        Step::Index { operand, .. } => match text_operand(operands, *operand) {
+            Some(name) => Ok(object.replace(name, value)),
+            None => Err(no_entry(step)),
+        },
+        Step::Property { name, .. } => match program.names().get(*name) {
+            Some(name) => Ok(object.replace(name, value)),
+            None => Err(no_entry(step)),
+        },
+        Step::Method { .. } => Err(no_entry(step)),
+    }
+}
+
+/// A copy of the name of the entry to which a step leads.
+fn entry_name(
+    alloc: Global,
+    program: &Program,
+    step: &Step,
+    operands: &[Value],
+) -> Result<String, Cause> {
+    match step {
+        Step::Index { operand, .. } => match text_operand(operands, *operand) {
+            Some(name) => Ok(String::from_str(alloc, name)?),
+            None => Err(no_entry(step)),
+        },
+        Step::Property { name, .. } => match program.names().get(*name) {
+            Some(name) => Ok(String::from_str(alloc, name)?),
+            None => Err(no_entry(step)),
+        },
+        Step::Method { .. } => Err(no_entry(step)),
+    }
+}
+
+/// Gives the entry to which a step leads its value. It may be a new one.
+fn put_entry(
+    context: &Context<'_>,
+    object: &mut Object,
+    step: &Step,
+    operands: &[Value],
+    value: Value,
+) -> Result<(), Cause> {
+    let name = entry_name(context.alloc, context.program, step, operands)?;
+    let _ = object.insert(name, value)?;
+    Ok(())
+}
+
+/// What a step without a method reads of a value.
+pub(crate) fn read(
+    context: &Context<'_>,
+    value: &Value,
+    step: &Step,
+    operands: &[Value],
+) -> Result<Value, Cause> {
+    match (value, step) {
+        (Value::Map(object), step) => entry(context.program, object, step, operands),
+        (Value::Array(list), Step::Index { operand, .. }) => {
+            let place = item_place(list.len(), operands.get(*operand as usize))?;
+            match list.items().get(place) {
+                Some(item) => Ok(item.clone()?),
+                None => Err(Cause::Unsupported),
+            }
+        }
+        (value, Step::Index { operand, .. }) => match operands.get(*operand as usize) {
+            Some(index) => item_of(value, index),
+            None => Err(Cause::Unsupported),
+        },
+        (value, Step::Property { name, .. }) => property(context, value, *name),
+        (_, Step::Method { .. }) => Err(Cause::Unsupported),
+    }
+}
+
+/// The character of a text, or the bit of an integer, at an index.
+fn item_of(value: &Value, index: &Value) -> Result<Value, Cause> {
+    let Value::Int(index) = index else {
+        return Err(Cause::WrongType("an integer as index"));
+    };
+    match value {
+        Value::Text(text) => {
+            let text = text.as_str();
+            let place = place_of(text.chars().count(), *index).unwrap_or(usize::MAX);
+            match text.chars().nth(place) {
+                Some(character) => Ok(Value::Char(character)),
+                None => Err(Cause::OutOfBounds(*index)),
+            }
+        }
+        Value::Int(bits) => match place_of(64, *index) {
+            Some(place) => Ok(Value::Bool(bit_at(*bits, place))),
+            None => Err(Cause::OutOfBounds(*index)),
+        },
+        _ => Err(Cause::WrongType("a value that has items")),
+    }
+}
+
+fn bit_at(bits: i64, place: usize) -> bool {
+    let distance = u32::try_from(place).unwrap_or(0);
+    bits.wrapping_shr(distance) & 1 == 1
+}
+
+/// A property that the library reads.
+fn property(context: &Context<'_>, value: &Value, name: u32) -> Result<Value, Cause> {
+    if let Some(Callee::Library(function)) = context.table.callee(name)
+        && function.is_property()
+        && let Some(value) = without_arguments(context, function, value)?
+    {
+        return Ok(value);
+    }
+    let name = context.program.names().get(name).unwrap_or("");
+    let type_name = value.type_name();
+    Err(Cause::NoProperty(format!(in context.alloc; "{name} ({type_name})")?))
+}
+
+fn without_arguments(
+    context: &Context<'_>,
+    function: Function,
+    value: &Value,
+) -> Result<Option<Value>, Cause> {
+    let mut receiver = value.clone()?;
+    call(context.alloc, context.limits, function, &mut receiver, &[])
+}
+
+/// Assigns to the part to which a step without a method leads: an item that is there, or an entry that may be new.
+fn assign(
+    context: &Context<'_>,
+    value: &mut Value,
+    step: &Step,
+    operands: &[Value],
+    assigned: Value,
+) -> Result<(), Cause> {
+    if let Value::Map(object) = value {
+        return put_entry(context, Rc::make_mut(object)?, step, operands, assigned);
+    }
+    let Step::Index { operand, .. } = step else {
+        return Err(Cause::WrongType("map"));
+    };
+    let index = operands.get(*operand as usize);
+    if let Value::Array(list) = value {
+        let place = item_place(list.len(), index)?;
+        let _ = Rc::make_mut(list)?.replace(place, assigned);
+        return Ok(());
+    }
+    set_character(context, value, index, assigned)
+}
+
+/// Replaces the character of a text at an index.
+fn set_character(
+    context: &Context<'_>,
+    text: &mut Value,
+    index: Option<&Value>,
+    assigned: Value,
+) -> Result<(), Cause> {
+    let (Value::Text(_), Some(index)) = (&*text, index) else {
+        return Err(Cause::WrongType("a value that has items"));
+    };
+    let arguments = [index.clone()?, assigned];
+    match call(
+        context.alloc,
+        context.limits,
+        Function::Set,
+        text,
+        &arguments,
+    )? {
+        Some(_) => Ok(()),
+        None => Err(Cause::WrongType("a character")),
+    }
+}
+
+/// What the method of a step gives, which may change the value in place.
+fn called(
+    context: &Context<'_>,
+    value: &mut Value,
+    step: &Step,
+    operands: &[Value],
+) -> Result<Value, Cause> {
+    let Step::Method {
+        name,
+        argc,
+        operand,
+        ..
+    } = step
+    else {
+        return Err(Cause::Unsupported);
+    };
+    let first = if *argc == 0 { 0 } else { *operand as usize };
+    let Some(arguments) = operands.get(first..first.saturating_add(*argc as usize)) else {
+        return Err(Cause::Unsupported);
+    };
+    if let Some(Callee::Library(function)) = context.table.callee(*name)
+        && let Some(value) = call(context.alloc, context.limits, function, value, arguments)?
+    {
+        return Ok(value);
+    }
+    let name = context.program.names().get(*name).unwrap_or("");
+    Err(no_function(context.alloc, name, Some(value), arguments))
+}
+
+/// The cause where no function has this name and takes such arguments.
+pub(crate) fn no_function(
+    alloc: Global,
+    name: &str,
+    receiver: Option<&Value>,
+    arguments: &[Value],
+) -> Cause {
+    match signature(alloc, name, receiver, arguments) {
+        Ok(text) => Cause::NoFunction(text),
+        Err(cause) => cause,
+    }
+}
+
+fn signature(
+    alloc: Global,
+    name: &str,
+    receiver: Option<&Value>,
+    arguments: &[Value],
+) -> Result<String, Cause> {
+    let mut text = String::from_str(alloc, name)?;
+    text.push_str(" (")?;
+    let mut is_first = true;
+    if let Some(receiver) = receiver {
+        text.push_str(receiver.type_name())?;
+        is_first = false;
+    }
+    for argument in arguments {
+        if !is_first {
+            text.push_str(", ")?;
+        }
+        is_first = false;
+        text.push_str(argument.type_name())?;
+    }
+    text.push(')')?;
+    Ok(text)
+}
+
+/// The keys of steps that are all indices and properties; `None` where one is a method.
+pub(crate) fn keys_of(
+    context: &Context<'_>,
+    steps: &[Step],
+    operands: &[Value],
+) -> Result<Option<Vec<Key>>, Cause> {
+    let mut keys = Vec::new(context.alloc);
+    for step in steps {
+        let key = match step {
+            Step::Method { .. } => return Ok(None),
+            Step::Index { operand, .. } => match operands.get(*operand as usize) {
+                Some(Value::Int(index)) => Key::Index(*index),
+                Some(Value::Text(name)) => Key::Name(name.as_ref().clone()?),
+                _ => return Err(Cause::WrongType("an integer or a string as index")),
+            },
+            Step::Property { .. } => {
+                Key::Name(entry_name(context.alloc, context.program, step, operands)?)
+            }
+        };
+        keys.push(key)?;
+    }
+    Ok(Some(keys))
+}
+
+/// Puts a value in place of the part to which the keys lead, and gives that one back.
+pub(crate) fn swapped(value: &mut Value, keys: &[Key], new: Value) -> Result<Value, Cause> {
+    let Some((key, rest)) = keys.split_first() else {
+        return Ok(mem::replace(value, new));
+    };
+    if rest.is_empty() {
+        return replaced(value, key, new);
+    }
+    let mut part = replaced(value, key, Value::Unit)?;
+    let result = swapped(&mut part, rest, new);
+    let _ = replaced(value, key, part)?;
+    result
+}
+
+/// Puts a value in place of one part, and gives that one back.
+fn replaced(value: &mut Value, key: &Key, new: Value) -> Result<Value, Cause> {
+    match (value, key) {
+        (Value::Array(list), Key::Index(index)) => {
+            let place = place_of(list.len(), *index).unwrap_or(usize::MAX);
+            match Rc::make_mut(list)?.replace(place, new) {
+                Some(old) => Ok(old),
+                None => Err(Cause::OutOfBounds(*index)),
+            }
+        }
+        (Value::Map(object), Key::Name(name)) => {
+            Ok(
+                Rc::make_mut(object)?
+                    .replace(name.as_str(), new)
+                    .unwrap_or(Value::Unit),
+            )
+        }
+        _ => Err(Cause::WrongType("a value that has parts")),
+    }
+}

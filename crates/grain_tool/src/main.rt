@@ -1,0 +1,101 @@
+//! The command `grain`: works with scripts and program files (docs/COMMAND.md).
+#![tactic(auto)]
+
+mod addresses;
+mod arguments;
+mod check_script;
+mod compile_script;
+mod failure;
+mod files;
+mod list;
+mod paint;
+mod parse;
+mod places;
+mod print;
+mod run;
+mod scripts;
+mod strip;
+mod terminal;
+mod validate;
+
+use crate::failure::Failure;
+use clap::ArgMatches;
+use clap::error::ErrorKind;
+use std::process::ExitCode;
+use std::{env, io};
+
+/// The status for wrong arguments. It is that of `clap`.
+const WRONG_ARGUMENTS: u8 = 2;
+
+/// The program's name and its arguments.
+fn words(rt: &HostRuntime) -> Result<Vec<String>, Failure> {
+    match env::args(rt) {
+        Ok(words) => Ok(words.collect(rt.alloc())?),
+        Err(error) if error.kind() == io::ErrorKind::OutOfMemory => Err(Failure::OutOfMemory),
+        Err(_) => Err(Failure::Arguments),
+    }
+}
+
+/// Prints help, the version, or what is wrong with the arguments, and returns the status of the process.
+fn say(rt: &HostRuntime, said: &clap::Error) -> Result<u8, Failure> {
+    if said.kind() == ErrorKind::OutOfMemory {
+        return Err(Failure::OutOfMemory);
+    }
+    match said.print(rt) {
+        Err(error) if !said.use_stderr() => Err(Failure::of_output(error)),
+        _ => Ok(if said.use_stderr() {
+            WRONG_ARGUMENTS
+        } else {
+            0
+        }),
+    }
+}
+
+/// Does what a subcommand asks for, and returns the status of the process.
+fn dispatch(rt: &HostRuntime, name: &str, matches: &ArgMatches<'_>) -> Result<u8, Failure> {
+    match name {
+        "compile" => compile_script::run(rt, matches),
+        "check" => check_script::run(rt, matches),
+        "validate" => validate::run(rt, matches),
+        "print" => print::run(rt, matches),
+        "parse" => parse::run(rt, matches),
+        "run" => run::run(rt, matches),
+        "list" => list::run(rt, matches),
+        "strip" => strip::strip(rt, matches),
+        "attach" => strip::attach(rt, matches),
+        "addr2line" => addresses::run(rt, matches),
+        _ => Ok(WRONG_ARGUMENTS),
+    }
+}
+
+/// Does what the arguments ask for, and returns the status of the process.
+fn start(rt: &HostRuntime) -> Result<u8, Failure> {
+    let words = words(rt)?;
+    let command = arguments::command(rt.alloc())?;
+    match command.try_get_matches_from(words.as_slice()) {
+        Ok(matches) => match matches.subcommand() {
+            Some((name, inner)) => dispatch(rt, name, inner),
+            None => Ok(WRONG_ARGUMENTS),
+        },
+        Err(said) => say(rt, &said),
+    }
+}
+
+fn main(rt: HostRuntime) -> ExitCode {
+    let status = match start(&rt) {
+        Ok(status) => status,
+        Err(failure) => {
+            // Where standard error can't be written either, the status alone says it.
+            let _said = match &failure {
+                Failure::Script(report) => eprint!(rt; "{report}"),
+                failure if failure.is_left_alone() => Ok(()),
+                failure => eprintln!(rt; "error: {failure}"),
+            };
+            match failure {
+                Failure::Arguments => WRONG_ARGUMENTS,
+                _ => 1,
+            }
+        }
+    };
+    ExitCode::from(status)
+}

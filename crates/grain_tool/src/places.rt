@@ -1,0 +1,48 @@
+//! Where in a program an address is.
+
+use grain::{Chunk, Program};
+use std::alloc::{AllocError, Global};
+
+/// What the top level is called.
+pub const MAIN: &str = "main";
+
+fn holds(chunk: Chunk, at: usize) -> bool {
+    chunk.entry() as usize <= at && at < chunk.end() as usize
+}
+
+/// What the chunk at a place is called: the top level at 0, then the functions.
+pub fn name_of(program: &Program, place: usize) -> &str {
+    let Some(index) = place.checked_sub(1) else {
+        return MAIN;
+    };
+    match program.functions().get(index) {
+        Some(function) => program.names().get(function.name).unwrap_or("?"),
+        None => "?",
+    }
+}
+
+/// The place of the chunk that an address is in.
+pub fn chunk_at(program: &Program, at: usize) -> Option<usize> {
+    if holds(program.main(), at) {
+        return Some(0);
+    }
+    let index = program
+        .functions()
+        .iter()
+        .position(|function| holds(function.chunk, at))?;
+    index.checked_add(1)
+}
+
+/// An address as text: the function and the position, where these are known.
+pub fn write_place(alloc: Global, program: &Program, at: usize) -> Result<String, AllocError> {
+    let name = match chunk_at(program, at) {
+        Some(place) => name_of(program, place),
+        None => "?",
+    };
+    let position = program.position(at);
+    if position.is_none() {
+        format!(in alloc; "{name} at address {at}")
+    } else {
+        format!(in alloc; "{name} at {position}")
+    }
+}

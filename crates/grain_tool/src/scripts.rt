@@ -1,0 +1,60 @@
+//! Scripts and program files alike.
+
+use crate::failure::Failure;
+use crate::files::{program_of, read_bytes, shown};
+use grain::Program;
+use grain_compile::{CompileError, Options, Problem, compile, report};
+use md5::{Digest, Md5};
+use std::alloc::Global;
+
+/// How a program file begins.
+const MAGIC: &[u8; 4] = b"\0grn";
+
+/// The program of a file: of a script, compiled, or of a program file, read. Nothing says that the latter is accepted.
+///
+/// # Errors
+/// The file can't be read, or is neither.
+pub fn program_in(rt: &HostRuntime, path: &str) -> Result<Program, Failure> {
+    let bytes = read_bytes(rt, path)?;
+    if bytes.as_slice().starts_with(MAGIC.as_slice()) {
+        program_of(rt.alloc(), path, &bytes)
+    } else {
+        compiled(rt.alloc(), path, bytes)
+    }
+}
+
+/// The program of a script.
+///
+/// # Errors
+/// The bytes are no text, or it can't be compiled.
+pub fn compiled(alloc: Global, path: &str, bytes: Vec<u8>) -> Result<Program, Failure> {
+    let Ok(source) = String::from_utf8(bytes) else {
+        return Err(Failure::of(alloc, shown(path), "the text is not UTF-8"));
+    };
+    let options = Options {
+        strict_variables: true,
+        debug_id: u128::from_le_bytes(digest_of(source.as_bytes())),
+    };
+    match compile(alloc, source.as_str(), &options) {
+        Ok((program, _)) => Ok(program),
+        Err(error) => Err(refused(alloc, path, source.as_str(), &error)),
+    }
+}
+
+/// The number of a script, by which a sidecar knows its program again.
+fn digest_of(source: &[u8]) -> [u8; 16] {
+    let mut hasher = Md5::new();
+    hasher.update(source);
+    hasher.finalize()
+}
+
+/// Why a script can't be compiled, with the line and a caret.
+fn refused(alloc: Global, path: &str, source: &str, error: &CompileError) -> Failure {
+    if error.problem == Problem::OutOfMemory {
+        return Failure::OutOfMemory;
+    }
+    match report(alloc, shown(path), source, error) {
+        Ok(text) => Failure::Script(text),
+        Err(_) => Failure::OutOfMemory,
+    }
+}

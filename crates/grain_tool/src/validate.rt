@@ -1,0 +1,322 @@
+//! `grain validate`: whether program files are accepted.
+
+use crate::arguments::flag;
+use crate::failure::Failure;
+use crate::files::{read_bytes, shown, unread, write_standard};
+use crate::list::write_line;
+use crate::paint::Paint;
+use crate::places::{name_of, write_place};
+use clap::{Arg, ArgAction, ArgMatches, Command};
+use grain::{Caps, Explained, ExplainedChunk, Flags, Instruction, Program, VerifyError, explain};
+use grain_code::Chunk;
+use grain_file::{Limits, LoadError, Loaded, load};
+use json::Writer;
+use std::alloc::{AllocError, Global};
+
+/// What is reported, and how.
+#[derive(Clone, Copy)]
+struct Report {
+    host: Caps,
+    paint: Paint,
+    numbers: bool,
+    explain: bool,
+    json: bool,
+}
+
+/// The arguments of `grain validate`.
+pub fn command<'a>(alloc: Global) -> Result<Command<'a>, AllocError> {
+    let files = Arg::new(alloc, "FILE")
+        .required(true)
+        .action(ArgAction::Append)
+        .num_args(1..)
+        .help("The files, or - for standard input");
+    let caps = Arg::new(alloc, "caps").long("caps").value_name("CAPS").help(
+        "Capabilities of the host, as in \"ARRAY | MAP\"; all where this is left out",
+    );
+    let numbers = flag(
+        alloc,
+        "numbers",
+        "Print the operands that each function needs",
+    )
+    .short('v');
+    Command::new(alloc, "validate")
+        .about("Says whether program files are accepted, and why not")
+        .after_help("Example:\n  grain validate --caps \"FUNCTION | ARRAY\" -v program.grain")
+        .arg(files)?
+        .arg(caps)?
+        .arg(numbers)?
+        .arg(flag(
+            alloc,
+            "explain",
+            "List the path to the flaw of a refused program",
+        ))?
+        .arg(flag(
+            alloc,
+            "json",
+            "Write a JSON object for each file, on a line of its own",
+        ))?
+        .arg(crate::paint::colour(alloc))
+}
+
+/// The address that a refusal names.
+fn address_of(error: &VerifyError) -> Option<usize> {
+    match *error {
+        VerifyError::MissingCaps { at, .. }
+        | VerifyError::Undecodable { at }
+        | VerifyError::JumpOutOfRange { at, .. }
+        | VerifyError::JumpIntoAnInstruction { at, .. }
+        | VerifyError::DepthConflict { at, .. }
+        | VerifyError::Underflow { at, .. }
+        | VerifyError::IteratorUnderflow { at }
+        | VerifyError::HandlerUnderflow { at }
+        | VerifyError::SinksBelowHandler { at, .. }
+        | VerifyError::BadIndex { at, .. } => Some(at),
+        VerifyError::TrailingBytes { .. }
+        | VerifyError::ChunkOutOfRange { .. }
+        | VerifyError::FallsOffTheEnd
+        | VerifyError::StackExceedsDeclared { .. }
+        | VerifyError::OutOfMemory => None,
+    }
+}
+
+/// The chunks of a program, the main one first.
+fn chunks_of(alloc: Global, program: &Program) -> Result<Vec<Chunk>, AllocError> {
+    let mut chunks = Vec::with_capacity(alloc, program.functions().len().saturating_add(1))?;
+    chunks.push(program.main())?;
+    for function in program.functions() {
+        chunks.push(function.chunk)?;
+    }
+    Ok(chunks)
+}
+
+/// Appends the path to a flaw, each state on a line of its own.
+fn write_path(
+    alloc: Global,
+    out: &mut String,
+    program: &Program,
+    chunk: &ExplainedChunk,
+) -> Result<(), AllocError> {
+    let Some(refusal) = &chunk.refusal else {
+        return Ok(());
+    };
+    out.push_str("A path to the flaw:\n")?;
+    for row in refusal.way.iter().rev() {
+        let at = row.at as usize;
+        let Some(instruction) = Instruction::at(program.code(), at) else {
+            continue;
+        };
+        let operands = row.operands;
+        write!(out, "{operands:>9} operands")?;
+        if let Some(op) = instruction.op() {
+            write_line(alloc, out, program, at, &op)?;
+        }
+    }
+    Ok(())
+}
+
+/// What is explained of a refused program: the place of the refused chunk, and the path to its flaw.
+fn explanation_of(
+    alloc: Global,
+    program: &Program,
+    chunks: &[Chunk],
+) -> Result<(Option<usize>, String), AllocError> {
+    let mut out = String::new(alloc);
+    let pools = program.pools();
+    let explained = explain(
+        alloc,
+        program.caps(),
+        program.consts(),
+        program.code(),
+        program.functions(),
+        chunks,
+        &pools,
+    );
+    let Ok(
+        Explained {
+            verdict: Err(refusal),
+            chunks,
+        },
+    ) = explained
+    else {
+        return Ok((None, out));
+    };
+    if let Some(chunk) = refusal.place.and_then(|place| chunks.get(place)) {
+        write_path(alloc, &mut out, program, chunk)?;
+    }
+    Ok((refusal.place, out))
+}
+
+/// Why a program is refused: the sentence, the function and the place.
+fn sentence(
+    alloc: Global,
+    program: &Program,
+    place: Option<usize>,
+    error: &VerifyError,
+) -> Result<String, AllocError> {
+    match (address_of(error), place) {
+        (Some(at), _) => {
+            let there = write_place(alloc, program, at)?;
+            format!(in alloc; "{error} ({there}, address {at})")
+        }
+        (None, Some(place)) => {
+            let name = name_of(program, place);
+            format!(in alloc; "{error} ({name})")
+        }
+        (None, None) => format!(in alloc; "{error}"),
+    }
+}
+
+/// Says that a program is refused.
+fn refuse(
+    rt: &HostRuntime,
+    report: Report,
+    path: &str,
+    bytes: &[u8],
+    error: &VerifyError,
+) -> Result<Failure, Failure> {
+    let alloc = rt.alloc();
+    let program = crate::files::program_of(alloc, path, bytes)?;
+    let chunks = chunks_of(alloc, &program)?;
+    let (place, path_text) = explanation_of(alloc, &program, &chunks)?;
+    if report.explain && !report.json {
+        write_standard(rt, path_text.as_bytes())?;
+    }
+    let what = sentence(alloc, &program, place, error)?;
+    Ok(Failure::of(alloc, shown(path), what.as_str()))
+}
+
+/// Why a file isn't loaded.
+fn failure_of(
+    rt: &HostRuntime,
+    report: Report,
+    path: &str,
+    bytes: &[u8],
+    error: LoadError,
+) -> Result<Failure, Failure> {
+    match error {
+        LoadError::Read(error) => Ok(unread(rt.alloc(), path, error)),
+        LoadError::Refused(VerifyError::OutOfMemory) => Err(Failure::OutOfMemory),
+        LoadError::Refused(error) => refuse(rt, report, path, bytes, &error),
+        LoadError::Capabilities(_) => Ok(Failure::of(rt.alloc(), shown(path), error)),
+    }
+}
+
+/// Appends what is said of an accepted program.
+fn write_accepted(
+    out: &mut String,
+    report: Report,
+    path: &str,
+    loaded: &Loaded,
+) -> Result<(), AllocError> {
+    out.push_str(path)?;
+    out.push_str(": ")?;
+    report.paint.good(out, "accepted")?;
+    out.push('\n')?;
+    if !report.numbers {
+        return Ok(());
+    }
+    let mut place = 0usize;
+    for number in &loaded.numbers {
+        let name = name_of(&loaded.program, place);
+        write!(out, "{number:>9} operands  {name}\n")?;
+        place = place.saturating_add(1);
+    }
+    Ok(())
+}
+
+/// A line of JSON of an accepted program, or of why it isn't.
+fn object_of(
+    alloc: Global,
+    path: &str,
+    found: Result<&Loaded, &Failure>,
+) -> Result<Vec<u8>, AllocError> {
+    let mut json = Writer::new(Vec::new(alloc));
+    json.begin_object()?;
+    json.key("file")?;
+    json.string(path)?;
+    json.key("accepted")?;
+    json.boolean(found.is_ok())?;
+    match found {
+        Ok(loaded) => {
+            json.key("operands")?;
+            json.begin_array()?;
+            for number in &loaded.numbers {
+                json.u64(u64::from(*number))?;
+            }
+            json.end_array()?;
+        }
+        Err(failure) => {
+            json.key("error")?;
+            let text = format!(in alloc; "{failure}")?;
+            json.string(&text)?;
+        }
+    }
+    json.end_object()?;
+    let mut bytes = json.into_inner();
+    bytes.push(b'\n')?;
+    Ok(bytes)
+}
+
+/// Reads and verifies a file, says what it is, and returns whether it is accepted.
+fn visit(rt: &HostRuntime, report: Report, path: &str) -> Result<bool, Failure> {
+    let alloc = rt.alloc();
+    let bytes = match read_bytes(rt, path) {
+        Ok(bytes) => bytes,
+        Err(failure) => return tell(rt, report, path, failure),
+    };
+    match load(alloc, &bytes, report.host, &Limits::default()) {
+        Ok(loaded) => {
+            if report.json {
+                write_standard(rt, &object_of(alloc, path, Ok(&loaded))?)?;
+            } else {
+                let mut out = String::new(alloc);
+                write_accepted(&mut out, report, shown(path), &loaded)?;
+                write_standard(rt, out.as_bytes())?;
+            }
+            Ok(true)
+        }
+        Err(error) => {
+            let failure = failure_of(rt, report, path, &bytes, error)?;
+            tell(rt, report, path, failure)
+        }
+    }
+}
+
+/// Reports why a file isn't accepted.
+fn tell(rt: &HostRuntime, report: Report, path: &str, failure: Failure) -> Result<bool, Failure> {
+    if report.json {
+        write_standard(rt, &object_of(rt.alloc(), path, Err(&failure))?)?;
+        return Ok(false);
+    }
+    let _said = eprintln!(rt; "error: {failure}");
+    Ok(false)
+}
+
+/// The capabilities of the host.
+fn host_of(alloc: Global, names: Option<&str>) -> Result<Caps, Failure> {
+    match names {
+        None => Ok(Caps::all()),
+        Some(names) => match bitflags::parser::from_str::<Caps>(names) {
+            Ok(caps) => Ok(caps),
+            Err(_) => Err(Failure::of(alloc, names, "no such capability")),
+        },
+    }
+}
+
+/// Says of each file whether it is accepted.
+pub fn run(rt: &HostRuntime, matches: &ArgMatches<'_>) -> Result<u8, Failure> {
+    let report = Report {
+        host: host_of(rt.alloc(), matches.get_str("caps"))?,
+        paint: Paint::of(rt, matches.get_str("color")),
+        numbers: matches.get_flag("numbers"),
+        explain: matches.get_flag("explain"),
+        json: matches.get_flag("json"),
+    };
+    let mut status = 0u8;
+    for path in matches.get_raw("FILE").unwrap_or_default() {
+        if !visit(rt, report, path)? {
+            status = 1;
+        }
+    }
+    Ok(status)
+}

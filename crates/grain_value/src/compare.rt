@@ -1,0 +1,64 @@
+//! How values compare.
+
+use crate::value::Value;
+use std::cmp::Ordering;
+use std::collections::BTreeMap;
+
+/// Whether two values are of one type and have the same content. It takes time by the size of the smaller one.
+#[cycle(equal)]
+#[must_use]
+pub fn are_equal(left: &Value, right: &Value) -> bool {
+    match (left, right) {
+        (Value::Unit, Value::Unit) => true,
+        (Value::Bool(x), Value::Bool(y)) => x == y,
+        (Value::Int(x), Value::Int(y)) => x == y,
+        (Value::Char(x), Value::Char(y)) => x == y,
+        (Value::Text(x), Value::Text(y)) => x.as_str() == y.as_str(),
+        (Value::Range(x), Value::Range(y)) => **x == **y,
+        (Value::Array(x), Value::Array(y)) => are_items_equal(&x.items, &y.items),
+        (Value::Blob(x), Value::Blob(y)) => x.as_slice() == y.as_slice(),
+        (Value::Map(x), Value::Map(y)) => are_entries_equal(&x.entries, &y.entries),
+        (Value::Pointer(x), Value::Pointer(y)) => {
+            x.name() == y.name() && are_items_equal(&x.bound, &y.bound)
+        }
+        (Value::Shared(x), Value::Shared(y)) => x == y,
+        _ => false,
+    }
+}
+
+#[cycle(equal)]
+fn are_items_equal(left: &[Value], right: &[Value]) -> bool {
+    if left.len() != right.len() {
+        return false;
+    }
+    for (x, y) in left.iter().zip(right.iter()) {
+        if !are_equal(x, y) {
+            return false;
+        }
+    }
+    true
+}
+
+#[cycle(equal)]
+fn are_entries_equal(left: &BTreeMap<String, Value>, right: &BTreeMap<String, Value>) -> bool {
+    if left.len() != right.len() {
+        return false;
+    }
+    for ((name, x), (other, y)) in left.iter().zip(right.iter()) {
+        if name != other || !are_equal(x, y) {
+            return false;
+        }
+    }
+    true
+}
+
+/// How two values of one type compare, where that type has an order: integers, characters and texts.
+#[must_use]
+pub fn order(left: &Value, right: &Value) -> Option<Ordering> {
+    match (left, right) {
+        (Value::Int(x), Value::Int(y)) => Some(x.cmp(y)),
+        (Value::Char(x), Value::Char(y)) => Some(x.cmp(y)),
+        (Value::Text(x), Value::Text(y)) => Some(x.as_str().cmp(y.as_str())),
+        _ => None,
+    }
+}

@@ -1,0 +1,24 @@
+//! Values of a script that runs: small to copy, shared until they are changed.
+//!
+//! Integers, characters and truth values lie in the value itself. Texts, arrays and maps are counted and shared: a copy costs
+//! one count, and the first change to a shared one copies one level of it.
+//!
+//! Each array and map knows how much is in it and how deep, so a limit on both costs no walk.
+#![tactic(auto)]
+
+mod cause;
+mod compare;
+mod constant;
+mod list;
+mod object;
+mod pointer;
+mod show;
+mod value;
+
+pub use cause::Cause;
+pub use compare::{are_equal, order};
+pub use constant::{constant_of, value_of};
+pub use list::List;
+pub use object::Object;
+pub use pointer::Pointer;
+pub use value::{Interval, Measure, SizeLimits, Value};
