@@ -4,7 +4,8 @@
     bench/believed.py               of each public contract of the headline: how many definitions, files and lines
     bench/believed.py FUNCTION      of one of them, file by file, each behind those that it uses
     bench/believed.py --text [FUNCTION]      of `verify`, or of one of them, as one text: each definition, and what the kit's words mean
-    bench/believed.py --write       writes the list of `verify` at the end of docs/THEOREM.md
+    bench/believed.py --write       writes the list of `verify` to docs/reference/belief.md
+    bench/believed.py --check       fails where that file isn't up to date
 
 What a clause names and a `ghost use` brings is a definition of some specs/; what that names is one, and so on. Where a contract
 or a definition speaks of a type of the code, or of one whose fields have it, what contracts see of it (`ghost view` in its
@@ -18,8 +19,7 @@ import sys
 
 TOP = pathlib.Path(__file__).resolve().parent.parent
 CRATES = TOP / "crates"
-THEOREM = TOP / "docs" / "THEOREM.md"
-TITLE = "## What you have to believe"
+BELIEF = TOP / "docs" / "reference" / "belief.md"
 
 # The public calls that carry the headline.
 FUNCTIONS = {
@@ -219,20 +219,22 @@ def by_file(files, seen):
         yield place, names, sum(len(defined[name]) for name in names)
 
 
-def section(files):
+def page(files):
     seen = rests_on(files, "verify")
     rows = list(by_file(files, seen))
     count, lines = sum(len(names) for _, names, _ in rows), sum(size for _, _, size in rows)
     text = [
-        TITLE,
+        "# What has to be believed",
         "",
-        f"The contract of `verify` rests on {count} definitions in {len(rows)} files, {lines} lines without comments. Who has read these knows what a yes says, and needs to read no proof. They are listed in reading order, each file after those that it uses; a file of src/ has what contracts see of a type. bench/believed.py follows their names and writes this list, and with `--text` all of it as one text. With them belong the fields of the types of the code that they name, those of operations, chains, switches, pools, values and refusals, and the words of the kit in the last table.",
+        f"The contract of `verify` rests on {count} definitions in {len(rows)} files, {lines} lines without comments. Who has read these knows what a yes says, and needs to read no proof. [THEOREM.md](../THEOREM.md) explains them.",
+        "",
+        "The files are in reading order, each after those that it uses; a file of src/ has what contracts see of a type. [bench/believed.py](../../bench/believed.py) follows the names and writes this page; `bench/believed.py --text` prints all of it as one text. With them belong the fields of the types of the code that they name: operations, chains, switches, pools, values and refusals. The last table has the words of the kit.",
         "",
         "| File | Lines | Definitions |",
         "|---|---|---|",
     ]
     for (crate, path), names, size in rows:
-        text.append(f"| [{path}](../{place_of(crate, path)}) | {size} | {', '.join(f'`{name}`' for name in names)} |")
+        text.append(f"| [{path}](../../{place_of(crate, path)}) | {size} | {', '.join(f'`{name}`' for name in names)} |")
     text += ["", "| File of the kit | Words |", "|---|---|"]
     for (library, file), words in sorted(kit_words(files, seen).items()):
         text.append(f"| {library}, {file} | {', '.join(f'`{word}`' for word in sorted(words))} |".replace("||", "\\|\\|"))
@@ -277,8 +279,8 @@ def whole_text(files, function):
 
 
 def is_written(files):
-    """Whether docs/THEOREM.md ends with the list as it is now."""
-    return THEOREM.read_text().endswith("\n\n" + section(files))
+    """Whether docs/reference/belief.md has the list as it is now."""
+    return BELIEF.is_file() and BELIEF.read_text() == page(files)
 
 
 TYPES = all_types()
@@ -287,8 +289,11 @@ TYPES = all_types()
 def main():
     files = all_files()
     if sys.argv[1:] == ["--write"]:
-        text = THEOREM.read_text()
-        THEOREM.write_text(text.partition(TITLE)[0].rstrip("\n") + "\n\n" + section(files))
+        BELIEF.parent.mkdir(exist_ok=True)
+        BELIEF.write_text(page(files))
+    elif sys.argv[1:] == ["--check"]:
+        if not is_written(files):
+            raise SystemExit("docs/reference/belief.md isn't up to date: run bench/believed.py --write")
     elif sys.argv[1:2] == ["--text"]:
         print("\n".join(whole_text(files, sys.argv[2] if sys.argv[2:] else "verify")))
     elif sys.argv[1:]:

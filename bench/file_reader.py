@@ -1,7 +1,7 @@
-"""Reads program files by docs/FORMAT.md ("Program files") alone, and says of each whether it is one.
+"""Reads program files and sidecar files by docs/FORMAT.md alone, and says of each whether it is one.
 
     file_reader.py FILE..          a line for each file: its verdict
-    file_reader.py --hex TEXT..    the same for bytes in hexadecimal
+    file_reader.py --hex TEXT..    the same for bytes in hexadecimal; with --sidecar as sidecar files
 
 The verdict is `file`, or the byte and the cause of the first fault, as in `23 NotShortest`, or `TooLarge`. It shares no code with
 the crate: what the two answer on the same bytes can be compared.
@@ -215,11 +215,27 @@ def read_switch(r, constants):
     r.number(32)
 
 
-def read_program(r):
+def read_head(r, kind):
     for byte in b"\x00grn":
         r.expect(byte, "Magic")
     r.expect(1, "Version")
-    r.expect(0, "Kind")
+    r.expect(kind, "Kind")
+
+
+def read_end(r):
+    if r.at < len(r.data):
+        raise Fault(r.at, "Trailing")
+
+
+def read_sidecar(r):
+    read_head(r, 1)
+    r.number(), r.number()
+    r.bytes(), r.bytes()
+    read_end(r)
+
+
+def read_program(r):
+    read_head(r, 0)
     r.number(16), r.number(), r.number()
     r.bytes()
     read_chunk(r)
@@ -232,15 +248,14 @@ def read_program(r):
     r.list(lambda: read_switch(r, constants))
     r.option(r.text)
     r.option(lambda: r.list(lambda: read_position(r)))
-    if r.at < len(r.data):
-        raise Fault(r.at, "Trailing")
+    read_end(r)
 
 
-def verdict(data):
+def verdict(data, read=read_program):
     if len(data) > SIZE:
         return "TooLarge"
     try:
-        read_program(Reader(data))
+        read(Reader(data))
     except Fault as fault:
         return f"{fault.at} {fault.cause}"
     return "file"
@@ -249,6 +264,7 @@ def verdict(data):
 def main():
     options = argparse.ArgumentParser(description=__doc__, formatter_class=argparse.RawDescriptionHelpFormatter)
     options.add_argument("--hex", action="store_true", help="the arguments are bytes, and no names of files")
+    options.add_argument("--sidecar", action="store_true", help="the files are sidecars")
     options.add_argument("what", nargs="+")
     given = options.parse_args()
     for what in given.what:
@@ -257,7 +273,7 @@ def main():
         else:
             with open(what, "rb") as file:
                 data = file.read()
-        print(verdict(data))
+        print(verdict(data, read_sidecar if given.sidecar else read_program))
 
 
 if __name__ == "__main__":

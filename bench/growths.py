@@ -30,6 +30,10 @@ from concurrent.futures import ThreadPoolExecutor
 
 TOP = pathlib.Path(__file__).resolve().parent.parent
 
+sys.dont_write_bytecode = True
+sys.path.append(str(TOP / "bench"))
+import scratch
+
 SUFFIX = "_growth_fails"
 
 # How a test ends that says which growth was refused, and with which errors it ends while it prepares.
@@ -134,12 +138,7 @@ def kind_of(lines):
 
 def scratch_copy(room):
     """The crates as the work tree has them, each of tests with its modules of growths."""
-    words = ["git", "ls-files", "-zco", "--exclude-standard", "crates", "crates.txt", "HANDLES"]
-    names = subprocess.run(words, cwd=TOP, capture_output=True, text=True, check=True).stdout
-    for name in names.split("\0"):
-        if name and (TOP / name).is_file():
-            (room / name).parent.mkdir(parents=True, exist_ok=True)
-            shutil.copyfile(TOP / name, room / name)
+    scratch.copy_crates(room)
     for module in (TOP / "bench" / "growths").glob("*/**/*.tests"):
         crate, *place = module.relative_to(TOP / "bench" / "growths").with_suffix(".rt").parts
         source = room / "crates" / crate / "src"

@@ -1,0 +1,328 @@
+#!/usr/bin/env python3
+"""Whether the built command `grain` does what docs/COMMAND.md and docs/ASSEMBLY.md say, tried as a person would.
+
+    python3 bench/tool.py TOOL [--programs N]
+
+TOOL is the built program, as `rt run` leaves it in crates/grain_tool/out. N random programs (200 without it) go through print and
+parse, and must come back byte by byte. It ends with status 1 at the first thing that isn't so.
+"""
+import argparse
+import json
+import os
+import pathlib
+import random
+import re
+import subprocess
+import sys
+import tempfile
+
+TOP = pathlib.Path(__file__).resolve().parent.parent
+COMMANDS = ("run", "check", "compile", "validate", "print", "parse", "list", "strip", "attach", "addr2line")
+# Tag and field letters of each instruction, by docs/FORMAT.md.
+ROW = re.compile(r"^\| ([0-9a-f]{2}) \| [A-Z_]+ \| ([a-z ]*) \| \d \|", re.M)
+WIDTH = {letter: 2 for letter in "cntofhwys"} | {"a": 1, "j": 4}
+
+
+def expect(is_so, what):
+    if not is_so:
+        sys.exit(f"grain: {what}")
+
+
+class Tool:
+    def __init__(self, program, folder):
+        self.program, self.folder = program, folder
+
+    def run(self, *arguments, given=b"", **more):
+        """The status, and what came on standard output and standard error."""
+        streams = {"input": given, "stdout": subprocess.PIPE, "stderr": subprocess.PIPE, **more}
+        ran = subprocess.run([self.program, *arguments], cwd=self.folder, timeout=120, **streams)
+        return ran.returncode, ran.stdout, ran.stderr
+
+    def done(self, *arguments, given=b""):
+        """What came on standard output of what has to be done."""
+        status, text, errors = self.run(*arguments, given=given)
+        expect(status == 0 and errors == b"", f"{arguments} ends with {status}: {errors!r}")
+        return text
+
+    def refused(self, *arguments, given=b"", status=1):
+        """The message of what has to be refused."""
+        found, text, errors = self.run(*arguments, given=given)
+        expect(found == status and errors.startswith(b"error: "), f"{arguments} ends with {found}: {text!r}, {errors!r}")
+        return errors.decode()
+
+    def write(self, name, content):
+        (pathlib.Path(self.folder) / name).write_bytes(content)
+        return name
+
+    def read(self, name):
+        return (pathlib.Path(self.folder) / name).read_bytes()
+
+
+def number(value):
+    """The shortest spelling of a number."""
+    out = bytearray()
+    while value > 127:
+        out.append(value & 127 | 128)
+        value >>= 7
+    return bytes([*out, value])
+
+
+def signed(value):
+    return number(2 * value if value >= 0 else -2 * value - 1)
+
+
+def text(value):
+    return number(len(value.encode())) + value.encode()
+
+
+def listed(items):
+    return number(len(items)) + b"".join(items)
+
+
+class Random:
+    """Random program files, by docs/FORMAT.md, "Program files"."""
+
+    def __init__(self, seed):
+        self.random = random.Random(seed)
+        self.rows = [(int(tag, 16), fields.split()) for tag, fields in ROW.findall((TOP / "docs/FORMAT.md").read_text())]
+
+    def below(self, limit):
+        return self.random.randrange(limit)
+
+    def small(self, limit=1 << 16):
+        return self.random.choice([0, 1, 2, limit - 1, self.below(limit)])
+
+    def word(self):
+        return "".join(self.random.choices("ab_\"\\'\n\t;# é\U0001f600\x00\x7f$", k=self.below(5)))
+
+    def option(self, made):
+        return b"\1" + made() if self.below(2) else b"\0"
+
+    def many(self, made, most=3):
+        return listed([made() for _ in range(self.below(most + 1))])
+
+    def integer(self):
+        return self.random.choice([0, 1, -1, -(1 << 63), (1 << 63) - 1, self.below(1 << 20)])
+
+    def value(self, depth=3):
+        kind = self.below(13 if depth else 8)
+        if kind < 3:
+            return bytes([kind])
+        if kind == 3:
+            return b"\3" + signed(self.integer())
+        if kind == 4:
+            return b"\4" + number(ord(self.random.choice("a'\\\né\U0001f600\x00")))
+        if kind == 5:
+            return b"\5" + text(self.word())
+        if kind in (6, 7):
+            return bytes([kind]) + signed(self.integer()) + signed(self.integer())
+        if kind == 8:
+            return b"\x08" + self.many(lambda: self.value(depth - 1))
+        if kind == 9:
+            data = self.random.randbytes(self.below(5))
+            return b"\x09" + number(len(data)) + data
+        if kind == 10:
+            keys = sorted({self.word() for _ in range(self.below(4))}, key=str.encode)
+            return b"\x0a" + listed([text(key) + self.value(depth - 1) for key in keys])
+        if kind == 11:
+            return b"\x0b" + text(self.word()) + self.many(lambda: self.value(depth - 1))
+        return b"\x0c" + self.value(depth - 1)
+
+    def token(self):
+        tag = self.below(40)
+        return bytes([tag]) + (text(self.word()) if tag == 39 else b"")
+
+    def position(self):
+        return b"\1" + number(1 + self.small((1 << 16) - 1)) + number(self.small()) if self.below(2) else b"\0"
+
+    def chunk(self, length):
+        return number(self.small(length + 2)) + number(self.small(1 << 32)) + number(self.small())
+
+    def index(self):
+        return number(self.small(1 << 32))
+
+    def root(self):
+        return self.random.choice([
+            lambda: b"\0" + number(self.small()) + self.index(),
+            lambda: b"\1" + self.index() + self.position(),
+            lambda: b"\2" + self.position(),
+            lambda: b"\3",
+        ])()
+
+    def step(self):
+        flags = bytes([self.below(256)])
+        return self.random.choice([
+            lambda: b"\0" + number(self.small()) + flags + self.position() + self.position(),
+            lambda: b"\1" + self.index() + self.index() + self.index() + flags + self.position(),
+            lambda: b"\2" + self.index() + bytes([self.below(256)]) + number(self.small()) + flags + self.position(),
+        ])()
+
+    def chain(self):
+        tail = b"\1" + self.option(self.index) if self.below(2) else b"\0"
+        return self.root() + self.many(self.step) + tail + number(self.small())
+
+    def switch(self, constants):
+        chosen = sorted(self.random.sample(range(constants), self.below(constants + 1))) if constants else []
+        cases = [number(constant) + number(self.small(1 << 32)) for constant in chosen]
+        ranges = self.many(lambda: signed(self.integer()) + signed(self.integer()) + bytes([self.below(2)]) + self.index())
+        return listed(cases) + ranges + self.index()
+
+    def code(self):
+        code = b""
+        for _ in range(self.below(12)):
+            tag, fields = self.random.choice(self.rows)
+            code += bytes([tag])
+            for field in fields:
+                code += self.below(1 << 8 * WIDTH[field] if field != "j" else 40).to_bytes(WIDTH[field], "little")
+        return code + self.random.randbytes(self.below(3)) * self.below(2)
+
+    def program(self):
+        code = self.code()
+        function = lambda: self.index() + self.many(self.index) + bytes([self.below(2)]) + self.option(self.index) + self.chunk(len(code))
+        # Constants that are all different, as the cases of a switch have to be.
+        constants = [b"\3" + signed(at) for at in range(self.below(4))]
+        others = [self.value() for _ in range(self.below(4))]
+        parts = [
+            b"\0grn\1\0", number(self.small()), number(self.small(1 << 64)), number(self.small(1 << 64)),
+            number(len(code)), code, self.chunk(len(code)), self.many(function),
+            self.many(lambda: text(self.word())), listed(constants + others), self.many(self.token),
+            self.many(lambda: self.token() + self.index() + self.token() + self.index()),
+            self.many(self.chain), self.many(lambda: self.switch(len(constants))),
+            self.option(lambda: text(self.word())),
+            self.option(lambda: listed([self.position() for _ in range(self.random.choice([len(code), self.below(9)]))])),
+        ]
+        return b"".join(parts)
+
+
+def check_help(tool):
+    version = re.search(r'^version = "(.*)"$', (TOP / "hosts/rust/Cargo.toml").read_text(), re.M)[1]
+    expect(tool.done("--version") == f"grain {version}\n".encode(), f"--version isn't {version}")
+    for words in ([], *[[command] for command in COMMANDS]):
+        said = tool.done(*words, "--help").decode()
+        expect("Usage: grain" in said and "Example:\n  " in said, f"{words} --help has no usage or example")
+    for words in (["--svg"], ["frobnicate"], ["print"], ["print", "a", "b"], ["strip", "a"], ["run", "--fuel", "x", "a"], ["validate", "--color=red", "a"]):
+        tool.refused(*words, status=2)
+    expect(tool.run()[0] == 2, "no argument isn't an error")
+
+
+def check_missing(tool):
+    for command in ("validate", "print", "parse", "run", "list"):
+        expect("nowhere" in tool.refused(command, "nowhere"), f"{command} doesn't name the missing file")
+        tool.refused(command, ".")
+        tool.refused(command, "-", given=b"\xff\x00\xfe" * 99)
+    tool.refused("print", "-", given=b"")
+    tool.refused("addr2line", "nowhere", "1")
+    tool.refused("parse", "-", "-o", "no/such/folder", given=b"return\n")
+    if os.path.exists("/dev/full"):
+        with open("/dev/full", "wb") as full:
+            status, _, errors = tool.run("list", tool.write("r.grain", tool.done("parse", "-", given=b"return\n")), stdout=full)
+            expect(status == 1 and errors.startswith(b"error: standard output"), f"a full disk ends with {status}: {errors!r}")
+
+
+def check_programs(tool):
+    add = b'  load_const 20 @1:1\r\n  load_const 22 @1:6\r\n  call "+" 2 @1:4\r\n  return\r\n'
+    tool.write("add.gasm", add)
+    tool.done("parse", "add.gasm", "-o", "add.grain")
+    expect(tool.done("parse", "-", given=add) == tool.read("add.grain"), "standard input isn't as a file")
+    expect(tool.done("validate", "-v", "add.grain") == b"add.grain: accepted\n        2 operands  main\n", "the sum isn't accepted")
+    expect(json.loads(tool.done("validate", "--json", "add.grain")) == {"file": "add.grain", "accepted": True, "operands": [2]}, "--json")
+    expect(b"\x1b[" in tool.done("validate", "--color=always", "add.grain"), "--color=always isn't coloured")
+    expect(tool.done("run", "add.grain") == b"42\n", "the sum isn't 42")
+    expect(b"20" in tool.done("list", "add.grain") and b"@1:4" in tool.done("list", "add.grain"), "the listing lacks a value")
+    tool.done("strip", "add.grain", "--sidecar", "add.pos", "-o", "small.grain")
+    tool.done("attach", "small.grain", "add.pos", "-o", "whole.grain")
+    expect(tool.read("whole.grain") == tool.read("add.grain"), "positions don't come back")
+    expect(tool.done("addr2line", "add.grain", "3", "9999") == b"main at 1:6\n? at address 9999\n", "addr2line of a program")
+    expect(tool.done("addr2line", "add.pos", "6") == b"? at 1:4\n", "addr2line of a sidecar")
+    tool.refused("attach", "add.grain", "add.grain", "-o", "x")
+    tool.refused("validate", "--caps", "NOTHING", "add.grain")
+    expect("lacks" in tool.refused("validate", "--caps", "ARRAY", "add.grain"), "capabilities aren't compared")
+
+
+def check_scripts(tool):
+    tool.write("greet.rhai", b"let names = args();\nfor name in names { print(`hello, ${name}`); }\nnames.len()\n")
+    expect(tool.done("run", "greet.rhai", "--", "Ann", "Bob") == b"hello, Ann\nhello, Bob\n2\n", "a script isn't run")
+    tool.done("compile", "greet.rhai", "-o", "greet.grain")
+    expect(tool.done("run", "greet.grain", "--", "Ann") == b"hello, Ann\n1\n", "a compiled script isn't run")
+    expect(tool.done("parse", "-", given=tool.done("print", "greet.grain")) == tool.read("greet.grain"), "a compiled script doesn't come back")
+    tool.done("compile", "greet.rhai", "--sidecar", "greet.pos", "-o", "small.grain")
+    tool.done("attach", "small.grain", "greet.pos", "-o", "whole.grain")
+    expect(tool.read("whole.grain") == tool.read("greet.grain"), "positions of a script don't come back")
+    tool.done("check", "greet.rhai")
+    status, _, errors = tool.run("check", "-", given=b"let x = 1; y + x\n")
+    expect(status == 1 and errors.startswith(b"standard input:1:12: error: ") and errors.endswith(b"^\n"), f"an unknown variable is reported by {errors!r}")
+    for script, said in (
+        (b"let x = 0;\n1 / x\n", "Division by zero (line 2, position 3)"),
+        (b"fn f() { f() } f()\n", "Stack overflow"),
+        (b"let s = `x`; loop { s += s; }\n", "too large"),
+        (b"throw `no luck`;\n", "no luck"),
+    ):
+        found = tool.refused("run", "-", given=script)
+        expect(said in found, f"{script!r} fails with {found!r}")
+    expect("out of fuel" in tool.refused("run", "--fuel", "1000", "-", given=b"loop { }\n"), "a script runs forever")
+
+
+def check_refusals(tool):
+    said = tool.refused("parse", "-", given=b"return\n  halt\n")
+    expect("(line 2, column 3)" in said and "  2 |   halt" in said, f"a wrong line is refused by {said!r}")
+    broken = b'.chunks\nmain 0 5 stack 2\n.code\ncall "+" 2\nreturn\n'
+    tool.write("broken.grain", tool.done("parse", "-", given=broken))
+    said = tool.refused("validate", "broken.grain")
+    expect("underflow" in said and "main" in said, f"a broken program is refused by {said!r}")
+    expect("underflow" in tool.refused("run", "broken.grain"), "a broken program runs")
+    status, text_, _ = tool.run("validate", "--explain", "broken.grain")
+    expect(status == 1 and b"path" in text_, "--explain has no path")
+    found = json.loads(tool.run("validate", "--json", "broken.grain")[1])
+    expect(found["accepted"] is False and "underflow" in found["error"], "--json of a refusal")
+
+
+def check_documents(tool):
+    """Each program of docs/ASSEMBLY.md is assembled and accepted."""
+    page = (TOP / "docs/ASSEMBLY.md").read_text()
+    found = re.findall(r"(?:^    .*\n|^\n)+", page[page.index("## A loop"):], re.M)
+    programs = [re.sub(r"^    ", "", block, flags=re.M) for block in found if block.strip()]
+    expect(len(programs) == 3, f"docs/ASSEMBLY.md has {len(programs)} programs")
+    answers = []
+    for program in programs:
+        file = tool.write("page.grain", tool.done("parse", "-", given=program.encode()))
+        tool.done("validate", file)
+        answers.append(tool.done("run", file).strip())
+    expect(answers == [b"55", b"no luck", b"30"], f"the programs of docs/ASSEMBLY.md give {answers}")
+
+
+def check_round_trips(tool, count):
+    made = Random(11)
+    for at in range(count):
+        program = made.program()
+        file = tool.write("random.grain", program)
+        printed = tool.done("print", file)
+        again = tool.done("parse", "-", given=printed)
+        if again != program:
+            sys.exit(f"grain: program {at} doesn't come back: {program.hex()}")
+    print(f"grain: {count} random programs come back byte by byte")
+
+
+def check_large(tool):
+    lines = b"tick\n" * 400_000 + b"return\n"
+    file = tool.write("large.grain", tool.done("parse", "-", given=lines))
+    expect(len(tool.read(file)) > 400_000, "a large program isn't whole")
+    tool.done("validate", file)
+    expect(tool.done("print", file).count(b"tick") == 400_000, "a large program isn't printed")
+    deep = b"load_const " + b"[" * 100_000
+    expect("nested" in tool.refused("parse", "-", given=deep), "deep nesting isn't refused")
+
+
+def main():
+    parser = argparse.ArgumentParser()
+    parser.add_argument("tool")
+    parser.add_argument("--programs", type=int, default=200)
+    given = parser.parse_args()
+    with tempfile.TemporaryDirectory() as folder:
+        tool = Tool(str(pathlib.Path(given.tool).resolve()), folder)
+        for check in (check_help, check_missing, check_programs, check_scripts, check_refusals, check_documents, check_large):
+            check(tool)
+        check_round_trips(tool, given.programs)
+    print("grain: all well")
+
+
+main()
