@@ -8,7 +8,7 @@ import pathlib
 import re
 
 TOP = pathlib.Path(__file__).resolve().parent.parent
-HEADER = ["Tag", "Constant", "Fields", "Width", "`Op`", "Operands", "Asks", "Flow", "Quiet"]
+HEADER = ["Tag", "Constant", "Fields", "Width", "`Op`", "Operands", "Requires", "Flow", "Quiet"]
 LETTERS = {
     "Index Constants": "c", "Index Names": "n", "Index Operators": "t", "Index OpAssignments": "o", "Index Fragments": "f",
     "Index Chains": "h", "Index Switches": "w", "Index SyntaxSites": "y", "Slot": "s", "Count": "a", "Target": "j",

@@ -404,7 +404,7 @@ GRAIN_NODISCARD grain_status grain_explain(uint16_t caps, const grain_program *p
  * a line or a part of one, which isn't ended by 0. If it returns other than 0, the listing ends: GRAIN_STOPPED. All other
  * results are those of grain_explain. The function must return: no jump and no exception may leave it.
  *
- * The listing is printable ASCII and line feeds (FORMAT.md, "Listings"). Names are escaped, so that none can forge a line.
+ * The listing is printable ASCII and line feeds (EMBEDDING.md, "Listings"). Names are escaped, so that none can forge a line.
  * Where the program is refused for a constant, its code or its functions, the first line says so; other chunks aren't
  * tested. It is all that is written where the result is GRAIN_BAD_CODE. */
 typedef int grain_put(void *context, const char *text, size_t length);
