@@ -259,6 +259,11 @@ def check_scripts(tool):
     ):
         found = tool.refused("run", "-", given=script)
         expect(said in found, f"{script!r} fails with {found!r}")
+    deep = b"fn inner(a) {\n  a / 0\n}\nfn outer(a) { inner(a) + 1 }\ntry { outer(1) } catch { }\nouter(2)\n"
+    calls = "(line 2, position 5)\n  in inner at 2:5\n  called from outer at 4:15\n  called from main at 6:1\n"
+    found = tool.refused("run", "-", given=deep)
+    expect(found.endswith(calls), f"a fault in a function has the backtrace {found!r}")
+    expect("\n  and 9984 more calls\n" in tool.refused("run", "-", given=b"fn f() { f() } f()\n"), "a long backtrace isn't cut")
     expect("out of fuel" in tool.refused("run", "--fuel", "1000", "-", given=b"loop { }\n"), "a script runs forever")
 
 

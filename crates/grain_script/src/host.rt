@@ -12,7 +12,8 @@ use grain_pools::Switch;
 use grain_value::{Cause, Value, constant_of};
 
 impl<W: World + Drop> Script<W> {
-    fn fault(&self, cause: Cause) -> Fault {
+    fn fault(&mut self, cause: Cause) -> Fault {
+        self.begin_fault();
         Fault { cause, at: self.at }
     }
 
@@ -31,6 +32,13 @@ impl<W: World + Drop> Script<W> {
             self.allowed(value)?;
         }
         Ok(reply)
+    }
+
+    /// Does an operation that gives no value, where nothing went wrong before.
+    #[inline]
+    fn done(&mut self, request: &Request<'_>, operands: &mut [Value]) -> Result<(), Cause> {
+        self.raise_pending()?;
+        self.act(request, operands)
     }
 }
 
@@ -62,7 +70,10 @@ impl<W: World + Drop> Host for Script<W> {
         self.at = at;
         match self.reply(request, operands) {
             Ok(reply) => Ok(reply),
-            Err(cause) => Err(Fault { cause, at }),
+            Err(cause) => {
+                self.begin_fault();
+                Err(Fault { cause, at })
+            }
         }
     }
 
@@ -84,12 +95,12 @@ impl<W: World + Drop> Host for Script<W> {
     {
         let at = request.at;
         self.at = at;
-        if let Err(cause) = self.raise_pending() {
-            return Err(Fault { cause, at });
-        }
-        match self.act(request, operands) {
+        match self.done(request, operands) {
             Ok(()) => Ok(()),
-            Err(cause) => Err(Fault { cause, at }),
+            Err(cause) => {
+                self.begin_fault();
+                Err(Fault { cause, at })
+            }
         }
     }
 
@@ -142,6 +153,7 @@ impl<W: World + Drop> Host for Script<W> {
         if !fault.cause.is_catchable() {
             return Err(fault);
         }
+        self.end_fault();
         let Fault { cause, at } = fault;
         let value = match cause {
             Cause::Thrown(value) => Ok(value),
@@ -159,10 +171,13 @@ impl<W: World + Drop> Host for Script<W> {
         };
         match bound {
             Ok(()) => Ok(()),
-            Err(_) => Err(Fault {
-                cause: Cause::OutOfMemory,
-                at,
-            }),
+            Err(_) => {
+                self.begin_fault();
+                Err(Fault {
+                    cause: Cause::OutOfMemory,
+                    at,
+                })
+            }
         }
     }
 }

@@ -32,6 +32,10 @@ pub struct Script<W> {
     pending: Option<Cause>,
     /// The address of the operation that was done last, in the chunk that runs.
     pub(crate) at: usize,
+    /// Whether a fault came that no handler has caught yet.
+    is_failing: bool,
+    /// The addresses of the calls that this fault ended, the innermost first.
+    ended_calls: Vec<usize>,
 }
 
 impl<W: World + Drop> Script<W> {
@@ -59,6 +63,8 @@ impl<W: World + Drop> Script<W> {
             variables: Variables::new(alloc),
             pending: None,
             at: 0,
+            is_failing: false,
+            ended_calls: Vec::new(alloc),
         })
     }
 
@@ -78,6 +84,25 @@ impl<W: World + Drop> Script<W> {
     /// The world of the script, to be changed.
     pub fn world_mut(&mut self) -> &mut W {
         &mut self.world
+    }
+
+    /// The addresses of the calls that the fault of the last run ended, the innermost first. There are none where the run
+    /// ended without a fault. Calls for which there was no memory are left out.
+    pub fn backtrace(&self) -> &[usize] {
+        self.ended_calls.as_slice()
+    }
+
+    /// A fault comes: the calls that end until it is caught are its backtrace.
+    #[cold]
+    pub(crate) fn begin_fault(&mut self) {
+        self.is_failing = true;
+        self.ended_calls.clear();
+    }
+
+    /// A handler caught the fault.
+    pub(crate) fn end_fault(&mut self) {
+        self.is_failing = false;
+        self.ended_calls.clear();
     }
 
     pub(crate) fn context<'a>(&'a self, program: &'a Program) -> Context<'a> {
@@ -207,6 +232,10 @@ impl<W: World + Drop> Script<W> {
             return;
         };
         self.at = at;
+        if self.is_failing {
+            // Without memory for it the backtrace lacks this call.
+            let _noted = self.ended_calls.push(at);
+        }
         if let Some((value, lent)) = this
             && let Err(cause) = self.give_back(value, Some(lent))
         {

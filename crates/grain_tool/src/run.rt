@@ -3,6 +3,7 @@
 use crate::arguments::file;
 use crate::failure::Failure;
 use crate::files::shown;
+use crate::places::write_place;
 use crate::scripts::program_in;
 use crate::terminal::Terminal;
 use clap::{Arg, ArgMatches, Command, value_parser};
@@ -15,6 +16,9 @@ use std::io::BufWriter;
 
 /// How deep values may be nested.
 const NESTING: usize = 64;
+
+/// How many calls a backtrace shows.
+const SHOWN_CALLS: usize = 16;
 
 /// How far a run may go.
 #[derive(Clone, Copy)]
@@ -104,18 +108,43 @@ fn ending<W: World + Drop>(
     Ok(accepted.main().run(alloc, script, limits)?)
 }
 
-/// Why a run failed; `None` where it didn't, with what it returned.
+/// Why a script failed: the fault, and the calls that it ended, each on a line of its own.
+fn report(
+    alloc: Global,
+    program: &Program,
+    fault: &Fault,
+    calls: &[usize],
+) -> Result<String, AllocError> {
+    let mut text = fault.text(alloc, program)?;
+    if calls.is_empty() {
+        return Ok(text);
+    }
+    let place = write_place(alloc, program, fault.at)?;
+    write!(text, "\n  in {place}")?;
+    for call in calls.iter().take(SHOWN_CALLS) {
+        let place = write_place(alloc, program, *call)?;
+        write!(text, "\n  called from {place}")?;
+    }
+    let left_out = calls.len().saturating_sub(SHOWN_CALLS);
+    if left_out > 0 {
+        write!(text, "\n  and {left_out} more calls")?;
+    }
+    Ok(text)
+}
+
+/// What a run returned, or why it failed.
 fn result(
     alloc: Global,
     path: &str,
     program: &Program,
     outcome: Outcome<Value, Fault>,
+    calls: &[usize],
 ) -> Result<Value, Failure> {
     match outcome {
         Outcome::Returned(Some(value)) => Ok(value),
         Outcome::Returned(None) => Ok(Value::Unit),
         Outcome::Faulted(fault) | Outcome::Uncatchable(fault) => {
-            let text = fault.text(alloc, program)?;
+            let text = report(alloc, program, &fault, calls)?;
             Err(Failure::of(alloc, shown(path), text))
         }
         Outcome::OutOfFuel => Err(Failure::of(alloc, shown(path), "out of fuel")),
@@ -136,7 +165,7 @@ pub fn run(rt: &HostRuntime, matches: &ArgMatches<'_>) -> Result<u8, Failure> {
         Err(cause) => return Err(unready(alloc, path, &cause)),
     };
     let ending = ending(alloc, path, &program, &mut script, bounds.run)?;
-    let result = result(alloc, path, &program, ending.outcome);
+    let result = result(alloc, path, &program, ending.outcome, script.backtrace());
     if let Ok(value) = &result
         && !matches!(value, Value::Unit)
     {
