@@ -234,6 +234,8 @@ def check_programs(tool):
     expect(tool.read("whole.grain") == tool.read("add.grain"), "positions don't come back")
     expect(tool.done("addr2line", "add.grain", "3", "9999") == b"main at 1:6\n? at address 9999\n", "addr2line of a program")
     expect(tool.done("addr2line", "add.pos", "6") == b"? at 1:4\n", "addr2line of a sidecar")
+    found = [json.loads(line) for line in tool.done("addr2line", "--json", "add.grain", "3", "9999").splitlines()]
+    expect(found == [{"address": 3, "function": "main", "line": 1, "column": 6}, {"address": 9999, "function": None}], f"addr2line --json writes {found}")
     tool.refused("attach", "add.grain", "add.grain", "-o", "x")
     tool.refused("validate", "--caps", "NOTHING", "add.grain")
     expect("lacks" in tool.refused("validate", "--caps", "ARRAY", "add.grain"), "capabilities aren't compared")
@@ -251,6 +253,11 @@ def check_scripts(tool):
     tool.done("check", "greet.rhai")
     status, _, errors = tool.run("check", "-", given=b"let x = 1; y + x\n")
     expect(status == 1 and errors.startswith(b"standard input:1:12: error: ") and errors.endswith(b"^\n"), f"an unknown variable is reported by {errors!r}")
+    status, lines, _ = tool.run("check", "--json", "greet.rhai", "-", "nowhere", given=b"let x = 1; y + x\n")
+    found = [json.loads(line) for line in lines.splitlines()]
+    expect(status == 1 and found[0] == {"file": "greet.rhai", "error": None}, f"check --json of a script: {found}")
+    expect(found[1] == {"file": "standard input", "error": {"line": 1, "column": 12, "message": "no variable has this name"}}, f"check --json of an error: {found}")
+    expect(found[2]["file"] == "nowhere" and "line" not in found[2]["error"], f"check --json of a missing file: {found}")
     for script, said in (
         (b"let x = 0;\n1 / x\n", "Division by zero (line 2, position 3)"),
         (b"fn f() { f() } f()\n", "Stack overflow"),

@@ -1,11 +1,12 @@
 //! `grain addr2line`: the function and the position of addresses.
 
-use crate::arguments::file;
+use crate::arguments::{file, flag};
 use crate::failure::Failure;
 use crate::files::{program_of, read_bytes, sidecar_of, write_standard};
-use crate::places::write_place;
+use crate::places::{chunk_at, name_of};
 use clap::{Arg, ArgAction, ArgMatches, Command};
-use grain::pos;
+use grain::{Program, Sidecar, pos};
+use json::Writer;
 use std::alloc::{AllocError, Global};
 
 /// The arguments of `grain addr2line`.
@@ -19,7 +20,21 @@ pub fn command<'a>(alloc: Global) -> Result<Command<'a>, AllocError> {
         .about("Says which function and position an address of the code is of")
         .after_help("Example:\n  grain addr2line program.grain 14 23")
         .arg(file(alloc))?
-        .arg(addresses)
+        .arg(addresses)?
+        .arg(flag(
+            alloc,
+            "json",
+            "Write a JSON object for each address, on a line of its own",
+        ))
+}
+
+/// What is known of an address.
+#[derive(Clone, Copy)]
+struct Known<'a> {
+    at: u32,
+    function: Option<&'a str>,
+    /// Its line and column.
+    site: Option<(usize, usize)>,
 }
 
 /// Whether bytes begin as a sidecar file does.
@@ -27,55 +42,125 @@ fn is_sidecar(bytes: &[u8]) -> bool {
     matches!(bytes, [0, b'g', b'r', b'n', 1, 1, ..])
 }
 
-/// An address as text, by an address table.
-fn site_text(alloc: Global, table: &[u8], at: u32) -> Result<String, AllocError> {
-    match pos::resolve(table, at) {
-        Some(site) => {
-            let line = site.line;
-            let column = site.column;
-            format!(in alloc; "? at {line}:{column}")
-        }
-        None => format!(in alloc; "? at address {at}"),
+/// What a program knows of an address.
+fn known_in(program: &Program, at: u32) -> Known<'_> {
+    let position = program.position(at as usize);
+    let site = match (position.line(), position.position()) {
+        (Some(line), column) => Some((line, column.unwrap_or(0))),
+        (None, _) => None,
+    };
+    let function = match chunk_at(program, at as usize) {
+        Some(place) => Some(name_of(program, place)),
+        None => None,
+    };
+    Known { at, function, site }
+}
+
+/// What a sidecar knows of an address.
+fn known_apart(sidecar: &Sidecar, at: u32) -> Known<'_> {
+    let site = match pos::resolve(&sidecar.positions, at) {
+        Some(site) => Some((site.line as usize, site.column as usize)),
+        None => None,
+    };
+    Known {
+        at,
+        function: None,
+        site,
     }
 }
 
-/// The text of each address, a line each.
+/// Appends a line of text: the function and the position, or the address where there is none.
+fn write_line(alloc: Global, out: &mut Vec<u8>, known: Known<'_>) -> Result<(), AllocError> {
+    let Known { at, function, site } = known;
+    let name = function.unwrap_or("?");
+    let text = match site {
+        Some((line, column)) => format!(in alloc; "{name} at {line}:{column}\n")?,
+        None => format!(in alloc; "{name} at address {at}\n")?,
+    };
+    out.extend_from_slice(text.as_bytes())
+}
+
+/// Appends a line of JSON.
+fn write_object(alloc: Global, out: &mut Vec<u8>, known: Known<'_>) -> Result<(), AllocError> {
+    let mut json = Writer::new(Vec::new(alloc));
+    json.begin_object()?;
+    json.key("address")?;
+    json.u64(u64::from(known.at))?;
+    json.key("function")?;
+    match known.function {
+        Some(name) => json.string(name)?,
+        None => json.null()?,
+    }
+    if let Some((line, column)) = known.site {
+        json.key("line")?;
+        json.u64(line as u64)?;
+        json.key("column")?;
+        json.u64(column as u64)?;
+    }
+    json.end_object()?;
+    out.extend_from_slice(json.into_inner().as_slice())?;
+    out.push(b'\n')?;
+    Ok(())
+}
+
+/// Appends what is known of an address.
+fn write_known(
+    alloc: Global,
+    out: &mut Vec<u8>,
+    known: Known<'_>,
+    is_json: bool,
+) -> Result<(), AllocError> {
+    if is_json {
+        write_object(alloc, out, known)
+    } else {
+        write_line(alloc, out, known)
+    }
+}
+
+/// What is known of each address, a line each.
 fn lines_of(
-    rt: &HostRuntime,
+    alloc: Global,
     path: &str,
     bytes: &[u8],
     addresses: &[u32],
-) -> Result<String, Failure> {
-    let alloc = rt.alloc();
-    let mut text = String::new(alloc);
+    is_json: bool,
+) -> Result<Vec<u8>, Failure> {
+    let mut out = Vec::new(alloc);
     if is_sidecar(bytes) {
         let sidecar = sidecar_of(alloc, path, bytes)?;
         for at in addresses {
-            text.push_str(&site_text(alloc, &sidecar.positions, *at)?)?;
-            text.push('\n')?;
+            write_known(alloc, &mut out, known_apart(&sidecar, *at), is_json)?;
         }
-        return Ok(text);
+        return Ok(out);
     }
     let program = program_of(alloc, path, bytes)?;
     for at in addresses {
-        text.push_str(&write_place(alloc, &program, *at as usize)?)?;
-        text.push('\n')?;
+        write_known(alloc, &mut out, known_in(&program, *at), is_json)?;
     }
-    Ok(text)
+    Ok(out)
+}
+
+/// The addresses that the arguments name.
+fn addresses_of(alloc: Global, matches: &ArgMatches<'_>) -> Result<Vec<u32>, Failure> {
+    let mut addresses = Vec::new(alloc);
+    for word in matches.get_raw("ADDRESS").unwrap_or_default() {
+        match word.parse::<u32>() {
+            Ok(at) => addresses.push(at).map_err(AllocError::from)?,
+            Err(_) => return Err(Failure::of(alloc, word, "not an address")),
+        }
+    }
+    Ok(addresses)
 }
 
 /// Says what the addresses are of.
 pub fn run(rt: &HostRuntime, matches: &ArgMatches<'_>) -> Result<u8, Failure> {
     let path = matches.get_str("FILE").unwrap_or("-");
-    let mut addresses = Vec::new(rt.alloc());
-    for word in matches.get_raw("ADDRESS").unwrap_or_default() {
-        match word.parse::<u32>() {
-            Ok(at) => addresses.push(at).map_err(AllocError::from)?,
-            Err(_) => return Err(Failure::of(rt.alloc(), word, "not an address")),
-        }
-    }
+    let addresses = addresses_of(rt.alloc(), matches)?;
     let bytes = read_bytes(rt, path)?;
-    let text = lines_of(rt, path, &bytes, &addresses)?;
-    write_standard(rt, text.as_bytes())?;
+    let is_json = matches.get_flag("json");
+    write_standard(
+        rt,
+        &lines_of(rt.alloc(), path, &bytes, &addresses, is_json)?,
+    )?;
     Ok(0)
 }

@@ -1,9 +1,11 @@
 //! `grain check`: whether scripts can be compiled.
 
+use crate::arguments::flag;
 use crate::failure::Failure;
-use crate::files::read_bytes;
+use crate::files::{read_bytes, shown, write_standard};
 use crate::scripts::compiled;
 use clap::{Arg, ArgAction, ArgMatches, Command};
+use json::Writer;
 use std::alloc::{AllocError, Global};
 
 /// The arguments of `grain check`.
@@ -13,27 +15,94 @@ pub fn command<'a>(alloc: Global) -> Result<Command<'a>, AllocError> {
         .action(ArgAction::Append)
         .num_args(1..)
         .help("The scripts, or - for standard input");
+    let json = flag(
+        alloc,
+        "json",
+        "Write a JSON object for each script, on a line of its own",
+    );
     Command::new(alloc, "check")
         .about("Says whether scripts can be compiled, and why not")
         .after_help("Example:\n  grain check *.rhai")
-        .arg(files)
+        .arg(files)?
+        .arg(json)
 }
 
-/// Compiles each script, and writes nothing. The status is 1 where one can't be compiled.
+/// Appends an error as a JSON object: its line and column, or null where it has none, and what is wrong.
+fn write_error(alloc: Global, json: &mut Writer, failure: &Failure) -> Result<(), AllocError> {
+    json.begin_object()?;
+    let message = match failure {
+        Failure::Script { error, .. } => {
+            if error.place.is_some() {
+                json.key("line")?;
+                json.u64(u64::from(error.place.line))?;
+                json.key("column")?;
+                json.u64(u64::from(error.place.column))?;
+            }
+            let problem = error.problem;
+            format!(in alloc; "{problem}")?
+        }
+        failure => format!(in alloc; "{failure}")?,
+    };
+    json.key("message")?;
+    json.string(&message)?;
+    json.end_object()
+}
+
+/// A line of JSON: the script, and its error or null.
+fn object_of(alloc: Global, path: &str, found: Option<&Failure>) -> Result<Vec<u8>, AllocError> {
+    let mut json = Writer::new(Vec::new(alloc));
+    json.begin_object()?;
+    json.key("file")?;
+    json.string(shown(path))?;
+    json.key("error")?;
+    match found {
+        Some(failure) => write_error(alloc, &mut json, failure)?,
+        None => json.null()?,
+    }
+    json.end_object()?;
+    let mut bytes = json.into_inner();
+    bytes.push(b'\n')?;
+    Ok(bytes)
+}
+
+/// Reads and compiles a script.
+fn check(rt: &HostRuntime, path: &str) -> Result<(), Failure> {
+    let bytes = read_bytes(rt, path)?;
+    let _program = compiled(rt.alloc(), path, bytes)?;
+    Ok(())
+}
+
+/// Why a script can't be read or compiled.
+fn flaw_of(rt: &HostRuntime, path: &str) -> Result<Option<Failure>, Failure> {
+    match check(rt, path) {
+        Ok(()) => Ok(None),
+        Err(Failure::OutOfMemory) => Err(Failure::OutOfMemory),
+        Err(failure) => Ok(Some(failure)),
+    }
+}
+
+/// Says why a script can't be compiled.
+fn tell(rt: &HostRuntime, failure: &Failure) {
+    // Where standard error can't be written either, the status alone says it.
+    let _said = match failure {
+        Failure::Script { report, .. } => eprint!(rt; "{report}"),
+        failure => eprintln!(rt; "error: {failure}"),
+    };
+}
+
+/// Compiles each script, and writes nothing else. The status is 1 where one can't be compiled.
 pub fn run(rt: &HostRuntime, matches: &ArgMatches<'_>) -> Result<u8, Failure> {
+    let is_json = matches.get_flag("json");
     let mut status = 0u8;
     for path in matches.get_raw("FILE").unwrap_or_default() {
-        let bytes = read_bytes(rt, path)?;
-        match compiled(rt.alloc(), path, bytes) {
-            Ok(_) => {}
-            Err(failure) => {
-                // Where standard error can't be written either, the status alone says it.
-                let _said = match &failure {
-                    Failure::Script(report) => eprint!(rt; "{report}"),
-                    failure => eprintln!(rt; "error: {failure}"),
-                };
-                status = 1;
-            }
+        let flaw = flaw_of(rt, path)?;
+        if is_json {
+            write_standard(rt, &object_of(rt.alloc(), path, flaw.as_ref())?)?;
+        } else if let Some(failure) = &flaw {
+            tell(rt, failure);
+        }
+        if flaw.is_some() {
+            status = 1;
         }
     }
     Ok(status)

@@ -1,5 +1,6 @@
 //! Why a command ends without its result.
 
+use grain_compile::CompileError;
 use std::alloc::{AllocError, Global};
 use std::{fmt, io};
 use thiserror::Error;
@@ -15,9 +16,14 @@ pub enum Failure {
         /// What is wrong, and where.
         what: String,
     },
-    /// A script can't be compiled: a report of lines.
-    #[error("{0}")]
-    Script(String),
+    /// A script can't be compiled.
+    #[error("{report}")]
+    Script {
+        /// What is wrong and where, with the line itself.
+        report: String,
+        /// The same without words.
+        error: CompileError,
+    },
     /// An argument isn't UTF-8.
     #[error("an argument is not UTF-8")]
     Arguments,
@@ -60,7 +66,7 @@ impl Failure {
         match self {
             Failure::Output(error) => error.kind() == io::ErrorKind::BrokenPipe,
             Failure::File { .. }
-            | Failure::Script(_)
+            | Failure::Script { .. }
             | Failure::Arguments
             | Failure::Terminal
             | Failure::OutOfMemory => false,

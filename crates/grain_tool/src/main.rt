@@ -87,7 +87,7 @@ fn main(rt: HostRuntime) -> ExitCode {
         Err(failure) => {
             // Where standard error can't be written either, the status alone says it.
             let _said = match &failure {
-                Failure::Script(report) => eprint!(rt; "{report}"),
+                Failure::Script { report, .. } => eprint!(rt; "{report}"),
                 failure if failure.is_left_alone() => Ok(()),
                 failure => eprintln!(rt; "error: {failure}"),
             };

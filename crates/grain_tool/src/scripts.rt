@@ -54,7 +54,10 @@ fn refused(alloc: Global, path: &str, source: &str, error: &CompileError) -> Fai
         return Failure::OutOfMemory;
     }
     match report(alloc, shown(path), source, error) {
-        Ok(text) => Failure::Script(text),
+        Ok(report) => Failure::Script {
+            report,
+            error: *error,
+        },
         Err(_) => Failure::OutOfMemory,
     }
 }
