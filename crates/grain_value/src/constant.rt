@@ -1,9 +1,8 @@
 //! Values as constants of programs, and back.
 
 use crate::cause::Cause;
-use crate::object::Object;
-use crate::pointer::Pointer;
-use crate::value::{Interval, Value};
+use crate::interval::Interval;
+use crate::value::{Object, Pointer, Value};
 use grain_base::{Dynamic, FnPtr};
 use std::alloc::{AllocError, Global};
 use std::collections::BTreeMap;

@@ -9,16 +9,14 @@
 mod cause;
 mod compare;
 mod constant;
-mod list;
-mod object;
-mod pointer;
+mod interval;
+mod measure;
 mod show;
 mod value;
 
 pub use cause::Cause;
 pub use compare::{are_equal, order};
 pub use constant::{constant_of, value_of};
-pub use list::List;
-pub use object::Object;
-pub use pointer::Pointer;
-pub use value::{Interval, Measure, SizeLimits, Value};
+pub use interval::Interval;
+pub use measure::{Measure, SizeLimits};
+pub use value::{List, Object, Pointer, Value};

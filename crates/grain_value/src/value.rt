@@ -1,72 +1,11 @@
-//! What a value is, and how large.
+//! Values, and what they hold: arrays, object maps and function pointers, which hold values again.
 
-use crate::list::List;
-use crate::object::Object;
-use crate::pointer::Pointer;
-use std::alloc::{AllocError, Global};
+use crate::interval::Interval;
+use crate::measure::Measure;
+use std::alloc::{AllocError, AllocFailed, Global};
+use std::collections::BTreeMap;
 use std::mem;
 use std::rc::Rc;
-
-/// The integers from one to another.
-#[derive(Clone, Copy, Debug, PartialEq, Eq, Drop)]
-pub struct Interval {
-    /// The first one.
-    pub from: i64,
-    /// The last one where it is inclusive, else the first one past it.
-    pub to: i64,
-    /// Whether `to` is one of them.
-    pub inclusive: bool,
-}
-
-impl Interval {
-    /// Whether the integer is one of them.
-    #[must_use]
-    pub fn contains(&self, number: i64) -> bool {
-        let ends_later = if self.inclusive {
-            number <= self.to
-        } else {
-            number < self.to
-        };
-        self.from <= number && ends_later
-    }
-
-    /// The last of them, if there is one.
-    #[must_use]
-    pub fn last(&self) -> Option<i64> {
-        let last = if self.inclusive {
-            self.to
-        } else {
-            self.to.checked_sub(1)?
-        };
-        (self.from <= last).then_some(last)
-    }
-}
-
-/// How large a value is. Both numbers may be more than the truth after parts were taken out, and never less.
-#[derive(Clone, Copy, Debug, PartialEq, Eq, Drop)]
-pub struct Measure {
-    /// How many values there are in it, itself included, and how many bytes of text.
-    pub size: usize,
-    /// How deep values are nested in it. One that holds no other has the depth 0.
-    pub depth: usize,
-}
-
-/// How large a value may be.
-#[derive(Clone, Copy, Debug, PartialEq, Eq, Drop)]
-pub struct SizeLimits {
-    /// The most values and bytes of text in one value.
-    pub size: usize,
-    /// The greatest depth. Comparing, printing and dropping a value recurse as deep as this.
-    pub depth: usize,
-}
-
-impl SizeLimits {
-    /// Whether a value of that measure is allowed.
-    #[must_use]
-    pub fn allow(&self, measure: Measure) -> bool {
-        measure.size <= self.size && measure.depth <= self.depth
-    }
-}
 
 /// A value of a script.
 #[derive(Clone, Drop)]
@@ -159,6 +98,317 @@ impl Value {
             Value::Map(_) => "map",
             Value::Pointer(_) => "Fn",
             Value::Shared(_) => "shared",
+        }
+    }
+}
+
+/// The items of an array, with how large they are together.
+#[derive(Clone, Drop)]
+#[cycle(value)]
+pub struct List {
+    pub(crate) items: Vec<Value>,
+    size: usize,
+    depth: usize,
+}
+
+impl List {
+    /// These items. It looks at each once.
+    #[must_use]
+    pub fn of(items: Vec<Value>) -> List {
+        let mut size = 1usize;
+        let mut depth = 1usize;
+        for item in &items {
+            let measure = item.measure();
+            size = size.saturating_add(measure.size);
+            depth = depth.max(measure.depth.saturating_add(1));
+        }
+        List { items, size, depth }
+    }
+
+    /// The items, in order.
+    #[must_use]
+    pub fn items(&self) -> &[Value] {
+        self.items.as_slice()
+    }
+
+    /// How many items there are.
+    #[must_use]
+    pub fn len(&self) -> usize {
+        self.items.len()
+    }
+
+    /// Whether there are no items.
+    #[must_use]
+    pub fn is_empty(&self) -> bool {
+        self.items.is_empty()
+    }
+
+    /// How large it is, in constant time.
+    #[must_use]
+    pub fn measure(&self) -> Measure {
+        Measure {
+            size: self.size,
+            depth: self.depth,
+        }
+    }
+
+    /// The items themselves.
+    #[must_use]
+    pub fn into_items(self) -> Vec<Value> {
+        self.items
+    }
+
+    fn grow(&mut self, measure: Measure) {
+        self.size = self.size.saturating_add(measure.size);
+        self.depth = self.depth.max(measure.depth.saturating_add(1));
+    }
+
+    fn shrink(&mut self, measure: Measure) {
+        self.size = self.size.saturating_sub(measure.size);
+    }
+
+    /// Appends an item.
+    ///
+    /// # Errors
+    /// Out of memory.
+    pub fn push(&mut self, value: Value) -> Result<(), AllocFailed<Value>> {
+        let measure = value.measure();
+        self.items.push(value)?;
+        self.grow(measure);
+        Ok(())
+    }
+
+    /// Takes the last item off.
+    pub fn pop(&mut self) -> Option<Value> {
+        let value = self.items.pop()?;
+        self.shrink(value.measure());
+        Some(value)
+    }
+
+    /// Inserts an item before the one at a place, or behind all where no item is there.
+    ///
+    /// # Errors
+    /// Out of memory.
+    pub fn insert(&mut self, place: usize, value: Value) -> Result<(), AllocFailed<Value>> {
+        let measure = value.measure();
+        let place = place.min(self.items.len());
+        self.items.insert(place, value)?;
+        self.grow(measure);
+        Ok(())
+    }
+
+    /// Takes the item at a place out, if there is one.
+    pub fn remove(&mut self, place: usize) -> Option<Value> {
+        if place >= self.items.len() {
+            return None;
+        }
+        let value = self.items.remove(place);
+        self.shrink(value.measure());
+        Some(value)
+    }
+
+    /// Puts a value in place of the one at a place, and gives that one back; `None` where there is none.
+    pub fn replace(&mut self, place: usize, value: Value) -> Option<Value> {
+        let measure = value.measure();
+        let old = mem::replace(self.items.get_mut(place)?, value);
+        self.shrink(old.measure());
+        self.grow(measure);
+        Some(old)
+    }
+
+    /// Drops all items from this place on.
+    pub fn truncate(&mut self, len: usize) {
+        self.items.truncate(len);
+        self.size = size_of_all(self.items.as_slice());
+    }
+
+    /// Reverses the order of the items.
+    pub fn reverse(&mut self) {
+        self.items.reverse();
+    }
+
+    /// Appends copies of these items.
+    ///
+    /// # Errors
+    /// Out of memory: some of them may have been appended.
+    pub fn extend(&mut self, others: &[Value]) -> Result<(), AllocError> {
+        for other in others {
+            self.push(other.clone()?)?;
+        }
+        Ok(())
+    }
+}
+
+/// How large these are together, and the array around them.
+fn size_of_all(items: &[Value]) -> usize {
+    let mut size = 1usize;
+    for item in items {
+        size = size.saturating_add(item.measure().size);
+    }
+    size
+}
+
+/// The values of an object map by their names, with how large they are together.
+#[derive(Clone, Drop)]
+#[cycle(value)]
+pub struct Object {
+    pub(crate) entries: BTreeMap<String, Value>,
+    size: usize,
+    depth: usize,
+}
+
+impl Object {
+    /// An object map without values.
+    #[must_use]
+    pub fn new(alloc: Global) -> Object {
+        Object {
+            entries: BTreeMap::new(alloc),
+            size: 1,
+            depth: 1,
+        }
+    }
+
+    /// The values by their names, in ascending order of these.
+    #[must_use]
+    pub fn entries(&self) -> &BTreeMap<String, Value> {
+        &self.entries
+    }
+
+    /// How many values there are.
+    #[must_use]
+    pub fn len(&self) -> usize {
+        self.entries.len()
+    }
+
+    /// Whether there are no values.
+    #[must_use]
+    pub fn is_empty(&self) -> bool {
+        self.entries.is_empty()
+    }
+
+    /// How large it is, in constant time.
+    #[must_use]
+    pub fn measure(&self) -> Measure {
+        Measure {
+            size: self.size,
+            depth: self.depth,
+        }
+    }
+
+    /// The value of a name, if there is one.
+    #[must_use]
+    pub fn get(&self, name: &str) -> Option<&Value> {
+        self.entries.get(name)
+    }
+
+    fn grow(&mut self, measure: Measure) {
+        self.size = self.size.saturating_add(measure.size);
+        self.depth = self.depth.max(measure.depth.saturating_add(1));
+    }
+
+    /// Gives the name this value, and gives its old one back, if there was one.
+    ///
+    /// # Errors
+    /// Out of memory.
+    pub fn insert(
+        &mut self,
+        name: String,
+        value: Value,
+    ) -> Result<Option<Value>, AllocFailed<(String, Value)>> {
+        let measure = value.measure();
+        let len = name.len();
+        let old = self.entries.insert(name, value)?;
+        self.grow(measure);
+        match &old {
+            Some(old) => self.size = self.size.saturating_sub(old.measure().size),
+            None => self.size = self.size.saturating_add(len),
+        }
+        Ok(old)
+    }
+
+    /// Puts a value in place of the one that the name has, and gives that one back; `None` where it has none.
+    pub fn replace(&mut self, name: &str, value: Value) -> Option<Value> {
+        let measure = value.measure();
+        let old = mem::replace(self.entries.get_mut(name)?, value);
+        self.size = self.size.saturating_sub(old.measure().size);
+        self.grow(measure);
+        Some(old)
+    }
+
+    /// Takes the value of a name out, if there is one.
+    pub fn remove(&mut self, name: &str) -> Option<Value> {
+        let value = self.entries.remove(name)?;
+        let size = value.measure().size.saturating_add(name.len());
+        self.size = self.size.saturating_sub(size);
+        Some(value)
+    }
+
+    /// Drops all values.
+    pub fn clear(&mut self) {
+        self.entries.clear();
+        self.size = 1;
+        self.depth = 1;
+    }
+
+    /// Gives copies of all values of the other one to their names.
+    ///
+    /// # Errors
+    /// Out of memory: some of them may have been given.
+    pub fn extend(&mut self, other: &Object) -> Result<(), AllocError> {
+        for (name, value) in &other.entries {
+            let _ = self.insert(name.clone()?, value.clone()?)?;
+        }
+        Ok(())
+    }
+}
+
+/// A function by its name, with the first arguments of its calls.
+#[derive(Clone, Drop)]
+#[cycle(value)]
+pub struct Pointer {
+    name: String,
+    pub(crate) bound: Vec<Value>,
+    size: usize,
+    depth: usize,
+}
+
+impl Pointer {
+    /// The function of this name, with these arguments bound. It looks at each of them once.
+    #[must_use]
+    pub fn new(name: String, bound: Vec<Value>) -> Pointer {
+        let mut size = name.len().saturating_add(1);
+        let mut depth = 0usize;
+        for value in &bound {
+            let measure = value.measure();
+            size = size.saturating_add(measure.size);
+            depth = depth.max(measure.depth.saturating_add(1));
+        }
+        Pointer {
+            name,
+            bound,
+            size,
+            depth,
+        }
+    }
+
+    /// The name of the function.
+    #[must_use]
+    pub fn name(&self) -> &str {
+        self.name.as_str()
+    }
+
+    /// The arguments that are bound already, in order.
+    #[must_use]
+    pub fn bound(&self) -> &[Value] {
+        self.bound.as_slice()
+    }
+
+    /// How large it is, in constant time.
+    #[must_use]
+    pub fn measure(&self) -> Measure {
+        Measure {
+            size: self.size,
+            depth: self.depth,
         }
     }
 }
