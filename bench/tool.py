@@ -18,6 +18,7 @@ import tempfile
 
 TOP = pathlib.Path(__file__).resolve().parent.parent
 COMMANDS = ("run", "check", "compile", "validate", "print", "parse", "list", "strip", "attach", "addr2line")
+SNAPSHOTS = TOP / "bench/tool.txt"
 # Tag and field letters of each instruction, by docs/FORMAT.md.
 ROW = re.compile(r"^\| ([0-9a-f]{2}) \| [A-Z_]+ \| ([a-z ]*) \| \d \|", re.M)
 WIDTH = {letter: 2 for letter in "cntofhwys"} | {"a": 1, "j": 4}
@@ -199,10 +200,38 @@ def check_help(tool):
     expect(tool.done("--version") == f"grain {version}\n".encode(), f"--version isn't {version}")
     for words in ([], *[[command] for command in COMMANDS]):
         said = tool.done(*words, "--help").decode()
-        expect("Usage: grain" in said and "Example:\n  " in said, f"{words} --help has no usage or example")
+        expect("Usage: " in said and "Example:\n  " in said, f"{words} --help has no usage or example")
     for words in (["--svg"], ["frobnicate"], ["print"], ["print", "a", "b"], ["strip", "a"], ["run", "--fuel", "x", "a"], ["validate", "--color=red", "a"]):
         tool.refused(*words, status=2)
     expect(tool.run()[0] == 2, "no argument isn't an error")
+
+
+def asked():
+    """The commands whose help or error the snapshots have, each with what is given to it."""
+    for words in ([], *[[command] for command in COMMANDS]):
+        yield [*words, "--help"], b""
+    for words in ([], ["frobnicate"], ["print"], ["strip", "a"], ["run", "--fuel", "x", "a"], ["validate", "--color=red", "a"]):
+        yield words, b""
+    yield ["print", "nowhere"], b""
+    yield ["validate", "-"], b"\xff\x00\xfe" * 9
+    yield ["parse", "-"], b"return\n  halt\n"
+    yield ["run", "-"], b"let x = 0;\n1 / x\n"
+    yield ["check", "-"], b"fn f(a) {\n  (a + 1\n}\n"
+    yield ["addr2line", "-", "x"], b""
+
+
+def snapshots(tool):
+    """What the command says of its arguments and of errors, as bench/tool.txt has it. It calls itself by its file's name."""
+    said, name = [], pathlib.Path(tool.program).name
+    for words, given in asked():
+        status, output, errors = tool.run(*words, given=given)
+        text = (output + errors).decode().replace(f"Usage: {name} ", "Usage: grain ")
+        said.append(f"$ grain {' '.join(words)}".rstrip() + f"    [{status}]\n{text}\n")
+    return "".join(said)
+
+
+def check_snapshots(tool):
+    expect(snapshots(tool) == SNAPSHOTS.read_text(), "help or an error isn't as in bench/tool.txt (bench/tool.py TOOL --write)")
 
 
 def check_missing(tool):
@@ -328,10 +357,14 @@ def main():
     parser = argparse.ArgumentParser()
     parser.add_argument("tool")
     parser.add_argument("--programs", type=int, default=200)
+    parser.add_argument("--write", action="store_true", help="write bench/tool.txt, and test nothing")
     given = parser.parse_args()
     with tempfile.TemporaryDirectory() as folder:
         tool = Tool(str(pathlib.Path(given.tool).resolve()), folder)
-        for check in (check_help, check_missing, check_programs, check_scripts, check_refusals, check_documents, check_large):
+        if given.write:
+            SNAPSHOTS.write_text(snapshots(tool))
+            return
+        for check in (check_help, check_snapshots, check_missing, check_programs, check_scripts, check_refusals, check_documents, check_large):
             check(tool)
         check_round_trips(tool, given.programs)
     print("grain: all well")
