@@ -200,7 +200,7 @@ def check_help(tool):
     expect(tool.done("--version") == f"grain {version}\n".encode(), f"--version isn't {version}")
     for words in ([], *[[command] for command in COMMANDS]):
         said = tool.done(*words, "--help").decode()
-        expect("Usage: " in said and "Example:\n  " in said, f"{words} --help has no usage or example")
+        expect("Usage: grain" in said and "Example:\n  " in said, f"{words} --help has no usage or example")
     for words in (["--svg"], ["frobnicate"], ["print"], ["print", "a", "b"], ["strip", "a"], ["run", "--fuel", "x", "a"], ["validate", "--color=red", "a"]):
         tool.refused(*words, status=2)
     expect(tool.run()[0] == 2, "no argument isn't an error")
@@ -221,12 +221,11 @@ def asked():
 
 
 def snapshots(tool):
-    """What the command says of its arguments and of errors, as bench/tool.txt has it. It calls itself by its file's name."""
-    said, name = [], pathlib.Path(tool.program).name
+    """What the command says of its arguments and of errors, as bench/tool.txt has it."""
+    said = []
     for words, given in asked():
         status, output, errors = tool.run(*words, given=given)
-        text = (output + errors).decode().replace(f"Usage: {name} ", "Usage: grain ")
-        said.append(f"$ grain {' '.join(words)}".rstrip() + f"    [{status}]\n{text}\n")
+        said.append(f"$ grain {' '.join(words)}".rstrip() + f"    [{status}]\n{(output + errors).decode()}\n")
     return "".join(said)
 
 

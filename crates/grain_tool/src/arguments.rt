@@ -4,6 +4,9 @@ use crate::{addresses, check_script, compile_script, list, parse, print, run, st
 use clap::{Arg, ArgAction, Command};
 use std::alloc::{AllocError, Global};
 
+/// What the program is called, whatever its file is.
+const NAME: &str = "grain";
+
 /// The version of the program.
 const VERSION: &str = "0.2.0";
 
@@ -45,7 +48,8 @@ pub fn flag<'a>(alloc: Global, name: &'a str, help: &'a str) -> Arg<'a> {
 
 /// The command with its subcommands.
 pub fn command<'a>(alloc: Global) -> Result<Command<'a>, AllocError> {
-    Command::new(alloc, "grain")
+    Command::new(alloc, NAME)
+        .bin_name(NAME)?
         .version(VERSION)
         .about("Compiles, verifies and runs Rhai scripts as Grain bytecode")
         .after_help(AFTER_HELP)
