@@ -1,6 +1,6 @@
 -- One item more behind items that tile.
 use Rattle.std.proofs.Common.{◌≡◌, ℕ, ◌≤◌, List, [], ◌∷◌, ◌++◌, refl, sym, ◌∙◌}
-use Rattle.grain_file.specs.declared.outline.Item.{Item}
+use Rattle.grain_file.specs.declared.items.Item.{Item}
 use Rattle.grain_file.specs.Outline.{Tile}
 
 pub tiles_push : (from : ℕ) (items : List Item) (to : ℕ) (item : Item) → Tile from items to → item.start ≡ to → item.start ≤ item.end → Tile from (items ++ item ∷ []) item.end

@@ -2,8 +2,8 @@
 use Rattle.std.specs.Prelude.{◌≡◌, ℕ, ◌≤◌, List, [], ◌∷◌, length}
 use Rattle.grain.specs.Program.{Program}
 use Rattle.grain.specs.declared.sidecar.Sidecar.{Sidecar}
-use Rattle.grain_file.specs.declared.outline.Draft.{Draft}
-use Rattle.grain_file.specs.declared.outline.Item.{Item}
+use Rattle.grain_file.specs.declared.items.Draft.{Draft}
+use Rattle.grain_file.specs.declared.items.Item.{Item}
 use Rattle.grain_file.specs.ProgramFile.{Bounds, IsFile, kept}
 use Rattle.grain_file.specs.SidecarFile.{IsSidecarFile, sidecar_parts}
 

@@ -17,7 +17,7 @@ use crate::field::Field;
 use crate::lists::put_all;
 use crate::names::{put_names, read_names};
 use crate::number::put_bytes;
-use crate::part::Part;
+use crate::parts::Part;
 use crate::switches::read_switches;
 use crate::values::{put_values, read_values};
 use grain::{Parts, Program};

@@ -11,7 +11,7 @@ use crate::cursor::Cursor;
 use crate::error::{Fault, Stop};
 use crate::lists::reserve;
 use crate::number::{put_bytes, put_number};
-use crate::part::Part;
+use crate::parts::Part;
 use grain_pools::{Strings, StringsError};
 use std::alloc::AllocError;
 

@@ -10,7 +10,7 @@ use crate::error::{Fault, Stop};
 use crate::field::Field;
 use crate::file::{Limits, ReadError, join};
 use crate::number::{put_bytes, put_number};
-use crate::part::Part;
+use crate::parts::Part;
 use crate::writing::{high_half, low_half};
 use grain::Sidecar;
 use std::alloc::{AllocError, Global};

@@ -15,7 +15,7 @@ use crate::error::{Stop, Unkept, WriteError};
 use crate::field::Field;
 use crate::lists::reserve;
 use crate::number::put_number;
-use crate::part::Part;
+use crate::parts::Part;
 use grain_base::Dynamic;
 use grain_pools::{Switch, SwitchRange};
 use std::alloc::{AllocError, Global};

@@ -2,7 +2,7 @@
 
 use crate::arguments::file;
 use crate::failure::Failure;
-use crate::files::{program_of, read_bytes, sidecar_of, write_standard};
+use crate::files::{is_sidecar, program_of, read_bytes, sidecar_of, write_standard};
 use crate::places::write_place;
 use clap::{Arg, ArgAction, ArgMatches, Command};
 use grain::pos;
@@ -20,11 +20,6 @@ pub fn command<'a>(alloc: Global) -> Result<Command<'a>, AllocError> {
         .after_help("Example:\n  grain addr2line program.grain 14 23")
         .arg(file(alloc))?
         .arg(addresses)
-}
-
-/// Whether bytes begin as a sidecar file does.
-fn is_sidecar(bytes: &[u8]) -> bool {
-    matches!(bytes, [0, b'g', b'r', b'n', 1, 1, ..])
 }
 
 /// An address as text, by an address table.

@@ -15,7 +15,7 @@ ghost use Rattle.grain_file.specs.Texts.{counted_bytes};
 use crate::error::{Unkept, WriteError};
 use crate::field::Field;
 use crate::number::{put_bytes, put_number};
-use crate::part::Part;
+use crate::parts::Part;
 use crate::switches::put_switch;
 use crate::values::put_value;
 use crate::writing::{high_half, low_half, put_source};
