@@ -1,7 +1,7 @@
 //! What the parts of a file spell, as assembly text has it (docs/ASSEMBLY.md).
 
 use grain::{Positions, Program, Sidecar};
-use grain_base::Flags;
+use grain_base::{Caps, Flags};
 use grain_code::Function;
 use grain_file::Part;
 use grain_print::{
@@ -17,6 +17,9 @@ fn write_caps(out: &mut String, program: &Program) -> Result<(), AllocError> {
     let caps = program.caps();
     if caps.is_empty() {
         return out.push_str(NONE);
+    }
+    if caps == Caps::all() {
+        return out.push_str("all");
     }
     write_capabilities(out, caps)
 }

@@ -1,8 +1,8 @@
 //! The sections of a file, by its outline.
 
-use crate::model::{Dump, Kind, Piece, Section};
 use crate::instructions::push_code;
 use crate::meaning::{write_part, write_sidecar_part};
+use crate::model::{Dump, Kind, Piece, Section};
 use grain::{Program, Sidecar};
 use grain_file::{Item, Part, WriteError, outline, outline_sidecar};
 use std::alloc::{AllocError, Global};

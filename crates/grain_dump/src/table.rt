@@ -71,11 +71,7 @@ fn write_section(out: &mut String, section: &Section, bytes: &[u8]) -> Result<()
 }
 
 /// Appends a heading and each section.
-pub fn write_table(
-    out: &mut String,
-    sections: &[Section],
-    bytes: &[u8],
-) -> Result<(), AllocError> {
+pub fn write_table(out: &mut String, sections: &[Section], bytes: &[u8]) -> Result<(), AllocError> {
     out.push_str("    offset       size  section\n")?;
     for section in sections {
         write_section(out, section, bytes)?;

@@ -1,6 +1,8 @@
 //! The command line.
 
-use crate::{addresses, check_script, compile_script, dump, list, parse, print, run, strip, validate};
+use crate::{
+    addresses, check_script, compile_script, dump, list, parse, print, run, strip, validate,
+};
 use clap::{Arg, ArgAction, Command};
 use std::alloc::{AllocError, Global};
 
