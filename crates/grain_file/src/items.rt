@@ -112,7 +112,6 @@ impl Draft {
     }
 
     /// Ends the item that has the last bytes.
-    #[tactic(auto, using(crate::proofs::Tiles::tiles_push))]
     fn close(&mut self, part: Part) -> Result<(), AllocError>
         requires { IsDraft self.old }
         ensures draft { OnOk result (IsDraft self.new) }
