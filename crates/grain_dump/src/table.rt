@@ -6,22 +6,18 @@ use std::alloc::AllocError;
 /// How many bytes a line has.
 const BYTES_IN_LINE: usize = 16;
 
-/// Appends bytes in hexadecimal, each with a blank after it, and blanks up to the column of the text.
-fn write_bytes(out: &mut String, bytes: &[u8]) -> Result<(), AllocError> {
+/// Ends a line with bytes in hexadecimal, and with a text in its column, if there is any.
+fn end_line(out: &mut String, bytes: &[u8], text: &str) -> Result<(), AllocError> {
     for byte in bytes {
-        write!(out, "{byte:02x} ")?;
+        write!(out, " {byte:02x}")?;
     }
-    for _ in bytes.len()..BYTES_IN_LINE {
-        out.push_str("   ")?;
+    if !text.is_empty() {
+        for _ in bytes.len()..BYTES_IN_LINE {
+            out.push_str("   ")?;
+        }
+        out.push_str("  ")?;
+        out.push_str(text)?;
     }
-    out.push(' ')
-}
-
-/// Ends a line with a text, if there is any, and drops blanks at its end.
-fn end_line(out: &mut String, text: &str) -> Result<(), AllocError> {
-    out.push_str(text)?;
-    let len = out.trim_end().len();
-    out.truncate(len);
     out.push('\n')
 }
 
@@ -36,15 +32,13 @@ fn write_piece(
     let mut at = piece.start;
     let bytes = bytes.get(piece.start..piece.end).unwrap_or_default();
     for row in bytes.chunks(BYTES_IN_LINE) {
-        write!(out, "{at:>10}  ")?;
-        write_bytes(out, row)?;
-        end_line(out, lines.next().unwrap_or_default().trim())?;
+        write!(out, "{at:>10} ")?;
+        end_line(out, row, lines.next().unwrap_or_default().trim())?;
         at = at.saturating_add(BYTES_IN_LINE);
     }
     for line in lines {
-        write!(out, "{:>10}  ", "")?;
-        write_bytes(out, &[])?;
-        end_line(out, line.trim())?;
+        write!(out, "{:>10} ", "")?;
+        end_line(out, &[], line.trim())?;
     }
     Ok(())
 }
@@ -62,8 +56,8 @@ fn write_section(out: &mut String, section: &Section, bytes: &[u8]) -> Result<()
     let start = section.start;
     let size = section.end.saturating_sub(section.start);
     let name = section.part.name();
-    write!(out, "{start:>10} {size:>10}  {name:<14}  ")?;
-    end_line(out, &section.summary)?;
+    let summary = &section.summary;
+    write!(out, "{start:>10} {size:>10}  {name:<14}  {summary}\n")?;
     for piece in &section.pieces {
         write_piece(out, piece, text_of(section, piece), bytes)?;
     }
