@@ -17,8 +17,13 @@ import sys
 import tempfile
 
 TOP = pathlib.Path(__file__).resolve().parent.parent
-COMMANDS = ("run", "check", "compile", "validate", "print", "parse", "list", "strip", "attach", "addr2line")
+COMMANDS = ("run", "check", "compile", "validate", "print", "parse", "list", "dump", "strip", "attach", "addr2line")
 SNAPSHOTS = TOP / "bench/tool.txt"
+# The sections of a program file, in their order.
+SECTIONS = [
+    "header", "capabilities", "id", "code", "main chunk", "functions", "names", "constants", "operators", "op-assignments",
+    "chains", "switches", "source name", "positions",
+]
 # Tag and field letters of each instruction, by docs/FORMAT.md.
 ROW = re.compile(r"^\| ([0-9a-f]{2}) \| [A-Z_]+ \| ([a-z ]*) \| \d \|", re.M)
 WIDTH = {letter: 2 for letter in "cntofhwys"} | {"a": 1, "j": 4}
@@ -234,7 +239,7 @@ def check_snapshots(tool):
 
 
 def check_missing(tool):
-    for command in ("validate", "print", "parse", "run", "list"):
+    for command in ("validate", "print", "parse", "run", "list", "dump"):
         expect("nowhere" in tool.refused(command, "nowhere"), f"{command} doesn't name the missing file")
         tool.refused(command, ".")
         tool.refused(command, "-", given=b"\xff\x00\xfe" * 99)
@@ -316,6 +321,52 @@ def check_refusals(tool):
     expect(found["accepted"] is False and "underflow" in found["error"], "--json of a refusal")
 
 
+def dump_of(tool, name, sections):
+    """The dump of a file, as JSON. Its items have to be all of the file, and its tables have to say the same."""
+    content = tool.read(name)
+    dump = json.loads(tool.done("dump", "-x", "--json", name))
+    expect([section["section"] for section in dump["sections"]] == sections, f"the sections of {content.hex()}")
+    expect(dump["file"] == name and dump["size"] == len(content), f"the size of {content.hex()}")
+    at = 0
+    for section in dump["sections"]:
+        expect(section["offset"] == at, f"{section} doesn't follow the section before it")
+        for item in section["items"]:
+            expect(item["offset"] == at, f"{item} doesn't follow the item before it")
+            expect(bytes.fromhex(item["bytes"]) == content[at:at + item["size"]], f"the bytes of {item}")
+            at += item["size"]
+        expect(section["offset"] + section["size"] == at, f"the size of {section}")
+    expect(at == len(content), f"a dump of {at} bytes is of {content.hex()}")
+    lines = [f"{section['offset']:>10} {section['size']:>10}  {section['section']:<14}  {section['text']}".rstrip() for section in dump["sections"]]
+    expect(tool.done("dump", name).decode().rstrip("\n").split("\n")[1:] == lines, f"the table of {content.hex()}")
+    shown = [line[12:60] for line in tool.done("dump", "-x", name).decode().split("\n") if re.match(r" *\d+  [0-9a-f]{2}\b", line)]
+    expect(bytes.fromhex("".join(shown)) == content, f"the bytes in the table of {content.hex()}")
+    return {section["section"]: section for section in dump["sections"]}
+
+
+def check_dumps(tool):
+    add = b'.source "a.rhai"\n  load_const 20 @1:1\n  load_const 22 @1:6\n  call "+" 2 @1:4\n  return\n'
+    tool.write("add.grain", tool.done("parse", "-", given=add))
+    tool.done("strip", "add.grain", "--sidecar", "add.pos", "-o", "small.grain")
+    found = dump_of(tool, "add.grain", SECTIONS)
+    texts = {name: [item["text"] for item in section["items"]] for name, section in found.items()}
+    expect(texts["header"] == ["program, version 1"] and texts["main chunk"] == ["0 11 stack 2"], f"the head of a dump is {texts}")
+    expect(texts["constants"] == ["2", "20", "22"] and texts["names"] == ["1", '"+"'], f"the pools of a dump are {texts}")
+    expect(len(texts["code"]) == 5 and texts["code"][1].startswith("0: Const"), f"the code of a dump is {texts['code']}")
+    expect(texts["source name"] == ['"a.rhai"'] and texts["positions"][:2] == ["11", "1:1"], f"the end of a dump is {texts}")
+    found = dump_of(tool, "add.pos", ["header", "id", "address table", "chain stream"])
+    expect(found["header"]["text"] == "sidecar, version 1", "a sidecar isn't known by its header")
+    expect(tool.done("dump", "-", given=tool.read("add.grain")) == tool.done("dump", "add.grain"), "standard input isn't as a file")
+    tool.done("dump", "--json", "add.grain", "-o", "add.json")
+    expect(not any(section["items"] for section in json.loads(tool.read("add.json"))["sections"]), "items are written without -x")
+    expect("(the header, byte 0)" in tool.refused("dump", "-", given=b"PK\3\4"), "garbage isn't refused by its header")
+    cut = tool.read("add.grain")[:-1]
+    expect(f"(position 10, byte {len(cut)})" in tool.refused("dump", "-", given=cut), "a file that is cut off isn't refused at its end")
+    made = Random(12)
+    for _ in range(40):
+        tool.write("random.grain", made.program())
+        dump_of(tool, "random.grain", SECTIONS)
+
+
 def check_documents(tool):
     """Each program of docs/ASSEMBLY.md is assembled and accepted."""
     page = (TOP / "docs/ASSEMBLY.md").read_text()
@@ -363,7 +414,7 @@ def main():
         if given.write:
             SNAPSHOTS.write_text(snapshots(tool))
             return
-        for check in (check_help, check_snapshots, check_missing, check_programs, check_scripts, check_refusals, check_documents, check_large):
+        for check in (check_help, check_snapshots, check_missing, check_programs, check_scripts, check_refusals, check_dumps, check_documents, check_large):
             check(tool)
         check_round_trips(tool, given.programs)
     print("grain: all well")

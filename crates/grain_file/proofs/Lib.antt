@@ -18,3 +18,4 @@ pub mod Gathering
 pub mod CaseReading
 pub mod AllBytes
 pub mod SidecarFiles
+pub mod Tiles

@@ -23,13 +23,13 @@ pool_parts p = (p.names, (forms p.consts.items, (map token_parts p.tokens.items,
 abbrev pub IsFaultIn : {K : Type 0} → (List ℕ → Result (K × List ℕ) Flaw) → List ℕ → ReadError → Type 0
 IsFaultIn reading bytes errors.OutOfMemory = Unit {0}
 IsFaultIn reading bytes (errors.TooLarge size limit) = ⊥
-IsFaultIn reading bytes (errors.Malformed at fault) = (left : List ℕ) × (reading bytes ≡ Err (fault, left)) × (at ≡ length bytes - length left)
+IsFaultIn reading bytes (errors.Malformed at part fault) = (left : List ℕ) × (reading bytes ≡ Err (fault, left)) × (at ≡ length bytes - length left)
 
 -- The bytes are more than the limit, or else the fault is the one at which reading ends, with what follows from that byte on.
 abbrev pub IsCauseIn : {K : Type 0} → (List ℕ → Result (K × List ℕ) Flaw) → Limits → List ℕ → ReadError → Type 0
 IsCauseIn reading limits bytes errors.OutOfMemory = Unit {0}
 IsCauseIn reading limits bytes (errors.TooLarge size limit) = (size ≡ length bytes) × (limit ≡ limits.size) × (limits.size < length bytes)
-IsCauseIn reading limits bytes (errors.Malformed at fault) = (at ≤ length bytes) × (reading bytes ≡ Err (fault, drop at bytes))
+IsCauseIn reading limits bytes (errors.Malformed at part fault) = (at ≤ length bytes) × (reading bytes ≡ Err (fault, drop at bytes))
 
 abbrev pub IsFaultOf : Bounds → List ℕ → ReadError → Type 0
 IsFaultOf bounds bytes error = IsFaultIn (whole_at bounds) bytes error

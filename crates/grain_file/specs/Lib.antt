@@ -26,3 +26,4 @@ pub mod SidecarFile
 pub mod Causes
 pub mod Loading
 pub mod Writable
+pub mod Outline

@@ -17,6 +17,7 @@ use crate::field::Field;
 use crate::lists::put_all;
 use crate::names::{put_names, read_names};
 use crate::number::put_bytes;
+use crate::parts::Part;
 use crate::switches::read_switches;
 use crate::values::{put_values, read_values};
 use grain::{Parts, Program};
@@ -67,10 +68,12 @@ pub enum ReadError {
         limit: usize,
     },
     /// The first thing that is wrong.
-    #[error("byte {at}: {fault}")]
+    #[error("byte {at}, in {part}: {fault}")]
     Malformed {
         /// The place of the byte.
         at: usize,
+        /// The part that the byte is in.
+        part: Part,
         /// What is wrong there.
         fault: Fault,
     },
@@ -82,8 +85,8 @@ pub enum ReadError {
 /// of bytes that are left.
 ///
 /// # Errors
-/// `TooLarge` where the bytes are more than the limit. Else `Malformed` with the first byte at which no file goes on so, and
-/// why. `OutOfMemory` where a growth was refused.
+/// `TooLarge` where the bytes are more than the limit. Else `Malformed` with the first byte at which no file goes on so, the
+/// part that it is in, and why. `OutOfMemory` where a growth was refused.
 pub fn read(alloc: Global, bytes: &[u8], limits: &Limits) -> Result<Program, ReadError>
     // What is read is what the bytes are a file of.
     ensures found { IfOk result (λ p. IsFileWithin limits.now bytes.now (kept p)) }
@@ -112,7 +115,8 @@ fn read_whole(alloc: Global, bytes: &[u8], limits: &Limits) -> Result<Program, R
         Err(Stop::OutOfMemory) => Err(ReadError::OutOfMemory),
         Err(Stop::Fault(fault)) => {
             let at = bytes.len().saturating_sub(cursor.left.len());
-            Err(ReadError::Malformed { at, fault })
+            let part = cursor.part;
+            Err(ReadError::Malformed { at, part, fault })
         }
     }
 }
@@ -127,6 +131,7 @@ fn read_file(cursor: &mut Cursor<'_>, limits: &Limits) -> Result<Program, Stop>
     if cursor.left.is_empty() {
         Ok(program)
     } else {
+        cursor.part = Part::Rest;
         Err(Stop::Fault(Fault::Trailing))
     }
 }
@@ -165,7 +170,9 @@ fn read_body(cursor: &mut Cursor<'_>, limits: &Limits) -> Result<Program, Stop>
 {
     let code = read_code(cursor)?;
     let pools = read_pools(cursor, limits)?;
+    cursor.part = Part::SourceName;
     let source = Option::<String>::read(cursor)?;
+    cursor.part = Part::Positions;
     let positions = Option::<Vec<Position>>::read(cursor)?;
     let parts = Parts {
         positions: positions_of(positions),
@@ -217,13 +224,18 @@ fn read_code(cursor: &mut Cursor<'_>) -> Result<Code, Stop>
     ensures { Gives code_parts result cursor.new.left.now
         (code_format.reading cursor.old.left.now) }
 {
+    cursor.part = Part::Capabilities;
     let caps = Caps::from_bits_retain(u16::read(cursor)?);
+    cursor.part = Part::Id;
     let low = u64::read(cursor)?;
     let high = u64::read(cursor)?;
     let debug_id = join(low, high);
+    cursor.part = Part::Code;
     let code = cursor.bytes()?;
     let code = Vec::from_slice(cursor.alloc, code)?;
+    cursor.part = Part::MainChunk;
     let main = Chunk::read(cursor)?;
+    cursor.part = Part::Functions;
     let functions = Vec::<Function>::read(cursor)?;
     Ok(Code {
         caps,
@@ -259,9 +271,13 @@ fn read_pools(cursor: &mut Cursor<'_>, limits: &Limits) -> Result<PoolFields, St
         ((pools_format (bounds_of limits.now)).reading cursor.old.left.now) }
 {
     let names = read_names(cursor)?;
+    cursor.part = Part::Constants;
     let consts = read_values(cursor, limits.depth)?;
+    cursor.part = Part::Operators;
     let tokens = Vec::<Token>::read(cursor)?;
+    cursor.part = Part::OpAssignments;
     let assign_ops = Vec::<AssignOp>::read(cursor)?;
+    cursor.part = Part::Chains;
     let chains = Vec::<Chain>::read(cursor)?;
     let switches = read_switches(cursor, &consts, limits.cases)?;
     Ok(PoolFields {

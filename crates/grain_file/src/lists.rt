@@ -40,9 +40,11 @@ impl<T: Field> Field for Vec<T> {
     ghost format = { counted T.format };
 
     fn read(cursor: &mut Cursor<'_>) -> Result<Vec<T>, Stop> {
+        let list = cursor.part;
         let count = cursor.number()?;
         let mut items = Vec::with_capacity(cursor.alloc, reserve(count, cursor.left.len()))?;
-        'items: for _ in 0..count {
+        'items: for index in 0..count {
+            cursor.part = list.item(index as usize);
             let item = T::read(cursor)?;
             items.push(item)?;
         }

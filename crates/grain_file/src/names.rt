@@ -11,6 +11,7 @@ use crate::cursor::Cursor;
 use crate::error::{Fault, Stop};
 use crate::lists::reserve;
 use crate::number::{put_bytes, put_number};
+use crate::parts::Part;
 use grain_pools::{Strings, StringsError};
 use std::alloc::AllocError;
 
@@ -20,12 +21,14 @@ pub(crate) fn read_names(cursor: &mut Cursor<'_>) -> Result<Strings, Stop>
         (names_format.reading cursor.old.left.now) }
 {
     let start = cursor.left;
+    cursor.part = Part::Names;
     let names = read_texts(cursor)?;
     match Strings::new(cursor.alloc, &names) {
         Ok(strings) => Ok(strings),
         Err(StringsError::OutOfMemory) => Err(Stop::OutOfMemory),
         Err(StringsError::TooLong) => {
             cursor.left = start;
+            cursor.part = Part::Names;
             Err(Stop::Fault(Fault::NamesTooLong))
         }
     }
@@ -38,7 +41,8 @@ fn read_texts<'a>(cursor: &mut Cursor<'a>) -> Result<Vec<&'a str>, Stop>
 {
     let count = cursor.number()?;
     let mut names = Vec::with_capacity(cursor.alloc, reserve(count, cursor.left.len()))?;
-    'names: for _ in 0..count {
+    'names: for index in 0..count {
+        cursor.part = Part::Name(index as usize);
         let name = cursor.text()?;
         names.push(name)?;
     }

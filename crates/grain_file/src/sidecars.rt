@@ -10,6 +10,7 @@ use crate::error::{Fault, Stop};
 use crate::field::Field;
 use crate::file::{Limits, ReadError, join};
 use crate::number::{put_bytes, put_number};
+use crate::parts::Part;
 use crate::writing::{high_half, low_half};
 use grain::Sidecar;
 use std::alloc::{AllocError, Global};
@@ -49,7 +50,8 @@ fn read_all(alloc: Global, bytes: &[u8]) -> Result<Sidecar, ReadError>
         Err(Stop::OutOfMemory) => Err(ReadError::OutOfMemory),
         Err(Stop::Fault(fault)) => {
             let at = bytes.len().saturating_sub(cursor.left.len());
-            Err(ReadError::Malformed { at, fault })
+            let part = cursor.part;
+            Err(ReadError::Malformed { at, part, fault })
         }
     }
 }
@@ -64,6 +66,7 @@ fn read_file(cursor: &mut Cursor<'_>) -> Result<Sidecar, Stop>
     if cursor.left.is_empty() {
         Ok(sidecar)
     } else {
+        cursor.part = Part::Rest;
         Err(Stop::Fault(Fault::Trailing))
     }
 }
@@ -100,11 +103,14 @@ fn read_tables(cursor: &mut Cursor<'_>) -> Result<Sidecar, Stop>
     ensures { Gives sidecar_parts result cursor.new.left.now
         (tables_format.reading cursor.old.left.now) }
 {
+    cursor.part = Part::Id;
     let low = u64::read(cursor)?;
     let high = u64::read(cursor)?;
     let debug_id = join(low, high);
+    cursor.part = Part::AddressTable;
     let positions = cursor.bytes()?;
     let positions = Vec::from_slice(cursor.alloc, positions)?;
+    cursor.part = Part::ChainStream;
     let chains = cursor.bytes()?;
     let chains = Vec::from_slice(cursor.alloc, chains)?;
     Ok(Sidecar {

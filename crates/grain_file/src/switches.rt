@@ -15,6 +15,7 @@ use crate::error::{Stop, Unkept, WriteError};
 use crate::field::Field;
 use crate::lists::reserve;
 use crate::number::put_number;
+use crate::parts::Part;
 use grain_base::Dynamic;
 use grain_pools::{Switch, SwitchRange};
 use std::alloc::{AllocError, Global};
@@ -95,9 +96,11 @@ pub(crate) fn read_switches(
     ensures { Gives (λ v. map (switch_parts constants.now) v.items) result cursor.new.left.now
         (counted_at (switch_format most (forms constants.now)).reading cursor.old.left.now) }
 {
+    cursor.part = Part::Switches;
     let count = cursor.number()?;
     let mut switches = Vec::with_capacity(cursor.alloc, reserve(count, cursor.left.len()))?;
-    'switches: for _ in 0..count {
+    'switches: for index in 0..count {
+        cursor.part = Part::Switch(index as usize);
         let switch = read_switch(cursor, constants, most)?;
         switches.push(switch)?;
     }
@@ -122,7 +125,7 @@ fn cases_in_order(
 ///
 /// # Errors
 /// `Unkept` where the key of a case isn't its constant.
-fn put_switch(
+pub(crate) fn put_switch(
     alloc: Global,
     out: &mut Vec<u8>,
     switch: &Switch,

@@ -133,9 +133,11 @@ pub(crate) fn read_values(cursor: &mut Cursor<'_>, depth: u32) -> Result<Vec<Dyn
     ensures { Gives (λ v. forms v.items) result cursor.new.left.now
         (counted_at (value_at depth) cursor.old.left.now) }
 {
+    let list = cursor.part;
     let count = cursor.number()?;
     let mut values = Vec::with_capacity(cursor.alloc, reserve(count, cursor.left.len()))?;
-    'values: for _ in 0..count {
+    'values: for index in 0..count {
+        cursor.part = list.item(index as usize);
         let value = read_value(cursor, depth)?;
         values.push(value)?;
     }

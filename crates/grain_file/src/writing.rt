@@ -139,7 +139,7 @@ fn put_positions(out: &mut Vec<u8>, positions: &Positions) -> Result<(), WriteEr
 }
 
 /// Appends the name of the source, if there is one.
-fn put_source(out: &mut Vec<u8>, source: Option<&str>) -> Result<(), AllocError>
+pub(crate) fn put_source(out: &mut Vec<u8>, source: Option<&str>) -> Result<(), AllocError>
     ensures spelled { OnOk result (out.new.items ≡ out.old.items
         ++ (optional text).spelling (option_map (λ s. s.now) source.entry)) }
     ensures fits { OnOk result ((optional text).Fits (option_map (λ s. s.now) source.entry)) }

@@ -1,6 +1,6 @@
 use crate::samples::{BEFORE_CONSTANTS, assert_same, fault, is_written, made, parts, program};
 use grain::{Dynamic, Program, Switch};
-use grain_file::{Fault, Limits, ReadError, read};
+use grain_file::{Fault, Limits, Part, ReadError, read};
 use std::alloc::Global;
 use std::collections::HashMap;
 use std::test::Fail;
@@ -112,6 +112,6 @@ fn many_cases_are_refused(rt: HostRuntime) {
         ..Limits::default()
     };
     let refused = read(rt.alloc(), WITH_CASES, &limits).err();
-    let fault = Fault::TooManyCases;
-    assert_same(&rt, refused, Some(ReadError::Malformed { at: 30, fault }));
+    let (at, part, fault) = (30, Part::Switch(0), Fault::TooManyCases);
+    assert_same(&rt, refused, Some(ReadError::Malformed { at, part, fault }));
 }

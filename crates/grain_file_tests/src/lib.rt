@@ -8,6 +8,8 @@ mod constants;
 #[cfg(test)]
 mod loads;
 #[cfg(test)]
+mod outlines;
+#[cfg(test)]
 mod refusals;
 #[cfg(test)]
 mod round_trips;

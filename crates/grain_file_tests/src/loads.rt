@@ -39,7 +39,11 @@ fn others_are_refused(rt: HostRuntime) {
     let lacking = made(&rt, loaded_changed(rt.alloc(), 6, 8, Caps::ARRAY));
     assert_same(&rt, lacking.as_str(), "the host lacks capabilities Caps(8)");
     let malformed = made(&rt, loaded_changed(rt.alloc(), 32, 2, Caps::empty()));
-    assert_same(&rt, malformed.as_str(), "byte 32: unknown tag");
+    assert_same(
+        &rt,
+        malformed.as_str(),
+        "byte 32, in the positions: unknown tag",
+    );
     // Constant 1 isn't there.
     let refused = made(&rt, loaded_changed(rt.alloc(), 11, 1, Caps::empty()));
     assert_same(&rt, refused.starts_with("byte"), false);

@@ -1,7 +1,7 @@
 use crate::samples::{
     AFTER_CONSTANTS, BEFORE_CONSTANTS, EXAMPLE, assert_same, fault, made, with_constants,
 };
-use grain_file::{Fault, Limits, ReadError, read};
+use grain_file::{Fault, Limits, Part, ReadError, read};
 use std::alloc::Global;
 use std::test::Fail;
 
@@ -107,9 +107,9 @@ fn fault_of_nested(alloc: Global, depth: u32) -> Result<Option<ReadError>, Fail>
 
 #[test]
 fn deep_values_are_refused(rt: HostRuntime) {
-    let fault = Fault::TooDeep;
+    let (at, part, fault) = (20, Part::Constant(0), Fault::TooDeep);
     let refused = made(&rt, fault_of_nested(rt.alloc(), 2));
-    assert_same(&rt, refused, Some(ReadError::Malformed { at: 20, fault }));
+    assert_same(&rt, refused, Some(ReadError::Malformed { at, part, fault }));
     let read = made(&rt, fault_of_nested(rt.alloc(), 3));
     assert_same(&rt, read, None);
 }

@@ -99,7 +99,7 @@ pub(crate) fn program(
 /// Where reading fails, and why; nothing where it succeeds or memory runs out.
 pub(crate) fn fault(alloc: Global, bytes: &[u8]) -> Option<(usize, Fault)> {
     match read(alloc, bytes, &Limits::default()) {
-        Err(ReadError::Malformed { at, fault }) => Some((at, fault)),
+        Err(ReadError::Malformed { at, fault, .. }) => Some((at, fault)),
         _ => None,
     }
 }

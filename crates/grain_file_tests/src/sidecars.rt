@@ -1,6 +1,6 @@
 use crate::samples::{EXAMPLE, assert_same, made};
 use grain::Sidecar;
-use grain_file::{Fault, Limits, ReadError, read_sidecar, write_sidecar};
+use grain_file::{Fault, Limits, Part, ReadError, read_sidecar, write_sidecar};
 use std::alloc::Global;
 use std::test::Fail;
 
@@ -48,9 +48,9 @@ fn sidecars_are_written_and_read(rt: HostRuntime) {
 fn other_bytes_are_refused(rt: HostRuntime) {
     let limits = Limits::default();
     let program = read_sidecar(rt.alloc(), EXAMPLE, &limits).err();
-    let fault = Fault::Kind;
-    assert_same(&rt, program, Some(ReadError::Malformed { at: 5, fault }));
+    let (at, part, fault) = (5, Part::Header, Fault::Kind);
+    assert_same(&rt, program, Some(ReadError::Malformed { at, part, fault }));
     let front = read_sidecar(rt.alloc(), &FILE[..14], &limits).err();
-    let fault = Fault::Truncated;
-    assert_same(&rt, front, Some(ReadError::Malformed { at: 14, fault }));
+    let (at, part, fault) = (14, Part::ChainStream, Fault::Truncated);
+    assert_same(&rt, front, Some(ReadError::Malformed { at, part, fault }));
 }

@@ -1,4 +1,5 @@
-//! The assembly text of a program (docs/ASSEMBLY.md): [`print`] writes it. The crate `grain_asm` parses it.
+//! The assembly text of a program (docs/ASSEMBLY.md): [`print`] writes it. The crate `grain_asm` parses it. The texts of single
+//! entries are for other listings.
 #![tactic(auto)]
 
 mod chains;
@@ -11,8 +12,11 @@ mod quote;
 mod switches;
 mod values;
 
+pub use chains::write_chain;
 pub use forms::{Form, Operand, form_named, form_of};
-pub use operators::spelling;
-pub use program::print;
+pub use marks::Marks;
+pub use operators::{spelling, write_assign_op, write_token};
+pub use program::{print, write_capabilities, write_chunk, write_function};
 pub use quote::write_text;
+pub use switches::write_switch;
 pub use values::write_value;

@@ -39,6 +39,15 @@ fn end_of(code: &[u8], at: usize) -> usize {
 }
 
 impl Marks {
+    /// No marks: each address is written as a number.
+    #[must_use]
+    pub fn none(alloc: Global) -> Marks {
+        Marks {
+            marks: Vec::new(alloc),
+            whole: 0,
+        }
+    }
+
     /// The marks of a program. It goes over the code twice, and takes memory for a byte of each of its bytes.
     pub fn of(alloc: Global, program: &Program) -> Result<Marks, AllocError> {
         let mut marks = Marks::lines(alloc, program.code())?;

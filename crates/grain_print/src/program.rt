@@ -12,9 +12,8 @@ use grain_base::{Caps, Flags};
 use grain_code::{Chunk, Function};
 use std::alloc::{AllocError, Global};
 
-/// Appends the names of capabilities, and the bit that has none as a number.
-fn write_caps(out: &mut String, caps: Caps) -> Result<(), AllocError> {
-    out.push_str(".caps \"")?;
+/// Appends the names of capabilities with bars between them, and the bit that has none as a number.
+pub fn write_capabilities(out: &mut String, caps: Caps) -> Result<(), AllocError> {
     let mut is_first = true;
     for (name, _) in caps.iter_names() {
         out.push_str(if is_first { "" } else { " | " })?;
@@ -25,12 +24,14 @@ fn write_caps(out: &mut String, caps: Caps) -> Result<(), AllocError> {
         out.push_str(if is_first { "" } else { " | " })?;
         out.push_str("0x8000")?;
     }
-    out.push_str("\"\n")
+    Ok(())
 }
 
 /// Appends what a program has besides its code and its pools.
 fn write_head(out: &mut String, program: &Program) -> Result<(), AllocError> {
-    write_caps(out, program.caps())?;
+    out.push_str(".caps \"")?;
+    write_capabilities(out, program.caps())?;
+    out.push_str("\"\n")?;
     let id = program.debug_id();
     write!(out, ".id {id}\n")?;
     if let Some(source) = program.source() {
@@ -110,18 +111,23 @@ fn write_switches(
     Ok(())
 }
 
-fn write_chunk(out: &mut String, marks: &Marks, chunk: Chunk) -> Result<(), AllocError> {
-    out.push_str(" ")?;
+/// Appends where a chunk begins and ends, and how many operands it declares.
+pub fn write_chunk(out: &mut String, marks: &Marks, chunk: Chunk) -> Result<(), AllocError> {
     write_address(out, marks, chunk.entry())?;
     out.push_str(" ")?;
     write_address(out, marks, chunk.end())?;
     let max_stack = chunk.max_stack();
-    write!(out, " stack {max_stack}\n")
+    write!(out, " stack {max_stack}")
 }
 
-fn write_function(out: &mut String, marks: &Marks, function: &Function) -> Result<(), AllocError> {
+/// Appends a function: its name, its parameters, who may call it, the type of its receiver, and its chunk.
+pub fn write_function(
+    out: &mut String,
+    marks: &Marks,
+    function: &Function,
+) -> Result<(), AllocError> {
     let name = function.name;
-    write!(out, "  function #{name} (")?;
+    write!(out, "function #{name} (")?;
     for (place, param) in function.params.iter().enumerate() {
         out.push_str(if place == 0 { "" } else { ", " })?;
         write!(out, "#{param}")?;
@@ -133,14 +139,18 @@ fn write_function(out: &mut String, marks: &Marks, function: &Function) -> Resul
     if let Some(this_type) = function.this_type {
         write!(out, " on #{this_type}")?;
     }
+    out.push_str(" ")?;
     write_chunk(out, marks, function.chunk)
 }
 
 fn write_chunks(out: &mut String, program: &Program, marks: &Marks) -> Result<(), AllocError> {
-    out.push_str(".chunks\n  main")?;
+    out.push_str(".chunks\n  main ")?;
     write_chunk(out, marks, program.main())?;
+    out.push_str("\n")?;
     for function in program.functions() {
+        out.push_str("  ")?;
         write_function(out, marks, function)?;
+        out.push_str("\n")?;
     }
     Ok(())
 }

@@ -2,7 +2,7 @@
 
 use crate::arguments::{file, flag};
 use crate::failure::Failure;
-use crate::files::{program_of, read_bytes, sidecar_of, write_standard};
+use crate::files::{is_sidecar, program_of, read_bytes, sidecar_of, write_standard};
 use crate::places::{chunk_at, name_of};
 use clap::{Arg, ArgAction, ArgMatches, Command};
 use grain::{Program, Sidecar, pos};
@@ -35,11 +35,6 @@ struct Known<'a> {
     function: Option<&'a str>,
     /// Its line and column.
     site: Option<(usize, usize)>,
-}
-
-/// Whether bytes begin as a sidecar file does.
-fn is_sidecar(bytes: &[u8]) -> bool {
-    matches!(bytes, [0, b'g', b'r', b'n', 1, 1, ..])
 }
 
 /// What a program knows of an address.

@@ -56,9 +56,11 @@ pub fn read_text(rt: &HostRuntime, path: &str) -> Result<String, Failure> {
 /// Why bytes are no file: what is wrong, and where.
 pub fn unread(alloc: Global, path: &str, error: ReadError) -> Failure {
     match error {
-        ReadError::Malformed { at, fault } => {
-            Failure::of(alloc, shown(path), format_args!("{fault} (byte {at})"))
-        }
+        ReadError::Malformed { at, part, fault } => Failure::of(
+            alloc,
+            shown(path),
+            format_args!("{fault} ({part}, byte {at})"),
+        ),
         ReadError::OutOfMemory => Failure::OutOfMemory,
         ReadError::TooLarge { .. } => Failure::of(alloc, shown(path), error),
     }
@@ -95,6 +97,11 @@ pub fn file_of(alloc: Global, path: &str, program: &Program) -> Result<Vec<u8>, 
     }
 }
 
+/// Whether bytes begin as a sidecar file does.
+pub fn is_sidecar(bytes: &[u8]) -> bool {
+    matches!(bytes, [0, b'g', b'r', b'n', 1, 1, ..])
+}
+
 /// Writes bytes to standard output.
 pub fn write_standard(rt: &HostRuntime, bytes: &[u8]) -> Result<(), Failure> {
     let mut out = rt.stdout();
@@ -112,12 +119,17 @@ pub fn write_file(rt: &HostRuntime, path: &str, bytes: &[u8]) -> Result<(), Fail
     }
 }
 
+/// Writes lines to a file, or to standard output where none is given.
+pub fn write_lines(rt: &HostRuntime, path: Option<&str>, lines: &[u8]) -> Result<(), Failure> {
+    match path {
+        Some(path) if path != STANDARD => write_file(rt, path, lines),
+        _ => write_standard(rt, lines),
+    }
+}
+
 /// Writes text to a file, or to standard output where none is given.
 pub fn write_text(rt: &HostRuntime, path: Option<&str>, text: &str) -> Result<(), Failure> {
-    match path {
-        Some(path) if path != STANDARD => write_file(rt, path, text.as_bytes()),
-        _ => write_standard(rt, text.as_bytes()),
-    }
+    write_lines(rt, path, text.as_bytes())
 }
 
 /// Writes a binary file, or to standard output where none is given and that is no terminal.

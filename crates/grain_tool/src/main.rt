@@ -5,6 +5,7 @@ mod addresses;
 mod arguments;
 mod check_script;
 mod compile_script;
+mod dump;
 mod failure;
 mod files;
 mod list;
@@ -61,6 +62,7 @@ fn dispatch(rt: &HostRuntime, name: &str, matches: &ArgMatches<'_>) -> Result<u8
         "parse" => parse::run(rt, matches),
         "run" => run::run(rt, matches),
         "list" => list::run(rt, matches),
+        "dump" => dump::run(rt, matches),
         "strip" => strip::strip(rt, matches),
         "attach" => strip::attach(rt, matches),
         "addr2line" => addresses::run(rt, matches),

@@ -7,5 +7,5 @@ use Rattle.grain_file.proofs.names.read_texts.Given as goal
 
 abbrev pub invariant-names : goal.invariant-names
 invariant-names l =
-    with_front (texts l.names.items) (repeat_at text_at (l.count - l.counter) l.cursor.left.now)
+    with_front (texts l.names.items) (repeat_at text_at (l.count - l.index) l.cursor.left.now)
     ≡ repeat_at text_at l.count l.initial.cursor.left.now

@@ -7,5 +7,5 @@ use Rattle.grain_file.proofs.switches.read_switches.Given as goal
 
 abbrev pub invariant-switches : goal.invariant-switches
 invariant-switches l =
-    with_front (map (switch_parts l.constants) l.switches.items) (repeat_at (switch_format l.most (forms l.constants)).reading (l.count - l.counter) l.cursor.left.now)
+    with_front (map (switch_parts l.constants) l.switches.items) (repeat_at (switch_format l.most (forms l.constants)).reading (l.count - l.index) l.cursor.left.now)
     ≡ repeat_at (switch_format l.most (forms l.constants)).reading l.count l.initial.cursor.left.now

@@ -15,18 +15,18 @@ read_value-returns-then-tag-gt12 t c = unknown_tag _ _ _ _ _ c.in-Some-split_fir
 pub read_values-returns-in_err-value : goal.read_values-returns-in_err-value
 read_values-returns-in_err-value t c =
     let p = err_from_is_err_and c.from_residual-in_err-value.result c.from_residual-in_err-value.ensures.1 in
-    rw (p.1, p.2) (counted_ends (value_at c.args.depth) c.in_err-value.field-0.0 c.read_value.new.cursor.left.now c.args.cursor.now.left.now (forms c.values.values.items) c.in_ok-count.count c.values.counter
+    rw (p.1, p.2) (counted_ends (value_at c.args.depth) c.in_err-value.field-0.0 c.read_value.new.cursor.left.now c.args.cursor.now.left.now (forms c.values.values.items) c.in_ok-count.count c.values.index
     c.number.new.self.left.now c.values.cursor.left.now c.in_ok-count.ensures c.values-test.true c.in_err-value.ensures c.values.invariant)
 
 pub read_values-values-preserved : goal.read_values-values-preserved
 read_values-values-preserved t c =
     let e : forms c.push.new.self.items ≡ forms c.values.values.items ++ form c.in_ok-value.value ∷ [] =
     rw c.in_ok-push.ensures.items (map_push form c.values.values.items c.in_ok-value.value) in
-    rw e (goes_on (value_at c.args.depth) (forms c.values.values.items) c.in_ok-count.count c.values.counter c.values.cursor.left.now (form c.in_ok-value.value) c.read_value.new.cursor.left.now
+    rw e (goes_on (value_at c.args.depth) (forms c.values.values.items) c.in_ok-count.count c.values.index c.values.cursor.left.now (form c.in_ok-value.value) c.read_value.new.cursor.left.now
     _ c.values-test.true c.in_ok-value.ensures c.values.invariant)
 
 pub read_values-returns : goal.read_values-returns
-read_values-returns t c = counted_done (value_at c.args.depth) c.args.cursor.now.left.now (forms c.values.values.items) c.in_ok-count.count c.values.counter c.number.new.self.left.now c.values.cursor.left.now c.in_ok-count.ensures c.values-test.false c.values.invariant
+read_values-returns t c = counted_done (value_at c.args.depth) c.args.cursor.now.left.now (forms c.values.values.items) c.in_ok-count.count c.values.index c.number.new.self.left.now c.values.cursor.left.now c.in_ok-count.ensures c.values-test.false c.values.invariant
 
 pub read_entries-returns-in_err-key : goal.read_entries-returns-in_err-key
 read_entries-returns-in_err-key t c =

@@ -23,7 +23,7 @@ decreases-read_values l = 4 * l.depth + 1
 
 abbrev pub invariant-read_values-values : goal.invariant-read_values-values
 invariant-read_values-values l =
-    with_front (forms l.values.items) (repeat_at (value_at l.depth) (l.count - l.counter) l.cursor.left.now)
+    with_front (forms l.values.items) (repeat_at (value_at l.depth) (l.count - l.index) l.cursor.left.now)
     ≡ repeat_at (value_at l.depth) l.count l.initial.cursor.left.now
 
 abbrev pub invariant-read_entries-entries : goal.invariant-read_entries-entries

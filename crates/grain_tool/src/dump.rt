@@ -1,0 +1,57 @@
+//! `grain dump`: the sections of a program file or a sidecar file, with their offsets and sizes.
+
+use crate::arguments::{file, flag, output};
+use crate::failure::Failure;
+use crate::files::{
+    is_sidecar, program_of, read_bytes, shown, sidecar_of, write_lines, write_text,
+};
+use clap::{ArgMatches, Command};
+use grain_dump::{Dump, program_dump, sidecar_dump};
+use grain_file::WriteError;
+use std::alloc::{AllocError, Global};
+
+/// The arguments of `grain dump`.
+pub fn command<'a>(alloc: Global) -> Result<Command<'a>, AllocError> {
+    let hex = flag(
+        alloc,
+        "hex",
+        "Show the items of each section too, with their bytes and what these spell",
+    )
+    .short('x');
+    Command::new(alloc, "dump")
+        .about("Lists the sections of a program file or a sidecar file, with offsets and sizes")
+        .after_help("Example:\n  grain dump -x program.grain")
+        .arg(file(alloc))?
+        .arg(hex)?
+        .arg(flag(alloc, "json", "Write a JSON object, on a line of its own"))?
+        .arg(output(alloc))
+}
+
+/// The dump of a file, with its items where these are wanted.
+fn dump_of(alloc: Global, path: &str, bytes: &[u8], with_items: bool) -> Result<Dump, Failure> {
+    if is_sidecar(bytes) {
+        let sidecar = sidecar_of(alloc, path, bytes)?;
+        return Ok(sidecar_dump(alloc, &sidecar, with_items)?);
+    }
+    let program = program_of(alloc, path, bytes)?;
+    match program_dump(alloc, &program, with_items) {
+        Ok(dump) => Ok(dump),
+        Err(WriteError::OutOfMemory) => Err(Failure::OutOfMemory),
+        Err(error) => Err(Failure::of(alloc, shown(path), error)),
+    }
+}
+
+/// Lists the sections of a file.
+pub fn run(rt: &HostRuntime, matches: &ArgMatches<'_>) -> Result<u8, Failure> {
+    let alloc = rt.alloc();
+    let path = matches.get_str("FILE").unwrap_or("-");
+    let bytes = read_bytes(rt, path)?;
+    let dump = dump_of(alloc, path, &bytes, matches.get_flag("hex"))?;
+    let to = matches.get_str("output");
+    if matches.get_flag("json") {
+        write_lines(rt, to, &dump.json(alloc, path, &bytes)?)?;
+    } else {
+        write_text(rt, to, &dump.text(alloc, &bytes)?)?;
+    }
+    Ok(0)
+}
