@@ -21,7 +21,8 @@ TOP = pathlib.Path(__file__).resolve().parent.parent
 FORMAT = (TOP / "docs/FORMAT.md").read_text()
 # Tag, name and width of each instruction, and each refusal, by docs/FORMAT.md.
 WIDTHS = {int(tag, 16): (name, int(width)) for tag, name, width in re.findall(r"^\| ([0-9a-f]{2}) \| ([A-Z_]+) \|[^|]*\| (\d) \|", FORMAT, re.M)}
-REFUSALS = set(re.findall(r"`([a-z-]+)(?: at=A[^`]*| entry=E[^`]*| needed=N[^`]*)?`", FORMAT[FORMAT.index("| Refusal | What it says |"):FORMAT.index("A path reaches each instruction")]))
+TABLE = FORMAT[FORMAT.index("| Refusal | What it says |"):FORMAT.index("A path reaches each instruction")]
+REFUSALS = {word for row in re.findall(r"^\| (`[^|]*) \|", TABLE, re.M) for word in re.findall(r"`([a-z-]+)", row)}
 # No file has fragments of syntax, and no program sites of custom syntax, so that these are refused wherever they are.
 NEVER = {"EVAL_AST", "EVAL_AST_KEEP", "CUSTOM_SYNTAX"}
 # What the assembly text of the programs has somewhere: each root, step and tail, cases, ranges, and nested constants.
@@ -103,7 +104,7 @@ def check_near(tool, folder, count):
     found = collections.Counter()
     for line in verdicts(tool, files):
         expect(verdict(pathlib.Path(line["file"]).read_bytes()) == "file", f"{line['file']} is no file")
-        found["accepted" if line["accepted"] else re.match(r"[a-z-]+", line["error"])[0]] += 1
+        found["accepted" if line["accepted"] else line["error"].removeprefix(line["file"] + ": ").split()[0]] += 1
     for file in files[:100]:
         expect(call(tool, "parse", "-", given=call(tool, "print", file)) == pathlib.Path(file).read_bytes(), f"{file} doesn't come back")
     print("smith: --near: " + ", ".join(f"{often} {what}" for what, often in found.most_common()))

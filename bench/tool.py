@@ -17,7 +17,7 @@ import sys
 import tempfile
 
 TOP = pathlib.Path(__file__).resolve().parent.parent
-COMMANDS = ("run", "check", "compile", "validate", "print", "parse", "list", "strip", "attach", "addr2line")
+COMMANDS = ("run", "check", "compile", "validate", "print", "parse", "list", "smith", "strip", "attach", "addr2line")
 # Tag and field letters of each instruction, by docs/FORMAT.md.
 ROW = re.compile(r"^\| ([0-9a-f]{2}) \| [A-Z_]+ \| ([a-z ]*) \| \d \|", re.M)
 WIDTH = {letter: 2 for letter in "cntofhwys"} | {"a": 1, "j": 4}
