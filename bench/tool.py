@@ -17,7 +17,7 @@ import sys
 import tempfile
 
 TOP = pathlib.Path(__file__).resolve().parent.parent
-COMMANDS = ("run", "check", "compile", "validate", "print", "parse", "list", "dump", "strip", "attach", "addr2line")
+COMMANDS = ("run", "check", "compile", "validate", "print", "parse", "list", "dump", "smith", "strip", "attach", "addr2line")
 SNAPSHOTS = TOP / "bench/tool.txt"
 # The sections of a program file, in their order.
 SECTIONS = [

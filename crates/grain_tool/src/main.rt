@@ -15,6 +15,7 @@ mod places;
 mod print;
 mod run;
 mod scripts;
+mod smith;
 mod strip;
 mod terminal;
 mod validate;
@@ -61,6 +62,7 @@ fn dispatch(rt: &HostRuntime, name: &str, matches: &ArgMatches<'_>) -> Result<u8
         "print" => print::run(rt, matches),
         "parse" => parse::run(rt, matches),
         "run" => run::run(rt, matches),
+        "smith" => smith::run(rt, matches),
         "list" => list::run(rt, matches),
         "dump" => dump::run(rt, matches),
         "strip" => strip::strip(rt, matches),
