@@ -1,6 +1,8 @@
 //! The command line.
 
-use crate::{addresses, check_script, compile_script, list, parse, print, run, strip, validate};
+use crate::{
+    addresses, check_script, compile_script, flow, list, parse, print, run, strip, validate,
+};
 use clap::{Arg, ArgAction, Command};
 use std::alloc::{AllocError, Global};
 
@@ -59,6 +61,7 @@ pub fn command<'a>(alloc: Global) -> Result<Command<'a>, AllocError> {
         .subcommand(print::command(alloc)?)?
         .subcommand(parse::command(alloc)?)?
         .subcommand(list::command(alloc)?)?
+        .subcommand(flow::command(alloc)?)?
         .subcommand(strip::strip_command(alloc)?)?
         .subcommand(strip::attach_command(alloc)?)?
         .subcommand(addresses::command(alloc)?)

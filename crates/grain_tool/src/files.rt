@@ -112,11 +112,11 @@ pub fn write_file(rt: &HostRuntime, path: &str, bytes: &[u8]) -> Result<(), Fail
     }
 }
 
-/// Writes text to a file, or to standard output where none is given.
-pub fn write_text(rt: &HostRuntime, path: Option<&str>, text: &str) -> Result<(), Failure> {
+/// Writes the bytes of a text to a file, or to standard output where none is given.
+pub fn write_text(rt: &HostRuntime, path: Option<&str>, text: &[u8]) -> Result<(), Failure> {
     match path {
-        Some(path) if path != STANDARD => write_file(rt, path, text.as_bytes()),
-        _ => write_standard(rt, text.as_bytes()),
+        Some(path) if path != STANDARD => write_file(rt, path, text),
+        _ => write_standard(rt, text),
     }
 }
 

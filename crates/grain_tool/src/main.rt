@@ -7,8 +7,8 @@ mod check_script;
 mod compile_script;
 mod failure;
 mod files;
+mod flow;
 mod list;
-mod paint;
 mod parse;
 mod places;
 mod print;
@@ -61,6 +61,7 @@ fn dispatch(rt: &HostRuntime, name: &str, matches: &ArgMatches<'_>) -> Result<u8
         "parse" => parse::run(rt, matches),
         "run" => run::run(rt, matches),
         "list" => list::run(rt, matches),
+        "flow" => flow::run(rt, matches),
         "strip" => strip::strip(rt, matches),
         "attach" => strip::attach(rt, matches),
         "addr2line" => addresses::run(rt, matches),
