@@ -15,9 +15,10 @@ import re
 import subprocess
 import sys
 import tempfile
+import xml.etree.ElementTree
 
 TOP = pathlib.Path(__file__).resolve().parent.parent
-COMMANDS = ("run", "check", "compile", "validate", "print", "parse", "list", "dump", "smith", "strip", "attach", "addr2line")
+COMMANDS = ("run", "check", "compile", "validate", "print", "parse", "list", "flow", "dump", "smith", "strip", "attach", "addr2line")
 SNAPSHOTS = TOP / "bench/tool.txt"
 # The sections of a program file, in their order.
 SECTIONS = [
@@ -367,6 +368,93 @@ def check_dumps(tool):
         dump_of(tool, "random.grain", SECTIONS)
 
 
+# A loop in a try, a switch and a function.
+FLOWS = b"""fn f(x) { try { x + 1 } catch { 2 } }
+let s = "a\\nb<&\\"";
+for i in 0..3 { f(i); }
+switch s { 1 => 2, 3..5 => 6, _ => 7 }
+"""
+# Two paths to the address 2 disagree in operands.
+CLASH = b".chunks\nmain 0 14 stack 8\n.code\nunit\niter_init\nL2:\niter_next L12\njump L2\nL12:\nunit\nreturn\n"
+NODE = re.compile(r'^  n(\d+) \[label="', re.M)
+EDGE = re.compile(r"^  n(\d+) -> n(\d+)( \[color=red)?", re.M)
+
+
+def check_listings(tool):
+    tool.write("flows.grain", tool.done("compile", "-", given=FLOWS))
+    said = tool.done("list", "flows.grain").decode()
+    expect(said.startswith("flows.grain: accepted\n\nmain from 0 to "), f"a listing begins with {said[:60]!r}")
+    expect("\n\nf from " in said and ": passes\n" in said and "catches -> " in said and "<== here" not in said, "a listing lacks a function")
+    expect('= a\\u{a}b<&"  @2:9\n' in said, "a listing doesn't escape a value")
+    expect(b"\x1b[" in tool.done("list", "--color=always", "flows.grain"), "a listing has no colours")
+    found = json.loads(tool.done("list", "--json", "flows.grain"))
+    expect([chunk["name"] for chunk in found["chunks"]] == ["main", "f"] and found["accepted"], "--json of a listing lacks a name")
+    items = [item for chunk in found["chunks"] for item in chunk["items"]]
+    expect(all(item["position"]["line"] for item in items), "--json of a listing lacks a position")
+    tool.write("clash.grain", tool.done("parse", "-", given=CLASH))
+    said = tool.done("list", "clash.grain").decode()
+    lines = [line for line in said.splitlines() if line.endswith("  <== here")]
+    expect(len(lines) == 1 and lines[0].split()[0] == "2", f"the flaw is at {lines}")
+    for words in ("clash.grain: refused depth-conflict", "Two paths to 2 differ", "The rule: ", "One path there:", "Another path there:", "not visited"):
+        expect(words in said, f"the listing of a refused program lacks `{words}`")
+    explained = tool.run("validate", "--explain", "clash.grain")[1].decode()
+    expect(explained == said.split("\n\n")[1], f"--explain lists {explained!r}")
+    found = json.loads(tool.done("list", "--json", "clash.grain"))
+    expect(found["error"].startswith("depth-conflict") and found["chunks"][0]["refusal"]["other_path"], "--json of a refused program")
+
+
+def items_of(tool, file, name):
+    """The instructions of a function, by its listing."""
+    chunks = json.loads(tool.done("list", "--json", file))["chunks"]
+    return next(chunk for chunk in chunks if chunk["name"] == name)["items"]
+
+
+def switch_targets(item):
+    found = re.findall(r"=> (\d+)", item["instruction"]) if item["instruction"].startswith("Switch") else []
+    return {int(target) for target in found}
+
+
+def edges_of(items):
+    """The edges between instructions that are reached."""
+    edges, places = set(), {item["at"] for item in items}
+    for item, after in zip(items, items[1:] + [None]):
+        if item["state"] is None:
+            continue
+        targets = switch_targets(item) | ({item["target"]} if item["target"] is not None else set())
+        targets |= {after["at"]} if item["falls"] and after else set()
+        edges |= {(item["at"], target) for target in targets & places}
+    return edges
+
+
+def check_picture(tool, file, name):
+    """The picture of a function is XML that has each instruction, and its DOT has each instruction and edge."""
+    items = items_of(tool, file, name)
+    root = xml.etree.ElementTree.fromstring(tool.done("flow", "--function", name, file))
+    texts = {node.text for node in root.iter("{http://www.w3.org/2000/svg}text")}
+    for item in items:
+        word = re.match(r"\w+", item["instruction"])[0]
+        expect(str(item["at"]) in texts and any(text and text.startswith(word) for text in texts), f"the picture lacks {item['at']}")
+    dot = tool.done("flow", "--function", name, "--dot", file).decode()
+    expect([int(at) for at in NODE.findall(dot)] == [item["at"] for item in items], f"DOT of {name} lacks an instruction")
+    found = {(int(start), int(end)) for start, end, _ in EDGE.findall(dot)}
+    expect(found == edges_of(items), f"DOT of {name} has the edges {found ^ edges_of(items)} more or less")
+    return root, dot
+
+
+def check_flows(tool):
+    for name in ("main", "f"):
+        root, dot = check_picture(tool, "flows.grain", name)
+        expect("color=red" not in dot, "an accepted function has a red path")
+    tool.done("flow", "flows.grain", "-o", "flows.svg")
+    expect(tool.read("flows.svg") == tool.done("flow", "--function", "main", "flows.grain"), "main isn't drawn first")
+    expect("no function" in tool.refused("flow", "--function", "g", "flows.grain"), "a missing function is drawn")
+    root, dot = check_picture(tool, "clash.grain", "main")
+    red = {(int(start), int(end)) for start, end, colour in EDGE.findall(dot) if colour}
+    expect(red == {(0, 1), (1, 2), (2, 7), (7, 2)}, f"the red path is {red}")
+    strokes = [path.get("stroke") for path in root.iter("{http://www.w3.org/2000/svg}path")]
+    expect(strokes.count("#b03a2e") == len(red), f"{strokes.count('#b03a2e')} arrows are red")
+
+
 def check_documents(tool):
     """Each program of docs/ASSEMBLY.md is assembled and accepted."""
     page = (TOP / "docs/ASSEMBLY.md").read_text()
@@ -414,7 +502,7 @@ def main():
         if given.write:
             SNAPSHOTS.write_text(snapshots(tool))
             return
-        for check in (check_help, check_snapshots, check_missing, check_programs, check_scripts, check_refusals, check_dumps, check_documents, check_large):
+        for check in (check_help, check_snapshots, check_missing, check_programs, check_scripts, check_refusals, check_listings, check_flows, check_dumps, check_documents, check_large):
             check(tool)
         check_round_trips(tool, given.programs)
     print("grain: all well")

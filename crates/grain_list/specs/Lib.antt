@@ -1,3 +1,2 @@
-pub mod ListedCode
 pub mod Listed
 pub mod Ending

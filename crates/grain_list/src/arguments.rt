@@ -1,6 +1,7 @@
 //! The command line.
 
-use clap::{Arg, ArgAction, ArgMatches, Command, Error};
+use clap::{Arg, ArgAction, Command, Error};
+use grain_listing::{Colours, colour_option};
 use std::alloc::{AllocError, Global};
 
 /// The version of the program.
@@ -28,17 +29,6 @@ Exit status:
 Colours are used by --color=auto where standard output is a terminal, TERM is
 not dumb, and NO_COLOR is not set or is empty.";
 
-/// When listings are coloured.
-#[derive(Clone, Copy)]
-pub enum Colours {
-    /// On a terminal that has colours, unless the environment says otherwise.
-    Auto,
-    /// In any case.
-    Always,
-    /// In no case.
-    Never,
-}
-
 /// What the arguments ask for.
 #[derive(Clone, Copy)]
 pub enum Request {
@@ -48,24 +38,12 @@ pub enum Request {
     Json,
 }
 
-/// The values of `--color`.
-static COLOURS: [&str; 3] = ["auto", "always", "never"];
-
 /// The options that the program has.
 fn command<'a>(alloc: Global) -> Result<Command<'a>, AllocError> {
     let json = Arg::new(alloc, "json")
         .long("json")
         .action(ArgAction::SetTrue)
         .help("Write a JSON object for each case, on a line of its own");
-    let colours = Arg::new(alloc, "color")
-        .long("color")
-        .value_name("WHEN")
-        .value_parser(COLOURS.as_slice())
-        .num_args(0..=1)
-        .require_equals(true)
-        .default_value("auto")
-        .default_missing_value("always")
-        .help("Colour listings");
     Command::new(alloc, "grain_list")
         .version(VERSION)
         .about(
@@ -73,16 +51,7 @@ fn command<'a>(alloc: Global) -> Result<Command<'a>, AllocError> {
         )
         .after_help(AFTER_HELP)
         .arg(json)?
-        .arg(colours)
-}
-
-/// When listings are coloured, by the value of `--color`.
-fn colours_of(matches: &ArgMatches<'_>) -> Colours {
-    match matches.get_str("color") {
-        Some("always") => Colours::Always,
-        Some("never") => Colours::Never,
-        _ => Colours::Auto,
-    }
+        .arg(colour_option(alloc, "Colour listings"))
 }
 
 /// What these words ask for, the first of which is the program's name.
@@ -95,6 +64,6 @@ pub fn request_of<'a>(alloc: Global, words: &'a [String]) -> Result<Request, Err
     if matches.get_flag("json") {
         Ok(Request::Json)
     } else {
-        Ok(Request::Text(colours_of(&matches)))
+        Ok(Request::Text(Colours::of(&matches)))
     }
 }

@@ -3,9 +3,9 @@
 use crate::failure::Failure;
 use crate::listing::Listing;
 use crate::object::write_json;
-use crate::paint::Paint;
 use crate::text::write_text;
 use grain_lines::{Summary, is_case, without_return};
+use grain_listing::Paint;
 use json::Writer;
 use std::alloc::{AllocError, Global};
 use std::io::{BufRead, Error, ErrorKind, Write};

@@ -1,10 +1,10 @@
 //! The explanation of a program, and the verdict that it has.
 
-ghost use Rattle.std.specs.Prelude.{◌≡◌, IfOk, IfSome, OnOk, Option, string_bytes};
+ghost use Rattle.std.specs.Prelude.{◌≡◌, IfNone, IfOk, IfSome, OnOk, Option, string_bytes};
 ghost use Rattle.std.specs.Option.{option_map};
 ghost use Rattle.grain_lines.specs.Case.{Asked, as_asked};
 ghost use Rattle.grain_lines.specs.Verdict.{Adds, IsVerdictOn};
-ghost use Rattle.grain_list.specs.Listed.{Explains};
+ghost use Rattle.grain_list.specs.Listed.{Explains, IsNoProgram};
 
 use grain::{Explained, explain};
 use grain_explain::ExplainError;
@@ -12,20 +12,21 @@ use grain_lines::{Case, write_accepted};
 use grain_rules::{NoPools, VerifyError};
 use std::alloc::{AllocError, Global};
 
-/// The explanation of the program that a case asks of; none of other cases, nor where nothing is explained.
+/// The explanation of the program that a case asks of; none of other cases.
 ///
 /// # Errors
 /// [`AllocError`] where memory was refused.
 pub fn explained_of(alloc: Global, case: &Option<Case>) -> Result<Option<Explained>, AllocError>
-    ensures { IfOk result (λ found. IfSome found (Explains (option_map as_asked case.now))) }
+    ensures explained { IfOk result (λ found. IfSome found (Explains (option_map as_asked case.now))) }
+    ensures programs { IfOk result
+        (λ found. IfNone found (IsNoProgram (option_map as_asked case.now))) }
 {
     let Some(Case::Verify { caps, code, chunks }) = case else {
         return Ok(None);
     };
     match explain(alloc, *caps, &[], code, &[], chunks, &NoPools) {
         Ok(explained) => Ok(Some(explained)),
-        Err(ExplainError::OutOfMemory) => Err(AllocError),
-        Err(ExplainError::BadCode) => Ok(None),
+        Err(ExplainError::OutOfMemory | ExplainError::BadCode) => Err(AllocError),
     }
 }
 

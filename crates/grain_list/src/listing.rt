@@ -1,32 +1,17 @@
 //! What is listed of a line.
 
-ghost use Rattle.std.specs.Prelude.{◌≡◌, IfOk, IfSome, Option, is_none, string_bytes};
+ghost use Rattle.std.specs.Prelude.{◌≡◌, IfNone, IfOk, IfSome, Option, is_none, string_bytes};
 ghost use Rattle.std.specs.Option.{option_map};
 ghost use Rattle.grain_lines.specs.Case.{Asked, as_asked, asked};
 ghost use Rattle.grain_lines.specs.Verdict.{Verdict};
-ghost use Rattle.grain_list.specs.Listed.{Explains, IsShown};
+ghost use Rattle.grain_list.specs.Listed.{Explains, IsNoProgram, IsShown};
 
-use crate::code::CodeListing;
 use crate::explained::{explained_of, write_explained};
-use crate::handlers::all_depths;
 use crate::problem::Problem;
 use grain::Explained;
-use grain_code::Chunk;
 use grain_lines::{Case, case_of, write_verdict};
+use grain_listing::{CodeListing, ProgramListing};
 use std::alloc::{AllocError, Global};
-
-/// A program with its explanation.
-#[derive(Drop)]
-pub struct ProgramListing {
-    /// Its code.
-    pub code: CodeListing,
-    /// Its chunks.
-    pub chunks: Vec<Chunk>,
-    /// Its verdict, and where the tests before the chunks pass each chunk explained.
-    pub explained: Explained,
-    /// For each explained chunk, how many bases are in each of its lists.
-    pub depths: Vec<Vec<usize>>,
-}
 
 /// What is shown after the verdict.
 #[derive(Drop)]
@@ -39,8 +24,6 @@ pub enum Body {
     Code(CodeListing),
     /// Code with its chunks.
     Program(ProgramListing),
-    /// Code alone, of a program that nothing explains: `explain` has no such error, as its clause `memory` says.
-    Unexplained(CodeListing),
 }
 
 /// What is listed of a line.
@@ -74,7 +57,8 @@ fn body_of(
     case: Option<Case>,
     explained: Option<Explained>,
 ) -> Result<Body, AllocError>
-    requires { IfSome explained (Explains (option_map as_asked case)) }
+    requires explained { IfSome explained (Explains (option_map as_asked case)) }
+    requires programs { IfNone explained (IsNoProgram (option_map as_asked case)) }
     ensures { IfOk result (IsShown (option_map as_asked case)) }
 {
     match case {
@@ -82,19 +66,10 @@ fn body_of(
         Some(Case::Site { .. }) => Ok(Body::Site),
         Some(Case::Code { code }) => Ok(Body::Code(CodeListing::of(alloc, code)?)),
         Some(Case::Verify { code, chunks, .. }) => {
-            let code = CodeListing::of(alloc, code)?;
-            match explained {
-                Some(explained) => {
-                    let depths = all_depths(alloc, &explained.chunks)?;
-                    Ok(Body::Program(ProgramListing {
-                        code,
-                        chunks,
-                        explained,
-                        depths,
-                    }))
-                }
-                None => Ok(Body::Unexplained(code)),
-            }
+            let Some(explained) = explained else {
+                unreachable!();
+            };
+            Ok(Body::Program(ProgramListing::new(alloc, code, chunks, explained)?))
         }
     }
 }

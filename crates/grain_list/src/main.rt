@@ -5,53 +5,30 @@
 #![tactic(auto)]
 
 mod arguments;
-mod code;
 mod driver;
 mod explained;
 mod failure;
-mod handlers;
 mod listing;
 mod object;
-mod paint;
 mod problem;
-mod sentence;
 mod text;
 
-use crate::arguments::{Colours, Request, request_of};
+use crate::arguments::{Request, request_of};
 use crate::driver::{Form, run};
 use crate::failure::{Failure, WRONG_ARGUMENTS};
-use crate::paint::Paint;
 use clap::error::ErrorKind;
 use grain_lines::status;
 use std::alloc::AllocError;
 use std::env;
-use std::env::VarError;
-use std::io::{BufReader, BufWriter, IsTerminal};
+use std::io::{BufReader, BufWriter};
 use std::process::ExitCode;
-
-/// Whether the environment asks for no colours: by a `NO_COLOR` that isn't empty, or by a terminal that has none.
-fn is_plain(rt: &HostRuntime) -> bool {
-    let no_color = match env::var(rt, "NO_COLOR") {
-        Ok(value) => !value.is_empty(),
-        Err(VarError::NotPresent) => false,
-        Err(_) => true,
-    };
-    no_color || matches!(env::var(rt, "TERM"), Ok(term) if term.as_str() == "dumb")
-}
 
 /// How listings are written where they go.
 fn form_of(rt: &HostRuntime, request: Request) -> Form {
-    let is_coloured = match request {
-        Request::Json => return Form::Json,
-        Request::Text(Colours::Always) => true,
-        Request::Text(Colours::Never) => false,
-        Request::Text(Colours::Auto) => rt.stdout().is_terminal() && !is_plain(rt),
-    };
-    Form::Text(if is_coloured {
-        Paint::Coloured
-    } else {
-        Paint::Plain
-    })
+    match request {
+        Request::Json => Form::Json,
+        Request::Text(colours) => Form::Text(colours.paint(rt)),
+    }
 }
 
 /// The program's name and its arguments.

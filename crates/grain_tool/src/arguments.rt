@@ -1,7 +1,8 @@
 //! The command line.
 
 use crate::{
-    addresses, check_script, compile_script, dump, list, parse, print, run, smith, strip, validate,
+    addresses, check_script, compile_script, dump, flow, list, parse, print, run, smith, strip,
+    validate,
 };
 use clap::{Arg, ArgAction, Command};
 use std::alloc::{AllocError, Global};
@@ -65,6 +66,7 @@ pub fn command<'a>(alloc: Global) -> Result<Command<'a>, AllocError> {
         .subcommand(print::command(alloc)?)?
         .subcommand(parse::command(alloc)?)?
         .subcommand(list::command(alloc)?)?
+        .subcommand(flow::command(alloc)?)?
         .subcommand(dump::command(alloc)?)?
         .subcommand(smith::command(alloc)?)?
         .subcommand(strip::strip_command(alloc)?)?

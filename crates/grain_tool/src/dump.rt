@@ -2,9 +2,7 @@
 
 use crate::arguments::{file, flag, output};
 use crate::failure::Failure;
-use crate::files::{
-    is_sidecar, program_of, read_bytes, shown, sidecar_of, write_lines, write_text,
-};
+use crate::files::{is_sidecar, program_of, read_bytes, shown, sidecar_of, write_text};
 use clap::{ArgMatches, Command};
 use grain_dump::{Dump, program_dump, sidecar_dump};
 use grain_file::WriteError;
@@ -49,9 +47,9 @@ pub fn run(rt: &HostRuntime, matches: &ArgMatches<'_>) -> Result<u8, Failure> {
     let dump = dump_of(alloc, path, &bytes, matches.get_flag("hex"))?;
     let to = matches.get_str("output");
     if matches.get_flag("json") {
-        write_lines(rt, to, &dump.json(alloc, path, &bytes)?)?;
+        write_text(rt, to, &dump.json(alloc, path, &bytes)?)?;
     } else {
-        write_text(rt, to, &dump.text(alloc, &bytes)?)?;
+        write_text(rt, to, dump.text(alloc, &bytes)?.as_bytes())?;
     }
     Ok(0)
 }

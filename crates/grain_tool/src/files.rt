@@ -119,17 +119,12 @@ pub fn write_file(rt: &HostRuntime, path: &str, bytes: &[u8]) -> Result<(), Fail
     }
 }
 
-/// Writes lines to a file, or to standard output where none is given.
-pub fn write_lines(rt: &HostRuntime, path: Option<&str>, lines: &[u8]) -> Result<(), Failure> {
+/// Writes the bytes of a text to a file, or to standard output where none is given.
+pub fn write_text(rt: &HostRuntime, path: Option<&str>, text: &[u8]) -> Result<(), Failure> {
     match path {
-        Some(path) if path != STANDARD => write_file(rt, path, lines),
-        _ => write_standard(rt, lines),
+        Some(path) if path != STANDARD => write_file(rt, path, text),
+        _ => write_standard(rt, text),
     }
-}
-
-/// Writes text to a file, or to standard output where none is given.
-pub fn write_text(rt: &HostRuntime, path: Option<&str>, text: &str) -> Result<(), Failure> {
-    write_lines(rt, path, text.as_bytes())
 }
 
 /// Writes a binary file, or to standard output where none is given and that is no terminal.

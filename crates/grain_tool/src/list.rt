@@ -1,88 +1,120 @@
-//! `grain list`: the instructions of all chunks, with names and values in place of indices.
+//! `grain list`: the instructions of all chunks with the states there, and why a program is refused.
 
-use crate::arguments::{file, output};
+use crate::arguments::{file, flag, output};
 use crate::failure::Failure;
-use crate::files::{read_program, write_text};
-use crate::places::name_of;
+use crate::files::{read_program, shown, write_text};
 use clap::{ArgMatches, Command};
-use grain::{Chunk, DisassembleError, Op, Program};
+use grain::{Program, VerifyError};
+use grain_listing::{
+    Colours, Kind, Listed, Naming, ProgramListing, Style, colour_option, write_listed,
+    write_program,
+};
+use json::Writer;
 use std::alloc::{AllocError, Global};
 
 /// The arguments of `grain list`.
 pub fn command<'a>(alloc: Global) -> Result<Command<'a>, AllocError> {
     Command::new(alloc, "list")
-        .about("Lists the instructions of a program, with names and values in place of indices")
+        .about("Lists the instructions of a program, the state at each, and why it is refused")
         .after_help("Example:\n  grain list program.grain")
         .arg(file(alloc))?
-        .arg(output(alloc))
+        .arg(output(alloc))?
+        .arg(flag(alloc, "json", "Write a JSON object on a line of its own"))?
+        .arg(colour_option(alloc, "Colour the listing"))
 }
 
-/// Appends the text of an operation, or its debug text where an index finds nothing.
-fn write_op(alloc: Global, out: &mut String, program: &Program, op: &Op) -> Result<(), AllocError> {
-    match op.disassemble(alloc, program) {
-        Ok(text) => out.push_str(&text),
-        Err(DisassembleError::OutOfMemory) => Err(AllocError),
-        Err(_) => write!(out, "{op:?}  (an index finds nothing)"),
-    }
-}
-
-/// Appends a line for the instruction at an address.
-pub fn write_line(
-    alloc: Global,
+/// Appends what a file is called, and whether its program is accepted.
+fn write_heading(
+    style: Style<'_>,
+    path: &str,
+    program: &ProgramListing,
     out: &mut String,
-    program: &Program,
-    at: usize,
-    op: &Op,
 ) -> Result<(), AllocError> {
-    write!(out, "{at:>9}  ")?;
-    write_op(alloc, out, program, op)?;
-    let position = program.position(at);
-    if !position.is_none() {
-        write!(out, "  @{position}")?;
+    style.paint.write(Kind::Heading, path, out)?;
+    out.push_str(": ")?;
+    match &program.explained.verdict {
+        Ok(_) => style.paint.write(Kind::Good, "accepted", out)?,
+        Err(refusal) => {
+            style.paint.begin(Kind::Flaw, out)?;
+            write!(out, "refused {}", refusal.error)?;
+            style.paint.end(Kind::Flaw, out)?;
+        }
     }
     out.push('\n')
 }
 
-/// Appends a chunk: what it is called, and its instructions.
-fn write_chunk(
+/// The listing of a program as text.
+fn text_of(
     alloc: Global,
-    out: &mut String,
-    program: &Program,
-    place: usize,
-    chunk: Chunk,
-) -> Result<(), AllocError> {
-    let name = name_of(program, place);
-    let entry = chunk.entry();
-    let end = chunk.end();
-    let declared = chunk.max_stack();
-    write!(
-        out,
-        "{name} from {entry} to {end}, which declares {declared}:\n"
-    )?;
-    for (at, op) in chunk.ops(program.code()) {
-        write_line(alloc, out, program, at, &op)?;
-    }
-    Ok(())
+    style: Style<'_>,
+    path: &str,
+    program: &ProgramListing,
+) -> Result<String, AllocError> {
+    let mut out = String::new(alloc);
+    write_heading(style, path, program, &mut out)?;
+    write_program(style, program, &mut out)?;
+    Ok(out)
 }
 
-/// The listing of a program.
-fn listing_of(alloc: Global, program: &Program) -> Result<String, AllocError> {
-    let mut out = String::new(alloc);
-    write_chunk(alloc, &mut out, program, 0, program.main())?;
-    let mut place = 0usize;
-    for function in program.functions() {
-        place = place.saturating_add(1);
-        out.push('\n')?;
-        write_chunk(alloc, &mut out, program, place, function.chunk)?;
+/// Appends the member that says why a program is refused, null where it is accepted.
+fn write_error(
+    alloc: Global,
+    program: &ProgramListing,
+    json: &mut Writer,
+) -> Result<(), AllocError> {
+    json.key("error")?;
+    match &program.explained.verdict {
+        Ok(_) => json.null(),
+        Err(refusal) => {
+            let error = format!(in alloc; "{}", refusal.error)?;
+            json.string(error.as_str())
+        }
     }
-    Ok(out)
+}
+
+/// The listing of a program as a line of JSON.
+fn object_of(
+    alloc: Global,
+    path: &str,
+    naming: Naming<'_>,
+    program: &ProgramListing,
+) -> Result<Vec<u8>, AllocError> {
+    let mut json = Writer::new(Vec::new(alloc));
+    json.begin_object()?;
+    json.key("file")?;
+    json.string(path)?;
+    json.key("accepted")?;
+    json.boolean(program.explained.verdict.is_ok())?;
+    write_error(alloc, program, &mut json)?;
+    write_listed(alloc, naming, Listed::Program(program), &mut json)?;
+    json.end_object()?;
+    let mut line = json.into_inner();
+    line.push(b'\n')?;
+    Ok(line)
+}
+
+/// The explanation of a program. A verdict that memory ran out is none.
+pub fn explained(alloc: Global, program: &Program) -> Result<ProgramListing, AllocError> {
+    let listing = ProgramListing::of(alloc, program)?;
+    match &listing.explained.verdict {
+        Err(refusal) if refusal.error == VerifyError::OutOfMemory => Err(AllocError),
+        _ => Ok(listing),
+    }
 }
 
 /// Lists a program.
 pub fn run(rt: &HostRuntime, matches: &ArgMatches<'_>) -> Result<u8, Failure> {
+    let alloc = rt.alloc();
     let path = matches.get_str("FILE").unwrap_or("-");
     let program = read_program(rt, path)?;
-    let text = listing_of(rt.alloc(), &program)?;
+    let listing = explained(alloc, &program)?;
+    let naming = Naming::Program(&program);
+    let text = if matches.get_flag("json") {
+        object_of(alloc, path, naming, &listing)?
+    } else {
+        let paint = Colours::of(matches).paint(rt);
+        text_of(alloc, Style { paint, naming }, shown(path), &listing)?.into_bytes()
+    };
     write_text(rt, matches.get_str("output"), &text)?;
     Ok(0)
 }

@@ -8,8 +8,8 @@ mod compile_script;
 mod dump;
 mod failure;
 mod files;
+mod flow;
 mod list;
-mod paint;
 mod parse;
 mod places;
 mod print;
@@ -64,6 +64,7 @@ fn dispatch(rt: &HostRuntime, name: &str, matches: &ArgMatches<'_>) -> Result<u8
         "run" => run::run(rt, matches),
         "smith" => smith::run(rt, matches),
         "list" => list::run(rt, matches),
+        "flow" => flow::run(rt, matches),
         "dump" => dump::run(rt, matches),
         "strip" => strip::strip(rt, matches),
         "attach" => strip::attach(rt, matches),

@@ -1,24 +1,11 @@
 //! Where in a program an address is.
 
 use grain::{Chunk, Program};
+use grain_listing::name_of;
 use std::alloc::{AllocError, Global};
-
-/// What the top level is called.
-pub const MAIN: &str = "main";
 
 fn holds(chunk: Chunk, at: usize) -> bool {
     chunk.entry() as usize <= at && at < chunk.end() as usize
-}
-
-/// What the chunk at a place is called: the top level at 0, then the functions.
-pub fn name_of(program: &Program, place: usize) -> &str {
-    let Some(index) = place.checked_sub(1) else {
-        return MAIN;
-    };
-    match program.functions().get(index) {
-        Some(function) => program.names().get(function.name).unwrap_or("?"),
-        None => "?",
-    }
 }
 
 /// The place of the chunk that an address is in.

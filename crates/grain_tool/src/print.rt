@@ -20,6 +20,6 @@ pub fn run(rt: &HostRuntime, matches: &ArgMatches<'_>) -> Result<u8, Failure> {
     let path = matches.get_str("FILE").unwrap_or("-");
     let program = read_program(rt, path)?;
     let text = grain_print::print(rt.alloc(), &program)?;
-    write_text(rt, matches.get_str("output"), &text)?;
+    write_text(rt, matches.get_str("output"), text.as_bytes())?;
     Ok(0)
 }

@@ -24,7 +24,11 @@ pub fn command<'a>(alloc: Global) -> Result<Command<'a>, AllocError> {
         .value_parser(value_parser!(usize))
         .default_value("60")
         .help("About how many instructions it has");
-    let near = flag(alloc, "near", "Change one thing, so that most programs are refused");
+    let near = flag(
+        alloc,
+        "near",
+        "Change one thing, so that most programs are refused",
+    );
     Command::new(alloc, "smith")
         .about("Writes the file of a random program that is accepted")
         .after_help("Example:\n  grain smith --seed 1 | grain validate -v -")

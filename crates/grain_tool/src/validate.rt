@@ -3,13 +3,12 @@
 use crate::arguments::flag;
 use crate::failure::Failure;
 use crate::files::{read_bytes, shown, unread, write_standard};
-use crate::list::write_line;
-use crate::paint::Paint;
-use crate::places::{name_of, write_place};
+use crate::list::explained;
+use crate::places::write_place;
 use clap::{Arg, ArgAction, ArgMatches, Command};
-use grain::{Caps, Explained, ExplainedChunk, Flags, Instruction, Program, VerifyError, explain};
-use grain_code::Chunk;
+use grain::{Caps, Flags, Program, VerifyError};
 use grain_file::{Limits, LoadError, Loaded, load};
+use grain_listing::{Colours, Kind, Naming, Paint, Style, colour_option, name_of, write_chunk};
 use json::Writer;
 use std::alloc::{AllocError, Global};
 
@@ -48,14 +47,14 @@ pub fn command<'a>(alloc: Global) -> Result<Command<'a>, AllocError> {
         .arg(flag(
             alloc,
             "explain",
-            "List the path to the flaw of a refused program",
+            "List the refused chunk of a program, with the path to its flaw",
         ))?
         .arg(flag(
             alloc,
             "json",
             "Write a JSON object for each file, on a line of its own",
         ))?
-        .arg(crate::paint::colour(alloc))
+        .arg(colour_option(alloc, "Colour what is printed"))
 }
 
 /// The address that a refusal names.
@@ -79,71 +78,23 @@ fn address_of(error: &VerifyError) -> Option<usize> {
     }
 }
 
-/// The chunks of a program, the main one first.
-fn chunks_of(alloc: Global, program: &Program) -> Result<Vec<Chunk>, AllocError> {
-    let mut chunks = Vec::with_capacity(alloc, program.functions().len().saturating_add(1))?;
-    chunks.push(program.main())?;
-    for function in program.functions() {
-        chunks.push(function.chunk)?;
-    }
-    Ok(chunks)
-}
-
-/// Appends the path to a flaw, each state on a line of its own.
-fn write_path(
-    alloc: Global,
-    out: &mut String,
-    program: &Program,
-    chunk: &ExplainedChunk,
-) -> Result<(), AllocError> {
-    let Some(refusal) = &chunk.refusal else {
-        return Ok(());
-    };
-    out.push_str("A path to the flaw:\n")?;
-    for row in refusal.way.iter().rev() {
-        let at = row.at as usize;
-        let Some(instruction) = Instruction::at(program.code(), at) else {
-            continue;
-        };
-        let operands = row.operands;
-        write!(out, "{operands:>9} operands")?;
-        if let Some(op) = instruction.op() {
-            write_line(alloc, out, program, at, &op)?;
-        }
-    }
-    Ok(())
-}
-
-/// What is explained of a refused program: the place of the refused chunk, and the path to its flaw.
+/// What is explained of a refused program: the place of the refused chunk, and its listing.
 fn explanation_of(
     alloc: Global,
+    paint: Paint,
     program: &Program,
-    chunks: &[Chunk],
 ) -> Result<(Option<usize>, String), AllocError> {
     let mut out = String::new(alloc);
-    let pools = program.pools();
-    let explained = explain(
-        alloc,
-        program.caps(),
-        program.consts(),
-        program.code(),
-        program.functions(),
-        chunks,
-        &pools,
-    );
-    let Ok(
-        Explained {
-            verdict: Err(refusal),
-            chunks,
-        },
-    ) = explained
-    else {
-        return Ok((None, out));
+    let listing = explained(alloc, program)?;
+    let place = match &listing.explained.verdict {
+        Ok(_) => None,
+        Err(refusal) => refusal.place,
     };
-    if let Some(chunk) = refusal.place.and_then(|place| chunks.get(place)) {
-        write_path(alloc, &mut out, program, chunk)?;
+    if let Some(place) = place {
+        let naming = Naming::Program(program);
+        write_chunk(Style { paint, naming }, &listing, place, &mut out)?;
     }
-    Ok((refusal.place, out))
+    Ok((place, out))
 }
 
 /// Why a program is refused: the sentence, the function and the place.
@@ -176,10 +127,9 @@ fn refuse(
 ) -> Result<Failure, Failure> {
     let alloc = rt.alloc();
     let program = crate::files::program_of(alloc, path, bytes)?;
-    let chunks = chunks_of(alloc, &program)?;
-    let (place, path_text) = explanation_of(alloc, &program, &chunks)?;
+    let (place, listing) = explanation_of(alloc, report.paint, &program)?;
     if report.explain && !report.json {
-        write_standard(rt, path_text.as_bytes())?;
+        write_standard(rt, listing.as_bytes())?;
     }
     let what = sentence(alloc, &program, place, error)?;
     Ok(Failure::of(alloc, shown(path), what.as_str()))
@@ -210,7 +160,7 @@ fn write_accepted(
 ) -> Result<(), AllocError> {
     out.push_str(path)?;
     out.push_str(": ")?;
-    report.paint.good(out, "accepted")?;
+    report.paint.write(Kind::Good, "accepted", out)?;
     out.push('\n')?;
     if !report.numbers {
         return Ok(());
@@ -307,7 +257,7 @@ fn host_of(alloc: Global, names: Option<&str>) -> Result<Caps, Failure> {
 pub fn run(rt: &HostRuntime, matches: &ArgMatches<'_>) -> Result<u8, Failure> {
     let report = Report {
         host: host_of(rt.alloc(), matches.get_str("caps"))?,
-        paint: Paint::of(rt, matches.get_str("color")),
+        paint: Colours::of(matches).paint(rt),
         numbers: matches.get_flag("numbers"),
         explain: matches.get_flag("explain"),
         json: matches.get_flag("json"),

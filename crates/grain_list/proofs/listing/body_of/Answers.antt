@@ -1,7 +1,7 @@
 use Rattle.std.proofs.Common.{IfSome, Some, refl, subst}
 use Rattle.std.specs.Option.{option_map}
 use Rattle.grain_lines.specs.Case.{as_asked}
-use Rattle.grain_list.specs.Listed.{Explains, of_code, of_none, of_program, of_site, of_unexplained}
+use Rattle.grain_list.specs.Listed.{Explains, of_code, of_none, of_program, of_site}
 use Rattle.grain_list.proofs.listing.body_of.Goals as goal
 
 pub returns-in-None : goal.returns-in-None
@@ -13,12 +13,11 @@ returns-in-Some-Site c = rw (c.in-Some-Site.is, c.in-Some-Site.field-0-is) (of_s
 pub returns-in-Some-Code : goal.returns-in-Some-Code
 returns-in-Some-Code c = rw (c.in-Some-Code.is, c.in-Some-Code.field-0-is) (of_code c.in_ok-of-in-Some-Code.ensures)
 
-pub returns-in-Some : goal.returns-in-Some
-returns-in-Some c =
-    let found = subst (λ o. IfSome o (Explains (option_map as_asked c.args.case))) c.in-Some.is c.requires in
+pub returns : goal.returns
+returns c =
+    let found = subst (λ o. IfSome o (Explains (option_map as_asked c.args.case))) c.in-Some.is c.requires.explained in
     let of_case = subst (λ k. Explains (option_map as_asked k) c.in-Some.explained) c.in-Some-Verify.is found in
     let explains = subst (λ k. Explains (Some (as_asked k)) c.in-Some.explained) c.in-Some-Verify.field-0-is of_case in
-    rw (c.in-Some-Verify.is, c.in-Some-Verify.field-0-is) (of_program c.in_ok-code-in-Some-Verify.ensures refl explains)
-
-pub returns : goal.returns
-returns c = rw (c.in-Some-Verify.is, c.in-Some-Verify.field-0-is) (of_unexplained c.in_ok-code-in-Some-Verify.ensures)
+    let new = c.in_ok-new-in-Some-Verify.ensures in
+    rw (c.in-Some-Verify.is, c.in-Some-Verify.field-0-is)
+    (of_program new.code (rw new.chunks refl) (rw new.explained explains))

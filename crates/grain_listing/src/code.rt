@@ -5,7 +5,7 @@ ghost use Rattle.grain_code.specs.Disassembly.{IsDisassembly};
 ghost use Rattle.grain_rules.specs.EffectView.{flow_in};
 ghost use Rattle.grain_rules.specs.Rows.{flow_of};
 ghost use Rattle.grain_code.specs.Split.{IsCount};
-ghost use Rattle.grain_list.specs.ListedCode.{IsListedCode};
+ghost use Rattle.grain_listing.specs.ListedCode.{IsListedCode};
 
 use grain_code::{Instruction, Op, count_instructions, disassemble};
 use grain_rules::{Effect, NoPools};

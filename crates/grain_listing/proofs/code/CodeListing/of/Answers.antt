@@ -1,6 +1,6 @@
 use Rattle.std.proofs.Common.{refl, subst}
 use Rattle.grain_code.specs.Disassembly.{IsDisassembly}
-use Rattle.grain_list.proofs.code.CodeListing.of.Goals as goal
+use Rattle.grain_listing.proofs.code.CodeListing.of.Goals as goal
 
 pub returns : goal.returns
 returns c = record {

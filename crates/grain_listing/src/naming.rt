@@ -1,0 +1,95 @@
+//! What instructions and chunks are called.
+
+use grain::{DisassembleError, Program};
+use grain_base::Position;
+use grain_code::Op;
+use std::alloc::AllocError;
+
+/// What instructions and chunks are called.
+#[derive(Clone, Copy)]
+pub enum Naming<'a> {
+    /// By their indices, where nothing is known of what these lead to.
+    Indices,
+    /// By the names and values of this program.
+    Program(&'a Program),
+}
+
+/// What the top level is called.
+pub const MAIN: &str = "main";
+
+/// What a chunk of a program is called whose name isn't known.
+const NAMELESS: &str = "?";
+
+/// What the chunk at a place of a program is called: the top level at 0, then the functions. It takes constant time.
+pub fn name_of(program: &Program, place: usize) -> &str {
+    let Some(index) = place.checked_sub(1) else {
+        return MAIN;
+    };
+    match program.functions().get(index) {
+        Some(function) => program.names().get(function.name).unwrap_or(NAMELESS),
+        None => NAMELESS,
+    }
+}
+
+/// Whether a character would change how the text around it is shown: a control character, or a mark of direction.
+fn is_hidden(c: char) -> bool {
+    c.is_control()
+        || matches!(c, '\u{200e}'..='\u{200f}' | '\u{2028}'..='\u{202e}' | '\u{2066}'..='\u{2069}')
+}
+
+/// Appends what a program brings, with an escape for each character that would change how the text around it is shown.
+///
+/// # Errors
+/// [`AllocError`] where memory was refused.
+pub fn push_shown(piece: &str, text: &mut String) -> Result<(), AllocError> {
+    for c in piece.chars() {
+        if is_hidden(c) {
+            let code = c as u32;
+            write!(text, "\\u{{{code:x}}}")?;
+        } else {
+            text.push(c)?;
+        }
+    }
+    Ok(())
+}
+
+/// Appends the text of an operation, or its debug text where an index finds nothing.
+fn write_named(program: &Program, op: &Op, text: &mut String) -> Result<(), AllocError> {
+    match op.disassemble(*text.allocator(), program) {
+        Ok(named) => push_shown(&named, text),
+        Err(DisassembleError::OutOfMemory) => Err(AllocError),
+        Err(DisassembleError::Missing { .. }) => write!(text, "{op:?}  (an index finds nothing)"),
+    }
+}
+
+impl<'a> Naming<'a> {
+    /// Appends the text of an operation. It takes time by the length of that.
+    ///
+    /// # Errors
+    /// [`AllocError`] where memory was refused.
+    pub fn write_op(self, op: &Op, text: &mut String) -> Result<(), AllocError> {
+        match self {
+            Naming::Indices => write!(text, "{op:?}"),
+            Naming::Program(program) => write_named(program, op, text),
+        }
+    }
+
+    /// What the chunk at a place is called, where chunks have names.
+    pub fn chunk_name(self, place: usize) -> Option<&'a str> {
+        match self {
+            Naming::Indices => None,
+            Naming::Program(program) => Some(name_of(program, place)),
+        }
+    }
+
+    /// The position of the instruction at an address, where it is known.
+    pub fn position(self, at: usize) -> Option<Position> {
+        match self {
+            Naming::Indices => None,
+            Naming::Program(program) => {
+                let position = program.position(at);
+                (!position.is_none()).then_some(position)
+            }
+        }
+    }
+}
