@@ -3,9 +3,10 @@
 use crate::arguments::{file, flag};
 use crate::failure::Failure;
 use crate::files::{is_sidecar, program_of, read_bytes, sidecar_of, write_standard};
-use crate::places::{chunk_at, name_of};
+use crate::places::chunk_at;
 use clap::{Arg, ArgAction, ArgMatches, Command};
 use grain::{Program, Sidecar, pos};
+use grain_listing::name_of;
 use json::Writer;
 use std::alloc::{AllocError, Global};
 
