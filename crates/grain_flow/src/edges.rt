@@ -40,7 +40,7 @@ struct Step {
 
 /// What leads on from an instruction.
 #[derive(Drop)]
-struct Leaving {
+struct Exits {
     falls: bool,
     kind: EdgeKind,
     targets: Vec<u32>,
@@ -68,21 +68,25 @@ fn steps_of(alloc: Global, chunk: &ExplainedChunk) -> Result<Vec<Step>, AllocErr
     Ok(steps)
 }
 
-/// Where a switch may lead, each address once and in order.
-fn switch_targets(alloc: Global, program: &Program, switch: u32) -> Result<Vec<u32>, AllocError> {
+/// The targets of a switch, in its order.
+fn list_of<T: Targets>(alloc: Global, mut targets: T) -> Result<Vec<u32>, AllocError> {
     let mut found = Vec::new(alloc);
-    let pools = program.pools();
-    let mut targets = pools.targets(switch);
-    'targets: while let Some(target) = targets.next() {
+    while let Some(target) = targets.next() {
         found.push(target)?;
     }
+    Ok(found)
+}
+
+/// Where a switch may lead, each address once and in order.
+fn switch_targets(alloc: Global, program: &Program, switch: u32) -> Result<Vec<u32>, AllocError> {
+    let mut found = list_of(alloc, program.pools().targets(switch))?;
     found.sort()?;
     found.dedup();
     Ok(found)
 }
 
 /// What leads on from an instruction.
-fn leaving(alloc: Global, program: &Program, op: &Op) -> Result<Leaving, AllocError> {
+fn exits_of(alloc: Global, program: &Program, op: &Op) -> Result<Exits, AllocError> {
     let effect = Effect::of(op, &program.pools());
     let targets = match effect.flow {
         Flow::Switches => switch_targets(alloc, program, effect.target)?,
@@ -92,7 +96,7 @@ fn leaving(alloc: Global, program: &Program, op: &Op) -> Result<Leaving, AllocEr
         Flow::PushesHandler => EdgeKind::Catches,
         _ => EdgeKind::Jumps,
     };
-    Ok(Leaving {
+    Ok(Exits {
         falls: effect.falls(),
         kind,
         targets,
@@ -139,16 +143,16 @@ impl Search<'_> {
     }
 
     /// Adds the edges from a place.
-    fn add_all(&mut self, from: usize, leaving: &Leaving) -> Result<(), AllocError> {
-        if leaving.falls {
+    fn add_all(&mut self, from: usize, exits: &Exits) -> Result<(), AllocError> {
+        if exits.falls {
             self.add(from, from.saturating_add(1), EdgeKind::Falls)?;
         }
-        for target in &leaving.targets {
+        for target in &exits.targets {
             let place = self
                 .items
                 .binary_search_by(|item| item.0.cmp(&(*target as usize)));
             if let Ok(to) = place {
-                self.add(from, to, leaving.kind)?;
+                self.add(from, to, exits.kind)?;
             }
         }
         Ok(())
@@ -173,8 +177,8 @@ pub fn edges_of(
     };
     for (from, (at, op)) in items.iter().enumerate() {
         if is_left(chunk, *at) {
-            let leaving = leaving(alloc, program, op)?;
-            search.add_all(from, &leaving)?;
+            let exits = exits_of(alloc, program, op)?;
+            search.add_all(from, &exits)?;
         }
     }
     Ok(search.edges)

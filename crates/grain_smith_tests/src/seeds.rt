@@ -20,14 +20,20 @@ fn is_made(alloc: Global, seed: u64, options: &Options) -> bool {
 #[test]
 fn each_seed_gives_an_accepted_program(rt: HostRuntime) {
     for seed in 0..SEEDS {
-        assert!(rt; is_made(rt.alloc(), seed, &Options::default()), "seed {seed} gives none");
+        assert!(rt;
+            is_made(rt.alloc(), seed, &Options::default()),
+            "seed {seed} gives none"
+        );
     }
 }
 
 #[test]
 fn sizes_are_kept(rt: HostRuntime) {
     for size in [0, 1, 2, 1000] {
-        assert!(rt; is_made(rt.alloc(), 7, &Options { size }), "size {size} gives none");
+        assert!(rt;
+            is_made(rt.alloc(), 7, &Options { size }),
+            "size {size} gives none"
+        );
     }
 }
 
@@ -47,5 +53,8 @@ fn most_changed_programs_are_refused(rt: HostRuntime) {
             refused = refused.saturating_add(1);
         }
     }
-    assert!(rt; refused > SEEDS / 3 * 2 && refused < SEEDS, "{refused} are refused");
+    assert!(rt;
+        refused > SEEDS / 3 * 2 && refused < SEEDS,
+        "{refused} are refused"
+    );
 }
