@@ -20,12 +20,28 @@ pub fn chunk_at(program: &Program, at: usize) -> Option<usize> {
     index.checked_add(1)
 }
 
-/// An address as text: the function and the position, where these are known.
-pub fn write_place(alloc: Global, program: &Program, at: usize) -> Result<String, AllocError> {
-    let name = match chunk_at(program, at) {
+/// The name of the function that an address is in.
+fn function_at(program: &Program, at: usize) -> &str {
+    match chunk_at(program, at) {
         Some(place) => name_of(program, place),
         None => "?",
-    };
+    }
+}
+
+/// An address as text: the function, the position where it is known, and the address itself.
+pub fn write_address(alloc: Global, program: &Program, at: usize) -> Result<String, AllocError> {
+    let name = function_at(program, at);
+    let position = program.position(at);
+    if position.is_none() {
+        format!(in alloc; "{name}, address {at}")
+    } else {
+        format!(in alloc; "{name} at {position}, address {at}")
+    }
+}
+
+/// An address as text: the function and the position, where these are known.
+pub fn write_place(alloc: Global, program: &Program, at: usize) -> Result<String, AllocError> {
+    let name = function_at(program, at);
     let position = program.position(at);
     if position.is_none() {
         format!(in alloc; "{name} at address {at}")

@@ -4,7 +4,7 @@ use crate::arguments::flag;
 use crate::failure::Failure;
 use crate::files::{read_bytes, shown, unread, write_standard};
 use crate::list::explained;
-use crate::places::write_place;
+use crate::places::write_address;
 use clap::{Arg, ArgAction, ArgMatches, Command};
 use grain::{Caps, Flags, Program, VerifyError};
 use grain_file::{Limits, LoadError, Loaded, load};
@@ -106,8 +106,8 @@ fn sentence(
 ) -> Result<String, AllocError> {
     match (address_of(error), place) {
         (Some(at), _) => {
-            let there = write_place(alloc, program, at)?;
-            format!(in alloc; "{error} ({there}, address {at})")
+            let there = write_address(alloc, program, at)?;
+            format!(in alloc; "{error} ({there})")
         }
         (None, Some(place)) => {
             let name = name_of(program, place);
