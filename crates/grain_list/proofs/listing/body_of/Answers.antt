@@ -20,4 +20,4 @@ returns c =
     let explains = subst (λ k. Explains (Some (as_asked k)) c.in-Some.explained) c.in-Some-Verify.field-0-is of_case in
     let new = c.in_ok-new-in-Some-Verify.ensures in
     rw (c.in-Some-Verify.is, c.in-Some-Verify.field-0-is)
-    (of_program {chunks = c.in-Some-Verify.chunks.items} {p = c.in_ok-new-in-Some-Verify.field-0} new.code (rw new.chunks refl) (rw new.explained explains))
+    (of_program {caps = c.in-Some-Verify.field-0-0.0} {chunks = c.in-Some-Verify.chunks.items} {p = c.in_ok-new-in-Some-Verify.field-0} new.code (rw new.chunks refl) (rw new.explained explains))
