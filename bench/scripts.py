@@ -17,6 +17,8 @@ where an error is expected, otherwise with status 0.
 Each case that compiles is also compiled to a file (`compile`), printed as assembly (`print`) and parsed again (`parse`): the
 bytes must be the same. A program without one of these subcommands is only run, and a note says so.
 
+What docs/LANGUAGE.md shows of the language in code has to be in a case.
+
 It ends with status 1 where anything differs, otherwise it prints `scripts: N well`.
 """
 import argparse
@@ -28,6 +30,12 @@ import sys
 import tempfile
 
 HERE = pathlib.Path(__file__).resolve().parent / "scripts"
+PAGE = HERE.parent.parent / "docs" / "LANGUAGE.md"
+# What the page writes in code and isn't part of a script that runs: patterns, and forms that are refused.
+PATTERNS = {
+    "${..}", r"""\n \r \t \\ \" \' \xHH \uHHHH \UHHHHHHHH""", "++ -- === !== :=", "module::name", "f!(..)", "obj.call(f, ..)",
+    "m.f(..)", "m.f.call(..)", "x[a..b]", "x.f(y)", "World", "a.b.f()",
+}
 MARKS = ("//=", "//!", "//@")
 SECONDS = 60
 
@@ -94,6 +102,18 @@ def names_place(message, place):
     else:
         form = rf":{line}:\d|(?<![\d:]){line}:\d|\bline {line}(?!\d)"
     return re.search(form, message) is not None
+
+
+def unshown():
+    """What docs/LANGUAGE.md shows of the language, and no case has."""
+    page = PAGE.read_text()
+    shown = page[page.index("## Lexemes"):page.index("## Limits")]
+    text = "\n".join(path.read_text() for path in HERE.glob("*.rhai"))
+    for span in dict.fromkeys(re.findall(r"(?<!`)``? ?(.+?) ?``?(?!`)", shown)):
+        call = re.fullmatch(r"(\w+)\(.*\)", span)
+        has_call = call and f"{call[1]}(" in text
+        if not (span in text or has_call or span in PATTERNS or all(part in text for part in span.split())):
+            yield span
 
 
 class Checker:
@@ -185,6 +205,11 @@ def main():
             failed += bool(found)
             for line in found:
                 print(f"{case.title}: {line}")
+    lacking = [] if chosen.topics else list(unshown())
+    for span in lacking:
+        print(f"docs/LANGUAGE.md shows `{span}`, and no case has it")
+    if lacking:
+        return 1
     if failed:
         print(f"scripts: {failed} of {len(cases)} differ")
         return 1
