@@ -205,10 +205,10 @@ def main():
             failed += bool(found)
             for line in found:
                 print(f"{case.title}: {line}")
-    lacking = [] if chosen.topics else list(unshown())
-    for span in lacking:
+    spans = [] if chosen.topics else list(unshown())
+    for span in spans:
         print(f"docs/LANGUAGE.md shows `{span}`, and no case has it")
-    if lacking:
+    if spans:
         return 1
     if failed:
         print(f"scripts: {failed} of {len(cases)} differ")
