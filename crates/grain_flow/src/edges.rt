@@ -34,8 +34,8 @@ pub struct Edge {
 /// A step of a path, by the addresses.
 #[derive(Clone, Copy, PartialEq, Eq, PartialOrd, Ord)]
 struct Step {
-    from: u32,
-    to: u32,
+    from: usize,
+    to: usize,
 }
 
 /// What leads on from an instruction.
@@ -50,8 +50,8 @@ struct Exits {
 fn push_steps(path: &[Row], steps: &mut Vec<Step>) -> Result<(), AllocError> {
     for (to, from) in path.iter().zip(path.iter().skip(1)) {
         steps.push(Step {
-            from: from.at,
-            to: to.at,
+            from: from.at as usize,
+            to: to.at as usize,
         })?;
     }
     Ok(())
@@ -129,8 +129,8 @@ impl Search<'_> {
             return Ok(());
         };
         let step = Step {
-            from: *start as u32,
-            to: *end as u32,
+            from: *start,
+            to: *end,
         };
         let is_on_path = self.steps.binary_search(&step).is_ok();
         self.edges.push(Edge {
