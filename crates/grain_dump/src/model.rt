@@ -1,10 +1,6 @@
 //! What is shown of a file.
 
-use crate::object::write_dump;
-use crate::table::write_table;
 use grain_file::Part;
-use json::Writer;
-use std::alloc::{AllocError, Global};
 
 /// What a file is of.
 #[derive(Clone, Copy, Debug, PartialEq, Eq)]
@@ -59,29 +55,4 @@ pub struct Dump {
     pub kind: Kind,
     /// Its sections.
     pub sections: Vec<Section>,
-}
-
-impl Dump {
-    /// A line for each section: its offset, its size, its name and its summary. Below it are its pieces, each with its offset,
-    /// its bytes in hexadecimal and what they spell. The bytes are those of the file.
-    ///
-    /// # Errors
-    /// Where a growth was refused.
-    pub fn text(&self, alloc: Global, bytes: &[u8]) -> Result<String, AllocError> {
-        let mut out = String::new(alloc);
-        write_table(&mut out, &self.sections, bytes)?;
-        Ok(out)
-    }
-
-    /// The same as a JSON object on a line of its own, with the name of the file.
-    ///
-    /// # Errors
-    /// Where a growth was refused.
-    pub fn json(&self, alloc: Global, file: &str, bytes: &[u8]) -> Result<Vec<u8>, AllocError> {
-        let mut json = Writer::new(Vec::new(alloc));
-        write_dump(alloc, &mut json, file, self, bytes)?;
-        let mut out = json.into_inner();
-        out.push(b'\n')?;
-        Ok(out)
-    }
 }

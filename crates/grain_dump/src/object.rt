@@ -51,7 +51,7 @@ fn write_section(
 }
 
 /// Appends the object of a file.
-pub fn write_dump(
+fn write_dump(
     alloc: Global,
     json: &mut Writer<Global>,
     file: &str,
@@ -72,4 +72,18 @@ pub fn write_dump(
     }
     json.end_array()?;
     json.end_object()
+}
+
+impl Dump {
+    /// The same as [`text`](Dump::text) writes, as a JSON object on a line of its own, with the name of the file.
+    ///
+    /// # Errors
+    /// Where a growth was refused.
+    pub fn json(&self, alloc: Global, file: &str, bytes: &[u8]) -> Result<Vec<u8>, AllocError> {
+        let mut json = Writer::new(Vec::new(alloc));
+        write_dump(alloc, &mut json, file, self, bytes)?;
+        let mut out = json.into_inner();
+        out.push(b'\n')?;
+        Ok(out)
+    }
 }

@@ -1,7 +1,7 @@
 //! Sections as a table.
 
-use crate::model::{Piece, Section};
-use std::alloc::AllocError;
+use crate::model::{Dump, Piece, Section};
+use std::alloc::{AllocError, Global};
 
 /// How many bytes a line has.
 const BYTES_IN_LINE: usize = 16;
@@ -64,11 +64,17 @@ fn write_section(out: &mut String, section: &Section, bytes: &[u8]) -> Result<()
     Ok(())
 }
 
-/// Appends a heading and each section.
-pub fn write_table(out: &mut String, sections: &[Section], bytes: &[u8]) -> Result<(), AllocError> {
-    out.push_str("    offset       size  section\n")?;
-    for section in sections {
-        write_section(out, section, bytes)?;
+impl Dump {
+    /// A line for each section: its offset, its size, its name and its summary. Below it are its pieces, each with its offset,
+    /// its bytes in hexadecimal and what they spell. The bytes are those of the file.
+    ///
+    /// # Errors
+    /// Where a growth was refused.
+    pub fn text(&self, alloc: Global, bytes: &[u8]) -> Result<String, AllocError> {
+        let mut out = String::from_str(alloc, "    offset       size  section\n")?;
+        for section in &self.sections {
+            write_section(&mut out, section, bytes)?;
+        }
+        Ok(out)
     }
-    Ok(())
 }

@@ -77,6 +77,12 @@ impl<W: World + Drop> Host for Script<W> {
         }
     }
 
+    fn entered(&mut self, _: usize) {
+        if self.is_failing() {
+            self.end_fault();
+        }
+    }
+
     fn left(&mut self) {
         self.ended();
     }

@@ -86,10 +86,15 @@ impl<W: World + Drop> Script<W> {
         &mut self.world
     }
 
-    /// The addresses of the calls that the fault of the last run ended, the innermost first. There are none where the run
-    /// ended without a fault. Calls for which there was no memory are left out.
+    /// The addresses of the calls that the last fault ended which no handler caught, the innermost first, until a function is
+    /// called again. Calls for which there was no memory are left out.
     pub fn backtrace(&self) -> &[usize] {
         self.ended_calls.as_slice()
+    }
+
+    /// Whether a fault came that no handler has caught yet.
+    pub(crate) fn is_failing(&self) -> bool {
+        self.is_failing
     }
 
     /// A fault comes: the calls that end until it is caught are its backtrace.
@@ -99,7 +104,7 @@ impl<W: World + Drop> Script<W> {
         self.ended_calls.clear();
     }
 
-    /// A handler caught the fault.
+    /// The fault is no longer under way: a handler caught it, or another run has begun.
     pub(crate) fn end_fault(&mut self) {
         self.is_failing = false;
         self.ended_calls.clear();

@@ -141,7 +141,7 @@ impl Table {
         self.meanings.get(name as usize)?.callee
     }
 
-    /// The function of the program that has this name and so many parameters, and is declared for no receiver.
+    /// The function of the program that has this name and number of parameters, and is declared for no receiver.
     pub(crate) fn function(&self, program: &Program, name: u32, params: usize) -> Option<usize>
         ensures { IfSome result (λ index. index < length program.now.functions) }
     {
@@ -154,7 +154,7 @@ impl Table {
         None
     }
 
-    /// Whether the program has functions of this name with so many parameters.
+    /// Whether the program has functions of this name with this number of parameters.
     pub(crate) fn has_functions(&self, name: u32, params: usize) -> bool {
         match self.meanings.get(name as usize) {
             Some(meaning) => meaning

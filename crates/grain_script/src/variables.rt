@@ -128,7 +128,7 @@ impl Variables {
         Ok(())
     }
 
-    /// Drops the local variables of the function that runs down to so many.
+    /// Keeps this number of local variables of the function that runs, and drops the later ones.
     pub(crate) fn unwind_to(&mut self, depth: u16) {
         let place = self.place(depth);
         self.locals.truncate(place);

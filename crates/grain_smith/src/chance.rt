@@ -48,7 +48,7 @@ impl Chance {
         self.below(limit) as usize
     }
 
-    /// Whether one case of so many equally likely ones comes up.
+    /// Whether the first of this many equally likely cases comes up.
     pub fn one_in(&mut self, cases: u32) -> bool {
         self.below(cases) == 0
     }

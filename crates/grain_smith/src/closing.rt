@@ -1,8 +1,7 @@
 //! How pieces of code end. Each path to the same place has the same state there.
 
-use crate::draft::DEPTH;
 use crate::error::SmithError;
-use crate::frames::{Arms, Frame, Loop};
+use crate::frames::{Arms, DEPTH, Frame, Loop};
 use crate::opening::ARMS;
 use crate::writer::Writer;
 use grain::Op;
@@ -35,7 +34,7 @@ impl Writer {
         }
     }
 
-    /// Goes on at the label with so many operands, which is here.
+    /// Goes on at the label with this number of operands, which is here.
     fn join(&mut self, end: u32, operands: u32) -> Result<(), SmithError> {
         self.level(operands)?;
         self.bind(end);

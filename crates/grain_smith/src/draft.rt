@@ -3,8 +3,9 @@
 use crate::chance::Chance;
 use crate::closing::MOST_CLOSINGS;
 use crate::error::SmithError;
+use crate::frames::DEPTH;
 use crate::lists::position;
-use crate::smithing::Options;
+use crate::options::Options;
 use crate::supply::Supply;
 use crate::switches::switches;
 use crate::values::constant;
@@ -15,9 +16,6 @@ use std::mem;
 
 /// How many functions a program has at most.
 const FUNCTIONS: u32 = 4;
-
-/// How many pieces of code are open at once, at most.
-pub const DEPTH: usize = 8;
 
 /// A program as operations by index.
 #[derive(Drop)]

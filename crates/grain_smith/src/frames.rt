@@ -1,5 +1,8 @@
 //! Pieces of code that are open, each with what is due at its end.
 
+/// How many pieces of code are open at once, at most.
+pub const DEPTH: usize = 8;
+
 /// What was on the stacks when a handler was armed.
 #[derive(Clone, Copy, Drop)]
 pub struct Base {
@@ -44,7 +47,7 @@ pub struct Arms {
 /// A piece of code that is open.
 #[derive(Clone, Copy, Drop)]
 pub enum Frame {
-    /// Code that may be skipped up to its end, where there are so many operands.
+    /// Code that may be skipped up to its end, where there is this number of operands.
     Skipped {
         /// Its end.
         end: u32,

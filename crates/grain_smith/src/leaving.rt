@@ -56,7 +56,7 @@ impl Writer {
         self.unreached()
     }
 
-    /// Has as many handlers, iterators and operands as a loop has, with so many iterators.
+    /// Has as many handlers, iterators and operands as a loop has, with this number of iterators.
     fn cut(&mut self, around: Loop, iterators: u32) -> Result<(), SmithError> {
         for _turn in around.handlers..self.bases.len() {
             self.put(Op::PopHandler)?;

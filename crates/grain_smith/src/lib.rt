@@ -15,6 +15,7 @@ mod lists;
 mod near;
 mod opening;
 mod operators;
+mod options;
 mod plain;
 mod smithing;
 mod steps;
@@ -25,4 +26,5 @@ mod writer;
 
 pub use error::SmithError;
 pub use near::smith_near;
-pub use smithing::{Options, smith};
+pub use options::Options;
+pub use smithing::smith;

@@ -3,7 +3,8 @@
 use crate::chance::Chance;
 use crate::draft::{Draft, drafted};
 use crate::error::SmithError;
-use crate::smithing::{Options, smith};
+use crate::options::Options;
+use crate::smithing::smith;
 use crate::steps::Pieces;
 use grain::{Function, Parts, Program, assemble, resolve_switch_targets};
 use std::alloc::{AllocError, Global};

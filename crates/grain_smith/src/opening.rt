@@ -145,7 +145,7 @@ impl Writer {
         self.open(Frame::Guarded { catch })
     }
 
-    /// The table of a switch whose arms begin at so many labels from this one on.
+    /// The table of a switch whose arms begin at this number of labels from this one on.
     fn table(&mut self, first: u32, count: u32) -> Result<Table, SmithError> {
         let mut cases = Vec::new(self.alloc);
         for index in 0..self.supply.size(Pool::Constants) {

@@ -5,21 +5,9 @@ ghost use Rattle.grain.specs.Program.{declared_by, input_of};
 
 use crate::draft::{Draft, drafted};
 use crate::error::SmithError;
+use crate::options::Options;
 use grain::{Caps, Flags, Program, build};
 use std::alloc::Global;
-
-/// What kind of program is made.
-#[derive(Clone, Copy, Debug)]
-pub struct Options {
-    /// About how many operations it has.
-    pub size: usize,
-}
-
-impl Default for Options {
-    fn default() -> Options {
-        Options { size: 60 }
-    }
-}
 
 /// A random program, which is accepted. Each chunk declares the greatest operand count that any run of it reaches. The seed and
 /// the options alone decide which program it is. It takes time by the size, and by what one verification takes.
