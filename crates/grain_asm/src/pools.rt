@@ -21,7 +21,7 @@ pub(crate) struct Pools {
     pub switches: Vec<Switch>,
 }
 
-/// The index of the last of so many entries.
+/// The index of the last entry of a pool of this length.
 fn last(count: usize) -> Result<u32, Stop> {
     let Some(last) = count.checked_sub(1) else {
         return Err(Stop::Fault(Problem::TooWide));

@@ -102,7 +102,7 @@ fn is_named(syntax: &Syntax, name: &str) -> bool {
         .any(|known| known.as_str() == name)
 }
 
-/// Whether the script has a function of this name with so many parameters.
+/// Whether the script has a function of this name with this number of parameters.
 fn is_declared(syntax: &Syntax, name: &str, params: usize) -> bool {
     for function in &syntax.functions {
         if function.params.len() == params && syntax.names.get(function.name) == name {

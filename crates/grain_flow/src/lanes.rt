@@ -1,9 +1,9 @@
-//! The lanes beside the instructions, in which jumps run.
+//! The lanes next to the instructions, in which jumps run.
 
 use crate::edges::{Edge, EdgeKind};
 use std::alloc::{AllocError, Global};
 
-/// The rows beside which the jumps of one instruction run. The shortest span is the least.
+/// The rows next to which the jumps of one instruction run. The shortest span is the least.
 #[derive(Clone, Copy, PartialEq, Eq, PartialOrd, Ord)]
 struct Span {
     length: usize,

@@ -160,7 +160,7 @@ fn part(alloc: Global, items: &[Value], first: usize, end: usize) -> Result<Vec<
     Ok(part)
 }
 
-/// Appends the value until there are so many items.
+/// Appends the value until there are this many items.
 fn padded(limits: SizeLimits, list: &mut Rc<List>, len: usize, value: &Value) -> Result<(), Cause> {
     let more = len.saturating_sub(list.len());
     if more.saturating_mul(value.measure().size) > limits.size {

@@ -1,7 +1,7 @@
 //! Places of items by indices that may count from the end.
 ghost use Rattle.std.specs.Prelude.{◌<◌, ◌≤◌, IfSome};
 
-/// The place of an index among so many items. An index below 0 counts from their end.
+/// The place of an index in a list of this length. An index below 0 counts from its end.
 #[must_use]
 pub fn place_of(len: usize, index: i64) -> Option<usize>
     ensures { IfSome result (λ place. place < len) }
@@ -15,7 +15,7 @@ pub fn place_of(len: usize, index: i64) -> Option<usize>
     if place < len { Some(place) } else { None }
 }
 
-/// Where an index leads among so many items: at most behind the last, and at least to the first.
+/// Where an index leads in a list of this length: at most behind the last, and at least to the first.
 pub(crate) fn start_of(len: usize, index: i64) -> usize
     ensures { result ≤ len }
 {

@@ -212,7 +212,7 @@ fn counted_part(alloc: Global, text: &str, start: i64, count: i64) -> Result<Str
     words::part(alloc, text, first, first.saturating_add(count_of(count)))
 }
 
-/// Appends the character until the text has so many.
+/// Appends the character until the text has this many.
 fn padded(
     limits: SizeLimits,
     text: &mut Rc<String>,
