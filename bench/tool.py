@@ -489,6 +489,9 @@ def check_large(tool):
     expect(tool.done("print", file).count(b"tick") == 400_000, "a large program isn't printed")
     deep = b"load_const " + b"[" * 100_000
     expect("nested" in tool.refused("parse", "-", given=deep), "deep nesting isn't refused")
+    cases = b"".join(b"case %d -> end\n" % number for number in range(4097))
+    wide = b".switches\nswitch end\n" + cases + b".code\nunit\nswitch #0\nend:\nunit\nreturn\n"
+    expect("too many cases" in tool.refused("parse", "-", given=wide), "a file is written that isn't read")
 
 
 def main():

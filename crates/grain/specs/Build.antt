@@ -96,7 +96,7 @@ pub record IsLaid (d : Draft) (p : Program) : Type 0 where
 abbrev pub AreDeepestByIndex : Draft → List ℕ → Type 0
 AreDeepestByIndex d numbers = AllZip (IsDeepest (by_index d)) d.cuts numbers
 
--- the cut at the place is the first that is no part of so many operations
+-- the cut at the place is the first that is no part of this many operations
 pub record IsFirstBadCut (n : ℕ) (cuts : List Span) (place : ℕ) : Type 0 where
   pub inside : place < length cuts
   pub earlier : AllWithin (IsCut n) cuts 0 place
@@ -108,7 +108,7 @@ LayFlaw d error =
     IsAssemblyFlaw d.ops error
     ⊎ (CanAssemble d.ops × ((table : ℕ) × (target : ℕ) × (error ≡ refusals.SwitchTargetOutOfRange table target) × IsFirstPast (length d.ops + 1) d.parts.switches.items table target))
 
--- What each refusal says: of what was handed over, or of the program that it makes. Want of memory says nothing of them.
+-- What each refusal says: of what was handed over, or of the program that it makes. A lack of memory says nothing of them.
 abbrev pub BuildFlaw : Draft → BuildError → Type 0
 BuildFlaw d (errors.BadCut place) = IsFirstBadCut (length d.ops) d.cuts place
 BuildFlaw d (errors.Assemble error) = AreCuts d × LayFlaw d error

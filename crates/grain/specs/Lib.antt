@@ -58,7 +58,7 @@ pub use Rattle.grain_rules.specs.Machine
 pub use Rattle.grain_rules.specs.Rows
 pub use Rattle.grain_rules.specs.Setting
 pub use Rattle.grain_rules.specs.Sinking
-pub use Rattle.grain_rules.proofs.Testing
+pub use Rattle.grain_rules.proofs.IndexTests
 pub use Rattle.grain_rules.specs.Texts
 pub use Rattle.grain_rules.specs.Typing
 pub use Rattle.grain_rules.specs.Verdict

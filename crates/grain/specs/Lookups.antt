@@ -27,7 +27,7 @@ pools_of p = record {
 abbrev pub is_text : List (List ℕ) → List ℕ → ℕ → Bool
 is_text names text index = option_map_or (λ name. pointwise (λ a b. a == b) name text) (slice_get names index) false
 
--- whether the function has this name, by its index, and so many parameters
+-- whether the function has this name, by its index, and this many parameters
 abbrev pub is_called : ℕ → ℕ → Function → Bool
 is_called name argc f = f.name == name && length f.params.items == argc
 
@@ -39,7 +39,7 @@ is_untyped name argc f = is_called name argc f && is_none f.this_type
 abbrev pub is_typed : List (List ℕ) → ℕ → ℕ → List ℕ → Function → Bool
 is_typed names name argc typed f = is_called name argc f && option_map_or (is_text names typed) f.this_type false
 
--- whether the function has this name, by its text, and so many parameters, and is declared for no receiver
+-- whether the function has this name, by its text, and this many parameters, and is declared for no receiver
 abbrev pub is_named : List (List ℕ) → List ℕ → ℕ → Function → Bool
 is_named names name argc f = is_text names name f.name && is_untyped f.name argc f
 

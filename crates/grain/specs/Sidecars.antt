@@ -66,7 +66,7 @@ pub record IsAttached (old : Program) (s : Sidecar) (new : Program) : Type 0 whe
   pub chains : map place_of (all_positions new.chains) ≡ map slot_place slots
   pub rest : DiffersInPositions old new
 
--- The stream has so many slots, and the chains so many positions, of which no more are counted than a `usize` holds.
+-- The stream has this many slots, and the chains this many positions, of which no more are counted than a `usize` holds.
 pub record Miscounts (p : Program) (s : Sidecar) (sites slots : ℕ) : Type 0 where
   pub list : List (Option Site)
   pub stream : Stream s.chains.items list

@@ -6,7 +6,7 @@ use Rattle.grain_base.specs.declared.position.Position.{Position}
 use Rattle.grain_bytecode.specs.Positions.{Place}
 use Rattle.grain.specs.Sidecars.{slot_place}
 
--- the places of so many slots; past the last there is none
+-- the places of this many slots; past the last there is none
 abbrev pub drawn : ℕ → List (Option Site) → List Place
 drawn zero slots = []
 drawn (suc n) [] = None ∷ drawn n []

@@ -30,7 +30,7 @@ pub struct Explained {
 ///
 /// # Errors
 /// `OutOfMemory` where an allocation failed, and no other: code that is bad is refused by the verdict, without an explained chunk.
-#[tactic(auto, using(crate::proofs::Refusing::placed_explained, crate::proofs::Refusing::accepted_explained, crate::proofs::Refusing::placed_reaches))]
+#[tactic(auto, using(crate::proofs::RefusalCauses::placed_explained, crate::proofs::RefusalCauses::accepted_explained, crate::proofs::RefusalCauses::placed_reaches))]
 pub fn explain<'a, P: Read>(
     alloc: Global,
     caps: Caps,

@@ -11,8 +11,8 @@ pub record IsPlacedLine (texts : List (List ℕ)) (e : SyntaxError) : Type 0 whe
   pub begins : 1 ≤ e.column
   pub inside : e.column ≤ length (string_bytes e.text) + 1
 
-abbrev pub IsPlaced : List (List ℕ) → ParseError → Type 0
-IsPlaced texts (Syntax e) = IsPlacedLine texts e
-IsPlaced texts (Refused _) = Unit {0}
-IsPlaced texts NamesTooLong = Unit {0}
-IsPlaced texts OutOfMemory = Unit {0}
+abbrev pub IsPlacedError : List (List ℕ) → ParseError → Type 0
+IsPlacedError texts (Syntax e) = IsPlacedLine texts e
+IsPlacedError texts (Refused _) = Unit {0}
+IsPlacedError texts NamesTooLong = Unit {0}
+IsPlacedError texts OutOfMemory = Unit {0}

@@ -3,7 +3,7 @@ ghost use Rattle.std.specs.Prelude.{◌≡◌, ◌<◌, ℕ, List, IfErr, IfOk, 
 ghost use Rattle.std.specs.Str.Lines.{lines};
 ghost use Rattle.grain.specs.Program.{input_of};
 ghost use Rattle.grain_rules.specs.Verdict.{IsVerdict};
-ghost use Rattle.grain_asm.specs.Placed.{IsPlaced};
+ghost use Rattle.grain_asm.specs.Placed.{IsPlacedError};
 ghost use Rattle.grain_pools.specs.Names.{texts};
 
 use crate::cursor::Cursor;
@@ -31,7 +31,7 @@ fn line_at<'a>(lines: &[&'a str], at: usize) -> &'a str
 /// The refusal of a line.
 fn refusal_of(alloc: Global, lines: &[&str], flaw: Flaw) -> ParseError
     requires { flaw.line < length lines.now }
-    ensures { IsPlaced (texts lines.now) result }
+    ensures { IsPlacedError (texts lines.now) result }
 {
     let Stop::Fault(problem) = flaw.stop else {
         return ParseError::OutOfMemory;
@@ -68,7 +68,7 @@ fn read_lines(alloc: Global, labels: &Labels, lines: &[&str]) -> Result<Draft, F
 
 /// The program of what was read. Where it has none, no line is at fault.
 fn finish(alloc: Global, draft: Draft) -> Result<Program, ParseError>
-    ensures { (texts : List (List ℕ)) → IfErr result (IsPlaced texts) }
+    ensures { (texts : List (List ℕ)) → IfErr result (IsPlacedError texts) }
 {
     match draft.finish(alloc) {
         Ok(program) => Ok(program),
@@ -99,7 +99,7 @@ fn draft_of(alloc: Global, lines: &[&str]) -> Result<Draft, Flaw>
 /// isn't accepted. `NamesTooLong` where its names have more than 4294967295 bytes, `OutOfMemory` where a growth was refused.
 pub fn parse(alloc: Global, text: &str) -> Result<Program, ParseError>
     // A line that is refused is one of the text, and the column is in it or one past its end.
-    ensures { IfErr result (IsPlaced (lines text.now)) }
+    ensures { IfErr result (IsPlacedError (lines text.now)) }
 {
     let lines = lines_of(alloc, text)?;
     match draft_of(alloc, &lines) {
@@ -114,7 +114,7 @@ pub fn parse(alloc: Global, text: &str) -> Result<Program, ParseError>
 /// As [`parse`], and `Refused` where the program isn't accepted.
 pub fn parse_accepted(alloc: Global, text: &str) -> Result<(Program, Vec<u16>), ParseError>
     ensures accepted { IfOk result (λ found. IsVerdict (input_of found.0) (Ok found.1)) }
-    ensures placed { IfErr result (IsPlaced (lines text.now)) }
+    ensures placed { IfErr result (IsPlacedError (lines text.now)) }
 {
     let program = parse(alloc, text)?;
     match program.verify() {

@@ -7,7 +7,7 @@ use Rattle.grain_base.specs.declared.varint.Error.{Error}
 use Rattle.grain_base.specs.declared.varint.Error.TheVariants.{Truncated, Overflow}
 use Rattle.grain_base.specs.Varint.{AreGroups, number_of, Spells, NumberStandsAt, IsCutShort, NoneStands, U32Flaw, BeginsNumbers}
 use Rattle.grain_base.proofs.Groups.{GoesOn, none_ends, one_front}
-use Rattle.grain_base.proofs.Standing.{one_spelling, stands_within, cut_stands}
+use Rattle.grain_base.proofs.NumberUniqueness.{one_spelling, stands_within, cut_stands}
 
 -- a number stands at the front of the bytes, and then come the others
 pub begins_at : (bytes : List ℕ) (from n to : ℕ) → NumberStandsAt bytes from n to → n < 2 ^ 32 → BeginsNumbers (drop from bytes) (n ∷ []) (drop to bytes)

@@ -10,7 +10,7 @@ use Rattle.grain_base.specs.declared.varint.Error.TheVariants as number_error
 use Rattle.grain_base.specs.Varint.{BeginsNumbers, U32Flaw}
 use Rattle.grain_base.specs.AddressTable.{Entry, addresses, AreEntries, Table, deltas, IsUnfinished, IsUnreadable, IsNextDelta, FirstFlaw, as_table_error}
 use Rattle.grain_base.proofs.Numbers.{three, begins_longer, begins_once, begins_flawless, one_u32_flaw, Reading, Number, Flaw, reading}
-use Rattle.grain_base.proofs.Rising.{rises_next, rises_rest}
+use Rattle.grain_base.proofs.IncreasingLists.{rises_next, rises_rest}
 use Rattle.grain_base.proofs.Deltas.{Follows, led_to, LeadOn, last_from, lead_on, last_sum}
 
 abbrev pub Answer : Type 0
@@ -41,7 +41,7 @@ unfolding after_delta
 after_delta_is None delta then follows = refl
 after_delta_is (Some address) delta then follows = rw (ne_eqb delta 0 (λ none. absurd (omega (arith, follows.0))), lt-ltb (address + delta) (2 ^ 32) follows.1) refl
 
--- the answer for so many entries behind an address, if there is one
+-- the answer for this many entries behind an address, if there is one
 answer_from : ℕ → Option ℕ → List ℕ → Answer
 answer_from zero previous [] = Ok tt
 answer_from zero previous (byte ∷ bytes) = Err (TrailingBytes (length (byte ∷ bytes)))

@@ -73,8 +73,8 @@ abbrev pub site_at : List Entry → ℕ → Option Site
 site_at list address = option_and_then known (find (λ entry. entry.0 == address) list)
 
 -- the entries whose site is known
-abbrev pub kept : List Entry → List Entry
-kept list = filter (λ entry. not (entry.1.line == 0)) list
+abbrev pub entries_with_site : List Entry → List Entry
+entries_with_site list = filter (λ entry. not (entry.1.line == 0)) list
 
 -- the numbers of entries in order: of each its address less the one before it, its line and its column
 abbrev pub numbers_from : ℕ → List Entry → List ℕ

@@ -4,5 +4,6 @@ pub mod Content
 pub mod ContentLaws
 pub mod EntriesLeft
 pub mod Place
+pub mod Tokens
 pub mod Varint
 pub mod View

@@ -12,7 +12,7 @@ ghost use Rattle.std.specs.List.Sorted.{IsStrictlyIncreasing};
 ghost use Rattle.grain_base.specs.declared.varint.Error.{Error as NumberError};
 ghost use Rattle.grain_base.specs.declared.pos.Error.{Error as TableError};
 ghost use Rattle.grain_base.specs.Varint.{BeginsNumbers, U32Flaw, AreShortest};
-ghost use Rattle.grain_base.specs.AddressTable.{Entry, addresses, IsNext, NoneNext, Table, LongestFront, EntrySteps, FirstFlaw, site_at, kept, numbers_from, as_table_error};
+ghost use Rattle.grain_base.specs.AddressTable.{Entry, addresses, IsNext, NoneNext, Table, LongestFront, EntrySteps, FirstFlaw, site_at, entries_with_site, numbers_from, as_table_error};
 
 mod walk;
 
@@ -218,7 +218,7 @@ pub fn check(table: &[u8]) -> Result<(), Error>
 /// once, and takes no memory.
 #[must_use]
 pub fn is_ascending(sites: &[(u32, Site)]) -> bool
-    ensures { IsTrue result ↔ IsStrictlyIncreasing (addresses (kept sites.now)) }
+    ensures { IsTrue result ↔ IsStrictlyIncreasing (addresses (entries_with_site sites.now)) }
 {
     // The least address that the next entry may have.
     let mut least = 0;
@@ -237,7 +237,7 @@ pub fn is_ascending(sites: &[(u32, Site)]) -> bool
 
 /// How many entries have a line.
 fn count_kept(sites: &[(u32, Site)]) -> usize
-    ensures { result ≡ length (kept sites.now) }
+    ensures { result ≡ length (entries_with_site sites.now) }
 {
     sites.iter().filter(|(_, site)| site.line != 0).count()
 }
@@ -253,11 +253,11 @@ fn count_kept(sites: &[(u32, Site)]) -> usize
 ///
 /// `AllocError` where there is no memory for the address table.
 pub fn encode(alloc: Global, sites: &[(u32, Site)]) -> Result<Vec<u8>, AllocError>
-    requires { IsStrictlyIncreasing (addresses (kept sites.now)) }
-    ensures written { let list = kept sites.now in
+    requires { IsStrictlyIncreasing (addresses (entries_with_site sites.now)) }
+    ensures written { let list = entries_with_site sites.now in
         IfOk result (λ table. AreShortest table.items (length list ∷ numbers_from 0 list)) }
-    ensures table { length (kept sites.now) < 2 ^ 32
-        → IfOk result (λ table. Table table.items (kept sites.now)) }
+    ensures table { length (entries_with_site sites.now) < 2 ^ 32
+        → IfOk result (λ table. Table table.items (entries_with_site sites.now)) }
 {
     let mut table = Vec::new(alloc);
     varint::put_u64(&mut table, count_kept(sites) as u64)?;

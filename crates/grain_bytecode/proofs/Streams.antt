@@ -13,7 +13,7 @@ use Rattle.grain_bytecode.specs.declared.sites.StreamError.{StreamError}
 use Rattle.grain_bytecode.specs.declared.sites.StreamError.TheVariants.{Truncated, Overflow, TrailingBytes, OutOfMemory}
 use Rattle.grain_bytecode.specs.ChainStream.{Stream, Records, IsSlotDue, IsSlotUnreadable, Trails, StreamFlaw, site_of, sites_of, as_stream_error}
 
--- so many numbers, and what is left behind them
+-- this many numbers, and what is left behind them
 abbrev Read : Type 0
 Read = Result (List ℕ × List ℕ) NumberError
 

@@ -52,7 +52,7 @@ pub record IsSlotUnreadable (bytes : List ℕ) (error : NumberError) : Type 0 wh
   pub unfinished : IsSlotDue numbers
   pub flaw : U32Flaw left error
 
--- a stream stands at the front of the bytes, and so many bytes follow it
+-- a stream stands at the front of the bytes, and this many bytes follow it
 pub record Trails (bytes : List ℕ) (count : ℕ) : Type 0 where
   pub stream : List ℕ
   pub more : List ℕ

@@ -97,7 +97,7 @@ AreAhead (Some entry) left list = (others : List Entry) × AreDue left others ×
 abbrev pub from_address : ℕ → List Entry → List Entry
 from_address at list = drop (prefix_len (λ entry. nat_lt entry.0 at) list) list
 
--- The table is one, but has this many entries, of which only so many have a place in the code.
+-- The table is one, but has this many entries, of which only that many have a place in the code.
 pub record Exceeds (table code : List ℕ) (entries some : ℕ) : Type 0 where
   pub list : List Entry
   pub arrived : List ℕ

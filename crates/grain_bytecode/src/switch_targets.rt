@@ -10,7 +10,7 @@ use grain_pools::{Switch, SwitchRange};
 use std::collections::HashMap;
 
 /// The first target that is no index of as many offsets, if there is one.
-#[tactic(auto, using(grain_pools::proofs::Past::past_append))]
+#[tactic(auto, using(grain_pools::proofs::FirstPast::past_append))]
 fn target_past(switch: &Switch, offsets: usize) -> Option<u32>
     ensures { result ≡ first_past offsets (arm_targets (arms switch.now)) }
 {

@@ -2,7 +2,7 @@
 use Rattle.std.proofs.Common.{◌≡◌, ℕ, ◌-◌, ◌<◌, ◌≤◌, ◌^◌, min, List, Option, length, refl, arith}
 use Rattle.grain_rules.specs.declared.error.VerifyError.{VerifyError}
 use Rattle.grain_verify.specs.Meter.{HasCounted}
-use Rattle.grain_flat.specs.Answers.{Accepts, Refuses, Visits, VisitsWithin, told}
+use Rattle.grain_flat.specs.Answers.{Accepts, Refuses, Visits, VisitsWithin, refusal_record}
 use Rattle.grain_flat.specs.Flat.{Pooled}
 use Rattle.grain_flat.specs.Work.{work_of}
 use Rattle.grain_flat.specs.declared.records.CProgram.{CProgram}
@@ -53,7 +53,7 @@ module _ (caps limit : ℕ) (program : CProgram) (room : ℕ) (old : CReport) (c
   }
 
   pub refused : (place : Option ℕ) (e : VerifyError) (n : ℕ) → Refuses caps program.code.now program.chunks.now program.pools place e → VisitsWithin program.code.now program.chunks.now n
-      → IsAnswer caps limit program room old (record { refusal = told place e; visited = n }) REFUSED
+      → IsAnswer caps limit program room old (record { refusal = refusal_record place e; visited = n }) REFUSED
   refused place error n refuses visits = record {
     refused = λ e. (place, error, refl, refuses);
     visited = λ e. absurd (omega (arith, e));

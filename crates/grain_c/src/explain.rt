@@ -3,8 +3,8 @@ ghost use Rattle.std.specs.Prelude.{◌≡◌, ◌≢◌, ◌<◌, ◌≤◌, �
 ghost use Rattle.grain_explain.specs.declared.refusal.ExplainedChunk.{ExplainedChunk};
 ghost use Rattle.grain_explain.specs.declared.refusal.Refusal.{Refusal};
 ghost use Rattle.grain_c.specs.Explained.{ExplainsAt};
-ghost use Rattle.grain_flat.specs.Answers.{told};
-ghost use Rattle.grain_flat.specs.Explaining.{Beside, IsIndexedBeside, IsToldIn};
+ghost use Rattle.grain_flat.specs.Answers.{refusal_record};
+ghost use Rattle.grain_flat.specs.Explaining.{Beside, IsIndexedBeside, IsWrittenIn};
 ghost use Rattle.grain_flat.specs.Flat.{Pooled};
 
 use crate::status::{
@@ -13,8 +13,8 @@ use crate::status::{
 use grain_base::{Caps, Flags};
 use grain_explain::{ExplainError, ExplainedChunk};
 use grain_flat::{
-    CBase, CChunk, CExplanation, CProgram, CRow, ToldRows, explain_chunk, fill, is_flat, rows_of,
-    told,
+    CBase, CChunk, CExplanation, CProgram, CRow, ExplanationRows, explain_chunk, fill, is_flat,
+    refusal_record, rows_of,
 };
 use std::alloc::Global;
 
@@ -28,18 +28,18 @@ fn chunk_at(chunks: &[CChunk], index: usize) -> Option<&CChunk>
 }
 
 /// What is said of an explained chunk, whose rows are these.
-fn counts_of(found: &ExplainedChunk, made: &ToldRows, before: &CExplanation) -> CExplanation
+fn counts_of(found: &ExplainedChunk, made: &ExplanationRows, before: &CExplanation) -> CExplanation
     ensures visited { result.rows ≡ made.now.visited }
     ensures path { result.path ≡ made.now.path }
     ensures other { result.other ≡ made.now.other }
     ensures bases { result.bases ≡ length made.now.bases.items }
     ensures kept { found.now.refusal ≡ None → result.refusal ≡ before.now.refusal }
     ensures refusal { (r : Refusal) → found.now.refusal ≡ Some r
-        → result.refusal ≡ told None r.error }
+        → result.refusal ≡ refusal_record None r.error }
 {
     let refusal = match &found.refusal {
         None => before.refusal,
-        Some(refusal) => told(None, &refusal.error),
+        Some(refusal) => refusal_record(None, &refusal.error),
     };
     CExplanation {
         rows: made.visited,
@@ -69,12 +69,12 @@ pub extern "C" fn grain_proved_explain(
     // With pools of this flat form beside the code.
     ensures accepted { result ≡ ACCEPTED → (x : ExplainedChunk)
         × ExplainsAt caps program.now chunk x × (x.refusal ≡ None)
-        × IsToldIn x rows.old rows.new bases.old bases.new explanation.new
+        × IsWrittenIn x rows.old rows.new bases.old bases.new explanation.new
         × (explanation.new.refusal ≡ explanation.old.refusal) }
     ensures refused { result ≡ REFUSED → (x : ExplainedChunk) × (r : Refusal)
         × ExplainsAt caps program.now chunk x × (x.refusal ≡ Some r)
-        × IsToldIn x rows.old rows.new bases.old bases.new explanation.new
-        × (explanation.new.refusal ≡ told None r.error) }
+        × IsWrittenIn x rows.old rows.new bases.old bases.new explanation.new
+        × (explanation.new.refusal ≡ refusal_record None r.error) }
 
     // When each other status is answered.
     ensures not_flat { (result ≡ NOT_FLAT) ↔ (Pooled program.now.pools → ⊥) }

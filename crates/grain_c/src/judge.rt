@@ -7,7 +7,7 @@ ghost use Rattle.grain_flat.specs.Flat.{IsFlat};
 
 use crate::status::{ACCEPTED, NOT_FLAT, OUT_OF_MEMORY, REFUSED, SHORT, TOO_MUCH_WORK};
 use grain_base::{Caps, Flags};
-use grain_flat::{CProgram, CReport, Scratch, Stop, is_flat, is_within, told, verdict};
+use grain_flat::{CProgram, CReport, Scratch, Stop, is_flat, is_within, refusal_record, verdict};
 use grain_verify::Meter;
 use std::alloc::Global;
 
@@ -77,7 +77,7 @@ pub(crate) fn judge(
         Err(Stop::OutOfMemory) => Err(OUT_OF_MEMORY),
         Err(Stop::Refused(refusal)) => {
             *report = CReport {
-                refusal: told(refusal.place, &refusal.error),
+                refusal: refusal_record(refusal.place, &refusal.error),
                 visited: shown(&meter),
             };
             Err(REFUSED)

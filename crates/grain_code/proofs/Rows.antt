@@ -48,7 +48,7 @@ abbrev pub fields : List Letter → (ℕ → ℕ) → List Field
 fields [] v = []
 fields (letter ∷ letters) v = field letter (v 0) ∷ fields letters (λ i. v (suc i))
 
--- what stands behind a tag, and the operation of its values
+-- what is behind a tag, and the operation of its values
 pub record Row : Type 0 where
   pub letters : List Letter
   pub op : (ℕ → ℕ) → Op

@@ -9,7 +9,7 @@ use Rattle.grain_code.specs.declared.op.Op.{Op}
 use Rattle.grain_code.specs.InstructionTable.{spelling, width_of, Instr}
 use Rattle.grain_code.specs.Split.{Begins, BeginsNone, StandsAt, IsInstruction, AreInstructions, starts_from, Split, FrontEnds}
 use Rattle.grain_code.proofs.Instructions.{begins_none_nil, begins_spelling}
-use Rattle.grain_code.proofs.Reading.{one_instruction}
+use Rattle.grain_code.proofs.FieldBytes.{one_instruction}
 
 pub instr_is : (bytes : List ℕ) (op : Op) → Instr bytes op → IsInstruction op
 instr_is bytes op h = record { unwritten = h.unwritten; fit = h.fit; spelled = refl }

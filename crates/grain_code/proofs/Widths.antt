@@ -18,7 +18,7 @@ use Rattle.grain_code.specs.Split.{StandsAt, NoneStandsAt}
 use Rattle.grain_code.proofs.Canonical.{flags_decoded}
 use Rattle.grain_code.proofs.Rows.{letter_of, letter_size, fields, Row, rows, row_of, IsRowOf, again, written, canonical, row_width, tag_width, widths}
 use Rattle.grain_code.proofs.Instructions.{instr_width, instr_along, begins_fits}
-use Rattle.grain_code.proofs.Reading.{IsBytes, bytes_taken, bytes_dropped, values, spelled_all, found_row}
+use Rattle.grain_code.proofs.FieldBytes.{IsBytes, bytes_taken, bytes_dropped, values, spelled_all, found_row}
 
 letter_sizes : (fs : List Field) → sum_by letter_size (map letter_of fs) ≡ sum_by size_of fs
 letter_sizes [] = refl

@@ -23,7 +23,7 @@ pub record IsAssembly (ops : List Op) (code offsets : List ℕ) : Type 0 where
   pub placed : offsets ≡ offsets_from 0 ops
   pub written : AreInstructions code (map (assembled offsets) ops)
 
--- a field of one of so many operations can be written
+-- a field of one of this many operations can be written
 abbrev pub IsWritable : ℕ → Field → Type 0
 IsWritable n (Index pool x) = x ≤ 65535
 IsWritable n (Slot x) = ⊤
@@ -33,7 +33,7 @@ IsWritable n (Target t) = t ≤ n
 abbrev pub AreWritable : ℕ → List Field → Type 0
 AreWritable n = AllByRecursion (IsWritable n)
 
--- each field of these operations, of so many in all, can be written
+-- each field of these operations, of this many in all, can be written
 abbrev pub EachWritable : ℕ → List Op → Type 0
 EachWritable n = AllByRecursion (λ op. AreWritable n (form op).1)
 

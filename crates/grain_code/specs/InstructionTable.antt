@@ -23,7 +23,7 @@ size_of (Slot x) = 2
 size_of (Count x) = 1
 size_of (Target x) = 4
 
--- so many bytes can spell the field's value
+-- this many bytes can spell the field's value
 abbrev pub FieldFits : Field → Type 0
 FieldFits (Index pool x) = x < 2 ^ 16
 FieldFits (Slot x) = x < 2 ^ 16

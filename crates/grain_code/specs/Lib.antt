@@ -3,6 +3,7 @@ pub mod Disassembly
 pub mod Fields
 pub mod Flows
 pub mod InstructionTable
+pub mod Labels
 pub mod Numbers
 pub mod OperationTexts
 pub mod Span

@@ -33,7 +33,7 @@ bits_of words = map (λ word. word.bits) words
 abbrev pub starts_in : List Word → List ℕ
 starts_in words = set_below (bits_of words) (64 * length words)
 
--- each word counts the starts before its own addresses, and all of them are so many
+-- each word has the number of starts before its own addresses, and the count is that of all starts
 pub record IsCounted (words : List Word) (count : ℕ) : Type 0 where
   pub before : (i : ℕ) (word : Word) → slice_get words i ≡ Some word → word.before ≡ length (set_below (bits_of words) (64 * i))
   pub all : count ≡ length (starts_in words)

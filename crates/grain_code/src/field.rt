@@ -3,11 +3,6 @@
 ghost use Rattle.std.specs.Prelude.{◌≡◌};
 ghost use Rattle.grain_code.specs.Assembly.{name_of};
 ghost use Rattle.grain_code.specs.Fields.{field_list};
-ghost use Rattle.grain_code.specs.InstructionTable.{form, width_of};
-
-use crate::encoding::layout;
-use crate::op::Op;
-use crate::tag_table::tag_row;
 
 /// The pools of a program that an index can go into.
 #[derive(Clone, Copy, Debug, PartialEq, Eq)]
@@ -88,24 +83,4 @@ impl Fields {
             Fields::Three(fields) => fields,
         }
     }
-}
-
-impl Op {
-    /// The fields with which it is written after its tag (docs/FORMAT.md, "Instructions").
-    #[must_use]
-    pub fn fields(&self) -> Fields
-        ensures { field_list result ≡ (form self.now).1 }
-    {
-        let (_tag, fields) = layout(self);
-        fields
-    }
-}
-
-/// How many bytes an operation takes once it is written.
-#[must_use]
-pub fn width_of(op: &Op) -> u32
-    ensures { result ≡ width_of op.now }
-{
-    let (tag, _fields) = layout(op);
-    u32::from(tag_row(tag).width)
 }

@@ -1,6 +1,6 @@
 //! The positions of faults.
 
-use crate::samples::{assert_same, failures, made};
+use crate::samples::{assert_same, calls_of_two_runs, failures, made};
 
 /// Scripts and their faults.
 static FAULTS: [(&str, &str); 8] = [
@@ -38,4 +38,14 @@ static FAULTS: [(&str, &str); 8] = [
 #[test]
 fn faults_have_their_positions(rt: HostRuntime) {
     assert_same(&rt, made(&rt, failures(rt.alloc(), &FAULTS)).as_str(), "");
+}
+
+#[test]
+fn a_second_run_has_a_backtrace_of_its_own(rt: HostRuntime) {
+    let source = "fn g() { 1 }\nfn f() { g(); 1 / 0 }\nfn h() { f() }\ng();\nh()";
+    assert_same(
+        &rt,
+        made(&rt, calls_of_two_runs(rt.alloc(), source)),
+        (2, 2),
+    );
 }

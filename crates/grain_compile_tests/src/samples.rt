@@ -92,3 +92,26 @@ pub(crate) fn failure(alloc: Global, source: &str, wanted: &str) -> Result<Strin
     }
     format!(in alloc; "{source} => {found} and not {wanted}\n")
 }
+
+/// How many calls the fault of each of two runs of one script ended.
+pub(crate) fn calls_of_two_runs(alloc: Global, source: &str) -> Result<(usize, usize), AllocError> {
+    let Ok(program) = compiled(alloc, source) else {
+        return Err(AllocError);
+    };
+    let Ok(accepted) = accept(&program) else {
+        return Err(AllocError);
+    };
+    let limits = Script::<Recorder>::DEFAULT_LIMITS;
+    let Ok(mut script) = Script::new(alloc, &program, Recorder::new(alloc), limits) else {
+        return Err(AllocError);
+    };
+    let limits = Limits {
+        fuel: 1_000,
+        depth: 50,
+    };
+    let main = accepted.main();
+    let _ending = main.run(alloc, &mut script, limits)?;
+    let first = script.backtrace().len();
+    let _ending = main.run(alloc, &mut script, limits)?;
+    Ok((first, script.backtrace().len()))
+}

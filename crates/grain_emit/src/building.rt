@@ -6,7 +6,7 @@ ghost use Rattle.grain.specs.Program.{declared_by, input_of};
 use crate::emitter::Emitter;
 use crate::parts::parts;
 use crate::scope::{Local, Scope};
-use grain::{BuildError, Caps, Chain, Cut, Flags, FnAccess, Head, Op, Program, VerifyError, build};
+use grain::{BuildError, Caps, Chain, Cut, Flags, FnAccess, Head, Program, VerifyError, build};
 use grain_lexer::{CompileError, Place, Problem};
 use std::alloc::{AllocError, Global};
 use std::mem;
@@ -111,7 +111,7 @@ impl Emitter {
     fn settle(&mut self) {
         let labels = mem::replace(&mut self.labels, Vec::new(self.alloc));
         for op in self.ops.iter_mut() {
-            settle(op, &labels);
+            op.bind_target(&labels);
         }
         self.labels = labels;
     }
@@ -119,22 +119,5 @@ impl Emitter {
     /// Takes the chains out of the pools.
     pub fn take_chains(&mut self) -> Vec<Chain> {
         mem::replace(&mut self.pools.chains, Vec::new(self.alloc))
-    }
-}
-
-/// Replaces the label of a jump by the index of an operation.
-fn settle(op: &mut Op, labels: &[u32]) {
-    match op {
-        Op::Jump(target)
-        | Op::JumpIfTrue { target }
-        | Op::JumpIfFalse { target }
-        | Op::SkipIfNotUnit { target }
-        | Op::PushHandler { target, .. }
-        | Op::IterNext { exit: target, .. } => {
-            if let Some(at) = labels.get(*target as usize) {
-                *target = *at;
-            }
-        }
-        _ => {}
     }
 }

@@ -11,9 +11,9 @@ use Rattle.grain_rules.specs.Effects.{Edge}
 use Rattle.grain_rules.specs.Layout.{IsBoundary}
 use Rattle.grain_rules.specs.Sinking.{FallsShortOf, ReachesUpTo, untouched}
 use Rattle.grain_rules.specs.Typing.{IsInChunk, Passes}
-use Rattle.grain_rules.proofs.Once.{stands_once}
+use Rattle.grain_rules.proofs.OperationUniqueness.{stands_once}
 use Rattle.grain_explain.specs.Certificate.{IsCertificate, RowLacks, RowsFlaw}
-use Rattle.grain_explain.specs.Claimed.{ArePlaced, AreSound, Claimed, IsLaid, span_claimed}
+use Rattle.grain_explain.specs.Claimed.{ArePlaced, AreSound, Claimed, IsWellFormed, span_claimed}
 use Rattle.grain_explain.specs.Lacking.{FindsLacking}
 use Rattle.grain_explain.specs.RowView.{counts_of, no_base, typing_of}
 use Rattle.grain_explain.specs.declared.error.TypingError.{TypingError}
@@ -88,7 +88,7 @@ module _ (code : Bytecode) (chunk : Span) (bases : List LinkedBase) (rows : List
       h.astray (sure.typing.closed h.row.at (counts_of bases h.row) h.op target h.counts (row_typed bases rows row h.row sure.ascending h.here.is) h.here.stands h.edge)
 
 -- what the tests of the rows find is that they are a typing
-pub certified : (g : Claimed) → g.chunk.entry ≤ g.chunk.end → g.chunk.end ≤ length g.code.bytes → IsBoundary g.code.bytes g.chunk.end → IsLaid g → ArePlaced g
+pub certified : (g : Claimed) → g.chunk.entry ≤ g.chunk.end → g.chunk.end ≤ length g.code.bytes → IsBoundary g.code.bytes g.chunk.end → IsWellFormed g → ArePlaced g
     → typing_of g.bases g.rows g.chunk.entry ≡ Some nothing → AreSound g → IsCertificate g.code (span_claimed g) g.bases g.rows
 certified g ordered inside end laid placed entry sound =
     let first = typed_by g.bases g.rows g.chunk.entry nothing entry in

@@ -1,4 +1,4 @@
--- What is refused is a flaw, and is shown where it is come to.
+-- What is refused is a flaw, and is shown where it is reached.
 use Rattle.std.proofs.Common.{◌≡◌, inl, inr, ℕ, ◌≤◌, List, Option, Some, slice_get, refl, sym, ap, subst, arith}
 use Rattle.std.specs.List.{All}
 use Rattle.std.proofs.lemmas.Option.{get_or_from_slice_get, slice_get_within}

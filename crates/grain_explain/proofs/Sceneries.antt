@@ -23,14 +23,14 @@ use Rattle.grain_rules.proofs.Splits.{boundary_apart, next_start}
 use Rattle.grain_explain.specs.Claimed.{falling_on, jumping}
 use Rattle.grain_rules.specs.EffectView.{flow_in}
 use Rattle.grain_explain.specs.RowView.{counts_of}
-use Rattle.grain_explain.specs.Scenes.{AreCome, Comes, IsCome, IsHeld, IsLeft, IsReadyScene, Seen, visit_count}
+use Rattle.grain_explain.specs.Scenes.{AreCome, ArrivesInWalk, IsCome, IsHeld, IsLeft, IsReadyScene, Seen, visit_count}
 use Rattle.grain_explain.specs.Ways.{Follows, Stop, arrival_stop, first_stop, row_stop, stops_of}
 use Rattle.grain_explain.specs.declared.arrival.Arrival.{Arrival}
 use Rattle.grain_explain.specs.declared.row.LinkedBase.{LinkedBase}
 use Rattle.grain_explain.specs.declared.row.Row.{Row}
 use Rattle.grain_explain.specs.declared.walk.Departure.{Departure}
-use Rattle.grain_explain.proofs.Matching.{falling_known, jumping_known}
-use Rattle.grain_explain.proofs.Tracing.{bounded_more, leads_more, stays_set, visit_more}
+use Rattle.grain_explain.proofs.EdgeMatches.{falling_known, jumping_known}
+use Rattle.grain_explain.proofs.StepsBack.{bounded_more, leads_more, stays_set, visit_more}
 
 -- a start is one of the starts, and each of these is one
 pub start_listed : (code starts : List ℕ) (at : ℕ) → Split code starts → IsStart code at → Contains starts at
@@ -106,7 +106,7 @@ first_come s bases slots a ready listed same none =
 module _ (s : Seen) (d : Departure) (left : IsLeft s d) where
   -- what comes along an edge has come
   pub along_come : (a : Arrival) → a.row.bases ≤ length d.visited.bases.now → a.from ≡ Some d.place → IsInChunk (coded s.code) s.chunk a.row.at
-      → Edge (coded s.code) left.op d.here.now.row.at (counts_of d.visited.bases.now d.here.now.row) a.row.at (counts_of d.visited.bases.now a.row) → Comes s d.visited a
+      → Edge (coded s.code) left.op d.here.now.row.at (counts_of d.visited.bases.now d.here.now.row) a.row.at (counts_of d.visited.bases.now a.row) → ArrivesInWalk s d.visited a
   along_come a listed from inside edge =
       let slots = d.visited.slots.now in
       let bases = d.visited.bases.now in

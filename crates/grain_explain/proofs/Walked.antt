@@ -9,7 +9,7 @@ use Rattle.grain_rules.specs.Typing.{IsInChunk}
 use Rattle.grain_explain.specs.Certificate.{IsCertificate}
 use Rattle.grain_explain.specs.Claimed.{ArePlaced, AreSound, IsSound}
 use Rattle.grain_explain.specs.Explaining.{HasPath, IsExplained, IsOrigin, IsReachedRow, IsTypedBy}
-use Rattle.grain_explain.specs.Pursuits.{ArePursued, HasRows, IsFound, Holds, IsAhead, IsRowIn}
+use Rattle.grain_explain.specs.Pursuits.{ArePursued, HasRows, IsRefusalShown, WasVisited, IsAhead, IsRowIn}
 use Rattle.grain_explain.specs.RowView.{AreAscending, AreLinked, AreListed, typing_of}
 use Rattle.grain_explain.specs.Scenes.{AreCome, IsReadyScene, Seen}
 use Rattle.grain_explain.specs.Ways.{IsShownRefusal, Stop, first_stop}
@@ -43,7 +43,7 @@ module _ (s : Seen) (bases : List LinkedBase) (slots : List (Option Arrival)) (r
   rows_listed : AreListed bases rows
   rows_listed k r is = let (a, (j, e), same) = row_of k r is in subst (λ (x : Row). x.bases ≤ length bases) same (come j a e).come.listed
 
-  module _ (most : ℕ) (shallow : (a : Arrival) → Holds slots a → a.row.operands ≤ most) where
+  module _ (most : ℕ) (shallow : (a : Arrival) → WasVisited slots a → a.row.operands ≤ most) where
     rows_placed : ArePlaced (record { code = s.code; chunk = s.chunk; bases = bases; rows = rows; most = most })
     rows_placed k r is = let (a, (j, e), same) = row_of k r is in subst (λ (x : Row). IsInChunk (coded s.code) s.chunk x.at) same (come j a e).come.inside
 
@@ -63,15 +63,15 @@ module _ (s : Seen) (bases : List LinkedBase) (slots : List (Option Arrival)) (r
         (record { linked = linked; listed = rows_listed; ascending = ascending }) rows_placed (ahead_typed (first_stop s.chunk) pursued.entry) rows_sound
 
 -- a walk that has ended has visited something
-pub some_held : (s : Seen) (bases : List LinkedBase) (slots : List (Option Arrival)) → ArePursued s bases slots [] → ((a : Arrival) → Holds slots a → ⊥) → ⊥
+pub some_held : (s : Seen) (bases : List LinkedBase) (slots : List (Option Arrival)) → ArePursued s bases slots [] → ((a : Arrival) → WasVisited slots a → ⊥) → ⊥
 some_held s bases slots pursued none = elim pursued.entry.1 [ inl h ↦ none pursued.entry.0 h | inr h ↦ (let l = h.1 in omega arith) ]
 
 -- the greater of two, where one is that of what was found before
-pub deeper_holds : {B : Type 0} (now : B → Arrival) (slots : List (Option Arrival)) (o : Option B) (here found : Arrival) → Holds slots here → IfSome o (λ b. Holds slots (now b))
-    → (found ≡ here) ⊎ MatchOption o ⊥ (λ b. found ≡ now b) → Holds slots found
-deeper_holds now slots o here found h before (inl e) = subst (Holds slots) (sym e) h
+pub deeper_holds : {B : Type 0} (now : B → Arrival) (slots : List (Option Arrival)) (o : Option B) (here found : Arrival) → WasVisited slots here → IfSome o (λ b. WasVisited slots (now b))
+    → (found ≡ here) ⊎ MatchOption o ⊥ (λ b. found ≡ now b) → WasVisited slots found
+deeper_holds now slots o here found h before (inl e) = subst (WasVisited slots) (sym e) h
 deeper_holds now slots None here found h before (inr e) = absurd e
-deeper_holds now slots (Some b) here found h before (inr e) = subst (Holds slots) (sym e) before
+deeper_holds now slots (Some b) here found h before (inr e) = subst (WasVisited slots) (sym e) before
 
 pub deeper_most : {B : Type 0} (now : B → Arrival) (o : Option B) (a found : Arrival) → MatchOption o ⊥ (λ b. a.row.operands ≤ (now b).row.operands) → MatchOption o ⊤ (λ b. (now b).row.operands ≤ found.row.operands)
     → a.row.operands ≤ found.row.operands
@@ -80,22 +80,22 @@ deeper_most now (Some b) a found h before = omega arith
 
 pub deepest_most : {B : Type 0} (now : B → Arrival) (slots : List (Option Arrival)) (o : Option B) (n : ℕ) → length slots ≤ n
     → ((k : ℕ) (a : Arrival) → k < n → get_or slots k None ≡ Some a → MatchOption o ⊥ (λ b. a.row.operands ≤ (now b).row.operands))
-    → MatchOption o ((a : Arrival) → Holds slots a → ⊥) (λ b. (a : Arrival) → Holds slots a → a.row.operands ≤ (now b).row.operands)
+    → MatchOption o ((a : Arrival) → WasVisited slots a → ⊥) (λ b. (a : Arrival) → WasVisited slots a → a.row.operands ≤ (now b).row.operands)
 deepest_most now slots None n l h = λ a (k, e). (let w = held_within slots k a e in h k a (omega arith) e)
 deepest_most now slots (Some b) n l h = λ a (k, e). (let w = held_within slots k a e in h k a (omega arith) e)
 
 -- what is said of a chunk whose refusal, if it has one, was found
 pub explained_of : (s : Seen) (slots : List (Option Arrival)) (x : ExplainedChunk) → AreAscending x.rows.items → All (IsReachedRow s.code s.chunk x.bases.items) x.rows.items
     → AllZip (IsOrigin s.code s.chunk x.bases.items) x.rows.items x.origins.items → HasRows x.rows.items slots
-    → MatchOption x.refusal (IsTypedBy s.code s.chunk x.bases.items x.rows.items) (IsFound s x.bases.items slots) → IsExplained s.code s.chunk x
+    → MatchOption x.refusal (IsTypedBy s.code s.chunk x.bases.items x.rows.items) (IsRefusalShown s x.bases.items slots) → IsExplained s.code s.chunk x
 explained_of s slots x ascending reached origins whole found =
     record { ascending = ascending; reached = reached; origins = origins; path = path_of x.refusal found; explains = shown_of x.refusal found }
   where
-    path_of : (o : Option Refusal) → MatchOption o (IsTypedBy s.code s.chunk x.bases.items x.rows.items) (IsFound s x.bases.items slots) → HasPath x.rows.items o
+    path_of : (o : Option Refusal) → MatchOption o (IsTypedBy s.code s.chunk x.bases.items x.rows.items) (IsRefusalShown s x.bases.items slots) → HasPath x.rows.items o
     path_of None h = tt
     path_of (Some r) h = All-weaker (IsRowIn slots) (Contains x.rows.items) (λ row (a, held, same). subst (Contains x.rows.items) same (whole a held)) r.way.items h.visited
 
-    shown_of : (o : Option Refusal) → MatchOption o (IsTypedBy s.code s.chunk x.bases.items x.rows.items) (IsFound s x.bases.items slots)
+    shown_of : (o : Option Refusal) → MatchOption o (IsTypedBy s.code s.chunk x.bases.items x.rows.items) (IsRefusalShown s x.bases.items slots)
         → MatchOption o (IsTypedBy s.code s.chunk x.bases.items x.rows.items) (IsShownRefusal s.code s.chunk x.bases.items)
     shown_of None h = h
     shown_of (Some r) h = h.shown

@@ -50,7 +50,7 @@ abbrev pub RefusesRows : Claimed → TypingError → Type 0
 RefusesRows g e = RowsFlaw g.code (span_claimed g) g.bases g.rows e
 
 -- the lists that rows name are there, and the rows are in the order of their addresses
-pub record IsLaid (g : Claimed) : Type 0 where
+pub record IsWellFormed (g : Claimed) : Type 0 where
   pub linked : AreLinked g.bases
   pub listed : AreListed g.bases g.rows
   pub ascending : AreAscending g.rows

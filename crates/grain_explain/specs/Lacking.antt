@@ -33,7 +33,7 @@ FindsLacking s op c lacks.Iterators = Allows s.caps (caps_of s op) × (c.iterato
 FindsLacking s op c lacks.Handlers = Allows s.caps (caps_of s op) × (length c.bases < handlers_needed op)
 FindsLacking s op c (lacks.Reserve need have) = Allows s.caps (caps_of s op) × Meets s op c × Sinks s op c need have
 
--- the stacks fall short of a base: so many are needed, and so many there
+-- the stacks fall short of a base: how many are needed, and how many are there
 abbrev pub IsReserve : Base → Base → Lack → Type 0
 IsReserve base stacks (lacks.Capabilities absent) = ⊥
 IsReserve base stacks (lacks.Operands need) = ⊥

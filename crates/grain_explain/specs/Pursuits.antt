@@ -19,20 +19,20 @@ use Rattle.grain_explain.specs.declared.walk.Turn.{Turn}
 use Rattle.grain_explain.specs.declared.walk.Turn.TheVariants as turns
 
 -- an arrival that was visited
-abbrev pub Holds : List (Option Arrival) → Arrival → Type 0
-Holds slots a = (k : ℕ) × (get_or slots k None ≡ Some a)
+abbrev pub WasVisited : List (Option Arrival) → Arrival → Type 0
+WasVisited slots a = (k : ℕ) × (get_or slots k None ≡ Some a)
 
 -- the row of an arrival that was visited
 abbrev pub IsRowIn : List (Option Arrival) → Row → Type 0
-IsRowIn slots r = (a : Arrival) × Holds slots a × (a.row ≡ r)
+IsRowIn slots r = (a : Arrival) × WasVisited slots a × (a.row ≡ r)
 
 -- all that was visited has its row
 abbrev pub HasRows : List Row → List (Option Arrival) → Type 0
-HasRows rows slots = (a : Arrival) → Holds slots a → Contains rows a.row
+HasRows rows slots = (a : Arrival) → WasVisited slots a → Contains rows a.row
 
 -- a state that was visited, or that waits
 abbrev pub IsAhead : List LinkedBase → List (Option Arrival) → List Arrival → Stop → Type 0
-IsAhead bases slots work x = (a : Arrival) × (Holds slots a ⊎ Contains work a) × (arrival_stop bases a ≡ x)
+IsAhead bases slots work x = (a : Arrival) × (WasVisited slots a ⊎ Contains work a) × (arrival_stop bases a ≡ x)
 
 -- an arrival passes, and each of its edges leads to such a state
 pub record IsPursued (s : Seen) (bases : List LinkedBase) (slots : List (Option Arrival)) (work : List Arrival) (a : Arrival) : Type 0 where
@@ -50,12 +50,12 @@ abbrev pub IsBegun : List (Option Arrival) → Type 0
 IsBegun slots = (a : Arrival) × (get_or slots 0 None ≡ Some a)
 
 -- the refusal is right, and each state of its path was visited
-pub record IsFound (s : Seen) (bases : List LinkedBase) (slots : List (Option Arrival)) (r : Refusal) : Type 0 where
+pub record IsRefusalShown (s : Seen) (bases : List LinkedBase) (slots : List (Option Arrival)) (r : Refusal) : Type 0 where
   pub shown : IsRefusalAt s bases r
   pub visited : All (IsRowIn slots) r.way.items
 
 -- An arrival that is next, whose place is free: the entry, where nothing was visited, or what was taken from the worklist.
-pub record IsNext (s : Seen) (x : Search) (place : ℕ) (a : Arrival) : Type 0 where
+pub record IsNextArrival (s : Seen) (x : Search) (place : ℕ) (a : Arrival) : Type 0 where
   pub come : IsCome s x.arming.bases.items x.slots.items a
   pub placed : a.row.at ≡ s.chunk.entry + place
   pub first : (a.from ≡ None) ↔ (place ≡ 0)
@@ -67,8 +67,8 @@ pub record IsNext (s : Seen) (x : Search) (place : ℕ) (a : Arrival) : Type 0 w
 -- nothing waits, or this arrival is next, or this is the refusal
 abbrev pub IsTurn : Seen → Search → Turn → Type 0
 IsTurn s x turns.Finished = ArePursued s x.arming.bases.items x.slots.items []
-IsTurn s x (turns.Visit place a) = IsNext s x place a
-IsTurn s x (turns.Refused r) = IsFound s x.arming.bases.items x.slots.items r
+IsTurn s x (turns.Visit place a) = IsNextArrival s x place a
+IsTurn s x (turns.Refused r) = IsRefusalShown s x.arming.bases.items x.slots.items r
 
 -- no arrival is lost
 abbrev pub Keeps : List Arrival → List Arrival → Type 0
@@ -81,8 +81,8 @@ sent_to d target = record {
   from = Some d.place;
 }
 
-abbrev pub fallen : Departure → Arrival
-fallen d = record {
+abbrev pub sent_to_next : Departure → Arrival
+sent_to_next d = record {
   row = record { at = d.next; operands = d.leaving.fall.operands; iterators = d.leaving.fall.iterators; bases = d.leaving.fall.bases };
   from = Some d.place;
 }

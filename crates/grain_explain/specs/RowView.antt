@@ -4,17 +4,17 @@ use Rattle.grain_rules.specs.Counts.{Base, Counts}
 use Rattle.grain_explain.specs.declared.row.LinkedBase.{LinkedBase}
 use Rattle.grain_explain.specs.declared.row.Row.{Row}
 
-abbrev pub base_of : LinkedBase → Base
-base_of b = record { operands = b.operands; iterators = b.iterators }
+abbrev pub plain_base : LinkedBase → Base
+plain_base b = record { operands = b.operands; iterators = b.iterators }
 
 abbrev pub no_base : LinkedBase
 no_base = record { operands = 0; iterators = 0; next = 0 }
 
--- the bases of the list with a number, at most so many of them
+-- the bases of the list with a number, at most this many of them
 abbrev pub list_within : ℕ → List LinkedBase → ℕ → List Base
 list_within zero bases n = []
 list_within (suc most) bases zero = []
-list_within (suc most) bases (suc k) = base_of (slice_index_or bases k no_base) ∷ list_within most bases (slice_index_or bases k no_base).next
+list_within (suc most) bases (suc k) = plain_base (slice_index_or bases k no_base) ∷ list_within most bases (slice_index_or bases k no_base).next
 
 -- all of them: where bases are linked, no list has more than its number
 abbrev pub list_in : List LinkedBase → ℕ → List Base

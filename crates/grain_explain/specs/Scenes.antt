@@ -1,4 +1,4 @@
--- What the walk over a chunk has come to.
+-- What the walk over a chunk has reached.
 use Rattle.std.specs.Prelude.{◌≡◌, ◌⊎◌, ◌↔◌, ⊤, ℕ, zero, suc, ◌+◌, ◌-◌, ◌<◌, ◌≤◌, ◌^◌, List, ◌++◌, Option, None, Some, MatchOption, get_or, length}
 use Rattle.std.specs.List.{All, Contains, count_by}
 use Rattle.std.specs.Option.{is_some}
@@ -75,13 +75,13 @@ first_arrival chunk = record { row = record { at = chunk.entry; operands = 0; it
 abbrev pub visit_count : List (Option Arrival) → ℕ
 visit_count slots = count_by is_some slots
 
--- fewer than so many steps lead from an arrival back to the entry, from place to place
+-- fewer than this many steps lead from an arrival back to the entry, from place to place
 abbrev pub LeadsBack : List (Option Arrival) → ℕ → Arrival → Type 0
 LeadsBack slots zero a = ⊥
 LeadsBack slots (suc n) a = MatchOption a.from ⊤ (λ k. (y : Arrival) × (get_or slots k None ≡ Some y) × LeadsBack slots n y)
 
--- so many steps lead back at most, and no more operands or iterators are there
-pub record IsBounded (slots : List (Option Arrival)) (n : ℕ) (a : Arrival) : Type 0 where
+-- this many steps lead back at most, and no more operands or iterators are there
+pub record IsWithinSteps (slots : List (Option Arrival)) (n : ℕ) (a : Arrival) : Type 0 where
   pub back : LeadsBack slots (suc n) a
   pub operands : a.row.operands ≤ n
   pub iterators : a.row.iterators ≤ n
@@ -94,7 +94,7 @@ pub record IsCome (s : Seen) (bases : List LinkedBase) (slots : List (Option Arr
   pub reached : Reached (coded s.code) s.chunk a.row.at (counts_of bases a.row)
   pub origin : MatchOption a.from (arrival_stop bases a ≡ first_stop s.chunk)
       (λ k. (y : Arrival) × (get_or slots k None ≡ Some y) × Follows s.code s.chunk (arrival_stop bases y) (arrival_stop bases a))
-  pub bounded : IsBounded slots (visit_count slots) a
+  pub bounded : IsWithinSteps slots (visit_count slots) a
 
 -- an arrival that was visited is in the place of its address, has come from another unless that is the entry, and others were
 -- visited before it
@@ -104,14 +104,14 @@ pub record IsHeld (s : Seen) (bases : List LinkedBase) (slots : List (Option Arr
   pub first : (a.from ≡ None) ↔ (k ≡ 0)
   pub earlier : ℕ
   pub fewer : earlier < visit_count slots
-  pub bounded : IsBounded slots earlier a
+  pub bounded : IsWithinSteps slots earlier a
 
 abbrev pub AreCome : Seen → List LinkedBase → List (Option Arrival) → Type 0
 AreCome s bases slots = (k : ℕ) (a : Arrival) → get_or slots k None ≡ Some a → IsHeld s bases slots k a
 
 -- the same of what a walk has visited
-abbrev pub Comes : Seen → Visited → Arrival → Type 0
-Comes s v a = IsCome s v.bases.now v.slots.now a
+abbrev pub ArrivesInWalk : Seen → Visited → Arrival → Type 0
+ArrivesInWalk s v a = IsCome s v.bases.now v.slots.now a
 
 abbrev pub AreHeld : Seen → Visited → Type 0
 AreHeld s v = AreCome s v.bases.now v.slots.now
@@ -138,17 +138,17 @@ pub record Extends (old new : List LinkedBase) : Type 0 where
   pub is : new ≡ old ++ more
   pub linked : AreLinked new
 
--- what stands on an edge, and names a list that is there
-pub record Lands (bases : List LinkedBase) (s : Stacks) (c : Counts) : Type 0 where
+-- what is on an edge, and names a list that is there
+pub record StandsOnEdge (bases : List LinkedBase) (s : Stacks) (c : Counts) : Type 0 where
   pub listed : s.bases ≤ length bases
   pub is : stacks_in bases s ≡ c
 
--- what stands on the edges to the targets of an operation that finds a row, and on that to the next
+-- what is on the edges to the targets of an operation that finds a row, and on that to the next
 pub record Leaves (bases : List LinkedBase) (row : Row) (e : Effect) (l : Leaving) : Type 0 where
-  pub jump : Lands bases l.jump (jumping bases row e)
-  pub fall : Lands bases l.fall (falling_on bases row e)
+  pub jump : StandsOnEdge bases l.jump (jumping bases row e)
+  pub fall : StandsOnEdge bases l.fall (falling_on bases row e)
 
--- an instruction that passes is left: this is what it does, what stands on its edges, and where the next one stands
+-- an instruction that passes is left: this is what it does, what is on its edges, and where the next one is
 pub record IsLeft (s : Seen) (d : Departure) : Type 0 where
   pub op : Op
   pub does : DoesTo s.code.setting op d.effect.now

@@ -43,7 +43,7 @@ first_stop chunk = (chunk.entry, nothing)
 abbrev pub Follows : Bytecode → Span → Stop → Stop → Type 0
 Follows code chunk x y = (op : Op) × Passes (coded code) chunk x.0 x.1 op × Edge (coded code) op x.0 x.1 y.0 y.1
 
--- such edges lead from the entry to a state, by these states, told from the last back to the first
+-- such edges lead from the entry to a state, by these states, listed from the last back to the first
 abbrev pub IsWay : Bytecode → Span → Stop → List Stop → Type 0
 IsWay code chunk x [] = x ≡ first_stop chunk
 IsWay code chunk x (y ∷ earlier) = Follows code chunk y x × IsWay code chunk y earlier

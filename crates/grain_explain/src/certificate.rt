@@ -19,8 +19,8 @@ use grain_rules::Read;
 /// - the chunk lies in the code and ends at a boundary of instructions;
 /// - each base names a list before it, and each row a list that is there;
 /// - the entry has a row with nothing on the stacks;
-/// - each row is at an instruction of the chunk, which finds what it needs there and leaves what stood when the last handler was
-///   armed;
+/// - each row is at an instruction of the chunk, which finds what it needs there and leaves what was on the stacks when the
+///   last handler was armed;
 /// - each edge leads to a row with the very counts of the edge.
 ///
 /// Whether constants, indices and functions pass is for other tests.

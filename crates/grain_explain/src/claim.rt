@@ -3,7 +3,7 @@ ghost use Rattle.std.specs.Prelude.{◌≡◌, ◌≤◌, ◌<◌, ◌↔◌, �
 ghost use Rattle.std.specs.Prelude.{IfErr, OnOk, IsTrue};
 ghost use Rattle.grain_code.specs.Split.{Split};
 ghost use Rattle.grain_rules.specs.Layout.{IsBoundary};
-ghost use Rattle.grain_explain.specs.Claimed.{ArePlaced, AreSound, HasRow, IsLaid, IsSound};
+ghost use Rattle.grain_explain.specs.Claimed.{ArePlaced, AreSound, HasRow, IsWellFormed, IsSound};
 ghost use Rattle.grain_explain.specs.OnEdges.{IsListedIn};
 ghost use Rattle.grain_explain.specs.Certificate.{IsCertificate};
 ghost use Rattle.grain_explain.specs.Claimed.{RefusesRows, claimed, lack_named, span_claimed};
@@ -115,7 +115,7 @@ impl<P: Read> Claim<'_, P> {
 
     /// Whether the row at an address, if there is one, has the counts of an edge.
     pub(crate) fn has_row(&self, at: usize, edge: &OnEdge) -> bool
-        requires laid { IsLaid (claimed P.facts P.leads self.now) }
+        requires laid { IsWellFormed (claimed P.facts P.leads self.now) }
         requires listed { IsListedIn self.now.bases.now edge.now.handlers }
         ensures { IsTrue result ↔ HasRow (claimed P.facts P.leads self.now) edge.now at }
     {
@@ -130,7 +130,7 @@ impl<P: Read> Claim<'_, P> {
     /// # Errors
     /// The first test that fails, by its name.
     fn check_row(&self, number: usize, row: &Row) -> Result<(), TypingError>
-        requires laid { IsLaid (claimed P.facts P.leads self.now) }
+        requires laid { IsWellFormed (claimed P.facts P.leads self.now) }
         requires placed { ArePlaced (claimed P.facts P.leads self.now) }
         requires here { slice_get self.now.rows.now number ≡ Some row.now }
         ensures sound { OnOk result (IsSound (claimed P.facts P.leads self.now) row.now) }
@@ -207,7 +207,7 @@ impl<P: Read> Claim<'_, P> {
     /// # Errors
     /// That of the first row that is refused.
     fn check_rows(&self) -> Result<(), TypingError>
-        requires laid { IsLaid (claimed P.facts P.leads self.now) }
+        requires laid { IsWellFormed (claimed P.facts P.leads self.now) }
         requires placed { ArePlaced (claimed P.facts P.leads self.now) }
         ensures sound { OnOk result (AreSound (claimed P.facts P.leads self.now)) }
         ensures err { IfErr result (RefusesRows (claimed P.facts P.leads self.now)) }

@@ -188,7 +188,7 @@ impl OnEdge {
     }
 }
 
-/// How many operands are left of so many.
+/// How many operands an operation leaves of these.
 fn left(operands: u32, effect: &Effect) -> u64
     ensures { result ≡ left_by effect.now operands }
 {

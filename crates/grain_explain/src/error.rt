@@ -73,7 +73,7 @@ pub enum TypingError {
         /// The row.
         row: usize,
     },
-    /// A row's instruction isn't quiet, and doesn't leave what stood when the last handler was armed.
+    /// A row's instruction isn't quiet, and doesn't leave what was on the stacks when the last handler was armed.
     SinksBelowHandler {
         /// The row.
         row: usize,

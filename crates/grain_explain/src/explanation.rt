@@ -6,7 +6,7 @@ ghost use Rattle.grain_rules.specs.Flaw.{ChunkFlaw};
 ghost use Rattle.grain_explain.specs.Explaining.{IsExplained, IsOrigin, IsReachedRow, IsTypedBy};
 ghost use Rattle.grain_explain.specs.Scenes.{AreHeld, IsReadyScene, first_arrival};
 ghost use Rattle.grain_explain.specs.Scenes.{IsSearching, IsStarted, seen};
-ghost use Rattle.grain_explain.specs.Pursuits.{ArePursued, HasRows, Holds, IsFound, IsNext, IsRowIn};
+ghost use Rattle.grain_explain.specs.Pursuits.{ArePursued, HasRows, WasVisited, IsRefusalShown, IsNextArrival, IsRowIn};
 ghost use Rattle.grain_explain.specs.RowView.{AreAscending, AreLinked};
 ghost use Rattle.grain_explain.specs.Ways.{IsFrameFlaw};
 ghost use Rattle.grain_explain.specs.declared.arrival.Arrival.{Arrival};
@@ -90,7 +90,7 @@ impl<P: Read> Scene<'_, P> {
     fn begin(&self) -> Result<Search, AllocError>
         requires { IsReadyScene (seen P.facts P.leads self.now) }
         ensures searching { IfOk result (IsSearching (seen P.facts P.leads self.now)) }
-        ensures next { IfOk result (λ x. IsNext (seen P.facts P.leads self.now) x 0
+        ensures next { IfOk result (λ x. IsNextArrival (seen P.facts P.leads self.now) x 0
             (first_arrival self.now.chunk.now)) }
     {
         let length = self.chunk.end() as usize - self.chunk.entry() as usize;
@@ -101,7 +101,7 @@ impl<P: Read> Scene<'_, P> {
         })
     }
 
-    /// So many places that were not visited.
+    /// A list of this many places, none of them visited.
     ///
     /// # Errors
     /// [`AllocError`] where an allocation failed.
@@ -144,7 +144,7 @@ impl<P: Read> Scene<'_, P> {
     /// The address from which an arrival came.
     fn origin_of(&self, visited: &Visited<'_>, arrival: &Arrival) -> Option<u32>
         requires come { AreHeld (seen P.facts P.leads self.now) visited.now }
-        requires arrival { Holds visited.now.slots.now arrival.now }
+        requires arrival { WasVisited visited.now.slots.now arrival.now }
         ensures { IsOrigin (seen P.facts P.leads self.now).code self.now.chunk.now
             visited.now.bases.now arrival.now.row result }
     {
@@ -170,7 +170,7 @@ impl<P: Read> Scene<'_, P> {
         ensures { IfOk result (λ r. MatchOption r
             (IsTypedBy (seen P.facts P.leads self.now).code self.now.chunk.now visited.now.bases.now
             rows.now)
-            (IsFound (seen P.facts P.leads self.now) visited.now.bases.now
+            (IsRefusalShown (seen P.facts P.leads self.now) visited.now.bases.now
             visited.now.slots.now)) }
     {
         let Some(here) = self.deepest(visited) else {
@@ -189,9 +189,9 @@ impl<P: Read> Scene<'_, P> {
 
     /// What was visited with the most operands.
     fn deepest<'a>(&self, visited: &Visited<'a>) -> Option<&'a Arrival>
-        ensures holds { IfSome result (λ a. Holds visited.now.slots.now a.now) }
-        ensures most { MatchOption result ((a : Arrival) → Holds visited.now.slots.now a → ⊥)
-            (λ deepest. (a : Arrival) → Holds visited.now.slots.now a
+        ensures holds { IfSome result (λ a. WasVisited visited.now.slots.now a.now) }
+        ensures most { MatchOption result ((a : Arrival) → WasVisited visited.now.slots.now a → ⊥)
+            (λ deepest. (a : Arrival) → WasVisited visited.now.slots.now a
             → a.row.operands ≤ deepest.now.row.operands) }
     {
         let mut deepest = None;

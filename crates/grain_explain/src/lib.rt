@@ -1,6 +1,6 @@
 //! Why a chunk of Rhai Grain bytecode is accepted or refused, as rows that anybody can check.
 //!
-//! A stack typing says of each instruction that a run may come to what stands there: how many operands and iterators,
+//! A stack typing says of each instruction that a run may reach what is on the stacks: how many operands and iterators,
 //! and the bases of the armed handlers. [`check_typing`] says whether rows that somebody hands in are such a typing, without
 //! a walk and without memory. What a typing is is defined in `grain_rules`.
 #![tactic(auto)]

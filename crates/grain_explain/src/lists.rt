@@ -1,6 +1,6 @@
 //! Lists of bases that share their ends.
 ghost use Rattle.std.specs.Prelude.{◌≡◌, ◌≢◌, ◌∷◌, ◌<◌, ◌≤◌, ◌↔◌, ◌-◌, IsTrue, MatchOption, Some, length, slice_get};
-ghost use Rattle.grain_explain.specs.RowView.{AreLinked, base_of, list_in};
+ghost use Rattle.grain_explain.specs.RowView.{AreLinked, plain_base, list_in};
 
 use crate::row::LinkedBase;
 
@@ -9,7 +9,7 @@ pub(crate) fn first_base(bases: &[LinkedBase], list: u32) -> Option<LinkedBase>
     requires linked { AreLinked bases.now }
     requires listed { list ≤ length bases.now }
     ensures { MatchOption result (list ≡ 0)
-        (λ b. (list_in bases.now list ≡ base_of b ∷ list_in bases.now b.next) × (b.next < list)) }
+        (λ b. (list_in bases.now list ≡ plain_base b ∷ list_in bases.now b.next) × (b.next < list)) }
 {
     if list == 0 {
         return None;

@@ -4,7 +4,7 @@ ghost use Rattle.grain_rules.specs.Counts.{last_base};
 ghost use Rattle.grain_rules.specs.Setting.{with_caps};
 ghost use Rattle.grain_rules.specs.Sinking.{ReachesUpTo};
 ghost use Rattle.grain_explain.specs.Lacking.{DoesTo, HasAll, IsReserve, FindsLacking};
-ghost use Rattle.grain_explain.specs.RowView.{AreLinked, base_of, counts_of, list_in};
+ghost use Rattle.grain_explain.specs.RowView.{AreLinked, plain_base, counts_of, list_in};
 
 use crate::lists::first_base;
 use crate::row::{LinkedBase, Row};
@@ -18,14 +18,14 @@ use std::marker::Model;
 pub(crate) enum Lack {
     /// These capabilities.
     Capabilities(Caps),
-    /// Operands, of which it needs so many.
+    /// Operands, and how many it needs.
     Operands(u32),
     /// The iterator that it needs.
     Iterators,
     /// The handler that it disarms.
     Handlers,
-    /// It isn't quiet, and leaves too little of what stood when the last handler was armed: so many operands, or where there
-    /// are enough, so many iterators, and so many are left.
+    /// It isn't quiet, and leaves too little of what was on the stacks when the last handler was armed: how many operands
+    /// there were, or iterators where the operands are enough, and how many it leaves.
     Reserve(u32, u32),
 }
 

@@ -2,7 +2,7 @@
 ghost use Rattle.std.specs.Prelude.{◌≡◌, ◌<◌, ◌≤◌, ◌+◌, ◌^◌, ◌↔◌, [], IfOk, IsTrue, IfSome, OnOk, Some, length, slice_get, ◌-◌};
 ghost use Rattle.grain_explain.specs.OnEdges.{IsListedIn, counts_on, handlers_in, pushed_in};
 ghost use Rattle.grain_explain.specs.RowView.{AreLinked, list_in};
-ghost use Rattle.grain_explain.specs.Scenes.{Extends, Lands, Leaves};
+ghost use Rattle.grain_explain.specs.Scenes.{Extends, StandsOnEdge, Leaves};
 
 use crate::edge::{Handlers, OnEdge};
 use crate::lists::is_headed_by;
@@ -140,7 +140,7 @@ impl Arming {
         ensures extends { OnOk result (Extends self.old.bases.items self.new.bases.items) }
         ensures grows { OnOk result (length self.new.bases.items
             ≤ length self.old.bases.items + pushed_in edge.now.handlers) }
-        ensures lands { IfOk result (λ s. Lands self.new.bases.items s
+        ensures lands { IfOk result (λ s. StandsOnEdge self.new.bases.items s
             (counts_on self.old.bases.items edge.now)) }
     {
         let bases = self.list_on(edge.handlers)?;
@@ -182,16 +182,5 @@ impl Arming {
 fn arms_handler(flow: Flow) -> bool
     ensures { IsTrue result ↔ (flow ≡ Flow.PushesHandler) }
 {
-    match flow {
-        Flow::PushesHandler => true,
-        Flow::Falls
-        | Flow::Ends
-        | Flow::Jumps
-        | Flow::Branches
-        | Flow::Switches
-        | Flow::BeginsIterator
-        | Flow::AdvancesIterator
-        | Flow::EndsIterator
-        | Flow::PopsHandler => false,
-    }
+    flow == Flow::PushesHandler
 }

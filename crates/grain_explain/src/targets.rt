@@ -3,7 +3,7 @@ ghost use Rattle.std.specs.Prelude.{◌≤◌, length, IfErr, OnOk};
 ghost use Rattle.std.specs.List.{All};
 ghost use Rattle.grain_rules.specs.FlowFields.{targets_for};
 ghost use Rattle.grain_rules.specs.EffectView.{flow_in};
-ghost use Rattle.grain_explain.specs.Claimed.{AreMatched, HasRow, IsAstray, IsLaid, IsUnmatched};
+ghost use Rattle.grain_explain.specs.Claimed.{AreMatched, HasRow, IsAstray, IsWellFormed, IsUnmatched};
 ghost use Rattle.grain_explain.specs.Claimed.{MissesOne, claimed};
 ghost use Rattle.grain_explain.specs.OnEdges.{IsListedIn};
 
@@ -20,7 +20,7 @@ impl<P: Read> Claim<'_, P> {
     /// # Errors
     /// `Unmatched`.
     fn check_target(&self, number: usize, target: usize, edge: &OnEdge) -> Result<(), TypingError>
-        requires laid { IsLaid (claimed P.facts P.leads self.now) }
+        requires laid { IsWellFormed (claimed P.facts P.leads self.now) }
         requires listed { IsListedIn self.now.bases.now edge.now.handlers }
         ensures ok { OnOk result (HasRow (claimed P.facts P.leads self.now) edge.now target) }
         ensures err { IfErr result (IsUnmatched (claimed P.facts P.leads self.now)
@@ -46,7 +46,7 @@ impl<P: Read> Claim<'_, P> {
         mut targets: T,
         edge: &OnEdge,
     ) -> Result<(), TypingError>
-        requires laid { IsLaid (claimed P.facts P.leads self.now) }
+        requires laid { IsWellFormed (claimed P.facts P.leads self.now) }
         requires listed { IsListedIn self.now.bases.now edge.now.handlers }
         ensures ok { OnOk result (All (HasRow (claimed P.facts P.leads self.now) edge.now)
             (T.left targets)) }
@@ -69,7 +69,7 @@ impl<P: Read> Claim<'_, P> {
         effect: &Effect,
         edge: &OnEdge,
     ) -> Result<(), TypingError>
-        requires laid { IsLaid (claimed P.facts P.leads self.now) }
+        requires laid { IsWellFormed (claimed P.facts P.leads self.now) }
         requires listed { IsListedIn self.now.bases.now edge.now.handlers }
         ensures ok { OnOk result (All (HasRow (claimed P.facts P.leads self.now) edge.now)
             (targets_for (claimed P.facts P.leads self.now).code.switches (flow_in effect.now))) }
@@ -99,7 +99,7 @@ impl<P: Read> Claim<'_, P> {
         effect: &Effect,
         next: usize,
     ) -> Result<(), TypingError>
-        requires laid { IsLaid (claimed P.facts P.leads self.now) }
+        requires laid { IsWellFormed (claimed P.facts P.leads self.now) }
         requires listed { row.now.bases ≤ length self.now.bases.now }
         ensures ok { OnOk result (AreMatched (claimed P.facts P.leads self.now)
             row.now effect.now next) }

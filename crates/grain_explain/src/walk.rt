@@ -7,9 +7,9 @@ ghost use Rattle.grain_rules.specs.Flaw.{ChunkFlaw};
 ghost use Rattle.grain_rules.specs.FlowFields.{falls_for, targets_for};
 ghost use Rattle.grain_rules.specs.EffectView.{flow_in};
 ghost use Rattle.grain_rules.specs.Typing.{IsInChunk};
-ghost use Rattle.grain_explain.specs.Pursuits.{ArePursued, Holds, IsBegun, IsFound, IsNext};
-ghost use Rattle.grain_explain.specs.Pursuits.{IsPursued, IsRowIn, IsTurn, Keeps, fallen, sent_to};
-ghost use Rattle.grain_explain.specs.Scenes.{AreCome, AreHeld, Comes, IsCome, IsReadyScene};
+ghost use Rattle.grain_explain.specs.Pursuits.{ArePursued, WasVisited, IsBegun, IsRefusalShown, IsNextArrival};
+ghost use Rattle.grain_explain.specs.Pursuits.{IsPursued, IsRowIn, IsTurn, Keeps, sent_to_next, sent_to};
+ghost use Rattle.grain_explain.specs.Scenes.{AreCome, AreHeld, ArrivesInWalk, IsCome, IsReadyScene};
 ghost use Rattle.grain_explain.specs.Scenes.{IsHeld, IsSearching};
 ghost use Rattle.grain_explain.specs.Scenes.{Extends, IsLeft, MissesTargetOf, error_lacking, seen};
 ghost use Rattle.grain_explain.specs.Scenes.{first_arrival, visit_count};
@@ -54,7 +54,7 @@ pub(crate) struct Visited<'a> {
     pub(crate) bases: &'a [LinkedBase],
 }
 
-/// An instruction that is left: what is there, its place, what it does, what stands on its edges, and the address of the next.
+/// An instruction that is left: what is there, its place, what it does, what is on its edges, and the address of the next.
 #[derive(Clone, Copy)]
 pub(crate) struct Departure<'a> {
     pub(crate) visited: Visited<'a>,
@@ -86,14 +86,14 @@ impl<P: Read> Scene<'_, P> {
     pub(crate) fn run(&self, search: &mut Search) -> Result<Option<Refusal>, AllocError>
         requires ready { IsReadyScene (seen P.facts P.leads self.now) }
         requires searching { IsSearching (seen P.facts P.leads self.now) search.old }
-        requires next { IsNext (seen P.facts P.leads self.now) search.old 0
+        requires next { IsNextArrival (seen P.facts P.leads self.now) search.old 0
             (first_arrival self.now.chunk.now) }
         ensures come { OnOk result (AreCome (seen P.facts P.leads self.now)
             search.new.arming.bases.items search.new.slots.items) }
         ensures linked { OnOk result (AreLinked search.new.arming.bases.items) }
         ensures pursued { IfOk result (λ r. IfNone r (ArePursued (seen P.facts P.leads self.now)
             search.new.arming.bases.items search.new.slots.items [])) }
-        ensures refusal { IfOk result (λ r. IfSome r (IsFound (seen P.facts P.leads self.now)
+        ensures refusal { IfOk result (λ r. IfSome r (IsRefusalShown (seen P.facts P.leads self.now)
             search.new.arming.bases.items search.new.slots.items)) }
     {
         let mut next = Turn::Visit(0, self.first());
@@ -170,12 +170,12 @@ impl<P: Read> Scene<'_, P> {
         requires ready { IsReadyScene (seen P.facts P.leads self.now) }
         requires linked { AreLinked visited.now.bases.now }
         requires come { AreHeld (seen P.facts P.leads self.now) visited.now }
-        requires before { Holds visited.now.slots.now before.now }
-        requires arrival { Comes (seen P.facts P.leads self.now) visited.now arrival.now }
+        requires before { WasVisited visited.now.slots.now before.now }
+        requires arrival { ArrivesInWalk (seen P.facts P.leads self.now) visited.now arrival.now }
         requires there { before.now.row.at ≡ arrival.now.row.at }
         ensures same { IfOk result (λ r. IfNone r (arrival_stop visited.now.bases.now before.now
             ≡ arrival_stop visited.now.bases.now arrival.now)) }
-        ensures refusal { IfOk result (λ r. IfSome r (IsFound (seen P.facts P.leads self.now)
+        ensures refusal { IfOk result (λ r. IfSome r (IsRefusalShown (seen P.facts P.leads self.now)
             visited.now.bases.now visited.now.slots.now)) }
     {
         if OnEdge::at(&before.row).is_at(visited.bases, &arrival.row) {
@@ -204,14 +204,14 @@ impl<P: Read> Scene<'_, P> {
     ) -> Result<Option<Refusal>, AllocError>
         requires ready { IsReadyScene (seen P.facts P.leads self.now) }
         requires searching { IsSearching (seen P.facts P.leads self.now) search.old }
-        requires next { IsNext (seen P.facts P.leads self.now) search.old place arrival }
+        requires next { IsNextArrival (seen P.facts P.leads self.now) search.old place arrival }
         ensures more { OnOk result (visit_count search.new.slots.items
             ≡ visit_count search.old.slots.items + 1) }
         ensures searching { OnOk result (IsSearching (seen P.facts P.leads self.now) search.new) }
         ensures begun { OnOk result (IsBegun search.new.slots.items) }
         ensures pursued { IfOk result (λ r. IfNone r (ArePursued (seen P.facts P.leads self.now)
             search.new.arming.bases.items search.new.slots.items search.new.work.items)) }
-        ensures refusal { IfOk result (λ r. IfSome r (IsFound (seen P.facts P.leads self.now)
+        ensures refusal { IfOk result (λ r. IfSome r (IsRefusalShown (seen P.facts P.leads self.now)
             search.new.arming.bases.items search.new.slots.items)) }
     {
         search.slots[place] = Some(arrival);
@@ -253,7 +253,7 @@ impl<P: Read> Scene<'_, P> {
         ensures pursued { IfOk result (λ r. IfNone r (IsPursued (seen P.facts P.leads self.now)
             arming.new.bases.items slots.now work.new.items here.now)) }
         ensures refusal { IfOk result
-            (λ r. IfSome r (IsFound (seen P.facts P.leads self.now)
+            (λ r. IfSome r (IsRefusalShown (seen P.facts P.leads self.now)
             arming.new.bases.items slots.now)) }
     {
         let row = &here.row;
@@ -322,15 +322,15 @@ impl<P: Read> Scene<'_, P> {
     ) -> Result<Option<Refusal>, AllocError>
         requires ready { IsReadyScene (seen P.facts P.leads self.now) }
         requires left { IsLeft (seen P.facts P.leads self.now) departure.now }
-        requires waits { All (Comes (seen P.facts P.leads self.now) departure.now.visited)
+        requires waits { All (ArrivesInWalk (seen P.facts P.leads self.now) departure.now.visited)
             work.old.items }
-        ensures waits { OnOk result (All (Comes (seen P.facts P.leads self.now)
+        ensures waits { OnOk result (All (ArrivesInWalk (seen P.facts P.leads self.now)
             departure.now.visited) work.new.items) }
         ensures keeps { OnOk result (Keeps work.old.items work.new.items) }
         ensures pursued { IfOk result (λ r. IfNone r (IsPursued (seen P.facts P.leads self.now)
             departure.now.visited.bases.now departure.now.visited.slots.now work.new.items
             departure.now.here.now)) }
-        ensures refusal { IfOk result (λ r. IfSome r (IsFound (seen P.facts P.leads self.now)
+        ensures refusal { IfOk result (λ r. IfSome r (IsRefusalShown (seen P.facts P.leads self.now)
             departure.now.visited.bases.now departure.now.visited.slots.now)) }
     {
         let here = departure.here;
@@ -360,13 +360,13 @@ impl<P: Read> Scene<'_, P> {
         requires ready { IsReadyScene (seen P.facts P.leads self.now) }
         requires left { IsLeft (seen P.facts P.leads self.now) departure.now }
         requires falls { falls_for (flow_in departure.now.effect.now) ≡ true }
-        requires waits { All (Comes (seen P.facts P.leads self.now)
+        requires waits { All (ArrivesInWalk (seen P.facts P.leads self.now)
             departure.now.visited) work.old.items }
-        ensures waits { OnOk result (All (Comes (seen P.facts P.leads self.now)
+        ensures waits { OnOk result (All (ArrivesInWalk (seen P.facts P.leads self.now)
             departure.now.visited) work.new.items) }
         ensures keeps { OnOk result (Keeps work.old.items work.new.items) }
-        ensures sent { IfOk result (λ r. IfNone r (Contains work.new.items (fallen departure.now))) }
-        ensures refusal { IfOk result (λ r. IfSome r (IsFound (seen P.facts P.leads self.now)
+        ensures sent { IfOk result (λ r. IfNone r (Contains work.new.items (sent_to_next departure.now))) }
+        ensures refusal { IfOk result (λ r. IfSome r (IsRefusalShown (seen P.facts P.leads self.now)
             departure.now.visited.bases.now departure.now.visited.slots.now)) }
     {
         if departure.next == self.chunk.end() as usize {
@@ -399,7 +399,7 @@ impl<P: Read> Scene<'_, P> {
         Ok(())
     }
 
-    /// Sends what stands on the edges to targets to each of these.
+    /// Sends what is on the edges to targets to each of these.
     ///
     /// # Errors
     /// [`AllocError`] where an allocation failed.
@@ -414,9 +414,9 @@ impl<P: Read> Scene<'_, P> {
             (flow_in departure.now.effect.now) }
         requires inside { All (IsInChunk (coded (seen P.facts P.leads self.now).code)
             self.now.chunk.now) targets.now }
-        requires waits { All (Comes (seen P.facts P.leads self.now)
+        requires waits { All (ArrivesInWalk (seen P.facts P.leads self.now)
             departure.now.visited) work.old.items }
-        ensures waits { OnOk result (All (Comes (seen P.facts P.leads self.now)
+        ensures waits { OnOk result (All (ArrivesInWalk (seen P.facts P.leads self.now)
             departure.now.visited) work.new.items) }
         ensures keeps { OnOk result (Keeps work.old.items work.new.items) }
         ensures sent { OnOk result (All (λ t. Contains work.new.items (sent_to departure.now t))
@@ -442,11 +442,11 @@ impl<P: Read> Scene<'_, P> {
         error: VerifyError,
     ) -> Result<Refusal, AllocError>
         requires come { AreHeld (seen P.facts P.leads self.now) visited.now }
-        requires here { Holds visited.now.slots.now here.now }
+        requires here { WasVisited visited.now.slots.now here.now }
         requires shows { Shows (seen P.facts P.leads self.now).code self.now.chunk.now
             (arrival_stop visited.now.bases.now here.now) error }
         requires flaw { ChunkFlaw (seen P.facts P.leads self.now).code self.now.chunk.now error }
-        ensures { IfOk result (IsFound (seen P.facts P.leads self.now)
+        ensures { IfOk result (IsRefusalShown (seen P.facts P.leads self.now)
             visited.now.bases.now visited.now.slots.now) }
     {
         Ok(Refusal {
@@ -462,11 +462,11 @@ impl<P: Read> Scene<'_, P> {
     /// [`AllocError`] where an allocation failed.
     fn way_to(&self, visited: &Visited<'_>, last: &Arrival) -> Result<Vec<Row>, AllocError>
         requires come { AreHeld (seen P.facts P.leads self.now) visited.now }
-        requires last { Comes (seen P.facts P.leads self.now) visited.now last.now }
+        requires last { ArrivesInWalk (seen P.facts P.leads self.now) visited.now last.now }
         ensures way { IfOk result (λ v. IsWayTo (seen P.facts P.leads self.now).code
             self.now.chunk.now (arrival_stop visited.now.bases.now last.now)
             (stops_of visited.now.bases.now v.items)) }
-        ensures visited { Holds visited.now.slots.now last.now
+        ensures visited { WasVisited visited.now.slots.now last.now
             → IfOk result (λ v. All (IsRowIn visited.now.slots.now) v.items) }
     {
         let mut way = Vec::new(self.alloc);

@@ -8,10 +8,10 @@ use Rattle.grain_file.specs.declared.file.Limits.{Limits}
 use Rattle.grain_file.specs.declared.file.ReadError.{ReadError}
 use Rattle.grain_file.specs.declared.file.ReadError.TheVariants as errors
 use Rattle.grain_file.specs.Causes.{IsCauseIn, IsFaultIn}
-use Rattle.grain_file.specs.Ends.{err_is, bind_err, at_whole, moved}
+use Rattle.grain_file.specs.Ends.{err_is, bind_err, at_whole, end_moved}
 use Rattle.grain_file.specs.Formats.{Format, whole}
 use Rattle.grain_file.specs.Laws.{bind_ok, chosen, ok_is}
-use Rattle.grain_file.specs.Reading.{Flaw, AreBytes, Ends}
+use Rattle.grain_file.specs.Reading.{LocatedFault, AreBytes, Ends}
 
 module _ {K : Type 0} (F : Format K) where
   abbrev pub Spells : List ℕ → K → Type 0
@@ -25,7 +25,7 @@ module _ {K : Type 0} (F : Format K) where
             let t = F.takes bytes a.0.0 a.0.1 are a.1 in
             let none : a.0.1 ≡ [] = nil_from_length a.0.1 (eqb-true (length a.0.1) 0 p.0) in
             let all : bytes ≡ F.spelling a.0.0 = t.0 ∙ ap (λ (r : List ℕ). F.spelling a.0.0 ++ r) none ∙ append-nil (F.spelling a.0.0) in
-            subst (λ (y : K × List ℕ). Spells bytes y.0) (ok_is {E = Flaw} a.0 (k, rest) p.1) (all, t.1)
+            subst (λ (y : K × List ℕ). Spells bytes y.0) (ok_is {E = LocatedFault} a.0 (k, rest) p.1) (all, t.1)
         | inr p ↦ absurd (let q = p.1 in cc)
       ]
 
@@ -43,7 +43,7 @@ module _ {K : Type 0} (F : Format K) where
           | inl p ↦ absurd (let q = p.1 in cc)
           | inr p ↦
               let t = F.takes bytes a.0.0 a.0.1 are a.1 in
-              moved bytes (F.spelling a.0.0) a.0.1 left t.0 (at_whole a.0.1 Trailing fault left (err_is {A = K × List ℕ} {E = Flaw} (Trailing, a.0.1) (fault, left) p.1))
+              end_moved bytes (F.spelling a.0.0) a.0.1 left t.0 (at_whole a.0.1 Trailing fault left (err_is {A = K × List ℕ} {E = LocatedFault} (Trailing, a.0.1) (fault, left) p.1))
         ]
       ]
 
@@ -51,7 +51,7 @@ module _ {K : Type 0} (F : Format K) where
   one_spelling a b k p q = p.0 ∙ sym q.0
 
   pub one_value : (a : List ℕ) (k l : K) → Spells a k → Spells a l → k ≡ l
-  one_value a k l p q = ap (λ (y : K × List ℕ). y.0) (ok_is {E = Flaw} (k, []) (l, []) (sym (all_again a k p) ∙ all_again a l q))
+  one_value a k l p q = ap (λ (y : K × List ℕ). y.0) (ok_is {E = LocatedFault} (k, []) (l, []) (sym (all_again a k p) ∙ all_again a l q))
 
 pub place_of_end : (bytes front left : List ℕ) (at : ℕ) → bytes ≡ front ++ left → at ≡ length bytes - length left → (at ≤ length bytes) × (drop at bytes ≡ left)
 place_of_end bytes front left at e p =
@@ -69,7 +69,7 @@ module _ {K P : Type 0} (F : Format K) (view : P → K) (limits : Limits) (bytes
   result_found (Err e) are given = tt
 
   pub result_only : (r : Result P ReadError) → Given r → (k : K) → Spells F bytes k → MatchResult r (λ p. view p ≡ k) (λ e. e ≡ errors.OutOfMemory)
-  result_only (Ok p) given k file = ap (λ (y : K × List ℕ). y.0) (ok_is {E = Flaw} (view p, []) (k, []) (sym given ∙ all_again F bytes k file))
+  result_only (Ok p) given k file = ap (λ (y : K × List ℕ). y.0) (ok_is {E = LocatedFault} (view p, []) (k, []) (sym given ∙ all_again F bytes k file))
   result_only (Err errors.OutOfMemory) given k file = refl
   result_only (Err (errors.TooLarge size limit)) given k file = absurd given
   result_only (Err (errors.Malformed at part fault)) given k file = absurd (let e = sym given.1 ∙ all_again F bytes k file in cc)

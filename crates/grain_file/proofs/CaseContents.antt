@@ -14,10 +14,11 @@ use Rattle.grain_base.specs.ContentLaws.{same_Decides}
 use Rattle.grain_base.specs.View.{content}
 use Rattle.grain_base.specs.declared.value.Dynamic.{Dynamic}
 use Rattle.grain_file.specs.declared.cases.Case.{Case as CaseField}
-use Rattle.grain_file.specs.Form.{Form, form, forms}
+use Rattle.grain_file.specs.Form.{Form, value_form, forms}
 use Rattle.grain_file.specs.Bare.{bare}
-use Rattle.grain_file.specs.Cases.{Case, CaseParts, are_new, are_same, are_there, ascend_from, case_content, case_parts, is_keyed, is_keyed_by, same_keys, Cases, Pass, case_view, ordered}
-use Rattle.grain_file.proofs.Bare.{bare_is}
+use Rattle.grain_pools.specs.Dispatch.{Case}
+use Rattle.grain_file.specs.Cases.{CaseParts, are_new, are_same, are_there, ascend_from, case_content, case_parts, is_keyed, is_keyed_by, same_keys, Cases, Pass, case_view, ordered}
+use Rattle.grain_file.proofs.BareForms.{bare_is}
 use Rattle.grain_file.proofs.CaseOrder.{and_true, raised, ordered_is}
 
 flipped : (x y : Content) → same x y ≡ same y x
@@ -35,13 +36,13 @@ same_flips None (Some y) = refl
 same_flips (Some x) None = refl
 same_flips (Some x) (Some y) = flipped x y
 
-bare_of : (o : Option Dynamic) → option_map bare (option_map form o) ≡ option_map content o
+bare_of : (o : Option Dynamic) → option_map bare (option_map value_form o) ≡ option_map content o
 bare_of None = refl
 bare_of (Some v) = ap Some (bare_is v)
 
 -- the content of the constant of a case, read off the constant
 pub content_of : (constants : List Dynamic) (c : CaseParts) → case_content (forms constants) c ≡ option_map content (slice_get constants c.0)
-content_of constants c = ap (λ (o : Option Form). option_map bare o) (slice_get-map form constants c.0) ∙ bare_of (slice_get constants c.0)
+content_of constants c = ap (λ (o : Option Form). option_map bare o) (slice_get-map value_form constants c.0) ∙ bare_of (slice_get constants c.0)
 
 keyed_content : (o : Option Dynamic) (key : Dynamic) → is_keyed_by o key ≡ true → option_map content o ≡ Some (content key)
 keyed_content None key e = absurd cc
@@ -158,7 +159,7 @@ passes constants cs fields keyed apart moved rises =
     let values = IsDistinct-IsPermutation are_same same_flips _ _ (IsPermutation-map (case_content (forms constants)) (map case_parts cs) ds moved) (contents_differ constants cs keyed apart) in
     record {
       ascend = ascending fields rises numbers_differ;
-      there = rw (length-map constants form) (list_all-from_AllPass (λ c. nat_lt c.0 (length constants)) ds (All-permutation (λ (c : CaseParts). nat_lt c.0 (length constants) ≡ true) (map case_parts cs) ds moved (AllPass-from_list_all (λ c. nat_lt c.0 (length constants)) (map case_parts cs) (all_there constants cs keyed))));
+      there = rw (length-map constants value_form) (list_all-from_AllPass (λ c. nat_lt c.0 (length constants)) ds (All-permutation (λ (c : CaseParts). nat_lt c.0 (length constants) ≡ true) (map case_parts cs) ds moved (AllPass-from_list_all (λ c. nat_lt c.0 (length constants)) (map case_parts cs) (all_there constants cs keyed))));
       new = news [] (map (case_content (forms constants)) ds) values;
     }
 

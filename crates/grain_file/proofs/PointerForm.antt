@@ -2,7 +2,7 @@
 use Rattle.std.proofs.Common.{◌≡◌}
 use Rattle.std.specs.Prelude.{string_bytes}
 use Rattle.grain_base.specs.declared.value.FnPtr.{FnPtr, fold_out-FnPtr}
-use Rattle.grain_file.specs.Form.{Form, fn_ptr, forms, forms_of, form_step, pointer_step, pointer_form}
+use Rattle.grain_file.specs.Form.{Form, fn_ptr, forms, forms_of, form_step, pointer_form_step, pointer_form}
 
 pub pointer_form_is : (p : FnPtr) → pointer_form p ≡ fn_ptr (string_bytes p.name) (forms_of (forms p.curry.items))
-pointer_form_is p = fold_out-FnPtr Form Form form_step pointer_step p
+pointer_form_is p = fold_out-FnPtr Form Form form_step pointer_form_step p

@@ -1,11 +1,11 @@
 -- A byte that is no tag of a value.
 use Rattle.std.proofs.Common.{◌≡◌, ◌-◌, ◌<◌, ◌≤◌, ℕ, zero, suc, List, ◌∷◌, Result, Err, refl, arith}
 use Rattle.grain_file.specs.declared.error.Fault.TheVariants.{UnknownTag}
-use Rattle.grain_file.specs.Reading.{Flaw}
+use Rattle.grain_file.specs.Reading.{LocatedFault}
 use Rattle.grain_file.specs.Form.{Form}
 use Rattle.grain_file.specs.FormAt.{behind_tag, value_at}
 
-no_tag : (value : List ℕ → Result (Form × List ℕ) Flaw) (tag : ℕ) (bytes : List ℕ) → 12 < tag → behind_tag value tag bytes ≡ Err (UnknownTag, tag ∷ bytes)
+no_tag : (value : List ℕ → Result (Form × List ℕ) LocatedFault) (tag : ℕ) (bytes : List ℕ) → 12 < tag → behind_tag value tag bytes ≡ Err (UnknownTag, tag ∷ bytes)
 unfolding behind_tag
 no_tag value zero bytes big = absurd (omega arith)
 no_tag value (suc zero) bytes big = absurd (omega arith)

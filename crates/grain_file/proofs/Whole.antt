@@ -9,18 +9,19 @@ use Rattle.grain_file.specs.declared.error.WriteError.{WriteError}
 use Rattle.grain_file.specs.declared.file.Limits.{Limits}
 use Rattle.grain_file.specs.declared.file.ReadError.{ReadError}
 use Rattle.grain_file.specs.declared.file.ReadError.TheVariants as errors
-use Rattle.grain_file.specs.Reading.{Flaw, AreBytes, Decides}
+use Rattle.grain_file.specs.Reading.{LocatedFault, AreBytes, Decides}
 use Rattle.grain_file.specs.Laws.{chosen, ok_is}
 use Rattle.grain_file.specs.ProgramFile.{Bounds, bounds_of, no_bounds, Kept, kept, pools_format, file_format, versioned_format, body_format, IsFile, IsFileWithin, refusal_of, whole_at}
 use Rattle.grain_file.specs.Texts.{expected_at}
 use Rattle.grain_file.specs.Lists.{CountedFit, headed_at}
 use Rattle.grain_file.specs.Names.{names_format}
-use Rattle.grain_file.specs.Tokens.{TokenParts, AssignOpParts, token_format, assign_op_format}
+use Rattle.grain_base.specs.Tokens.{TokenParts}
+use Rattle.grain_file.specs.Tokens.{AssignOpParts, token_format, assign_op_format}
 use Rattle.grain_file.specs.Chains.{ChainParts, chain_format}
 use Rattle.grain_file.specs.Switches.{FitsAlone, SwitchParts, each_more, each_switch, most_cases}
 use Rattle.grain_file.specs.Form.{Form, IsSound}
 use Rattle.grain_file.specs.FormSound.{deepest, each_within, each_deeper}
-use Rattle.grain_file.specs.Causes.{IsCause, IsFaultOf}
+use Rattle.grain_file.specs.Causes.{IsReadCause, IsReadFault}
 use Rattle.grain_file.proofs.AllBytes.{all_again, all_found, result_exact, result_only}
 
 pub whole_found : (bounds : Bounds) (bytes : List ℕ) (k : Kept) (rest : List ℕ) → AreBytes bytes → whole_at bounds bytes ≡ Ok (k, rest) → IsFile bounds bytes k
@@ -32,7 +33,7 @@ unfolding whole_at
 whole_again bounds bytes k file = all_again (file_format bounds) bytes k (file.spelled, file.fits)
 
 abbrev Given : Bounds → List ℕ → Result Program ReadError → Type 0
-Given bounds bytes r = MatchResult r (λ p. whole_at bounds bytes ≡ Ok (kept p, [])) (IsFaultOf bounds bytes)
+Given bounds bytes r = MatchResult r (λ p. whole_at bounds bytes ≡ Ok (kept p, [])) (IsReadFault bounds bytes)
 
 module _ (limits : Limits) (bytes : List ℕ) where
   pub found : (r : Result Program ReadError) → length bytes ≤ limits.size → AreBytes bytes → Given (bounds_of limits) bytes r → IfOk r (λ p. IsFileWithin limits bytes (kept p))
@@ -44,7 +45,7 @@ module _ (limits : Limits) (bytes : List ℕ) where
   unfolding whole_at
   only r given k within = result_only (file_format (bounds_of limits)) kept limits bytes r given k (within.file.spelled, within.file.fits)
 
-  pub exact : (r : Result Program ReadError) → AreBytes bytes → Given (bounds_of limits) bytes r → IfErr r (IsCause limits bytes)
+  pub exact : (r : Result Program ReadError) → AreBytes bytes → Given (bounds_of limits) bytes r → IfErr r (IsReadCause limits bytes)
   unfolding whole_at
   exact r are given = result_exact (file_format (bounds_of limits)) kept limits bytes r are given
 
@@ -74,7 +75,7 @@ wider bounds more a k deep many file =
 
 one_at : (bounds : Bounds) (a : List ℕ) (k l : Kept) → IsFile bounds a k → IsFile bounds a l → k ≡ l
 one_at bounds a k l p q =
-    ap (λ (y : Kept × List ℕ). y.0) (ok_is {E = Flaw} (k, []) (l, []) (sym (whole_again bounds a k p) ∙ whole_again bounds a l q))
+    ap (λ (y : Kept × List ℕ). y.0) (ok_is {E = LocatedFault} (k, []) (l, []) (sym (whole_again bounds a k p) ∙ whole_again bounds a l q))
 
 abbrev both_bounds : Bounds → Bounds → Bounds
 both_bounds a b = record { depth = max a.depth b.depth; cases = max a.cases b.cases }
@@ -101,16 +102,16 @@ pools_fit names xs tokens ops chains switches n v t o c s bounds deep many = (n,
 
 -- ---- the bytes that a file begins with
 
-headed_reads : {A : Type 0} (tag : ℕ) (fault : Fault) (reading : List ℕ → Result (A × List ℕ) Flaw) (bytes rest : List ℕ) (u : Unit {0}) → expected_at tag fault bytes ≡ Ok (u, rest) → headed_at tag fault reading bytes ≡ reading rest
+headed_reads : {A : Type 0} (tag : ℕ) (fault : Fault) (reading : List ℕ → Result (A × List ℕ) LocatedFault) (bytes rest : List ℕ) (u : Unit {0}) → expected_at tag fault bytes ≡ Ok (u, rest) → headed_at tag fault reading bytes ≡ reading rest
 unfolding expected_at
 headed_reads tag fault reading [] rest u e = absurd cc
 headed_reads tag fault reading (b ∷ bytes) rest u e =
     elim (chosen (eqb b tag) (Ok (tt, bytes)) (Err (fault, b ∷ bytes)) (Ok (u, rest)) e) [
-      | inl p ↦ rw p.0 (ap (λ (y : Unit {0} × List ℕ). reading y.1) (ok_is {E = Flaw} (tt, bytes) (u, rest) p.1))
+      | inl p ↦ rw p.0 (ap (λ (y : Unit {0} × List ℕ). reading y.1) (ok_is {E = LocatedFault} (tt, bytes) (u, rest) p.1))
       | inr p ↦ absurd (let q = p.1 in cc)
     ]
 
-pub magic_reads : {A : Type 0} (f : List ℕ → Result (A × List ℕ) Flaw) (a b c d e : List ℕ) (u v w x : Unit {0}) (y : Result (A × List ℕ) Flaw)
+pub magic_reads : {A : Type 0} (f : List ℕ → Result (A × List ℕ) LocatedFault) (a b c d e : List ℕ) (u v w x : Unit {0}) (y : Result (A × List ℕ) LocatedFault)
     → expected_at 0x00 Magic a ≡ Ok (u, b) → expected_at 0x67 Magic b ≡ Ok (v, c) → expected_at 0x72 Magic c ≡ Ok (w, d) → expected_at 0x6e Magic d ≡ Ok (x, e)
     → f e ≡ y → headed_at 0x00 Magic (headed_at 0x67 Magic (headed_at 0x72 Magic (headed_at 0x6e Magic f))) a ≡ y
 magic_reads f a b c d e u v w x y first second third fourth more =

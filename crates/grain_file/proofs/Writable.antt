@@ -10,13 +10,15 @@ use Rattle.grain_file.specs.declared.error.Unkept.{Unkept}
 use Rattle.grain_file.specs.Reading.{or_refused}
 use Rattle.grain_file.specs.Refusals.{counted_refusal, optional_refusal}
 use Rattle.grain_file.specs.Functions.{FunctionParts, function_format}
-use Rattle.grain_file.specs.Tokens.{TokenParts, AssignOpParts, token_parts, assign_op_parts, token_format, assign_op_format}
-use Rattle.grain_file.specs.Chains.{Place, RootParts, StepParts, ChainParts, chain_parts, root_format, step_format, tail_format, chain_format, place_format}
+use Rattle.grain_base.specs.Tokens.{TokenParts, token_parts}
+use Rattle.grain_file.specs.Tokens.{AssignOpParts, assign_op_parts, token_format, assign_op_format}
+use Rattle.grain_bytecode.specs.Positions.{Place}
+use Rattle.grain_file.specs.Chains.{RootParts, StepParts, ChainParts, chain_parts, root_format, step_format, tail_format, chain_format, place_format}
 use Rattle.grain_file.specs.Switches.{case_format, key_refusal, range_format, switch_parts, switch_refusal}
 use Rattle.grain_file.specs.Cases.{is_keyed}
 use Rattle.grain_file.specs.Form.{forms, value_refusal}
 use Rattle.grain_file.specs.ProgramFile.{CodeParts, code_format, pools_format, rest_format, positions_format, versioned_format, body_format, file_format, residuals_refusal, kept, refusal_of}
-use Rattle.grain_file.specs.Writable.{IsWritable}
+use Rattle.grain_file.specs.Writable.{IsWritableProgram}
 
 -- ---- reasons of parts
 
@@ -148,7 +150,7 @@ reasons p =
     (always chain_format.refusal chain_kept (map chain_parts p.chains))
     ∙ ap (λ (r : Option Unkept). or_refused (or_refused (of_consts p) (of_switches p)) r) (source_kept p.source (or_refused (positions_format.refusal (places_of p)) (residuals_refusal p.residuals)) ∙ ap (λ (r : Option Unkept). or_refused r (residuals_refusal p.residuals)) (places_kept (places_of p)))
 
-is_writable : (p : Program) → refusal_of (kept p) ≡ None → IsWritable p
+is_writable : (p : Program) → refusal_of (kept p) ≡ None → IsWritableProgram p
 is_writable p e =
     let a = or_none (or_refused (of_consts p) (of_switches p)) (residuals_refusal p.residuals) (sym (reasons p) ∙ e) in
     let b = or_none (of_consts p) (of_switches p) a.0 in
@@ -158,11 +160,11 @@ is_writable p e =
       residuals = no_residuals p.residuals a.1;
     }
 
-is_kept : (p : Program) → IsWritable p → refusal_of (kept p) ≡ None
+is_kept : (p : Program) → IsWritableProgram p → refusal_of (kept p) ≡ None
 is_kept p w =
     let switches : of_switches p ≡ None = none_each switch_refusal (switch_parts p.consts) (AreKeyed p.consts) (keyed_switch p.consts) p.switches w.cases in
     let residuals : residuals_refusal p.residuals ≡ None = ap residuals_refusal w.residuals in
     reasons p ∙ none_or (or_refused (of_consts p) (of_switches p)) (residuals_refusal p.residuals) (none_or (of_consts p) (of_switches p) (all_counted value_refusal (forms p.consts) w.constants) switches) residuals
 
-pub writable : (p : Program) → (refusal_of (kept p) ≡ None) ↔ IsWritable p
+pub writable : (p : Program) → (refusal_of (kept p) ≡ None) ↔ IsWritableProgram p
 writable p = (is_writable p, is_kept p)

@@ -11,6 +11,7 @@ use Rattle.std.specs.declared.alloc.Global.{Global}
 use Rattle.std.specs.declared.hash.FoldHasher.{FoldHasher}
 use Rattle.std.specs.declared.hash.BuildHasherDefault.{BuildHasherDefault}
 use Rattle.grain_file.specs.declared.cases.Case.{Case as CaseField}
+use Rattle.grain_pools.specs.Dispatch.{Case}
 use Rattle.grain_file.specs.Form.{Form, forms}
 use Rattle.grain_file.specs.Bare.{bare}
 
@@ -33,7 +34,7 @@ abbrev pub ascend_from : ℕ → List CaseParts → Bool
 ascend_from least [] = true
 ascend_from least (c ∷ cs) = nat_le least c.0 && ascend_from (c.0 + 1) cs
 
--- there are so many constants at least
+-- there are at least this number of constants
 abbrev pub are_there : ℕ → List CaseParts → Bool
 are_there count cs = list_all (λ c. nat_lt c.0 count) cs
 
@@ -51,10 +52,6 @@ are_same (Some x) (Some y) = same x y
 abbrev pub are_new : List (Option Content) → List (Option Content) → Bool
 are_new seen [] = true
 are_new seen (x ∷ xs) = not (list_any (are_same x) seen) && are_new (seen ++ x ∷ []) xs
-
--- a case in memory: its key, its target and the index of its constant
-abbrev pub Case : Type 0
-Case = Dynamic × (ℕ × ℕ)
 
 abbrev pub case_parts : Case → CaseParts
 case_parts c = (c.1.1, c.1.0)

@@ -1,6 +1,6 @@
 -- What a refusal says of the bytes, and what of the parts of a program is kept.
 use Rattle.std.specs.Prelude.{◌≡◌, ℕ, ◌-◌, ◌<◌, ◌≤◌, List, length, drop, map, Result, Err}
-use Rattle.grain_file.specs.Reading.{Flaw}
+use Rattle.grain_file.specs.Reading.{LocatedFault}
 use Rattle.grain_file.specs.declared.file.Code.{Code}
 use Rattle.grain_file.specs.declared.file.PoolFields.{PoolFields}
 use Rattle.grain_file.specs.declared.file.Limits.{Limits}
@@ -8,7 +8,8 @@ use Rattle.grain_file.specs.declared.file.ReadError.{ReadError}
 use Rattle.grain_file.specs.declared.file.ReadError.TheVariants as errors
 use Rattle.grain_file.specs.Form.{forms}
 use Rattle.grain_file.specs.Functions.{function_parts}
-use Rattle.grain_file.specs.Tokens.{token_parts, assign_op_parts}
+use Rattle.grain_base.specs.Tokens.{token_parts}
+use Rattle.grain_file.specs.Tokens.{assign_op_parts}
 use Rattle.grain_file.specs.Chains.{chain_parts}
 use Rattle.grain_file.specs.Switches.{switch_parts}
 use Rattle.grain_file.specs.ProgramFile.{Bounds, CodeParts, PoolParts, bounds_of, halves, whole_at}
@@ -20,19 +21,19 @@ abbrev pub pool_parts : PoolFields → PoolParts
 pool_parts p = (p.names, (forms p.consts.items, (map token_parts p.tokens.items, (map assign_op_parts p.assign_ops.items, (map chain_parts p.chains.items, map (switch_parts p.consts.items) p.switches.items)))))
 
 -- the fault is the one at which reading ends, and stands at this byte
-abbrev pub IsFaultIn : {K : Type 0} → (List ℕ → Result (K × List ℕ) Flaw) → List ℕ → ReadError → Type 0
+abbrev pub IsFaultIn : {K : Type 0} → (List ℕ → Result (K × List ℕ) LocatedFault) → List ℕ → ReadError → Type 0
 IsFaultIn reading bytes errors.OutOfMemory = Unit {0}
 IsFaultIn reading bytes (errors.TooLarge size limit) = ⊥
 IsFaultIn reading bytes (errors.Malformed at part fault) = (left : List ℕ) × (reading bytes ≡ Err (fault, left)) × (at ≡ length bytes - length left)
 
 -- The bytes are more than the limit, or else the fault is the one at which reading ends, with what follows from that byte on.
-abbrev pub IsCauseIn : {K : Type 0} → (List ℕ → Result (K × List ℕ) Flaw) → Limits → List ℕ → ReadError → Type 0
+abbrev pub IsCauseIn : {K : Type 0} → (List ℕ → Result (K × List ℕ) LocatedFault) → Limits → List ℕ → ReadError → Type 0
 IsCauseIn reading limits bytes errors.OutOfMemory = Unit {0}
 IsCauseIn reading limits bytes (errors.TooLarge size limit) = (size ≡ length bytes) × (limit ≡ limits.size) × (limits.size < length bytes)
 IsCauseIn reading limits bytes (errors.Malformed at part fault) = (at ≤ length bytes) × (reading bytes ≡ Err (fault, drop at bytes))
 
-abbrev pub IsFaultOf : Bounds → List ℕ → ReadError → Type 0
-IsFaultOf bounds bytes error = IsFaultIn (whole_at bounds) bytes error
+abbrev pub IsReadFault : Bounds → List ℕ → ReadError → Type 0
+IsReadFault bounds bytes error = IsFaultIn (whole_at bounds) bytes error
 
-abbrev pub IsCause : Limits → List ℕ → ReadError → Type 0
-IsCause limits bytes error = IsCauseIn (whole_at (bounds_of limits)) limits bytes error
+abbrev pub IsReadCause : Limits → List ℕ → ReadError → Type 0
+IsReadCause limits bytes error = IsCauseIn (whole_at (bounds_of limits)) limits bytes error

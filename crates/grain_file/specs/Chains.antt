@@ -1,8 +1,9 @@
 -- What of chains is kept: all of it, with the places that its positions name.
 use Rattle.std.specs.Prelude.{ℕ, Bool, nat_lt, ◌^◌, ◌++◌, ◌⊎◌, List, map, Option, Some, None, Result, Ok, refl}
-use Rattle.grain_file.specs.Reading.{Flaw, ◌>>=◌}
+use Rattle.grain_file.specs.Reading.{LocatedFault, ◌>>=◌}
 use Rattle.std.proofs.Common.{inl, inr}
 use Rattle.grain_base.specs.Place.{place_of}
+use Rattle.grain_bytecode.specs.Positions.{Place}
 use Rattle.grain_pools.specs.declared.chain.Chain.{Chain}
 use Rattle.grain_pools.specs.declared.chain.Root.{Root}
 use Rattle.grain_pools.specs.declared.chain.Root.TheVariants.{Local, Named, This, Temporary}
@@ -12,11 +13,7 @@ use Rattle.grain_pools.specs.declared.chain.Tail.{Tail}
 use Rattle.grain_pools.specs.declared.chain.Tail.TheVariants.{Read, Assign}
 use Rattle.grain_file.specs.declared.error.Fault.TheVariants.{NoLine, UnknownTag}
 use Rattle.grain_file.specs.Lists.{BeginsOtherwise}
-use Rattle.grain_file.specs.Formats.{Format, number_below, byte, nothing, both, checked, counted, optional, alternative, headed}
-
--- a line and a column, or no place
-abbrev pub Place : Type 0
-Place = Option (ℕ × ℕ)
+use Rattle.grain_file.specs.Formats.{Format, number_below, byte, no_bytes, both, checked, counted_list, optional, alternative, headed}
 
 abbrev pub has_line : ℕ × ℕ → Bool
 has_line place = nat_lt 0 place.0
@@ -25,7 +22,7 @@ abbrev pub line_and_column : Format (ℕ × ℕ)
 line_and_column = checked has_line NoLine (both (number_below (2 ^ 16)) (number_below (2 ^ 16)))
 
 -- what reading a line and a column gives, as a place
-abbrev pub placed_at : List ℕ → Result (Place × List ℕ) Flaw
+abbrev pub placed_at : List ℕ → Result (Place × List ℕ) LocatedFault
 placed_at bytes = line_and_column.reading bytes >>= λ place. Ok (Some place.0, place.1)
 
 -- 0 for no place, or 1, a line above 0 and a column
@@ -42,7 +39,7 @@ root_parts (This pos) = inr (inr (inl (place_of pos)))
 root_parts Temporary = inr (inr (inr tt))
 
 abbrev this_or_temporary : Format (Place ⊎ Unit {0})
-this_or_temporary = alternative 2 place_format (headed 3 UnknownTag nothing) (λ y rest fits. refl)
+this_or_temporary = alternative 2 place_format (headed 3 UnknownTag no_bytes) (λ y rest fits. refl)
 
 pub this_apart : (y : Place ⊎ Unit {0}) (rest : List ℕ) → this_or_temporary.Fits y → BeginsOtherwise 1 (this_or_temporary.spelling y ++ rest)
 this_apart (inl u) rest fits = refl
@@ -111,4 +108,4 @@ abbrev pub chain_parts : Chain → ChainParts
 chain_parts c = (root_parts c.root, (map step_parts c.steps.items, (tail_parts c.tail, c.operands)))
 
 abbrev pub chain_format : Format ChainParts
-chain_format = both root_format (both (counted step_format) (both tail_format (number_below (2 ^ 16))))
+chain_format = both root_format (both (counted_list step_format) (both tail_format (number_below (2 ^ 16))))

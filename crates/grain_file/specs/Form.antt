@@ -46,13 +46,13 @@ abbrev pub forms_of : List Form → Forms
 forms_of [] = no_forms
 forms_of (x ∷ xs) = form_then x (forms_of xs)
 
-abbrev pub listed : Forms → List Form
-listed no_forms = []
-listed (form_then x xs) = x ∷ listed xs
+abbrev pub listed_forms : Forms → List Form
+listed_forms no_forms = []
+listed_forms (form_then x xs) = x ∷ listed_forms xs
 
-abbrev pub entries_of : List (List ℕ × Form) → Entries
-entries_of [] = no_entries
-entries_of (e ∷ es) = entry_then e.0 e.1 (entries_of es)
+abbrev pub form_entries_of : List (List ℕ × Form) → Entries
+form_entries_of [] = no_entries
+form_entries_of (e ∷ es) = entry_then e.0 e.1 (form_entries_of es)
 
 abbrev pub listed_entries : Entries → List (List ℕ × Form)
 listed_entries no_entries = []
@@ -70,25 +70,25 @@ form_step (Dynamic-F.Range a b) = range a b
 form_step (Dynamic-F.RangeInclusive a b) = range_inclusive a b
 form_step (Dynamic-F.Array v) = array (forms_of v.items)
 form_step (Dynamic-F.Blob v) = blob v.items
-form_step (Dynamic-F.Map m) = object_map (entries_of (map (λ e. (string_bytes e.0, e.1)) m.entries))
+form_step (Dynamic-F.Map m) = object_map (form_entries_of (map (λ e. (string_bytes e.0, e.1)) m.entries))
 form_step (Dynamic-F.FnPtr f) = f
 form_step (Dynamic-F.Shared x) = shared x.value
 form_step (Dynamic-F.Host h) = host (string_bytes h.type_name) h.id
 
-abbrev pub pointer_step : FnPtr-F Form Form → Form
-pointer_step f = fn_ptr (string_bytes f.name) (forms_of f.curry.items)
+abbrev pub pointer_form_step : FnPtr-F Form Form → Form
+pointer_form_step f = fn_ptr (string_bytes f.name) (forms_of f.curry.items)
 
-abbrev pub form : Dynamic → Form
-form = fold-Dynamic Form Form form_step pointer_step
+abbrev pub value_form : Dynamic → Form
+value_form = fold-Dynamic Form Form form_step pointer_form_step
 
 abbrev pub pointer_form : FnPtr → Form
-pointer_form = fold-FnPtr Form Form form_step pointer_step
+pointer_form = fold-FnPtr Form Form form_step pointer_form_step
 
 abbrev pub forms : List Dynamic → List Form
-forms vs = map form vs
+forms vs = map value_form vs
 
 abbrev pub entry_forms : List (String Global × Dynamic) → List (List ℕ × Form)
-entry_forms es = map (λ (e : String Global × Form). (string_bytes e.0, e.1)) (map (λ e. (e.0, form e.1)) es)
+entry_forms es = map (λ (e : String Global × Form). (string_bytes e.0, e.1)) (map (λ e. (e.0, value_form e.1)) es)
 
 -- ---- the spelling: a tag, and what it holds
 
@@ -102,10 +102,10 @@ abbrev mutual
   spelled (text t) = 5 ∷ counted_bytes t
   spelled (range a b) = 6 ∷ (number (zigzag a) ++ number (zigzag b))
   spelled (range_inclusive a b) = 7 ∷ (number (zigzag a) ++ number (zigzag b))
-  spelled (array xs) = 8 ∷ (number (length (listed xs)) ++ spelled_forms xs)
+  spelled (array xs) = 8 ∷ (number (length (listed_forms xs)) ++ spelled_forms xs)
   spelled (blob b) = 9 ∷ counted_bytes b
   spelled (object_map es) = 10 ∷ (number (length (listed_entries es)) ++ spelled_entries es)
-  spelled (fn_ptr name xs) = 11 ∷ (counted_bytes name ++ (number (length (listed xs)) ++ spelled_forms xs))
+  spelled (fn_ptr name xs) = 11 ∷ (counted_bytes name ++ (number (length (listed_forms xs)) ++ spelled_forms xs))
   spelled (shared x) = 12 ∷ spelled x
   spelled (host t i) = []
 
@@ -181,9 +181,9 @@ abbrev pub last_key : List (List ℕ × Form) → Option (List ℕ)
 last_key es = option_map (λ e. e.0) (slice_get es (length es - 1))
 
 -- the keys ascend, from behind the last one on
-abbrev pub Ascend : Option (List ℕ) → List (List ℕ × Form) → Type 0
-Ascend last [] = Unit {0}
-Ascend last (e ∷ es) = (comes_after last e.0 ≡ true) × Ascend (Some e.0) es
+abbrev pub KeysAscend : Option (List ℕ) → List (List ℕ × Form) → Type 0
+KeysAscend last [] = Unit {0}
+KeysAscend last (e ∷ es) = (comes_after last e.0 ≡ true) × KeysAscend (Some e.0) es
 
 abbrev pub EntryFits : (Form → Type 0) → List ℕ × Form → Type 0
 EntryFits Inner e = TextFits e.0 × Inner e.1
@@ -204,10 +204,10 @@ FitsAround Inner (character n) = CharacterFits n
 FitsAround Inner (text t) = TextFits t
 FitsAround Inner (range a b) = IntegerFits a × IntegerFits b
 FitsAround Inner (range_inclusive a b) = IntegerFits a × IntegerFits b
-FitsAround Inner (array xs) = CountedFit Inner (listed xs)
+FitsAround Inner (array xs) = CountedFit Inner (listed_forms xs)
 FitsAround Inner (blob b) = BytesFit b
-FitsAround Inner (object_map es) = CountedFit (EntryFits Inner) (listed_entries es) × Ascend None (listed_entries es)
-FitsAround Inner (fn_ptr name xs) = TextFits name × CountedFit Inner (listed xs)
+FitsAround Inner (object_map es) = CountedFit (EntryFits Inner) (listed_entries es) × KeysAscend None (listed_entries es)
+FitsAround Inner (fn_ptr name xs) = TextFits name × CountedFit Inner (listed_forms xs)
 FitsAround Inner (shared x) = Inner x
 FitsAround Inner (host t i) = ⊥
 
@@ -226,10 +226,10 @@ abbrev mutual
   IsSound (text t) = TextFits t
   IsSound (range a b) = IntegerFits a × IntegerFits b
   IsSound (range_inclusive a b) = IntegerFits a × IntegerFits b
-  IsSound (array xs) = (length (listed xs) < 2 ^ 64) × AreSound xs
+  IsSound (array xs) = (length (listed_forms xs) < 2 ^ 64) × AreSound xs
   IsSound (blob b) = BytesFit b
-  IsSound (object_map es) = ((length (listed_entries es) < 2 ^ 64) × AreSoundEntries es) × Ascend None (listed_entries es)
-  IsSound (fn_ptr name xs) = TextFits name × ((length (listed xs) < 2 ^ 64) × AreSound xs)
+  IsSound (object_map es) = ((length (listed_entries es) < 2 ^ 64) × AreSoundEntries es) × KeysAscend None (listed_entries es)
+  IsSound (fn_ptr name xs) = TextFits name × ((length (listed_forms xs) < 2 ^ 64) × AreSound xs)
   IsSound (shared x) = IsSound x
   IsSound (host t i) = ⊥
 

@@ -2,13 +2,13 @@
 use Rattle.std.proofs.Common.{◌≡◌, ℕ, zero, suc, ◌<◌, ◌≤◌, ◌^◌, List, [], ◌∷◌, length, max, Option, None, refl, ap, arith}
 use Rattle.std.specs.List.{AllByRecursion}
 use Rattle.grain_file.specs.declared.error.Unkept.{Unkept}
-use Rattle.grain_file.specs.Reading.{or_refused, Keeps}
+use Rattle.grain_file.specs.Reading.{or_refused, KeepsAll}
 use Rattle.grain_file.specs.Lists.{CountedFit}
 use Rattle.grain_file.specs.Refusals.{counted_refusal}
 use Rattle.grain_file.specs.TextLaws.{TextFits}
 use Rattle.grain_file.specs.Form.{Form, unit, boolean, integer, character, text, range, range_inclusive, array, blob, object_map, fn_ptr, shared, host, Forms, no_forms, form_then, Entries, no_entries, entry_then}
-use Rattle.grain_file.specs.Form.{forms_of, listed, entries_of, listed_entries, value_refusal, forms_refusal, entries_refusal, nesting, forms_nesting, entries_nesting, Ascend, EntryFits, FitsAround, FitsWithin, IsSound, AreSound, AreSoundEntries}
-use Rattle.grain_file.specs.FormLaws.{listed-forms_of, listed-entries_of}
+use Rattle.grain_file.specs.Form.{forms_of, listed_forms, form_entries_of, listed_entries, value_refusal, forms_refusal, entries_refusal, nesting, forms_nesting, entries_nesting, KeysAscend, EntryFits, FitsAround, FitsWithin, IsSound, AreSound, AreSoundEntries}
+use Rattle.grain_file.specs.FormLaws.{listed_forms-forms_of, listed_entries-form_entries_of}
 
 -- ---- what is sound fits
 
@@ -28,7 +28,7 @@ some (shared x) = omega arith
 some (host t i) = omega arith
 
 module _ (d : ℕ) (one : (x : Form) → IsSound x → nesting x ≤ d → FitsWithin d x) where
-  all_within : (xs : Forms) → AreSound xs → forms_nesting xs ≤ d → AllByRecursion (FitsWithin d) (listed xs)
+  all_within : (xs : Forms) → AreSound xs → forms_nesting xs ≤ d → AllByRecursion (FitsWithin d) (listed_forms xs)
   all_within no_forms sound small = tt
   all_within (form_then x xs) sound small = (one x sound.0 (omega arith), all_within xs sound.1 (omega arith))
 
@@ -36,22 +36,22 @@ module _ (d : ℕ) (one : (x : Form) → IsSound x → nesting x ≤ d → FitsW
   entries_within no_entries sound small = tt
   entries_within (entry_then k x es) sound small = ((sound.0.0, one x sound.0.1 (omega arith)), entries_within es sound.1 (omega arith))
 
-pub within : (d : ℕ) (x : Form) → IsSound x → nesting x ≤ d → FitsWithin d x
+pub sound_fits : (d : ℕ) (x : Form) → IsSound x → nesting x ≤ d → FitsWithin d x
 unfolding FitsWithin
-within zero x sound small = absurd (let n = some x in omega arith)
-within (suc d) unit sound small = tt
-within (suc d) (boolean b) sound small = tt
-within (suc d) (integer z) sound small = sound
-within (suc d) (character n) sound small = sound
-within (suc d) (text t) sound small = sound
-within (suc d) (range a b) sound small = sound
-within (suc d) (range_inclusive a b) sound small = sound
-within (suc d) (array xs) sound small = (sound.0, all_within d (within d) xs sound.1 (omega arith))
-within (suc d) (blob b) sound small = sound
-within (suc d) (object_map es) sound small = ((sound.0.0, entries_within d (within d) es sound.0.1 (omega arith)), sound.1)
-within (suc d) (fn_ptr name xs) sound small = (sound.0, (sound.1.0, all_within d (within d) xs sound.1.1 (omega arith)))
-within (suc d) (shared x) sound small = within d x sound (omega arith)
-within (suc d) (host t i) sound small = absurd sound
+sound_fits zero x sound small = absurd (let n = some x in omega arith)
+sound_fits (suc d) unit sound small = tt
+sound_fits (suc d) (boolean b) sound small = tt
+sound_fits (suc d) (integer z) sound small = sound
+sound_fits (suc d) (character n) sound small = sound
+sound_fits (suc d) (text t) sound small = sound
+sound_fits (suc d) (range a b) sound small = sound
+sound_fits (suc d) (range_inclusive a b) sound small = sound
+sound_fits (suc d) (array xs) sound small = (sound.0, all_within d (sound_fits d) xs sound.1 (omega arith))
+sound_fits (suc d) (blob b) sound small = sound
+sound_fits (suc d) (object_map es) sound small = ((sound.0.0, entries_within d (sound_fits d) es sound.0.1 (omega arith)), sound.1)
+sound_fits (suc d) (fn_ptr name xs) sound small = (sound.0, (sound.1.0, all_within d (sound_fits d) xs sound.1.1 (omega arith)))
+sound_fits (suc d) (shared x) sound small = sound_fits d x sound (omega arith)
+sound_fits (suc d) (host t i) sound small = absurd sound
 
 -- the deepest of some values
 abbrev pub deepest : List Form → ℕ
@@ -60,7 +60,7 @@ deepest (x ∷ xs) = max (nesting x) (deepest xs)
 
 pub each_within : (d : ℕ) (xs : List Form) → AllByRecursion IsSound xs → deepest xs ≤ d → AllByRecursion (FitsWithin d) xs
 each_within d [] sound small = tt
-each_within d (x ∷ xs) sound small = (within d x sound.0 (omega arith), each_within d xs sound.1 (omega arith))
+each_within d (x ∷ xs) sound small = (sound_fits d x sound.0 (omega arith), each_within d xs sound.1 (omega arith))
 
 -- ---- what fits within a depth fits within a greater one
 
@@ -81,10 +81,10 @@ module _ (P Q : Form → Type 0) (more : (x : Form) → P x → Q x) where
   around_more (text t) fits = fits
   around_more (range a b) fits = fits
   around_more (range_inclusive a b) fits = fits
-  around_more (array xs) fits = (fits.0, each_more (listed xs) fits.1)
+  around_more (array xs) fits = (fits.0, each_more (listed_forms xs) fits.1)
   around_more (blob b) fits = fits
   around_more (object_map es) fits = ((fits.0.0, entries_more (listed_entries es) fits.0.1), fits.1)
-  around_more (fn_ptr name xs) fits = (fits.0, (fits.1.0, each_more (listed xs) fits.1.1))
+  around_more (fn_ptr name xs) fits = (fits.0, (fits.1.0, each_more (listed_forms xs) fits.1.1))
   around_more (shared x) fits = more x fits
   around_more (host t i) fits = absurd fits
 
@@ -103,18 +103,18 @@ pub are_sound : (xs : List Form) → AllByRecursion IsSound xs → AreSound (for
 are_sound [] sound = tt
 are_sound (x ∷ xs) sound = (sound.0, are_sound xs sound.1)
 
-pub entries_are_sound : (es : List (List ℕ × Form)) → AllByRecursion (EntryFits IsSound) es → AreSoundEntries (entries_of es)
+pub entries_are_sound : (es : List (List ℕ × Form)) → AllByRecursion (EntryFits IsSound) es → AreSoundEntries (form_entries_of es)
 entries_are_sound [] sound = tt
 entries_are_sound (e ∷ es) sound = (sound.0, entries_are_sound es sound.1)
 
 pub array_is_sound : (xs : List Form) → CountedFit IsSound xs → IsSound (array (forms_of xs))
-array_is_sound xs fit = (rw (listed-forms_of xs) fit.0, are_sound xs fit.1)
+array_is_sound xs fit = (rw (listed_forms-forms_of xs) fit.0, are_sound xs fit.1)
 
 pub pointer_is_sound : (name : List ℕ) (xs : List Form) → TextFits name → CountedFit IsSound xs → IsSound (fn_ptr name (forms_of xs))
-pointer_is_sound name xs name_fits fit = (name_fits, (rw (listed-forms_of xs) fit.0, are_sound xs fit.1))
+pointer_is_sound name xs name_fits fit = (name_fits, (rw (listed_forms-forms_of xs) fit.0, are_sound xs fit.1))
 
-pub map_is_sound : (es : List (List ℕ × Form)) → length es < 2 ^ 64 → AllByRecursion (EntryFits IsSound) es → Ascend None es → IsSound (object_map (entries_of es))
-map_is_sound es few sound up = ((rw (listed-entries_of es) few, entries_are_sound es sound), rw (listed-entries_of es) up)
+pub map_is_sound : (es : List (List ℕ × Form)) → length es < 2 ^ 64 → AllByRecursion (EntryFits IsSound) es → KeysAscend None es → IsSound (object_map (form_entries_of es))
+map_is_sound es few sound up = ((rw (listed_entries-form_entries_of es) few, entries_are_sound es sound), rw (listed_entries-form_entries_of es) up)
 
 -- ---- of what fits all is kept
 
@@ -125,12 +125,12 @@ forms_refused (x ∷ xs) = ap (λ (r : Option Unkept). or_refused (value_refusal
 abbrev pub entry_refusal : List ℕ × Form → Option Unkept
 entry_refusal e = value_refusal e.1
 
-pub entries_refused : (es : List (List ℕ × Form)) → entries_refusal (entries_of es) ≡ counted_refusal entry_refusal es
+pub entries_refused : (es : List (List ℕ × Form)) → entries_refusal (form_entries_of es) ≡ counted_refusal entry_refusal es
 entries_refused [] = refl
 entries_refused (e ∷ es) = ap (λ (r : Option Unkept). or_refused (value_refusal e.1) r) (entries_refused es)
 
-module _ (Inner : Form → Type 0) (kept : Keeps Inner value_refusal) where
-  forms_kept : (xs : Forms) → AllByRecursion Inner (listed xs) → forms_refusal xs ≡ None
+module _ (Inner : Form → Type 0) (kept : KeepsAll Inner value_refusal) where
+  forms_kept : (xs : Forms) → AllByRecursion Inner (listed_forms xs) → forms_refusal xs ≡ None
   forms_kept no_forms fits = refl
   forms_kept (form_then x xs) fits = rw (kept x fits.0) (forms_kept xs fits.1)
 
@@ -138,7 +138,7 @@ module _ (Inner : Form → Type 0) (kept : Keeps Inner value_refusal) where
   entries_kept no_entries fits = refl
   entries_kept (entry_then k x es) fits = rw (kept x fits.0.1) (entries_kept es fits.1)
 
-  pub around_kept : Keeps (FitsAround Inner) value_refusal
+  pub around_kept : KeepsAll (FitsAround Inner) value_refusal
   around_kept unit fits = refl
   around_kept (boolean b) fits = refl
   around_kept (integer z) fits = refl
@@ -153,7 +153,7 @@ module _ (Inner : Form → Type 0) (kept : Keeps Inner value_refusal) where
   around_kept (shared x) fits = kept x fits
   around_kept (host t i) fits = absurd fits
 
-pub value_keeps : (d : ℕ) → Keeps (FitsWithin d) value_refusal
+pub value_keeps : (d : ℕ) → KeepsAll (FitsWithin d) value_refusal
 unfolding FitsWithin
 value_keeps zero x fits = absurd fits
 value_keeps (suc d) x fits = around_kept (FitsWithin d) (value_keeps d) x fits

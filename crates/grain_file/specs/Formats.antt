@@ -4,7 +4,7 @@ use Rattle.std.specs.Prelude.{ℕ, ◌<◌, ◌^◌, List, [], ◌∷◌, Option
 use Rattle.grain_file.specs.declared.error.Fault.{Fault}
 use Rattle.grain_file.specs.declared.error.Unkept.{Unkept}
 use Rattle.grain_file.specs.declared.error.Fault.TheVariants.{Trailing}
-use Rattle.grain_file.specs.Reading.{Flaw, ◌>>=◌, Takes, Again, Keeps, Ends}
+use Rattle.grain_file.specs.Reading.{LocatedFault, ◌>>=◌, Takes, Again, KeepsAll, Ends}
 use Rattle.grain_file.specs.Ends.{number_ends, below_ends, bytes_ends, text_ends, byte_ends, tag_ends, only_ends, both_ends, depending_ends, seen_ends, checked_ends, counted_ends, optional_ends, alternative_ends, headed_ends}
 use Rattle.grain_file.specs.Refusals.{both_refusal, depending_refusal, counted_refusal, optional_refusal, alternative_refusal, all_keeps, both_keeps, depending_keeps, counted_keeps, optional_keeps, alternative_keeps, only_keeps}
 use Rattle.grain_file.specs.Numbers.{number, number_at, below_at}
@@ -17,12 +17,12 @@ use Rattle.grain_file.specs.ListLaws.{both_takes, both_again, depending_takes, d
 pub record Format (A : Type 0) : Type 1 where
   pub spelling : A → List ℕ
   pub Fits : A → Type 0
-  pub reading : List ℕ → Result (A × List ℕ) Flaw
+  pub reading : List ℕ → Result (A × List ℕ) LocatedFault
   -- the first reason for which a value has no spelling
   pub refusal : A → Option Unkept
   pub takes : Takes spelling Fits reading
   pub again : Again spelling Fits reading
-  pub keeps : Keeps Fits refusal
+  pub keeps : KeepsAll Fits refusal
   pub ends : Ends reading
 
 -- a number below 2 ^ 64
@@ -39,8 +39,8 @@ abbrev pub text : Format (List ℕ)
 text = record { spelling = counted_bytes; Fits = TextFits; reading = text_at; refusal = λ b. None; takes = text_takes; again = text_again; keeps = all_keeps TextFits; ends = text_ends }
 
 -- no bytes at all
-abbrev pub nothing : Format (Unit {0})
-nothing = record { spelling = λ u. []; Fits = Anything; reading = λ bytes. Ok (tt, bytes); refusal = λ u. None; takes = nothing_takes; again = λ u rest fits. refl; keeps = all_keeps Anything; ends = only_ends tt }
+abbrev pub no_bytes : Format (Unit {0})
+no_bytes = record { spelling = λ u. []; Fits = Anything; reading = λ bytes. Ok (tt, bytes); refusal = λ u. None; takes = nothing_takes; again = λ u rest fits. refl; keeps = all_keeps Anything; ends = only_ends tt }
 
 -- No bytes, for the one value that needs none. All others are refused.
 abbrev pub only : {A : Type 0} (one : A) (refusal : A → Option Unkept) → refusal one ≡ None → Format A
@@ -70,7 +70,7 @@ abbrev pub depending : {A B : Type 0} → Format A → (A → Format B) → Form
 depending {A} {B} F G =
     let spelling : A → B → List ℕ = λ x. (G x).spelling in
     let Fits : A → B → Type 0 = λ x. (G x).Fits in
-    let reading : A → List ℕ → Result (B × List ℕ) Flaw = λ x. (G x).reading in
+    let reading : A → List ℕ → Result (B × List ℕ) LocatedFault = λ x. (G x).reading in
     let refusal : A → B → Option Unkept = λ x. (G x).refusal in
     record {
       spelling = depending_spelling F.spelling spelling;
@@ -84,8 +84,8 @@ depending {A} {B} F G =
     }
 
 -- a field seen otherwise
-abbrev pub seen : {A B : Type 0} (to : A → B) (from : B → A) → ((a : A) → from (to a) ≡ a) → ((b : B) → to (from b) ≡ b) → Format A → Format B
-seen to from there back F = record {
+abbrev pub viewed_as : {A B : Type 0} (to : A → B) (from : B → A) → ((a : A) → from (to a) ≡ a) → ((b : B) → to (from b) ≡ b) → Format A → Format B
+viewed_as to from there back F = record {
   spelling = λ b. F.spelling (from b);
   Fits = λ b. F.Fits (from b);
   reading = seen_at to F.reading;
@@ -110,8 +110,8 @@ checked test fault F = record {
 }
 
 -- how many, and each
-abbrev pub counted : {A : Type 0} → Format A → Format (List A)
-counted F = record {
+abbrev pub counted_list : {A : Type 0} → Format A → Format (List A)
+counted_list F = record {
   spelling = counted_spelling F.spelling;
   Fits = CountedFit F.Fits;
   reading = counted_at F.reading;
@@ -162,5 +162,5 @@ headed tag fault F = record {
 }
 
 -- what reading all of the bytes gives
-abbrev pub whole : {A : Type 0} → Format A → List ℕ → Result (A × List ℕ) Flaw
+abbrev pub whole : {A : Type 0} → Format A → List ℕ → Result (A × List ℕ) LocatedFault
 whole F bytes = F.reading bytes >>= λ x. (if length x.1 == 0 then Ok x else Err (Trailing, x.1))

@@ -11,7 +11,7 @@ use Rattle.grain_file.specs.declared.file.ReadError.TheVariants as read_error
 use Rattle.grain_file.specs.declared.loading.LoadError.{LoadError}
 use Rattle.grain_file.specs.declared.loading.LoadError.TheVariants as load_error
 use Rattle.grain_file.specs.ProgramFile.{IsFileWithin, kept}
-use Rattle.grain_file.specs.Causes.{IsCause}
+use Rattle.grain_file.specs.Causes.{IsReadCause}
 
 -- the bytes are a file of the program, within the limits
 abbrev pub IsFileOf : Limits → List ℕ → Program → Type 0
@@ -19,7 +19,7 @@ IsFileOf limits bytes p = IsFileWithin limits bytes (kept p)
 
 -- The host has what the program declares, and it is accepted. That is said of each program of which as much is kept, since
 -- programs may lie differently in memory.
-pub record Passes (host : ℕ) (p : Program) : Type 0 where
+pub record IsLoadable (host : ℕ) (p : Program) : Type 0 where
   pub allowed : (q : Program) → kept q ≡ kept p → Allows host q.caps.0
   pub accepted : (q : Program) → kept q ≡ kept p → IsAccepted (input_of q)
 
@@ -29,7 +29,7 @@ IsMemory e = (e ≡ load_error.Read read_error.OutOfMemory) ⊎ (e ≡ load_erro
 
 -- Which test failed: the bytes are no file, or a file of a program that declares what the host lacks, or of one with a flaw.
 abbrev pub IsLoadCause : Limits → List ℕ → ℕ → LoadError → Type 0
-IsLoadCause limits bytes host (load_error.Read error) = IsCause limits bytes error
+IsLoadCause limits bytes host (load_error.Read error) = IsReadCause limits bytes error
 IsLoadCause limits bytes host (load_error.Capabilities absent) =
     (p : Program) × IsFileOf limits bytes p × (absent.0 ≡ missing host p.caps.0) × (absent.0 ≢ 0)
 IsLoadCause limits bytes host (load_error.Refused error) =

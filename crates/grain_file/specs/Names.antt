@@ -2,10 +2,10 @@
 use Rattle.std.specs.Prelude.{ℕ, ◌^◌, List, length, nat_lt, Bool}
 use Rattle.std.specs.List.{concat}
 use Rattle.grain_file.specs.declared.error.Fault.TheVariants.{NamesTooLong}
-use Rattle.grain_file.specs.Formats.{Format, text, counted, checked}
+use Rattle.grain_file.specs.Formats.{Format, text, counted_list, checked}
 
 abbrev pub are_short : List (List ℕ) → Bool
 are_short names = nat_lt (length (concat names)) (2 ^ 32)
 
 abbrev pub names_format : Format (List (List ℕ))
-names_format = checked are_short NamesTooLong (counted text)
+names_format = checked are_short NamesTooLong (counted_list text)

@@ -6,12 +6,14 @@ use Rattle.grain_file.specs.declared.file.Limits.{Limits}
 use Rattle.grain_file.specs.declared.error.Fault.TheVariants.{Magic, Version, Kind}
 use Rattle.grain_file.specs.declared.error.Unkept.{Unkept}
 use Rattle.grain_file.specs.declared.error.Unkept.TheVariants.{Residuals}
-use Rattle.grain_file.specs.Reading.{Flaw}
-use Rattle.grain_file.specs.Formats.{Format, any_number, number_below, blob, text, only, both, depending, counted, optional, headed, whole}
+use Rattle.grain_file.specs.Reading.{LocatedFault}
+use Rattle.grain_file.specs.Formats.{Format, any_number, number_below, blob, text, only, both, depending, counted_list, optional, headed, whole}
 use Rattle.grain_file.specs.Functions.{FunctionParts, function_parts, function_format, chunk_format}
 use Rattle.grain_file.specs.Names.{names_format}
-use Rattle.grain_file.specs.Tokens.{TokenParts, AssignOpParts, token_parts, token_format, assign_op_parts, assign_op_format}
-use Rattle.grain_file.specs.Chains.{Place, ChainParts, chain_parts, chain_format, place_format}
+use Rattle.grain_base.specs.Tokens.{TokenParts, token_parts}
+use Rattle.grain_file.specs.Tokens.{AssignOpParts, token_format, assign_op_parts, assign_op_format}
+use Rattle.grain_bytecode.specs.Positions.{Place}
+use Rattle.grain_file.specs.Chains.{ChainParts, chain_parts, chain_format, place_format}
 use Rattle.grain_file.specs.Switches.{SwitchParts, most_cases, switch_parts, switch_format}
 use Rattle.grain_file.specs.Form.{Form, forms, spelled, value_refusal, FitsWithin}
 use Rattle.grain_file.specs.FormAt.{value_at}
@@ -33,7 +35,7 @@ abbrev pub CodeParts : Type 0
 CodeParts = ℕ × ((ℕ × ℕ) × (List ℕ × (Span × List FunctionParts)))
 
 unfoldable pub code_format : Format CodeParts
-code_format = both (number_below (2 ^ 16)) (both (both any_number any_number) (both blob (both chunk_format (counted function_format))))
+code_format = both (number_below (2 ^ 16)) (both (both any_number any_number) (both blob (both chunk_format (counted_list function_format))))
 
 -- ---- pools
 
@@ -53,13 +55,13 @@ abbrev pub no_bounds : Bounds
 no_bounds = record { depth = 0; cases = 0 }
 
 unfoldable pub pools_format : Bounds → Format PoolParts
-pools_format bounds = both names_format (depending (counted (value_format bounds.depth)) (λ constants. both (counted token_format) (both (counted assign_op_format) (both (counted chain_format) (counted (switch_format bounds.cases constants))))))
+pools_format bounds = both names_format (depending (counted_list (value_format bounds.depth)) (λ constants. both (counted_list token_format) (both (counted_list assign_op_format) (both (counted_list chain_format) (counted_list (switch_format bounds.cases constants))))))
 
 -- ---- all else
 
 -- the places of the code's bytes, if they are known
 abbrev pub positions_format : Format (Option (List Place))
-positions_format = optional (counted place_format)
+positions_format = optional (counted_list place_format)
 
 abbrev pub residuals_refusal : ℕ → Option Unkept
 residuals_refusal zero = None
@@ -108,13 +110,13 @@ abbrev pub nesting_of : Kept → ℕ
 nesting_of k = deepest k.1.0.1.0
 
 -- how many cases the switch has that has most
-abbrev pub cases_of : Kept → ℕ
-cases_of k = most_cases k.1.0.1.1.1.1.1
+abbrev pub most_cases_of : Kept → ℕ
+most_cases_of k = most_cases k.1.0.1.1.1.1.1
 
 -- no value is nested deeper, and no switch has more cases
 pub record IsWithin (bounds : Bounds) (k : Kept) : Type 0 where
   pub nesting : nesting_of k ≤ bounds.depth
-  pub cases : cases_of k ≤ bounds.cases
+  pub cases : most_cases_of k ≤ bounds.cases
 
 -- the first reason for which what is kept has no file
 abbrev pub refusal_of : Kept → Option Unkept
@@ -126,5 +128,5 @@ pub record IsFileWithin (limits : Limits) (bytes : List ℕ) (k : Kept) : Type 0
   pub file : IsFile (bounds_of limits) bytes k
 
 -- what reading all of the bytes gives
-unfoldable pub whole_at : Bounds → List ℕ → Result (Kept × List ℕ) Flaw
+unfoldable pub whole_at : Bounds → List ℕ → Result (Kept × List ℕ) LocatedFault
 whole_at bounds bytes = whole (file_format bounds) bytes

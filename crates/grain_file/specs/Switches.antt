@@ -15,12 +15,13 @@ use Rattle.grain_file.specs.declared.error.Unkept.TheVariants.{CaseKey}
 use Rattle.grain_file.specs.Form.{Form}
 use Rattle.grain_file.specs.FormAt.{signed}
 use Rattle.grain_file.specs.FormLaws.{zigzag_signed, signed_zigzag}
-use Rattle.grain_file.specs.Formats.{Format, any_number, number_below, tag_below, only, seen, both, checked, counted}
-use Rattle.grain_file.specs.Cases.{Case, CaseParts, Cases, are_new, are_there, ascend_from, case_content, case_parts, is_keyed, ordered}
+use Rattle.grain_file.specs.Formats.{Format, any_number, number_below, tag_below, only, viewed_as, both, checked, counted_list}
+use Rattle.grain_pools.specs.Dispatch.{Case}
+use Rattle.grain_file.specs.Cases.{CaseParts, Cases, are_new, are_there, ascend_from, case_content, case_parts, is_keyed, ordered}
 
 -- a signed number, by zigzag
 abbrev pub integer_format : Format ℤ
-integer_format = seen signed zigzag zigzag_signed signed_zigzag any_number
+integer_format = viewed_as signed zigzag zigzag_signed signed_zigzag any_number
 
 abbrev pub bool_tag : Bool → ℕ
 bool_tag false = 0
@@ -66,7 +67,7 @@ case_flaw count most cs = if ascend_from 0 cs then (if are_there count cs then (
 
 -- cases that ascend
 abbrev pub ascending_format : Format (List CaseParts)
-ascending_format = checked (ascend_from 0) CaseOrder (counted case_format)
+ascending_format = checked (ascend_from 0) CaseOrder (counted_list case_format)
 
 -- So many cases at most, whose keys are their constants. Those are there and ascend, and differ in their values.
 abbrev pub cases_format : ℕ → List Form → Format KeyedCases
@@ -80,7 +81,7 @@ abbrev pub switch_parts : List Dynamic → Switch → SwitchParts
 switch_parts constants s = (keyed constants (listed (arms s).cases), (map range_parts s.ranges.items, s.default))
 
 abbrev pub switch_format : ℕ → List Form → Format SwitchParts
-switch_format most constants = both (cases_format most constants) (both (counted range_format) (number_below (2 ^ 32)))
+switch_format most constants = both (cases_format most constants) (both (counted_list range_format) (number_below (2 ^ 32)))
 
 -- the spelling and the reason against it, which depend on nothing else
 abbrev pub switch_spelling : SwitchParts → List ℕ

@@ -5,7 +5,7 @@ use Rattle.std.proofs.lemmas.Bool.{ltb-true, ltb-false, lt-ltb, le-ltb, eqb-true
 use Rattle.std.proofs.lemmas.List.{take_at, drop_at, take-append-drop, length-take}
 use Rattle.grain_file.specs.declared.error.Fault.{Fault}
 use Rattle.grain_file.specs.declared.error.Fault.TheVariants.{Truncated, NotText, UnknownTag}
-use Rattle.grain_file.specs.Reading.{Flaw, Takes, Again}
+use Rattle.grain_file.specs.Reading.{LocatedFault, Takes, Again}
 use Rattle.grain_file.specs.Numbers.{number, number_at}
 use Rattle.grain_file.specs.Texts.{counted_bytes, byte_at, bytes_at, text_at, tag_at, expected_at}
 use Rattle.grain_file.specs.Laws.{bind_ok, chosen, ok_is}
@@ -32,7 +32,7 @@ bytes_takes bytes x rest are e =
       | inl p ↦ absurd (let q = p.1 in cc)
       | inr p ↦
           let t = number_takes bytes b.0.0 b.0.1 are b.1 in
-          subst (λ (y : List ℕ × List ℕ). (bytes ≡ counted_bytes y.0 ++ y.1) × BytesFit y.0) (ok_is {E = Flaw} (take b.0.0 b.0.1, drop b.0.0 b.0.1) (x, rest) p.1)
+          subst (λ (y : List ℕ × List ℕ). (bytes ≡ counted_bytes y.0 ++ y.1) × BytesFit y.0) (ok_is {E = LocatedFault} (take b.0.0 b.0.1, drop b.0.0 b.0.1) (x, rest) p.1)
           (cut b.0.0 bytes b.0.1 t.1 (ltb-false _ _ p.0) t.0)
     ]
 
@@ -49,7 +49,7 @@ text_takes bytes x rest are e =
     elim (chosen (is_utf8 b.0.0) (Ok b.0) (Err (NotText, bytes)) (Ok (x, rest)) b.2) [
       | inl p ↦
           let t = bytes_takes bytes b.0.0 b.0.1 are b.1 in
-          subst (λ (y : List ℕ × List ℕ). (bytes ≡ counted_bytes y.0 ++ y.1) × TextFits y.0) (ok_is {E = Flaw} b.0 (x, rest) p.1) (t.0, (t.1, p.0))
+          subst (λ (y : List ℕ × List ℕ). (bytes ≡ counted_bytes y.0 ++ y.1) × TextFits y.0) (ok_is {E = LocatedFault} b.0 (x, rest) p.1) (t.0, (t.1, p.0))
       | inr p ↦ absurd (let q = p.1 in cc)
     ]
 
@@ -64,7 +64,7 @@ pub byte_takes : Takes one_byte (λ b. b < 256) byte_at
 unfolding byte_at
 byte_takes [] x rest are e = absurd cc
 byte_takes (b ∷ bytes) x rest are e =
-    subst (λ (y : ℕ × List ℕ). (b ∷ bytes ≡ one_byte y.0 ++ y.1) × (y.0 < 256)) (ok_is {E = Flaw} (b, bytes) (x, rest) e) (refl, are.each 0)
+    subst (λ (y : ℕ × List ℕ). (b ∷ bytes ≡ one_byte y.0 ++ y.1) × (y.0 < 256)) (ok_is {E = LocatedFault} (b, bytes) (x, rest) e) (refl, are.each 0)
 
 pub byte_again : Again one_byte (λ b. b < 256) byte_at
 unfolding byte_at
@@ -75,7 +75,7 @@ unfolding tag_at
 tag_takes limit [] x rest are e = absurd cc
 tag_takes limit (b ∷ bytes) x rest are e =
     elim (chosen (ltb b limit) (Ok (b, bytes)) (Err (UnknownTag, b ∷ bytes)) (Ok (x, rest)) e) [
-      | inl p ↦ subst (λ (y : ℕ × List ℕ). (b ∷ bytes ≡ one_byte y.0 ++ y.1) × (y.0 < limit)) (ok_is {E = Flaw} (b, bytes) (x, rest) p.1) (refl, ltb-true b limit p.0)
+      | inl p ↦ subst (λ (y : ℕ × List ℕ). (b ∷ bytes ≡ one_byte y.0 ++ y.1) × (y.0 < limit)) (ok_is {E = LocatedFault} (b, bytes) (x, rest) p.1) (refl, ltb-true b limit p.0)
       | inr p ↦ absurd (let q = p.1 in cc)
     ]
 
@@ -87,11 +87,11 @@ abbrev pub Anything : Unit {0} → Type 0
 Anything u = Unit {0}
 
 pub nothing_takes : Takes (λ u. []) Anything (λ bytes. Ok (tt, bytes))
-nothing_takes bytes x rest are e = (ap (λ (y : Unit {0} × List ℕ). y.1) (ok_is {E = Flaw} (tt, bytes) (x, rest) e), tt)
+nothing_takes bytes x rest are e = (ap (λ (y : Unit {0} × List ℕ). y.1) (ok_is {E = LocatedFault} (tt, bytes) (x, rest) e), tt)
 
 pub only_takes : {A : Type 0} (one : A) → Takes (λ x. []) (λ x. x ≡ one) (λ bytes. Ok (one, bytes))
 only_takes {A = A} one bytes x rest are e =
-    let same = ok_is {A = A × List ℕ} {E = Flaw} (one, bytes) (x, rest) e in
+    let same = ok_is {A = A × List ℕ} {E = LocatedFault} (one, bytes) (x, rest) e in
     (ap (λ (y : A × List ℕ). y.1) same, sym (ap (λ (y : A × List ℕ). y.0) same))
 
 pub only_again : {A : Type 0} (one : A) → Again (λ x. []) (λ x. x ≡ one) (λ bytes. Ok (one, bytes))
@@ -102,7 +102,7 @@ unfolding expected_at
 expected_takes byte fault [] x rest are e = absurd cc
 expected_takes byte fault (b ∷ bytes) x rest are e =
     elim (chosen (eqb b byte) (Ok (tt, bytes)) (Err (fault, b ∷ bytes)) (Ok (x, rest)) e) [
-      | inl p ↦ subst (λ (y : Unit {0} × List ℕ). (b ∷ bytes ≡ (byte ∷ []) ++ y.1) × Anything y.0) (ok_is {E = Flaw} (tt, bytes) (x, rest) p.1) (ap (λ (c : ℕ). c ∷ bytes) (eqb-true b byte p.0), tt)
+      | inl p ↦ subst (λ (y : Unit {0} × List ℕ). (b ∷ bytes ≡ (byte ∷ []) ++ y.1) × Anything y.0) (ok_is {E = LocatedFault} (tt, bytes) (x, rest) p.1) (ap (λ (c : ℕ). c ∷ bytes) (eqb-true b byte p.0), tt)
       | inr p ↦ absurd (let q = p.1 in cc)
     ]
 

@@ -7,7 +7,7 @@ use Rattle.grain_file.specs.Cases.{is_keyed}
 use Rattle.grain_file.specs.Form.{forms, value_refusal}
 
 -- No constant has a value of the host, at any depth, the key of each case is its constant, and no fragment of syntax is left.
-pub record IsWritable (p : Program) : Type 0 where
+pub record IsWritableProgram (p : Program) : Type 0 where
   pub constants : AllByRecursion (λ v. value_refusal v ≡ None) (forms p.consts)
   pub cases : AllByRecursion (λ s. list_all (is_keyed p.consts) (listed (arms s).cases) ≡ true) p.switches
   pub residuals : p.residuals ≡ 0

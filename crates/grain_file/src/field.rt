@@ -2,7 +2,8 @@
 ghost use Rattle.std.specs.Prelude.{◌≡◌, ◌++◌, ◌^◌, ℕ, ℤ, List, Option, OnOk, map, option_map, string_bytes};
 ghost use Rattle.grain_base.specs.Place.{place_of};
 ghost use Rattle.grain_file.specs.Reading.{Decides, Gives};
-ghost use Rattle.grain_file.specs.Chains.{Place, place_format, placed_at};
+ghost use Rattle.grain_bytecode.specs.Positions.{Place};
+ghost use Rattle.grain_file.specs.Chains.{place_format, placed_at};
 ghost use Rattle.grain_file.specs.Switches.{integer_format};
 ghost use Rattle.grain_file.specs.Formats.{Format, any_number, number_below, text, optional};
 

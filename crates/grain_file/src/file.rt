@@ -5,11 +5,12 @@ ghost use Rattle.grain_base.specs.Place.{place_of};
 ghost use Rattle.grain_file.specs.Reading.{Decides, Gives};
 ghost use Rattle.grain_file.specs.Form.{forms};
 ghost use Rattle.grain_file.specs.Functions.{function_parts};
-ghost use Rattle.grain_file.specs.Tokens.{token_parts, assign_op_parts};
+ghost use Rattle.grain_base.specs.Tokens.{token_parts};
+ghost use Rattle.grain_file.specs.Tokens.{assign_op_parts};
 ghost use Rattle.grain_file.specs.Chains.{chain_parts};
 ghost use Rattle.grain_file.specs.Switches.{switch_parts};
 ghost use Rattle.grain_file.specs.ProgramFile.{CodeParts, bounds_of, IsFileWithin, Kept, PoolParts, body_format, code_format, file_format, halves, kept, pools_format, rest_format, versioned_format, whole_at};
-ghost use Rattle.grain_file.specs.Causes.{IsCause, IsFaultOf, code_parts, pool_parts};
+ghost use Rattle.grain_file.specs.Causes.{IsReadCause, IsReadFault, code_parts, pool_parts};
 
 use crate::cursor::Cursor;
 use crate::error::{Fault, Stop, Unkept, WriteError};
@@ -94,7 +95,7 @@ pub fn read(alloc: Global, bytes: &[u8], limits: &Limits) -> Result<Program, Rea
     ensures only { (k : Kept) → IsFileWithin limits.now bytes.now k
         → MatchResult result (λ p. kept p ≡ k) (λ e. e ≡ ReadError.OutOfMemory) }
     // Which fault it is, and where.
-    ensures exact { IfErr result (IsCause limits.now bytes.now) }
+    ensures exact { IfErr result (IsReadCause limits.now bytes.now) }
 {
     if bytes.len() > limits.size {
         return Err(ReadError::TooLarge {
@@ -107,7 +108,7 @@ pub fn read(alloc: Global, bytes: &[u8], limits: &Limits) -> Result<Program, Rea
 
 fn read_whole(alloc: Global, bytes: &[u8], limits: &Limits) -> Result<Program, ReadError>
     ensures { MatchResult result (λ p. whole_at (bounds_of limits.now) bytes.now ≡ Ok (kept p, []))
-        (IsFaultOf (bounds_of limits.now) bytes.now) }
+        (IsReadFault (bounds_of limits.now) bytes.now) }
 {
     let mut cursor = Cursor::new(alloc, bytes);
     match read_file(&mut cursor, limits) {

@@ -2,7 +2,7 @@
 ghost use Rattle.std.specs.Prelude.{◌≡◌, ◌++◌, ◌∷◌, [], ℕ, List, Option, IfOk, OnOk, length, map, option_map};
 ghost use Rattle.grain.specs.Program.{listed_positions};
 ghost use Rattle.grain_base.specs.Place.{place_of};
-ghost use Rattle.grain_file.specs.Form.{form, forms, spelled};
+ghost use Rattle.grain_file.specs.Form.{value_form, forms, spelled};
 ghost use Rattle.grain_file.specs.Formats.{any_number, both, optional, text};
 ghost use Rattle.grain_file.specs.Lists.{counted_spelling};
 ghost use Rattle.grain_file.specs.Names.{names_format};
@@ -182,7 +182,7 @@ impl Draft {
         requires { IsDraft self.old }
         ensures draft { OnOk result (IsDraft self.new) }
         ensures spelled { OnOk result (self.new.bytes.items
-            ≡ self.old.bytes.items ++ spelled (form value.now)) }
+            ≡ self.old.bytes.items ++ spelled (value_form value.now)) }
     {
         put_value(&mut self.bytes, value)?;
         self.close(part)?;

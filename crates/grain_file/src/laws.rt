@@ -5,7 +5,7 @@ ghost use Rattle.std.specs.Prelude.{◌≡◌, ◌≤◌, ◌↔◌, ℕ, List, 
 ghost use Rattle.grain.specs.Program.{Program};
 ghost use Rattle.grain_file.specs.ProgramFile.{Bounds, IsFile, Kept, kept, refusal_of};
 ghost use Rattle.grain_file.specs.SidecarFile.{IsSidecarFile, SidecarParts};
-ghost use Rattle.grain_file.specs.Writable.{IsWritable};
+ghost use Rattle.grain_file.specs.Writable.{IsWritableProgram};
 
 /// A program has one file and a file is of one program, whatever the limits of readers. A file within limits is one within
 /// greater ones.
@@ -20,7 +20,7 @@ pub fn files_are_canonical()
 
 /// No reason stands against a program, so that it is written, exactly where it has nothing that no file keeps.
 pub fn writable_programs_are_written()
-    ensures { (p : Program) → (refusal_of (kept p) ≡ None) ↔ IsWritable p }
+    ensures { (p : Program) → (refusal_of (kept p) ≡ None) ↔ IsWritableProgram p }
 {}
 
 /// A sidecar has one file, and a sidecar file is of one sidecar.

@@ -3,7 +3,7 @@ ghost use Rattle.std.specs.Prelude.{◌≡◌, ◌≤◌, ◌++◌, ℕ, List, O
 ghost use Rattle.grain_file.specs.Reading.{Decides};
 ghost use Rattle.grain_file.specs.Lists.{CountedFit, counted_spelling};
 ghost use Rattle.grain_file.specs.Refusals.{counted_refusal};
-ghost use Rattle.grain_file.specs.Formats.{Format, counted};
+ghost use Rattle.grain_file.specs.Formats.{Format, counted_list};
 
 use crate::cursor::Cursor;
 use crate::error::{Stop, WriteError};
@@ -37,7 +37,7 @@ impl<T: Field> Field for Vec<T> {
 
     ghost view = { λ v. map T.view v.items };
 
-    ghost format = { counted T.format };
+    ghost format = { counted_list T.format };
 
     fn read(cursor: &mut Cursor<'_>) -> Result<Vec<T>, Stop> {
         let list = cursor.part;

@@ -5,7 +5,7 @@ ghost use Rattle.grain.specs.Program.{Program, input_of};
 ghost use Rattle.grain_rules.specs.Accepted.{AreDeepest, AreSafe, AreTyped, IsAccepted};
 ghost use Rattle.grain_rules.specs.Capabilities.{Allows};
 ghost use Rattle.grain_file.specs.ProgramFile.{IsFileWithin, kept};
-ghost use Rattle.grain_file.specs.Loading.{IsFileOf, IsLoadCause, IsMemory, Passes};
+ghost use Rattle.grain_file.specs.Loading.{IsFileOf, IsLoadCause, IsMemory, IsLoadable};
 
 use crate::file::{Limits, ReadError, read};
 use grain::Program;
@@ -55,7 +55,7 @@ pub fn load(alloc: Global, bytes: &[u8], host: Caps, limits: &Limits) -> Result<
     ensures safe { IfOk result (λ l. AreSafe (input_of l.program) l.numbers.items) }
     ensures found { IfOk result (λ l. FindsIndices l.program) }
     // A file of a program that passes is loaded, memory apart.
-    ensures accepts { (p : Program) → IsFileOf limits.now bytes.now p → Passes host.0 p
+    ensures accepts { (p : Program) → IsFileOf limits.now bytes.now p → IsLoadable host.0 p
         → IfErr result IsMemory }
     // Which test failed, and of what.
     ensures causes { IfErr result (IsLoadCause limits.now bytes.now host.0) }

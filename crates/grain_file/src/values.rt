@@ -4,7 +4,7 @@ ghost use Rattle.std.specs.List.{AllByRecursion};
 ghost use Rattle.grain_file.specs.Reading.{Decides, Gives};
 ghost use Rattle.grain_file.specs.Lists.{CountedFit, counted_at, counted_spelling};
 ghost use Rattle.grain_file.specs.Refusals.{counted_refusal};
-ghost use Rattle.grain_file.specs.Form.{Ascend, EntryFits, IsSound, array, blob, character, comes_after, entries_of, entry_forms, entry_spelled, form, forms, forms_of, fn_ptr, last_key, object_map, pointer_form, shared, spelled, text, value_refusal};
+ghost use Rattle.grain_file.specs.Form.{KeysAscend, EntryFits, IsSound, array, blob, character, comes_after, form_entries_of, entry_forms, entry_spelled, value_form, forms, forms_of, fn_ptr, last_key, object_map, pointer_form, shared, spelled, text, value_refusal};
 ghost use Rattle.grain_file.specs.FormSound.{entry_refusal};
 ghost use Rattle.grain_file.specs.FormAt.{behind_tag, character_at, counted_entries_at, pointer_at, value_at};
 
@@ -43,7 +43,7 @@ fn make_pointer(name: String, curry: Vec<Dynamic>) -> FnPtr
 #[cycle(value)]
 #[tactic(auto, unfolding(crate::specs::FormAt::value_at))]
 pub(crate) fn read_value(cursor: &mut Cursor<'_>, depth: u32) -> Result<Dynamic, Stop>
-    ensures { Gives form result cursor.new.left.now (value_at depth cursor.old.left.now) }
+    ensures { Gives value_form result cursor.new.left.now (value_at depth cursor.old.left.now) }
 {
     let Some(less) = depth.checked_sub(1) else {
         return Err(Stop::Fault(Fault::TooDeep));
@@ -63,7 +63,7 @@ pub(crate) fn read_value(cursor: &mut Cursor<'_>, depth: u32) -> Result<Dynamic,
 #[tactic(auto, unfolding(crate::specs::FormAt::behind_tag))]
 fn read_behind(cursor: &mut Cursor<'_>, tag: u8, depth: u32) -> Result<Dynamic, Stop>
     requires { tag < 13 }
-    ensures { Gives form result cursor.new.left.now
+    ensures { Gives value_form result cursor.new.left.now
         (behind_tag (value_at depth) tag cursor.old.left.now) }
 {
     match tag {
@@ -182,9 +182,9 @@ fn comes_after(entries: &BTreeMap<String, Dynamic>, key: &str) -> bool
 /// `HostValue` where a value of the host is in it.
 #[cycle(put_value)]
 pub(crate) fn put_value(out: &mut Vec<u8>, value: &Dynamic) -> Result<(), WriteError>
-    ensures spelled { OnOk result (out.new.items ≡ out.old.items ++ spelled (form value.now)) }
-    ensures sound { OnOk result (IsSound (form value.now)) }
-    ensures decides { Decides result (value_refusal (form value.now)) }
+    ensures spelled { OnOk result (out.new.items ≡ out.old.items ++ spelled (value_form value.now)) }
+    ensures sound { OnOk result (IsSound (value_form value.now)) }
+    ensures decides { Decides result (value_refusal (value_form value.now)) }
 {
     match value {
         Dynamic::Unit => {
@@ -277,9 +277,9 @@ fn put_blob(out: &mut Vec<u8>, bytes: &Vec<u8>) -> Result<(), AllocError>
 #[cycle(put_value)]
 fn put_shared(out: &mut Vec<u8>, inner: &Box<Dynamic>) -> Result<(), WriteError>
     ensures spelled { OnOk result (out.new.items
-        ≡ out.old.items ++ spelled (shared (form inner.now.value))) }
-    ensures sound { OnOk result (IsSound (shared (form inner.now.value))) }
-    ensures decides { Decides result (value_refusal (shared (form inner.now.value))) }
+        ≡ out.old.items ++ spelled (shared (value_form inner.now.value))) }
+    ensures sound { OnOk result (IsSound (shared (value_form inner.now.value))) }
+    ensures decides { Decides result (value_refusal (shared (value_form inner.now.value))) }
 {
     out.push(12)?;
     put_value(out, inner)?;
@@ -334,11 +334,11 @@ pub(crate) fn put_values(out: &mut Vec<u8>, values: &[Dynamic]) -> Result<(), Wr
 #[cycle(put_value)]
 fn put_map(out: &mut Vec<u8>, entries: &BTreeMap<String, Dynamic>) -> Result<(), WriteError>
     ensures spelled { OnOk result (out.new.items
-        ≡ out.old.items ++ spelled (object_map (entries_of (entry_forms entries.now.entries)))) }
+        ≡ out.old.items ++ spelled (object_map (form_entries_of (entry_forms entries.now.entries)))) }
     ensures sound { OnOk result
-        (IsSound (object_map (entries_of (entry_forms entries.now.entries)))) }
+        (IsSound (object_map (form_entries_of (entry_forms entries.now.entries)))) }
     ensures decides { Decides result
-        (value_refusal (object_map (entries_of (entry_forms entries.now.entries)))) }
+        (value_refusal (object_map (form_entries_of (entry_forms entries.now.entries)))) }
 {
     out.push(10)?;
     put_entries(out, entries)?;
@@ -353,7 +353,7 @@ fn put_entries(out: &mut Vec<u8>, entries: &BTreeMap<String, Dynamic>) -> Result
     ensures count { OnOk result (length (entry_forms entries.now.entries) < 2 ^ 64) }
     ensures sound { OnOk result
         (AllByRecursion (EntryFits IsSound) (entry_forms entries.now.entries)) }
-    ensures ascend { OnOk result (Ascend None (entry_forms entries.now.entries)) }
+    ensures ascend { OnOk result (KeysAscend None (entry_forms entries.now.entries)) }
     ensures decides { Decides result
         (counted_refusal entry_refusal (entry_forms entries.now.entries)) }
 {

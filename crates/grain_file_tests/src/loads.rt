@@ -1,4 +1,4 @@
-use crate::samples::{EXAMPLE, assert_same, made};
+use crate::samples::{EXAMPLE, EXAMPLE_WITH_POSITIONS, assert_same, made};
 use grain::{Caps, Flags};
 use grain_file::{Limits, load};
 use std::alloc::Global;
@@ -29,6 +29,8 @@ fn loaded_changed(alloc: Global, place: usize, byte: u8, host: Caps) -> Result<S
 fn accepted_programs_are_loaded(rt: HostRuntime) {
     let numbers = made(&rt, loaded(rt.alloc(), EXAMPLE, Caps::empty()));
     assert_same(&rt, numbers.as_str(), "[1]");
+    let numbers = made(&rt, loaded(rt.alloc(), EXAMPLE_WITH_POSITIONS, Caps::empty()));
+    assert_same(&rt, numbers.as_str(), "[2]");
     // It declares maps, which one host has.
     let numbers = made(&rt, loaded_changed(rt.alloc(), 6, 8, Caps::all()));
     assert_same(&rt, numbers.as_str(), "[1]");

@@ -1,4 +1,4 @@
--- What is said of a chain is told by its row and those of its steps.
+-- Facts about a chain follow from its row and those of its steps.
 use Rattle.std.proofs.Common.{◌≡◌, ℕ, ◌+◌, List, [], ◌∷◌, ◌++◌, Some, None, cond, length, map, refl, sym, ap, ◌∙◌, take, drop}
 use Rattle.std.specs.Prelude.{◌==◌, not}
 use Rattle.std.specs.List.{flat_map}
@@ -19,17 +19,17 @@ use Rattle.grain_flat.specs.declared.records.CChain.{CChain}
 use Rattle.grain_flat.specs.declared.records.CStep.{CStep}
 use Rattle.grain_flat.specs.declared.shapes.TheConstants.{TEMPORARY, READ}
 use Rattle.grain_flat.specs.Flat.{AreChains, chain_row, root_row, step_row, step_rows, tail_row}
-use Rattle.grain_flat.specs.RowFacts.{chain_told, chains_told, root_asked, root_told, step_asked, step_told, tail_told, taken}
+use Rattle.grain_flat.specs.RowFacts.{chain_by_rows, chains_by_rows, root_asked, root_by_row, step_asked, step_by_row, tail_by_row, taken}
 
 -- what rows tell tells lists
-pub map_told : {A R X : Type 0} (f : A → X) (row : A → R) (g : R → X) → ((a : A) → f a ≡ g (row a)) → (xs : List A) → map f xs ≡ map g (map row xs)
-map_told f row g told [] = refl
-map_told f row g told (a ∷ xs) = let here = told a in let rest = map_told f row g told xs in cc
+pub map_by_rows : {A R X : Type 0} (f : A → X) (row : A → R) (g : R → X) → ((a : A) → f a ≡ g (row a)) → (xs : List A) → map f xs ≡ map g (map row xs)
+map_by_rows f row g by_row [] = refl
+map_by_rows f row g by_row (a ∷ xs) = let here = by_row a in let rest = map_by_rows f row g by_row xs in cc
 
-pub flat_told : {A R X : Type 0} (f : A → List X) (row : A → R) (g : R → List X) → ((a : A) → f a ≡ g (row a)) → (xs : List A) → flat_map f xs ≡ flat_map g (map row xs)
-flat_told f row g told [] = refl
-flat_told f row g told (a ∷ xs) =
-    flat_map-cons f a xs ∙ ap (λ ys. ys ++ flat_map f xs) (told a) ∙ ap (λ ys. g (row a) ++ ys) (flat_told f row g told xs) ∙ sym (flat_map-cons g (row a) (map row xs))
+pub flat_by_rows : {A R X : Type 0} (f : A → List X) (row : A → R) (g : R → List X) → ((a : A) → f a ≡ g (row a)) → (xs : List A) → flat_map f xs ≡ flat_map g (map row xs)
+flat_by_rows f row g by_row [] = refl
+flat_by_rows f row g by_row (a ∷ xs) =
+    flat_map-cons f a xs ∙ ap (λ ys. ys ++ flat_map f xs) (by_row a) ∙ ap (λ ys. g (row a) ++ ys) (flat_by_rows f row g by_row xs) ∙ sym (flat_map-cons g (row a) (map row xs))
 
 -- a row with this root, and one with this tail, whatever else is in it
 abbrev with_root : Root → CChain → CChain
@@ -51,7 +51,7 @@ root_asks (roots.Named n pos) row = refl
 root_asks (roots.This pos) row = refl
 root_asks roots.Temporary row = refl
 
-root_names : (r : Root) (row : CChain) → root_mentions r ≡ root_told (with_root r row)
+root_names : (r : Root) (row : CChain) → root_mentions r ≡ root_by_row (with_root r row)
 root_names (roots.Local slot n) row = refl
 root_names (roots.Named n pos) row = refl
 root_names (roots.This pos) row = refl
@@ -63,7 +63,7 @@ tail_assigns tails.Read = refl
 tail_assigns (tails.Assign None) = refl
 tail_assigns (tails.Assign (Some op)) = refl
 
-tail_names : (t : Tail) (row : CChain) → tail_mentions t ≡ tail_told (with_tail t row)
+tail_names : (t : Tail) (row : CChain) → tail_mentions t ≡ tail_by_row (with_tail t row)
 tail_names tails.Read row = refl
 tail_names (tails.Assign None) row = refl
 tail_names (tails.Assign (Some op)) row = refl
@@ -74,28 +74,28 @@ step_asks (steps.Index operand flags pos bracket) = refl
 step_asks (steps.Property n getter setter flags pos) = refl
 step_asks (steps.Method n argc operand flags pos) = refl
 
-step_names : (operands : ℕ) (step : Step) → step_mentions operands step ≡ step_told operands (step_row step)
+step_names : (operands : ℕ) (step : Step) → step_mentions operands step ≡ step_by_row operands (step_row step)
 step_names operands (steps.Index operand flags pos bracket) = refl
 step_names operands (steps.Property n getter setter flags pos) = refl
 step_names operands (steps.Method n argc operand flags pos) = refl
 
 -- chains
-takes_told : (c : Chain) → consumed c ≡ taken (chain_row c)
-takes_told c = ap (λ b. c.operands + cond b 1 0 + cond (assigns c.tail) 1 0) (root_on_stack c.root) ∙ ap (λ b. c.operands + cond ((root_row c.root).0 == TEMPORARY) 1 0 + cond b 1 0) (tail_assigns c.tail)
+takes_by_rows : (c : Chain) → consumed c ≡ taken (chain_row c)
+takes_by_rows c = ap (λ b. c.operands + cond b 1 0 + cond (assigns c.tail) 1 0) (root_on_stack c.root) ∙ ap (λ b. c.operands + cond ((root_row c.root).0 == TEMPORARY) 1 0 + cond b 1 0) (tail_assigns c.tail)
 
-asks_told : (c : Chain) → chain_caps c ≡ joined (root_asked (chain_row c)) (map step_asked (step_rows c))
-asks_told c =
+asks_by_rows : (c : Chain) → chain_caps c ≡ joined (root_asked (chain_row c)) (map step_asked (step_rows c))
+asks_by_rows c =
     ap (λ n. joined n (map step_caps c.steps.items)) (root_asks c.root (chain_row c))
-    ∙ ap (λ ns. joined (root_asked (chain_row c)) ns) (map_told step_caps step_row step_asked step_asks c.steps.items)
+    ∙ ap (λ ns. joined (root_asked (chain_row c)) ns) (map_by_rows step_caps step_row step_asked step_asks c.steps.items)
 
-names_told : (c : Chain) → (chain_facts c).mentions ≡ (chain_told (chain_row c) (step_rows c)).mentions
-names_told c =
+names_by_rows : (c : Chain) → (chain_facts c).mentions ≡ (chain_by_rows (chain_row c) (step_rows c)).mentions
+names_by_rows c =
     ap (λ ms. ms ++ flat_map (step_mentions c.operands) c.steps.items ++ tail_mentions c.tail) (root_names c.root (chain_row c))
-    ∙ ap (λ ms. root_told (chain_row c) ++ ms ++ tail_mentions c.tail) (flat_told (step_mentions c.operands) step_row (step_told c.operands) (step_names c.operands) c.steps.items)
-    ∙ ap (λ ms. root_told (chain_row c) ++ flat_map (step_told c.operands) (step_rows c) ++ ms) (tail_names c.tail (chain_row c))
+    ∙ ap (λ ms. root_by_row (chain_row c) ++ ms ++ tail_mentions c.tail) (flat_by_rows (step_mentions c.operands) step_row (step_by_row c.operands) (step_names c.operands) c.steps.items)
+    ∙ ap (λ ms. root_by_row (chain_row c) ++ flat_map (step_by_row c.operands) (step_rows c) ++ ms) (tail_names c.tail (chain_row c))
 
-facts_told : (c : Chain) → chain_told (chain_row c) (step_rows c) ≡ chain_facts c
-facts_told c = sym (λ i. record { takes = takes_told c i; asks = asks_told c i; mentions = names_told c i })
+facts_by_rows : (c : Chain) → chain_by_rows (chain_row c) (step_rows c) ≡ chain_facts c
+facts_by_rows c = sym (λ i. record { takes = takes_by_rows c i; asks = asks_by_rows c i; mentions = names_by_rows c i })
 
 -- lists of one length before others
 pub apart : {A : Type 0} (xs ys us vs : List A) → length xs ≡ length us → xs ++ ys ≡ us ++ vs → (xs ≡ us) × (ys ≡ vs)
@@ -111,13 +111,13 @@ in_front xs ys all n long is = (
   ap (drop n) is ∙ ap (λ m. drop m (xs ++ ys)) (sym long) ∙ drop-append_seam xs ys,
 )
 
--- chains are told by their rows and their steps
-all_told : (cs : List Chain) → chains_told (map chain_row cs) (flat_map step_rows cs) ≡ map chain_facts cs
-all_told [] = refl
-all_told (c ∷ cs) =
+-- facts about chains follow from their rows and their steps
+all_by_rows : (cs : List Chain) → chains_by_rows (map chain_row cs) (flat_map step_rows cs) ≡ map chain_facts cs
+all_by_rows [] = refl
+all_by_rows (c ∷ cs) =
     let cut = in_front (step_rows c) (flat_map step_rows cs) (flat_map step_rows (c ∷ cs)) (length c.steps.items) (length-map c.steps.items step_row) (flat_map-cons step_rows c cs) in
-    λ i. (ap (chain_told (chain_row c)) cut.0 ∙ facts_told c) i ∷ (ap (chains_told (map chain_row cs)) cut.1 ∙ all_told cs) i
+    λ i. (ap (chain_by_rows (chain_row c)) cut.0 ∙ facts_by_rows c) i ∷ (ap (chains_by_rows (map chain_row cs)) cut.1 ∙ all_by_rows cs) i
 
 -- whatever the chains are that have these rows
-pub told_by_rows : (rows : List CChain) (given : List CStep) (cs : List Chain) → AreChains rows given cs → chains_told rows given ≡ map chain_facts cs
-told_by_rows rows given cs are = ap (λ rs. chains_told rs given) are.rows_are ∙ ap (chains_told (map chain_row cs)) are.steps_are ∙ all_told cs
+pub chains_are_by_rows : (rows : List CChain) (given : List CStep) (cs : List Chain) → AreChains rows given cs → chains_by_rows rows given ≡ map chain_facts cs
+chains_are_by_rows rows given cs are = ap (λ rs. chains_by_rows rs given) are.rows_are ∙ ap (chains_by_rows (map chain_row cs)) are.steps_are ∙ all_by_rows cs

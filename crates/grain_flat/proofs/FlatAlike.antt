@@ -17,7 +17,7 @@ use Rattle.grain_flat.specs.declared.records.CCase.{CCase}
 use Rattle.grain_flat.specs.declared.records.CPools.{CPools}
 use Rattle.grain_flat.specs.Flat.{AreChains, AreSwitches, arm_constants, case_row, case_rows, code_with, arm_range_targets}
 use Rattle.grain_flat.proofs.Alike.{Alike}
-use Rattle.grain_flat.proofs.ChainRows.{map_told, told_by_rows}
+use Rattle.grain_flat.proofs.ChainRows.{map_by_rows, chains_are_by_rows}
 use Rattle.grain_flat.proofs.Members.{appended, at_place, mapped}
 use Rattle.grain_flat.proofs.SwitchRows.{SameArms, same_arms}
 
@@ -32,9 +32,9 @@ flat_same f g same (x ∷ xs) = flat_map-cons f x xs ∙ ap (λ ys. ys ++ flat_m
 
 -- what the rows of cases tell of a case
 case_same : (f : Case → ℕ) (g : CCase → ℕ) → ((c : Case) → f c ≡ g (case_row c)) → (t u : Arms) → SameArms t u → (x : ℕ) → Contains (map f (listed t.cases)) x → Contains (map f (listed u.cases)) x
-case_same f g told t u same x has =
-    subst (λ ys. Contains ys x) (sym (map_told f case_row g told (listed u.cases)))
-    (mapped g (case_rows t) (case_rows u) (record { target = 0; constant = 0 }) same.cases x (subst (λ ys. Contains ys x) (map_told f case_row g told (listed t.cases)) has))
+case_same f g by_row t u same x has =
+    subst (λ ys. Contains ys x) (sym (map_by_rows f case_row g by_row (listed u.cases)))
+    (mapped g (case_rows t) (case_rows u) (record { target = 0; constant = 0 }) same.cases x (subst (λ ys. Contains ys x) (map_by_rows f case_row g by_row (listed t.cases)) has))
 
 -- where switches lead, and the constants of their cases
 target_same : (t u : Arms) → SameArms t u → (x : ℕ) → Contains (arm_targets t) x → Contains (arm_targets u) x
@@ -80,7 +80,7 @@ row_same caps p cs ds ts us same op = refl
 
 pub facts_same : (p : CPools) (cs ds : List Chain) (ts us : List Arms) → AreOf p cs ts → AreOf p ds us → map chain_facts cs ≡ map chain_facts ds
 facts_same p cs ds ts us one other =
-    sym (told_by_rows p.chains.now p.steps.now cs one.chains_are) ∙ told_by_rows p.chains.now p.steps.now ds other.chains_are
+    sym (chains_are_by_rows p.chains.now p.steps.now cs one.chains_are) ∙ chains_are_by_rows p.chains.now p.steps.now ds other.chains_are
 
 pub arms_same : (p : CPools) (cs ds : List Chain) (ts us : List Arms) → AreOf p cs ts → AreOf p ds us → AllZip SameArms ts us
 arms_same p cs ds ts us one other =

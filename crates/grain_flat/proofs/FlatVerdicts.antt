@@ -10,24 +10,24 @@ use Rattle.grain_code.specs.Span.{Span}
 use Rattle.grain_pools.specs.declared.chain.Chain.{Chain}
 use Rattle.grain_code.specs.declared.function.Function.{Function}
 use Rattle.grain_flat.specs.Flat.{AreChains, IsFlat}
-use Rattle.grain_flat.specs.RowFacts.{facts_told, leads_of}
+use Rattle.grain_flat.specs.RowFacts.{facts_by_rows, leads_of}
 use Rattle.grain_flat.specs.Asking.{RowPasses}
 use Rattle.grain_flat.specs.Judging.{AreSome, IsFlatMetered, IsFlatVerdict, IsMeteredOf, IsVerdictOf, judged}
 use Rattle.grain_flat.specs.declared.judge.Stop.{Stop}
 use Rattle.grain_flat.specs.declared.judge.Stop.TheVariants as stops
 use Rattle.grain_flat.specs.declared.records.CPools.{CPools}
-use Rattle.grain_flat.proofs.CodeTold.{code_told, told_of}
-use Rattle.grain_flat.proofs.Flatness.{told_switches}
+use Rattle.grain_flat.proofs.CodeOfRows.{code_by_rows, are_of_rows}
+use Rattle.grain_flat.proofs.Flatness.{switches_by_rows}
 use Rattle.grain_flat.proofs.FlatAlike.{AreOf}
 use Rattle.grain_flat.proofs.Wholes.{accepted, accepted_back, deepest_there, flaw_there, no_constants, reached_there, safe_there, typed_there, whole_constants}
 
 -- what is judged, by its rows
 abbrev pub over : ℕ → List ℕ → List Span → CPools → List Function → Input
-over caps bytes chunks p functions = input_beside caps [] bytes functions chunks (facts_told p) (leads_of p)
+over caps bytes chunks p functions = input_beside caps [] bytes functions chunks (facts_by_rows p) (leads_of p)
 
 over_is : (caps : ℕ) (bytes : List ℕ) (chunks : List Span) (p : CPools) (functions : List Function) (cs : List Chain) → AreChains p.chains.now p.steps.now cs
-    → over caps bytes chunks p functions ≡ judged caps bytes chunks p functions cs (told_switches p.switches.now p.cases.now p.ranges.now)
-over_is caps bytes chunks p functions cs are = ap (λ (code : Bytecode). record { code = code; consts = []; functions = functions; chunks = chunks }) (code_told caps bytes p cs are)
+    → over caps bytes chunks p functions ≡ judged caps bytes chunks p functions cs (switches_by_rows p.switches.now p.cases.now p.ranges.now)
+over_is caps bytes chunks p functions cs are = ap (λ (code : Bytecode). record { code = code; consts = []; functions = functions; chunks = chunks }) (code_by_rows caps bytes p cs are)
 
 flat_verdict : (caps : ℕ) (bytes : List ℕ) (chunks : List Span) (p : CPools) (cs : List Chain) (ts : List Arms) (functions : List Function) → AreOf p cs ts → AreSome p.functions functions
     → All (RowPasses caps) p.constants.now → (result : Result (Vec ℕ Global) Stop) → IsVerdictOf (judged caps bytes chunks p functions cs ts) result → IsFlatVerdict caps bytes chunks p result
@@ -75,11 +75,11 @@ flat_metered caps bytes chunks p cs ts functions made some old new (Err stop) h 
 pub rows_verdict : (caps : ℕ) (bytes : List ℕ) (chunks : List Span) (p : CPools) (functions : List Function) → IsFlat p → length p.steps.now < 2 ^ 63 → AreSome p.functions functions
     → All (RowPasses caps) p.constants.now → (result : Result (Vec ℕ Global) Stop) → IsVerdictOf (over caps bytes chunks p functions) result → IsFlatVerdict caps bytes chunks p result
 rows_verdict caps bytes chunks p functions flat small some rows result h =
-    let are = told_of p flat small in
+    let are = are_of_rows p flat small in
     flat_verdict caps bytes chunks p _ _ functions are some rows result (subst (λ (i : Input). IsVerdictOf i result) (over_is caps bytes chunks p functions _ are.chains_are) h)
 
 pub rows_metered : (caps : ℕ) (bytes : List ℕ) (chunks : List Span) (p : CPools) (functions : List Function) → IsFlat p → length p.steps.now < 2 ^ 63 → AreSome p.functions functions
     → (old new : ℕ) (result : Result (Vec ℕ Global) Stop) → IsMeteredOf (over caps bytes chunks p functions) old new result → IsFlatMetered caps bytes chunks p old new result
 rows_metered caps bytes chunks p functions flat small some old new result h =
-    let are = told_of p flat small in
+    let are = are_of_rows p flat small in
     flat_metered caps bytes chunks p _ _ functions are some old new result (subst (λ (i : Input). IsMeteredOf i old new result) (over_is caps bytes chunks p functions _ are.chains_are) h)

@@ -187,14 +187,14 @@ one_more_switch row rows own more near far ts own_long near_long others =
     }
 
 -- switches with these rows, cases and ranges, the cases in their order
-abbrev pub told_switches : List CSwitch → List CCase → List ℕ → List Arms
-told_switches [] cases ranges = []
-told_switches (row ∷ rows) cases ranges = arms_of row (take row.cases cases) (take row.ranges ranges) ∷ told_switches rows (drop row.cases cases) (drop row.ranges ranges)
+abbrev pub switches_by_rows : List CSwitch → List CCase → List ℕ → List Arms
+switches_by_rows [] cases ranges = []
+switches_by_rows (row ∷ rows) cases ranges = arms_of row (take row.cases cases) (take row.ranges ranges) ∷ switches_by_rows rows (drop row.cases cases) (drop row.ranges ranges)
 
-pub are_told : (rows : List CSwitch) (cases : List CCase) (ranges : List ℕ) → sum_by (λ (r : CSwitch). r.cases) rows ≡ length cases
-    → sum_by (λ (r : CSwitch). r.ranges) rows ≡ length ranges → AreSwitches rows cases ranges (told_switches rows cases ranges)
-are_told [] cases ranges c r = record { rows_are = refl; pieces = []; cases_are = nothing_left cases c; each = tt; ranges_are = nothing_left ranges r }
-are_told (row ∷ rows) cases ranges c r =
+pub are_by_rows : (rows : List CSwitch) (cases : List CCase) (ranges : List ℕ) → sum_by (λ (r : CSwitch). r.cases) rows ≡ length cases
+    → sum_by (λ (r : CSwitch). r.ranges) rows ≡ length ranges → AreSwitches rows cases ranges (switches_by_rows rows cases ranges)
+are_by_rows [] cases ranges c r = record { rows_are = refl; pieces = []; cases_are = nothing_left cases c; each = tt; ranges_are = nothing_left ranges r }
+are_by_rows (row ∷ rows) cases ranges c r =
     let counted : row.cases + sum_by (λ (r : CSwitch). r.cases) rows ≡ length cases = sym (sum_by-cons (λ (r : CSwitch). r.cases) row rows) ∙ c in
     let reaching : row.ranges + sum_by (λ (r : CSwitch). r.ranges) rows ≡ length ranges = sym (sum_by-cons (λ (r : CSwitch). r.ranges) row rows) ∙ r in
     let own = take row.cases cases in
@@ -205,10 +205,10 @@ are_told (row ∷ rows) cases ranges c r =
     let near_long : length near ≡ row.ranges = length-take-le row.ranges ranges (omega arith) in
     let more_long : length more ≡ length cases - row.cases = length-drop row.cases cases in
     let far_long : length far ≡ length ranges - row.ranges = length-drop row.ranges ranges in
-    let others = are_told rows more far (omega arith) (omega arith) in
-    let all = told_switches (row ∷ rows) cases ranges in
+    let others = are_by_rows rows more far (omega arith) (omega arith) in
+    let all = switches_by_rows (row ∷ rows) cases ranges in
     subst (λ xs. AreSwitches (row ∷ rows) xs ranges all) (take-append-drop row.cases cases)
-    (subst (λ xs. AreSwitches (row ∷ rows) (own ++ more) xs all) (take-append-drop row.ranges ranges) (one_more_switch row rows own more near far (told_switches rows more far) own_long near_long others))
+    (subst (λ xs. AreSwitches (row ∷ rows) (own ++ more) xs all) (take-append-drop row.ranges ranges) (one_more_switch row rows own more near far (switches_by_rows rows more far) own_long near_long others))
 
 pub pooled : (p : CPools) → IsFlat p → length p.steps.now < 2 ^ 63 → Pooled p
 pooled p flat small =
@@ -217,11 +217,11 @@ pooled p flat small =
     record {
       asked = asked.0;
       chains = chains.0;
-      switches = told_switches p.switches.now p.cases.now p.ranges.now;
+      switches = switches_by_rows p.switches.now p.cases.now p.ranges.now;
       asked_are = asked.1;
       names_are = flat.names;
       chains_are = chains.1;
-      switches_are = are_told p.switches.now p.cases.now p.ranges.now flat.case_counts flat.range_counts;
+      switches_are = are_by_rows p.switches.now p.cases.now p.ranges.now flat.case_counts flat.range_counts;
     }
 
 -- the test of the rules tells whether there are such pools

@@ -2,7 +2,7 @@ mod Alike
 mod AlikeFlaws
 mod AsciiNames
 mod ChainRows
-mod CodeTold
+mod CodeOfRows
 mod Explained
 mod FieldSizes
 mod FlatAlike
@@ -20,8 +20,8 @@ mod RowParts
 mod RowTests
 mod StepRows
 mod SwitchRows
-mod SwitchTold
+mod SwitchFacts
 mod Texts
-pub mod ToldRoom
+pub mod ExplainedRoom
 mod Wholes
 pub mod VisitBounds

@@ -10,7 +10,7 @@ use Rattle.std.proofs.lemmas.List.Sums.{sum_by-take-le}
 use Rattle.grain_pools.specs.Names.{first_flaw, flaw_from, span_flaw}
 use Rattle.grain_pools.specs.declared.strings.BadTable.{BadTable}
 use Rattle.grain_flat.specs.Flat.{IsFlat, Pooled}
-use Rattle.grain_flat.specs.PoolsFlaws.{ArmsFlaw, IsBadName, IsCut, IsFirstOther, PoolsFlaw, StepsFlaw, all_cases, all_ranges, all_steps, chain_overruns, step_left, switch_overruns, case_left, range_left, wrong_constant, wrong_chain, wrong_step, wrong_steps, wrong_arms, wrong_name}
+use Rattle.grain_flat.specs.PoolsFlaws.{ArmsFlaw, IsBadName, IsNameCut, IsFirstOther, PoolsFlaw, StepsFlaw, all_cases, all_ranges, all_steps, chain_overruns, step_left, switch_overruns, case_left, range_left, wrong_constant, wrong_chain, wrong_step, wrong_steps, wrong_arms, wrong_name}
 use Rattle.grain_flat.specs.declared.records.CPools.{CPools}
 use Rattle.grain_flat.specs.declared.records.CPoolsFlaw.{CPoolsFlaw}
 use Rattle.grain_flat.specs.declared.records.CChain.{CChain}
@@ -106,11 +106,11 @@ pub flaw_after : (blob rest : List ℕ) (from i : ℕ) → i < length rest → s
 flaw_after blob rest from i inside cut =
     ap (flaw_from blob from) (drop_more rest i 0 inside) ∙ ap (λ (o : Option BadTable). option_or o (flaw_from blob (get_or rest i 0) (drop (i + 1) rest))) cut
 
-pub cut_more : (blob starts : List ℕ) (i : ℕ) → ((k : ℕ) → k < i → IsCut blob starts k) → IsCut blob starts i → (k : ℕ) → k < i + 1 → IsCut blob starts k
+pub cut_more : (blob starts : List ℕ) (i : ℕ) → ((k : ℕ) → k < i → IsNameCut blob starts k) → IsNameCut blob starts i → (k : ℕ) → k < i + 1 → IsNameCut blob starts k
 cut_more blob starts i before here k inside =
     elim (cases_lt k i) [
       | inl less ↦ before k less
-      | inr more ↦ let same : i ≡ k = omega arith in subst (IsCut blob starts) same here
+      | inr more ↦ let same : i ≡ k = omega arith in subst (IsNameCut blob starts) same here
     ]
 
 -- nothing is left, and the last name ends where the bytes do

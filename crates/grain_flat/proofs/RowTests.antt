@@ -1,2 +1,2 @@
 -- Tests of what chains name.
-pub use Rattle.grain_rules.proofs.Testing.{mentions_append}
+pub use Rattle.grain_rules.proofs.IndexTests.{mentions_append}

@@ -198,9 +198,9 @@ differ : (m n : ℕ) → m ≡ n → m < n → ⊥
 differ m n e h = omega arith
 
 -- a row tells what is asked
-told : (o : Option ℕ) (asked : ℕ) → asked_row o ≡ asked_row (Some asked) → o ≡ Some asked
-told None asked e = absurd (differ 0 1 (ap (λ (r : CConstant). r.is_known) e) (omega arith))
-told (Some n) asked e = ap Some (ap (λ (r : CConstant). r.caps) e)
+asked_is : (o : Option ℕ) (asked : ℕ) → asked_row o ≡ asked_row (Some asked) → o ≡ Some asked
+asked_is None asked e = absurd (differ 0 1 (ap (λ (r : CConstant). r.is_known) e) (omega arith))
+asked_is (Some n) asked e = ap Some (ap (λ (r : CConstant). r.caps) e)
 
 constant_asks : (caps asked : ℕ) (rows : List CConstant) (consts : List Dynamic) → rows ≡ map asked_row (map const_caps consts) → IsFirstRefusedRow caps rows asked → ConstantAsks caps consts asked
 constant_asks caps asked rows consts is h =
@@ -211,7 +211,7 @@ constant_asks caps asked rows consts is h =
       place = h.place;
       inside = inside;
       earlier = λ k d low high. let at : k < length consts = omega arith in (h.earlier k blank low high).passes (const_caps (get_or consts k d)) (row_of rows consts is k d blank at);
-      here = λ d. told (const_caps (get_or consts h.place d)) asked (row_of rows consts is h.place d blank inside ∙ h.here blank);
+      here = λ d. asked_is (const_caps (get_or consts h.place d)) asked (row_of rows consts is h.place d blank inside ∙ h.here blank);
       refused = h.refused;
     }
 

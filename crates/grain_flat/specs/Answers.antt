@@ -78,42 +78,42 @@ chunk_number None = WHOLE_PROGRAM
 chunk_number (Some place) = place
 
 -- a refusal as a record: what it is, the chunk's place, the address, and two more numbers
-abbrev pub told : Option ℕ → VerifyError → CRefusal
-told place (errors.MissingCaps artifact missing at) = record { flaw = MISSING_CAPS; chunk = chunk_number place; at = at; first = missing.0; second = artifact.0 }
-told place (errors.Undecodable at) = record { flaw = UNDECODABLE; chunk = chunk_number place; at = at; first = 0; second = 0 }
-told place (errors.TrailingBytes at len) = record { flaw = TRAILING_BYTES; chunk = chunk_number place; at = at; first = len; second = 0 }
-told place (errors.ChunkOutOfRange entry end len) = record { flaw = CHUNK_OUT_OF_RANGE; chunk = chunk_number place; at = entry; first = end; second = len }
-told place (errors.JumpOutOfRange at target) = record { flaw = JUMP_OUT_OF_RANGE; chunk = chunk_number place; at = at; first = target; second = 0 }
-told place (errors.JumpIntoAnInstruction at target) = record { flaw = JUMP_INTO_AN_INSTRUCTION; chunk = chunk_number place; at = at; first = target; second = 0 }
-told place (errors.DepthConflict at expected found) = record { flaw = DEPTH_CONFLICT; chunk = chunk_number place; at = at; first = expected; second = found }
-told place (errors.Underflow at need have) = record { flaw = UNDERFLOW; chunk = chunk_number place; at = at; first = need; second = have }
-told place errors.FallsOffTheEnd = record { flaw = FALLS_OFF_THE_END; chunk = chunk_number place; at = 0; first = 0; second = 0 }
-told place (errors.StackExceedsDeclared needed declared) = record { flaw = STACK_EXCEEDS_DECLARED; chunk = chunk_number place; at = 0; first = needed; second = declared }
-told place (errors.IteratorUnderflow at) = record { flaw = ITERATOR_UNDERFLOW; chunk = chunk_number place; at = at; first = 0; second = 0 }
-told place (errors.HandlerUnderflow at) = record { flaw = HANDLER_UNDERFLOW; chunk = chunk_number place; at = at; first = 0; second = 0 }
-told place (errors.SinksBelowHandler at need have) = record { flaw = SINKS_BELOW_HANDLER; chunk = chunk_number place; at = at; first = need; second = have }
-told place (errors.BadIndex at what index) = record { flaw = BAD_INDEX; chunk = chunk_number place; at = at; first = index; second = word_kind what.now }
-told place errors.OutOfMemory = record { flaw = NOTHING; chunk = chunk_number place; at = 0; first = 0; second = 0 }
+abbrev pub refusal_record : Option ℕ → VerifyError → CRefusal
+refusal_record place (errors.MissingCaps artifact missing at) = record { flaw = MISSING_CAPS; chunk = chunk_number place; at = at; first = missing.0; second = artifact.0 }
+refusal_record place (errors.Undecodable at) = record { flaw = UNDECODABLE; chunk = chunk_number place; at = at; first = 0; second = 0 }
+refusal_record place (errors.TrailingBytes at len) = record { flaw = TRAILING_BYTES; chunk = chunk_number place; at = at; first = len; second = 0 }
+refusal_record place (errors.ChunkOutOfRange entry end len) = record { flaw = CHUNK_OUT_OF_RANGE; chunk = chunk_number place; at = entry; first = end; second = len }
+refusal_record place (errors.JumpOutOfRange at target) = record { flaw = JUMP_OUT_OF_RANGE; chunk = chunk_number place; at = at; first = target; second = 0 }
+refusal_record place (errors.JumpIntoAnInstruction at target) = record { flaw = JUMP_INTO_AN_INSTRUCTION; chunk = chunk_number place; at = at; first = target; second = 0 }
+refusal_record place (errors.DepthConflict at expected found) = record { flaw = DEPTH_CONFLICT; chunk = chunk_number place; at = at; first = expected; second = found }
+refusal_record place (errors.Underflow at need have) = record { flaw = UNDERFLOW; chunk = chunk_number place; at = at; first = need; second = have }
+refusal_record place errors.FallsOffTheEnd = record { flaw = FALLS_OFF_THE_END; chunk = chunk_number place; at = 0; first = 0; second = 0 }
+refusal_record place (errors.StackExceedsDeclared needed declared) = record { flaw = STACK_EXCEEDS_DECLARED; chunk = chunk_number place; at = 0; first = needed; second = declared }
+refusal_record place (errors.IteratorUnderflow at) = record { flaw = ITERATOR_UNDERFLOW; chunk = chunk_number place; at = at; first = 0; second = 0 }
+refusal_record place (errors.HandlerUnderflow at) = record { flaw = HANDLER_UNDERFLOW; chunk = chunk_number place; at = at; first = 0; second = 0 }
+refusal_record place (errors.SinksBelowHandler at need have) = record { flaw = SINKS_BELOW_HANDLER; chunk = chunk_number place; at = at; first = need; second = have }
+refusal_record place (errors.BadIndex at what index) = record { flaw = BAD_INDEX; chunk = chunk_number place; at = at; first = index; second = word_kind what.now }
+refusal_record place errors.OutOfMemory = record { flaw = NOTHING; chunk = chunk_number place; at = 0; first = 0; second = 0 }
 
--- a refusal as it is told: its numbers fit their types, and what it calls an index is known
-abbrev pub IsToldRefusal : VerifyError → Type 0
-IsToldRefusal (errors.MissingCaps artifact missing at) = (artifact.0 < 2 ^ 16) × (missing.0 < 2 ^ 16)
-IsToldRefusal (errors.Undecodable at) = ⊤
-IsToldRefusal (errors.TrailingBytes at len) = ⊤
-IsToldRefusal (errors.ChunkOutOfRange entry end len) = (entry < 2 ^ 32) × (end < 2 ^ 32)
-IsToldRefusal (errors.JumpOutOfRange at target) = target < 2 ^ 32
-IsToldRefusal (errors.JumpIntoAnInstruction at target) = target < 2 ^ 32
-IsToldRefusal (errors.DepthConflict at expected found) = ⊤
-IsToldRefusal (errors.Underflow at need have) = ⊤
-IsToldRefusal errors.FallsOffTheEnd = ⊤
-IsToldRefusal (errors.StackExceedsDeclared needed declared) = declared < 2 ^ 16
-IsToldRefusal (errors.IteratorUnderflow at) = ⊤
-IsToldRefusal (errors.HandlerUnderflow at) = ⊤
-IsToldRefusal (errors.SinksBelowHandler at need have) = ⊤
-IsToldRefusal (errors.BadIndex at what index) = (index < 2 ^ 32) × (word_kind what.now ≢ NOTHING)
-IsToldRefusal errors.OutOfMemory = ⊥
+-- a refusal has a record: its numbers fit their types, and what it calls an index is known
+abbrev pub HasRefusalRecord : VerifyError → Type 0
+HasRefusalRecord (errors.MissingCaps artifact missing at) = (artifact.0 < 2 ^ 16) × (missing.0 < 2 ^ 16)
+HasRefusalRecord (errors.Undecodable at) = ⊤
+HasRefusalRecord (errors.TrailingBytes at len) = ⊤
+HasRefusalRecord (errors.ChunkOutOfRange entry end len) = (entry < 2 ^ 32) × (end < 2 ^ 32)
+HasRefusalRecord (errors.JumpOutOfRange at target) = target < 2 ^ 32
+HasRefusalRecord (errors.JumpIntoAnInstruction at target) = target < 2 ^ 32
+HasRefusalRecord (errors.DepthConflict at expected found) = ⊤
+HasRefusalRecord (errors.Underflow at need have) = ⊤
+HasRefusalRecord errors.FallsOffTheEnd = ⊤
+HasRefusalRecord (errors.StackExceedsDeclared needed declared) = declared < 2 ^ 16
+HasRefusalRecord (errors.IteratorUnderflow at) = ⊤
+HasRefusalRecord (errors.HandlerUnderflow at) = ⊤
+HasRefusalRecord (errors.SinksBelowHandler at need have) = ⊤
+HasRefusalRecord (errors.BadIndex at what index) = (index < 2 ^ 32) × (word_kind what.now ≢ NOTHING)
+HasRefusalRecord errors.OutOfMemory = ⊥
 
 -- the record tells this refusal, of whichever chunk
 pub record TellsRefusal (refusal : CRefusal) (e : VerifyError) : Type 0 where
-  pub is : IsToldRefusal e
-  pub told_is : record refusal { chunk = WHOLE_PROGRAM } ≡ told None e
+  pub is : HasRefusalRecord e
+  pub record_is : record refusal { chunk = WHOLE_PROGRAM } ≡ refusal_record None e

@@ -1,4 +1,4 @@
--- What is told of a chunk that is explained, as rows of C.
+-- An explained chunk as records of C.
 use Rattle.std.specs.Prelude.{◌≡◌, ℕ, zero, suc, List, [], ◌++◌, map, reverse, zip, length, Option, Some, None}
 use Rattle.std.specs.Option.{unwrap_or}
 use Rattle.grain_rules.specs.Accepted.{AreIndexed}
@@ -14,7 +14,7 @@ use Rattle.grain_explain.specs.declared.row.Row.{Row}
 use Rattle.grain_pools.specs.declared.chain.Chain.{Chain}
 use Rattle.grain_flat.specs.Listing.{filled}
 use Rattle.grain_flat.specs.Flat.{AreChains, AreSwitches, code_with}
-use Rattle.grain_flat.specs.declared.explaining.ToldRows.{ToldRows}
+use Rattle.grain_flat.specs.declared.explaining.ExplanationRows.{ExplanationRows}
 use Rattle.grain_flat.specs.declared.kinds.TheConstants.{NO_ADDRESS, NO_BASE}
 use Rattle.grain_flat.specs.declared.records.CBase.{CBase}
 use Rattle.grain_flat.specs.declared.records.CExplanation.{CExplanation}
@@ -51,8 +51,8 @@ list_place zero = NO_BASE
 list_place (suc k) = k
 
 -- what stands at an address, and from where an edge leads there
-abbrev pub row_told : Row × Option ℕ → CRow
-row_told p = record {
+abbrev pub row_record : Row × Option ℕ → CRow
+row_record p = record {
   at = p.0.at;
   operands = p.0.operands;
   iterators = p.0.iterators;
@@ -61,7 +61,7 @@ row_told p = record {
 }
 
 abbrev pub path_row : Row → CRow
-path_row r = row_told (r, None)
+path_row r = row_record (r, None)
 
 abbrev pub base_row : LinkedBase → CBase
 base_row b = record { operands = b.operands; iterators = b.iterators; next = list_place b.next }
@@ -75,28 +75,28 @@ other_of None = []
 other_of (Some r) = r.other.items
 
 -- the rows, and then those of the paths, each from the entry on
-abbrev pub rows_told : ExplainedChunk → List CRow
-rows_told x = map row_told (zip x.rows.items x.origins.items) ++ map path_row (reverse (way_of x.refusal)) ++ map path_row (reverse (other_of x.refusal))
+abbrev pub row_records : ExplainedChunk → List CRow
+row_records x = map row_record (zip x.rows.items x.origins.items) ++ map path_row (reverse (way_of x.refusal)) ++ map path_row (reverse (other_of x.refusal))
 
-abbrev pub bases_told : ExplainedChunk → List CBase
-bases_told x = map base_row x.bases.items
+abbrev pub base_records : ExplainedChunk → List CBase
+base_records x = map base_row x.bases.items
 
 abbrev pub visited_count : ExplainedChunk → ℕ
 visited_count x = length (zip x.rows.items x.origins.items)
 
--- this is what is told of the chunk
-pub record IsMadeOfRows (x : ExplainedChunk) (told : ToldRows) : Type 0 where
-  pub rows_are : told.rows.items ≡ rows_told x
-  pub bases_are : told.bases.items ≡ bases_told x
-  pub visited_is : told.visited ≡ visited_count x
-  pub path_is : told.path ≡ length (way_of x.refusal)
-  pub other_is : told.other ≡ length (other_of x.refusal)
+-- these are the records of the explained chunk
+pub record IsMadeOfRows (x : ExplainedChunk) (made : ExplanationRows) : Type 0 where
+  pub rows_are : made.rows.items ≡ row_records x
+  pub bases_are : made.bases.items ≡ base_records x
+  pub visited_is : made.visited ≡ visited_count x
+  pub path_is : made.path ≡ length (way_of x.refusal)
+  pub other_is : made.other ≡ length (other_of x.refusal)
 
--- it is told in this room, as far as it has places
-pub record IsToldIn (x : ExplainedChunk) (rows written : List CRow) (bases put : List CBase) (counts : CExplanation) : Type 0 where
-  pub rows_are : written ≡ filled (rows_told x) rows
-  pub bases_are : put ≡ filled (bases_told x) bases
+-- it is written in this room, as far as the room has places
+pub record IsWrittenIn (x : ExplainedChunk) (rows written : List CRow) (bases put : List CBase) (counts : CExplanation) : Type 0 where
+  pub rows_are : written ≡ filled (row_records x) rows
+  pub bases_are : put ≡ filled (base_records x) bases
   pub visited_is : counts.rows ≡ visited_count x
   pub path_is : counts.path ≡ length (way_of x.refusal)
   pub other_is : counts.other ≡ length (other_of x.refusal)
-  pub bases_is : counts.bases ≡ length (bases_told x)
+  pub bases_is : counts.bases ≡ length (base_records x)

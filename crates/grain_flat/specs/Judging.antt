@@ -10,7 +10,7 @@ use Rattle.grain_pools.specs.declared.chain.Chain.{Chain}
 use Rattle.grain_code.specs.declared.function.Function.{Function}
 use Rattle.grain_flat.specs.Answers.{Accepts, Visits, VisitsWithin, Refuses}
 use Rattle.grain_flat.specs.Flat.{code_with}
-use Rattle.grain_flat.specs.RowFacts.{facts_told, leads_of}
+use Rattle.grain_flat.specs.RowFacts.{facts_by_rows, leads_of}
 use Rattle.grain_flat.specs.declared.judge.Judge.{Judge}
 use Rattle.grain_flat.specs.declared.judge.Stop.{Stop}
 use Rattle.grain_flat.specs.declared.judge.Stop.TheVariants as stops
@@ -18,7 +18,7 @@ use Rattle.grain_flat.specs.declared.records.CPools.{CPools}
 
 -- what is judged with these chunks, without constants
 abbrev pub judged_input : Judge → List Span → Input
-judged_input j chunks = input_beside j.caps.0 [] j.code.now j.functions.now chunks (facts_told j.rows.now) (leads_of j.rows.now)
+judged_input j chunks = input_beside j.caps.0 [] j.code.now j.functions.now chunks (facts_by_rows j.rows.now) (leads_of j.rows.now)
 
 -- what is verified without constants, which are tested by their rows
 abbrev pub judged : ℕ → List ℕ → List Span → CPools → List Function → List Chain → List Arms → Input

@@ -43,19 +43,19 @@ pub data ArmsFlaw (switches : List CSwitch) (cases ranges : ℕ) : CPoolsFlaw �
   range_left : {index : ℕ} → all_cases switches ≡ cases → index < ranges → all_ranges switches ≡ index → ArmsFlaw switches cases ranges (record { list = RANGES; index = index })
 
 -- the bytes from this start to the next are a name
-abbrev pub IsCut : List ℕ → List ℕ → ℕ → Type 0
-IsCut blob starts index = span_flaw blob (get_or starts index 0) (get_or starts (index + 1) 0) ≡ None
+abbrev pub IsNameCut : List ℕ → List ℕ → ℕ → Type 0
+IsNameCut blob starts index = span_flaw blob (get_or starts index 0) (get_or starts (index + 1) 0) ≡ None
 
 -- The starts don't begin with 0; or this is the first name that isn't cut; or all are, and bytes are left behind the last
 -- one. Then the index is how many names there are.
 abbrev pub IsBadName : List ℕ → List ℕ → ℕ → Type 0
 IsBadName blob starts index =
     ((get_or starts 0 1 ≢ 0) × (index ≡ 0))
-    ⊎ ((get_or starts 0 1 ≡ 0) × (index + 1 < length starts) × (IsCut blob starts index → ⊥))
+    ⊎ ((get_or starts 0 1 ≡ 0) × (index + 1 < length starts) × (IsNameCut blob starts index → ⊥))
     ⊎ ((get_or starts 0 1 ≡ 0) × (index + 1 ≡ length starts) × (get_or starts index 0 ≢ length blob))
 
 pub record IsFirstBadName (blob starts : List ℕ) (index : ℕ) : Type 0 where
-  pub earlier : (k : ℕ) → k < index → IsCut blob starts k
+  pub earlier : (k : ℕ) → k < index → IsNameCut blob starts k
   pub here : IsBadName blob starts index
 
 -- each kind is known, and what a kind doesn't use is 0

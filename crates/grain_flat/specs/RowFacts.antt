@@ -25,17 +25,17 @@ part_begins count from [] = []
 part_begins count from (row ∷ rows) = from ∷ part_begins count (from + count row) rows
 
 -- what a root, a step and a tail name
-abbrev pub root_told : CChain → List Mention
-root_told row = if row.root == LOCAL || row.root == NAMED then Entry Names row.root_name ∷ [] else []
+abbrev pub root_by_row : CChain → List Mention
+root_by_row row = if row.root == LOCAL || row.root == NAMED then Entry Names row.root_name ∷ [] else []
 
-abbrev pub step_told : ℕ → CStep → List Mention
-step_told operands row =
+abbrev pub step_by_row : ℕ → CStep → List Mention
+step_by_row operands row =
     if row.kind == INDEX then Operand operands row.operand ∷ []
     else if row.kind == shapes.PROPERTY then Entry Names row.name ∷ Entry Names row.getter ∷ Entry Names row.setter ∷ []
     else Entry Names row.name ∷ cond (nat_lt 0 row.argc) (Operand operands (row.operand + row.argc - 1) ∷ []) []
 
-abbrev pub tail_told : CChain → List Mention
-tail_told row = if row.tail == ASSIGN_THROUGH then Entry OpAssignments row.op ∷ [] else []
+abbrev pub tail_by_row : CChain → List Mention
+tail_by_row row = if row.tail == ASSIGN_THROUGH then Entry OpAssignments row.op ∷ [] else []
 
 -- what they ask of the host
 abbrev pub root_asked : CChain → ℕ
@@ -49,41 +49,41 @@ abbrev pub taken : CChain → ℕ
 taken row = row.operands + cond (row.root == TEMPORARY) 1 0 + cond (not (row.tail == READ)) 1 0
 
 -- a chain with this row and these steps
-abbrev pub chain_told : CChain → List CStep → ChainFacts
-chain_told row steps = record {
+abbrev pub chain_by_rows : CChain → List CStep → ChainFacts
+chain_by_rows row steps = record {
   takes = taken row;
   asks = joined (root_asked row) (map step_asked steps);
-  mentions = root_told row ++ flat_map (step_told row.operands) steps ++ tail_told row;
+  mentions = root_by_row row ++ flat_map (step_by_row row.operands) steps ++ tail_by_row row;
 }
 
 -- the chains, each by its row and its part of the steps
-abbrev pub chains_told : List CChain → List CStep → List ChainFacts
-chains_told rows steps = map (λ (c : CChain × List CStep). chain_told c.0 c.1) (zip rows (parts (λ (c : CChain). c.steps) rows steps))
+abbrev pub chains_by_rows : List CChain → List CStep → List ChainFacts
+chains_by_rows rows steps = map (λ (c : CChain × List CStep). chain_by_rows c.0 c.1) (zip rows (parts (λ (c : CChain). c.steps) rows steps))
 
 -- of each switch the constants of its part of the cases
-abbrev pub cases_told : List CSwitch → List CCase → List (List ℕ)
-cases_told rows cases = map (map (λ (c : CCase). c.constant)) (parts (λ (s : CSwitch). s.cases) rows cases)
+abbrev pub cases_by_rows : List CSwitch → List CCase → List (List ℕ)
+cases_by_rows rows cases = map (map (λ (c : CCase). c.constant)) (parts (λ (s : CSwitch). s.cases) rows cases)
 
 -- where a switch with this row, these cases and these ranges may lead
 abbrev pub switch_leads : CSwitch → List CCase → List ℕ → List ℕ
 switch_leads row cases ranges = map (λ (c : CCase). c.target) cases ++ ranges ++ row.otherwise ∷ []
 
-abbrev pub leads_told : List CSwitch → List CCase → List ℕ → List (List ℕ)
-leads_told rows cases ranges =
+abbrev pub leads_by_rows : List CSwitch → List CCase → List ℕ → List (List ℕ)
+leads_by_rows rows cases ranges =
     map (λ (s : CSwitch × (List CCase × List ℕ)). switch_leads s.0 s.1.0 s.1.1)
     (zip rows (zip (parts (λ (s : CSwitch). s.cases) rows cases) (parts (λ (s : CSwitch). s.ranges) rows ranges)))
 
 -- all that is said of the pools
-abbrev pub facts_told : CPools → Facts
-facts_told p = record {
+abbrev pub facts_by_rows : CPools → Facts
+facts_by_rows p = record {
   consts = length p.constants.now;
   names = map name_caps (names_in p.names.now p.starts.now);
   tokens = p.operators;
   assign_ops = p.op_assignments;
   residuals = p.fragments;
-  chains = chains_told p.chains.now p.steps.now;
-  cases = cases_told p.switches.now p.cases.now;
+  chains = chains_by_rows p.chains.now p.steps.now;
+  cases = cases_by_rows p.switches.now p.cases.now;
 }
 
 abbrev pub leads_of : CPools → List (List ℕ)
-leads_of p = leads_told p.switches.now p.cases.now p.ranges.now
+leads_of p = leads_by_rows p.switches.now p.cases.now p.ranges.now

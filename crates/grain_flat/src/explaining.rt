@@ -1,7 +1,7 @@
 //! Why a chunk is accepted or refused, as rows that cross to C.
 ghost use Rattle.std.specs.Prelude.{◌≡◌, ◌++◌, IfErr, IfOk, OnOk, map, reverse, zip};
 ghost use Rattle.grain_flat.specs.Explaining.{ExplainsChunk, IsFlatCause, IsMadeOfRows, base_row};
-ghost use Rattle.grain_flat.specs.Explaining.{list_place, other_of, path_row, row_told, way_of};
+ghost use Rattle.grain_flat.specs.Explaining.{list_place, other_of, path_row, row_record, way_of};
 ghost use Rattle.grain_flat.specs.Flat.{IsFlat};
 
 use crate::kinds::{NO_ADDRESS, NO_BASE};
@@ -54,7 +54,7 @@ fn place_of(list: u32) -> u32
 
 /// What stands at an instruction, and from where an edge leads there.
 fn row_of(row: &Row, from: Option<u32>) -> CRow
-    ensures { result ≡ row_told (row.now, from) }
+    ensures { result ≡ row_record (row.now, from) }
 {
     CRow {
         at: row.at,
@@ -77,7 +77,7 @@ fn base_of(base: &LinkedBase) -> CBase
 
 /// An explained chunk as rows.
 #[derive(Drop)]
-pub struct ToldRows {
+pub struct ExplanationRows {
     /// What stands at each instruction that was visited, and then the rows of the paths.
     pub rows: Vec<CRow>,
     /// The bases.
@@ -92,7 +92,7 @@ pub struct ToldRows {
 
 /// The rows, each with an address from which an edge leads there.
 fn rows_alone(alloc: Global, rows: &[Row], origins: &[Option<u32>]) -> Result<Vec<CRow>, AllocError>
-    ensures { IfOk result (λ told. told.items ≡ map row_told (zip rows.now origins.now)) }
+    ensures { IfOk result (λ records. records.items ≡ map row_record (zip rows.now origins.now)) }
 {
     rows.iter()
         .zip(origins)
@@ -102,17 +102,17 @@ fn rows_alone(alloc: Global, rows: &[Row], origins: &[Option<u32>]) -> Result<Ve
 
 /// The bases as they cross.
 fn bases_of(alloc: Global, bases: &[LinkedBase]) -> Result<Vec<CBase>, AllocError>
-    ensures { IfOk result (λ told. told.items ≡ map base_row bases.now) }
+    ensures { IfOk result (λ records. records.items ≡ map base_row bases.now) }
 {
     bases.iter().map(base_of).collect(alloc)
 }
 
 /// Adds the rows of a way, from its first state on: it is listed from the last.
-fn add_path(told: &mut Vec<CRow>, way: &[Row]) -> Result<(), AllocError>
-    ensures { OnOk result (told.new.items ≡ told.old.items ++ map path_row (reverse way.now)) }
+fn add_path(records: &mut Vec<CRow>, way: &[Row]) -> Result<(), AllocError>
+    ensures { OnOk result (records.new.items ≡ records.old.items ++ map path_row (reverse way.now)) }
 {
     for row in way.iter().rev() {
-        told.push(row_of(row, None))?;
+        records.push(row_of(row, None))?;
     }
     Ok(())
 }
@@ -141,7 +141,7 @@ fn other_of(refusal: &Option<ExplainedRefusal>) -> &[Row]
 ///
 /// # Errors
 /// A growth was refused.
-pub fn rows_of(alloc: Global, chunk: &ExplainedChunk) -> Result<ToldRows, AllocError>
+pub fn rows_of(alloc: Global, chunk: &ExplainedChunk) -> Result<ExplanationRows, AllocError>
     ensures { IfOk result (IsMadeOfRows chunk.now) }
 {
     let (way, other) = (way_of(&chunk.refusal), other_of(&chunk.refusal));
@@ -150,7 +150,7 @@ pub fn rows_of(alloc: Global, chunk: &ExplainedChunk) -> Result<ToldRows, AllocE
     add_path(&mut rows, way)?;
     add_path(&mut rows, other)?;
     let bases = bases_of(alloc, &chunk.bases)?;
-    Ok(ToldRows {
+    Ok(ExplanationRows {
         rows,
         bases,
         visited,

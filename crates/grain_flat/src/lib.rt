@@ -27,7 +27,7 @@ mod tightening;
 mod verdicts;
 mod work;
 
-pub use explaining::{ToldRows, explain_chunk, rows_of};
+pub use explaining::{ExplanationRows, explain_chunk, rows_of};
 pub use fields::fields_of;
 pub use flat::{is_flat, pools_flaw};
 pub use judge::Stop;
@@ -38,7 +38,7 @@ pub use records::{
     CBase, CCase, CChain, CChunk, CConstant, CEntry, CExplanation, CField, CInstruction, CPlace,
     CPools, CPoolsFlaw, CProgram, CRefusal, CReport, CRow, CStep, CSwitch,
 };
-pub use refusals::told;
+pub use refusals::refusal_record;
 pub use scratch::Scratch;
 pub use tightening::tighten;
 pub use verdicts::verdict;

@@ -1,7 +1,7 @@
 //! The texts of instructions and of refusals.
 ghost use Rattle.std.specs.Prelude.{◌≡◌, ◌<◌, ◌≤◌, ◌+◌, ◌++◌, length};
 ghost use Rattle.grain_rules.specs.Texts.{named, verify_error_text};
-ghost use Rattle.grain_flat.specs.Answers.{IsToldRefusal};
+ghost use Rattle.grain_flat.specs.Answers.{HasRefusalRecord};
 ghost use Rattle.grain_flat.specs.InstructionTexts.{field_text, instruction_text, mnemonic};
 
 use crate::fields::fields_of;
@@ -74,7 +74,7 @@ fn three(first: &str, number: u64, second: &str, other: u64, third: &str, last: 
 
 /// The text of a refusal, as [`VerifyError`] prints.
 pub fn refusal_text(error: &VerifyError) -> Line
-    requires { IsToldRefusal error.now }
+    requires { HasRefusalRecord error.now }
     ensures { result.items ≡ verify_error_text error.now }
 {
     match *error {

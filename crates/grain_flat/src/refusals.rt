@@ -1,6 +1,6 @@
 //! Refusals as they cross to C.
 ghost use Rattle.std.specs.Prelude.{◌≡◌};
-ghost use Rattle.grain_flat.specs.Answers.{chunk_number, told, word_kind};
+ghost use Rattle.grain_flat.specs.Answers.{chunk_number, refusal_record, word_kind};
 
 use crate::flaws::{
     BAD_INDEX, CHUNK_OUT_OF_RANGE, DEPTH_CONFLICT, FALLS_OFF_THE_END, HANDLER_UNDERFLOW,
@@ -44,8 +44,8 @@ fn word_kind(what: &str) -> u32
 }
 
 /// A refusal as a record.
-pub fn told(place: Option<usize>, error: &VerifyError) -> CRefusal
-    ensures { result ≡ told place error.now }
+pub fn refusal_record(place: Option<usize>, error: &VerifyError) -> CRefusal
+    ensures { result ≡ refusal_record place error.now }
 {
     let chunk = chunk_number(place);
     let refusal = |flaw: u32, at: u64, first: u64, second: u64| CRefusal {

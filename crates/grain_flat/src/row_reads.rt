@@ -9,8 +9,8 @@ ghost use Rattle.grain_rules.specs.FirstOut.{alone, first_out, refused};
 ghost use Rattle.grain_rules.specs.Indices.{size, test_of};
 ghost use Rattle.grain_pools.specs.Names.{names_in, span};
 ghost use Rattle.grain_flat.specs.Flat.{IsFlat};
-ghost use Rattle.grain_flat.specs.RowFacts.{part_begins, chain_told, chains_told, facts_told, leads_of, parts, root_asked, root_told};
-ghost use Rattle.grain_flat.specs.RowFacts.{step_asked, step_told, tail_told, taken};
+ghost use Rattle.grain_flat.specs.RowFacts.{part_begins, chain_by_rows, chains_by_rows, facts_by_rows, leads_of, parts, root_asked, root_by_row};
+ghost use Rattle.grain_flat.specs.RowFacts.{step_asked, step_by_row, tail_by_row, taken};
 ghost use Rattle.grain_flat.specs.RowTables.{AreTables, left_of};
 
 use crate::records::{CCase, CChain, CPools, CStep, CSwitch};
@@ -140,7 +140,7 @@ fn step_asks(row: &CStep) -> Caps
 
 /// What a chain asks.
 fn chain_asks(row: &CChain, steps: &[CStep]) -> Caps
-    ensures { result.0 ≡ (chain_told row.now steps.now).asks }
+    ensures { result.0 ≡ (chain_by_rows row.now steps.now).asks }
 {
     let mut all = root_asks(row);
     for step in steps {
@@ -161,7 +161,7 @@ fn taken(row: &CChain) -> u32
 #[tactic(auto, using(crate::proofs::RowEntries::names_long, crate::proofs::RowEntries::chains_long, crate::proofs::RowEntries::cases_long))]
 fn size_of(pools: &CPools<'_>, pool: Pool) -> usize
     requires { IsFlat pools.now }
-    ensures { result ≡ size (alone (facts_told pools.now)) pool }
+    ensures { result ≡ size (alone (facts_by_rows pools.now)) pool }
 {
     match pool {
         Pool::Constants => pools.constants.len(),
@@ -223,8 +223,8 @@ impl<'a> Rows<'a> {
 
     /// The chain at an index and its steps, if there is one.
     fn chain(&self, index: u32) -> Option<(&'a CChain, &'a [CStep])>
-        ensures { option_map (λ c. chain_told c.0.now c.1.now) result
-            ≡ slice_get (chains_told self.now.chains.now self.now.steps.now) index }
+        ensures { option_map (λ c. chain_by_rows c.0.now c.1.now) result
+            ≡ slice_get (chains_by_rows self.now.chains.now self.now.steps.now) index }
     {
         let index = index as usize;
         let row = entry_at(self.pools.chains, index)?;
@@ -268,14 +268,14 @@ impl<'a> Rows<'a> {
     /// Tests an index into a pool.
     fn check(&self, pool: Pool, index: u32) -> Result<(), BadIndex>
         ensures { refused result
-            ≡ first_out (test_of (alone (facts_told self.now)) (Entry pool index) ∷ []) }
+            ≡ first_out (test_of (alone (facts_by_rows self.now)) (Entry pool index) ∷ []) }
     {
         check_below(self.size(pool), pool, index)
     }
 
     fn check_root(&self, row: &CChain) -> Result<(), BadIndex>
         ensures { refused result
-            ≡ first_out (map (test_of (alone (facts_told self.now))) (root_told row.now)) }
+            ≡ first_out (map (test_of (alone (facts_by_rows self.now))) (root_by_row row.now)) }
     {
         if row.root == LOCAL || row.root == NAMED {
             return self.check(Pool::Names, row.root_name);
@@ -286,7 +286,7 @@ impl<'a> Rows<'a> {
     /// Tests the names of a step, and then the last operand that it takes.
     fn check_step(&self, operands: u16, row: &CStep) -> Result<(), BadIndex>
         ensures { refused result ≡ first_out
-            (map (test_of (alone (facts_told self.now))) (step_told operands row.now)) }
+            (map (test_of (alone (facts_by_rows self.now))) (step_by_row operands row.now)) }
     {
         match row.kind {
             INDEX => check_among(operands, u32::from(row.operand)),
@@ -307,8 +307,8 @@ impl<'a> Rows<'a> {
 
     #[tactic(auto, using(crate::proofs::RowTests::mentions_append))]
     fn check_steps(&self, operands: u16, rows: &[CStep]) -> Result<(), BadIndex>
-        ensures { refused result ≡ first_out (map (test_of (alone (facts_told self.now)))
-            (flat_map (step_told operands) rows.now)) }
+        ensures { refused result ≡ first_out (map (test_of (alone (facts_by_rows self.now)))
+            (flat_map (step_by_row operands) rows.now)) }
     {
         for row in rows {
             self.check_step(operands, row)?;
@@ -318,7 +318,7 @@ impl<'a> Rows<'a> {
 
     fn check_tail(&self, row: &CChain) -> Result<(), BadIndex>
         ensures { refused result
-            ≡ first_out (map (test_of (alone (facts_told self.now))) (tail_told row.now)) }
+            ≡ first_out (map (test_of (alone (facts_by_rows self.now))) (tail_by_row row.now)) }
     {
         if row.tail == ASSIGN_THROUGH {
             return self.check(Pool::OpAssignments, row.op);
@@ -329,8 +329,8 @@ impl<'a> Rows<'a> {
     /// Tests what the root and the steps of a chain name.
     #[tactic(auto, using(crate::proofs::RowTests::mentions_append))]
     fn check_front(&self, row: &CChain, steps: &[CStep]) -> Result<(), BadIndex>
-        ensures { refused result ≡ first_out (map (test_of (alone (facts_told self.now)))
-            (root_told row.now ++ flat_map (step_told row.now.operands) steps.now)) }
+        ensures { refused result ≡ first_out (map (test_of (alone (facts_by_rows self.now)))
+            (root_by_row row.now ++ flat_map (step_by_row row.now.operands) steps.now)) }
     {
         self.check_root(row)?;
         self.check_steps(row.operands, steps)
@@ -338,8 +338,8 @@ impl<'a> Rows<'a> {
 
     /// Tests what a chain names.
     fn check_inside(&self, row: &CChain, steps: &[CStep]) -> Result<(), BadIndex>
-        ensures { refused result ≡ first_out (map (test_of (alone (facts_told self.now)))
-            (chain_told row.now steps.now).mentions) }
+        ensures { refused result ≡ first_out (map (test_of (alone (facts_by_rows self.now)))
+            (chain_by_rows row.now steps.now).mentions) }
     {
         self.check_front(row, steps)?;
         self.check_tail(row)
@@ -384,7 +384,7 @@ impl Targets for RowTargets<'_> {
 }
 
 impl<'a> Read for Rows<'a> {
-    ghost facts = { facts_told };
+    ghost facts = { facts_by_rows };
 
     ghost leads = { leads_of };
 

@@ -17,5 +17,5 @@ mod words;
 
 pub use calls::call;
 pub use function::Function;
-pub use operators::{negate, operate};
+pub use operators::{negate, operate, operate_on_integers};
 pub use places::place_of;

@@ -19,7 +19,7 @@ pub fn operate(
     right: &Value,
 ) -> Result<Option<Value>, Cause> {
     match (&*left, right) {
-        (Value::Int(x), Value::Int(y)) => of_integers(alloc, operator, *x, *y),
+        (Value::Int(x), Value::Int(y)) => operate_on_integers(alloc, operator, *x, *y),
         (Value::Bool(x), Value::Bool(y)) => match of_truths(operator, *x, *y) {
             Some(value) => Ok(Some(Value::Bool(value))),
             None => Ok(compared(operator, left, right)),
@@ -61,34 +61,26 @@ fn of_truths(operator: &Token, x: bool, y: bool) -> Option<bool> {
     }
 }
 
-#[inline]
-fn of_integers(alloc: Global, operator: &Token, x: i64, y: i64) -> Result<Option<Value>, Cause> {
-    let holds = match operator {
-        Token::EqualsTo => x == y,
-        Token::NotEqualsTo => x != y,
-        Token::LessThan => x < y,
-        Token::LessThanEqualsTo => x <= y,
-        Token::GreaterThan => x > y,
-        Token::GreaterThanEqualsTo => x >= y,
+/// What a binary operator gives of two integers, as [`operate`].
+///
+/// # Errors
+/// As [`operate`].
+#[inline(always)]
+pub fn operate_on_integers(
+    alloc: Global,
+    operator: &Token,
+    x: i64,
+    y: i64,
+) -> Result<Option<Value>, Cause> {
+    let number = match operator {
+        Token::EqualsTo => return Ok(Some(Value::Bool(x == y))),
+        Token::NotEqualsTo => return Ok(Some(Value::Bool(x != y))),
+        Token::LessThan => return Ok(Some(Value::Bool(x < y))),
+        Token::LessThanEqualsTo => return Ok(Some(Value::Bool(x <= y))),
+        Token::GreaterThan => return Ok(Some(Value::Bool(x > y))),
+        Token::GreaterThanEqualsTo => return Ok(Some(Value::Bool(x >= y))),
         Token::ExclusiveRange => return interval(alloc, x, y, false),
         Token::InclusiveRange => return interval(alloc, x, y, true),
-        _ => return calculated(operator, x, y),
-    };
-    Ok(Some(Value::Bool(holds)))
-}
-
-fn interval(alloc: Global, from: i64, to: i64, inclusive: bool) -> Result<Option<Value>, Cause> {
-    let interval = Interval {
-        from,
-        to,
-        inclusive,
-    };
-    Ok(Some(Value::Range(Rc::new(alloc, interval)?)))
-}
-
-#[inline]
-fn calculated(operator: &Token, x: i64, y: i64) -> Result<Option<Value>, Cause> {
-    let number = match operator {
         Token::Plus | Token::PlusAssign => x.checked_add(y),
         Token::Minus | Token::MinusAssign => x.checked_sub(y),
         Token::Multiply | Token::MultiplyAssign => x.checked_mul(y),
@@ -109,6 +101,15 @@ fn calculated(operator: &Token, x: i64, y: i64) -> Result<Option<Value>, Cause> 
         Some(number) => Ok(Some(Value::Int(number))),
         None => Err(Cause::Overflow),
     }
+}
+
+fn interval(alloc: Global, from: i64, to: i64, inclusive: bool) -> Result<Option<Value>, Cause> {
+    let interval = Interval {
+        from,
+        to,
+        inclusive,
+    };
+    Ok(Some(Value::Range(Rc::new(alloc, interval)?)))
 }
 
 fn powered(x: i64, y: i64) -> Result<Option<i64>, Cause> {

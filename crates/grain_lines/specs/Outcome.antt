@@ -13,8 +13,8 @@ abbrev pub CountsOn : ℕ → ℕ → ℕ → Type 0
 CountsOn old new more = (total : ℕ) → old ≡ saturated total → new ≡ saturated (total + more)
 
 -- 0 where every case had a form, 2 where one had none; 3 to 5 where the run stopped before the end
-abbrev pub status_of : Result Summary RunError → ℕ
-status_of (Ok summary) = if summary.bad == 0 then 0 else 2
-status_of (Err Read) = 3
-status_of (Err Write) = 4
-status_of (Err OutOfMemory) = 5
+abbrev pub exit_status : Result Summary RunError → ℕ
+exit_status (Ok summary) = if summary.bad == 0 then 0 else 2
+exit_status (Err Read) = 3
+exit_status (Err Write) = 4
+exit_status (Err OutOfMemory) = 5

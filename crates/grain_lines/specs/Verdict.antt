@@ -70,15 +70,15 @@ pub record VerifyVerdict (judged : Input) (text : List ℕ) : Type 0 where
   pub is : text ≡ verify_text found
 
 -- the text answers what is asked
-abbrev pub IsAnswer : Asked → List ℕ → Type 0
-IsAnswer (code bytes) text = CodeVerdict bytes text
-IsAnswer (site table address) text = SiteVerdict table address text
-IsAnswer (verify caps bytes chunks) text = VerifyVerdict (program caps bytes chunks) text
+abbrev pub AnswersCase : Asked → List ℕ → Type 0
+AnswersCase (code bytes) text = CodeVerdict bytes text
+AnswersCase (site table address) text = SiteVerdict table address text
+AnswersCase (verify caps bytes chunks) text = VerifyVerdict (program caps bytes chunks) text
 
 -- the text is the verdict on a case, or says of a line without a form that it is a bad case
 abbrev pub IsVerdictOn : Option Asked → List ℕ → Type 0
 IsVerdictOn None text = text ≡ codes "bad case"
-IsVerdictOn (Some question) text = IsAnswer question text
+IsVerdictOn (Some question) text = AnswersCase question text
 
 -- the text is a verdict on the line
 abbrev pub Verdict : List ℕ → List ℕ → Type 0

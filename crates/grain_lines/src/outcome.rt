@@ -1,7 +1,7 @@
 //! How a run over lines ends: the count of its cases or why it stopped, and the status of the process.
 
 ghost use Rattle.std.specs.Prelude.{◌≡◌, if◌then◌else◌};
-ghost use Rattle.grain_lines.specs.Outcome.{CountsOn, status_of};
+ghost use Rattle.grain_lines.specs.Outcome.{CountsOn, exit_status};
 ghost use Rattle.grain_lines.specs.declared.outcome.RunError.TheVariants.{OutOfMemory};
 
 use std::alloc::AllocError;
@@ -53,7 +53,7 @@ impl From<AllocError> for RunError {
 /// the end, it is 3 for a failed read, 4 for a failed write and 5 where memory runs out
 /// (docs/FORMAT.md, "Lines, cases and verdicts"). It takes constant time.
 pub fn status(outcome: &Result<Summary, RunError>) -> u8
-    ensures { result ≡ status_of outcome.now }
+    ensures { result ≡ exit_status outcome.now }
 {
     match outcome {
         Ok(summary) => if summary.bad == 0 { 0 } else { 2 },

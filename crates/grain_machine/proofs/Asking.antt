@@ -8,7 +8,7 @@ use Rattle.grain_pools.specs.declared.chain.Chain.{Chain}
 use Rattle.grain_pools.specs.declared.chain.Step.{Step}
 use Rattle.grain_rules.specs.Facts.{ChainFacts, chain_facts}
 use Rattle.grain_rules.proofs.ChainTests.{accepted_within}
-use Rattle.grain_rules.proofs.Said.{said_at}
+use Rattle.grain_rules.proofs.EntryFacts.{said_at}
 use Rattle.grain.specs.Program.{Program, input_of}
 use Rattle.grain_machine.specs.Asked.{IsAsked}
 use Rattle.grain_machine.proofs.Standing.{instruction_here}

@@ -3,13 +3,12 @@ use Rattle.std.proofs.Common.{◌≡◌, ℕ, ◌+◌, ◌-◌, ◌≤◌, inl, 
 use Rattle.std.specs.Option.{option_map_or}
 use Rattle.grain_code.specs.declared.op.Op.{Op}
 use Rattle.grain_code.specs.declared.op.Op.TheVariants as ops
-use Rattle.grain_rules.proofs.Once.{stands_once}
+use Rattle.grain_rules.proofs.OperationUniqueness.{stands_once}
 use Rattle.grain_rules.specs.Effects.{iterators_needed}
 use Rattle.grain_rules.specs.Machine.{Finds, Handler, Machine, Moves, innermost}
 use Rattle.grain_rules.specs.Rows.{is_quiet, needs}
 use Rattle.grain.specs.Program.{Program, setting_of}
-use Rattle.grain_machine.specs.Act.{IsForHost}
-use Rattle.grain_machine.specs.Asked.{program_code}
+use Rattle.grain_machine.specs.Asked.{IsForHost, program_code}
 use Rattle.grain_machine.specs.Calls.{Activation, CallStack, IsCalled, MovesOn, Sounds, Turns, catcher}
 use Rattle.grain_machine.specs.Ends.{IsFaultOf, StackEnds}
 use Rattle.grain_machine.specs.State.{FrameState, IsAt, Runs, frame_with_operands, state_of}

@@ -1,5 +1,5 @@
 -- What a frame lends to the host.
-use Rattle.std.proofs.Common.{◌≡◌, ℕ, ◌+◌, ◌-◌, ◌<◌, ◌≤◌, List, ◌++◌, Result, Ok, Err, OnErr, Vec, Global, length, slice_set, take, vec_capacity, vec_len, ap, ◌∙◌, subst, arith}
+use Rattle.std.proofs.Common.{◌≡◌, ℕ, ◌+◌, ◌-◌, ◌<◌, ◌≤◌, List, ◌++◌, Result, Ok, Err, OnErr, Vec, Global, length, slice_set, take, vec_len, ap, ◌∙◌, subst, arith}
 use Rattle.std.specs.Vec.{with_items}
 use Rattle.std.proofs.lemmas.List.{length-take-le, with_items_is}
 use borrow.Rule.Slice.PartMut.{put_mid}
@@ -14,10 +14,10 @@ pub on_err : {T E P : Type 0} (r : Result T E) → P → OnErr r P
 on_err (Ok x) p = tt
 on_err (Err e) p = p
 
-module _ {V I : Type 0} (address : ℕ) (v : Vec V Global) (its : List I) (hs : List Handler) where
+module _ {V I : Type 0} (address room : ℕ) (v : Vec V Global) (its : List I) (hs : List Handler) where
   -- the frame as it is seen
   abbrev seen : List V → FrameState V I
-  seen xs = filled address xs its hs (vec_capacity v)
+  seen xs = filled address xs its hs room
 
   -- what the vector has where its topmost items were written
   written : (n k : ℕ) (xs ys : List V) → xs ≡ v.items → n ≡ vec_len v → k ≤ n → length ys ≡ k
@@ -37,16 +37,15 @@ module _ {V I : Type 0} (address : ℕ) (v : Vec V Global) (its : List I) (hs : 
 
   -- and where some of them were dropped
   pub dropped : (s : FrameState V I) (n needed taken : ℕ) (xs ys : List V) (w : Vec V Global) → seen v.items ≡ s → xs ≡ v.items → n ≡ vec_len v → needed ≤ n → length ys ≡ needed
-      → taken ≤ needed → w.items ≡ take (n - taken) (with_items v (put_mid (n - needed) (length xs - (n - needed)) xs ys)).items → vec_capacity w ≡ vec_capacity v
-      → Replaces needed (needed - taken) s (filled address w.items its hs (vec_capacity w))
-  dropped s n needed taken xs ys w is same long there as_many within e room =
+      → taken ≤ needed → w.items ≡ take (n - taken) (with_items v (put_mid (n - needed) (length xs - (n - needed)) xs ys)).items
+      → Replaces needed (needed - taken) s (seen w.items)
+  dropped s n needed taken xs ys w is same long there as_many within e =
       let all : vec_len v ≡ length v.items = v.ok.0 in
       let left : List V = take (needed - taken) ys in
       let items : w.items ≡ below needed v.items ++ left =
       e ∙ ap (take (n - taken)) (written n needed xs ys same long there as_many) ∙ take-replaced n needed taken v.items ys (long ∙ all) there within in
-      let after : FrameState V I = filled address w.items its hs (vec_capacity w) in
-      subst (λ (x : FrameState V I). Replaces needed (needed - taken) x after) is
-      (left, length-take-le (needed - taken) ys (omega arith), λ i. filled address (items i) its hs (room i))
+      subst (λ (x : FrameState V I). Replaces needed (needed - taken) x (seen w.items)) is
+      (left, length-take-le (needed - taken) ys (omega arith), ap seen items)
 
 -- where they are replaced in the end
 pub replaced_by : {V I : Type 0} (k : ℕ) (s t u : FrameState V I) (others : List V) → k ≤ length s.machine.operands → Replaces k k s t

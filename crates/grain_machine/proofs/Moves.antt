@@ -13,8 +13,7 @@ use Rattle.grain.specs.Program.{setting_of}
 use Rattle.grain_rules.specs.Rows.{flow_of, is_quiet, takes}
 use Rattle.grain_rules.proofs.Law.{typing_covers_run}
 use Rattle.grain_rules.proofs.Quiet.{move_from_run}
-use Rattle.grain_machine.specs.Act.{IsForHost}
-use Rattle.grain_machine.specs.Asked.{program_code}
+use Rattle.grain_machine.specs.Asked.{IsForHost, program_code}
 use Rattle.grain_machine.specs.State.{Goes, IsAt, IsUnderWay, IsRunnable, Runs, State}
 
 -- the state with this machine, and room as before

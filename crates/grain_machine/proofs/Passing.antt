@@ -11,8 +11,7 @@ use Rattle.grain_rules.specs.Layout.{switches}
 use Rattle.grain_rules.specs.Machine.{Handler, counts, handlers_after}
 use Rattle.grain.specs.Program.{setting_of}
 use Rattle.grain_rules.specs.Rows.{flow_of, is_quiet, needs, takes}
-use Rattle.grain_machine.specs.Act.{IsForHost}
-use Rattle.grain_machine.specs.Asked.{program_code}
+use Rattle.grain_machine.specs.Asked.{IsForHost, program_code}
 use Rattle.grain_machine.specs.State.{Advances, FrameState, IsAt, MakesMove, Replaces, Runs, frame_with_iterators, frame_with_operands, state_of}
 use Rattle.grain_machine.specs.Values.{KeepsFirst, Lands, ValueMachine, below, counted, rotated, touched, touched_by}
 use Rattle.grain_machine.proofs.Keeping.{kept_before, kept_cut, kept_self, length-below, length-replaced}

@@ -16,7 +16,7 @@ use Rattle.grain_rules.specs.Machine.{counts}
 use Rattle.grain.specs.Program.{Program, chunks_of}
 use Rattle.grain_rules.specs.Typing.{Passes}
 use Rattle.grain_rules.proofs.Law.{run_passes}
-use Rattle.grain_rules.proofs.Once.{stands_once}
+use Rattle.grain_rules.proofs.OperationUniqueness.{stands_once}
 use Rattle.grain_rules.proofs.Splits.{in_cons, in_head, in_nil, in_tail, op_fits}
 use Rattle.grain_machine.specs.Asked.{IsAsked, program_code}
 use Rattle.grain_machine.specs.State.{IsAt, IsUnderWay, IsRunnable, Runs, State}

@@ -1,5 +1,5 @@
 -- What the host is asked for.
-use Rattle.std.specs.Prelude.{◌≡◌, ℕ}
+use Rattle.std.specs.Prelude.{◌≡◌, ℕ, false}
 use Rattle.std.specs.List.{Contains}
 use Rattle.grain_code.specs.Span.{Span}
 use Rattle.grain_code.specs.declared.op.Op.{Op}
@@ -7,9 +7,19 @@ use Rattle.grain_rules.specs.Accepted.{IsAccepted}
 use Rattle.grain_rules.specs.Capabilities.{Allows}
 use Rattle.grain_rules.specs.Code.{Code, coded}
 use Rattle.grain_rules.specs.Machine.{Finds, IsOnKeptRun, Machine}
-use Rattle.grain_rules.specs.Rows.{caps_of, needs}
+use Rattle.grain_rules.specs.Flow as flows
+use Rattle.grain_rules.specs.Rows.{caps_of, flow_of, gives, is_quiet, needs, takes}
+use Rattle.grain_rules.specs.Setting.{Setting}
 use Rattle.grain.specs.Lookups.{AreFound}
 use Rattle.grain.specs.Program.{Program, chunks_of, input_of, setting_of}
+
+-- an operation that takes and gives operands, falls through and may fail
+pub record IsForHost (s : Setting) (op : Op) (needed taken given : ℕ) : Type 0 where
+  pub needs_so : needs s op ≡ needed
+  pub takes_so : takes s op ≡ taken
+  pub gives_so : gives s op ≡ given
+  pub falls : flow_of op ≡ flows.Falls
+  pub sounds : is_quiet op ≡ false
 
 -- the code of a program
 abbrev pub program_code : Program → Code

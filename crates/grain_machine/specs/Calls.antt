@@ -9,8 +9,7 @@ use Rattle.grain_rules.specs.Layout.{Reads, next as place_behind}
 use Rattle.grain_rules.specs.Machine.{Finds, Moves, innermost}
 use Rattle.grain_rules.specs.Rows.{is_quiet}
 use Rattle.grain.specs.Program.{Program, chunks_of, setting_of}
-use Rattle.grain_machine.specs.Act.{IsForHost}
-use Rattle.grain_machine.specs.Asked.{program_code}
+use Rattle.grain_machine.specs.Asked.{IsForHost, program_code}
 use Rattle.grain_machine.specs.Values.{KeepsFirst, Lands, PassesOn, ValueMachine, below, counted, top}
 
 -- a frame: the chunk that it runs, and where that run stands
@@ -44,7 +43,7 @@ pub record Sounds (code : Code) (address : ℕ) : Type 0 where
   pub stands : Reads code.layout address op
   pub sounds : is_quiet op ≡ false
 
--- the frame finds an operation here that takes so many operands and gives a value, and behind which this stands
+-- the frame finds an operation here that takes this number of operands and gives a value, and behind which this stands
 pub record MayCall {V I : Type 0} (p : Program) (a : Activation V I) (taken behind : ℕ) : Type 0 where
   pub op : Op
   pub finds : Finds (program_code p) a.chunk (counted a.machine) op
@@ -62,14 +61,14 @@ pub record IsMoved {V I : Type 0} (p : Program) (s t : CallStack V I) : Type 0 w
   pub goes : MovesOn p s.top t.top
   pub callers : t.callers ≡ s.callers
 
--- the frame waits where it is; of its operands, which the host was lent, so many of the topmost may have changed
+-- the frame waits where it is; of its operands only the topmost, which the host was lent, may have changed
 pub record Waits {V I : Type 0} (taken : ℕ) (a b : Activation V I) : Type 0 where
   pub chunk : b.chunk ≡ a.chunk
   pub counts : counted b.machine ≡ counted a.machine
   pub operands : KeepsFirst (length a.machine.operands - taken) a.machine.operands b.machine.operands
   pub iterators : b.machine.iterators ≡ a.machine.iterators
 
--- the frame on top calls a function of the program, and waits for it; there are fewer than so many that wait already
+-- the frame on top calls a function of the program, and waits for it; fewer frames than the depth wait already
 pub record IsCalled {V I : Type 0} (p : Program) (depth : ℕ) (s t : CallStack V I) : Type 0 where
   pub function : ℕ
   pub chunk : Span
@@ -122,7 +121,7 @@ IsRaised p s t = IsMoved p s t ⊎ IsAbandoned p s t
 abbrev pub Turns : {V I : Type 0} → Program → ℕ → CallStack V I → CallStack V I → Type 0
 Turns p depth s t = IsRaised p s t ⊎ IsCalled p depth s t ⊎ IsReturned p s t
 
--- a run of the chunk by such turns, told from its last state back to its first
+-- a run of the chunk by such turns, from its last state back to its first
 abbrev pub IsRunOfCalls : {V I : Type 0} → Program → ℕ → Span → CallStack V I → List (CallStack V I) → Type 0
 IsRunOfCalls p depth chunk s [] = s ≡ record { top = begins chunk; callers = [] }
 IsRunOfCalls p depth chunk s (before ∷ earlier) = Turns p depth before s × IsRunOfCalls p depth chunk before earlier

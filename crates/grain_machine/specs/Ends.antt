@@ -62,7 +62,7 @@ StackEnds p s (outcomes.Uncatchable fault) = Sounds (program_code p) s.top.machi
 StackEnds p s outcomes.OutOfFuel = ⊥
 StackEnds p s outcomes.OutOfMemory = WantsRoom (program_code p) s.top.machine.address
 
--- A run that may take so many turns ends so after so many: at an operation that ends it, or with its fuel spent.
+-- A run within this fuel ends so after this number of turns: at an operation that ends it, or with its fuel spent.
 abbrev pub EndsAfter : {V I F : Type 0} → Program → ℕ → ℕ → CallStack V I → Outcome V F → Type 0
 EndsAfter p fuel turns s (outcomes.Returned value) = (turns < fuel) × Returns (program_code p) s.top.machine value × (s.callers ≡ [])
 EndsAfter p fuel turns s (outcomes.Faulted fault) = (turns < fuel) × Sounds (program_code p) s.top.machine.address × (catcher (s.top ∷ s.callers) ≡ None)

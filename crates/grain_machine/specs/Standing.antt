@@ -4,7 +4,7 @@ use Rattle.std.specs.List.{All}
 use Rattle.grain_code.specs.declared.op.Op.{Op}
 use Rattle.grain_rules.specs.Rows.{is_quiet}
 use Rattle.grain.specs.Program.{Program, setting_of}
-use Rattle.grain_machine.specs.Act.{IsForHost}
+use Rattle.grain_machine.specs.Asked.{IsForHost}
 use Rattle.grain_machine.specs.Calls.{Activation, CallStack}
 use Rattle.grain_machine.specs.State.{FrameState, IsAt, IsUnderWay, MakesMove, Replaces, Runs, State, state_of}
 use Rattle.grain_machine.specs.declared.frames.Caller.{Caller}
@@ -18,7 +18,7 @@ pub record MayCallHere (r : Runs) (s : State) (behind : ℕ) : Type 0 where
   pub at : IsAt r s op behind
   pub sounds : is_quiet op ≡ false
 
--- the run stands at an operation that takes so many operands and gives a value, for which a function of the program is to be run
+-- the run stands at an operation that takes this number of operands and gives a value, for which a function of the program is to be run
 pub record IsCalling (r : Runs) (s : State) (function taken behind : ℕ) : Type 0 where
   pub op : Op
   pub at : IsAt r s op behind

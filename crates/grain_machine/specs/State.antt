@@ -39,7 +39,7 @@ frame_with_iterators iterators f = record f { machine = record f.machine { itera
 abbrev pub frame_with_handlers : {V I : Type 0} → List Handler → FrameState V I → FrameState V I
 frame_with_handlers handlers f = record f { machine = record f.machine { handlers = handlers } }
 
--- so many of the topmost operands were replaced by so many others
+-- this number of the topmost operands was replaced by that number of others
 abbrev pub Replaces : {V I : Type 0} → ℕ → ℕ → FrameState V I → FrameState V I → Type 0
 Replaces {V} taken given f g = (others : List V) × (length others ≡ given) × (g ≡ frame_with_operands (below taken f.machine.operands ++ others) f)
 

@@ -28,14 +28,14 @@ counted m = record { address = m.address; operands = length m.operands; iterator
 abbrev pub top : {X : Type 0} → List X → Option X
 top xs = slice_get xs (length xs - 1)
 
--- all but so many of the topmost, and these
+-- all but the topmost n, and these
 abbrev pub below : {X : Type 0} → ℕ → List X → List X
 below n xs = take (length xs - n) xs
 
 abbrev pub topmost : {X : Type 0} → ℕ → List X → List X
 topmost n xs = drop (length xs - n) xs
 
--- the top is moved below so many others
+-- the top is moved below the next ones, as many as the depth says
 abbrev pub rotated : {X : Type 0} → ℕ → List X → List X
 rotated depth xs = below (depth + 1) xs ++ (drop depth (topmost (depth + 1) xs) ++ take depth (topmost (depth + 1) xs))
 

@@ -7,6 +7,7 @@ ghost use Rattle.grain.specs.Program.{chunks_of, input_of};
 ghost use Rattle.grain_machine.specs.Calls.{begins};
 ghost use Rattle.grain_machine.specs.State.{IsUnderWay, state_of};
 
+use crate::decoded::{Decoded, decode_each};
 use crate::frame::Frame;
 use grain::Program;
 use grain_code::Chunk;
@@ -19,12 +20,16 @@ use std::marker::Model;
 pub struct Accepted<'a> {
     program: &'a Program,
     numbers: Vec<u16>,
+    /// What stands at each address of the code.
+    decoded: Vec<Decoded>,
 }
 
 impl<'a> Model for Accepted<'a> {
     ghost use Rattle.std.specs.Coded.{codes};
+    ghost use Rattle.std.specs.Prelude.{length};
     ghost use Rattle.grain_base.specs.contracts.value.Dynamic as value;
     ghost use Rattle.grain_pools.specs.contracts.switch.Switch as switch;
+    ghost use Rattle.grain_machine.specs.Decoded.{AreDecoded};
     ghost use Rattle.grain_machine.specs.State.{IsNumbered, Numbered};
 
     ghost Value = { Numbered };
@@ -34,7 +39,8 @@ impl<'a> Model for Accepted<'a> {
     ghost view = { λ a. record { program = a.program.now; numbers = a.numbers.items } };
 
     ghost invariant = { λ a. IsNumbered
-        (record { program = a.program.now; numbers = a.numbers.items }) };
+        (record { program = a.program.now; numbers = a.numbers.items })
+        × AreDecoded a.program.now (length a.program.now.code) a.decoded.items };
 }
 
 /// A chunk of a program that is accepted, which can be run in place.
@@ -43,6 +49,8 @@ pub struct Runnable<'a> {
     pub(crate) program: &'a Program,
     /// The number of each chunk of the program.
     numbers: &'a [u16],
+    /// What stands at each address of the code.
+    pub(crate) decoded: &'a [Decoded],
     pub(crate) chunk: Chunk,
     /// The number of this one.
     pub(crate) room: u16,
@@ -50,8 +58,10 @@ pub struct Runnable<'a> {
 
 impl<'a> Model for Runnable<'a> {
     ghost use Rattle.std.specs.Coded.{codes};
+    ghost use Rattle.std.specs.Prelude.{length};
     ghost use Rattle.grain_base.specs.contracts.value.Dynamic as value;
     ghost use Rattle.grain_pools.specs.contracts.switch.Switch as switch;
+    ghost use Rattle.grain_machine.specs.Decoded.{AreDecoded};
     ghost use Rattle.grain_machine.specs.State.{IsNumbered, IsRunnable, Runs};
 
     ghost Value = { Runs };
@@ -62,13 +72,14 @@ impl<'a> Model for Runnable<'a> {
 
     ghost invariant = { λ r. IsRunnable
         (record { program = r.program.now; chunk = r.chunk; room = r.room })
-        × IsNumbered (record { program = r.program.now; numbers = r.numbers.now }) };
+        × IsNumbered (record { program = r.program.now; numbers = r.numbers.now })
+        × AreDecoded r.program.now (length r.program.now.code) r.decoded.now };
 }
 
-/// The program, where it is accepted.
+/// The program, where it is accepted, with its code decoded: 40 bytes for each byte of the code.
 ///
 /// # Errors
-/// As [`Program::verify`].
+/// As [`Program::verify`], and `OutOfMemory` where there is none for the decoded code.
 pub fn accept(program: &Program) -> Result<Accepted<'_>, VerifyError>
     ensures program { IfOk result (λ a. a.program ≡ program.now) }
     ensures accepted { OnOk result (IsAccepted (input_of program.now)) }
@@ -79,7 +90,14 @@ pub fn accept(program: &Program) -> Result<Accepted<'_>, VerifyError>
         ⊎ Flaw (input_of program.now) e) }
 {
     let numbers = program.verify()?;
-    Ok(Accepted { program, numbers })
+    let Ok(decoded) = decode_each(*numbers.allocator(), program) else {
+        return Err(VerifyError::OutOfMemory);
+    };
+    Ok(Accepted {
+        program,
+        numbers,
+        decoded,
+    })
 }
 
 impl<'a> Accepted<'a> {
@@ -92,6 +110,7 @@ impl<'a> Accepted<'a> {
         Runnable {
             program: self.program,
             numbers: self.numbers.as_slice(),
+            decoded: self.decoded.as_slice(),
             chunk: self.program.main(),
             room: self.numbers[0],
         }
@@ -107,6 +126,7 @@ impl<'a> Accepted<'a> {
         Runnable {
             program: self.program,
             numbers: self.numbers.as_slice(),
+            decoded: self.decoded.as_slice(),
             chunk: self.program.functions()[index].chunk,
             room: self.numbers[index + 1],
         }
@@ -121,6 +141,7 @@ impl<'a> Runnable<'a> {
         Runnable {
             program: self.program,
             numbers: self.numbers,
+            decoded: self.decoded,
             chunk: self.chunk,
             room: self.room,
         }
@@ -135,19 +156,21 @@ impl<'a> Runnable<'a> {
         Runnable {
             program: self.program,
             numbers: self.numbers,
+            decoded: self.decoded,
             chunk: self.program.functions()[function].chunk,
             room: self.numbers[function + 1],
         }
     }
 
-    /// A run of it begins.
+    /// A run of it begins, in the memory of a frame that ended where there is one.
     pub(crate) fn first_frame<V: Drop, I: Drop>(
         &self,
         alloc: Global,
+        spare: Option<Vec<V>>,
     ) -> Result<Frame<V, I>, AllocError>
         ensures first { IfOk result (λ frame. frame.machine ≡ (begins self.now.chunk).machine) }
         ensures ready { IfOk result (λ frame. IsUnderWay self.now (state_of frame)) }
     {
-        Frame::new(alloc, self.chunk.entry(), self.room)
+        Frame::new(alloc, self.chunk.entry(), self.room, spare)
     }
 }

@@ -1,6 +1,6 @@
 //! The stacks of a run, and its address.
 ghost use Rattle.std.specs.Prelude.{◌≡◌, ◌+◌, ◌-◌, ◌<◌, ◌≤◌, [], ◌∷◌, ◌++◌, IfOk, OnOk, OnErr, Some};
-ghost use Rattle.std.specs.Prelude.{MatchOption, None, false, length};
+ghost use Rattle.std.specs.Prelude.{MatchOption, None, false, length, vec_capacity};
 ghost use Rattle.grain_rules.specs.Counts.{without_last};
 ghost use Rattle.grain_rules.specs.Machine.{innermost};
 ghost use Rattle.grain_rules.specs.Rows.{gives};
@@ -35,13 +35,15 @@ pub(crate) struct Armed {
 #[derive(Drop)]
 pub(crate) struct Frame<V, I> {
     at: usize,
+    /// How many operands there is room for.
+    room: usize,
     operands: Vec<V>,
     iterators: Vec<I>,
     handlers: Vec<Armed>,
 }
 
 impl<V, I> Model for Frame<V, I> {
-    ghost use Rattle.std.specs.Prelude.{vec_capacity};
+    ghost use Rattle.std.specs.Prelude.{◌≤◌, vec_capacity};
     ghost use Rattle.grain_machine.specs.State.{FrameState, innermost_first};
 
     ghost Value = { FrameState V I };
@@ -53,23 +55,36 @@ impl<V, I> Model for Frame<V, I> {
         iterators = f.iterators.items;
         handlers = innermost_first f.handlers.items;
       };
-      room = vec_capacity f.operands;
+      room = f.room;
     } };
+
+    ghost invariant = { λ f. f.room ≤ vec_capacity f.operands };
 }
 
 impl<V: Drop, I: Drop> Frame<V, I> {
-    /// A run begins at the entry, with room for so many operands.
-    pub(crate) fn new(alloc: Global, entry: u32, room: u16) -> Result<Frame<V, I>, AllocError>
+    /// A run begins at the entry, with room for this number of operands, in the memory of a frame that ended where there is one.
+    pub(crate) fn new(
+        alloc: Global,
+        entry: u32,
+        room: u16,
+        spare: Option<Vec<V>>,
+    ) -> Result<Frame<V, I>, AllocError>
         ensures machine { IfOk result (λ frame. frame.machine
             ≡ record { address = entry; operands = []; iterators = []; handlers = [] }) }
         ensures room { IfOk result (λ frame. frame.room ≡ room) }
     {
         Ok(Frame {
             at: entry as usize,
-            operands: Vec::with_capacity(alloc, room as usize)?,
+            room: room as usize,
+            operands: with_room(alloc, room as usize, spare)?,
             iterators: Vec::new(alloc),
             handlers: Vec::new(alloc),
         })
+    }
+
+    /// The memory of its operands.
+    pub(crate) fn into_operands(self) -> Vec<V> {
+        self.operands
     }
 
     /// Where it stands.
@@ -136,7 +151,7 @@ impl<V: Drop, I: Drop> Frame<V, I> {
         self.operands.pop()
     }
 
-    /// Moves the top of the operand stack below so many others.
+    /// Moves the top of the operand stack below the next `depth` ones.
     #[inline(always)]
     pub(crate) fn rotate(&mut self, depth: usize)
         requires { depth < length self.old.machine.operands }
@@ -147,7 +162,7 @@ impl<V: Drop, I: Drop> Frame<V, I> {
         self.operands[base..].rotate_right(1);
     }
 
-    /// Has the host do an operation that takes so many operands and gives a value, or answers the function that does.
+    /// Has the host do an operation that takes the topmost operands and gives a value, or names the function that does.
     #[inline(always)]
     pub(crate) fn give<H: Host<Value = V>>(
         &mut self,
@@ -174,7 +189,7 @@ impl<V: Drop, I: Drop> Frame<V, I> {
         }
     }
 
-    /// Puts a value in the place of so many operands.
+    /// Puts a value in the place of the topmost operands.
     #[inline(always)]
     pub(crate) fn replace(&mut self, takes: usize, value: V)
         requires there { takes ≤ length self.old.machine.operands }
@@ -186,7 +201,7 @@ impl<V: Drop, I: Drop> Frame<V, I> {
         self.operands.push_reserved(value);
     }
 
-    /// Has the host do an operation that is shown so many operands, takes so many of them and gives no value.
+    /// Has the host do an operation that sees the topmost operands, takes some of them and gives no value.
     #[inline(always)]
     pub(crate) fn take<H: Host<Value = V>>(
         &mut self,
@@ -288,5 +303,24 @@ impl<V: Drop, I: Drop> Frame<V, I> {
             }
         }
         None
+    }
+}
+
+/// An empty list with room for this number of values, in the memory of one that is no longer used where there is one.
+fn with_room<V: Drop>(
+    alloc: Global,
+    room: usize,
+    spare: Option<Vec<V>>,
+) -> Result<Vec<V>, AllocError>
+    ensures empty { IfOk result (λ values. values.items ≡ []) }
+    ensures room { IfOk result (λ values. room ≤ vec_capacity values) }
+{
+    match spare {
+        Some(mut values) => {
+            values.clear();
+            values.reserve(room)?;
+            Ok(values)
+        }
+        None => Ok(Vec::with_capacity(alloc, room)?),
     }
 }

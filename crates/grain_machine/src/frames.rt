@@ -37,6 +37,8 @@ pub(crate) struct Frames<'a, V, I> {
     frame: Frame<V, I>,
     /// The frames that wait, the last that called at the end.
     callers: Vec<Caller<'a, V, I>>,
+    /// The memory of operands of frames that ended, for frames to come.
+    spare: Vec<Vec<V>>,
 }
 
 impl<'a, V: Drop, I: Drop> Frames<'a, V, I> {
@@ -50,8 +52,9 @@ impl<'a, V: Drop, I: Drop> Frames<'a, V, I> {
     {
         Ok(Frames {
             body: body.again(),
-            frame: body.first_frame(alloc)?,
+            frame: body.first_frame(alloc, None)?,
             callers: Vec::new(alloc),
+            spare: Vec::new(alloc),
         })
     }
 
@@ -121,7 +124,8 @@ impl<'a, V: Drop, I: Drop> Frames<'a, V, I> {
             return self.refuse(host, function, CallError::TooDeep, next);
         }
         let body = self.body.callee(function);
-        match body.first_frame(alloc) {
+        let spare = self.spare.pop();
+        match body.first_frame(alloc, spare) {
             Ok(frame) => match self.callers.reserve(1) {
                 Ok(()) => {
                     self.enter(body, frame, takes, next);
@@ -208,7 +212,8 @@ impl<'a, V: Drop, I: Drop> Frames<'a, V, I> {
         frame.replace(takes, given);
         frame.go(next);
         self.body = body;
-        self.frame = frame;
+        mem::swap(&mut self.frame, &mut frame);
+        keep_memory(&mut self.spare, frame);
         Ok(())
     }
 
@@ -253,6 +258,11 @@ impl<'a, V: Drop, I: Drop> Frames<'a, V, I> {
             host.left();
         }
     }
+}
+
+/// Keeps the memory of a frame that ended. Where the list can't grow, that memory is freed.
+fn keep_memory<V: Drop, I: Drop>(spare: &mut Vec<Vec<V>>, ended: Frame<V, I>) {
+    let _kept = spare.push(ended.into_operands());
 }
 
 /// The value that a function returned, or unit where it returned none.

@@ -65,7 +65,7 @@ pub trait Host {
     /// A truth value.
     fn boolean(&mut self, value: bool) -> Self::Value;
 
-    /// Drops local variables down to so many.
+    /// Keeps this number of local variables of the frame, and drops the later ones.
     fn unwind_to(&mut self, depth: u16);
 
     /// Does an operation that takes its operands and gives a value, or names the function of the program that does. The

@@ -7,7 +7,7 @@
 #![tactic(auto)]
 
 mod accepted;
-mod act;
+mod decoded;
 mod frame;
 mod frames;
 mod host;

@@ -1,19 +1,19 @@
 //! One operation at a time.
 ghost use Rattle.std.specs.Prelude.{◌≡◌, ◌≤◌, IfErr, IfOk, OnOk};
 ghost use Rattle.grain_code.specs.declared.op.Op.{Op};
-ghost use Rattle.grain_machine.specs.Act.{IsForHost, guarding, iterating, leading, stacking};
 ghost use Rattle.grain.specs.Program.{setting_of};
 ghost use Rattle.grain_machine.specs.Ends.{IsFault, MayEnd};
-ghost use Rattle.grain_machine.specs.Asked.{program_code};
+ghost use Rattle.grain_machine.specs.Asked.{IsForHost, program_code};
+ghost use Rattle.grain_rules.specs.Rows.{takes};
 ghost use Rattle.grain_machine.specs.Standing.{DoesTurn};
 ghost use Rattle.grain_machine.specs.State.{MakesMove, IsAt, IsUnderWay, state_of};
 ghost use Rattle.grain_machine.specs.Values.{Lands};
 
 use crate::accepted::Runnable;
-use crate::act::{Act, Guards, Iterates, Leads, Stacks};
+use crate::decoded::Decoded;
 use crate::frame::Frame;
 use crate::host::{Host, Request};
-use grain_code::{Op, decode_standing};
+use grain_code::{Op, Receiver};
 
 /// How a run ends.
 #[derive(Drop)]
@@ -35,7 +35,7 @@ pub enum Outcome<V, F> {
 pub(crate) enum Turn {
     /// It has made a move.
     Moved,
-    /// It waits for the function at an index: what that returns takes the place of so many operands, and it goes on there.
+    /// It waits for the function at an index: what that returns takes the place of the operands that are taken, and it goes on at `next`.
     Calls {
         function: usize,
         takes: usize,
@@ -44,13 +44,16 @@ pub(crate) enum Turn {
 }
 
 impl<'a> Runnable<'a> {
-    /// The operation that stands where the run is, and the address behind it.
+    /// What stands where the run is.
     #[inline(always)]
-    fn read<V: Drop, I: Drop>(&self, frame: &Frame<V, I>) -> (Op, usize)
+    fn read<V: Drop, I: Drop>(&self, frame: &Frame<V, I>) -> &'a Decoded
         requires { IsUnderWay self.now (state_of frame.now) }
-        ensures { IsAt self.now (state_of frame.now) result.0 result.1 }
+        ensures at { IsAt self.now (state_of frame.now) result.now.op result.now.next }
+        ensures takes { result.now.takes ≡ takes (setting_of self.now.program) result.now.op }
     {
-        decode_standing(self.program.code(), frame.at())
+        let decoded = self.decoded;
+        let at = frame.at();
+        &decoded[at]
     }
 
     /// What the host is asked to do with an operation where the run is.
@@ -81,131 +84,133 @@ impl<'a> Runnable<'a> {
         ensures goes { IfOk result (DoesTurn self.now frame.old frame.new) }
         ensures ends { IfErr result (MayEnd (program_code self.now.program) frame.old.machine) }
     {
-        let (op, next) = self.read(frame);
-        match Act::of(&op, self.program) {
-            Act::Gives { takes } => self.give(frame, host, &op, next, takes),
-            Act::Takes { needs, takes } => {
-                self.take(frame, host, &op, next, needs, takes)?;
+        let here = self.read(frame);
+        let next = here.next;
+        match here.op {
+            Op::Const(_) | Op::LoadLocal(_) => self.give(frame, host, &here.op, next, 0),
+            Op::Call { .. } => self.give(frame, host, &here.op, next, here.takes as usize),
+            Op::EvalAst { .. }
+            | Op::InterpolateStart
+            | Op::LoadShared(_)
+            | Op::LoadSharedNamed(_)
+            | Op::LoadNamed(_)
+            | Op::MakeClosure(_)
+            | Op::LoadThis
+            | Op::LoadThisShared
+            | Op::CustomSyntax(_) => self.give_apart(frame, host, &here.op, next, 0),
+            Op::InterpolateEnd | Op::CheckSize { .. } | Op::MakeFnPtr | Op::IsShared => {
+                self.give_apart(frame, host, &here.op, next, 1)
+            }
+            Op::CallRef {
+                receiver: Receiver::Local(_),
+                ..
+            } => self.give_apart(frame, host, &here.op, next, here.takes as usize),
+            Op::CallRef {
+                receiver: Receiver::This,
+                ..
+            }
+            | Op::CallRef {
+                receiver: Receiver::Named(_),
+                ..
+            } => self.give_apart(frame, host, &here.op, next, here.takes as usize),
+            Op::Chain(_) | Op::MakeArray(_) | Op::MakeMap(_) => {
+                self.give_apart(frame, host, &here.op, next, here.takes as usize)
+            }
+            Op::Curry(_) | Op::CallFnPtr { .. } => {
+                self.give_apart(frame, host, &here.op, next, here.takes as usize)
+            }
+            Op::StoreLocal { .. }
+            | Op::AssignLocal { .. }
+            | Op::DeclareLocal { .. }
+            | Op::AssignNamed { .. }
+            | Op::StoreShared(_)
+            | Op::AssignThis { .. }
+            | Op::Import { .. } => {
+                self.take(frame, host, &here.op, next, 1, 1)?;
                 Ok(Turn::Moved)
             }
-            Act::Stacks(act) => {
-                self.stack(frame, host, next, act);
+            Op::InterpolateAppend => {
+                self.take(frame, host, &here.op, next, 2, 1)?;
                 Ok(Turn::Moved)
             }
-            Act::Leads(act) => {
-                self.lead(frame, host, next, act)?;
+            Op::Share(_)
+            | Op::ShareNamed(_)
+            | Op::RequireThis
+            | Op::ExportLocal { .. }
+            | Op::ExportNamed { .. }
+            | Op::Tick
+            | Op::Checkpoint
+            | Op::Statement { .. } => {
+                self.take(frame, host, &here.op, next, 0, 0)?;
                 Ok(Turn::Moved)
             }
-            Act::Iterates(act) => {
-                self.iterate(frame, host, next, act)?;
-                Ok(Turn::Moved)
-            }
-            Act::Guards(act) => {
-                self.guard(frame, next, act)?;
-                Ok(Turn::Moved)
-            }
-        }
-    }
-
-    #[inline(always)]
-    fn stack<H: Host>(
-        &self,
-        frame: &mut Frame<H::Value, H::Iterator>,
-        host: &mut H,
-        next: usize,
-        act: Stacks,
-    )
-        requires { IsAt self.now (state_of frame.old) (stacking act) next }
-        ensures { MakesMove self.now frame.old frame.new }
-    {
-        match act {
-            Stacks::Unit => {
+            Op::Unit => {
                 let value = host.unit();
                 self.unit(frame, next, value);
+                Ok(Turn::Moved)
             }
-            Stacks::Truth { value } => {
+            Op::Bool(value) => {
                 let truth = host.boolean(value);
                 self.truth(frame, next, value, truth);
+                Ok(Turn::Moved)
             }
-            Stacks::Pop => self.pop(frame, next),
-            Stacks::Rotate { depth } => self.rotate(frame, next, depth),
-            Stacks::Unwind { depth } => {
+            Op::Pop => {
+                self.pop(frame, next);
+                Ok(Turn::Moved)
+            }
+            Op::Rotate(depth) => {
+                self.rotate(frame, next, depth as usize);
+                Ok(Turn::Moved)
+            }
+            Op::UnwindTo(depth) => {
                 host.unwind_to(depth);
                 self.unwind(frame, next, depth);
+                Ok(Turn::Moved)
             }
-        }
-    }
-
-    #[inline(always)]
-    fn lead<H: Host>(
-        &self,
-        frame: &mut Frame<H::Value, H::Iterator>,
-        host: &mut H,
-        next: usize,
-        act: Leads,
-    ) -> Result<(), Outcome<H::Value, H::Fault>>
-        requires { IsAt self.now (state_of frame.old) (leading act) next }
-        ensures goes { OnOk result (MakesMove self.now frame.old frame.new) }
-        ensures ends { IfErr result (MayEnd (program_code self.now.program) frame.old.machine) }
-    {
-        match act {
-            Leads::Jump { target } => {
+            Op::Jump(target) => {
                 self.jump(frame, next, target);
-                Ok(())
+                Ok(Turn::Moved)
             }
-            Leads::JumpIf { target, when: true } => self.jump_if_true(frame, host, next, target),
-            Leads::JumpIf {
-                target,
-                when: false,
-            } => self.jump_if_false(frame, host, next, target),
-            Leads::Skip { target } => {
+            Op::JumpIfTrue { target } => {
+                self.jump_if_true(frame, host, next, target)?;
+                Ok(Turn::Moved)
+            }
+            Op::JumpIfFalse { target } => {
+                self.jump_if_false(frame, host, next, target)?;
+                Ok(Turn::Moved)
+            }
+            Op::SkipIfNotUnit { target } => {
                 self.skip(frame, host, next, target);
-                Ok(())
+                Ok(Turn::Moved)
             }
-            Leads::Switch { index } => self.switch(frame, host, next, index),
-            Leads::Return => Err(Outcome::Returned(frame.result())),
-            Leads::Throw => self.throw(frame, host, next),
-        }
-    }
-
-    #[inline(always)]
-    fn iterate<H: Host>(
-        &self,
-        frame: &mut Frame<H::Value, H::Iterator>,
-        host: &mut H,
-        next: usize,
-        act: Iterates,
-    ) -> Result<(), Outcome<H::Value, H::Fault>>
-        requires { IsAt self.now (state_of frame.old) (iterating act) next }
-        ensures goes { OnOk result (MakesMove self.now frame.old frame.new) }
-        ensures ends { IfErr result (MayEnd (program_code self.now.program) frame.old.machine) }
-    {
-        match act {
-            Iterates::Begin => self.begin(frame, host, next),
-            Iterates::Advance { exit, counter } => self.advance(frame, host, next, exit, counter),
-            Iterates::End => {
+            Op::Switch(index) => {
+                self.switch(frame, host, next, index)?;
+                Ok(Turn::Moved)
+            }
+            Op::Return => Err(Outcome::Returned(frame.result())),
+            Op::Throw => {
+                self.throw(frame, host, next)?;
+                Ok(Turn::Moved)
+            }
+            Op::IterInit => {
+                self.begin(frame, host, next)?;
+                Ok(Turn::Moved)
+            }
+            Op::IterNext { exit, counter_slot } => {
+                self.advance(frame, host, next, exit, counter_slot)?;
+                Ok(Turn::Moved)
+            }
+            Op::IterDrop => {
                 self.end(frame, next);
-                Ok(())
+                Ok(Turn::Moved)
             }
-        }
-    }
-
-    #[inline(always)]
-    fn guard<V: Drop, I: Drop, F: Drop>(
-        &self,
-        frame: &mut Frame<V, I>,
-        next: usize,
-        act: Guards,
-    ) -> Result<(), Outcome<V, F>>
-        requires { IsAt self.now (state_of frame.old) (guarding act) next }
-        ensures goes { OnOk result (MakesMove self.now frame.old frame.new) }
-        ensures ends { IfErr result (MayEnd (program_code self.now.program) frame.old.machine) }
-    {
-        match act {
-            Guards::Arm { target, name } => self.arm(frame, next, target, name),
-            Guards::Disarm => {
+            Op::PushHandler { target, catch_var } => {
+                self.arm(frame, next, target, catch_var)?;
+                Ok(Turn::Moved)
+            }
+            Op::PopHandler => {
                 self.disarm(frame, next);
-                Ok(())
+                Ok(Turn::Moved)
             }
         }
     }
@@ -240,6 +245,24 @@ impl<'a> Runnable<'a> {
                 Err(outcome) => Err(outcome),
             },
         }
+    }
+
+    /// As [`Runnable::give`], in a function of its own: what a host does with the frequent operations stays small.
+    #[inline(never)]
+    fn give_apart<H: Host>(
+        &self,
+        frame: &mut Frame<H::Value, H::Iterator>,
+        host: &mut H,
+        op: &Op,
+        next: usize,
+        takes: usize,
+    ) -> Result<Turn, Outcome<H::Value, H::Fault>>
+        requires at { IsAt self.now (state_of frame.old) op.now next }
+        requires plain { IsForHost (setting_of self.now.program) op.now takes takes 1 }
+        ensures goes { IfOk result (DoesTurn self.now frame.old frame.new) }
+        ensures ends { IfErr result (MayEnd (program_code self.now.program) frame.old.machine) }
+    {
+        self.give(frame, host, op, next, takes)
     }
 
     #[inline(always)]

@@ -1,9 +1,9 @@
 pub mod CaseOrder
 pub mod Cuts
-pub mod Dispatching
-pub mod Growing
-pub mod Left
-pub mod Missing
-pub mod Past
+pub mod SwitchTargets
+pub mod TableGrowth
+pub mod ListTails
+pub mod FirstMissing
+pub mod FirstPast
 pub mod Slots
 pub mod Tables

@@ -129,7 +129,7 @@ switch_at_sought i p = switch i ∷ option_map_or (λ s. switch_sought s p) (sli
 abbrev pub names_sought : List ℕ → Pools → List Sought
 names_sought ns p = map name ns
 
--- the error is want of memory, or names this
+-- the error is a lack of memory, or names this
 abbrev pub NamesFirst : Option Sought → DisassembleError → Type 0
 NamesFirst first (errors.Missing what index) = IsSomeAnd first (λ x. (what.now ≡ word_of x) × (index ≡ sought_index x))
 NamesFirst first errors.OutOfMemory = ⊤
@@ -138,7 +138,7 @@ NamesFirst first errors.OutOfMemory = ⊤
 abbrev pub FindsAll : Pools → (Pools → List Sought) → Type 0
 FindsAll p sought = first_missing p (sought p) ≡ None
 
--- the error is want of memory, or names the first index that finds nothing
+-- the error is a lack of memory, or names the first index that finds nothing
 abbrev pub NamesMissing : Pools → (Pools → List Sought) → DisassembleError → Type 0
 NamesMissing p sought error = NamesFirst (first_missing p (sought p)) error
 

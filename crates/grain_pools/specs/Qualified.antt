@@ -12,7 +12,7 @@ pub record IsLastCut (name before after : List ℕ) : Type 0 where
   pub whole : name ≡ before ++ separator ++ after
   pub last : (xs ys : List ℕ) → name ≡ xs ++ separator ++ ys → length xs ≤ length before
 
--- what stands before the last separator, and what stands after it
+-- what is before the last separator, and what is after it
 abbrev pub last_cut : List ℕ → Option (List ℕ × List ℕ)
 last_cut [] = None
 last_cut (x ∷ xs) =

@@ -262,7 +262,7 @@ impl<'a> Iterator for Names<'a> {
 
     ghost remaining = { item_count names_left };
 
-    #[tactic(auto, using(crate::proofs::Left::taken, crate::proofs::Left::nothing_left))]
+    #[tactic(auto, using(crate::proofs::ListTails::taken, crate::proofs::ListTails::nothing_left))]
     fn next(&mut self) -> Option<&'a str> {
         let name = self.strings.name_at(self.next)?;
         self.next += 1;

@@ -12,7 +12,7 @@ use Rattle.grain_code.specs.Split.{AreInstructions}
 use Rattle.grain_code.specs.InstructionTable.{spelling, width_of}
 use Rattle.grain_code.specs.declared.op.Op.{Op}
 use Rattle.grain_code.specs.declared.op.Op.TheVariants as ops
-use Rattle.grain_pools.proofs.Dispatching.{dispatched_among}
+use Rattle.grain_pools.proofs.SwitchTargets.{dispatched_among}
 use Rattle.grain_code.proofs.Splits.{instr_is}
 use Rattle.grain_rules.specs.Accepted.{ChunkPasses}
 use Rattle.grain_rules.specs.Code.{Bytecode, coded}

@@ -16,7 +16,7 @@ use Rattle.grain_rules.specs.Typing.{IsInChunk, HasTyping, Passes, Reached, IsDe
 use Rattle.grain_rules.specs.declared.error.VerifyError.{VerifyError}
 use Rattle.grain_rules.specs.declared.error.VerifyError.TheVariants as errors
 use Rattle.grain_rules.proofs.Law.{typing_covers, reached_is_run, run_passes}
-use Rattle.grain_rules.proofs.Once.{stands_once}
+use Rattle.grain_rules.proofs.OperationUniqueness.{stands_once}
 use Rattle.grain_rules.proofs.Quiet.{run_kept}
 
 module _ (code : Bytecode) (chunk : Span) (m : ℕ) (typed : HasTyping (coded code) chunk m) where

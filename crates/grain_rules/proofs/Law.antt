@@ -15,7 +15,7 @@ use Rattle.grain_rules.specs.FlowFields.{bases_for, fall_for, falls_for, jump_fo
 use Rattle.grain_rules.specs.Rows.{flow_of}
 use Rattle.grain_rules.specs.EdgeSteps.{IsArmed, armed_counts, IsEdgeStep, IsEdgeCatch}
 use Rattle.grain_rules.specs.Typing.{IsTyping, HasTyping, Passes, Reached, begin, onward}
-use Rattle.grain_rules.proofs.Once.{reads_once}
+use Rattle.grain_rules.proofs.OperationUniqueness.{reads_once}
 
 -- a typing covers what is reached, with the very counts
 pub typing_covers : (code : Code) (chunk : Span) (m : ℕ) (typing : ℕ → Option Counts) → IsTyping code chunk m typing → (at : ℕ) (c : Counts) → Reached code chunk at c → typing at ≡ Some c

@@ -13,7 +13,7 @@ use Rattle.grain_code.specs.InstructionTable.{width_of}
 use Rattle.grain_code.specs.declared.op.Op.{Op}
 use Rattle.grain_code.specs.declared.op.Op.TheVariants as ops
 use Rattle.grain_code.proofs.Canonical.{width_assembled}
-use Rattle.grain_code.proofs.Placed.{length-offsets_from, split_there}
+use Rattle.grain_code.proofs.OperationPlaces.{length-offsets_from, split_there}
 use Rattle.grain_rules.specs.Layout.{IsStart}
 use Rattle.grain_rules.proofs.Splits.{width_pos}
 

@@ -61,7 +61,7 @@ redeclared [] numbers = []
 alike : (c d : Span) → undeclared_chunk d ≡ undeclared_chunk c → d ≡ declaring d.max_stack c
 alike c d e = λ i. record { entry = (e i).entry; end = (e i).end; max_stack = d.max_stack }
 
--- chunks that are alike but for what they declare
+-- chunks that are alike except for what they declare
 pub all_alike : (chunks others : List Span) → map undeclared_chunk others ≡ map undeclared_chunk chunks → others ≡ redeclared chunks (map (λ chunk. chunk.max_stack) others)
 all_alike [] [] e = refl
 all_alike [] (d ∷ ds) e = absurd (let l : suc (length (map undeclared_chunk ds)) ≡ 0 = ap (λ (cs : List Span). length cs) e in omega arith)

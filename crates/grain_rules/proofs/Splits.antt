@@ -10,7 +10,7 @@ use Rattle.grain_code.specs.declared.op.Op.{Op}
 use Rattle.grain_code.proofs.Instructions.{begins_fits, begins_spelling, spelling_width}
 use Rattle.grain_code.proofs.Splits.{one_split}
 use Rattle.grain_rules.specs.Layout.{IsStart, IsBoundary}
-use Rattle.grain_rules.proofs.Once.{stands_once}
+use Rattle.grain_rules.proofs.OperationUniqueness.{stands_once}
 
 pub width_pos : (op : Op) → 0 < width_of op
 width_pos op = omega arith

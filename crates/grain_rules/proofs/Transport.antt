@@ -13,7 +13,7 @@ use Rattle.grain_code.specs.Span.{Span}
 use Rattle.grain_code.specs.declared.op.Op.{Op}
 use Rattle.grain_code.specs.declared.op.Op.TheVariants as ops
 use Rattle.grain_code.specs.declared.op.Receiver.TheVariants as receiver
-use Rattle.grain_code.proofs.Placed.{stands_there}
+use Rattle.grain_code.proofs.OperationPlaces.{stands_there}
 use Rattle.grain_rules.specs.Accepted.{IsFramed}
 use Rattle.grain_rules.specs.ByIndex.{IsCut, LeadWithin, code_by_index, span_moved, placed}
 use Rattle.grain_rules.specs.Capabilities.{Allows}
@@ -29,7 +29,7 @@ use Rattle.grain_rules.specs.Rows.{Row, caps_of, flow_of, is_quiet, needs, row, 
 use Rattle.grain_rules.specs.FlowFields.{fall_for, falls_for, handlers_for, iterators_for, jump_for, targets_for}
 use Rattle.grain_rules.specs.Typing.{HasTyping, IsDeepest, Passes, Reached, StandsIn, begin, onward}
 use Rattle.grain_rules.proofs.Offsets.{apart, ascends, before, next_there, not_after, offset_end, op_here, rises_to, same_or_below, start_there}
-use Rattle.grain_rules.proofs.Once.{reads_once}
+use Rattle.grain_rules.proofs.OperationUniqueness.{reads_once}
 use Rattle.grain_rules.proofs.Splits.{in_cons, in_head, in_nil, in_tail}
 
 -- the same flow, its target mapped
@@ -301,7 +301,7 @@ module _ (s : Setting) (all : List Op) (switches : List (List ℕ)) (code offset
     stays = stays_there s offsets op c p.stays;
   }
 
-  -- what stands in the chunk is the operation of an index of the cut
+  -- what is in the chunk is the operation of an index of the cut
   passes_here : (cut : Span) (i : ℕ) (c : Counts) (op' : Op) → IsCut (length all) cut → i ≤ length all → Passes there (span_moved f cut) (f i) c op' → (op : Op) × Passes here cut i c op × (op' ≡ assembled offsets op)
   passes_here cut i c op' part l p =
       let w = p.stands.within in

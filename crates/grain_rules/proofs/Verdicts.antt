@@ -54,6 +54,6 @@ pub memory_after : (i : Input) (result : Result (Vec ℕ Global) VerifyError) �
 memory_after i (Ok numbers) before = tt
 memory_after i (Err e) before = λ m. before
 
--- want of memory says nothing
+-- a lack of memory says nothing
 pub out_of_memory : (i : Input) → IsVerdict i (Err OutOfMemory)
 out_of_memory i = record { accepted = tt; typed = tt; deepest = tt; safe = tt; accepts = λ a. refl; flaws = inl refl }

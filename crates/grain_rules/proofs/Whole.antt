@@ -20,7 +20,7 @@ use Rattle.grain_rules.specs.Typing.{IsDeepest}
 use Rattle.grain_rules.specs.declared.error.VerifyError.{VerifyError}
 use Rattle.grain_rules.specs.declared.error.VerifyError.TheVariants as errors
 use Rattle.grain_rules.proofs.Exact.{deepest_safe}
-use Rattle.grain_rules.proofs.Once.{stands_once}
+use Rattle.grain_rules.proofs.OperationUniqueness.{stands_once}
 use Rattle.grain_rules.proofs.Splits.{in_nil, in_cons, in_head, in_tail, width_pos}
 
 -- constants that all pass lack nothing
@@ -91,7 +91,7 @@ safe_all code (c ∷ cs) (n ∷ ns) all z =
 abbrev no_chunk : Span
 no_chunk = record { entry = 0; end = 0; max_stack = 0 }
 
--- want of memory is no flaw
+-- a lack of memory is no flaw
 memory_no_code_flaw : (s : Setting) (bytes : List ℕ) (e : VerifyError) → e ≡ errors.OutOfMemory → CodeFlaw s bytes e → ⊥
 memory_no_code_flaw s bytes e m (undecodable p none) = cc
 memory_no_code_flaw s bytes e m (bad_index op p stands out) = cc

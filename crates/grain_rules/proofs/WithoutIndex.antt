@@ -10,7 +10,7 @@ use Rattle.grain_code.specs.declared.tag_table.TheConstants.{TAG_ROWS}
 use Rattle.grain_code.specs.Split.{StandsAt}
 use Rattle.grain_code.specs.InstructionTable.{form, width_of}
 use Rattle.grain_code.proofs.Instructions.{instr_along, stands_there, standing_tag, tag_and_operands}
-use Rattle.grain_code.proofs.Reading.{IsBytes, bytes_dropped, bytes_taken}
+use Rattle.grain_code.proofs.FieldBytes.{IsBytes, bytes_dropped, bytes_taken}
 use Rattle.grain_code.proofs.Rows.{tag_width}
 use Rattle.grain_code.proofs.Widths.{is_instruction, row_is}
 use Rattle.grain_rules.specs.Indices.{Indexed}

@@ -27,7 +27,7 @@ pub record Input : Type 0 where
   pub functions : List Function
   pub chunks : List Span
 
--- beside pools of which this is said, with where their switches may lead
+-- with pools of which this is said, and where their switches may lead
 abbrev pub input_beside : ℕ → List Dynamic → List ℕ → List Function → List Span → Facts → List (List ℕ) → Input
 input_beside caps consts bytes functions chunks facts leads = record { code = bytecode_beside caps facts leads bytes; consts = consts; functions = functions; chunks = chunks }
 

@@ -1,4 +1,4 @@
--- A list of operations whose targets are indices, beside the code that is assembled of it.
+-- A list of operations whose targets are indices, with the code that is assembled of it.
 use Rattle.std.specs.Prelude.{ℕ, ◌≤◌, List, map}
 use Rattle.std.specs.List.{All}
 use Rattle.grain_code.specs.Span.{Span}
@@ -7,12 +7,12 @@ use Rattle.grain_rules.specs.Code.{Code}
 use Rattle.grain_rules.specs.Layout.{Coded, Listed}
 use Rattle.grain_rules.specs.Setting.{Setting}
 
--- a chunk of indices that lies in a list of so many operations
+-- a chunk of indices that lies in a list of this many operations
 pub record IsCut (n : ℕ) (cut : Span) : Type 0 where
   pub ordered : cut.entry ≤ cut.end
   pub inside : cut.end ≤ n
 
--- each target of each switch is an index of so many operations, or their end
+-- each target of each switch is an index of this many operations, or their end
 abbrev pub LeadWithin : ℕ → List (List ℕ) → Type 0
 LeadWithin n switches = All (All (λ target. target ≤ n)) switches
 

@@ -26,7 +26,7 @@ coded b = record { setting = b.setting; layout = Coded b.bytes b.switches }
 abbrev pub switch_targets : Switch → List ℕ
 switch_targets s = arm_targets (arms s)
 
--- code beside pools of which this is said, with where their switches may lead
+-- code with pools of which this is said, and where their switches may lead
 abbrev pub bytecode_beside : ℕ → Facts → List (List ℕ) → List ℕ → Bytecode
 bytecode_beside caps facts leads bytes = record { setting = with_caps caps facts; bytes = bytes; switches = leads }
 

@@ -16,7 +16,7 @@ pub record Counts : Type 0 where
 abbrev pub nothing : Counts
 nothing = record { operands = 0; iterators = 0; bases = [] }
 
--- the bases once another handler is armed, with what stands now
+-- the bases once another handler is armed, with what is on the stacks now
 abbrev pub armed : Counts → List Base
 armed c = record { operands = c.operands; iterators = c.iterators } ∷ c.bases
 

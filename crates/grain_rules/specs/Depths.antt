@@ -1,5 +1,6 @@
--- Typings by depth: three counts for each place. Of an armed handler they know that it is there, and not what stood when it
--- was armed. Nothing is judged by them; a typing is one of them once its lists of bases are replaced by their lengths.
+-- Typings by depth: three counts for each place. Of an armed handler they know that it is there, and not what was on the
+-- stacks when it was armed. Nothing is judged by them; a typing is one of them once its lists of bases are replaced by their
+-- lengths.
 use Rattle.std.specs.Prelude.{◌≡◌, ℕ, ◌+◌, ◌-◌, ◌≤◌, ◌⊎◌, true, length, Option, Some}
 use Rattle.std.specs.List.{Contains}
 use Rattle.grain_code.specs.Span.{Span}
@@ -24,7 +25,7 @@ pub record Depths : Type 0 where
 abbrev pub depths_of : Counts → Depths
 depths_of c = record { operands = c.operands; iterators = c.iterators; handlers = length c.bases }
 
--- the depths on the edges to the targets of such a flow, where so many operands are left
+-- the depths on the edges to the targets of such a flow, where this many operands are left
 abbrev pub depths_after_jump : Flow → ℕ → Depths → Depths
 depths_after_jump flows.Falls left d = record d { operands = left }
 depths_after_jump flows.Ends left d = record d { operands = left }

@@ -17,7 +17,7 @@ use Rattle.grain_pools.specs.declared.switch.Switch.{Switch}
 use Rattle.grain_rules.specs.Capabilities.{chain_caps, name_caps}
 use Rattle.grain_rules.specs.declared.pools.Pools.{Pools}
 
--- what an operation or a chain names: an entry of a pool, or a place among so many operands
+-- what an operation or a chain names: an entry of a pool, or a place among this many operands
 pub data Mention : Type 0 where
   Entry : (pool : Pool) (index : ℕ) → Mention
   Operand : (operands : ℕ) (place : ℕ) → Mention
@@ -45,7 +45,7 @@ root_mentions (roots.Named n pos) = Entry Names n ∷ []
 root_mentions (roots.This pos) = []
 root_mentions roots.Temporary = []
 
--- in a chain with so many operands; of a step that takes several the last
+-- in a chain with this many operands; of a step that takes several the last
 abbrev pub step_mentions : ℕ → Step → List Mention
 step_mentions operands (steps.Index operand flags pos bracket) = Operand operands operand ∷ []
 step_mentions operands (steps.Property n getter setter flags pos) = Entry Names n ∷ Entry Names getter ∷ Entry Names setter ∷ []
@@ -66,7 +66,7 @@ chain_facts c = record {
 abbrev pub case_consts : Switch → List ℕ
 case_consts s = map (λ (c : Case). c.1.1) (listed (arms s).cases)
 
--- with so many entries, and these names, chains and switches
+-- with this many entries, and these names, chains and switches
 abbrev pub facts_with : (consts : ℕ) (names : List (List ℕ)) (tokens assign_ops residuals : ℕ) → List Chain → List Switch → Facts
 facts_with consts names tokens assign_ops residuals chains switches = record {
   consts = consts;

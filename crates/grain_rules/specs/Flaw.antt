@@ -140,7 +140,8 @@ pub data CodeFlaw (setting : Setting) (bytes : List ℕ) : VerifyError → Type 
   -- behind such a front stands one with an index out of bounds
   bad_index : {at : ℕ} {what : Bor (List ℕ)} {index : ℕ} (op : Op) → PassesTo setting bytes at → split.StandsAt bytes at op → IsOut setting op what.now index → CodeFlaw setting bytes (errors.BadIndex at what index)
 
--- What each refusal says, in the order of the tests. Want of memory says nothing of what was verified, and bytes never trail.
+-- What each refusal says, in the order of the tests. A lack of memory says nothing of what was verified, and bytes never
+-- trail.
 pub data Flaw (i : Input) : VerifyError → Type 0 where
   of_constant : {artifact absent : Caps} → artifact.0 ≡ i.code.setting.caps → ConstantAsks i.code.setting.caps i.consts absent.0 → Flaw i (errors.MissingCaps artifact absent 0)
   of_code : {e : VerifyError} → ConstantsPass i → CodeFlaw i.code.setting i.code.bytes e → Flaw i e

@@ -11,7 +11,7 @@ use Rattle.grain_rules.specs.Facts.{ChainFacts, Mention, Entry, Operand}
 use Rattle.grain_rules.specs.Setting.{Setting, unset}
 
 -- What an entry of a pool is: what a refusal calls its index, how many there are, and what each names in its turn: a chain
--- what stands in it, a switch the constants of its cases.
+-- what is in it, a switch the constants of its cases.
 pub record PoolRow : Type 0 where
   pub word : List ℕ
   pub size : ℕ

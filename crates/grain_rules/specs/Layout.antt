@@ -17,7 +17,7 @@ pub record IsStart (bytes : List ℕ) (at : ℕ) : Type 0 where
 abbrev pub IsBoundary : List ℕ → ℕ → Type 0
 IsBoundary bytes at = IsStart bytes at ⊎ (at ≡ length bytes)
 
--- Code or a list of operations, with the targets of each switch: addresses beside code, indices beside a list.
+-- Code or a list of operations, with the targets of each switch: addresses with code, indices with a list.
 pub data Layout : Type 0 where
   Coded : (bytes : List ℕ) (switches : List (List ℕ)) → Layout
   Listed : (ops : List Op) (switches : List (List ℕ)) → Layout

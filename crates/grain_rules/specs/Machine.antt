@@ -27,7 +27,7 @@ pub record Machine : Type 0 where
 abbrev pub first : Span → Machine
 first chunk = record { address = chunk.entry; operands = 0; iterators = 0; handlers = [] }
 
--- what stood when a handler was armed
+-- what was on the stacks when a handler was armed
 abbrev pub base_of : Handler → Base
 base_of h = record { operands = h.operands; iterators = h.iterators }
 
@@ -76,7 +76,7 @@ innermost [] = None
 innermost (h ∷ hs) = cond h.spent (innermost hs) (Some (h, hs))
 
 -- A fault that a handler catches. It finds the operation's operands and iterators there, taken or in part; the stacks are
--- cut to what stood when the handler was armed, and the handler is spent.
+-- cut to what they held when the handler was armed, and the handler is spent.
 pub record Catches (code : Code) (chunk : Span) (m n : Machine) : Type 0 where
   pub op : Op
   pub operands_found : ℕ
@@ -104,7 +104,7 @@ Moves code chunk m n = Steps code chunk m n ⊎ ((fault : Catches code chunk m n
 abbrev pub MovesKeptAtQuiet : Code → Span → Machine → Machine → Type 0
 MovesKeptAtQuiet code chunk m n = Steps code chunk m n ⊎ ((fault : Catches code chunk m n) × (is_quiet fault.op ≡ true → IsKept fault))
 
--- a run by such moves, told from its last state back to its first
+-- a run by such moves, listed from its last state back to its first
 abbrev pub IsRun : (Machine → Machine → Type 0) → Span → Machine → List Machine → Type 0
 IsRun moves chunk m [] = m ≡ first chunk
 IsRun moves chunk m (before ∷ earlier) = moves before m × IsRun moves chunk before earlier

@@ -15,16 +15,17 @@ pub record ReachesUpTo (base stacks : Base) : Type 0 where
   pub operands : base.operands ≤ stacks.operands
   pub iterators : base.iterators ≤ stacks.iterators
 
--- they fall short of it: so many operands are needed and so many there, or so many iterators, where the operands suffice
+-- They fall short of it: how many operands are needed and how many are there; or how many iterators, where the operands
+-- suffice.
 abbrev pub FallsShortOf : Base → Base → ℕ → ℕ → Type 0
 FallsShortOf base stacks need have =
     ((need ≡ base.operands) × (have ≡ stacks.operands) × (have < need))
     ⊎ ((base.operands ≤ stacks.operands) × (need ≡ base.iterators) × (have ≡ stacks.iterators) × (have < need))
 
--- an operation that isn't quiet leaves what stood when the last handler was armed
+-- an operation that isn't quiet leaves what was on the stacks when the last handler was armed
 abbrev pub Stays : Setting → Op → Counts → Type 0
 Stays s op c = is_quiet op ≡ false → ReachesUpTo (last_base c.bases) (untouched s op c)
 
--- it isn't quiet, and what it leaves falls short of that: so many are needed, and so many there
+-- it isn't quiet, and what it leaves falls short of that: how many are needed, and how many are there
 abbrev pub Sinks : Setting → Op → Counts → ℕ → ℕ → Type 0
 Sinks s op c need have = (is_quiet op ≡ false) × FallsShortOf (last_base c.bases) (untouched s op c) need have

@@ -51,7 +51,7 @@ pub record IsDeepest (code : Code) (chunk : Span) (n : ℕ) : Type 0 where
   pub most : (at : ℕ) (c : Counts) → Reached code chunk at c → c.operands ≤ n
   pub attained : (at : ℕ) × ((c : Counts) × Reached code chunk at c × (c.operands ≡ n))
 
--- so many places are reached
+-- this many places are reached
 pub record IsReachedCount (code : Code) (chunk : Span) (n : ℕ) : Type 0 where
   pub places : List ℕ
   pub distinct : IsDistinct nat_eq places

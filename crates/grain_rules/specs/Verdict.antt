@@ -26,7 +26,7 @@ pub record IsVerdict (i : Input) (result : Result (Vec ℕ Global) VerifyError) 
   -- no state of a kept run lacks anything or has more operands than its chunk's number, some state has as many, and a run
   -- is kept where its faults at quiet operations are
   pub safe : IfOk result (λ numbers. AllZip (IsSafe i.code) i.chunks numbers.items)
-  -- accepted input is accepted, want of memory aside
+  -- accepted input is accepted, unless memory runs out
   pub accepts : IsAccepted i → IfErr result (λ e. e ≡ OutOfMemory)
-  -- each refusal but want of memory names a flaw of the input
+  -- each refusal except a lack of memory names a flaw of the input
   pub flaws : IfErr result (λ e. (e ≡ OutOfMemory) ⊎ Flaw i e)

@@ -128,7 +128,7 @@ fn test_instructions<P: Read, F: Front, const N: usize>(
 /// Tests the same over pools of 256 chains and switches at most. It is compiled apart: where one function has sets of both
 /// sizes, the larger is cleared in each call.
 #[inline(never)]
-#[tactic(auto, using(crate::proofs::Passing::none_passed))]
+#[tactic(auto, using(crate::proofs::PassedEntries::none_passed))]
 fn test_by_few_words<P: Read, F: Front>(pools: &P, code: &[u8], front: F) -> Tested<F>
     requires begun { F.end_of front ≡ 0 }
     requires room { F.HasRoom code.now front }
@@ -143,7 +143,7 @@ fn test_by_few_words<P: Read, F: Front>(pools: &P, code: &[u8], front: F) -> Tes
 
 /// Tests the same over pools of any size.
 #[inline(never)]
-#[tactic(auto, using(crate::proofs::Passing::none_passed))]
+#[tactic(auto, using(crate::proofs::PassedEntries::none_passed))]
 fn test_by_all_words<P: Read, F: Front>(pools: &P, code: &[u8], front: F) -> Tested<F>
     requires begun { F.end_of front ≡ 0 }
     requires room { F.HasRoom code.now front }
@@ -158,7 +158,7 @@ fn test_by_all_words<P: Read, F: Front>(pools: &P, code: &[u8], front: F) -> Tes
 
 /// Tests all that follows a front at the begin of the code.
 #[inline(always)]
-#[tactic(auto, using(crate::proofs::Indexing::code_any, crate::proofs::Indexing::flaw_any, crate::proofs::Passing::none_passed))]
+#[tactic(auto, using(crate::proofs::IndexedCode::code_any, crate::proofs::IndexedCode::flaw_any, crate::proofs::PassedEntries::none_passed))]
 fn test_code<P: Read, F: Front>(pools: &P, code: &[u8], front: F) -> Tested<F>
     requires begun { F.end_of front ≡ 0 }
     requires room { F.HasRoom code.now front }

@@ -34,7 +34,7 @@ fn check_some<P: Read>(pools: &P, pool: Pool, index: Option<u32>) -> Result<(), 
 }
 
 /// Tests the index of a chain, and those inside the chain, unless they have passed before.
-#[tactic(auto, using(crate::proofs::Passing::chains_more))]
+#[tactic(auto, using(crate::proofs::PassedEntries::chains_more))]
 fn check_chain_at<P: Read>(pools: &P, passed: &mut [u64], index: u32) -> Result<(), BadIndex>
     requires { ChainsPass (P.facts pools.now) passed.old }
     ensures passed { ChainsPass (P.facts pools.now) passed.new }
@@ -112,7 +112,7 @@ fn check_fields<P: Read>(pools: &P, passed: &mut [u64], op: &Op) -> Result<(), B
 
 /// A constant of a case, of the switch at an index, that is at or above the number of constants, if there is one. Where
 /// these cases have passed before, there is none.
-#[tactic(auto, using(crate::proofs::Passing::cases_more))]
+#[tactic(auto, using(crate::proofs::PassedEntries::cases_more))]
 fn bad_constant_at<P: Read>(pools: &P, passed: &mut [u64], index: u32) -> Option<u32>
     requires { CasesPass (P.facts pools.now) passed.old }
     ensures passed { CasesPass (P.facts pools.now) passed.new }
@@ -143,7 +143,7 @@ fn bad_constant_of<P: Read>(pools: &P, passed: &mut [u64], op: &Op) -> Option<u3
 }
 
 /// Tests every index of an operation: its own, those inside the chain that it names, and those of the cases of its switch.
-#[tactic(auto, using(crate::proofs::Testing::indexed, crate::proofs::Testing::index_out, crate::proofs::Testing::case_out))]
+#[tactic(auto, using(crate::proofs::IndexTests::indexed, crate::proofs::IndexTests::index_out, crate::proofs::IndexTests::case_out))]
 #[inline(always)]
 pub(crate) fn check_op<P: Read, const N: usize>(
     pools: &P,

@@ -105,7 +105,7 @@ fn check_step(pools: &Pools<'_>, operands: u16, step: &Step) -> Result<(), BadIn
     }
 }
 
-#[tactic(auto, using(crate::proofs::Testing::mentions_append))]
+#[tactic(auto, using(crate::proofs::IndexTests::mentions_append))]
 fn check_steps(pools: &Pools<'_>, operands: u16, steps: &[Step]) -> Result<(), BadIndex>
     ensures { refused result ≡ first_out (map (test_of (alone (facts_of pools.now)))
         (flat_map (step_mentions operands) steps.now)) }
@@ -127,7 +127,7 @@ fn check_tail(pools: &Pools<'_>, tail: &Tail) -> Result<(), BadIndex>
 }
 
 /// Tests what the root and the steps of a chain name.
-#[tactic(auto, using(crate::proofs::Testing::mentions_append))]
+#[tactic(auto, using(crate::proofs::IndexTests::mentions_append))]
 fn check_front(pools: &Pools<'_>, chain: &Chain) -> Result<(), BadIndex>
     ensures { refused result ≡ first_out (map (test_of (alone (facts_of pools.now)))
         (root_mentions chain.now.root

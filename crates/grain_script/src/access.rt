@@ -3,13 +3,15 @@ ghost use Rattle.std.specs.Prelude.{IfOk, IfSome, length, ◌<◌};
 ghost use Rattle.grain_machine.specs.Reply.{NamesFunction};
 
 use crate::chains::{Goal, keys_of, read, swapped, walk};
+use crate::plain::plain;
 use crate::script::Script;
-use crate::variables::{Lent, LentRoot};
+use crate::variables::{Lent, LentRoot, This};
 use crate::world::World;
 use grain::Program;
 use grain_machine::Reply;
 use grain_pools::{Chain, Root, Step, Tail};
-use grain_value::{Cause, Value};
+use grain_value::{Cause, SizeLimits, Value};
+use std::rc::Rc;
 
 impl<W: World + Drop> Script<W> {
     /// What a chain gives. Below all others lie the operands of its steps, above them its root, where that is a value, or what is
@@ -22,6 +24,9 @@ impl<W: World + Drop> Script<W> {
     ) -> Result<Reply<Value>, Cause>
         ensures { IfOk result (NamesFunction program.now) }
     {
+        if let Some(value) = self.item(chain, operands)? {
+            return Ok(Reply::Value(value));
+        }
         let steps = chain.steps.as_slice();
         let goal = match &chain.tail {
             Tail::Read => Goal::Read,
@@ -52,6 +57,50 @@ impl<W: World + Drop> Script<W> {
         Ok(Reply::Value(self.chain_from(program, root, steps, operands, goal)?))
     }
 
+    /// Reads a plain item of an array in a local variable, or assigns a plain value to one. `None` where the chain does something else,
+    /// or fails.
+    fn item(&mut self, chain: &Chain, operands: &[Value]) -> Result<Option<Value>, Cause> {
+        let Root::Local { slot, .. } = &chain.root else {
+            return Ok(None);
+        };
+        let [step] = chain.steps.as_slice() else {
+            return Ok(None);
+        };
+        let Step::Index { operand, .. } = step else {
+            return Ok(None);
+        };
+        let Some(Value::Int(index)) = operands.get(*operand as usize) else {
+            return Ok(None);
+        };
+        let Ok(place) = usize::try_from(*index) else {
+            return Ok(None);
+        };
+        match &chain.tail {
+            Tail::Read => Ok(self.variables.plain_item(*slot, place)),
+            Tail::Assign { op: Some(_) } => Ok(None),
+            Tail::Assign { op: None } => match operands.last() {
+                Some(value) => self.assign_item(*slot, place, value),
+                None => Ok(None),
+            },
+        }
+    }
+
+    fn assign_item(
+        &mut self,
+        slot: u16,
+        place: usize,
+        value: &Value,
+    ) -> Result<Option<Value>, Cause> {
+        let Some(value) = plain(value) else {
+            return Ok(None);
+        };
+        let limits = self.limits;
+        match self.variables.slot_mut(slot) {
+            Some(array) => replace_item(limits, array, place, value),
+            None => Ok(None),
+        }
+    }
+
     /// Goes along the steps from a variable. Where only one item or entry is read, the variable isn't touched.
     fn chain_from(
         &mut self,
@@ -76,19 +125,19 @@ impl<W: World + Drop> Script<W> {
     }
 
     fn read_from(
-        &mut self,
+        &self,
         program: &Program,
         root: LentRoot,
         step: &Step,
-        operands: &mut [Value],
+        operands: &[Value],
     ) -> Result<Value, Cause> {
-        let value = self.root_mut(program, root)?.clone()?;
+        let context = self.context(program);
+        let value = self.root(program, root)?;
         if matches!(value, Value::Unit) {
-            let context = self.context(program);
-            let mut value = value;
+            let mut value = Value::Unit;
             return walk(&context, &mut value, &[step.clone()?], operands, Goal::Read);
         }
-        read(&self.context(program), &value, step, operands)
+        read(&context, value, step, operands)
     }
 
     /// Whether a function of the script may be what this step calls.
@@ -126,8 +175,9 @@ impl<W: World + Drop> Script<W> {
         let Some(arguments) = operands.get_mut(called.first..end) else {
             return Err(Cause::Unsupported);
         };
+        let this = This { value, lent };
         self.variables
-            .begin(&[], arguments, Some(value), lent, self.at)?;
+            .begin_bound(&[], arguments, Some(this), self.at)?;
         Ok(Some(Reply::Call { function }))
     }
 
@@ -162,6 +212,24 @@ impl<W: World + Drop> Script<W> {
             }
         }
     }
+}
+
+/// Puts a plain value in place of an item. `None` where there is none, or the array is larger than the limits allow.
+fn replace_item(
+    limits: SizeLimits,
+    array: &mut Value,
+    place: usize,
+    value: Value,
+) -> Result<Option<Value>, Cause> {
+    let Value::Array(list) = array else {
+        return Ok(None);
+    };
+    // A plain value makes no array larger.
+    if place >= list.len() || !limits.allow(list.measure()) {
+        return Ok(None);
+    }
+    let _old = Rc::make_mut(list)?.replace(place, value);
+    Ok(Some(Value::Unit))
 }
 
 /// A method that a chain calls at its end.

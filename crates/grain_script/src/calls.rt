@@ -5,7 +5,7 @@ ghost use Rattle.grain_machine.specs.Reply.{NamesFunction};
 use crate::chains::no_function;
 use crate::script::{Script, copies};
 use crate::table::{Callee, callee_named, token_at};
-use crate::variables::{Lent, LentRoot};
+use crate::variables::{Lent, LentRoot, This};
 use crate::world::World;
 use grain::Program;
 use grain_base::Token;
@@ -46,7 +46,7 @@ impl<W: World + Drop> Script<W> {
         ensures { IfOk result (NamesFunction program.now) }
     {
         if let Some(function) = self.table.function(program, name, operands.len()) {
-            self.variables.begin(&[], operands, None, None, self.at)?;
+            self.variables.begin(operands, self.at)?;
             return Ok(Reply::Call { function });
         }
         Ok(Reply::Value(self.call_outside(program, name, operands)?))
@@ -117,11 +117,11 @@ impl<W: World + Drop> Script<W> {
         if let Some(name) = name
             && let Some(function) = self.table.function(program, name, count)
         {
-            let (this, lent) = match receiver {
-                Some(receiver) => self.lent(program, receiver)?,
-                None => (None, None),
+            let this = match receiver {
+                Some(receiver) => Some(self.lent(program, receiver)?),
+                None => None,
             };
-            self.variables.begin(bound, places, this, lent, self.at)?;
+            self.variables.begin_bound(bound, places, this, self.at)?;
             return Ok(Reply::Call { function });
         }
         let mut arguments = copies(self.alloc, bound)?;
@@ -170,11 +170,7 @@ impl<W: World + Drop> Script<W> {
     }
 
     /// Takes the value of a variable out for a call on it.
-    fn lent(
-        &mut self,
-        program: &Program,
-        receiver: &Receiver,
-    ) -> Result<(Option<Value>, Option<Lent>), Cause> {
+    fn lent(&mut self, program: &Program, receiver: &Receiver) -> Result<This, Cause> {
         let root = match receiver {
             Receiver::Local(slot) => LentRoot::Local(*slot),
             Receiver::Named(name) => LentRoot::Named(*name),
@@ -182,7 +178,25 @@ impl<W: World + Drop> Script<W> {
         };
         let value = self.root_mut(program, root)?.take();
         let path = Vec::new(self.alloc);
-        Ok((Some(value), Some(Lent { root, path })))
+        Ok(This {
+            value,
+            lent: Some(Lent { root, path }),
+        })
+    }
+
+    /// The value of a variable, or of `this`.
+    pub(crate) fn root(&self, program: &Program, root: LentRoot) -> Result<&Value, Cause> {
+        match root {
+            LentRoot::Local(slot) => self.variables.local(slot),
+            LentRoot::Named(name) => match self.variables.named(name) {
+                Some(value) => Ok(value),
+                None => Err(self.no_variable(program, name)),
+            },
+            LentRoot::This => match self.variables.this() {
+                Some(value) => Ok(value),
+                None => Err(Cause::NoThis),
+            },
+        }
     }
 
     /// The place of the value of a variable, or of `this`.
@@ -232,30 +246,34 @@ impl<W: World + Drop> Script<W> {
         if let Some(function) = self.table.function(program, name, count) {
             let first = [self.root_mut(program, root)?.clone()?];
             self.variables
-                .begin(&first, arguments, None, None, self.at)?;
+                .begin_bound(&first, arguments, None, self.at)?;
             return Ok(Reply::Call { function });
         }
-        let mut value = self.root_mut(program, root)?.take();
-        let given = self.call_in_place(program, name, &mut value, arguments);
-        let allowed = self.allowed(&value);
-        *self.root_mut(program, root)? = value;
-        allowed?;
-        Ok(Reply::Value(given?))
+        Ok(Reply::Value(self.call_in_place(program, name, root, arguments)?))
     }
 
+    /// Calls a function of the library on the value of a variable, in place, or another one on a copy.
     fn call_in_place(
         &mut self,
         program: &Program,
         name: u32,
-        receiver: &mut Value,
+        root: LentRoot,
         arguments: &[Value],
     ) -> Result<Value, Cause> {
-        if let Some(Callee::Library(function)) = self.table.callee(name)
-            && let Some(value) = call(self.alloc, self.limits, function, receiver, arguments)?
-        {
-            return Ok(value);
+        let alloc = self.alloc;
+        let limits = self.limits;
+        let callee = self.table.callee(name);
+        let receiver = self.root_mut(program, root)?;
+        if let Some(Callee::Library(function)) = callee {
+            let given = call(alloc, limits, function, receiver, arguments);
+            if !limits.allow(receiver.measure()) {
+                return Err(Cause::TooLarge);
+            }
+            if let Some(value) = given? {
+                return Ok(value);
+            }
         }
-        let mut all = Vec::new(self.alloc);
+        let mut all = Vec::new(alloc);
         all.push(receiver.clone()?)?;
         for argument in arguments {
             all.push(argument.clone()?)?;

@@ -22,7 +22,7 @@ pub(crate) struct Context<'a> {
 #[derive(Drop)]
 pub(crate) enum Key {
     Index(i64),
-    Name(String),
+    Name(Rc<String>),
 }
 
 /// What is done with the part of the value to which a chain leads.
@@ -72,9 +72,25 @@ pub(crate) fn walk(
     let mut part = taken(context, value, step, operands)?;
     let result = walk(context, &mut part.value, rest, operands, goal);
     if part.is_taken {
-        assign(context, value, step, operands, part.value)?;
+        put_back(context, value, step, operands, part.value)?;
     }
     result
+}
+
+/// Puts a part back where it was taken from.
+fn put_back(
+    context: &Context<'_>,
+    value: &mut Value,
+    step: &Step,
+    operands: &[Value],
+    part: Value,
+) -> Result<(), Cause> {
+    let Value::Map(object) = value else {
+        return assign(context, value, step, operands, part);
+    };
+    let name = entry_name(context.program, step, operands)?;
+    let _unit = Rc::make_mut(object)?.replace(name, part);
+    Ok(())
 }
 
 /// What is done where no step is left.
@@ -144,7 +160,8 @@ fn taken(
         Value::Array(list) => taken_item(list, step, operands)?,
         Value::Map(object) => {
             let object = Rc::make_mut(object)?;
-            match replace_entry(context.program, object, step, operands, Value::Unit)? {
+            let name = entry_name(context.program, step, operands)?;
+            match object.replace(name, Value::Unit) {
                 Some(value) => Some(value),
                 None => return Ok(made_part(Value::Unit)),
             }
@@ -192,19 +209,22 @@ fn item_place(len: usize, index: Option<&Value>) -> Result<usize, Cause> {
     }
 }
 
-/// The cause where a step names no entry of an object map.
-fn no_entry(step: &Step) -> Cause {
+/// The name of the entry to which a step leads.
+fn entry_name<'o>(
+    program: &'o Program,
+    step: &Step,
+    operands: &'o [Value],
+) -> Result<&'o str, Cause> {
     match step {
-        Step::Index { .. } => Cause::WrongType("a string as index"),
-        _ => Cause::Unsupported,
-    }
-}
-
-/// The text that is the operand of a step.
-fn text_operand<'o>(operands: &'o [Value], operand: u16) -> Option<&'o str> {
-    match operands.get(operand as usize) {
-        Some(Value::Text(name)) => Some(name.as_str()),
-        _ => None,
+        Step::Index { operand, .. } => match operands.get(*operand as usize) {
+            Some(Value::Text(name)) => Ok(name.as_str()),
+            _ => Err(Cause::WrongType("a string as index")),
+        },
+        Step::Property { name, .. } => match program.names().get(*name) {
+            Some(name) => Ok(name),
+            None => Err(Cause::Unsupported),
+        },
+        Step::Method { .. } => Err(Cause::Unsupported),
     }
 }
 
@@ -215,61 +235,9 @@ fn entry(
     step: &Step,
     operands: &[Value],
 ) -> Result<Value, Cause> {
-    let found = match step {
-        Step::Index { operand, .. } => match text_operand(operands, *operand) {
-            Some(name) => object.get(name),
-            None => return Err(no_entry(step)),
-        },
-        Step::Property { name, .. } => match program.names().get(*name) {
-            Some(name) => object.get(name),
-            None => return Err(no_entry(step)),
-        },
-        Step::Method { .. } => return Err(no_entry(step)),
-    };
-    match found {
+    match object.get(entry_name(program, step, operands)?) {
         Some(value) => Ok(value.clone()?),
         None => Ok(Value::Unit),
-    }
-}
-
-/// Puts a value in place of the entry to which a step leads, and gives that one back; `None` where there is none.
-fn replace_entry(
-    program: &Program,
-    object: &mut Object,
-    step: &Step,
-    operands: &[Value],
-    value: Value,
-) -> Result<Option<Value>, Cause> {
-    match step {
-        Step::Index { operand, .. } => match text_operand(operands, *operand) {
-            Some(name) => Ok(object.replace(name, value)),
-            None => Err(no_entry(step)),
-        },
-        Step::Property { name, .. } => match program.names().get(*name) {
-            Some(name) => Ok(object.replace(name, value)),
-            None => Err(no_entry(step)),
-        },
-        Step::Method { .. } => Err(no_entry(step)),
-    }
-}
-
-/// A copy of the name of the entry to which a step leads.
-fn entry_name(
-    alloc: Global,
-    program: &Program,
-    step: &Step,
-    operands: &[Value],
-) -> Result<String, Cause> {
-    match step {
-        Step::Index { operand, .. } => match text_operand(operands, *operand) {
-            Some(name) => Ok(String::from_str(alloc, name)?),
-            None => Err(no_entry(step)),
-        },
-        Step::Property { name, .. } => match program.names().get(*name) {
-            Some(name) => Ok(String::from_str(alloc, name)?),
-            None => Err(no_entry(step)),
-        },
-        Step::Method { .. } => Err(no_entry(step)),
     }
 }
 
@@ -281,8 +249,12 @@ fn put_entry(
     operands: &[Value],
     value: Value,
 ) -> Result<(), Cause> {
-    let name = entry_name(context.alloc, context.program, step, operands)?;
-    let _ = object.insert(name, value)?;
+    let name = entry_name(context.program, step, operands)?;
+    if object.get(name).is_some() {
+        let _old = object.replace(name, value);
+        return Ok(());
+    }
+    let _ = object.insert(String::from_str(context.alloc, name)?, value)?;
     Ok(())
 }
 
@@ -484,12 +456,13 @@ pub(crate) fn keys_of(
             Step::Method { .. } => return Ok(None),
             Step::Index { operand, .. } => match operands.get(*operand as usize) {
                 Some(Value::Int(index)) => Key::Index(*index),
-                Some(Value::Text(name)) => Key::Name(name.as_ref().clone()?),
+                Some(Value::Text(name)) => Key::Name(name.clone()?),
                 _ => return Err(Cause::WrongType("an integer or a string as index")),
             },
-            Step::Property { .. } => {
-                Key::Name(entry_name(context.alloc, context.program, step, operands)?)
-            }
+            Step::Property { name, .. } => match context.table.name(*name) {
+                Some(name) => Key::Name(name.clone()?),
+                None => return Err(Cause::Unsupported),
+            },
         };
         keys.push(key)?;
     }

@@ -18,7 +18,7 @@ impl<W: World + Drop> Script<W> {
     }
 
     /// What an operation gives, where nothing went wrong before and the limits allow it.
-    #[inline]
+    #[inline(never)]
     fn reply(
         &mut self,
         request: &Request<'_>,
@@ -34,8 +34,26 @@ impl<W: World + Drop> Script<W> {
         Ok(reply)
     }
 
+    /// The next item of a walk, and how many came before it in a slot.
+    #[inline(never)]
+    fn next_item(&mut self, walk: &mut Walk, counter: Option<u16>) -> Result<Option<Value>, Fault> {
+        let next = match walk.next_item() {
+            Ok(next) => next,
+            Err(cause) => return Err(self.fault(cause)),
+        };
+        let Some((item, count)) = next else {
+            return Ok(None);
+        };
+        if let Some(slot) = counter
+            && let Err(cause) = self.variables.set_local(slot, Value::Int(count))
+        {
+            return Err(self.fault(cause));
+        }
+        Ok(Some(item))
+    }
+
     /// Does an operation that gives no value, where nothing went wrong before.
-    #[inline]
+    #[inline(never)]
     fn done(&mut self, request: &Request<'_>, operands: &mut [Value]) -> Result<(), Cause> {
         self.raise_pending()?;
         self.act(request, operands)
@@ -62,12 +80,16 @@ impl<W: World + Drop> Host for Script<W> {
     }
 
     /// Its fault has the address of the operation.
+    #[inline(always)]
     fn give(&mut self, request: &Request<'_>, operands: &mut [Value]) -> Result<Reply<Value>, Fault>
         ensures names { IfOk result (NamesFunction request.now.program.now) }
         ensures at { IfErr result (λ fault. fault.at ≡ request.now.at) }
     {
         let at = request.at;
         self.at = at;
+        if let Some(value) = self.plain_answer(request, operands) {
+            return Ok(Reply::Value(value));
+        }
         match self.reply(request, operands) {
             Ok(reply) => Ok(reply),
             Err(cause) => {
@@ -96,11 +118,15 @@ impl<W: World + Drop> Host for Script<W> {
     }
 
     /// Its fault has the address of the operation.
+    #[inline(always)]
     fn take(&mut self, request: &Request<'_>, operands: &mut [Value]) -> Result<(), Fault>
         ensures { IfErr result (λ fault. fault.at ≡ request.now.at) }
     {
         let at = request.at;
         self.at = at;
+        if self.plain_act(request, operands) {
+            return Ok(());
+        }
         match self.done(request, operands) {
             Ok(()) => Ok(()),
             Err(cause) => {
@@ -135,20 +161,14 @@ impl<W: World + Drop> Host for Script<W> {
         }
     }
 
+    #[inline(always)]
     fn advance(&mut self, walk: &mut Walk, counter: Option<u16>) -> Result<Option<Value>, Fault> {
-        let next = match walk.next_item() {
-            Ok(next) => next,
-            Err(cause) => return Err(self.fault(cause)),
-        };
-        let Some((item, count)) = next else {
-            return Ok(None);
-        };
-        if let Some(slot) = counter
-            && let Err(cause) = self.variables.set_local(slot, Value::Int(count))
+        if counter.is_none()
+            && let Some(item) = walk.next_plain()
         {
-            return Err(self.fault(cause));
+            return Ok(Some(item));
         }
-        Ok(Some(item))
+        self.next_item(walk, counter)
     }
 
     fn thrown(&mut self, value: Value) -> Fault {

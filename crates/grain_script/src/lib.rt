@@ -11,6 +11,7 @@ mod calls;
 mod chains;
 mod fault;
 mod host;
+mod plain;
 mod script;
 mod table;
 mod variables;

@@ -3,8 +3,9 @@ ghost use Rattle.std.specs.Prelude.{IfOk};
 ghost use Rattle.grain_machine.specs.Reply.{NamesFunction};
 
 use crate::chains::{Context, assign_to, swapped};
+use crate::plain::{assign_integer, of_integers, plain, replace_plain};
 use crate::table::Table;
-use crate::variables::{Ended, Lent, LentRoot, Variables};
+use crate::variables::{Lent, LentRoot, This, Variables};
 use crate::world::World;
 use grain::Program;
 use grain_code::Op;
@@ -30,6 +31,8 @@ pub struct Script<W> {
     pub(crate) variables: Variables,
     /// What went wrong where the machine takes no fault, raised at the next operation.
     pending: Option<Cause>,
+    /// Whether nothing is pending, and the limits allow plain values.
+    is_settled: bool,
     /// The address of the operation that was done last, in the chunk that runs.
     pub(crate) at: usize,
     /// Whether a fault came that no handler has caught yet.
@@ -62,6 +65,7 @@ impl<W: World + Drop> Script<W> {
             limits,
             variables: Variables::new(alloc),
             pending: None,
+            is_settled: limits.allow(Value::Unit.measure()),
             at: 0,
             is_failing: false,
             ended_calls: Vec::new(alloc),
@@ -119,6 +123,90 @@ impl<W: World + Drop> Script<W> {
         }
     }
 
+    /// What a frequent operation on plain values gives. `None` of all others, and of one that fails: then nothing was done.
+    #[inline(always)]
+    pub(crate) fn plain_answer(&self, request: &Request<'_>, operands: &[Value]) -> Option<Value> {
+        if !self.is_settled {
+            return None;
+        }
+        match request.op {
+            Op::LoadLocal(slot) => plain(self.variables.slot(*slot)?),
+            Op::Const(index) => plain(self.table.constant(*index)?),
+            Op::Call {
+                op: Some(token),
+                ..
+            } => {
+                let operator = request.program.tokens().get(*token as usize)?;
+                of_integers(self.alloc, operator, operands)
+            }
+            _ => None,
+        }
+    }
+
+    /// Does a frequent operation on plain values that gives none. `false` of all others, and of one that fails: then nothing was done.
+    #[inline(always)]
+    pub(crate) fn plain_act(&mut self, request: &Request<'_>, operands: &[Value]) -> bool {
+        if !self.is_settled {
+            return false;
+        }
+        match request.op {
+            Op::Tick | Op::Checkpoint | Op::Statement { .. } => true,
+            Op::AssignLocal {
+                slot,
+                op: Some(op),
+                ..
+            } => self.plain_op_assign(request.program, *slot, *op, operands),
+            Op::StoreLocal { slot, .. } | Op::StoreShared(slot) | Op::AssignLocal { slot, .. } => {
+                self.plain_assign(*slot, operands)
+            }
+            Op::DeclareLocal { .. } => self.plain_declare(operands),
+            _ => false,
+        }
+    }
+
+    #[inline(always)]
+    fn plain_op_assign(
+        &mut self,
+        program: &Program,
+        slot: u16,
+        op: u32,
+        operands: &[Value],
+    ) -> bool {
+        let Some(assign_op) = program.assign_ops().get(op as usize) else {
+            return false;
+        };
+        let Some(value) = operands.first() else {
+            return false;
+        };
+        let alloc = self.alloc;
+        match self.variables.slot_mut(slot) {
+            Some(place) => assign_integer(alloc, &assign_op.op_assign, place, value),
+            None => false,
+        }
+    }
+
+    #[inline(always)]
+    fn plain_assign(&mut self, slot: u16, operands: &[Value]) -> bool {
+        let Some(value) = operands.first() else {
+            return false;
+        };
+        match self.variables.slot_mut(slot) {
+            Some(place) => replace_plain(place, value),
+            None => false,
+        }
+    }
+
+    #[inline(always)]
+    fn plain_declare(&mut self, operands: &[Value]) -> bool {
+        let Some(value) = operands.first() else {
+            return false;
+        };
+        match plain(value) {
+            Some(value) => self.variables.declare_reserved(value),
+            None => false,
+        }
+    }
+
     /// What an operation gives.
     #[inline]
     pub(crate) fn answer(
@@ -169,7 +257,10 @@ impl<W: World + Drop> Script<W> {
     #[inline]
     pub(crate) fn raise_pending(&mut self) -> Result<(), Cause> {
         match self.pending.take() {
-            Some(cause) => Err(cause),
+            Some(cause) => {
+                self.is_settled = self.limits.allow(Value::Unit.measure());
+                Err(cause)
+            }
             None => Ok(()),
         }
     }
@@ -233,18 +324,27 @@ impl<W: World + Drop> Script<W> {
 
     /// A function that was entered has ended: its variables go, and `this` goes back to where it was taken from.
     pub(crate) fn ended(&mut self) {
-        let Some(Ended { at, this }) = self.variables.end() else {
+        let Some(call) = self.variables.end() else {
             return;
         };
-        self.at = at;
+        self.at = call.at;
         if self.is_failing {
             // Without memory for it the backtrace lacks this call.
-            let _noted = self.ended_calls.push(at);
+            let _noted = self.ended_calls.push(call.at);
         }
-        if let Some((value, lent)) = this
-            && let Err(cause) = self.give_back(value, Some(lent))
-        {
+        if call.has_this {
+            self.give_this_back();
+        }
+    }
+
+    #[inline(never)]
+    fn give_this_back(&mut self) {
+        let Some(This { value, lent }) = self.variables.take_this() else {
+            return;
+        };
+        if let Err(cause) = self.give_back(value, lent) {
             self.pending = Some(cause);
+            self.is_settled = false;
         }
     }
 

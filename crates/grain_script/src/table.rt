@@ -7,6 +7,7 @@ use grain_library::Function;
 use grain_value::{Cause, Value, value_of};
 use std::alloc::{AllocError, Global};
 use std::collections::BTreeMap;
+use std::rc::Rc;
 
 /// A function that every script has.
 #[derive(Clone, Copy, PartialEq, Eq, Drop)]
@@ -66,6 +67,8 @@ struct Declared {
 /// What one name means.
 #[derive(Drop)]
 struct Meaning {
+    /// The name itself, to be shared.
+    name: Rc<String>,
     callee: Option<Callee>,
     declared: Vec<Declared>,
 }
@@ -99,6 +102,7 @@ impl Table {
         let mut index = 0u32;
         for name in program.names().iter() {
             self.meanings.push(Meaning {
+                name: Rc::new(alloc, String::from_str(alloc, name)?)?,
                 callee: callee_named(name),
                 declared: Vec::new(alloc),
             })?;
@@ -126,6 +130,14 @@ impl Table {
     /// The value of a constant.
     pub(crate) fn constant(&self, index: u32) -> Option<&Value> {
         self.constants.get(index as usize)
+    }
+
+    /// The name at an index.
+    pub(crate) fn name(&self, index: u32) -> Option<&Rc<String>> {
+        match self.meanings.get(index as usize) {
+            Some(meaning) => Some(&meaning.name),
+            None => None,
+        }
     }
 
     /// The index of a name.

@@ -1,6 +1,7 @@
 //! Variables: local ones in slots, named ones, those that closures share, and `this`.
 
 use crate::chains::Key;
+use crate::plain::plain;
 use grain_value::{Cause, Value};
 use std::alloc::{AllocError, Global};
 
@@ -23,24 +24,23 @@ pub(crate) enum LentRoot {
     This,
 }
 
-/// What is to be restored when a function ends.
+/// The value of `this` in a function.
 #[derive(Drop)]
-struct Call {
-    /// Where the local variables of the function begin.
-    base: usize,
-    /// The address of the operation that called it.
-    at: usize,
-    this: Option<Value>,
-    lent: Option<Lent>,
+pub(crate) struct This {
+    pub(crate) value: Value,
+    /// Where it goes back to, if anywhere.
+    pub(crate) lent: Option<Lent>,
 }
 
-/// What a function leaves behind when it ends.
-#[derive(Drop)]
-pub(crate) struct Ended {
+/// A function that has begun.
+#[derive(Clone, Copy, Drop)]
+pub(crate) struct Call {
+    /// Where the local variables of the calling function begin.
+    base: usize,
     /// The address of the operation that called it.
     pub(crate) at: usize,
-    /// The value of `this`, and where it goes back to.
-    pub(crate) this: Option<(Value, Lent)>,
+    /// Whether it was called on a value, which is then the last of `Variables::receivers`.
+    pub(crate) has_this: bool,
 }
 
 /// The variables of a run. Each function sees its own local ones, and all named ones.
@@ -55,6 +55,8 @@ pub(crate) struct Variables {
     /// What slots share: a slot holds the index.
     shared: Vec<Value>,
     calls: Vec<Call>,
+    /// The values of `this` of the calls that have one. Few have, so that calls stay small.
+    receivers: Vec<This>,
 }
 
 impl Variables {
@@ -66,14 +68,29 @@ impl Variables {
             named: Vec::new(alloc),
             shared: Vec::new(alloc),
             calls: Vec::new(alloc),
+            receivers: Vec::new(alloc),
         }
     }
 
+    #[inline(always)]
     fn place(&self, slot: u16) -> usize {
         self.base.saturating_add(slot as usize)
     }
 
     /// What a slot holds, a share itself where it is one.
+    #[inline(always)]
+    pub(crate) fn slot(&self, slot: u16) -> Option<&Value> {
+        self.locals.get(self.place(slot))
+    }
+
+    /// The place of what a slot holds, a share itself where it is one.
+    #[inline(always)]
+    pub(crate) fn slot_mut(&mut self, slot: u16) -> Option<&mut Value> {
+        let place = self.place(slot);
+        self.locals.get_mut(place)
+    }
+
+    /// What a slot holds, a share itself where it is one. No compiled script asks for a slot that isn't there.
     pub(crate) fn raw(&self, slot: u16) -> Result<&Value, Cause> {
         match self.locals.get(self.place(slot)) {
             Some(value) => Ok(value),
@@ -120,6 +137,25 @@ impl Variables {
         let place = self.local_mut(slot)?;
         *place = value;
         Ok(())
+    }
+
+    /// The item at a place of the array in a slot, where it is plain.
+    pub(crate) fn plain_item(&self, slot: u16, place: usize) -> Option<Value> {
+        match self.slot(slot)? {
+            Value::Array(list) => plain(list.items().get(place)?),
+            _ => None,
+        }
+    }
+
+    /// Declares a local variable, whose slot is the next one, where that needs no memory.
+    #[inline(always)]
+    pub(crate) fn declare_reserved(&mut self, value: Value) -> bool {
+        if self.locals.len() < self.locals.capacity() {
+            self.locals.push_reserved(value);
+            true
+        } else {
+            false
+        }
     }
 
     /// Declares a local variable, whose slot is the next one.
@@ -218,75 +254,85 @@ impl Variables {
 
     /// The value of `this` in the function that runs, if it has one.
     pub(crate) fn this(&self) -> Option<&Value> {
-        match self.calls.last() {
-            Some(
-                Call {
-                    this: Some(value),
-                    ..
-                },
-            ) => Some(value),
-            _ => None,
+        if !self.calls.last()?.has_this {
+            return None;
+        }
+        match self.receivers.last() {
+            Some(this) => Some(&this.value),
+            None => None,
         }
     }
 
     /// The place of the value of `this` in the function that runs, if it has one.
     pub(crate) fn this_mut(&mut self) -> Option<&mut Value> {
-        match self.calls.last_mut() {
-            Some(
-                Call {
-                    this: Some(value),
-                    ..
-                },
-            ) => Some(value),
-            _ => None,
+        if !self.calls.last()?.has_this {
+            return None;
+        }
+        match self.receivers.last_mut() {
+            Some(this) => Some(&mut this.value),
+            None => None,
         }
     }
 
-    /// A function begins, whose first local variables are the bound arguments and then those in their places.
-    pub(crate) fn begin(
+    /// A function begins, whose first local variables are these arguments.
+    pub(crate) fn begin(&mut self, arguments: &mut [Value], at: usize) -> Result<(), Cause> {
+        self.calls.reserve(1)?;
+        self.locals.reserve(arguments.len())?;
+        let base = self.locals.len();
+        for argument in arguments {
+            self.locals.push(argument.take())?;
+        }
+        self.enter(base, at, false)
+    }
+
+    /// As [`begin`](Variables::begin), of a function whose first arguments are bound, or that is called on a value.
+    pub(crate) fn begin_bound(
         &mut self,
         bound: &[Value],
-        places: &mut [Value],
-        this: Option<Value>,
-        lent: Option<Lent>,
+        arguments: &mut [Value],
+        this: Option<This>,
         at: usize,
     ) -> Result<(), Cause> {
         self.calls.reserve(1)?;
-        self.locals.reserve(bound.len())?;
+        self.receivers.reserve(1)?;
         self.locals
-            .reserve(bound.len().saturating_add(places.len()))?;
+            .reserve(bound.len().saturating_add(arguments.len()))?;
         let base = self.locals.len();
         for value in bound {
             self.locals.push(value.clone()?)?;
         }
-        for place in places {
-            self.locals.push(place.take())?;
+        for argument in arguments {
+            self.locals.push(argument.take())?;
         }
+        let Some(this) = this else {
+            return self.enter(base, at, false);
+        };
+        self.receivers.push(this)?;
+        self.enter(base, at, true)
+    }
+
+    fn enter(&mut self, base: usize, at: usize, has_this: bool) -> Result<(), Cause> {
         self.calls.push(Call {
             base: self.base,
             at,
-            this,
-            lent,
+            has_this,
         })?;
         self.base = base;
         Ok(())
     }
 
-    /// The last function ends that began, and its local variables with it.
-    pub(crate) fn end(&mut self) -> Option<Ended> {
-        let Call {
-            base,
-            at,
-            this,
-            lent,
-        } = self.calls.pop()?;
+    /// The last function ends that began, and its local variables with it. Its `this` stays, for
+    /// [`take_this`](Variables::take_this).
+    pub(crate) fn end(&mut self) -> Option<Call> {
+        let call = self.calls.pop()?;
         self.locals.truncate(self.base);
-        self.base = base;
-        let this = match (this, lent) {
-            (Some(value), Some(lent)) => Some((value, lent)),
-            _ => None,
-        };
-        Some(Ended { at, this })
+        self.base = call.base;
+        Some(call)
+    }
+
+    /// The value of `this` of the function that has just ended on one.
+    pub(crate) fn take_this(&mut self) -> Option<This> {
+        self.receivers.pop()
     }
 }
 

@@ -1,5 +1,6 @@
 //! Walks over the items of values.
 
+use crate::plain::plain;
 use grain_value::{Cause, List, Value};
 use std::alloc::Global;
 use std::rc::Rc;
@@ -25,6 +26,7 @@ struct Numbers {
 }
 
 impl Numbers {
+    #[inline(always)]
     fn step(&mut self) -> Option<i64> {
         let number = self.next?;
         if number > self.last {
@@ -62,6 +64,22 @@ impl Walk {
             _ => return Err(Cause::WrongType("a value to iterate over")),
         };
         Ok(Walk { source, count: 0 })
+    }
+
+    /// The next item, where it is plain; `None` of another one, and behind the last: then nothing has changed.
+    #[inline(always)]
+    pub(crate) fn next_plain(&mut self) -> Option<Value> {
+        let item = match &mut self.source {
+            Source::Numbers(numbers) => Value::Int(numbers.step()?),
+            Source::Items(list, place) => {
+                let item = plain(list.items().get(*place)?)?;
+                *place = place.saturating_add(1);
+                item
+            }
+            Source::Values(_) => return None,
+        };
+        self.count = self.count.saturating_add(1);
+        Some(item)
     }
 
     /// The next item, with how many came before it.

@@ -113,7 +113,7 @@ impl Writer {
     fn settle(&mut self) {
         let labels = mem::replace(&mut self.labels, Vec::new(self.alloc));
         for op in self.ops.iter_mut() {
-            settle(op, &labels);
+            op.bind_target(&labels);
         }
         self.labels = labels;
     }
@@ -173,23 +173,6 @@ fn constants(alloc: Global, seeds: &[u64]) -> Result<Vec<Dynamic>, AllocError> {
         constants.push(constant(alloc, *seed)?)?;
     }
     Ok(constants)
-}
-
-/// Replaces the label of a jump by the operation to which it is bound.
-fn settle(op: &mut Op, labels: &[u32]) {
-    match op {
-        Op::Jump(target)
-        | Op::JumpIfTrue { target }
-        | Op::JumpIfFalse { target }
-        | Op::SkipIfNotUnit { target }
-        | Op::PushHandler { target, .. }
-        | Op::IterNext { exit: target, .. } => {
-            if let Some(at) = labels.get(*target as usize) {
-                *target = *at;
-            }
-        }
-        _ => {}
-    }
 }
 
 /// The program of a seed, as operations.

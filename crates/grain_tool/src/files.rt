@@ -88,12 +88,25 @@ pub fn read_program(rt: &HostRuntime, path: &str) -> Result<Program, Failure> {
     program_of(rt.alloc(), path, &bytes)
 }
 
-/// The file of a program.
-pub fn file_of(alloc: Global, path: &str, program: &Program) -> Result<Vec<u8>, Failure> {
+fn written(alloc: Global, path: &str, program: &Program) -> Result<Vec<u8>, Failure> {
     match grain_file::write(alloc, program) {
         Ok(bytes) => Ok(bytes),
         Err(grain_file::WriteError::OutOfMemory) => Err(Failure::OutOfMemory),
         Err(error) => Err(Failure::of(alloc, shown(path), error)),
+    }
+}
+
+/// The file of a program, read once: no subcommand writes a file that the limits of the others refuse.
+pub fn file_of(alloc: Global, path: &str, program: &Program) -> Result<Vec<u8>, Failure> {
+    let bytes = written(alloc, path, program)?;
+    match grain_file::read(alloc, &bytes, &Limits::default()) {
+        Ok(_) => Ok(bytes),
+        Err(ReadError::OutOfMemory) => Err(Failure::OutOfMemory),
+        Err(error) => Err(Failure::of(
+            alloc,
+            shown(path),
+            format_args!("the program file would be refused: {error}"),
+        )),
     }
 }
 

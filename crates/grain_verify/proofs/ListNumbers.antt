@@ -1,4 +1,4 @@
--- States that name lists of bases, while lists come to them.
+-- States that name lists of bases, while lists are added.
 use Rattle.std.proofs.Common.{◌≡◌, ℕ, suc, ◌≤◌, inl, inr, List, [], ◌∷◌, length, get_or, set, map, replicate, Option, Some, None, option_map, IfSome, refl, sym, ap, subst, ◌∙◌, arith}
 use Rattle.std.specs.List.{All}
 use Rattle.std.proofs.lemmas.Bool.{cases_lt}

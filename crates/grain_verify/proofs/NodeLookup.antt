@@ -6,7 +6,7 @@ use Rattle.std.proofs.lemmas.Bool.{cases_eq, cases_lt}
 use Rattle.std.proofs.lemmas.Bool.Decides.{nat_tests}
 use Rattle.std.proofs.lemmas.Grind.{common_steps}
 use Rattle.std.proofs.lemmas.List.{get_or_append_left, get_or_past, get_or_push, get_or-set_same, get_or-set_other, length-set, length_push}
-use Rattle.grain_verify.specs.Lists.{AreFirsts, Grows, IsShared, IsSharing, base_cmp, first_on, firsts_of, found_in, found_with, list_in, no_node, node_cmp, list_count}
+use Rattle.grain_verify.specs.Lists.{AreFirsts, Grows, IsShared, IsSharing, base_cmp, first_on, firsts_of, found_in, found_with, node_list, no_node, node_cmp, list_count}
 use Rattle.grain_verify.specs.declared.lists.Base as kept
 use Rattle.grain_verify.specs.declared.lists.Lists.{Lists}
 use Rattle.grain_verify.specs.declared.lists.Node.{Node}
@@ -165,7 +165,7 @@ pub some_first : (f : ℕ) → f ≢ 0 → (k : ℕ) × (f ≡ suc k)
 some_first zero some = absurd (some refl)
 some_first (suc k) some = (k, refl)
 
--- what the lists are once a node has come to them that wasn't found
+-- what the lists are once a node was added that wasn't found
 module _ (old new : Lists) (x : Node) (shared : IsShared old) (on : x.parent ≤ list_count old) (items : new.nodes.items ≡ old.nodes.items ++ x ∷ []) where
   abbrev before : Node → Option ℕ
   before = get node_cmp old.others
@@ -191,7 +191,7 @@ module _ (old new : Lists) (x : Node) (shared : IsShared old) (on : x.parent ≤
         };
         more = omega (arith, more);
         few = omega (arith, more);
-        kept = λ n l. ap (λ (ns : List Node). list_in ns n) items ∙ named_push old.nodes.items x n shared.sharing.parents l;
+        kept = λ n l. ap (λ (ns : List Node). node_list ns n) items ∙ named_push old.nodes.items x n shared.sharing.parents l;
       }
 
   -- it is the first on top of its parent

@@ -43,7 +43,7 @@ use Rattle.grain_verify.proofs.VisitCounts.{visited_more}
 use Rattle.grain_verify.proofs.TakenArrival.{left_named, left_placed, taken_inside, taken_known, taken_named, taken_place, taken_reached, taken_walking}
 use Rattle.grain_verify.proofs.WalkIsSearch.{JumpsTo, pending_reached, sent_before, walking_visit}
 
--- the edges of an instruction at which the walk halts are followed, where lists may since have come to those that there were
+-- the edges of an instruction at which the walk halts are followed, where lists may have been added since
 module _ (p : Walked) (chunk : Span) (t new : Traversal) (here : Arrival) (deepest : ℕ) (op : Op) (pushed falls_on : List Arrival) (ready : IsReady p)
     (framed : IsFramed p.code chunk) (old lists : Lists) (grows : Grows old lists) (h : HaltsAt p chunk old t here deepest)
     (passes : Passes (coded p.code) chunk here.at (view lists here.state) op) (falls : map (coming lists) falls_on ≡ falling p.code op here.at (view lists here.state))
@@ -187,7 +187,7 @@ module _ (p : Walked) (chunk : Span) (t new : Traversal) (here : Arrival) (deepe
       sent_state sent_is
       (subst (λ (g : Flow). Sends p.starts chunk code.switches g sent_state t.sent new.sent (map underway t.work.items) (map underway pushed)) same sends)
 
-  -- the same, where what it finds is told of the lists that there were before
+  -- the same, where what it finds is said of the lists that there were before
   pub visited : (caps needs takes gives : ℕ) (f : Flow) (on_way : List Arrival) → caps ≡ caps_of p.code.setting op
       → (needs, takes, gives) ≡ stack_effect p.code.setting op → f ≡ flow_of op → Allows p.code.setting.caps caps → needs ≤ here.state.operands
       → IsMetBy f (view old here.state) → Stays p.code.setting op (view old here.state)

@@ -22,11 +22,11 @@ use Rattle.grain_rules.specs.FlowFields.{targets_for}
 use Rattle.grain_rules.specs.Rows.{flow_of}
 use Rattle.grain_rules.specs.Typing.{IsDeepest, IsInChunk, HasTyping, IsReachedCount, IsTyping, Reached}
 use Rattle.grain_rules.proofs.Law.{typing_covers}
-use Rattle.grain_rules.proofs.Once.{stands_once}
+use Rattle.grain_rules.proofs.OperationUniqueness.{stands_once}
 use Rattle.grain_rules.proofs.Splits.{in_nil, in_cons, in_head, in_tail}
 use Rattle.grain_verify.specs.Arrivals.{Coming, coming, falling, view}
 use Rattle.grain_verify.specs.Graph.{IsSearch, Pending, at_start}
-use Rattle.grain_verify.specs.Progress.{Goes, HasState, Visits, Walking, visits_in}
+use Rattle.grain_verify.specs.Progress.{IsChunkEdge, HasState, PassesWithTargets, Walking, visits_in}
 use Rattle.grain_verify.specs.States.{no_state as none}
 use Rattle.grain_verify.specs.declared.lists.Lists.{Lists}
 use Rattle.grain_verify.specs.declared.state.Arrival.{Arrival}
@@ -37,7 +37,7 @@ use Rattle.grain_verify.proofs.Places.{set_cases}
 use Rattle.grain_verify.proofs.VisitCounts.{visited_more, visits_nothing}
 use Rattle.grain_verify.proofs.Worklist.{search_begun, search_closed, search_places, search_skipped, search_starts, search_visited}
 
--- What comes along the jumps of an instruction, but for what was pending, and what is noted of a switch.
+-- What comes along the jumps of an instruction, except for what was pending, and what is noted of a switch.
 pub record JumpsTo (code : Bytecode) (op : Op) (c : Counts) (sent sent' : List (Option Counts)) (pending : Coming → Type 0) (jumped : List Coming) : Type 0 where
   pub sub : (x : Coming) → Contains jumped x → Jumps (coded code) op c x.0 x.1
   pub all : (x : Coming) → Jumps (coded code) op c x.0 x.1 → Contains jumped x ⊎ pending x
@@ -96,7 +96,7 @@ module _ {code : Bytecode} {chunk : Span} {starts : List ℕ} {lists : Lists} {s
 
   -- it is visited for the first time
   module _ {sent' : List (Option Counts)} {jumped : List Coming} {op : Op} (split : Split code.bytes starts) (long : length states ≡ length starts)
-      (place : slice_get starts a.ordinal ≡ Some a.at) (fresh : get_or states a.ordinal None ≡ None) (visits : Visits code chunk (coming lists a) op)
+      (place : slice_get starts a.ordinal ≡ Some a.at) (fresh : get_or states a.ordinal None ≡ None) (visits : PassesWithTargets code chunk (coming lists a) op)
       (jumps : JumpsTo code op (view lists a.state) sent sent' (Pending w.marked (work ++ coming lists a ∷ [])) jumped) where
     abbrev come : List Coming
     come = jumped ++ falling code op a.at (view lists a.state)
@@ -107,7 +107,7 @@ module _ {code : Bytecode} {chunk : Span} {starts : List ℕ} {lists : Lists} {s
     unseen : (k : ℕ) (s : State) → get_or states k None ≡ Some s → k ≡ a.ordinal → ⊥
     unseen k s e same = none-some s (sym fresh ∙ ap (λ n. get_or states n None) (sym same) ∙ e)
 
-    searched : IsSearch nat_eq (chunk.entry, nothing) (Goes code chunk) (coming lists a ∷ w.marked) (work ++ come)
+    searched : IsSearch nat_eq (chunk.entry, nothing) (IsChunkEdge code chunk) (coming lists a ∷ w.marked) (work ++ come)
     searched =
         let falls = λ (x : Coming). falls_in (falls_through op) (a.at + width_of op, after_fall code.setting op (view lists a.state)) x in
         search_visited work (coming lists a) w.search come exact_unsigned_eq
@@ -142,7 +142,7 @@ module _ {code : Bytecode} {chunk : Span} {starts : List ℕ} {lists : Lists} {s
       known = record {
         framed = w.known.framed;
         holds = w.known.holds;
-        passed = λ x c. elim (in_cons (coming lists a) w.marked x c) [ inl e ↦ (op, subst (λ (y : Coming). Visits code chunk y op) e visits) | inr m ↦ w.known.passed x m ];
+        passed = λ x c. elim (in_cons (coming lists a) w.marked x c) [ inl e ↦ (op, subst (λ (y : Coming). PassesWithTargets code chunk y op) e visits) | inr m ↦ w.known.passed x m ];
         shallow = λ x c. elim (in_cons (coming lists a) w.marked x c) [
           | inl e ↦ let q : a.state.operands ≡ x.1.operands = ap (λ (y : Coming). y.1.operands) e in omega arith
           | inr m ↦ let q = w.known.shallow x m in omega arith

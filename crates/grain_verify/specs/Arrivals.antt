@@ -63,7 +63,7 @@ RefusesTarget starts chunk at target (errors.JumpOutOfRange a t) = (a ≡ at) ×
 RefusesTarget starts chunk at target (errors.JumpIntoAnInstruction a t) = (a ≡ at) × (t ≡ target) × (chunk.entry ≤ t) × (t < chunk.end) × (Contains starts t → ⊥)
 RefusesTarget starts chunk at target e = ⊥
 
--- the refusal is want of memory, or that of one of these targets
+-- the refusal is a lack of memory, or that of one of these targets
 abbrev pub RefusesTargetOf : List ℕ → Span → ℕ → List ℕ → VerifyError → Type 0
 RefusesTargetOf starts chunk at ts e = (e ≡ errors.OutOfMemory) ⊎ ((t : ℕ) × Contains ts t × RefusesTarget starts chunk at t e)
 

@@ -3,7 +3,7 @@ use Rattle.std.specs.Prelude.{ℕ, suc, ◌≤◌, ◌⊎◌, Bool, List, length
 use Rattle.std.specs.List.{Contains, IsDistinct}
 use Rattle.std.specs.Map.{keys_of}
 
--- so many edges lead from the start to a state
+-- this many edges lead from the start to a state
 pub data Path {X : Type 0} (start : X) (Edge : X → X → Type 0) : ℕ → X → Type 0 where
   at_start : Path start Edge 0 start
   along : {n : ℕ} {x y : X} → Path start Edge n x → Edge x y → Path start Edge (suc n) y

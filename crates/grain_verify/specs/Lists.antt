@@ -22,18 +22,18 @@ node_cmp x y = ordering_then (nat_cmp x.parent y.parent) (base_cmp x.base y.base
 abbrev pub no_node : Node
 no_node = record { parent = 0; base = record { operands = 0; iterators = 0 } }
 
--- the bases of a list, at most so many of them
-abbrev pub list_within : ℕ → List Node → ℕ → List Base
-list_within zero nodes n = []
-list_within (suc most) nodes zero = []
-list_within (suc most) nodes (suc k) = as_base (slice_index_or nodes k no_node).base ∷ list_within most nodes (slice_index_or nodes k no_node).parent
+-- the bases of a list, at most this many of them
+abbrev pub node_list_within : ℕ → List Node → ℕ → List Base
+node_list_within zero nodes n = []
+node_list_within (suc most) nodes zero = []
+node_list_within (suc most) nodes (suc k) = as_base (slice_index_or nodes k no_node).base ∷ node_list_within most nodes (slice_index_or nodes k no_node).parent
 
 -- all of them: a parent's number is below that of its node, so that no list has more bases than its number
-abbrev pub list_in : List Node → ℕ → List Base
-list_in nodes n = list_within n nodes n
+abbrev pub node_list : List Node → ℕ → List Base
+node_list nodes n = node_list_within n nodes n
 
 abbrev pub list_of : Lists → ℕ → List Base
-list_of lists n = list_in lists.nodes.items n
+list_of lists n = node_list lists.nodes.items n
 
 -- how many lists there are besides the empty one
 abbrev pub list_count : Lists → ℕ
@@ -72,7 +72,7 @@ pub record IsShared (lists : Lists) : Type 0 where
   pub firsts : AreFirsts lists.nodes.items (firsts_of lists) (get node_cmp lists.others)
   pub sharing : IsSharing lists.nodes.items (found_in lists.nodes.items (firsts_of lists) (get node_cmp lists.others))
 
--- At most one list comes to them, and each number still names the same one.
+-- At most one list is added, and each number still names the same one.
 pub record Grows (old new : Lists) : Type 0 where
   pub shared : IsShared new
   pub more : list_count old ≤ list_count new

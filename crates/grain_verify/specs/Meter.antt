@@ -9,7 +9,7 @@ use Rattle.grain_rules.specs.Code.{Bytecode, coded}
 use Rattle.grain_rules.specs.Typing.{IsReachedCount}
 use Rattle.grain_rules.specs.declared.error.VerifyError.{VerifyError}
 
--- the meter has counted so many more, up to the greatest number that it can show
+-- the meter has counted this many more, up to the greatest number that it can show
 abbrev pub HasCounted : ℕ → ℕ → ℕ → Type 0
 HasCounted old new n = new ≡ min (old + n) (max old (2 ^ 128 - 1))
 

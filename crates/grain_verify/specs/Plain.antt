@@ -22,7 +22,7 @@ pub record IsPlain (op : Op) (needs takes gives : ℕ) : Type 0 where
   pub caps : (s : Setting) → caps_of s op ≡ 0
   pub flow : flow_of op ≡ Falls
 
--- while so many operands stay, the stacks reach up to the base of the last handler
+-- while this many operands stay, the stacks reach up to the base of the last handler
 abbrev pub IsFloor : Lists → State → ℕ → Type 0
 IsFloor lists s floor = (n : ℕ) → n < 2 ^ 32 → floor ≤ n → ReachesUpTo (last_base (list_of lists s.list)) (record { operands = n; iterators = s.iterators })
 

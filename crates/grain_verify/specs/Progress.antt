@@ -23,16 +23,16 @@ use Rattle.grain_verify.specs.declared.state.State.{State}
 use Rattle.grain_verify.specs.declared.walk.Traversal.{Traversal}
 
 -- The operation here passes, and all its targets are in the chunk.
-pub record Visits (code : Bytecode) (chunk : Span) (x : Coming) (op : Op) : Type 0 where
+pub record PassesWithTargets (code : Bytecode) (chunk : Span) (x : Coming) (op : Op) : Type 0 where
   pub passes : Passes (coded code) chunk x.0 x.1 op
   pub inside : (t : ℕ) → Contains (targets code.switches op) t → IsInChunk (coded code) chunk t
 
 -- the edges of a chunk, between its addresses with their counts, and where they lead from its entry
-abbrev pub Goes : Bytecode → Span → Coming → Coming → Type 0
-Goes code chunk x y = (op : Op) × Visits code chunk x op × Edge (coded code) op x.0 x.1 y.0 y.1
+abbrev pub IsChunkEdge : Bytecode → Span → Coming → Coming → Type 0
+IsChunkEdge code chunk x y = (op : Op) × PassesWithTargets code chunk x op × Edge (coded code) op x.0 x.1 y.0 y.1
 
 abbrev pub Walks : Bytecode → Span → ℕ → Coming → Type 0
-Walks code chunk n x = Path (chunk.entry, nothing) (Goes code chunk) n x
+Walks code chunk n x = Path (chunk.entry, nothing) (IsChunkEdge code chunk) n x
 
 -- how many targets all switches have
 abbrev pub all_targets : List (List ℕ) → ℕ
@@ -51,7 +51,7 @@ pub record WasSent (code : Bytecode) (chunk : Span) (marked : List Coming) (swit
   pub x : Coming
   pub op : Op
   pub visited : Contains marked x
-  pub visits : Visits code chunk x op
+  pub visits : PassesWithTargets code chunk x op
   pub flow : flow_of op ≡ Switches switch
   pub is : c ≡ after_jump code.setting op x.1
 
@@ -59,7 +59,7 @@ pub record WasSent (code : Bytecode) (chunk : Span) (marked : List Coming) (swit
 pub record AreVisited (code : Bytecode) (chunk : Span) (sent : List (Option Counts)) (marked : List Coming) (deepest : ℕ) : Type 0 where
   pub framed : IsFramed code chunk
   pub holds : chunk.entry < chunk.end
-  pub passed : (x : Coming) → Contains marked x → (op : Op) × Visits code chunk x op
+  pub passed : (x : Coming) → Contains marked x → (op : Op) × PassesWithTargets code chunk x op
   pub shallow : (x : Coming) → Contains marked x → x.1.operands ≤ deepest
   pub attained : (n : ℕ) × (x : Coming) × Walks code chunk n x × (x.1.operands ≡ deepest)
   pub sent_there : (w : ℕ) (c : Counts) → get_or sent w None ≡ Some c → WasSent code chunk marked w c
@@ -67,7 +67,7 @@ pub record AreVisited (code : Bytecode) (chunk : Span) (sent : List (Option Coun
 -- the walk is a search of the chunk, in which each start has a state once it was visited
 pub record Walking (code : Bytecode) (chunk : Span) (starts : List ℕ) (lists : Lists) (states : List (Option State)) (sent : List (Option Counts)) (work : List Coming) (deepest : ℕ) : Type 0 where
   pub marked : List Coming
-  pub search : IsSearch nat_eq (chunk.entry, nothing) (Goes code chunk) marked work
+  pub search : IsSearch nat_eq (chunk.entry, nothing) (IsChunkEdge code chunk) marked work
   pub listed : (x : Coming) → Contains marked x ↔ HasState starts lists states x
   pub count : length marked ≡ visits_in states
   pub known : AreVisited code chunk sent marked deepest
@@ -100,7 +100,7 @@ pub record IsWalking (p : Walked) (chunk : Span) (lists : Lists) (t : Traversal)
   pub known : KnowsLists lists t arrivals
   pub walking : Walking p.code chunk p.starts lists t.states (sent_by lists t.sent) (map (coming lists) arrivals) deepest
 
--- how much may still come where so many arrivals wait: no instruction that is visited sends its state to more places
+-- how much may still come where this many arrivals wait: no instruction that is visited sends its state to more places
 abbrev pub weight : Walked → Traversal → ℕ → ℕ
 weight p t waiting = (all_targets p.code.switches + 2 + 1) * (length t.states - visits_in t.states) + waiting
 

@@ -19,10 +19,10 @@ pub record WantsMemory (r : Refusal) : Type 0 where
   pub error : r.error ≡ OutOfMemory
   pub place : r.place ≡ None
 
--- it is want of memory, or a flaw of the chunk at its place, or without a place of what is tested before the chunks
+-- it is a lack of memory, or a flaw of the chunk at its place, or without a place of what is tested before the chunks
 abbrev pub IsPlacedRefusal : Input → Refusal → Type 0
 IsPlacedRefusal i r = WantsMemory r ⊎ FlawAt i r.place r.error
 
--- it is want of memory, or a flaw of the chunk at its place, each before which passes
+-- it is a lack of memory, or a flaw of the chunk at its place, each before which passes
 abbrev pub IsChunkRefusal : Bytecode → List Span → Refusal → Type 0
 IsChunkRefusal code chunks r = WantsMemory r ⊎ ((flaw : IsFirstFlaw code chunks r.error) × (r.place ≡ Some flaw.place))

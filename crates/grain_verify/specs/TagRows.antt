@@ -56,7 +56,7 @@ pub record IsEffectOf (e : Effect) (op : Op) : Type 0 where
   pub asks : (s : Setting) → asked_in s e.asks ≡ caps_of s op
   pub flow_is : flow e.flow e.target ≡ flow_of op
 
--- the effect is that of the operation, beside pools of which this is said
+-- the effect is that of the operation, with pools of which this is said
 pub record IsEffectIn (facts : Facts) (e : Effect) (op : Op) : Type 0 where
   pub operands : (s : Setting) → s.facts ≡ facts → (e.needs, e.takes, e.gives) ≡ stack_effect s op
   pub asks : (s : Setting) → asked_in s e.asks ≡ caps_of s op

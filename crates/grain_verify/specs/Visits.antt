@@ -15,7 +15,7 @@ use Rattle.grain_verify.specs.declared.state.Arrival.{Arrival}
 use Rattle.grain_verify.specs.declared.state.State.{State}
 use Rattle.grain_verify.specs.declared.walk.Traversal.{Traversal}
 
--- how a walk ends that doesn't come to its end: memory was refused, or the chunk has this flaw
+-- how a walk ends that doesn't reach its end: memory was refused, or the chunk has this flaw
 abbrev pub RefusesChunk : Bytecode → Span → VerifyError → Type 0
 RefusesChunk code chunk e = (e ≡ OutOfMemory) ⊎ ChunkFlaw code chunk e
 

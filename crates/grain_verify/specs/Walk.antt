@@ -32,8 +32,8 @@ pub record HasHead (code : List ℕ) (at : ℕ) (head : Head) : Type 0 where
   pub tag : (form op).0 ≡ head.tag
   pub width : head.width ≡ width_of op
 
--- The instruction here does this, finds what it asks and the operands that it needs, and leaves what stood when the last
--- handler was armed.
+-- The instruction here does this, finds the capabilities and the operands that it needs, and leaves what was on the stacks
+-- when the last handler was armed.
 pub record IsPassing (p : Walked) (lists : Lists) (here : Arrival) (i : Instruction) (effect : Effect) : Type 0 where
   pub op : Op
   pub stands : StandsAt p.code.bytes here.at op

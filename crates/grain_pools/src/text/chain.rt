@@ -133,7 +133,7 @@ fn write_step<L: Lookups>(
 }
 
 /// Writes the steps with a space between them.
-#[tactic(auto, using(crate::proofs::Missing::first_missing_append))]
+#[tactic(auto, using(crate::proofs::FirstMissing::first_missing_append))]
 fn write_steps<L: Lookups>(
     out: &mut String,
     lookups: &L,
@@ -206,7 +206,7 @@ fn write_path<L: Lookups>(
     write_tail(out, lookups, tail)
 }
 
-#[tactic(auto, using(crate::proofs::Missing::first_missing_append))]
+#[tactic(auto, using(crate::proofs::FirstMissing::first_missing_append))]
 fn write_chain<L: Lookups>(
     out: &mut String,
     lookups: &L,

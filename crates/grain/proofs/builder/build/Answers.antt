@@ -2,7 +2,7 @@ use Rattle.std.proofs.Common.{ap}
 use Rattle.std.proofs.lemmas.Result.{err_from_is_err_and}
 use Rattle.grain_code.specs.Span.{Span}
 use Rattle.grain.specs.Build.{draft, of_verify}
-use Rattle.grain.proofs.Building.{accepted_here, accepted_there, numbers_here}
+use Rattle.grain.proofs.BuildAcceptance.{accepted_here, accepted_there, numbers_here}
 use Rattle.grain.proofs.builder.build.Goals as goal
 
 pub returns-in_err-check_cuts-clause-accepts : goal.returns-in_err-check_cuts-clause-accepts

@@ -10,7 +10,7 @@ use Rattle.grain.specs.Build.{BuildFlaw, draft, of_assemble, span_of}
 use Rattle.grain_rules.specs.ByIndex.{IsCut}
 use Rattle.grain.specs.declared.builder.BuildError.TheVariants as errors
 use Rattle.grain.specs.declared.builder.Cut.{Cut}
-use Rattle.grain.proofs.Laying.{lead_within, none_past, others_lie}
+use Rattle.grain.proofs.AssembledParts.{lead_within, none_past, others_lie}
 use Rattle.grain_rules.proofs.Offsets.{offset_count}
 use Rattle.grain.proofs.builder.lay.Goals as goal
 

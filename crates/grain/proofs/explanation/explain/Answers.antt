@@ -1,6 +1,6 @@
 use Rattle.std.proofs.lemmas.Result.{err_from_is_err_and}
 use Rattle.grain_rules.specs.Accepted.{input_beside}
-use Rattle.grain.proofs.Refusing.{accepted_reaches, none_explained, only_memory, placed_explained, placed_reaches}
+use Rattle.grain.proofs.RefusalCauses.{accepted_reaches, none_explained, only_memory, placed_explained, placed_reaches}
 use Rattle.grain.proofs.explanation.explain.Goals as goal
 
 pub returns-in_default : goal.returns-in_default

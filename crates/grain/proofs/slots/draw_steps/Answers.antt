@@ -1,7 +1,7 @@
 use Rattle.std.proofs.Common.{◌∙◌}
 use Rattle.std.proofs.Math.Seq.{map-set_same}
 use Rattle.grain_pools.specs.Chain.{step_positions, step_shape}
-use Rattle.grain.proofs.Drawing.{drawn_next, later_next}
+use Rattle.grain.proofs.SlotPositions.{drawn_next, later_next}
 use Rattle.grain.proofs.slots.draw_steps.Goals as goal
 
 pub loop-step-preserved : goal.loop-step-preserved

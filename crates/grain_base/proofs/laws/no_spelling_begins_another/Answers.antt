@@ -1,4 +1,4 @@
-use Rattle.grain_base.proofs.Standing.{one_spelling}
+use Rattle.grain_base.proofs.NumberUniqueness.{one_spelling}
 use Rattle.grain_base.proofs.laws.no_spelling_begins_another.Goals as goal
 
 pub returns : goal.returns

@@ -1,4 +1,4 @@
-use Rattle.grain_base.proofs.Writing.{one_shortest}
+use Rattle.grain_base.proofs.ShortestSpelling.{one_shortest}
 use Rattle.grain_base.proofs.laws.one_shortest_spelling.Goals as goal
 
 pub returns : goal.returns

@@ -2,7 +2,7 @@ use Rattle.std.proofs.Common.{◌≡◌, ◌+◌, ◌-◌, ◌∙◌, length, Ok
 use Rattle.std.proofs.lemmas.Result.{err_from_is_err_and}
 use Rattle.grain_base.specs.declared.pos.Error.TheVariants.{Overflow, OutOfOrder, TrailingBytes}
 use Rattle.grain_base.proofs.Numbers.{begins_at}
-use Rattle.grain_base.proofs.Checked.{Leads, bad_count, bad_delta, bad_line, bad_column, repeated, past, checked_more, no_bytes_left, bytes_left, says_error}
+use Rattle.grain_base.proofs.TableCheck.{Leads, bad_count, bad_delta, bad_line, bad_column, repeated, past, checked_more, no_bytes_left, bytes_left, says_error}
 use Rattle.grain_base.proofs.Verdict.{Answer, says_ok, says_err}
 use Rattle.grain_base.proofs.pos.check.Goals as goal
 

@@ -1,4 +1,4 @@
-use Rattle.grain_base.proofs.Checked.{Checked}
+use Rattle.grain_base.proofs.TableCheck.{Checked}
 use Rattle.grain_base.proofs.pos.check.Given as goal
 
 abbrev pub invariant-loop-entry : goal.invariant-loop-entry

@@ -1,5 +1,5 @@
 use Rattle.std.proofs.Common.{arith, rules}
-use Rattle.grain_base.proofs.Encoding.{encoded_none, encoded_without, encoded_with, encoded_end, not_below, shortest_table}
+use Rattle.grain_base.proofs.TableEncoding.{encoded_none, encoded_without, encoded_with, encoded_end, not_below, shortest_table}
 use Rattle.grain_base.proofs.pos.encode.Goals as goal
 
 pub loop-address-init : goal.loop-address-init

@@ -1,4 +1,4 @@
-use Rattle.grain_base.proofs.Encoding.{Encoded}
+use Rattle.grain_base.proofs.TableEncoding.{Encoded}
 use Rattle.grain_base.proofs.pos.encode.Given as goal
 
 abbrev pub invariant-loop-address : goal.invariant-loop-address

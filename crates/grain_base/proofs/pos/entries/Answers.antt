@@ -1,6 +1,6 @@
 use Rattle.std.proofs.Common.{refl, rules}
 use Rattle.grain_base.proofs.Numbers.{begins_at, begins_flawless}
-use Rattle.grain_base.proofs.Drained.{gives_front, gives_nothing, start_once}
+use Rattle.grain_base.proofs.AllEntries.{gives_front, gives_nothing, start_once}
 use Rattle.grain_base.proofs.pos.entries.Goals as goal
 
 pub returns-in_default-clause-from_the_start : goal.returns-in_default-clause-from_the_start

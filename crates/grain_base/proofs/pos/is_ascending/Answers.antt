@@ -1,5 +1,5 @@
 use Rattle.std.proofs.Common.{arith, refl}
-use Rattle.grain_base.proofs.Kept.{ascends_all, ascends_without, ascends_with, ascends_end, falls}
+use Rattle.grain_base.proofs.KnownSites.{ascends_all, ascends_without, ascends_with, ascends_end, falls}
 use Rattle.grain_base.proofs.pos.is_ascending.Goals as goal
 
 pub loop-address-init : goal.loop-address-init

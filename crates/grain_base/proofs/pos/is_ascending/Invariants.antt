@@ -1,4 +1,4 @@
-use Rattle.grain_base.proofs.Kept.{Ascends}
+use Rattle.grain_base.proofs.KnownSites.{Ascends}
 use Rattle.grain_base.proofs.pos.is_ascending.Given as goal
 
 abbrev pub invariant-loop-address : goal.invariant-loop-address

@@ -1,8 +1,8 @@
 use Rattle.std.proofs.Common.{◌≡◌, List, sym, ap, ◌∙◌, rules}
 use Rattle.grain_base.specs.AddressTable.{Entry, site_at}
 use Rattle.grain_base.proofs.Entries.{front, front_is}
-use Rattle.grain_base.proofs.Drained.{left, all_left}
-use Rattle.grain_base.proofs.Resolving.{site_more, site_here, site_past, site_none, known_none, known_some}
+use Rattle.grain_base.proofs.AllEntries.{left, all_left}
+use Rattle.grain_base.proofs.SiteLookup.{site_more, site_here, site_past, site_none, known_none, known_some}
 use Rattle.grain_base.proofs.pos.resolve.Goals as goal
 
 pub loop-here-init : goal.loop-here-init

@@ -1,7 +1,7 @@
 use Rattle.std.proofs.Common.{◌≡◌}
 use Rattle.grain_base.specs.AddressTable.{site_at}
 use Rattle.grain_base.proofs.Entries.{front}
-use Rattle.grain_base.proofs.Drained.{left}
+use Rattle.grain_base.proofs.AllEntries.{left}
 use Rattle.grain_base.proofs.pos.resolve.Given as goal
 
 abbrev pub invariant-loop-here : goal.invariant-loop-here

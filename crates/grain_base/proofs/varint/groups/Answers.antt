@@ -1,5 +1,5 @@
 use Rattle.std.proofs.Common.{◌≡◌, arith}
-use Rattle.grain_base.proofs.Reading.{passes_none, passes_more, value_more, value_last, stands, cut_short, too_wide}
+use Rattle.grain_base.proofs.GroupReads.{passes_none, passes_more, value_more, value_last, stands, cut_short, too_wide}
 use Rattle.grain_base.proofs.varint.groups.Goals as goal
 
 pub loop-group-init : goal.loop-group-init

@@ -1,4 +1,4 @@
-use Rattle.grain_base.proofs.Reading.{Passes}
+use Rattle.grain_base.proofs.GroupReads.{Passes}
 use Rattle.grain_base.proofs.varint.groups.Given as goal
 
 abbrev pub invariant-loop-group : goal.invariant-loop-group

@@ -1,5 +1,5 @@
 use Rattle.std.proofs.Common.{rules}
-use Rattle.grain_base.proofs.Standing.{zigzag_even, zigzag_odd, zigzag_spelled}
+use Rattle.grain_base.proofs.NumberUniqueness.{zigzag_even, zigzag_odd, zigzag_spelled}
 use Rattle.grain_base.proofs.varint.i64.Goals as goal
 
 pub returns-then-raw-eq0-clause-found : goal.returns-then-raw-eq0-clause-found

@@ -1,4 +1,4 @@
-use Rattle.grain_base.proofs.Writing.{written_more, written_last, appends}
+use Rattle.grain_base.proofs.ShortestSpelling.{written_more, written_last, appends}
 use Rattle.grain_base.proofs.varint.put_u64.Goals as goal
 
 pub loop-rest-preserved : goal.loop-rest-preserved

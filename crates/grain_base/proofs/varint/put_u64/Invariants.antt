@@ -1,4 +1,4 @@
-use Rattle.grain_base.proofs.Writing.{Written}
+use Rattle.grain_base.proofs.ShortestSpelling.{Written}
 use Rattle.grain_base.proofs.varint.put_u64.Given as goal
 
 abbrev pub invariant-loop-rest : goal.invariant-loop-rest

@@ -1,6 +1,6 @@
 use Rattle.std.proofs.Common.{refl, arith}
 use Rattle.std.proofs.lemmas.Result.{err_from_is_err_and}
-use Rattle.grain_base.proofs.Standing.{u32_flaw, u32_large, u32_small}
+use Rattle.grain_base.proofs.NumberUniqueness.{u32_flaw, u32_large, u32_small}
 use Rattle.grain_base.proofs.varint.u32.Goals as goal
 
 pub returns-in_err-value-clause-error : goal.returns-in_err-value-clause-error

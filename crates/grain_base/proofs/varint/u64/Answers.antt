@@ -1,5 +1,5 @@
 use Rattle.std.proofs.Common.{◌+◌, ◌∙◌, Ok}
-use Rattle.grain_base.proofs.Standing.{reads_found, reads_spelled, reads_error, reads_cursor, reads_one}
+use Rattle.grain_base.proofs.NumberUniqueness.{reads_found, reads_spelled, reads_error, reads_cursor, reads_one}
 use Rattle.grain_base.proofs.varint.u64.Goals as goal
 
 pub returns-in-Some-clause-found : goal.returns-in-Some-clause-found

@@ -1,7 +1,7 @@
 use Rattle.std.proofs.Common.{ap, ◌∙◌, rules}
 use Rattle.std.specs.Prelude.{length}
 use Rattle.grain_code.specs.Assembly.{IsAssembly}
-use Rattle.grain_code.proofs.Placed.{stands_there, split_there, length-offsets_from}
+use Rattle.grain_code.proofs.OperationPlaces.{stands_there, split_there, length-offsets_from}
 use Rattle.grain_bytecode.proofs.Flaws.{flawless}
 use Rattle.grain_bytecode.proofs.assembler.assemble.Goals as goal
 

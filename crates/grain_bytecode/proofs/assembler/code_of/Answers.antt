@@ -5,7 +5,7 @@ use Rattle.grain_code.specs.declared.op.Op.TheVariants as operations
 use Rattle.grain_code.specs.InstructionTable.{form}
 use Rattle.grain_code.specs.Split.{AreInstructions}
 use Rattle.grain_code.specs.Assembly.{assembled, AreWritable}
-use Rattle.grain_code.proofs.Placed.{one_more_written}
+use Rattle.grain_code.proofs.OperationPlaces.{one_more_written}
 use Rattle.grain_bytecode.proofs.Flaws.{writable_at}
 use Rattle.grain_bytecode.proofs.assembler.code_of.Goals as goal
 

@@ -1,4 +1,4 @@
-use Rattle.grain_bytecode.proofs.Again.{can_again, same_again}
+use Rattle.grain_bytecode.proofs.AssemblyRoundTrip.{can_again, same_again}
 use Rattle.grain_bytecode.proofs.laws.disassembled_code_assembles_again.Goals as goal
 
 pub returns-clause-can : goal.returns-clause-can

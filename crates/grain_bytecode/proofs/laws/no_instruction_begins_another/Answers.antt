@@ -1,4 +1,4 @@
-use Rattle.grain_code.proofs.Reading.{one_instruction}
+use Rattle.grain_code.proofs.FieldBytes.{one_instruction}
 use Rattle.grain_bytecode.proofs.laws.no_instruction_begins_another.Goals as goal
 
 pub returns : goal.returns

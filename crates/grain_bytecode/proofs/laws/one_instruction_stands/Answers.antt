@@ -1,7 +1,7 @@
 use Rattle.std.proofs.Common.{take, drop, sym, ◌∙◌}
 use Rattle.std.proofs.lemmas.List.{take-append-drop}
 use Rattle.grain_code.specs.InstructionTable.{width_of}
-use Rattle.grain_code.proofs.Reading.{one_instruction}
+use Rattle.grain_code.proofs.FieldBytes.{one_instruction}
 use Rattle.grain_bytecode.proofs.laws.one_instruction_stands.Goals as goal
 
 pub returns : goal.returns

@@ -1,4 +1,4 @@
-use Rattle.grain_pools.proofs.Growing.{names_of_made, made_flawless}
+use Rattle.grain_pools.proofs.TableGrowth.{names_of_made, made_flawless}
 use Rattle.grain_bytecode.proofs.laws.table_is_read_again.Goals as goal
 
 pub returns-clause-names : goal.returns-clause-names

@@ -4,7 +4,7 @@ use Rattle.std.proofs.lemmas.List.Elements.{All-nil, All-push}
 use Rattle.grain_base.specs.AddressTable.{Entry}
 use Rattle.grain_base.specs.Place.{place_of, line_of, column_of}
 use Rattle.grain_bytecode.specs.Positions.{entries_at_places}
-use Rattle.grain_bytecode.proofs.Entering.{with_line, without_line, too_high}
+use Rattle.grain_bytecode.proofs.PositionEntries.{with_line, without_line, too_high}
 use Rattle.grain_bytecode.proofs.positions.addresses_fit.Goals as goal
 
 pub loop-at-init : goal.loop-at-init

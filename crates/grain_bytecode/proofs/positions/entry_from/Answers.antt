@@ -1,6 +1,6 @@
 use Rattle.std.proofs.Common.{Option, subst, arith}
 use Rattle.grain_base.specs.AddressTable.{Entry}
-use Rattle.grain_bytecode.proofs.Ahead.{Skipped, skipped_more}
+use Rattle.grain_bytecode.proofs.DueEntries.{Skipped, skipped_more}
 use Rattle.grain_bytecode.proofs.positions.entry_from.Goals as goal
 
 pub loop-next-preserved : goal.loop-next-preserved

@@ -1,5 +1,5 @@
 use Rattle.std.proofs.Common.{◌+◌, cond, is_some}
-use Rattle.grain_bytecode.proofs.Ahead.{Skipped}
+use Rattle.grain_bytecode.proofs.DueEntries.{Skipped}
 use Rattle.grain_bytecode.proofs.positions.entry_from.Given as goal
 
 abbrev pub invariant-loop-next : goal.invariant-loop-next

@@ -1,6 +1,6 @@
 use Rattle.std.proofs.Common.{◌≡◌, cond, arith, rules}
-use Rattle.grain_bytecode.proofs.Ahead.{abreast_start, abreast_from, abreast_on, place_of_table}
-use Rattle.grain_bytecode.proofs.Arriving.{walked_none, walked_more, walk_stops, walk_ends}
+use Rattle.grain_bytecode.proofs.DueEntries.{abreast_start, abreast_from, abreast_on, place_of_table}
+use Rattle.grain_bytecode.proofs.ReadAddresses.{walked_none, walked_more, walk_stops, walk_ends}
 use Rattle.grain_bytecode.proofs.positions.place_all.Goals as goal
 
 pub loop-at-init : goal.loop-at-init

@@ -1,9 +1,9 @@
 use Rattle.std.proofs.Common.{length, ◌-◌}
-use Rattle.grain_bytecode.proofs.Ahead.{Abreast}
-use Rattle.grain_bytecode.proofs.Arriving.{Walked}
+use Rattle.grain_bytecode.proofs.DueEntries.{Abreast}
+use Rattle.grain_bytecode.proofs.ReadAddresses.{Walked}
 use Rattle.grain_bytecode.proofs.positions.place_all.Given as goal
 
--- what stands before the address is found, and the entries from it on are ahead
+-- what is before the address is found, and the entries from it on are ahead
 abbrev pub invariant-loop-at : goal.invariant-loop-at
 invariant-loop-at l = Walked l.table l.code l.at l.matched l.positions × Abreast l.table l.at l.next l.entries
 

@@ -3,7 +3,7 @@ use Rattle.std.proofs.lemmas.List.{take_all}
 use Rattle.grain_base.specs.AddressTable.{Entry}
 use Rattle.grain_base.specs.Place.{place_of, line_of, column_of}
 use Rattle.grain_bytecode.specs.Positions.{entries_at_places}
-use Rattle.grain_bytecode.proofs.Entering.{with_line, without_line, too_high, fits_or_not}
+use Rattle.grain_bytecode.proofs.PositionEntries.{with_line, without_line, too_high, fits_or_not}
 use Rattle.grain_bytecode.proofs.positions.sites_of.Goals as goal
 
 pub loop-at-preserved-in_default : goal.loop-at-preserved-in_default

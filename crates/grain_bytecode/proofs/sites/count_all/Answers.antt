@@ -1,7 +1,7 @@
 use Rattle.std.proofs.Common.{◌≡◌, length, get_or, arith, ap}
 use Rattle.std.proofs.lemmas.List.Folds.{length-flat_map-take}
 use Rattle.grain_pools.specs.Chain.{positions}
-use Rattle.grain_bytecode.proofs.Appending.{none_so}
+use Rattle.grain_bytecode.proofs.SlotStreams.{none_so}
 use Rattle.grain_bytecode.proofs.sites.count_all.Goals as goal
 
 pub returns-in_err-count-clause-none : goal.returns-in_err-count-clause-none

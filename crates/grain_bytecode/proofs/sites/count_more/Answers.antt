@@ -1,6 +1,6 @@
 use Rattle.std.proofs.Common.{◌+◌, ◌≤◌, ◌^◌, length, arith, ap}
 use Rattle.grain_pools.specs.Chain.{positions}
-use Rattle.grain_bytecode.proofs.Appending.{none_so}
+use Rattle.grain_bytecode.proofs.SlotStreams.{none_so}
 use Rattle.grain_bytecode.proofs.sites.count_more.Goals as goal
 
 pub returns-in_err-count-clause-none : goal.returns-in_err-count-clause-none

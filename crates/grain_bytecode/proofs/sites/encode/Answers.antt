@@ -1,6 +1,6 @@
 use Rattle.std.proofs.Common.{length, arith}
 use Rattle.grain_bytecode.specs.ChainStream.{all_positions}
-use Rattle.grain_bytecode.proofs.Appending.{written_more, written_all, written_stream}
+use Rattle.grain_bytecode.proofs.SlotStreams.{written_more, written_all, written_stream}
 use Rattle.grain_bytecode.proofs.sites.encode.Goals as goal
 
 pub loop-chain-preserved : goal.loop-chain-preserved

@@ -1,4 +1,4 @@
-use Rattle.grain_bytecode.proofs.Appending.{appends_two}
+use Rattle.grain_bytecode.proofs.SlotStreams.{appends_two}
 use Rattle.grain_bytecode.proofs.sites.put_slot.Goals as goal
 
 pub returns : goal.returns

@@ -1,7 +1,7 @@
 use Rattle.std.proofs.Common.{◌∷◌, [], ◌++◌, ◌∙◌, ap, sym, append_assoc}
 use Rattle.grain_pools.specs.ChainPositions.{positions_left}
 use Rattle.grain_bytecode.specs.ChainStream.{numbers_of}
-use Rattle.grain_bytecode.proofs.Appending.{appends_more, flat_map-push}
+use Rattle.grain_bytecode.proofs.SlotStreams.{appends_more, flat_map-push}
 use Rattle.grain_bytecode.proofs.sites.put_slots.Goals as goal
 
 pub loop-position-preserved : goal.loop-position-preserved

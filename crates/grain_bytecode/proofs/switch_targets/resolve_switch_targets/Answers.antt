@@ -5,7 +5,7 @@ use Rattle.std.proofs.lemmas.List.Edits.{map_over_more}
 use Rattle.std.proofs.lemmas.List.Elements.{AllWithin-more, at_read}
 use Rattle.grain_pools.specs.declared.switch.Switch.{Switch}
 use Rattle.grain_pools.specs.Dispatch.{Arms, arms, arm_targets, first_past, resolved, AreWithin}
-use Rattle.grain_pools.proofs.Past.{past_none, past_some}
+use Rattle.grain_pools.proofs.FirstPast.{past_none, past_some}
 use Rattle.grain_bytecode.proofs.switch_targets.resolve_switch_targets.Goals as goal
 
 pub loop-table-preserved : goal.loop-table-preserved

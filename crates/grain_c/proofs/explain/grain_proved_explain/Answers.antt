@@ -1,6 +1,6 @@
 use Rattle.std.proofs.Common.{subst}
 use Rattle.grain_flat.specs.Explaining.{Beside, ExplainsChunk, IsIndexedBeside}
-use Rattle.grain_flat.proofs.ToldRoom.{told_in}
+use Rattle.grain_flat.proofs.ExplainedRoom.{written_in}
 use Rattle.grain_c.proofs.explain.grain_proved_explain.Goals as goal
 
 pub returns-in-Err-BadCode-clause-bad_code : goal.returns-in-Err-BadCode-clause-bad_code
@@ -20,7 +20,7 @@ returns-in-None-clause-accepted c is =
         explains = subst (λ caps. ExplainsChunk caps program.code.now c.in-Some.span.now program.pools x) (c.from_bits_retain-caps.ensures tt) c.in-Ok.ensures.explained;
       },
       c.in-None.is,
-      told_in x c.in-Ok-rows_of.made c.args.rows.now c.deref.result.now c.fill.new.room c.args.bases.now c.deref-2.result.now c.fill-2.new.room c.counts_of.result c.in-Ok-rows_of.ensures
+      written_in x c.in-Ok-rows_of.made c.args.rows.now c.deref.result.now c.fill.new.room c.args.bases.now c.deref-2.result.now c.fill-2.new.room c.counts_of.result c.in-Ok-rows_of.ensures
           c.deref.ensures.value c.fill.ensures c.deref-2.ensures.value c.fill-2.ensures counts.visited counts.path counts.other counts.bases,
       counts.kept c.in-None.is,
     )
@@ -38,7 +38,7 @@ returns-clause-refused c is =
         explains = subst (λ caps. ExplainsChunk caps program.code.now c.in-Some.span.now program.pools x) (c.from_bits_retain-caps.ensures tt) c.in-Ok.ensures.explained;
       },
       c.in-Some-refusal.is,
-      told_in x c.in-Ok-rows_of.made c.args.rows.now c.deref.result.now c.fill.new.room c.args.bases.now c.deref-2.result.now c.fill-2.new.room c.counts_of.result c.in-Ok-rows_of.ensures
+      written_in x c.in-Ok-rows_of.made c.args.rows.now c.deref.result.now c.fill.new.room c.args.bases.now c.deref-2.result.now c.fill-2.new.room c.counts_of.result c.in-Ok-rows_of.ensures
           c.deref.ensures.value c.fill.ensures c.deref-2.ensures.value c.fill-2.ensures counts.visited counts.path counts.other counts.bases,
       counts.refusal c.in-Some-refusal.field-0 c.in-Some-refusal.is,
     )

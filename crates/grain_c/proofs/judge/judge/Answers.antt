@@ -1,5 +1,5 @@
 use Rattle.std.proofs.Common.{◌≡◌, ℕ, rules, subst, sym}
-use Rattle.grain_flat.specs.Answers.{Accepts, Refuses, Visits, told}
+use Rattle.grain_flat.specs.Answers.{Accepts, Refuses, Visits, refusal_record}
 use Rattle.grain_flat.specs.declared.records.CRefusal.{CRefusal}
 use Rattle.grain_c.specs.Answers.{IsAnswer}
 use Rattle.grain_c.specs.declared.status.TheConstants.{ACCEPTED, REFUSED}
@@ -39,6 +39,6 @@ returns-in-Err-Refused-clause-answer c =
     let within = refused_visits c.args.caps limit p room old clear counted.0 counted.1 in
     let shown : c.shown.result ≡ counted.0 =
     shows c.new-meter.result c.verdict-judged.new.meter counted.0 limit c.shown.result c.new-meter.ensures counted.2 c.shown.ensures within c.ranges.limit.fits in
-    subst (λ (r : CRefusal). IsAnswer c.args.caps limit p room old (record { refusal = r; visited = c.shown.result }) REFUSED) (sym c.told.ensures)
-    (subst (λ (n : ℕ). IsAnswer c.args.caps limit p room old (record { refusal = told place error; visited = n }) REFUSED) (sym shown)
+    subst (λ (r : CRefusal). IsAnswer c.args.caps limit p room old (record { refusal = r; visited = c.shown.result }) REFUSED) (sym c.refusal_record.ensures)
+    (subst (λ (n : ℕ). IsAnswer c.args.caps limit p room old (record { refusal = refusal_record place error; visited = n }) REFUSED) (sym shown)
     (refused c.args.caps limit p room old clear place error counted.0 refuses counted.1))

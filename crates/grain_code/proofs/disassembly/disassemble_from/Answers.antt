@@ -1,4 +1,4 @@
-use Rattle.grain_code.proofs.Drained.{drained}
+use Rattle.grain_code.proofs.WholeDisassembly.{drained}
 use Rattle.grain_code.proofs.disassembly.disassemble_from.Goals as goal
 
 pub returns-clause-gives : goal.returns-clause-gives

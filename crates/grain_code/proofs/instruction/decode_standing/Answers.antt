@@ -2,7 +2,7 @@ use Rattle.std.proofs.Common.{◌+◌, ap, subst}
 use Rattle.grain_code.specs.Split.{StandsAt}
 use Rattle.grain_code.specs.declared.op.Op.{Op}
 use Rattle.grain_code.proofs.Instructions.{standing_bytes}
-use Rattle.grain_code.proofs.Reading.{same_instruction}
+use Rattle.grain_code.proofs.FieldBytes.{same_instruction}
 use Rattle.grain_code.proofs.instruction.decode_standing.Goals as goal
 
 pub unreachable-requires : goal.unreachable-requires

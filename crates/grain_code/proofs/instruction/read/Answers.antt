@@ -2,7 +2,7 @@ use Rattle.std.proofs.Common.{◌∷◌, subst, arith}
 use Rattle.grain_code.specs.Split.{StandsAt}
 use Rattle.grain_code.specs.declared.op.Op.{Op}
 use Rattle.grain_code.proofs.Instructions.{instr_width}
-use Rattle.grain_code.proofs.Reading.{same_instruction}
+use Rattle.grain_code.proofs.FieldBytes.{same_instruction}
 use Rattle.grain_code.proofs.instruction.read.Goals as goal
 
 pub returns-clause-found : goal.returns-clause-found

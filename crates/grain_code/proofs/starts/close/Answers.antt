@@ -1,5 +1,5 @@
 use Rattle.std.proofs.Common.{arith}
-use Rattle.grain_code.proofs.Filling.{filling_word}
+use Rattle.grain_code.proofs.FilledWords.{filling_word}
 use Rattle.grain_code.proofs.starts.close.Goals as goal
 
 pub loop-words-preserved : goal.loop-words-preserved

@@ -2,7 +2,7 @@ use Rattle.std.proofs.Common.{◌≡◌, ◌/◌, [], ◌∷◌, ◌++◌, ◌+�
 use Rattle.std.proofs.Math.Nat.{div-add-mod}
 use Rattle.grain_code.specs.Split.{AreInstructions, starts_from}
 use Rattle.grain_code.proofs.Boundaries.{next_start}
-use Rattle.grain_code.proofs.Filling.{filling_start}
+use Rattle.grain_code.proofs.FilledWords.{filling_start}
 use Rattle.grain_code.proofs.Splits.{one_more}
 use Rattle.grain_code.proofs.starts.read_word.Goals as goal
 

@@ -1,5 +1,5 @@
 use Rattle.std.proofs.Common.{get_or, inl, inr, arith}
-use Rattle.grain_code.proofs.Reading.{IsBytes}
+use Rattle.grain_code.proofs.FieldBytes.{IsBytes}
 use Rattle.grain_code.proofs.Widths.{row_is, stands_at, none_at}
 use Rattle.grain_code.proofs.tag_widths.width.Goals as goal
 use Rattle.grain_code.proofs.tag_widths.width.Goals.{then-width-eq0-via-then-width-eq0, then-width-eq0-via-else-width-eq0+then-at-width}

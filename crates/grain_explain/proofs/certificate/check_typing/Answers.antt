@@ -2,7 +2,7 @@ use Rattle.std.proofs.Common.{◌∙◌, ℕ, OnOk, IfErr, subst}
 use Rattle.grain_rules.specs.Code.{bytecode_beside}
 use Rattle.grain_explain.specs.Certificate.{IsCertificate, RowsFlaw}
 use Rattle.grain_explain.proofs.Certified.{chunk_passes, no_rows_flaw}
-use Rattle.grain_explain.proofs.Matching.{on_err, on_ok}
+use Rattle.grain_explain.proofs.EdgeMatches.{on_err, on_ok}
 use Rattle.grain_explain.proofs.certificate.check_typing.Goals as goal
 
 pub returns-clause-yes : goal.returns-clause-yes

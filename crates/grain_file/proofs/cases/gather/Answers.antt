@@ -5,7 +5,7 @@ use Rattle.std.proofs.lemmas.List.{drop_all}
 use Rattle.std.proofs.lemmas.Option.{slice_get_read}
 use Rattle.grain_file.specs.Cases.{case_view, same_keys}
 use Rattle.grain_file.specs.declared.cases.Case.{Case as CaseField}
-use Rattle.grain_file.proofs.Gathering.{next_left, next_taken, split_at, step, stop, finished, there_at, none_is}
+use Rattle.grain_file.proofs.GatheredCases.{next_left, next_taken, split_at, step, stop, finished, there_at, none_is}
 use Rattle.grain_file.proofs.cases.gather.Goals as goal
 
 -- what stands where there is no case

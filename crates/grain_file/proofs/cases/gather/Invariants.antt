@@ -1,6 +1,6 @@
 use Rattle.std.proofs.Common.{map, take, drop}
 use Rattle.grain_file.specs.Cases.{case_view}
-use Rattle.grain_file.proofs.Gathering.{Gathering}
+use Rattle.grain_file.proofs.GatheredCases.{Gathering}
 use Rattle.grain_file.proofs.cases.gather.Given as goal
 
 abbrev pub invariant-loop-case : goal.invariant-loop-case

@@ -1,5 +1,5 @@
 use Rattle.std.proofs.Common.{◌∙◌}
-use Rattle.grain_file.proofs.Copying.{copied}
+use Rattle.grain_file.proofs.CopiedEntries.{copied}
 use Rattle.grain_file.proofs.copy.+copy.Goals as goal
 
 pub copy_entries-loop-key-preserved : goal.copy_entries-loop-key-preserved

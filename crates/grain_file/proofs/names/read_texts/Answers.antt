@@ -3,7 +3,7 @@ use Rattle.std.proofs.lemmas.Result.{err_from_is_err_and}
 use Rattle.std.proofs.lemmas.List.{map_push}
 use Rattle.grain_pools.specs.Names.{texts}
 use Rattle.grain_file.specs.Texts.{text_at}
-use Rattle.grain_file.proofs.Loop.{goes_on, counted_ends, counted_done}
+use Rattle.grain_file.proofs.FieldLoop.{goes_on, counted_ends, counted_done}
 use Rattle.grain_file.proofs.names.read_texts.Goals as goal
 
 pub returns-in_err-name : goal.returns-in_err-name

@@ -2,7 +2,7 @@ use Rattle.std.proofs.Common.{◌≡◌, ◌-◌}
 use Rattle.grain_pools.specs.Names.{texts}
 use Rattle.grain_file.specs.Texts.{text_at}
 use Rattle.grain_file.specs.Lists.{repeat_at}
-use Rattle.grain_file.proofs.Loop.{with_front}
+use Rattle.grain_file.proofs.FieldLoop.{with_front}
 use Rattle.grain_file.proofs.names.read_texts.Given as goal
 
 abbrev pub invariant-names : goal.invariant-names

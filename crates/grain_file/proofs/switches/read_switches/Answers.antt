@@ -3,7 +3,7 @@ use Rattle.std.proofs.lemmas.Result.{err_from_is_err_and}
 use Rattle.std.proofs.lemmas.List.{map_push}
 use Rattle.grain_file.specs.Form.{forms}
 use Rattle.grain_file.specs.Switches.{switch_format, switch_parts}
-use Rattle.grain_file.proofs.Loop.{goes_on, counted_ends, counted_done}
+use Rattle.grain_file.proofs.FieldLoop.{goes_on, counted_ends, counted_done}
 use Rattle.grain_file.proofs.switches.read_switches.Goals as goal
 
 pub returns-in_err-switch : goal.returns-in_err-switch

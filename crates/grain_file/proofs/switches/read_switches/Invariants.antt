@@ -2,7 +2,7 @@ use Rattle.std.proofs.Common.{◌≡◌, ◌-◌, map}
 use Rattle.grain_file.specs.Form.{forms}
 use Rattle.grain_file.specs.Switches.{switch_format, switch_parts}
 use Rattle.grain_file.specs.Lists.{repeat_at}
-use Rattle.grain_file.proofs.Loop.{with_front}
+use Rattle.grain_file.proofs.FieldLoop.{with_front}
 use Rattle.grain_file.proofs.switches.read_switches.Given as goal
 
 abbrev pub invariant-switches : goal.invariant-switches

@@ -2,9 +2,9 @@ use Rattle.std.specs.Prelude.{string_bytes}
 use Rattle.std.proofs.lemmas.Result.{err_from_is_err_and}
 use Rattle.grain_file.specs.Form.{entry_forms, forms}
 use Rattle.grain_file.specs.FormSound.{array_is_sound, pointer_is_sound, map_is_sound, forms_refused, entries_refused}
-use Rattle.grain_file.proofs.Ascending.{ascending}
+use Rattle.grain_file.proofs.KeyOrder.{ascending}
 use Rattle.grain_file.proofs.PointerForm.{pointer_form_is}
-use Rattle.grain_file.proofs.Pushed.{array_pushed, map_pushed, pointer_pushed}
+use Rattle.grain_file.proofs.TaggedBytes.{array_pushed, map_pushed, pointer_pushed}
 use Rattle.grain_file.proofs.values.+put_value.Goals as goal
 
 pub put_array-returns-clause-spelled : goal.put_array-returns-clause-spelled

@@ -1,10 +1,10 @@
 use Rattle.std.proofs.Common.{◌≡◌, ◌++◌, ◌∷◌, [], sym, ◌∙◌}
 use Rattle.std.proofs.lemmas.Result.{err_from_is_err_and}
 use Rattle.std.proofs.lemmas.List.{map_push}
-use Rattle.grain_file.specs.Form.{entry_forms, form, forms}
+use Rattle.grain_file.specs.Form.{entry_forms, value_form, forms}
 use Rattle.grain_file.specs.FormAt.{value_at}
 use Rattle.grain_file.proofs.EntriesLoop.{key_ends, order_ends, value_ends, entry_goes_on, entries_done}
-use Rattle.grain_file.proofs.Loop.{goes_on, counted_ends, counted_done}
+use Rattle.grain_file.proofs.FieldLoop.{goes_on, counted_ends, counted_done}
 use Rattle.grain_file.proofs.MapEnd.{inserted}
 use Rattle.grain_file.proofs.Tags.{unknown_tag}
 use Rattle.grain_file.proofs.values.+value.Goals as goal
@@ -20,9 +20,9 @@ read_values-returns-in_err-value t c =
 
 pub read_values-values-preserved : goal.read_values-values-preserved
 read_values-values-preserved t c =
-    let e : forms c.push.new.self.items ≡ forms c.values.values.items ++ form c.in_ok-value.value ∷ [] =
-    rw c.in_ok-push.ensures.items (map_push form c.values.values.items c.in_ok-value.value) in
-    rw e (goes_on (value_at c.args.depth) (forms c.values.values.items) c.in_ok-count.count c.values.index c.values.cursor.left.now (form c.in_ok-value.value) c.read_value.new.cursor.left.now
+    let e : forms c.push.new.self.items ≡ forms c.values.values.items ++ value_form c.in_ok-value.value ∷ [] =
+    rw c.in_ok-push.ensures.items (map_push value_form c.values.values.items c.in_ok-value.value) in
+    rw e (goes_on (value_at c.args.depth) (forms c.values.values.items) c.in_ok-count.count c.values.index c.values.cursor.left.now (value_form c.in_ok-value.value) c.read_value.new.cursor.left.now
     _ c.values-test.true c.in_ok-value.ensures c.values.invariant)
 
 pub read_values-returns : goal.read_values-returns
@@ -49,7 +49,7 @@ pub read_entries-entries-preserved : goal.read_entries-entries-preserved
 read_entries-entries-preserved t c =
     let later = sym c.comes_after.ensures ∙ c.if-not-comes_after.false in
     let e = inserted c.entries.entries.entries c.insert.new.self.entries c.in_ok-key-2.key c.in_ok-value.value c.in_ok-key.key.now c.in_ok-insert.ensures.was_ordered c.in_ok-key-2.ensures.ok later c.in_ok-insert.ensures.entries in
-    rw e (entry_goes_on (value_at c.args.depth) c.in_ok-key.key.now c.text.new.self.left.now c.read_value.new.cursor.left.now (form c.in_ok-value.value) (entry_forms c.entries.entries.entries) c.in_ok-count.count c.entries.counter
+    rw e (entry_goes_on (value_at c.args.depth) c.in_ok-key.key.now c.text.new.self.left.now c.read_value.new.cursor.left.now (value_form c.in_ok-value.value) (entry_forms c.entries.entries.entries) c.in_ok-count.count c.entries.counter
     c.entries.cursor.left.now _ c.entries-test.true c.in_ok-key.ensures later c.in_ok-value.ensures c.entries.invariant)
 
 pub read_entries-returns : goal.read_entries-returns

@@ -3,7 +3,7 @@ use Rattle.std.specs.Prelude.{None}
 use Rattle.grain_file.specs.Form.{entry_forms, forms, last_key}
 use Rattle.grain_file.specs.FormAt.{entries_at, value_at}
 use Rattle.grain_file.specs.Lists.{repeat_at}
-use Rattle.grain_file.proofs.Loop.{with_front}
+use Rattle.grain_file.proofs.FieldLoop.{with_front}
 use Rattle.grain_file.proofs.values.+value.Given as goal
 
 abbrev pub decreases-read_behind : goal.decreases-read_behind

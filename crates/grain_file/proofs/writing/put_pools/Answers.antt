@@ -1,6 +1,7 @@
 use Rattle.std.proofs.Common.{map}
 use Rattle.grain_file.specs.Form.{forms}
-use Rattle.grain_file.specs.Tokens.{token_parts, assign_op_parts}
+use Rattle.grain_base.specs.Tokens.{token_parts}
+use Rattle.grain_file.specs.Tokens.{assign_op_parts}
 use Rattle.grain_file.specs.Chains.{chain_parts}
 use Rattle.grain_file.specs.Switches.{switch_parts}
 use Rattle.grain_file.proofs.Whole.{pools_fit}

@@ -1,7 +1,7 @@
 use Rattle.std.proofs.Common.{◌≡◌, ◌++◌, ◌∷◌, [], List, refl, sym, ap, subst, ◌∙◌, arith, rules, append-nil}
 use Rattle.std.proofs.lemmas.List.{length-append}
 use Rattle.grain_base.specs.AddressTable.{Entry, LongestFront}
-use Rattle.grain_base.proofs.Drained.{all_left, left, left_more, left_none}
+use Rattle.grain_base.proofs.AllEntries.{all_left, left, left_more, left_none}
 use Rattle.grain_base.proofs.Entries.{front, front_is}
 use Rattle.grain_flat.specs.Listing.{entry_row}
 use Rattle.grain_flat.proofs.Listed.{filled_none, mapped_more}

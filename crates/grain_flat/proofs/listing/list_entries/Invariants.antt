@@ -1,7 +1,7 @@
 use Rattle.std.proofs.Common.{◌≡◌, ◌++◌, List, length, map}
 use Rattle.grain_base.specs.AddressTable.{Entry}
 use Rattle.grain_base.proofs.Entries.{front}
-use Rattle.grain_base.proofs.Drained.{left}
+use Rattle.grain_base.proofs.AllEntries.{left}
 use Rattle.grain_flat.specs.Listing.{entry_row, filled}
 use Rattle.grain_flat.proofs.listing.list_entries.Given as goal
 

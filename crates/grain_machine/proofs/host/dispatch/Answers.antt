@@ -3,7 +3,7 @@ use Rattle.std.specs.List.{Contains}
 use Rattle.grain_base.specs.View.{content}
 use Rattle.grain_rules.specs.Code.{switch_targets}
 use Rattle.grain_pools.specs.Dispatch.{arms}
-use Rattle.grain_pools.proofs.Dispatching.{dispatched_among}
+use Rattle.grain_pools.proofs.SwitchTargets.{dispatched_among}
 use Rattle.grain_machine.proofs.host.dispatch.Goals as goal
 
 pub returns-clause-among : goal.returns-clause-among

@@ -1,5 +1,5 @@
 use Rattle.std.proofs.Common.{◌+◌, arith}
-use Rattle.grain_pools.proofs.Growing.{no_name, front_more, front_texts_le}
+use Rattle.grain_pools.proofs.TableGrowth.{no_name, front_more, front_texts_le}
 use Rattle.grain_pools.proofs.strings.total_len.Goals as goal
 
 pub loop-name-preserved : goal.loop-name-preserved

@@ -3,11 +3,11 @@ use Rattle.grain_code.specs.InstructionTable.{width_of}
 use Rattle.grain_code.specs.Split.{StandsAt}
 use Rattle.grain_code.specs.declared.op.Op.{Op}
 use Rattle.grain_code.proofs.Instructions.{instr_width}
-use Rattle.grain_code.proofs.Reading.{same_instruction}
+use Rattle.grain_code.proofs.FieldBytes.{same_instruction}
 use Rattle.grain_rules.specs.FirstOut.{alone}
 use Rattle.grain_rules.specs.Flaw.{bad_index, undecodable}
 use Rattle.grain_rules.specs.Indices.{IsOut}
-use Rattle.grain_rules.proofs.Indexing.{indexed_more}
+use Rattle.grain_rules.proofs.IndexedCode.{indexed_more}
 use Rattle.grain_rules.proofs.code_test.check_at.Goals as goal
 
 pub unreachable-requires : goal.unreachable-requires

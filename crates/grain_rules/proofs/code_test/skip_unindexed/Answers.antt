@@ -1,6 +1,6 @@
 use Rattle.std.proofs.Common.{◌≡◌, ◌+◌, ◌≤◌, ap, length, subst, sym, take, ◌∙◌, arith}
 use Rattle.grain_rules.specs.Accepted.{AreIndexed}
-use Rattle.grain_rules.proofs.Indexing.{indexed_more}
+use Rattle.grain_rules.proofs.IndexedCode.{indexed_more}
 use Rattle.grain_rules.proofs.code_test.skip_unindexed.Goals as goal
 
 pub loop-width-preserved : goal.loop-width-preserved

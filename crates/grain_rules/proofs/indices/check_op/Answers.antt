@@ -1,6 +1,6 @@
 use Rattle.std.proofs.Common.{sym}
 use Rattle.grain_rules.specs.FirstOut.{alone}
-use Rattle.grain_rules.proofs.Testing.{indexed}
+use Rattle.grain_rules.proofs.IndexTests.{indexed}
 use Rattle.grain_rules.proofs.indices.check_op.Goals as goal
 
 pub returns-in-None-clause-ok : goal.returns-in-None-clause-ok

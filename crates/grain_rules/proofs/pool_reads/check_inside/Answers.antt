@@ -5,7 +5,7 @@ use Rattle.std.proofs.lemmas.Result.{err_from_is_err_and}
 use Rattle.grain_rules.specs.Facts.{facts_of, root_mentions, step_mentions, tail_mentions}
 use Rattle.grain_rules.specs.FirstOut.{alone, first_out}
 use Rattle.grain_rules.specs.Indices.{test_of}
-use Rattle.grain_rules.proofs.Testing.{mentions_append}
+use Rattle.grain_rules.proofs.IndexTests.{mentions_append}
 use Rattle.grain_rules.proofs.pool_reads.check_inside.Goals as goal
 
 pub returns-in_err-check_front : goal.returns-in_err-check_front

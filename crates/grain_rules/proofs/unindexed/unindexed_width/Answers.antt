@@ -1,5 +1,5 @@
 use Rattle.std.proofs.Common.{arith, rules}
-use Rattle.grain_code.proofs.Reading.{IsBytes}
+use Rattle.grain_code.proofs.FieldBytes.{IsBytes}
 use Rattle.grain_rules.proofs.WithoutIndex.{stands_unindexed}
 use Rattle.grain_rules.proofs.unindexed.unindexed_width.Goals as goal
 

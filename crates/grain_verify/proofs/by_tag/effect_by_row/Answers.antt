@@ -7,7 +7,7 @@ use Rattle.grain_code.specs.declared.field.Field.TheVariants.{Target}
 use Rattle.grain_code.specs.declared.flow.Flow.{Flow}
 use Rattle.grain_code.specs.declared.op.Op.{Op}
 use Rattle.grain_code.specs.declared.tag_table.TagRow.{TagRow}
-use Rattle.grain_rules.proofs.Indexing.{tag_of}
+use Rattle.grain_rules.proofs.IndexedCode.{tag_of}
 use Rattle.grain_verify.specs.TagRows.{IsLeftBy, IsRowOf}
 use Rattle.grain_verify.proofs.TagTable.{left_by, target_fits}
 use Rattle.grain_verify.proofs.by_tag.effect_by_row.Goals as goal

@@ -4,7 +4,7 @@ use Rattle.grain_rules.specs.Counts.{Base, last_base}
 use Rattle.grain_rules.specs.EffectView.{flow}
 use Rattle.grain_rules.specs.Sinking.{ReachesUpTo, untouched}
 use Rattle.grain_verify.specs.declared.state.State.{State}
-use Rattle.grain_rules.proofs.Indexing.{tag_of}
+use Rattle.grain_rules.proofs.IndexedCode.{tag_of}
 use Rattle.grain_verify.proofs.RefusalsAreFlaws.{ok_so}
 use Rattle.grain_verify.proofs.AboveLastBase.{untouched_known}
 use Rattle.grain_verify.proofs.sinking.check_stays.Goals as goal

@@ -1,4 +1,4 @@
-use Rattle.grain.proofs.Building.{accepted_here, accepted_there, numbers_here, numbers_there}
+use Rattle.grain.proofs.BuildAcceptance.{accepted_here, accepted_there, numbers_here, numbers_there}
 use Rattle.grain.proofs.laws.building.building_is_verifying.Goals as goal
 
 pub returns-clause-accepted : goal.returns-clause-accepted

@@ -1,4 +1,4 @@
-use Rattle.grain.proofs.Restoring.{belongs_again, bytes_again, chains_again, rest_again}
+use Rattle.grain.proofs.StripRoundTrip.{belongs_again, bytes_again, chains_again, rest_again}
 use Rattle.grain.proofs.laws.positions.stripped_positions_come_back.Goals as goal
 
 pub returns-clause-belongs : goal.returns-clause-belongs

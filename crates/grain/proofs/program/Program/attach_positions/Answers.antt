@@ -12,8 +12,8 @@ use Rattle.grain_bytecode.proofs.Streams.{one_stream}
 use Rattle.grain.specs.Program.{Program}
 use Rattle.grain.specs.Sidecars.{SidecarFlaw, ReadsPlaces}
 use Rattle.grain.specs.Slots.{drawn}
-use Rattle.grain.proofs.Attaching.{equal_counts, one_count, only_memory, places_listed, reads_of}
-use Rattle.grain.proofs.Drawing.{drawn_all}
+use Rattle.grain.proofs.AttachedPositions.{equal_counts, one_count, only_memory, places_listed, reads_of}
+use Rattle.grain.proofs.SlotPositions.{drawn_all}
 use Rattle.grain.proofs.program.Program.attach_positions.Goals as goal
 
 pub returns-in_err-positions-clause-accepts : goal.returns-in_err-positions-clause-accepts

@@ -3,7 +3,7 @@ use Rattle.std.specs.List.{find}
 use Rattle.grain_code.specs.declared.function.Function.{Function}
 use Rattle.grain.specs.Lookups.{is_named}
 use Rattle.grain.specs.Program.{Program}
-use Rattle.grain.proofs.Firsts.{first_is, none_more}
+use Rattle.grain.proofs.FirstMatches.{first_is, none_more}
 use Rattle.grain.proofs.program.Program.function_named.Goals as goal
 
 -- the same names and the same text are sought

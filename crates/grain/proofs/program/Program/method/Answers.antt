@@ -4,7 +4,7 @@ use Rattle.std.specs.Option.{option_copied}
 use Rattle.grain_code.specs.declared.function.Function.{Function}
 use Rattle.grain.specs.Lookups.{is_typed, is_untyped}
 use Rattle.grain.specs.Program.{Program}
-use Rattle.grain.proofs.Firsts.{first_is, kept_fails, kept_first, kept_stays, none_more}
+use Rattle.grain.proofs.FirstMatches.{first_is, kept_fails, kept_first, kept_stays, none_more}
 use Rattle.grain.proofs.program.Program.method.Goals.{then-is_none+then-is_untyped, else-is_none, else-is_none-via-then-is_none+else-is_untyped, else-is_none-via-else-is_none}
 use Rattle.grain.proofs.program.Program.method.Goals as goal
 

@@ -4,7 +4,7 @@ use Rattle.std.proofs.lemmas.Result.{err_from_is_err_and}
 use Rattle.grain_bytecode.specs.Positions.{Place, entries_at_places}
 use Rattle.grain_bytecode.specs.declared.positions.StripError.TheVariants as strip_error
 use Rattle.grain.specs.Program.{places_of}
-use Rattle.grain.proofs.Attaching.{places_listed}
+use Rattle.grain.proofs.AttachedPositions.{places_listed}
 use Rattle.grain.proofs.program.Program.sidecar.Goals as goal
 
 pub returns-in_err-to_table-clause-wide : goal.returns-in_err-to_table-clause-wide

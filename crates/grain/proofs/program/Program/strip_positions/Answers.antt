@@ -6,7 +6,7 @@ use Rattle.grain_pools.specs.Chain.{shape}
 use Rattle.grain_bytecode.specs.ChainStream.{all_positions}
 use Rattle.grain_pools.specs.declared.chain.Chain.{Chain}
 use Rattle.grain.specs.Program.{Program}
-use Rattle.grain.proofs.Attaching.{none_placed}
+use Rattle.grain.proofs.AttachedPositions.{none_placed}
 use Rattle.grain.proofs.program.Program.strip_positions.Goals as goal
 
 pub returns-clause-stripped : goal.returns-clause-stripped

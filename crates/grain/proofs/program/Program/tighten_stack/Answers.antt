@@ -3,7 +3,7 @@ use Rattle.std.proofs.lemmas.Slice.Zip.{AllZip-long}
 use Rattle.grain_rules.specs.Code.{coded}
 use Rattle.grain.specs.Program.{chunks_of, input_of}
 use Rattle.grain_rules.specs.Typing.{IsDeepest}
-use Rattle.grain.proofs.Tightening.{tightened}
+use Rattle.grain.proofs.RedeclaredPrograms.{tightened}
 use Rattle.grain.proofs.program.Program.tighten_stack.Goals as goal
 
 pub declare-requires : goal.declare-requires

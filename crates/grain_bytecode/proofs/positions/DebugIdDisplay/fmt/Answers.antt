@@ -1,4 +1,4 @@
-use Rattle.grain_bytecode.proofs.Printed.{padded_half}
+use Rattle.grain_bytecode.proofs.Hexadecimal.{padded_half}
 use Rattle.grain_bytecode.proofs.positions.DebugIdDisplay.fmt.Goals as goal
 
 pub returns-clause-writes : goal.returns-clause-writes

@@ -1,7 +1,7 @@
 use Rattle.std.proofs.Common.{◌≡◌, refl, true, false, rules}
 use Rattle.std.proofs.lemmas.Iterator.{cases_from_all, YieldsList-from_slice}
 use Rattle.grain_base.specs.Place.{is_none}
-use Rattle.grain_bytecode.proofs.Entering.{all_none, some_place}
+use Rattle.grain_bytecode.proofs.PositionEntries.{all_none, some_place}
 use borrow.Author.Tests.{tests}
 use Rattle.grain_bytecode.proofs.positions.Positions.dense.Goals as goal
 

@@ -2,7 +2,7 @@ use Rattle.std.proofs.Common.{◌≡◌, ◌∙◌, length, drop, vec_len, inl, 
 use Rattle.std.proofs.lemmas.List.{take_at}
 use Rattle.std.proofs.lemmas.Result.{err_from_is_err_and}
 use Rattle.grain_bytecode.specs.Positions.{dense}
-use Rattle.grain_bytecode.proofs.Accepting.{entry_count, countable, no_entries, some_entries}
+use Rattle.grain_bytecode.proofs.TableAcceptance.{entry_count, countable, no_entries, some_entries}
 use Rattle.grain_bytecode.proofs.positions.Positions.from_table.Goals as goal
 
 pub returns-in_err-entries-clause-err : goal.returns-in_err-entries-clause-err

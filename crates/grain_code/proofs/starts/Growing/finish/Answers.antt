@@ -1,6 +1,6 @@
 use Rattle.std.proofs.Common.{refl, arith}
 use Rattle.grain_code.specs.Starts.{all_bits, set_below}
-use Rattle.grain_code.proofs.Filling.{filled}
+use Rattle.grain_code.proofs.FilledWords.{filled}
 use Rattle.grain_code.proofs.starts.Growing.finish.Goals as goal
 
 pub invariant_of-result : goal.invariant_of-result

@@ -1,6 +1,6 @@
 use Rattle.std.proofs.Common.{◌<◌, ◌+◌, ◌/◌, ℕ, List, refl, sym, subst, arith}
 use Rattle.grain_code.specs.Starts.{Filling, Growth}
-use Rattle.grain_code.proofs.Filling.{grown_start}
+use Rattle.grain_code.proofs.FilledWords.{grown_start}
 use Rattle.grain_code.proofs.starts.Growing.push.Goals as goal
 
 pub invariant_of-self : goal.invariant_of-self

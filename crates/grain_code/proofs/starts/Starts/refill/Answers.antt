@@ -1,7 +1,7 @@
 use Rattle.std.proofs.Common.{[], ◌∙◌, refl, arith}
 use Rattle.std.proofs.Math.Nat.{div-add-mod}
 use Rattle.grain_code.specs.Split.{starts_from}
-use Rattle.grain_code.proofs.Filling.{filled, filling_none, filling_word}
+use Rattle.grain_code.proofs.FilledWords.{filled, filling_none, filling_word}
 use Rattle.grain_code.proofs.Fronts.{whole_front}
 use Rattle.grain_code.proofs.starts.Starts.refill.Goals as goal
 

@@ -1,6 +1,6 @@
 use Rattle.std.proofs.Common.{refl}
 use Rattle.std.proofs.lemmas.Result.{err_from_is_err_and}
-use Rattle.grain_explain.proofs.Matching.{all_done, next_of, none_done, one_done}
+use Rattle.grain_explain.proofs.EdgeMatches.{all_done, next_of, none_done, one_done}
 use Rattle.grain_explain.proofs.claim.Claim.check_each.Goals as goal
 
 pub loop-target-init : goal.loop-target-init

@@ -1,6 +1,6 @@
 use Rattle.std.proofs.Common.{length}
 use Rattle.grain_explain.specs.Claimed.{HasRow, claimed}
-use Rattle.grain_explain.proofs.Matching.{UpTo}
+use Rattle.grain_explain.proofs.EdgeMatches.{UpTo}
 use Rattle.grain_explain.proofs.claim.Claim.check_each.Given as goal
 
 abbrev pub invariant-loop-target : goal.invariant-loop-target

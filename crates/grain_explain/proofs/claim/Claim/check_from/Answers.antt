@@ -2,7 +2,7 @@ use Rattle.std.proofs.Common.{◌≡◌, Some, ap, subst, ◌∙◌}
 use Rattle.grain_rules.specs.Counts.{nothing}
 use Rattle.grain_explain.specs.RowView.{typing_of}
 use Rattle.grain_explain.proofs.Certified.{certified}
-use Rattle.grain_explain.proofs.Matching.{on_ok}
+use Rattle.grain_explain.proofs.EdgeMatches.{on_ok}
 use Rattle.grain_explain.specs.Claimed.{claimed}
 use Rattle.grain_explain.proofs.claim.Claim.check_from.Goals as goal
 

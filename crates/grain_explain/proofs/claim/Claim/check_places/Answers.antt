@@ -5,7 +5,7 @@ use Rattle.grain_rules.specs.Typing.{IsInChunk}
 use Rattle.grain_explain.specs.Claimed.{claimed}
 use Rattle.grain_explain.specs.declared.row.Row.{Row}
 use Rattle.grain_explain.proofs.Boundaries.{start_there}
-use Rattle.grain_explain.proofs.Laying.{row_inside, row_of, row_there, rows_more}
+use Rattle.grain_explain.proofs.NumberedRows.{row_inside, row_of, row_there, rows_more}
 use Rattle.grain_explain.proofs.claim.Claim.check_places.Goals as goal
 
 pub loop-row-preserved : goal.loop-row-preserved

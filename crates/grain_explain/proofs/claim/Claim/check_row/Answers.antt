@@ -1,8 +1,8 @@
 use Rattle.std.proofs.Common.{◌+◌, arith, subst, sym}
-use Rattle.grain_rules.proofs.Once.{wide}
+use Rattle.grain_rules.proofs.OperationUniqueness.{wide}
 use Rattle.grain_rules.proofs.Splits.{start_op}
 use Rattle.grain_explain.specs.Claimed.{AreMatched, IsAstray, RefusesRows, claimed}
-use Rattle.grain_explain.proofs.Matching.{astray_flaw, closed_by, lack_flaw, on_err, on_ok}
+use Rattle.grain_explain.proofs.EdgeMatches.{astray_flaw, closed_by, lack_flaw, on_err, on_ok}
 use Rattle.grain_explain.proofs.claim.Claim.check_row.Goals as goal
 
 pub returns-then-row-self-clause-err : goal.returns-then-row-self-clause-err

@@ -1,6 +1,6 @@
 use Rattle.std.proofs.Common.{arith}
 use Rattle.grain_explain.specs.Claimed.{IsSound, claimed}
-use Rattle.grain_explain.proofs.Laying.{row_inside, row_of, row_there, rows_more}
+use Rattle.grain_explain.proofs.NumberedRows.{row_inside, row_of, row_there, rows_more}
 use Rattle.grain_explain.proofs.claim.Claim.check_rows.Goals as goal
 
 pub loop-number-preserved : goal.loop-number-preserved

@@ -1,7 +1,7 @@
 use Rattle.std.proofs.Common.{ℕ, List, subst}
 use Rattle.std.specs.List.{All}
 use Rattle.grain_explain.specs.Claimed.{HasRow, MissesOne, claimed}
-use Rattle.grain_explain.proofs.Matching.{on_err, on_ok}
+use Rattle.grain_explain.proofs.EdgeMatches.{on_err, on_ok}
 use Rattle.grain_explain.proofs.claim.Claim.check_targets.Goals as goal
 
 pub returns-in-Switches-clause-ok : goal.returns-in-Switches-clause-ok

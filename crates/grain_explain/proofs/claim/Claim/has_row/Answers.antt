@@ -3,8 +3,8 @@ use Rattle.std.proofs.lemmas.List.Sorted.{answers_always}
 use Rattle.std.proofs.lemmas.Option.{none-some, slice_get-get_or}
 use Rattle.grain_explain.specs.OnEdges.{counts_on}
 use Rattle.grain_explain.specs.declared.row.Row.{Row}
-use Rattle.grain_explain.proofs.Halving.{row_found, row_missing}
-use Rattle.grain_explain.proofs.Laying.{row_of}
+use Rattle.grain_explain.proofs.BinarySearch.{row_found, row_missing}
+use Rattle.grain_explain.proofs.NumberedRows.{row_of}
 use Rattle.grain_explain.proofs.claim.Claim.has_row.Goals as goal
 
 pub returns-in-Ok : goal.returns-in-Ok

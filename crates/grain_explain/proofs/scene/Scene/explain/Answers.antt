@@ -2,7 +2,7 @@ use Rattle.std.specs.Prelude.{MatchOption}
 use Rattle.std.proofs.Common.{Option, ◌∙◌, List, Vec, Global, ap, subst, sym}
 use Rattle.std.specs.List.{All, AllZip, Contains}
 use Rattle.grain_explain.specs.Explaining.{IsOrigin, IsReachedRow, IsTypedBy}
-use Rattle.grain_explain.specs.Pursuits.{IsFound}
+use Rattle.grain_explain.specs.Pursuits.{IsRefusalShown}
 use Rattle.grain_explain.specs.declared.arrival.Arrival.{Arrival}
 use Rattle.grain_explain.specs.declared.row.LinkedBase.{LinkedBase}
 use Rattle.grain_explain.specs.declared.row.Row.{Row}
@@ -32,11 +32,11 @@ returns g c =
     let read = c.deref-2.ensures.value in
     let made = c.in_ok-rows.ensures in
     let taken = ap (λ (v : Vec LinkedBase Global). v.items) c.into_bases-bases.ensures in
-    let found : MatchOption c.match-found-2.refusal (IsTypedBy s.code s.chunk bases.items rows.items) (IsFound s bases.items slots) = elim c.match-found-2.branch [
-      | in-Some w ↦ rw w.refusal-is (subst (λ (bs : List LinkedBase). IsFound s bs slots w.in-Some.refusal) (sym taken)
-          (subst (λ (xs : List (Option Arrival)). IsFound s c.run.new.search.arming.bases.items xs w.in-Some.refusal) (sym c.deref.ensures.value) (rw w.in-Some.is at c.in_ok-found.ensures.refusal)))
-      | in-None+in_ok-refusal-in-None w ↦ rw w.refusal-is (subst (λ (bs : List LinkedBase). MatchOption w.in_ok-refusal-in-None.refusal (IsTypedBy s.code s.chunk bs rows.items) (IsFound s bs slots)) read
-          (subst (λ (rs : List Row). MatchOption w.in_ok-refusal-in-None.refusal (IsTypedBy s.code s.chunk c.deref-2.result.now rs) (IsFound s c.deref-2.result.now slots)) w.deref-in-None.ensures.value
+    let found : MatchOption c.match-found-2.refusal (IsTypedBy s.code s.chunk bases.items rows.items) (IsRefusalShown s bases.items slots) = elim c.match-found-2.branch [
+      | in-Some w ↦ rw w.refusal-is (subst (λ (bs : List LinkedBase). IsRefusalShown s bs slots w.in-Some.refusal) (sym taken)
+          (subst (λ (xs : List (Option Arrival)). IsRefusalShown s c.run.new.search.arming.bases.items xs w.in-Some.refusal) (sym c.deref.ensures.value) (rw w.in-Some.is at c.in_ok-found.ensures.refusal)))
+      | in-None+in_ok-refusal-in-None w ↦ rw w.refusal-is (subst (λ (bs : List LinkedBase). MatchOption w.in_ok-refusal-in-None.refusal (IsTypedBy s.code s.chunk bs rows.items) (IsRefusalShown s bs slots)) read
+          (subst (λ (rs : List Row). MatchOption w.in_ok-refusal-in-None.refusal (IsTypedBy s.code s.chunk c.deref-2.result.now rs) (IsRefusalShown s c.deref-2.result.now slots)) w.deref-in-None.ensures.value
           w.in_ok-refusal-in-None.ensures))
     ] in
     explained_of s slots _ made.ascending (subst (λ (bs : List LinkedBase). All (IsReachedRow s.code s.chunk bs) rows.items) read made.reached)

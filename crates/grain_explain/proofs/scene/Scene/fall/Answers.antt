@@ -2,7 +2,7 @@ use Rattle.std.proofs.Common.{◌∙◌, ap, inr, arith, refl, sym}
 use Rattle.std.proofs.lemmas.List.Elements.{All-push}
 use Rattle.grain_rules.specs.FlowFields.{falls_for}
 use Rattle.grain_explain.specs.RowView.{counts_of}
-use Rattle.grain_explain.specs.Scenes.{Comes, seen, stacks_in}
+use Rattle.grain_explain.specs.Scenes.{ArrivesInWalk, seen, stacks_in}
 use Rattle.grain_explain.specs.declared.row.Row.{Row}
 use Rattle.grain_explain.proofs.Sceneries.{along_come, fall_edge, next_inside, next_within}
 use Rattle.grain_explain.proofs.scene.Scene.fall.Goals as goal
@@ -21,7 +21,7 @@ returns-clause-waits g c =
     let end = c.end.ensures in
     let unlike = c.if-departure-end.false in
     let inside = next_inside s d.here.now.row.at d.next left.op c.requires.ready left.passes.stands left.next (λ e. absurd (omega arith)) in
-    rw (c.in_ok-push.ensures.items, c.at.ensures) (All-push (Comes s d.visited) c.args.work.now.items _ c.requires.waits (along_come s d left _ fall.listed refl inside edge))
+    rw (c.in_ok-push.ensures.items, c.at.ensures) (All-push (ArrivesInWalk s d.visited) c.args.work.now.items _ c.requires.waits (along_come s d left _ fall.listed refl inside edge))
 
 pub overflow_cast-at : goal.overflow_cast-at
 overflow_cast-at g c =

@@ -11,9 +11,9 @@ use Rattle.grain_explain.specs.RowView.{counts_of}
 use Rattle.grain_explain.specs.Scenes.{AreCome, IsCome, Leaves, seen}
 use Rattle.grain_explain.specs.Ways.{Shows, arrival_stop}
 use Rattle.grain_explain.specs.declared.row.LinkedBase.{LinkedBase}
-use Rattle.grain_explain.proofs.Extending.{counts_kept, held_more, waits_more}
+use Rattle.grain_explain.proofs.BaseExtension.{counts_kept, held_more, waits_more}
 use Rattle.grain_explain.proofs.Refused.{lacking_flaw, lacking_shows}
-use Rattle.grain_explain.proofs.Tracing.{visits_few}
+use Rattle.grain_explain.proofs.StepsBack.{visits_few}
 use Rattle.grain_explain.proofs.scene.Scene.look.Goals as goal
 
 pub decode_standing-op-requires : goal.decode_standing-op-requires

@@ -4,7 +4,7 @@ use Rattle.std.proofs.lemmas.Bool.{cases_lt}
 use Rattle.std.proofs.lemmas.List.{get_or_default}
 use Rattle.std.proofs.lemmas.List.Elements.{All-push, Contains-append_left, Contains-get_or, Contains-push}
 use Rattle.grain_explain.specs.Pursuits.{sent_to}
-use Rattle.grain_explain.specs.Scenes.{Comes, seen, stacks_in}
+use Rattle.grain_explain.specs.Scenes.{ArrivesInWalk, seen, stacks_in}
 use Rattle.grain_explain.specs.declared.arrival.Arrival.{Arrival}
 use Rattle.grain_explain.specs.declared.row.Row.{Row}
 use Rattle.grain_explain.proofs.Sceneries.{along_come, jump_edge}
@@ -28,7 +28,7 @@ loop-target-preserved g c =
     let last : Contains new (sent_to d target) = rw (c.in_ok-push.ensures.items, c.at.ensures) (Contains-push old (sent_to d target)) in
     let kept : (a : Arrival) → Contains old a → Contains new a = λ a h. rw c.in_ok-push.ensures.items (Contains-append_left old _ a h) in
     record {
-      waits = rw (c.in_ok-push.ensures.items, c.at.ensures) (All-push (Comes s d.visited) old _ c.loop-target.invariant.waits (along_come s d left _ jump.listed refl (c.requires.inside at 0 inside) edge));
+      waits = rw (c.in_ok-push.ensures.items, c.at.ensures) (All-push (ArrivesInWalk s d.visited) old _ c.loop-target.invariant.waits (along_come s d left _ jump.listed refl (c.requires.inside at 0 inside) edge));
       keeps = λ a h. kept a (c.loop-target.invariant.keeps a h);
       sent = λ k z l. elim (cases_lt k at) [
         | inl m ↦ kept (sent_to d (get_or c.args.targets.now k z)) (c.loop-target.invariant.sent k z m)

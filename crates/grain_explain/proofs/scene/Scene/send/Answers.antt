@@ -5,9 +5,9 @@ use Rattle.grain_rules.specs.EffectView.{flow_in}
 use Rattle.grain_rules.specs.FlowFields.{targets_for}
 use Rattle.grain_explain.specs.Scenes.{seen}
 use Rattle.grain_explain.specs.Ways.{arrival_stop}
-use Rattle.grain_explain.specs.Pursuits.{Keeps, fallen, sent_to}
-use Rattle.grain_explain.proofs.Matching.{on_ok}
-use Rattle.grain_explain.proofs.Pursuing.{pursued_left}
+use Rattle.grain_explain.specs.Pursuits.{Keeps, sent_to_next, sent_to}
+use Rattle.grain_explain.proofs.EdgeMatches.{on_ok}
+use Rattle.grain_explain.proofs.PursuitSteps.{pursued_left}
 use Rattle.grain_explain.proofs.Sceneries.{if_none}
 use Rattle.grain_explain.proofs.Refused.{target_flaw}
 use Rattle.grain_explain.proofs.scene.Scene.send.Goals as goal
@@ -37,7 +37,7 @@ returns-then-falls-clause-pursued g c =
     let targets = targets_for s.code.switches (flow_in d.effect.now) in
     let there = c.deref-2.ensures.value ∙ c.in_ok-targets.ensures in
     let sent = subst (All (λ (t : ℕ). Contains mid (sent_to d t))) there c.in_ok-push_all.ensures.sent in
-    if_none c.fall.result (λ (keeps : Keeps mid new) (here : Contains new (fallen d)).
+    if_none c.fall.result (λ (keeps : Keeps mid new) (here : Contains new (sent_to_next d)).
     pursued_left s d c.requires.left new (All-weaker (λ (t : ℕ). Contains mid (sent_to d t)) (λ (t : ℕ). Contains new (sent_to d t)) (λ t. keeps (sent_to d t)) targets sent) (λ _. here)) c.fall.ensures.keeps c.fall.ensures.sent
 
 pub returns-clause-pursued : goal.returns-clause-pursued

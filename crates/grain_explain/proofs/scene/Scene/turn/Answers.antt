@@ -1,11 +1,11 @@
 use Rattle.std.proofs.Common.{Option, sym, ◌≡◌, ◌-◌, List, Some, subst, arith}
 use Rattle.std.proofs.lemmas.List.Elements.{All-pop}
-use Rattle.grain_explain.specs.Pursuits.{ArePursued, Holds}
+use Rattle.grain_explain.specs.Pursuits.{ArePursued, WasVisited}
 use Rattle.grain_explain.specs.Scenes.{IsCome, seen}
 use Rattle.grain_explain.specs.Ways.{arrival_stop}
 use Rattle.grain_explain.specs.declared.arrival.Arrival.{Arrival}
 use Rattle.grain_explain.specs.declared.row.LinkedBase.{LinkedBase}
-use Rattle.grain_explain.proofs.Pursuing.{pursued_less}
+use Rattle.grain_explain.proofs.PursuitSteps.{pursued_less}
 use Rattle.grain_explain.proofs.Sceneries.{come_read, held_read, place_within, slot_held}
 use Rattle.grain_explain.proofs.scene.Scene.turn.Goals as goal
 
@@ -22,7 +22,7 @@ compare-requires-clause-before g c =
     let before = c.in-Some-index.before in
     let popped = All-pop (IsCome s bases slots) c.loop-arrival.search.work.items c.pop.new.self.items (Some c.in-Some.arrival) c.in-Some.ensures.items old.waits in
     let slot = slot_held slots place c.index.result.now before (place_within s slots c.in-Some.arrival.row.at c.entry.result c.entry.ensures old.sized popped.1.inside) c.index.ensures c.in-Some-index.is in
-    subst (λ (xs : List (Option Arrival)). Holds xs before) (sym c.deref.ensures.value) (place, slot)
+    subst (λ (xs : List (Option Arrival)). WasVisited xs before) (sym c.deref.ensures.value) (place, slot)
 
 pub compare-requires-clause-arrival : goal.compare-requires-clause-arrival
 compare-requires-clause-arrival g c =

@@ -6,9 +6,9 @@ use Rattle.grain_explain.specs.Pursuits.{IsPursued, Keeps}
 use Rattle.grain_explain.specs.Scenes.{AreCome, Extends, IsCome, seen, visit_count}
 use Rattle.grain_explain.specs.Ways.{first_stop}
 use Rattle.grain_explain.specs.declared.arrival.Arrival.{Arrival}
-use Rattle.grain_explain.proofs.Extending.{held_more}
-use Rattle.grain_explain.proofs.Matching.{both_ok, on_ok}
-use Rattle.grain_explain.proofs.Pursuing.{ahead_more, begun_set, each_more}
+use Rattle.grain_explain.proofs.BaseExtension.{held_more}
+use Rattle.grain_explain.proofs.EdgeMatches.{both_ok, on_ok}
+use Rattle.grain_explain.proofs.PursuitSteps.{ahead_more, begun_set, each_more}
 use Rattle.grain_explain.proofs.Sceneries.{come_kept, come_set, if_none, set_place}
 use Rattle.grain_explain.proofs.scene.Scene.visit.Goals as goal
 

@@ -8,7 +8,7 @@ use Rattle.grain_explain.specs.Ways.{Follows, IsWayTo, arrival_stop, stops_of}
 use Rattle.grain_explain.specs.declared.arrival.Arrival.{Arrival}
 use Rattle.grain_explain.specs.declared.row.Row.{Row}
 use Rattle.grain_explain.proofs.Sceneries.{way_more}
-use Rattle.grain_explain.proofs.Tracing.{back_from}
+use Rattle.grain_explain.proofs.StepsBack.{back_from}
 use Rattle.grain_explain.proofs.scene.Scene.way_to.Goals as goal
 
 pub at-here-requires : goal.at-here-requires

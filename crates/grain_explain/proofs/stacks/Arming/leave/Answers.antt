@@ -7,7 +7,7 @@ use Rattle.grain_explain.specs.Claimed.{falling_on}
 use Rattle.grain_explain.specs.OnEdges.{counts_on, left_by}
 use Rattle.grain_explain.specs.RowView.{counts_of}
 use Rattle.grain_explain.specs.declared.row.LinkedBase.{LinkedBase}
-use Rattle.grain_explain.proofs.Extending.{counts_kept, edge_kept, extends_twice, lands_more, longer}
+use Rattle.grain_explain.proofs.BaseExtension.{counts_kept, edge_kept, extends_twice, lands_more, longer}
 use Rattle.grain_explain.proofs.stacks.Arming.leave.Goals as goal
 
 pub returns-clause-leaves : goal.returns-clause-leaves

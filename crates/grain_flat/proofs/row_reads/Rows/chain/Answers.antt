@@ -1,6 +1,6 @@
 use Rattle.std.proofs.Common.{rules, ◌≡◌, List, None, Some, slice_get, ap, refl, sym, ◌∙◌, arith}
 use Rattle.std.proofs.lemmas.Option.{slice_get_read}
-use Rattle.grain_flat.specs.RowFacts.{chain_told}
+use Rattle.grain_flat.specs.RowFacts.{chain_by_rows}
 use Rattle.grain_flat.specs.declared.records.CStep.{CStep}
 use Rattle.grain_flat.proofs.RowEntries.{chain_begun, chain_past, chain_there, steps_there}
 use Rattle.grain_flat.proofs.row_reads.Rows.chain.Goals as goal
@@ -33,4 +33,4 @@ returns c =
     let begun = chain_begun p c.self.inside.tables.steps.items c.self.inside.tables.arms.items c.self.invariant c.args.index c.in_ok-row.row.now there in
     let at = slice_get_read c.self.inside.tables.steps.items _ c.args.index c.index-from.result.now refl begun c.index-from.ensures in
     let part = steps_there p c.self.inside.tables.steps.items c.self.inside.tables.arms.items c.self.invariant c.args.index c.in_ok-row.row.now c.index-from.result.now there at in
-    ap (λ (own : List CStep). Some (chain_told c.in_ok-row.row.now own)) c.part.ensures ∙ rw (← c.self.view_is) (sym (chain_there p.chains.now p.steps.now _ c.args.index c.in_ok-row.row.now there part.told))
+    ap (λ (own : List CStep). Some (chain_by_rows c.in_ok-row.row.now own)) c.part.ensures ∙ rw (← c.self.view_is) (sym (chain_there p.chains.now p.steps.now _ c.args.index c.in_ok-row.row.now there part.part_is))

@@ -23,4 +23,4 @@ returns c =
     let begun = arms_begun p c.self.inside.tables.steps.items c.self.inside.tables.arms.items c.self.invariant c.args.index c.args.row.now there in
     let at = slice_get_read c.self.inside.tables.arms.items _ c.args.index c.index-from.result.now refl begun c.index-from.ensures in
     let part = ranges_there p c.self.inside.tables.steps.items c.self.inside.tables.arms.items c.self.invariant c.args.index c.args.row.now c.index-from.result.now there at in
-    rw (← c.self.view_is) (part.told ∙ ap (λ own. Some own) (sym c.part.ensures))
+    rw (← c.self.view_is) (part.part_is ∙ ap (λ own. Some own) (sym c.part.ensures))

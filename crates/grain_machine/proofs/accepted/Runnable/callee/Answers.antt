@@ -22,6 +22,7 @@ invariant_of-result c =
           (function_chunk c.self.inside.program.now c.functions.result.now c.args.function c.index-functions-function.result c.functions.ensures inside)
           (slice_get-get_or c.self.inside.numbers.now (c.args.function + 1) 0 long),
       c.self.invariant.1,
+      c.self.invariant.2,
     )
 
 pub returns-clause-chunk : goal.returns-clause-chunk

@@ -1,25 +1,34 @@
-use Rattle.std.proofs.Common.{◌+◌, sym, ap, ◌∙◌, subst}
-use Rattle.grain_code.specs.InstructionTable.{width_of}
+use Rattle.std.proofs.Common.{length, ap, subst, arith}
+use Rattle.std.proofs.lemmas.Option.{slice_get-get_or}
+use Rattle.grain_machine.specs.Decoded.{AreDecoded}
 use Rattle.grain_machine.specs.State.{IsRunnable, Runs, state_of}
-use Rattle.grain_machine.proofs.Standing.{is_at, passes_here, stands_along}
+use Rattle.grain_machine.proofs.DecodedCode.{entry_here, stands_within}
 use Rattle.grain_machine.proofs.accepted.Runnable.read.Goals as goal
 
-pub decode_standing-requires : goal.decode_standing-requires
-decode_standing-requires g c =
-    let r = c.args.self.now in
-    let s = c.args.frame.now in
-    let runs : IsRunnable r = subst IsRunnable c.self.view_is c.self.invariant.0 in
-    let here = passes_here r (state_of s) runs c.requires in
-    let code = c.code.ensures ∙ ap (λ (x : Runs). x.program.code) c.self.view_is in
-    (here.0, stands_along r.program.code c.code.result.now s.machine.address c.at.result here.0 code c.at.ensures here.1.stands.is)
+pub bounds-decoded-at : goal.bounds-decoded-at
+bounds-decoded-at g c =
+    let inside = stands_within c.args.self.now (state_of c.args.frame.now) (subst IsRunnable c.self.view_is c.self.invariant.0) c.requires in
+    let long = c.self.invariant.2.long in
+    let same = ap (λ (x : Runs). length x.program.code) c.self.view_is in
+    let at = c.at-at.ensures in
+    omega arith
 
-pub returns : goal.returns
-returns g c =
-    let r = c.args.self.now in
-    let s = c.args.frame.now in
-    let runs : IsRunnable r = subst IsRunnable c.self.view_is c.self.invariant.0 in
-    let code = c.code.ensures ∙ ap (λ (x : Runs). x.program.code) c.self.view_is in
-    let read = c.decode_standing in
-    is_at r (state_of s) read.result.0 read.result.1 runs c.requires
-    (stands_along c.code.result.now r.program.code c.at.result s.machine.address read.result.0 (sym code) (sym c.at.ensures) read.ensures.stands)
-    (read.ensures.behind ∙ ap (λ n. n + width_of read.result.0) c.at.ensures)
+pub offset_bounds-decoded-at : goal.offset_bounds-decoded-at
+offset_bounds-decoded-at g c =
+    let inside = bounds-decoded-at g c in
+    let small = c.self.told2 in
+    omega arith
+
+pub returns-clause-at : goal.returns-clause-at
+returns-clause-at g c =
+    let all = c.self.inside.decoded.now in
+    let decoded = subst (λ (x : Runs). AreDecoded x.program (length x.program.code) all) c.self.view_is c.self.invariant.2 in
+    (entry_here c.args.self.now (state_of c.args.frame.now) all c.at-at.result _ (subst IsRunnable c.self.view_is c.self.invariant.0) c.requires decoded c.at-at.ensures
+    (slice_get-get_or all c.at-at.result _ (bounds-decoded-at g c))).0
+
+pub returns-clause-takes : goal.returns-clause-takes
+returns-clause-takes g c =
+    let all = c.self.inside.decoded.now in
+    let decoded = subst (λ (x : Runs). AreDecoded x.program (length x.program.code) all) c.self.view_is c.self.invariant.2 in
+    (entry_here c.args.self.now (state_of c.args.frame.now) all c.at-at.result _ (subst IsRunnable c.self.view_is c.self.invariant.0) c.requires decoded c.at-at.ensures
+    (slice_get-get_or all c.at-at.result _ (bounds-decoded-at g c))).1

@@ -7,6 +7,7 @@ abbrev pub invariant-loop-handler : goal.invariant-loop-handler
 invariant-loop-handler g l = record {
   same : innermost (innermost_first l.self-inside.handlers.items) ≡ innermost (innermost_first l.initial.self-inside.handlers.items);
   rest : l.self-inside.operands ≡ l.initial.self-inside.operands;
+  room : l.self-inside.room ≡ l.initial.self-inside.room;
   iterators : l.self-inside.iterators ≡ l.initial.self-inside.iterators;
 }
 

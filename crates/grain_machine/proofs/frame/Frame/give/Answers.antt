@@ -11,7 +11,7 @@ returns-in_err-value-clause-err g c =
     let there : c.args.takes ≤ length c.args.self.now.machine.operands = c.requires.there in
     let long : c.len.result ≡ vec_len f.operands = c.len.ensures in
     on_err c.from_residual.result
-    (lent f.at f.operands f.iterators.items (innermost_first f.handlers.items) c.args.self.now c.len.result c.args.takes c.deref_mut.result.now c.give.new.operands
+    (lent f.at f.room f.operands f.iterators.items (innermost_first f.handlers.items) c.args.self.now c.len.result c.args.takes c.deref_mut.result.now c.give.new.operands
     c.self.view_is c.deref_mut.ensures.value long (omega (arith, all, seen, there, long)) (omega (arith, all, seen, there, long, c.give.auto.operands, ap (λ (zs : List g.row.V.Denot). length zs) c.deref_mut.ensures.value)))
 
 pub returns-in-Value-clause-ok : goal.returns-in-Value-clause-ok
@@ -21,6 +21,6 @@ returns-in-Value-clause-ok g c =
     let seen : length f.operands.items ≡ length c.args.self.now.machine.operands = ap (λ (s : FrameState g.row.V.Denot g.row.I.Denot). length s.machine.operands) c.self.view_is in
     let there : c.args.takes ≤ length c.args.self.now.machine.operands = c.requires.there in
     let long : c.len.result ≡ vec_len f.operands = c.len.ensures in
-    let lending = lent f.at f.operands f.iterators.items (innermost_first f.handlers.items) c.args.self.now c.len.result c.args.takes c.deref_mut.result.now c.give.new.operands
+    let lending = lent f.at f.room f.operands f.iterators.items (innermost_first f.handlers.items) c.args.self.now c.len.result c.args.takes c.deref_mut.result.now c.give.new.operands
     c.self.view_is c.deref_mut.ensures.value long (omega (arith, all, seen, there, long)) (omega (arith, all, seen, there, long, c.give.auto.operands, ap (λ (zs : List g.row.V.Denot). length zs) c.deref_mut.ensures.value)) in
     (c.in-Value.value ∷ [], refl, replaced_by c.args.takes c.args.self.now _ c.replace.new.self (c.in-Value.value ∷ []) there lending c.replace.ensures)

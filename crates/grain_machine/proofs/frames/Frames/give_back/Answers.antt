@@ -24,7 +24,7 @@ returns-clause-standing g c =
     let p = c.args.self.now.body.program in
     let w = c.in-Some.caller in
     let h = All-pop (IsWaiting p) c.args.self.now.callers.items c.pop.new.self.items (Some w) c.in-Some.ensures.items c.requires in
-    record { program = h.1.program; ready = rw (c.go.ensures, c.replace.ensures) (ready_there p w c.value_or_unit-given.result h.1); waiting = h.0 }
+    record { program = h.1.program; ready = rw (c.swap.ensures.x_after, c.go.ensures, c.replace.ensures) (ready_there p w c.value_or_unit-given.result h.1); waiting = h.0 }
 
 pub returns-clause-goes : goal.returns-clause-goes
 returns-clause-goes g c =
@@ -32,5 +32,5 @@ returns-clause-goes g c =
     let w = c.in-Some.caller in
     let h = All-pop (IsWaiting p) c.args.self.now.callers.items c.pop.new.self.items (Some w) c.in-Some.ensures.items c.requires in
     let called = ap waiting_of c.in-Some.ensures.items ∙ last_called c.pop.new.self.items w in
-    rw (c.go.ensures, c.replace.ensures)
+    rw (c.swap.ensures.x_after, c.go.ensures, c.replace.ensures)
     (given_back p w c.args.value c.value_or_unit-given.result (waiting_of c.pop.new.self.items) (waiting_of c.args.self.now.callers.items) h.1 c.value_or_unit-given.ensures called)

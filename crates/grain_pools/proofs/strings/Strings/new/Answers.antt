@@ -4,7 +4,7 @@ use Rattle.std.specs.Str.{is_utf8}
 use Rattle.std.proofs.lemmas.List.{map_more, take_all}
 use Rattle.std.proofs.lemmas.Str.{is_utf8-from_IsUtf8}
 use Rattle.grain_pools.specs.Names.{texts}
-use Rattle.grain_pools.proofs.Growing.{no_name, concat_more, starts_more, texts_more, front_more, front_texts_le, made_table, names_of_made}
+use Rattle.grain_pools.proofs.TableGrowth.{no_name, concat_more, starts_more, texts_more, front_more, front_texts_le, made_table, names_of_made}
 use Rattle.grain_pools.proofs.strings.Strings.new.Goals as goal
 
 pub overflow_cast-len-in-loop-name : goal.overflow_cast-len-in-loop-name

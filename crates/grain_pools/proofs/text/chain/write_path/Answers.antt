@@ -1,6 +1,6 @@
 use Rattle.std.proofs.lemmas.Result.{err_from_is_err_and}
 use Rattle.grain_pools.specs.LookedUp.{steps_sought, tail_sought}
-use Rattle.grain_pools.proofs.Missing.{earlier_named, later_decide}
+use Rattle.grain_pools.proofs.FirstMissing.{earlier_named, later_decide}
 use Rattle.grain_pools.proofs.text.chain.write_path.Goals as goal
 
 pub returns-in_err-write_steps : goal.returns-in_err-write_steps

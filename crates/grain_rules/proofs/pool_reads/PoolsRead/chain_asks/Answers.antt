@@ -2,7 +2,7 @@ use Rattle.std.proofs.Common.{ap, sym, ◌∙◌, option_map}
 use Rattle.std.specs.Borrow.{Bor}
 use Rattle.grain_pools.specs.declared.chain.Chain.{Chain}
 use Rattle.grain_rules.specs.Facts.{ChainFacts, chain_facts}
-use Rattle.grain_rules.proofs.Said.{said_at, said_nowhere}
+use Rattle.grain_rules.proofs.EntryFacts.{said_at, said_nowhere}
 use Rattle.grain_rules.proofs.pool_reads.PoolsRead.chain_asks.Goals as goal
 
 pub returns-in-Some : goal.returns-in-Some

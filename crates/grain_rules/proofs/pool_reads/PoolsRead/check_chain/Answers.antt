@@ -4,7 +4,7 @@ use Rattle.grain_pools.specs.declared.chain.Chain.{Chain}
 use Rattle.grain_rules.specs.Facts.{ChainFacts, Mention, chain_facts, facts_of}
 use Rattle.grain_rules.specs.FirstOut.{alone, first_out}
 use Rattle.grain_rules.specs.Indices.{test_of}
-use Rattle.grain_rules.proofs.Said.{said_at, said_nowhere}
+use Rattle.grain_rules.proofs.EntryFacts.{said_at, said_nowhere}
 use Rattle.grain_rules.proofs.pool_reads.PoolsRead.check_chain.Goals as goal
 
 pub returns-in-Some : goal.returns-in-Some

@@ -2,7 +2,7 @@ use Rattle.std.proofs.Common.{List, ℕ, subst, sym, arith}
 use Rattle.std.specs.List.{Contains}
 use Rattle.std.proofs.lemmas.List.{length-map}
 use Rattle.grain_rules.specs.Code.{switch_targets}
-use Rattle.grain_rules.proofs.Said.{default_named}
+use Rattle.grain_rules.proofs.EntryFacts.{default_named}
 use Rattle.grain_rules.proofs.pool_reads.PoolsRead.default_target.Goals as goal
 
 pub returns-in-Some-clause-some : goal.returns-in-Some-clause-some

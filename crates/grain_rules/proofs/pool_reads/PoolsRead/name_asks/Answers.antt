@@ -1,7 +1,7 @@
 use Rattle.std.proofs.Common.{List, ℕ, ap, sym, ◌∙◌, option_map}
 use Rattle.std.specs.Borrow.{Bor}
 use Rattle.grain_rules.specs.Capabilities.{name_caps}
-use Rattle.grain_rules.proofs.Said.{said_past}
+use Rattle.grain_rules.proofs.EntryFacts.{said_past}
 use Rattle.grain_rules.proofs.pool_reads.PoolsRead.name_asks.Goals as goal
 
 pub returns-in-None : goal.returns-in-None

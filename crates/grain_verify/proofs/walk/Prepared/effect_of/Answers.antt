@@ -1,6 +1,6 @@
 use Rattle.std.proofs.Common.{◌∷◌, subst}
 use Rattle.grain_code.specs.declared.op.Op.{Op}
-use Rattle.grain_code.proofs.Reading.{same_instruction}
+use Rattle.grain_code.proofs.FieldBytes.{same_instruction}
 use Rattle.grain_verify.specs.TagRows.{IsEffectIn}
 use Rattle.grain_verify.specs.Walk.{Walked}
 use Rattle.grain_verify.proofs.walk.Prepared.effect_of.Goals as goal
