@@ -29,7 +29,10 @@ fn loaded_changed(alloc: Global, place: usize, byte: u8, host: Caps) -> Result<S
 fn accepted_programs_are_loaded(rt: HostRuntime) {
     let numbers = made(&rt, loaded(rt.alloc(), EXAMPLE, Caps::empty()));
     assert_same(&rt, numbers.as_str(), "[1]");
-    let numbers = made(&rt, loaded(rt.alloc(), EXAMPLE_WITH_POSITIONS, Caps::empty()));
+    let numbers = made(
+        &rt,
+        loaded(rt.alloc(), EXAMPLE_WITH_POSITIONS, Caps::empty()),
+    );
     assert_same(&rt, numbers.as_str(), "[2]");
     // It declares maps, which one host has.
     let numbers = made(&rt, loaded_changed(rt.alloc(), 6, 8, Caps::all()));
