@@ -2,29 +2,21 @@
 ghost use Rattle.std.specs.Prelude.{◌≡◌, ◌≤◌, ◌⊎◌, ℕ, List, Option, Ok, [], IfOk, IfErr, OnOk, MatchResult, map, option_map, string_bytes};
 ghost use Rattle.grain.specs.Program.{Program, listed_positions};
 ghost use Rattle.grain_base.specs.Place.{place_of};
-ghost use Rattle.grain_file.specs.Reading.{Decides, Gives};
-ghost use Rattle.grain_file.specs.Form.{forms};
-ghost use Rattle.grain_file.specs.Functions.{function_parts};
+ghost use Rattle.grain_fields.specs.Reading.{Decides, Gives};
+ghost use Rattle.grain_fields.specs.Form.{forms};
+ghost use Rattle.grain_fields.specs.Functions.{function_parts};
 ghost use Rattle.grain_base.specs.Tokens.{token_parts};
-ghost use Rattle.grain_file.specs.Tokens.{assign_op_parts};
-ghost use Rattle.grain_file.specs.Chains.{chain_parts};
-ghost use Rattle.grain_file.specs.Switches.{switch_parts};
+ghost use Rattle.grain_fields.specs.Tokens.{assign_op_parts};
+ghost use Rattle.grain_fields.specs.Chains.{chain_parts};
+ghost use Rattle.grain_fields.specs.Switches.{switch_parts};
 ghost use Rattle.grain_file.specs.ProgramFile.{CodeParts, bounds_of, IsFileWithin, Kept, PoolParts, body_format, code_format, file_format, halves, kept, pools_format, rest_format, versioned_format, whole_at};
 ghost use Rattle.grain_file.specs.Causes.{IsReadCause, IsReadFault, code_parts, pool_parts};
 
-use crate::cursor::Cursor;
-use crate::error::{Fault, Stop, Unkept, WriteError};
-use crate::field::Field;
-use crate::lists::put_all;
-use crate::names::{put_names, read_names};
-use crate::number::put_bytes;
-use crate::parts::Part;
-use crate::switches::read_switches;
-use crate::values::{put_values, read_values};
 use grain::{Parts, Program};
 use grain_base::{Caps, Dynamic, Flags, Position, Token};
 use grain_bytecode::Positions;
 use grain_code::{Chunk, Function};
+use grain_fields::{Cursor, Fault, Field, Part, Stop, read_names, read_switches, read_values};
 use grain_pools::{AssignOp, Chain, Strings, Switch};
 use std::alloc::Global;
 use thiserror::Error;
@@ -138,7 +130,7 @@ fn read_file(cursor: &mut Cursor<'_>, limits: &Limits) -> Result<Program, Stop>
 }
 
 /// Reads what a file begins with, and what follows.
-#[tactic(auto, unfolding(crate::specs::ProgramFile::file_format, crate::specs::Texts::expected_at))]
+#[tactic(auto, unfolding(crate::specs::ProgramFile::file_format, grain_fields::specs::Texts::expected_at))]
 fn read_headed(cursor: &mut Cursor<'_>, limits: &Limits) -> Result<Program, Stop>
     ensures { Gives kept result cursor.new.left.now
         ((file_format (bounds_of limits.now)).reading cursor.old.left.now) }
@@ -152,7 +144,7 @@ fn read_headed(cursor: &mut Cursor<'_>, limits: &Limits) -> Result<Program, Stop
 }
 
 /// Reads the version, the kind and the program.
-#[tactic(auto, unfolding(crate::specs::ProgramFile::versioned_format, crate::specs::Texts::expected_at))]
+#[tactic(auto, unfolding(crate::specs::ProgramFile::versioned_format, grain_fields::specs::Texts::expected_at))]
 fn read_versioned(cursor: &mut Cursor<'_>, limits: &Limits) -> Result<Program, Stop>
     ensures { Gives kept result cursor.new.left.now
         ((versioned_format (bounds_of limits.now)).reading cursor.old.left.now) }
@@ -164,7 +156,7 @@ fn read_versioned(cursor: &mut Cursor<'_>, limits: &Limits) -> Result<Program, S
 }
 
 /// Reads the program.
-#[tactic(auto, unfolding(crate::specs::ProgramFile::body_format, crate::specs::ProgramFile::rest_format, crate::specs::Texts::expected_at))]
+#[tactic(auto, unfolding(crate::specs::ProgramFile::body_format, crate::specs::ProgramFile::rest_format, grain_fields::specs::Texts::expected_at))]
 fn read_body(cursor: &mut Cursor<'_>, limits: &Limits) -> Result<Program, Stop>
     ensures { Gives kept result cursor.new.left.now
         ((body_format (bounds_of limits.now)).reading cursor.old.left.now) }

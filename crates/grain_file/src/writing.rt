@@ -2,20 +2,16 @@
 ghost use Rattle.std.specs.Prelude.{◌≡◌, ◌++◌, ◌/◌, ◌%◌, ◌^◌, ℕ, List, Option, IfOk, IfErr, OnOk, map, option_map};
 ghost use Rattle.grain.specs.Program.{listed_positions};
 ghost use Rattle.grain_base.specs.Place.{place_of};
-ghost use Rattle.grain_file.specs.Reading.{Decides};
-ghost use Rattle.grain_file.specs.Formats.{optional, text};
+ghost use Rattle.grain_fields.specs.Reading.{Decides};
+ghost use Rattle.grain_fields.specs.Formats.{optional, text};
 ghost use Rattle.grain_file.specs.ProgramFile.{Bounds, IsFile, IsWithin, code_format, file_format, kept, no_bounds, pools_format, positions_format, refusal_of, rest_format};
 
-use crate::error::{Unkept, WriteError};
-use crate::field::Field;
-use crate::lists::put_all;
-use crate::names::put_names;
-use crate::number::put_bytes;
-use crate::switches::put_switches;
-use crate::values::put_values;
 use grain::Program;
 use grain_base::Flags;
 use grain_bytecode::Positions;
+use grain_fields::{
+    Field, Unkept, WriteError, put_all, put_bytes, put_names, put_switches, put_values,
+};
 use std::alloc::{AllocError, Global};
 
 /// The file of a program (docs/FORMAT.md, "Program files"). It goes over the program once, and sorts the cases of switches.

@@ -1,0 +1,16 @@
+pub mod KeyOrder
+pub mod EntriesLoop
+pub mod Groups
+pub mod FieldLoop
+pub mod MapEnd
+pub mod NameLists
+pub mod PointerForm
+pub mod TaggedBytes
+pub mod Tags
+pub mod TextReads
+pub mod BareForms
+pub mod CaseOrder
+pub mod CaseContents
+pub mod CopiedEntries
+pub mod GatheredCases
+pub mod CaseTests

@@ -1,0 +1,137 @@
+//! Why bytes are refused, and why a program is not written.
+ghost use Rattle.std.specs.Prelude.{◌≡◌};
+ghost use Rattle.grain_fields.specs.declared.error.Stop.TheVariants.{OutOfMemory};
+
+use std::alloc::{AllocError, AllocFailed};
+use thiserror::Error;
+
+/// What is wrong with the bytes, at the first place where something is.
+#[derive(Clone, Copy, Debug, PartialEq, Eq, Error)]
+pub enum Fault {
+    /// The bytes don't begin as a file does.
+    #[error("not a Grain file")]
+    Magic,
+    /// The file is of a version that this reader doesn't know.
+    #[error("unknown version")]
+    Version,
+    /// The file is of another kind.
+    #[error("a file of another kind")]
+    Kind,
+    /// The bytes end within a field.
+    #[error("the file ends within a field")]
+    Truncated,
+    /// A number doesn't fit.
+    #[error("number too large")]
+    TooWide,
+    /// A number has a shorter spelling.
+    #[error("number with a shorter spelling")]
+    NotShortest,
+    /// A text is not UTF-8.
+    #[error("text is not UTF-8")]
+    NotText,
+    /// A number is no Unicode scalar value.
+    #[error("not a character")]
+    NotCharacter,
+    /// A byte is no tag.
+    #[error("unknown tag")]
+    UnknownTag,
+    /// A key doesn't come after the one before it.
+    #[error("keys out of order")]
+    KeyOrder,
+    /// Values are nested deeper than the limit.
+    #[error("values nested too deep")]
+    TooDeep,
+    /// The names have more than 4294967295 bytes.
+    #[error("names too long")]
+    NamesTooLong,
+    /// The constants of the cases of a switch don't strictly ascend.
+    #[error("cases out of order")]
+    CaseOrder,
+    /// A switch has a case whose constant isn't there.
+    #[error("case without its constant")]
+    NoConstant,
+    /// A switch has more cases than the limit.
+    #[error("too many cases")]
+    TooManyCases,
+    /// Two cases of a switch are of the same value.
+    #[error("cases of the same value")]
+    SameCase,
+    /// A position has line 0.
+    #[error("position without a line")]
+    NoLine,
+    /// Bytes follow the last field.
+    #[error("bytes after the end")]
+    Trailing,
+}
+
+/// Why reading stopped.
+#[derive(Clone, Copy, Debug, PartialEq, Eq)]
+pub enum Stop {
+    /// A growth was refused.
+    OutOfMemory,
+    /// The bytes at the cursor are at fault.
+    Fault(Fault),
+}
+
+impl From<AllocError> for Stop {
+    ghost from_gives = { λ _ e. e ≡ OutOfMemory };
+
+    fn from(_e: AllocError) -> Stop {
+        Stop::OutOfMemory
+    }
+}
+
+impl<T: Drop> From<AllocFailed<T>> for Stop {
+    ghost from_gives = { λ _ e. e ≡ OutOfMemory };
+
+    fn from(_e: AllocFailed<T>) -> Stop {
+        Stop::OutOfMemory
+    }
+}
+
+/// What of a program no file keeps.
+#[derive(Clone, Copy, Debug, PartialEq, Eq, Error)]
+pub enum Unkept {
+    /// Fragments of syntax that weren't compiled.
+    #[error("fragments of syntax")]
+    Residuals,
+    /// A case of a switch whose key isn't the constant that it names, shared marks apart.
+    #[error("a case whose key isn't its constant")]
+    CaseKey,
+    /// A constant that holds a value of the host.
+    #[error("a value of the host")]
+    HostValue,
+}
+
+/// Why a program isn't written.
+#[derive(Clone, Copy, Debug, PartialEq, Eq, Error)]
+pub enum WriteError {
+    /// It has something that no file keeps.
+    #[error("no file keeps {0}")]
+    Unkept(Unkept),
+    /// A growth was refused.
+    #[error("out of memory")]
+    OutOfMemory,
+}
+
+impl From<AllocError> for WriteError {
+    ghost use Rattle.std.specs.Prelude.{◌≡◌};
+    ghost use Rattle.grain_fields.specs.declared.error.WriteError.{WriteError};
+
+    ghost from_gives = { λ _ e. e ≡ WriteError.OutOfMemory };
+
+    fn from(_e: AllocError) -> WriteError {
+        WriteError::OutOfMemory
+    }
+}
+
+impl<T: Drop> From<AllocFailed<T>> for WriteError {
+    ghost use Rattle.std.specs.Prelude.{◌≡◌};
+    ghost use Rattle.grain_fields.specs.declared.error.WriteError.{WriteError};
+
+    ghost from_gives = { λ _ e. e ≡ WriteError.OutOfMemory };
+
+    fn from(_e: AllocFailed<T>) -> WriteError {
+        WriteError::OutOfMemory
+    }
+}
