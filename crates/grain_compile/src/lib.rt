@@ -6,12 +6,15 @@
 
 mod access;
 mod blocks;
+mod building;
 mod calls;
 mod coder;
+mod parts;
 mod prelude;
 mod programs;
 mod switches;
 
 pub use grain_emit::Options;
 pub use grain_lexer::{CompileError, Place, Problem, Thing, report};
+pub use grain_syntax::{MAX_FLAWS, flaws};
 pub use programs::compile;

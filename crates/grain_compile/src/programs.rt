@@ -3,10 +3,11 @@ ghost use Rattle.std.specs.Prelude.{◌≡◌, IfOk};
 ghost use Rattle.grain_rules.specs.Accepted.{AreDeepest, IsAccepted};
 ghost use Rattle.grain.specs.Program.{declared_by, input_of};
 
+use crate::building::{finish, head_of};
 use crate::coder::{Coder, expr};
 use crate::prelude::{needed, with_functions};
 use grain::{Cut, Head, Op, Program};
-use grain_emit::{Emitter, Options, Pools, finish, global_constants, split_functions};
+use grain_emit::{Emitter, Options, Pools, global_constants, split_functions};
 use grain_lexer::{CompileError, Place};
 use grain_syntax::{Expr, MAX_DEPTH, Syntax, parse};
 use std::alloc::Global;
@@ -85,7 +86,7 @@ fn chunks(
     cuts.push(main_chunk(emitter, body)?)?;
     for turn in 0..bodies.len() {
         let index = bodies.len() - 1 - turn;
-        heads.push(emitter.head(index)?)?;
+        heads.push(head_of(emitter, index)?)?;
         cuts.push(function_chunk(emitter, index, &bodies[index])?)?;
     }
     Ok((cuts, heads))

@@ -2,7 +2,7 @@
 
 use crate::emitter::{Emitter, argc_of};
 use crate::scope::Local;
-use grain::{Op, Receiver};
+use grain_code::{Op, Receiver};
 use grain_lexer::{CompileError, Place};
 use grain_syntax::{Expr, Form};
 

@@ -1,9 +1,10 @@
 //! Chains, and assignments to variables.
 
 use crate::emitter::{Emitter, argc_of};
-use crate::parts::position;
-use grain::{Chain, Op, Step, StepFlags};
+use crate::positions::position;
+use grain_code::Op;
 use grain_lexer::{CompileError, Operator, Place, Problem};
+use grain_pools::{Chain, Step, StepFlags};
 use grain_syntax::{Access, Expr, Form};
 
 impl Emitter {

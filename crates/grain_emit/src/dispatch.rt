@@ -5,7 +5,7 @@
 
 use crate::emitter::Emitter;
 use crate::table::{Leading, Spanning, Table};
-use grain::Op;
+use grain_code::Op;
 use grain_lexer::{CompileError, Place, Problem, Thing};
 use grain_syntax::{Arm, Case, Literal};
 use std::alloc::Global;

@@ -4,7 +4,7 @@ use crate::operators::spelling;
 use crate::options::Options;
 use crate::pools::Pools;
 use crate::scope::{Found, Local, Scope, slot_of};
-use grain::Op;
+use grain_code::Op;
 use grain_lexer::{CompileError, Operator, Place, Problem, Thing};
 use grain_syntax::{Binding, Literal};
 use std::alloc::{AllocError, Global};

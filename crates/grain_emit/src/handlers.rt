@@ -2,7 +2,7 @@
 
 use crate::emitter::Emitter;
 use crate::scope::Local;
-use grain::Op;
+use grain_code::Op;
 use grain_lexer::{CompileError, Place};
 use grain_syntax::{Binding, Catch};
 

@@ -2,7 +2,7 @@
 
 use crate::emitter::Emitter;
 use crate::scope::{Local, Loop};
-use grain::Op;
+use grain_code::Op;
 use grain_lexer::{CompileError, Place, Problem};
 use grain_syntax::{Binding, Literal};
 

@@ -1,6 +1,6 @@
 //! The names and tokens of operators.
 
-use grain::Token;
+use grain_base::Token;
 use grain_lexer::Operator;
 
 /// How an operator is spelled, which is the name of its function.

@@ -1,8 +1,8 @@
 //! The pools that operations have indices into, without repeats.
 
 use crate::table::Table;
-use grain::Chain;
 use grain_lexer::{CompileError, Names, Operator, Place, Problem, Thing};
+use grain_pools::Chain;
 use grain_syntax::Literal;
 use std::alloc::Global;
 use std::collections::HashMap;

@@ -3,16 +3,14 @@ ghost use Rattle.std.specs.Prelude.{◌≡◌, IfOk};
 ghost use Rattle.grain_rules.specs.Accepted.{AreDeepest, IsAccepted};
 ghost use Rattle.grain.specs.Program.{declared_by, input_of};
 
-use crate::emitter::Emitter;
 use crate::parts::parts;
-use crate::scope::{Local, Scope};
-use grain::{BuildError, Caps, Chain, Cut, Flags, FnAccess, Head, Program, VerifyError, build};
+use grain::{BuildError, Caps, Cut, Flags, FnAccess, Head, Program, VerifyError, build};
+use grain_emit::Emitter;
 use grain_lexer::{CompileError, Place, Problem};
 use std::alloc::{AllocError, Global};
-use std::mem;
 
 /// Builds the program of the code that was made.
-pub fn finish(
+pub(crate) fn finish(
     mut emitter: Emitter,
     cuts: &[Cut],
     heads: Vec<Head>,
@@ -21,7 +19,7 @@ pub fn finish(
     ensures declared { IfOk result (λ built. declared_by built.0 ≡ built.1.items) }
     ensures deepest { IfOk result (λ built. AreDeepest (input_of built.0) built.1.items) }
 {
-    emitter.settle();
+    emitter.bind_jumps();
     let parts = parts(&mut emitter)?;
     if cuts.len() != heads.len() + 1 {
         return Err(CompileError::new(Place::NONE, Problem::Refused));
@@ -62,62 +60,27 @@ fn declared(alloc: Global, program: &Program) -> Result<Vec<u16>, AllocError>
     Ok(numbers)
 }
 
-impl Emitter {
-    /// What a function has except for its chunk.
-    pub fn head(&self, index: usize) -> Result<Head, CompileError> {
-        let mut params = Vec::new(self.alloc);
-        let Some(signature) = self.signatures.get(index) else {
-            return Err(CompileError::new(Place::NONE, Problem::Refused));
-        };
-        for local in &signature.captured {
-            params.push(local.name)?;
-        }
-        for param in &signature.params {
-            params.push(param.name)?;
-        }
-        let access = if signature.is_private {
-            FnAccess::Private
-        } else {
-            FnAccess::Public
-        };
-        Ok(Head {
-            name: signature.name,
-            params,
-            access,
-            this_type: signature.this_type,
-        })
+/// What a function has except for its chunk.
+pub(crate) fn head_of(emitter: &Emitter, index: usize) -> Result<Head, CompileError> {
+    let mut params = Vec::new(emitter.alloc);
+    let Some(signature) = emitter.signatures.get(index) else {
+        return Err(CompileError::new(Place::NONE, Problem::Refused));
+    };
+    for local in &signature.captured {
+        params.push(local.name)?;
     }
-
-    /// The code of a function begins, whose variables are its parameters.
-    pub fn begin_function(&mut self, index: usize) -> Result<Place, CompileError> {
-        self.height = 0;
-        self.handlers = 0;
-        let mut scope = Scope::new(self.alloc);
-        let Some(signature) = self.signatures.get(index) else {
-            return Err(CompileError::new(Place::NONE, Problem::Refused));
-        };
-        for local in &signature.captured {
-            let _slot = scope.declare(*local)?;
-        }
-        for param in &signature.params {
-            let _slot = scope.declare(Local::variable(*param))?;
-        }
-        let place = signature.place;
-        self.scope = scope;
-        Ok(place)
+    for param in &signature.params {
+        params.push(param.name)?;
     }
-
-    /// Replaces the labels of jumps by indices of operations.
-    fn settle(&mut self) {
-        let labels = mem::replace(&mut self.labels, Vec::new(self.alloc));
-        for op in self.ops.iter_mut() {
-            op.bind_target(&labels);
-        }
-        self.labels = labels;
-    }
-
-    /// Takes the chains out of the pools.
-    pub fn take_chains(&mut self) -> Vec<Chain> {
-        mem::replace(&mut self.pools.chains, Vec::new(self.alloc))
-    }
+    let access = if signature.is_private {
+        FnAccess::Private
+    } else {
+        FnAccess::Public
+    };
+    Ok(Head {
+        name: signature.name,
+        params,
+        access,
+        this_type: signature.this_type,
+    })
 }

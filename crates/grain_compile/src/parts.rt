@@ -1,24 +1,13 @@
 //! The parts of a program, made from pools.
 
-use crate::emitter::Emitter;
-use crate::operators::{assigning, spelling, token};
-use crate::pools::Pools;
-use crate::table::Table;
 use grain::{
     AssignOp, Dynamic, Op, Parts, Position, Positions, Strings, Switch, SwitchRange, assemble,
 };
+use grain_emit::{Emitter, Pools, Table, assigning, position, spelling, token};
 use grain_lexer::{CompileError, Names, Operator, Place, Problem, Thing};
 use grain_syntax::Literal;
 use std::alloc::{AllocError, Global};
 use std::collections::HashMap;
-
-/// A place as a position of a program, which is none where its numbers are too great.
-pub fn position(place: Place) -> Position {
-    match (u16::try_from(place.line), u16::try_from(place.column)) {
-        (Ok(line), Ok(column)) if line > 0 => Position::new(line, column),
-        _ => Position::NONE,
-    }
-}
 
 /// The value of a literal.
 fn value(alloc: Global, texts: &Names, literal: Literal) -> Result<Dynamic, AllocError> {
@@ -117,7 +106,7 @@ fn positions(alloc: Global, ops: &[Op], places: &[Place]) -> Result<Positions, C
 }
 
 /// All that a program has except for code and chunks.
-pub fn parts(emitter: &mut Emitter) -> Result<Parts, CompileError> {
+pub(crate) fn parts(emitter: &mut Emitter) -> Result<Parts, CompileError> {
     let alloc = emitter.alloc;
     let assign_ops = assign_ops(&mut emitter.pools)?;
     let mut tokens = Vec::new(alloc);
