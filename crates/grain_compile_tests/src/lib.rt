@@ -6,8 +6,6 @@ mod errors;
 #[cfg(test)]
 mod faults;
 #[cfg(test)]
-mod methods;
-#[cfg(test)]
 mod samples;
 #[cfg(test)]
 mod values;

@@ -7,5 +7,3 @@ mod calls;
 mod runs;
 #[cfg(test)]
 mod samples;
-#[cfg(test)]
-mod scripts;

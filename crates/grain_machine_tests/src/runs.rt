@@ -245,7 +245,7 @@ const ASSIGN: Op = Op::AssignLocal {
     op: None,
 };
 
-/// Calls what has that name with so many arguments.
+/// Calls what has that name with this number of arguments.
 macro_rules! call {
     ($name:expr, $argc:expr) => {
         Op::Call {
