@@ -289,9 +289,9 @@ def check_scripts(tool):
     expect(status == 1 and errors.startswith(b"standard input:1:12: error: ") and errors.endswith(b"^\n"), f"an unknown variable is reported by {errors!r}")
     status, lines, _ = tool.run("check", "--json", "greet.rhai", "-", "nowhere", given=b"let x = 1; y + x\n")
     found = [json.loads(line) for line in lines.splitlines()]
-    expect(status == 1 and found[0] == {"file": "greet.rhai", "error": None}, f"check --json of a script: {found}")
-    expect(found[1] == {"file": "standard input", "error": {"line": 1, "column": 12, "message": "no variable has this name"}}, f"check --json of an error: {found}")
-    expect(found[2]["file"] == "nowhere" and "line" not in found[2]["error"], f"check --json of a missing file: {found}")
+    expect(status == 1 and found[0] == {"file": "greet.rhai", "errors": []}, f"check --json of a script: {found}")
+    expect(found[1] == {"file": "standard input", "errors": [{"line": 1, "column": 12, "message": "no variable has this name"}]}, f"check --json of an error: {found}")
+    expect(found[2]["file"] == "nowhere" and "line" not in found[2]["errors"][0], f"check --json of a missing file: {found}")
     for script, said in (
         (b"let x = 0;\n1 / x\n", "Division by zero (line 2, position 3)"),
         (b"fn f() { f() } f()\n", "Stack overflow"),

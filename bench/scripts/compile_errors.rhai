@@ -143,3 +143,16 @@ let x = 1 ¤ 2;
 //--- for without in
 for x of [1] { }
 //@ 1:7
+//--- several errors
+fn f(a b) { a }
+fn g() {
+    let x = ;
+    if x = 1 { x } else { x }
+    x
+}
+let y = 1 +;
+print(y)
+//@ 1:8
+//@ 3:13
+//@ 4:10
+//@ 7:12

@@ -1,7 +1,7 @@
 //! Texts that aren't compiled, and why.
 
 use crate::samples::{assert_same, failures, made, outcome};
-use grain_compile::{Options, compile, report};
+use grain_compile::{Options, compile, flaws, report};
 use std::alloc::{AllocError, Global};
 
 /// Texts and their errors, where the host has no variables.
@@ -159,6 +159,41 @@ fn reported(alloc: Global, source: &str) -> Result<String, AllocError> {
         Ok(_) => String::from_str(alloc, "compiled"),
         Err(error) => report(alloc, "a.rhai", source, &error),
     }
+}
+
+/// A text with errors in the head of a function, in its body, and outside of functions.
+const SEVERAL: &str = "fn f(a b) { a }
+fn g() {
+    let x = ;
+    if x = 1 { x } else { x }
+    x
+}
+let y = 1 +;
+print(y)
+";
+
+/// The places of the errors of a text.
+fn places(alloc: Global, source: &str) -> Result<String, AllocError> {
+    let mut places = String::new(alloc);
+    for error in &flaws(alloc, source)? {
+        let place = error.place;
+        write!(places, "{place} ")?;
+    }
+    Ok(places)
+}
+
+#[test]
+fn reading_goes_on_after_an_error(rt: HostRuntime) {
+    assert_same(
+        &rt,
+        made(&rt, places(rt.alloc(), SEVERAL)).as_str(),
+        "1:8 3:13 4:10 7:12 ",
+    );
+    assert_same(
+        &rt,
+        made(&rt, places(rt.alloc(), "let x = 1;")).as_str(),
+        "",
+    );
 }
 
 #[test]

@@ -19,6 +19,8 @@ pub(crate) struct Cursor {
     uses: Vec<u32>,
     /// How many `throw` without a value were read.
     pub(crate) rethrows: usize,
+    /// What is wrong so far.
+    pub(crate) flaws: Vec<CompileError>,
 }
 
 impl Cursor {
@@ -33,6 +35,7 @@ impl Cursor {
             functions: Vec::new(alloc),
             uses: Vec::new(alloc),
             rethrows: 0,
+            flaws: Vec::new(alloc),
         }
     }
 
@@ -47,6 +50,7 @@ impl Cursor {
             functions,
             uses: _,
             rethrows: _,
+            flaws: _,
         } = self;
         (names, texts, functions)
     }
@@ -64,6 +68,14 @@ impl Cursor {
                 kind: Kind::Mark(Mark::End),
                 place: Place::NONE,
             },
+        }
+    }
+
+    /// The lexeme this far before the next one.
+    pub(crate) fn behind(&self, behind: usize) -> Lexeme {
+        match self.lexemes.get(self.at.saturating_sub(behind)) {
+            Some(lexeme) => *lexeme,
+            None => self.peek(),
         }
     }
 

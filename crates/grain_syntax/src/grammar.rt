@@ -4,7 +4,7 @@
 use crate::ast::{Binding, Expr, Form, Function, Operation, Syntax};
 use crate::cursor::Cursor;
 use grain_lexer::{CompileError, Kind, Mark, Operator, Place, Problem, Thing, split_into_lexemes};
-use std::alloc::Global;
+use std::alloc::{AllocError, Global};
 
 /// How deep expressions may nest, which bounds the call stack.
 pub const MAX_DEPTH: usize = 100;
@@ -39,7 +39,7 @@ pub(crate) fn expr(cursor: &mut Cursor, depth: usize, least: u8) -> Result<Expr,
 /// The first thing that is wrong with the text, or the allocator refused.
 pub fn parse(alloc: Global, source: &str) -> Result<Syntax, CompileError> {
     let mut cursor = Cursor::new(alloc, split_into_lexemes(alloc, source)?);
-    let body = program(&mut cursor)?;
+    let body = whole_program(&mut cursor)?;
     let (names, texts, functions) = cursor.end();
     Ok(Syntax {
         names,
@@ -49,23 +49,59 @@ pub fn parse(alloc: Global, source: &str) -> Result<Syntax, CompileError> {
     })
 }
 
+/// What is wrong with the syntax of a source text, in the order of its lines: nothing where [`parse`] reads it. It goes on with
+/// the next statement after an error, and stops after [`MAX_FLAWS`]. Behind a lexeme that is wrong nothing is looked for.
+///
+/// # Errors
+/// The allocator refused.
+pub fn flaws(alloc: Global, source: &str) -> Result<Vec<CompileError>, AllocError> {
+    let lexemes = match split_into_lexemes(alloc, source) {
+        Ok(lexemes) => lexemes,
+        Err(error) => return Ok(vec![in alloc; error]?),
+    };
+    let mut cursor = Cursor::new(alloc, lexemes);
+    match whole_program(&mut cursor) {
+        Ok(_) => Ok(Vec::new(alloc)),
+        Err(error) => cursor.into_flaws(error),
+    }
+}
+
+/// The functions and the statements of a whole text, in which nothing is wrong.
+fn whole_program(cursor: &mut Cursor) -> Result<Vec<Expr>, CompileError> {
+    let body = program(cursor);
+    cursor.check_flaws()?;
+    body
+}
+
 /// The functions and the statements of a whole text.
 fn program(cursor: &mut Cursor) -> Result<Vec<Expr>, CompileError> {
+    let mut body = Vec::new(cursor.alloc);
+    for _turn in 0..cursor.left() {
+        if cursor.is_at(Mark::End) {
+            return Ok(body);
+        }
+        if !cursor.eat(Mark::Semicolon) {
+            let first = cursor.left();
+            match part_of_program(cursor, &mut body) {
+                Ok(()) => {}
+                Err(error) => cursor.recover(first, error)?,
+            }
+        }
+    }
+    Err(cursor.fault(Problem::Expected(Thing::EndOfText)))
+}
+
+/// A function or a statement outside of functions.
+fn part_of_program(cursor: &mut Cursor, body: &mut Vec<Expr>) -> Result<(), CompileError> {
     let grammar = Grammar {
         depth: MAX_DEPTH,
         reads: expr,
     };
-    let mut body = Vec::new(cursor.alloc);
-    for _turn in 0..cursor.left() {
-        if cursor.is_at(Mark::Fn) || cursor.is_at(Mark::Private) {
-            grammar.function(cursor)?;
-        } else if cursor.is_at(Mark::End) {
-            return Ok(body);
-        } else if !cursor.eat(Mark::Semicolon) {
-            body.push(grammar.ended_statement(cursor)?)?;
-        }
+    if cursor.is_at(Mark::Fn) || cursor.is_at(Mark::Private) {
+        return grammar.function(cursor);
     }
-    Err(cursor.fault(Problem::Expected(Thing::EndOfText)))
+    body.push(grammar.ended_statement(cursor)?)?;
+    Ok(())
 }
 
 impl<F: Fn(&mut Cursor, usize, u8) -> Result<Expr, CompileError>> Grammar<F> {

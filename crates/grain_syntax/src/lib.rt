@@ -8,10 +8,12 @@ mod ast;
 mod cursor;
 mod grammar;
 mod operand;
+mod recovery;
 mod statement;
 
 pub use ast::{
     Access, Arm, Binding, Branch, Case, Catch, Entry, Expr, Form, Function, Literal, Operation,
     Part, Syntax,
 };
-pub use grammar::{MAX_DEPTH, parse};
+pub use grammar::{MAX_DEPTH, flaws, parse};
+pub use recovery::MAX_FLAWS;

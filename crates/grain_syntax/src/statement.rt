@@ -27,7 +27,11 @@ impl<F: Fn(&mut Cursor, usize, u8) -> Result<Expr, CompileError>> Grammar<F> {
                 break;
             }
             if !cursor.eat(Mark::Semicolon) {
-                statements.push(self.ended_statement(cursor)?)?;
+                let first = cursor.left();
+                match self.ended_statement(cursor) {
+                    Ok(statement) => statements.push(statement)?,
+                    Err(error) => cursor.recover(first, error)?,
+                }
             }
         }
         Ok(statements)

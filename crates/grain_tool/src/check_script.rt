@@ -5,6 +5,7 @@ use crate::failure::Failure;
 use crate::files::{read_bytes, shown, write_standard};
 use crate::scripts::compiled;
 use clap::{Arg, ArgAction, ArgMatches, Command};
+use grain_compile::Place;
 use json::Writer;
 use std::alloc::{AllocError, Global};
 
@@ -27,38 +28,50 @@ pub fn command<'a>(alloc: Global) -> Result<Command<'a>, AllocError> {
         .arg(json)
 }
 
-/// Appends an error as a JSON object: its line and column, or null where it has none, and what is wrong.
-fn write_error(alloc: Global, json: &mut Writer, failure: &Failure) -> Result<(), AllocError> {
+/// Appends an error as a JSON object: its line and column, if it has these, and what is wrong.
+fn write_error(json: &mut Writer, place: Place, message: &str) -> Result<(), AllocError> {
     json.begin_object()?;
-    let message = match failure {
-        Failure::Script { error, .. } => {
-            if error.place.is_some() {
-                json.key("line")?;
-                json.u64(u64::from(error.place.line))?;
-                json.key("column")?;
-                json.u64(u64::from(error.place.column))?;
-            }
-            let problem = error.problem;
-            format!(in alloc; "{problem}")?
-        }
-        failure => format!(in alloc; "{failure}")?,
-    };
+    if place.is_some() {
+        json.key("line")?;
+        json.u64(u64::from(place.line))?;
+        json.key("column")?;
+        json.u64(u64::from(place.column))?;
+    }
     json.key("message")?;
-    json.string(&message)?;
+    json.string(message)?;
     json.end_object()
 }
 
-/// A line of JSON: the script, and its error or null.
+/// Appends each error of a script, or the one for which it couldn't be read.
+fn write_errors(alloc: Global, json: &mut Writer, failure: &Failure) -> Result<(), AllocError> {
+    match failure {
+        Failure::Script { errors, .. } => {
+            for error in errors {
+                let problem = error.problem;
+                let message = format!(in alloc; "{problem}")?;
+                write_error(json, error.place, message.as_str())?;
+            }
+            Ok(())
+        }
+        failure => {
+            let message = format!(in alloc; "{failure}")?;
+            write_error(json, Place::NONE, message.as_str())
+        }
+    }
+}
+
+/// A line of JSON: the script, and its errors.
 fn object_of(alloc: Global, path: &str, found: Option<&Failure>) -> Result<Vec<u8>, AllocError> {
     let mut json = Writer::new(Vec::new(alloc));
     json.begin_object()?;
     json.key("file")?;
     json.string(shown(path))?;
-    json.key("error")?;
-    match found {
-        Some(failure) => write_error(alloc, &mut json, failure)?,
-        None => json.null()?,
+    json.key("errors")?;
+    json.begin_array()?;
+    if let Some(failure) = found {
+        write_errors(alloc, &mut json, failure)?;
     }
+    json.end_array()?;
     json.end_object()?;
     let mut bytes = json.into_inner();
     bytes.push(b'\n')?;

@@ -19,10 +19,10 @@ pub enum Failure {
     /// A script can't be compiled.
     #[error("{report}")]
     Script {
-        /// What is wrong and where, with the line itself.
+        /// What is wrong and where, with the lines themselves.
         report: String,
         /// The same without words.
-        error: CompileError,
+        errors: Vec<CompileError>,
     },
     /// An argument isn't UTF-8.
     #[error("an argument is not UTF-8")]

@@ -3,9 +3,12 @@
 use crate::failure::Failure;
 use crate::files::{program_of, read_bytes, shown};
 use grain::Program;
-use grain_compile::{CompileError, Options, Problem, compile, report};
+use grain_compile::{CompileError, Options, Problem, compile, flaws, report};
 use md5::{Digest, Md5};
-use std::alloc::Global;
+use std::alloc::{AllocError, Global};
+
+/// How long reports of errors get before no other is added: each shows a whole line, and a line can be as long as the script.
+const LONGEST_REPORTS: usize = 65_536;
 
 /// How a program file begins.
 const MAGIC: &[u8; 4] = b"\0grn";
@@ -37,7 +40,7 @@ pub fn compiled(alloc: Global, path: &str, bytes: Vec<u8>) -> Result<Program, Fa
     };
     match compile(alloc, source.as_str(), &options) {
         Ok((program, _)) => Ok(program),
-        Err(error) => Err(refused(alloc, path, source.as_str(), &error)),
+        Err(error) => Err(refused(alloc, path, source.as_str(), error)),
     }
 }
 
@@ -48,16 +51,37 @@ fn digest_of(source: &[u8]) -> [u8; 16] {
     hasher.finalize()
 }
 
-/// Why a script can't be compiled, with the line and a caret.
-fn refused(alloc: Global, path: &str, source: &str, error: &CompileError) -> Failure {
+/// Why a script can't be compiled, of which this is the first error.
+fn refused(alloc: Global, path: &str, source: &str, error: CompileError) -> Failure {
     if error.problem == Problem::OutOfMemory {
         return Failure::OutOfMemory;
     }
-    match report(alloc, shown(path), source, error) {
-        Ok(report) => Failure::Script {
-            report,
-            error: *error,
-        },
-        Err(_) => Failure::OutOfMemory,
+    match with_all_errors(alloc, path, source, error) {
+        Ok(failure) => failure,
+        Err(AllocError) => Failure::OutOfMemory,
     }
+}
+
+/// All errors of its syntax, or else the one that the compiler found: each with its line and a caret.
+fn with_all_errors(
+    alloc: Global,
+    path: &str,
+    source: &str,
+    error: CompileError,
+) -> Result<Failure, AllocError> {
+    let mut errors = flaws(alloc, source)?;
+    if errors.is_empty() {
+        errors.push(error)?;
+    }
+    let mut text = String::new(alloc);
+    for error in &errors {
+        if text.len() < LONGEST_REPORTS {
+            let one = report(alloc, shown(path), source, error)?;
+            text.push_str(one.as_str())?;
+        }
+    }
+    Ok(Failure::Script {
+        report: text,
+        errors,
+    })
 }
