@@ -59,7 +59,7 @@ def lanes_of(edges):
 
 
 def wrapped(words, width):
-    """The words in lines of so many letters at most."""
+    """The words in lines of at most this number of letters."""
     lines = [""]
     for word in words.split():
         if lines[-1] and len(lines[-1]) + 1 + len(word) > width:

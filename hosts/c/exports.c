@@ -131,7 +131,7 @@ static void programs_share_a_scratch(void) {
     grain_scratch_free(&scratch);
 }
 
-/* Why it is refused, after so many instructions were visited. */
+/* Why it is refused, after this number of instructions was visited. */
 static grain_refusal refused(uint16_t caps, const grain_program *program, uint64_t visited) {
     uint16_t depths[] = {77, 78, 79};
     grain_report report = unwritten_report;

@@ -231,7 +231,7 @@ static long list_nothing(const grain_chunk *chunks, size_t many) {
 }
 
 #ifdef OWN_ALLOCATOR
-/* How many bytes at most a listing takes of so many handlers that are armed within each other. */
+/* How many bytes at most a listing takes of handlers that are armed within each other. */
 static size_t most_for(size_t handlers) {
     static uint8_t nested[20001];
     size_t listed = 0;

@@ -45,7 +45,7 @@ static guarded guard(void) {
     return (guarded){pages};
 }
 
-/* So many bytes at the end of the page; where there are none, the page behind, or NULL. */
+/* The last bytes of the page, of this number; where there are none, the page behind, or NULL. */
 static void *room(guarded at, size_t size) {
     memset(at.page, 0xa5, PAGE);
     return size == 0 && one_in(2) ? NULL : at.page + PAGE - size;

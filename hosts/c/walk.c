@@ -138,7 +138,7 @@ static bool is_named(const script *of, uint32_t name, const char *wanted) {
     return length == strlen(wanted) && memcmp(names + starts[name], wanted, length) == 0;
 }
 
-/* Calls a function of the host's. false: there is none with this name and so many arguments. */
+/* Calls a function of the host's. false: there is none with this name and number of arguments. */
 static bool call(const script *of, uint32_t name, uint32_t count, const int64_t *arguments, int64_t *result) {
     uint64_t left = count == 2 ? (uint64_t)arguments[0] : 0, right = count == 2 ? (uint64_t)arguments[1] : 0;
     if (count == 2 && is_named(of, name, "add"))

@@ -3,7 +3,7 @@ use Rattle.std.proofs.Common.{◌≡◌, ℕ, ◌+◌, ◌-◌, ◌<◌, ◌≤�
 use Rattle.std.proofs.lemmas.Bool.{cases_lt}
 use Rattle.std.proofs.lemmas.List.{drop_all, drop_more, length-take-le, set_at, take_min}
 
--- so many bytes of a text in front of room, and the 0 that ends them
+-- the first bytes of a text in front of room, and the 0 that ends them
 pub ended : (text room : List ℕ) (count : ℕ) → 0 < length room → count ≡ min (length text) (length room - 1)
     → set (take count text ++ drop count room) count 0 ≡ take (length room - 1) text ++ 0 ∷ drop (length text + 1) room
 ended text room count some is =

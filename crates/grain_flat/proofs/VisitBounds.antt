@@ -133,7 +133,7 @@ all_reached_few code (c ∷ cs) (n ∷ ns) passes counts =
     let more = all_reached_few code cs ns (λ k d inside. passes (suc k) d (omega arith)) counts.1 in
     omega (arith, one, more, sum_by-cons (λ (x : ℕ). x) n ns, sum_by-cons (spanned (length code.bytes)) c cs)
 
--- so many functions
+-- this number of functions
 functions_of : (count : ℕ) → (functions : List Function) × (length functions ≡ count)
 functions_of count =
     let function : Function = record { name = 0; params = vector [] (omega arith); access = access.Public; this_type = None; chunk = record { entry = 0; end = 0; max_stack = 0 } } in

@@ -28,7 +28,7 @@ pub record Accepts (caps : ℕ) (bytes : List ℕ) (chunks : List Span) (p : CPo
   pub deepest : (rest : Rest p) → AreDeepest (rest_input caps bytes chunks p rest) numbers
   pub safe : (rest : Rest p) → AreSafe (rest_input caps bytes chunks p rest) numbers
 
--- so many places are reached by all chunks, each for itself
+-- the number of places that the chunks reach, each chunk for itself
 abbrev pub Visits : ℕ → List ℕ → List Span → CPools → ℕ → Type 0
 Visits caps bytes chunks p n = (rest : Rest p) → AreReached (rest_input caps bytes chunks p rest).code chunks n
 

@@ -30,7 +30,7 @@ pub data StepsFlaw (chains : List CChain) (steps : ℕ) : CPoolsFlaw → Type 0 
   chain_overruns : {index : ℕ} → index < length chains → all_steps (take index chains) ≤ steps → steps < all_steps (take (index + 1) chains) → StepsFlaw chains steps (record { list = CHAINS; index = index })
   step_left : {index : ℕ} → index < steps → all_steps chains ≡ index → StepsFlaw chains steps (record { list = STEPS; index = index })
 
--- so many cases and ranges are enough for these switches
+-- these numbers of cases and ranges are enough for these switches
 abbrev pub HaveArms : List CSwitch → ℕ → ℕ → Type 0
 HaveArms switches cases ranges = (all_cases switches ≤ cases) × (all_ranges switches ≤ ranges)
 

@@ -183,7 +183,7 @@ fn entry_at<T>(all: &[T], index: usize) -> Option<&T>
     all.get(index)
 }
 
-/// So many entries of a list, from one on.
+/// A number of entries of a list, from one on.
 fn part<T>(all: &[T], from: usize, count: u32) -> &[T]
     requires { from + count ≤ length all.now }
     ensures { result.now ≡ take count (drop from all.now) }

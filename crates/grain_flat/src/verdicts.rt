@@ -48,7 +48,7 @@ fn some_function(alloc: Global) -> Function {
     }
 }
 
-/// None where so many are none, else some.
+/// None where the count is 0, otherwise some.
 fn as_many(count: usize, some: &[Function]) -> &[Function]
     requires { length some.now ≡ 1 }
     ensures { AreSome count result.now }

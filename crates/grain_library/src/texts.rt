@@ -205,7 +205,7 @@ fn count_matches(text: &str, part: &str) -> usize {
     text.split(part).count().saturating_sub(1)
 }
 
-/// So many characters of the text from an index on.
+/// A number of characters of the text, from an index on.
 fn counted_part(alloc: Global, text: &str, start: i64, count: i64) -> Result<String, Cause> {
     let len = text.chars().count();
     let first = start_of(len, start);

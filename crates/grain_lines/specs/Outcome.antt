@@ -8,7 +8,7 @@ use Rattle.grain_lines.specs.declared.outcome.RunError.TheVariants.{Read, Write,
 abbrev pub saturated : ℕ → ℕ
 saturated number = min number (2 ^ 64 - 1)
 
--- a count grows by so many
+-- a count grows by the number of cases
 abbrev pub CountsOn : ℕ → ℕ → ℕ → Type 0
 CountsOn old new more = (total : ℕ) → old ≡ saturated total → new ≡ saturated (total + more)
 

@@ -238,7 +238,7 @@ fn each_operation_is_read_again(rt: HostRuntime) {
     assert_same(&rt, tags, 74);
 }
 
-/// So many operations, of which each second one is a jump to itself.
+/// Operations of this number, of which each second one is a jump to itself.
 fn long_code(alloc: Global, length: u32) -> Result<Vec<Op>, Fail> {
     let mut ops = Vec::new(alloc);
     for index in 0..length {

@@ -129,7 +129,7 @@ fn positions_that_are_none_are_stripped(rt: HostRuntime) {
     assert_same(&rt, none.get(0), Position::NONE);
 }
 
-/// The table of so many addresses, of which each eighth has a position.
+/// The table of this number of addresses, of which each eighth has a position.
 fn long_table(alloc: Global, length: u16) -> Result<Vec<u8>, Fail> {
     let mut list = Vec::new(alloc);
     for at in 0..length {
@@ -158,7 +158,7 @@ fn long_tables_are_written_and_read(rt: HostRuntime) {
     assert_same(&rt, positions.get(11_992), Position::new(1500, 1));
 }
 
-/// The table of so many addresses that each have a position.
+/// The table of this number of addresses that each have a position.
 fn full_table(alloc: Global, length: usize) -> Result<Vec<u8>, Fail> {
     let list = vec![in alloc; Position::new(1, 1); length]?;
     Ok(Positions::dense(list).to_table(alloc)?)

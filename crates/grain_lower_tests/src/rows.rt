@@ -65,7 +65,7 @@ fn explained(
     explain_chunks(alloc, caps, code, &chunks, &pools)
 }
 
-/// So many rows of the loop.
+/// The first rows of the loop.
 fn rows(alloc: Global, count: usize) -> Result<Vec<Row>, AllocError> {
     let mut rows = Vec::new(alloc);
     for (at, operands, iterators) in ROWS.into_iter().take(count) {
@@ -109,7 +109,7 @@ fn checked(alloc: Global, declared: u16, rows: &[Row]) -> Result<Result<(), Typi
     Ok(check_typing(Caps::empty(), &LOOP, &chunk, &pools, &[], rows))
 }
 
-/// The same of so many rows.
+/// The same of the first rows.
 fn checked_front(
     alloc: Global,
     declared: u16,

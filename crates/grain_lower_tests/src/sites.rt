@@ -85,7 +85,7 @@ fn streams_are_read(rt: HostRuntime) {
     );
 }
 
-/// The stream of calls in so many lines, less one.
+/// The stream of calls in lines up to this one.
 fn long_stream(alloc: Global, lines: u16) -> Result<Vec<u8>, Fail> {
     let mut chains = Vec::new(alloc);
     for line in 1..lines {

@@ -34,7 +34,7 @@ fn the_front_that_splits(rt: HostRuntime) {
     }
 }
 
-/// The starts of so many operations of one byte, and a return behind them.
+/// The starts of a number of operations of one byte, and of a return behind them.
 fn starts_of_units(alloc: Global, length: usize) -> Result<Starts, AllocError> {
     let mut code = vec![in alloc; 0x02; length]?;
     code.push(0x13)?;

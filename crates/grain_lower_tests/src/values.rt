@@ -22,7 +22,7 @@ fn array_of(alloc: Global, value: Dynamic, is_shared: bool) -> Result<Dynamic, A
     Ok(Dynamic::Array(vec![in alloc; inner]?))
 }
 
-/// An integer in so many arrays, one in another, each of them under a shared mark where it is asked for.
+/// An integer in nested arrays of this number, each of them under a shared mark where that is wanted.
 fn deep(alloc: Global, integer: i64, is_shared: bool) -> Result<Dynamic, AllocError> {
     let mut value = Dynamic::Int(integer);
     for _ in 0..DEPTH {

@@ -16,7 +16,7 @@ fn count_of(answer: Result<(Program, Vec<u16>), BuildError>) -> Option<usize> {
     }
 }
 
-/// How many numbers are answered for so many cuts: the top level and functions, each of them all of a unit and a return.
+/// How many numbers are answered for this number of cuts: the top level and functions, each of a unit and a return.
 fn numbers(alloc: Global, count: usize) -> Result<Option<usize>, Fail> {
     let cut = Cut {
         first: 0,
@@ -55,7 +55,7 @@ fn fill(alloc: Global, parts: &mut Parts) -> Result<(), Fail> {
     Ok(())
 }
 
-/// Code of so many units with these positions and chains.
+/// Code of this number of units, with these positions and chains.
 fn placed(alloc: Global) -> Result<Program, Fail> {
     let mut parts = parts(alloc, &[])?;
     fill(alloc, &mut parts)?;

@@ -31,7 +31,7 @@ fn entry(function: Option<&Function>) -> Option<u32> {
     Some(function?.chunk.entry())
 }
 
-// Where the method of so many parameters for a receiver of that type begins, the function, and the function by its name.
+// Where the method with this number of parameters for a receiver of that type begins, the function, and the function by its name.
 fn entries(program: &Program, argc: usize, this_type: &str) -> [Option<u32>; 3] {
     [
         entry(program.method(0, argc, this_type)),

@@ -7,7 +7,7 @@ use crate::samples::{assert_same, made};
 use grain_lines::{Failed, RunError, Sink, Source, Summary, run, status};
 use std::alloc::{AllocError, Global};
 
-/// Gives its bytes, at most so many a call, and fails once so many were given.
+/// Gives its bytes, at most a number of them a call, and fails once a number of them was given.
 #[derive(Drop)]
 struct Given<'a> {
     left: &'a [u8],
@@ -55,7 +55,7 @@ impl Source for Given<'_> {
 /// How many bytes the tests write at most.
 const ROOM: usize = 128;
 
-/// Takes bytes, at most so many a call, and fails once so many were taken. It allocates nothing.
+/// Takes bytes, at most a number of them a call, and fails once a number of them was taken. It allocates nothing.
 #[derive(Drop)]
 struct Taken {
     room: [u8; ROOM],
@@ -152,7 +152,7 @@ fn ended(outcome: Result<Summary, RunError>, writer: &Taken, text: &[u8]) -> End
     (outcome, code, writer.bytes() == text)
 }
 
-/// What comes of a run over the input with at most so many bytes a call.
+/// What a run over the input writes, with at most this number of bytes a call.
 fn run_over(alloc: Global, input: &[u8], each: usize, text: &[u8]) -> Ended {
     let mut reader = Given::new(input, each, usize::MAX);
     let mut writer = Taken::new(each, usize::MAX);
@@ -185,7 +185,7 @@ fn shows_what_came_of_a_run(rt: HostRuntime) {
     );
 }
 
-/// What comes of a run whose writer fails once it took so many bytes, and how often it was called behind that.
+/// What a run writes whose writer fails after this number of bytes, and how often it was called after that.
 fn run_to_a_failing_writer(alloc: Global, taken: usize, fails_by_none: bool) -> (Ended, u64) {
     let mut reader = Given::new(INPUT, 100, usize::MAX);
     let mut writer = Taken::new(1, taken);
@@ -206,7 +206,7 @@ fn a_write_fails(rt: HostRuntime) {
     }
 }
 
-/// What comes of a run whose reader fails once it gave so many bytes, and how often it was called behind that.
+/// What a run writes whose reader fails after this number of bytes, and how often it was called after that.
 fn run_from_a_failing_reader(alloc: Global, given: usize) -> (Ended, u64) {
     let mut reader = Given::new(INPUT, 3, given);
     let mut writer = Taken::new(1, usize::MAX);

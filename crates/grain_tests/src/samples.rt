@@ -100,7 +100,7 @@ pub(crate) fn cut(first: usize, end: usize) -> Cut {
     }
 }
 
-/// The heads of so many functions, each called by name 0 and without parameters.
+/// The heads of this number of functions, each called by name 0 and without parameters.
 pub(crate) fn heads(alloc: Global, count: usize) -> Result<Vec<Head>, AllocError> {
     let mut heads = Vec::new(alloc);
     for _ in 0..count {
@@ -129,7 +129,7 @@ pub(crate) fn built(
     build(alloc, caps, ops, cuts, heads, parts)
 }
 
-/// A function of that name and so many parameters, which are called as it is.
+/// A function of that name with this number of parameters, which are called as it is.
 pub(crate) fn function(
     alloc: Global,
     name: u32,

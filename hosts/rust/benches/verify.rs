@@ -3,7 +3,7 @@ use grain::{verify_into, Caps, Chunk, Pools};
 use std::hint::black_box;
 use std::time::{Duration, Instant};
 
-/// Code of about so many instructions.
+/// Code of about this number of instructions.
 type Maker = fn(usize) -> Vec<u8>;
 
 /// Pairs of Unit and Pop, and a Return.

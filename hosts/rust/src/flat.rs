@@ -63,7 +63,7 @@ impl<'a> FlatPools<'a> {
         }
     }
 
-    /// Whether each list by whose length verification takes memory has at most so many items: a switch that is reached takes
+    /// Whether each list by whose length verification takes memory has at most this number of items: a switch that is reached takes
     /// some for each of its cases and ranges.
     pub(crate) const fn are_within(&self, most: usize) -> bool {
         self.starts.len() <= most

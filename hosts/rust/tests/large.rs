@@ -108,7 +108,7 @@ fn one_long_chain_is_named_by_all() {
     );
 }
 
-/// So many handlers, of which number k is caught where the rest after k handlers were armed is popped.
+/// Handlers of this number, of which number k is caught where the rest after k handlers were armed is popped.
 fn handlers(count: u32) -> Vec<u8> {
     let mut code = Vec::new();
     for later in (0..count).rev() {
@@ -145,7 +145,7 @@ fn chunks_are_many() {
     assert_eq!(depths, Ok(vec![1; 65_537]));
 }
 
-/// So many branches, each of them to the next, and a return.
+/// Branches of this number, each of them to the next, and a return.
 #[test]
 fn branches_are_many() {
     let mut code = Vec::new();

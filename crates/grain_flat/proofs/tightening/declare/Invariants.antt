@@ -2,7 +2,7 @@ use Rattle.std.proofs.Common.{◌≡◌, map, length, take}
 use Rattle.grain_code.specs.Span.{undeclared_chunk}
 use Rattle.grain_flat.proofs.tightening.declare.Given as goal
 
--- so many chunks declare their numbers
+-- the first chunks declare their numbers
 abbrev pub invariant-loop-index : goal.invariant-loop-index
 invariant-loop-index l = record {
   long : length l.chunks ≡ length l.initial.chunks;
