@@ -49,8 +49,8 @@ pub fn parse(alloc: Global, source: &str) -> Result<Syntax, CompileError> {
     })
 }
 
-/// What is wrong with the syntax of a source text, in the order of its lines: nothing where [`parse`] reads it. It goes on with
-/// the next statement after an error, and stops after [`MAX_FLAWS`]. Behind a lexeme that is wrong nothing is looked for.
+/// What is wrong with the syntax of a source text, as reading finds it: nothing where [`parse`] reads the text. After an error it
+/// goes on with the next statement, and it stops after [`MAX_FLAWS`]. Where a lexeme is wrong, that is the only error.
 ///
 /// # Errors
 /// The allocator refused.

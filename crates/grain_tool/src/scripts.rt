@@ -62,7 +62,7 @@ fn refused(alloc: Global, path: &str, source: &str, error: CompileError) -> Fail
     }
 }
 
-/// All errors of its syntax, or else the one that the compiler found: each with its line and a caret.
+/// The errors of its syntax, or else the one that the compiler found: each with its line and a caret, as far as there is room.
 fn with_all_errors(
     alloc: Global,
     path: &str,

@@ -151,7 +151,7 @@ fn lists(pools: &ModelPools) -> Lists {
 /// The room for each list.
 struct Room(Vec<Pages>);
 
-/// What the library says of a program whose lists end where pages do, with one byte of so many changed.
+/// What the library says of a program whose lists end where pages do, with one of its bytes changed.
 fn judge(
     chance: &mut Chance,
     room: &mut Room,
