@@ -1,33 +1,34 @@
 //! `grain addr2line`: the function and the position of addresses.
 
-use crate::arguments::{file, flag};
+use crate::arguments::{Argument, FILE, Subcommand};
 use crate::failure::Failure;
 use crate::files::{is_sidecar, program_of, read_bytes, sidecar_of, write_standard};
+use crate::json_lines::{line_of, writer};
 use crate::places::chunk_at;
-use clap::{Arg, ArgAction, ArgMatches, Command};
+use clap::ArgMatches;
 use grain::{Program, Sidecar, pos};
 use grain_listing::name_of;
 use json::Writer;
 use std::alloc::{AllocError, Global};
 
-/// The arguments of `grain addr2line`.
-pub fn command<'a>(alloc: Global) -> Result<Command<'a>, AllocError> {
-    let addresses = Arg::new(alloc, "ADDRESS")
-        .required(true)
-        .action(ArgAction::Append)
-        .num_args(1..)
-        .help("Addresses in the code, in decimal");
-    Command::new(alloc, "addr2line")
-        .about("Says which function and position an address of the code is of")
-        .after_help("Example:\n  grain addr2line program.grain 14 23")
-        .arg(file(alloc))?
-        .arg(addresses)?
-        .arg(flag(
-            alloc,
-            "json",
-            "Write a JSON object for each address, on a line of its own",
-        ))
-}
+/// `grain addr2line`
+pub const SUBCOMMAND: Subcommand = Subcommand {
+    name: "addr2line",
+    about: "Says which function and position an address of the code is of",
+    example: "Example:\n  grain addr2line program.grain 14 23",
+    arguments: &[
+        FILE,
+        Argument::Words {
+            name: "ADDRESS",
+            help: "Addresses in the code, in decimal",
+        },
+        Argument::Flag {
+            name: "json",
+            letter: None,
+            help: "Write a JSON object for each address, on a line of its own",
+        },
+    ],
+};
 
 /// What is known of an address.
 #[derive(Clone, Copy)]
@@ -76,9 +77,8 @@ fn write_line(alloc: Global, out: &mut Vec<u8>, known: Known<'_>) -> Result<(), 
     out.extend_from_slice(text.as_bytes())
 }
 
-/// Appends a line of JSON.
-fn write_object(alloc: Global, out: &mut Vec<u8>, known: Known<'_>) -> Result<(), AllocError> {
-    let mut json = Writer::new(Vec::new(alloc));
+/// Appends what is known of an address as an object.
+fn write_object(json: &mut Writer, known: Known<'_>) -> Result<(), AllocError> {
     json.begin_object()?;
     json.key("address")?;
     json.u64(u64::from(known.at))?;
@@ -93,10 +93,14 @@ fn write_object(alloc: Global, out: &mut Vec<u8>, known: Known<'_>) -> Result<()
         json.key("column")?;
         json.u64(column as u64)?;
     }
-    json.end_object()?;
-    out.extend_from_slice(json.into_inner().as_slice())?;
-    out.push(b'\n')?;
-    Ok(())
+    json.end_object()
+}
+
+/// Appends a line of JSON.
+fn write_json(alloc: Global, out: &mut Vec<u8>, known: Known<'_>) -> Result<(), AllocError> {
+    let mut json = writer(alloc);
+    write_object(&mut json, known)?;
+    out.extend_from_slice(line_of(json)?.as_slice())
 }
 
 /// Appends what is known of an address.
@@ -107,7 +111,7 @@ fn write_known(
     is_json: bool,
 ) -> Result<(), AllocError> {
     if is_json {
-        write_object(alloc, out, known)
+        write_json(alloc, out, known)
     } else {
         write_line(alloc, out, known)
     }

@@ -1,75 +1,162 @@
-//! The command line.
+//! Subcommands and their arguments as tables, of which `clap`'s commands are made.
+//!
+//! A function for each subcommand, with a chain of `clap`'s calls, takes the prover half a minute.
 
-use crate::{
-    addresses, check_script, compile_script, dump, flow, list, parse, print, run, smith, strip,
-    validate,
-};
-use clap::{Arg, ArgAction, Command};
+use clap::{Arg, ArgAction, Command, value_parser};
+use grain_listing::colour_option;
 use std::alloc::{AllocError, Global};
 
-/// What the program is called, whatever its file is.
-const NAME: &str = "grain";
+/// A subcommand.
+#[derive(Clone, Copy)]
+pub struct Subcommand {
+    /// Its name.
+    pub name: &'static str,
+    /// What it does, in a sentence.
+    pub about: &'static str,
+    /// What its help ends with.
+    pub example: &'static str,
+    /// What it takes.
+    pub arguments: &'static [Argument],
+}
 
-/// The version of the program.
-const VERSION: &str = "0.2.0";
-
-/// What `--help` says after the options.
-const AFTER_HELP: &str = "\
-FILE may be - for standard input. Colours are used by --color=auto where standard
-output is a terminal, TERM is not dumb, and NO_COLOR is not set or is empty.
-
-Example:
-  echo return | grain parse - | grain validate -v -
-
-Exit status:
-  0  done
-  1  a file is refused, or could not be read or written
-  2  an argument is wrong";
+/// An argument of a subcommand.
+#[derive(Clone, Copy)]
+pub enum Argument {
+    /// A word that must be there.
+    Word {
+        name: &'static str,
+        help: &'static str,
+    },
+    /// One word or more.
+    Words {
+        name: &'static str,
+        help: &'static str,
+    },
+    /// All words after `--`.
+    Rest {
+        name: &'static str,
+        help: &'static str,
+    },
+    /// A flag, `--name`, and `-` with its letter.
+    Flag {
+        name: &'static str,
+        letter: Option<char>,
+        help: &'static str,
+    },
+    /// `--name VALUE`
+    Text {
+        name: &'static str,
+        value: &'static str,
+        is_required: bool,
+        help: &'static str,
+    },
+    /// `--name VALUE` of 64 bits.
+    Number {
+        name: &'static str,
+        value: &'static str,
+        is_required: bool,
+        help: &'static str,
+    },
+    /// `--name VALUE`, a size.
+    Size {
+        name: &'static str,
+        value: &'static str,
+        default: &'static str,
+        help: &'static str,
+    },
+    /// `-o FILE`
+    Output,
+    /// `--color WHEN`
+    Colour {
+        help: &'static str,
+    },
+}
 
 /// The file that a subcommand reads.
-pub fn file<'a>(alloc: Global) -> Arg<'a> {
-    Arg::new(alloc, "FILE")
-        .required(true)
-        .help("The file, or - for standard input")
-}
+pub const FILE: Argument = Argument::Word {
+    name: "FILE",
+    help: "The file, or - for standard input",
+};
 
-/// The file that a subcommand writes.
-pub fn output<'a>(alloc: Global) -> Arg<'a> {
-    Arg::new(alloc, "output")
-        .short('o')
-        .value_name("FILE")
-        .help("Write to this file in place of standard output")
-}
-
-/// A flag.
-pub fn flag<'a>(alloc: Global, name: &'a str, help: &'a str) -> Arg<'a> {
+/// An argument that has a value after its name.
+fn valued(
+    alloc: Global,
+    name: &'static str,
+    value: &'static str,
+    help: &'static str,
+) -> Arg<'static> {
     Arg::new(alloc, name)
         .long(name)
-        .action(ArgAction::SetTrue)
+        .value_name(value)
         .help(help)
 }
 
-/// The command with its subcommands.
-pub fn command<'a>(alloc: Global) -> Result<Command<'a>, AllocError> {
-    Command::new(alloc, NAME)
-        .bin_name(NAME)?
-        .version(VERSION)
-        .about("Compiles, verifies and runs Rhai scripts as Grain bytecode")
-        .after_help(AFTER_HELP)
-        .subcommand_required(true)
-        .arg_required_else_help(true)
-        .propagate_version(true)
-        .subcommand(run::command(alloc)?)?
-        .subcommand(check_script::command(alloc)?)?
-        .subcommand(compile_script::command(alloc)?)?
-        .subcommand(validate::command(alloc)?)?
-        .subcommand(print::command(alloc)?)?
-        .subcommand(parse::command(alloc)?)?
-        .subcommand(list::command(alloc)?)?
-        .subcommand(flow::command(alloc)?)?
-        .subcommand(dump::command(alloc)?)?
-        .subcommand(smith::command(alloc)?)?
-        .subcommand(strip::strip_command(alloc)?)?
-        .subcommand(strip::attach_command(alloc)?)?
-        .subcommand(addresses::command(alloc)?)
+/// A flag.
+fn flag(
+    alloc: Global,
+    name: &'static str,
+    letter: Option<char>,
+    help: &'static str,
+) -> Arg<'static> {
+    let flag = Arg::new(alloc, name)
+        .long(name)
+        .action(ArgAction::SetTrue)
+        .help(help);
+    match letter {
+        Some(letter) => flag.short(letter),
+        None => flag,
+    }
+}
+
+fn argument_of(alloc: Global, from: &Argument) -> Arg<'static> {
+    match *from {
+        Argument::Word { name, help } => Arg::new(alloc, name).required(true).help(help),
+        Argument::Words { name, help } => Arg::new(alloc, name)
+            .required(true)
+            .action(ArgAction::Append)
+            .num_args(1..)
+            .help(help),
+        Argument::Rest { name, help } => {
+            Arg::new(alloc, name).num_args(0..).last(true).help(help)
+        }
+        Argument::Flag { name, letter, help } => flag(alloc, name, letter, help),
+        Argument::Text {
+            name,
+            value,
+            is_required,
+            help,
+        } => valued(alloc, name, value, help).required(is_required),
+        Argument::Number {
+            name,
+            value,
+            is_required,
+            help,
+        } => valued(alloc, name, value, help)
+            .value_parser(value_parser!(u64))
+            .required(is_required),
+        Argument::Size {
+            name,
+            value,
+            default,
+            help,
+        } => valued(alloc, name, value, help)
+            .value_parser(value_parser!(usize))
+            .default_value(default),
+        Argument::Output => Arg::new(alloc, "output")
+            .short('o')
+            .value_name("FILE")
+            .help("Write to this file in place of standard output"),
+        Argument::Colour { help } => colour_option(alloc, help),
+    }
+}
+
+/// A subcommand as `clap` has it.
+pub fn command_of(alloc: Global, from: &Subcommand) -> Result<Command<'static>, AllocError> {
+    let mut command = Command::new(alloc, from.name)
+        .about(from.about)
+        .after_help(from.example);
+    for argument in from.arguments {
+        command = command.arg(argument_of(alloc, argument))?;
+    }
+    Ok(command)
 }

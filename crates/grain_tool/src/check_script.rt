@@ -1,32 +1,32 @@
 //! `grain check`: whether scripts can be compiled.
 
-use crate::arguments::flag;
+use crate::arguments::{Argument, Subcommand};
 use crate::failure::Failure;
 use crate::files::{read_bytes, shown, write_standard};
+use crate::json_lines::{line_of, writer};
 use crate::scripts::compiled;
-use clap::{Arg, ArgAction, ArgMatches, Command};
+use clap::ArgMatches;
 use grain_compile::Place;
 use json::Writer;
 use std::alloc::{AllocError, Global};
 
-/// The arguments of `grain check`.
-pub fn command<'a>(alloc: Global) -> Result<Command<'a>, AllocError> {
-    let files = Arg::new(alloc, "FILE")
-        .required(true)
-        .action(ArgAction::Append)
-        .num_args(1..)
-        .help("The scripts, or - for standard input");
-    let json = flag(
-        alloc,
-        "json",
-        "Write a JSON object for each script, on a line of its own",
-    );
-    Command::new(alloc, "check")
-        .about("Says whether scripts can be compiled, and why not")
-        .after_help("Example:\n  grain check *.rhai")
-        .arg(files)?
-        .arg(json)
-}
+/// `grain check`
+pub const SUBCOMMAND: Subcommand = Subcommand {
+    name: "check",
+    about: "Says whether scripts can be compiled, and why not",
+    example: "Example:\n  grain check *.rhai",
+    arguments: &[
+        Argument::Words {
+            name: "FILE",
+            help: "The scripts, or - for standard input",
+        },
+        Argument::Flag {
+            name: "json",
+            letter: None,
+            help: "Write a JSON object for each script, on a line of its own",
+        },
+    ],
+};
 
 /// Appends an error as a JSON object: its line and column, if it has these, and what is wrong.
 fn write_error(json: &mut Writer, place: Place, message: &str) -> Result<(), AllocError> {
@@ -60,22 +60,30 @@ fn write_errors(alloc: Global, json: &mut Writer, failure: &Failure) -> Result<(
     }
 }
 
-/// A line of JSON: the script, and its errors.
-fn object_of(alloc: Global, path: &str, found: Option<&Failure>) -> Result<Vec<u8>, AllocError> {
-    let mut json = Writer::new(Vec::new(alloc));
+/// Appends the script, and its errors.
+fn write_object(
+    alloc: Global,
+    json: &mut Writer,
+    path: &str,
+    found: Option<&Failure>,
+) -> Result<(), AllocError> {
     json.begin_object()?;
     json.key("file")?;
     json.string(shown(path))?;
     json.key("errors")?;
     json.begin_array()?;
     if let Some(failure) = found {
-        write_errors(alloc, &mut json, failure)?;
+        write_errors(alloc, json, failure)?;
     }
     json.end_array()?;
-    json.end_object()?;
-    let mut bytes = json.into_inner();
-    bytes.push(b'\n')?;
-    Ok(bytes)
+    json.end_object()
+}
+
+/// A line of JSON: the script, and its errors.
+fn object_of(alloc: Global, path: &str, found: Option<&Failure>) -> Result<Vec<u8>, AllocError> {
+    let mut json = writer(alloc);
+    write_object(alloc, &mut json, path, found)?;
+    line_of(json)
 }
 
 /// Reads and compiles a script.

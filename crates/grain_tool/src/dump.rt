@@ -1,29 +1,33 @@
 //! `grain dump`: the sections of a program file or a sidecar file, with their offsets and sizes.
 
-use crate::arguments::{file, flag, output};
+use crate::arguments::{Argument, FILE, Subcommand};
 use crate::failure::Failure;
 use crate::files::{is_sidecar, program_of, read_bytes, shown, sidecar_of, write_text};
-use clap::{ArgMatches, Command};
+use clap::ArgMatches;
 use grain_dump::{Dump, program_dump, sidecar_dump};
 use grain_file::WriteError;
-use std::alloc::{AllocError, Global};
+use std::alloc::Global;
 
-/// The arguments of `grain dump`.
-pub fn command<'a>(alloc: Global) -> Result<Command<'a>, AllocError> {
-    let hex = flag(
-        alloc,
-        "hex",
-        "Show the items of each section too, with their bytes and what these spell",
-    )
-    .short('x');
-    Command::new(alloc, "dump")
-        .about("Lists the sections of a program file or a sidecar file, with offsets and sizes")
-        .after_help("Example:\n  grain dump -x program.grain")
-        .arg(file(alloc))?
-        .arg(hex)?
-        .arg(flag(alloc, "json", "Write a JSON object, on a line of its own"))?
-        .arg(output(alloc))
-}
+/// `grain dump`
+pub const SUBCOMMAND: Subcommand = Subcommand {
+    name: "dump",
+    about: "Lists the sections of a program file or a sidecar file, with offsets and sizes",
+    example: "Example:\n  grain dump -x program.grain",
+    arguments: &[
+        FILE,
+        Argument::Flag {
+            name: "hex",
+            letter: Some('x'),
+            help: "Show the items of each section too, with their bytes and what these spell",
+        },
+        Argument::Flag {
+            name: "json",
+            letter: None,
+            help: "Write a JSON object, on a line of its own",
+        },
+        Argument::Output,
+    ],
+};
 
 /// The dump of a file, with its items where these are wanted.
 fn dump_of(alloc: Global, path: &str, bytes: &[u8], with_items: bool) -> Result<Dump, Failure> {

@@ -1,30 +1,37 @@
 //! `grain flow`: the control flow of a function, as a picture.
 
-use crate::arguments::{file, flag, output};
+use crate::arguments::{Argument, FILE, Subcommand};
 use crate::failure::Failure;
 use crate::files::{shown, write_text};
 use crate::list::explained;
 use crate::scripts::program_in;
-use clap::{Arg, ArgMatches, Command};
+use clap::ArgMatches;
 use grain::Program;
 use grain_flow::{Graph, write_dot, write_svg};
 use grain_listing::{ProgramListing, name_of};
 use std::alloc::{AllocError, Global};
 
-/// The arguments of `grain flow`.
-pub fn command<'a>(alloc: Global) -> Result<Command<'a>, AllocError> {
-    let function = Arg::new(alloc, "function")
-        .long("function")
-        .value_name("NAME")
-        .help("Draw the first function of this name (default: the refused one, else main)");
-    Command::new(alloc, "flow")
-        .about("Draws the control flow of a function, with the path to its flaw")
-        .after_help("Example:\n  grain flow program.grain -o program.svg")
-        .arg(file(alloc))?
-        .arg(function)?
-        .arg(flag(alloc, "dot", "Write text for Graphviz in place of SVG"))?
-        .arg(output(alloc))
-}
+/// `grain flow`
+pub const SUBCOMMAND: Subcommand = Subcommand {
+    name: "flow",
+    about: "Draws the control flow of a function, with the path to its flaw",
+    example: "Example:\n  grain flow program.grain -o program.svg",
+    arguments: &[
+        FILE,
+        Argument::Text {
+            name: "function",
+            value: "NAME",
+            is_required: false,
+            help: "Draw the first function of this name (default: the refused one, else main)",
+        },
+        Argument::Flag {
+            name: "dot",
+            letter: None,
+            help: "Write text for Graphviz in place of SVG",
+        },
+        Argument::Output,
+    ],
+};
 
 /// The place of the chunk with a name, or of the one that is refused, else of the top level.
 fn place_of(program: &Program, listing: &ProgramListing, name: Option<&str>) -> Option<usize> {
@@ -52,25 +59,51 @@ fn undrawn(alloc: Global, path: &str, listing: &ProgramListing) -> Failure {
     }
 }
 
+/// The text of a picture, for Graphviz or as SVG.
+fn picture_of(alloc: Global, graph: &Graph, is_dot: bool) -> Result<String, AllocError> {
+    let mut text = String::new(alloc);
+    if is_dot {
+        write_dot(graph, &mut text)?;
+    } else {
+        write_svg(alloc, graph, &mut text)?;
+    }
+    Ok(text)
+}
+
+/// The control flow of the function with a name, if one has it and is explained.
+fn graph_of(
+    alloc: Global,
+    program: &Program,
+    listing: &ProgramListing,
+    name: Option<&str>,
+) -> Result<Option<Graph>, AllocError> {
+    match place_of(program, listing, name) {
+        Some(place) => Graph::of(alloc, program, listing, place),
+        None => Ok(None),
+    }
+}
+
+/// The picture of a function of a program.
+fn drawn(
+    alloc: Global,
+    path: &str,
+    program: &Program,
+    name: Option<&str>,
+    is_dot: bool,
+) -> Result<String, Failure> {
+    let listing = explained(alloc, program)?;
+    match graph_of(alloc, program, &listing, name)? {
+        Some(graph) => Ok(picture_of(alloc, &graph, is_dot)?),
+        None => Err(undrawn(alloc, path, &listing)),
+    }
+}
+
 /// Draws a function of a program file, or of a script.
 pub fn run(rt: &HostRuntime, matches: &ArgMatches<'_>) -> Result<u8, Failure> {
-    let alloc = rt.alloc();
     let path = matches.get_str("FILE").unwrap_or("-");
+    let (name, is_dot) = (matches.get_str("function"), matches.get_flag("dot"));
     let program = program_in(rt, path)?;
-    let listing = explained(alloc, &program)?;
-    let graph = match place_of(&program, &listing, matches.get_str("function")) {
-        Some(place) => Graph::of(alloc, &program, &listing, place)?,
-        None => None,
-    };
-    let Some(graph) = graph else {
-        return Err(undrawn(alloc, path, &listing));
-    };
-    let mut text = String::new(alloc);
-    if matches.get_flag("dot") {
-        write_dot(&graph, &mut text)?;
-    } else {
-        write_svg(alloc, &graph, &mut text)?;
-    }
+    let text = drawn(rt.alloc(), path, &program, name, is_dot)?;
     write_text(rt, matches.get_str("output"), text.as_bytes())?;
     Ok(0)
 }

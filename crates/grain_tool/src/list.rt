@@ -1,27 +1,35 @@
 //! `grain list`: the instructions of all chunks with the states there, and why a program is refused.
 
-use crate::arguments::{file, flag, output};
+use crate::arguments::{Argument, FILE, Subcommand};
 use crate::failure::Failure;
 use crate::files::{read_program, shown, write_text};
-use clap::{ArgMatches, Command};
+use crate::json_lines::{line_of, writer};
+use clap::ArgMatches;
 use grain::{Program, VerifyError};
 use grain_listing::{
-    Colours, Kind, Listed, Naming, ProgramListing, Style, colour_option, write_listed,
-    write_program,
+    Colours, Kind, Listed, Naming, Paint, ProgramListing, Style, write_listed, write_program,
 };
 use json::Writer;
 use std::alloc::{AllocError, Global};
 
-/// The arguments of `grain list`.
-pub fn command<'a>(alloc: Global) -> Result<Command<'a>, AllocError> {
-    Command::new(alloc, "list")
-        .about("Lists the instructions of a program, the state at each, and why it is refused")
-        .after_help("Example:\n  grain list program.grain")
-        .arg(file(alloc))?
-        .arg(output(alloc))?
-        .arg(flag(alloc, "json", "Write a JSON object on a line of its own"))?
-        .arg(colour_option(alloc, "Colour the listing"))
-}
+/// `grain list`
+pub const SUBCOMMAND: Subcommand = Subcommand {
+    name: "list",
+    about: "Lists the instructions of a program, the state at each, and why it is refused",
+    example: "Example:\n  grain list program.grain",
+    arguments: &[
+        FILE,
+        Argument::Output,
+        Argument::Flag {
+            name: "json",
+            letter: None,
+            help: "Write a JSON object on a line of its own",
+        },
+        Argument::Colour {
+            help: "Colour the listing",
+        },
+    ],
+};
 
 /// Appends what a file is called, and whether its program is accepted.
 fn write_heading(
@@ -72,6 +80,24 @@ fn write_error(
     }
 }
 
+/// Appends the listing of a program.
+fn write_object(
+    alloc: Global,
+    path: &str,
+    naming: Naming<'_>,
+    program: &ProgramListing,
+    json: &mut Writer,
+) -> Result<(), AllocError> {
+    json.begin_object()?;
+    json.key("file")?;
+    json.string(path)?;
+    json.key("accepted")?;
+    json.boolean(program.explained.verdict.is_ok())?;
+    write_error(alloc, program, json)?;
+    write_listed(alloc, naming, Listed::Program(program), json)?;
+    json.end_object()
+}
+
 /// The listing of a program as a line of JSON.
 fn object_of(
     alloc: Global,
@@ -79,18 +105,9 @@ fn object_of(
     naming: Naming<'_>,
     program: &ProgramListing,
 ) -> Result<Vec<u8>, AllocError> {
-    let mut json = Writer::new(Vec::new(alloc));
-    json.begin_object()?;
-    json.key("file")?;
-    json.string(path)?;
-    json.key("accepted")?;
-    json.boolean(program.explained.verdict.is_ok())?;
-    write_error(alloc, program, &mut json)?;
-    write_listed(alloc, naming, Listed::Program(program), &mut json)?;
-    json.end_object()?;
-    let mut line = json.into_inner();
-    line.push(b'\n')?;
-    Ok(line)
+    let mut json = writer(alloc);
+    write_object(alloc, path, naming, program, &mut json)?;
+    line_of(json)
 }
 
 /// The explanation of a program. A verdict that memory ran out is none.
@@ -102,19 +119,33 @@ pub fn explained(alloc: Global, program: &Program) -> Result<ProgramListing, All
     }
 }
 
+/// The listing of a program: as text with these colours, or as JSON where there are none.
+fn listing_of(
+    alloc: Global,
+    path: &str,
+    program: &Program,
+    paint: Option<Paint>,
+) -> Result<Vec<u8>, AllocError> {
+    let listing = explained(alloc, program)?;
+    let naming = Naming::Program(program);
+    match paint {
+        None => object_of(alloc, path, naming, &listing),
+        Some(paint) => {
+            Ok(text_of(alloc, Style { paint, naming }, shown(path), &listing)?.into_bytes())
+        }
+    }
+}
+
 /// Lists a program.
 pub fn run(rt: &HostRuntime, matches: &ArgMatches<'_>) -> Result<u8, Failure> {
-    let alloc = rt.alloc();
     let path = matches.get_str("FILE").unwrap_or("-");
-    let program = read_program(rt, path)?;
-    let listing = explained(alloc, &program)?;
-    let naming = Naming::Program(&program);
-    let text = if matches.get_flag("json") {
-        object_of(alloc, path, naming, &listing)?
+    let paint = if matches.get_flag("json") {
+        None
     } else {
-        let paint = Colours::of(matches).paint(rt);
-        text_of(alloc, Style { paint, naming }, shown(path), &listing)?.into_bytes()
+        Some(Colours::of(matches).paint(rt))
     };
+    let program = read_program(rt, path)?;
+    let text = listing_of(rt.alloc(), path, &program, paint)?;
     write_text(rt, matches.get_str("output"), &text)?;
     Ok(0)
 }

@@ -4,11 +4,13 @@
 mod addresses;
 mod arguments;
 mod check_script;
+mod commands;
 mod compile_script;
 mod dump;
 mod failure;
 mod files;
 mod flow;
+mod json_lines;
 mod list;
 mod parse;
 mod places;
@@ -20,14 +22,11 @@ mod strip;
 mod terminal;
 mod validate;
 
+use crate::commands::WRONG_ARGUMENTS;
 use crate::failure::Failure;
-use clap::ArgMatches;
 use clap::error::ErrorKind;
 use std::process::ExitCode;
 use std::{env, io};
-
-/// The status for wrong arguments. It is that of `clap`.
-const WRONG_ARGUMENTS: u8 = 2;
 
 /// The program's name and its arguments.
 fn words(rt: &HostRuntime) -> Result<Vec<String>, Failure> {
@@ -53,33 +52,13 @@ fn say(rt: &HostRuntime, said: &clap::Error) -> Result<u8, Failure> {
     }
 }
 
-/// Does what a subcommand asks for, and returns the status of the process.
-fn dispatch(rt: &HostRuntime, name: &str, matches: &ArgMatches<'_>) -> Result<u8, Failure> {
-    match name {
-        "compile" => compile_script::run(rt, matches),
-        "check" => check_script::run(rt, matches),
-        "validate" => validate::run(rt, matches),
-        "print" => print::run(rt, matches),
-        "parse" => parse::run(rt, matches),
-        "run" => run::run(rt, matches),
-        "smith" => smith::run(rt, matches),
-        "list" => list::run(rt, matches),
-        "flow" => flow::run(rt, matches),
-        "dump" => dump::run(rt, matches),
-        "strip" => strip::strip(rt, matches),
-        "attach" => strip::attach(rt, matches),
-        "addr2line" => addresses::run(rt, matches),
-        _ => Ok(WRONG_ARGUMENTS),
-    }
-}
-
 /// Does what the arguments ask for, and returns the status of the process.
 fn start(rt: &HostRuntime) -> Result<u8, Failure> {
     let words = words(rt)?;
-    let command = arguments::command(rt.alloc())?;
+    let command = commands::command(rt.alloc())?;
     match command.try_get_matches_from(words.as_slice()) {
         Ok(matches) => match matches.subcommand() {
-            Some((name, inner)) => dispatch(rt, name, inner),
+            Some((name, inner)) => commands::dispatch(rt, name, inner),
             None => Ok(WRONG_ARGUMENTS),
         },
         Err(said) => say(rt, &said),

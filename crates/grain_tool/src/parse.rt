@@ -1,20 +1,19 @@
 //! `grain parse`: the program file of an assembly text.
 
-use crate::arguments::{file, output};
+use crate::arguments::{Argument, FILE, Subcommand};
 use crate::failure::Failure;
 use crate::files::{file_of, read_text, shown, write_binary};
-use clap::{ArgMatches, Command};
+use clap::ArgMatches;
 use grain_asm::{ParseError, SyntaxError};
-use std::alloc::{AllocError, Global};
+use std::alloc::Global;
 
-/// The arguments of `grain parse`.
-pub fn command<'a>(alloc: Global) -> Result<Command<'a>, AllocError> {
-    Command::new(alloc, "parse")
-        .about("Assembles a text into a program file")
-        .after_help("Example:\n  grain parse program.gasm -o program.grain")
-        .arg(file(alloc))?
-        .arg(output(alloc))
-}
+/// `grain parse`
+pub const SUBCOMMAND: Subcommand = Subcommand {
+    name: "parse",
+    about: "Assembles a text into a program file",
+    example: "Example:\n  grain parse program.gasm -o program.grain",
+    arguments: &[FILE, Argument::Output],
+};
 
 /// Why a text is refused: what is wrong, where, and the line itself.
 fn refused(alloc: Global, path: &str, error: &ParseError) -> Failure {
@@ -41,15 +40,19 @@ fn refused(alloc: Global, path: &str, error: &ParseError) -> Failure {
     }
 }
 
+/// The program file of a text.
+fn assembled(rt: &HostRuntime, path: &str) -> Result<Vec<u8>, Failure> {
+    let text = read_text(rt, path)?;
+    match grain_asm::parse(rt.alloc(), &text) {
+        Ok(program) => file_of(rt.alloc(), path, &program),
+        Err(error) => Err(refused(rt.alloc(), path, &error)),
+    }
+}
+
 /// Assembles a text.
 pub fn run(rt: &HostRuntime, matches: &ArgMatches<'_>) -> Result<u8, Failure> {
     let path = matches.get_str("FILE").unwrap_or("-");
-    let text = read_text(rt, path)?;
-    let program = match grain_asm::parse(rt.alloc(), &text) {
-        Ok(program) => program,
-        Err(error) => return Err(refused(rt.alloc(), path, &error)),
-    };
-    let bytes = file_of(rt.alloc(), path, &program)?;
+    let bytes = assembled(rt, path)?;
     write_binary(rt, matches.get_str("output"), &bytes)?;
     Ok(0)
 }

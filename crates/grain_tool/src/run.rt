@@ -1,18 +1,18 @@
 //! `grain run`: a script or a program file, verified and run.
 
-use crate::arguments::file;
+use crate::arguments::{Argument, FILE, Subcommand};
 use crate::failure::Failure;
 use crate::files::shown;
 use crate::places::write_place;
 use crate::scripts::program_in;
 use crate::terminal::Terminal;
-use clap::{Arg, ArgMatches, Command, value_parser};
+use clap::ArgMatches;
 use grain::{Program, VerifyError};
 use grain_machine::{Ending, Limits, Outcome, accept};
 use grain_script::{Fault, Script, World};
 use grain_value::{Cause, SizeLimits, Value};
 use std::alloc::{AllocError, Global};
-use std::io::BufWriter;
+use std::io::{BufWriter, Write};
 
 /// How deep values may be nested.
 const NESTING: usize = 64;
@@ -27,38 +27,37 @@ struct Bounds {
     size: SizeLimits,
 }
 
-/// The arguments of `grain run`.
-pub fn command<'a>(alloc: Global) -> Result<Command<'a>, AllocError> {
-    let fuel = Arg::new(alloc, "fuel")
-        .long("fuel")
-        .value_name("TURNS")
-        .value_parser(value_parser!(u64))
-        .help("Stop after this many operations (default: never)");
-    let depth = Arg::new(alloc, "depth")
-        .long("depth")
-        .value_name("CALLS")
-        .value_parser(value_parser!(usize))
-        .default_value("10000")
-        .help("Nest calls this deep at most");
-    let size = Arg::new(alloc, "size")
-        .long("size")
-        .value_name("SIZE")
-        .value_parser(value_parser!(usize))
-        .default_value("16000000")
-        .help("Allow this many values and bytes of text in one value");
-    let words = Arg::new(alloc, "ARG")
-        .num_args(0..)
-        .last(true)
-        .help("Texts that the script gets from the function `args()`");
-    Command::new(alloc, "run")
-        .about("Runs a script or a program file, after verifying it")
-        .after_help("Example:\n  grain run --fuel 1000 script.rhai -- one two")
-        .arg(file(alloc))?
-        .arg(fuel)?
-        .arg(depth)?
-        .arg(size)?
-        .arg(words)
-}
+/// `grain run`
+pub const SUBCOMMAND: Subcommand = Subcommand {
+    name: "run",
+    about: "Runs a script or a program file, after verifying it",
+    example: "Example:\n  grain run --fuel 1000 script.rhai -- one two",
+    arguments: &[
+        FILE,
+        Argument::Number {
+            name: "fuel",
+            value: "TURNS",
+            is_required: false,
+            help: "Stop after this many operations (default: never)",
+        },
+        Argument::Size {
+            name: "depth",
+            value: "CALLS",
+            default: "10000",
+            help: "Nest calls this deep at most",
+        },
+        Argument::Size {
+            name: "size",
+            value: "SIZE",
+            default: "16000000",
+            help: "Allow this many values and bytes of text in one value",
+        },
+        Argument::Rest {
+            name: "ARG",
+            help: "Texts that the script gets from the function `args()`",
+        },
+    ],
+};
 
 fn bounds_of(matches: &ArgMatches<'_>) -> Bounds {
     Bounds {
@@ -152,28 +151,60 @@ fn result(
     }
 }
 
-/// Runs a script or a program file: what it prints, and at last its value unless that is unit.
-pub fn run(rt: &HostRuntime, matches: &ArgMatches<'_>) -> Result<u8, Failure> {
-    let alloc = rt.alloc();
-    let path = matches.get_str("FILE").unwrap_or("-");
-    let bounds = bounds_of(matches);
-    let program = program_in(rt, path)?;
-    let output = BufWriter::new(alloc, rt.stdout()).map_err(Failure::of_output)?;
-    let world = Terminal::new(alloc, output, rt.stderr(), words(alloc, matches)?);
-    let mut script = match Script::new(alloc, &program, world, bounds.size) {
-        Ok(script) => script,
-        Err(cause) => return Err(unready(alloc, path, &cause)),
-    };
-    let ending = ending(alloc, path, &program, &mut script, bounds.run)?;
-    let result = result(alloc, path, &program, ending.outcome, script.backtrace());
-    if let Ok(value) = &result
-        && !matches!(value, Value::Unit)
-    {
+/// Runs the program, and gives what it returned, or why it failed.
+fn value_of<W: World + Drop>(
+    alloc: Global,
+    path: &str,
+    program: &Program,
+    script: &mut Script<W>,
+    limits: Limits,
+) -> Result<Value, Failure> {
+    let ending = ending(alloc, path, program, script, limits)?;
+    result(alloc, path, program, ending.outcome, script.backtrace())
+}
+
+/// Prints the value of a script, unless it is unit.
+fn show<W: World + Drop>(
+    alloc: Global,
+    script: &mut Script<W>,
+    value: &Value,
+) -> Result<(), AllocError> {
+    if !matches!(value, Value::Unit) {
         let line = format!(in alloc; "{value}")?;
         // Where it can't be written, the world knows why.
         let _written = script.world_mut().print(line.as_str());
     }
+    Ok(())
+}
+
+/// Runs a program whose script has this world: what it prints, and at last its value.
+fn run_in<O: Write + Drop, E: Write + Drop>(
+    alloc: Global,
+    path: &str,
+    program: &Program,
+    bounds: Bounds,
+    world: Terminal<O, E>,
+) -> Result<(), Failure> {
+    let mut script = match Script::new(alloc, program, world, bounds.size) {
+        Ok(script) => script,
+        Err(cause) => return Err(unready(alloc, path, &cause)),
+    };
+    let value = value_of(alloc, path, program, &mut script, bounds.run);
+    if let Ok(value) = &value {
+        show(alloc, &mut script, value)?;
+    }
     script.world_mut().finish()?;
-    let _value = result?;
+    let _value = value?;
+    Ok(())
+}
+
+/// Runs a script or a program file.
+pub fn run(rt: &HostRuntime, matches: &ArgMatches<'_>) -> Result<u8, Failure> {
+    let alloc = rt.alloc();
+    let path = matches.get_str("FILE").unwrap_or("-");
+    let program = program_in(rt, path)?;
+    let output = BufWriter::new(alloc, rt.stdout()).map_err(Failure::of_output)?;
+    let world = Terminal::new(alloc, output, rt.stderr(), words(alloc, matches)?);
+    run_in(alloc, path, &program, bounds_of(matches), world)?;
     Ok(0)
 }

@@ -1,68 +1,93 @@
 //! `grain strip` and `grain attach`: positions apart from their program, and back.
 
-use crate::arguments::{file, output};
+use crate::arguments::{Argument, FILE, Subcommand};
 use crate::failure::Failure;
 use crate::files::{
     file_of, read_bytes, read_program, shown, sidecar_of, write_binary, write_file,
 };
-use clap::{Arg, ArgMatches, Command};
-use std::alloc::{AllocError, Global};
+use clap::ArgMatches;
+use grain::{Program, Sidecar};
+use std::alloc::Global;
 
-/// The arguments of `grain strip`.
-pub fn strip_command<'a>(alloc: Global) -> Result<Command<'a>, AllocError> {
-    let sidecar = Arg::new(alloc, "sidecar")
-        .long("sidecar")
-        .value_name("SIDECAR")
-        .required(true)
-        .help("Write the positions to this file");
-    Command::new(alloc, "strip")
-        .about("Takes the positions of a program into a file of their own")
-        .after_help("Example:\n  grain strip program.grain --sidecar program.pos -o small.grain")
-        .arg(file(alloc))?
-        .arg(sidecar)?
-        .arg(output(alloc))
+/// `grain strip`
+pub const STRIP: Subcommand = Subcommand {
+    name: "strip",
+    about: "Takes the positions of a program into a file of their own",
+    example: "Example:\n  grain strip program.grain --sidecar program.pos -o small.grain",
+    arguments: &[
+        FILE,
+        Argument::Text {
+            name: "sidecar",
+            value: "SIDECAR",
+            is_required: true,
+            help: "Write the positions to this file",
+        },
+        Argument::Output,
+    ],
+};
+
+/// `grain attach`
+pub const ATTACH: Subcommand = Subcommand {
+    name: "attach",
+    about: "Gives a program the positions of a sidecar file",
+    example: "Example:\n  grain attach small.grain program.pos -o program.grain",
+    arguments: &[
+        FILE,
+        Argument::Word {
+            name: "SIDECAR",
+            help: "The file with the positions",
+        },
+        Argument::Output,
+    ],
+};
+
+/// Takes the positions off a program: its file without them, and theirs.
+fn apart(alloc: Global, path: &str, program: &mut Program) -> Result<(Vec<u8>, Vec<u8>), Failure> {
+    let sidecar = match program.strip_positions() {
+        Ok(sidecar) => sidecar,
+        Err(error) => return Err(Failure::of(alloc, shown(path), error)),
+    };
+    let table = grain_file::write_sidecar(alloc, &sidecar)?;
+    Ok((file_of(alloc, path, program)?, table))
 }
 
-/// The arguments of `grain attach`.
-pub fn attach_command<'a>(alloc: Global) -> Result<Command<'a>, AllocError> {
-    let sidecar = Arg::new(alloc, "SIDECAR")
-        .required(true)
-        .help("The file with the positions");
-    Command::new(alloc, "attach")
-        .about("Gives a program the positions of a sidecar file")
-        .after_help("Example:\n  grain attach small.grain program.pos -o program.grain")
-        .arg(file(alloc))?
-        .arg(sidecar)?
-        .arg(output(alloc))
+/// The file of a program without its positions, and theirs.
+fn both_of(rt: &HostRuntime, path: &str) -> Result<(Vec<u8>, Vec<u8>), Failure> {
+    let mut program = read_program(rt, path)?;
+    apart(rt.alloc(), path, &mut program)
 }
 
 /// Takes positions off a program.
 pub fn strip(rt: &HostRuntime, matches: &ArgMatches<'_>) -> Result<u8, Failure> {
     let path = matches.get_str("FILE").unwrap_or("-");
-    let mut program = read_program(rt, path)?;
-    let sidecar = match program.strip_positions() {
-        Ok(sidecar) => sidecar,
-        Err(error) => return Err(Failure::of(rt.alloc(), shown(path), error)),
-    };
-    let table = grain_file::write_sidecar(rt.alloc(), &sidecar)?;
-    let bytes = file_of(rt.alloc(), path, &program)?;
+    let (bytes, table) = both_of(rt, path)?;
     let to = matches.get_str("sidecar").unwrap_or("-");
     write_file(rt, to, &table)?;
     write_binary(rt, matches.get_str("output"), &bytes)?;
     Ok(0)
 }
 
+/// The sidecar of a file.
+fn read_sidecar(rt: &HostRuntime, path: &str) -> Result<Sidecar, Failure> {
+    let bytes = read_bytes(rt, path)?;
+    sidecar_of(rt.alloc(), path, &bytes)
+}
+
+/// The file of a program with the positions of a sidecar file.
+fn attached(rt: &HostRuntime, path: &str, from: &str) -> Result<Vec<u8>, Failure> {
+    let mut program = read_program(rt, path)?;
+    let sidecar = read_sidecar(rt, from)?;
+    match program.attach_positions(&sidecar) {
+        Ok(()) => file_of(rt.alloc(), path, &program),
+        Err(error) => Err(Failure::of(rt.alloc(), shown(from), error)),
+    }
+}
+
 /// Gives a program its positions.
 pub fn attach(rt: &HostRuntime, matches: &ArgMatches<'_>) -> Result<u8, Failure> {
     let path = matches.get_str("FILE").unwrap_or("-");
     let from = matches.get_str("SIDECAR").unwrap_or("-");
-    let mut program = read_program(rt, path)?;
-    let table = read_bytes(rt, from)?;
-    let sidecar = sidecar_of(rt.alloc(), from, &table)?;
-    if let Err(error) = program.attach_positions(&sidecar) {
-        return Err(Failure::of(rt.alloc(), shown(from), error));
-    }
-    let bytes = file_of(rt.alloc(), path, &program)?;
+    let bytes = attached(rt, path, from)?;
     write_binary(rt, matches.get_str("output"), &bytes)?;
     Ok(0)
 }

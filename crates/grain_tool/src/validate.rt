@@ -1,14 +1,15 @@
 //! `grain validate`: whether program files are accepted.
 
-use crate::arguments::flag;
+use crate::arguments::{Argument, Subcommand};
 use crate::failure::Failure;
 use crate::files::{read_bytes, shown, unread, write_standard};
+use crate::json_lines::{line_of, writer};
 use crate::list::explained;
 use crate::places::write_address;
-use clap::{Arg, ArgAction, ArgMatches, Command};
+use clap::ArgMatches;
 use grain::{Caps, Flags, Program, VerifyError};
 use grain_file::{Limits, LoadError, Loaded, load};
-use grain_listing::{Colours, Kind, Naming, Paint, Style, colour_option, name_of, write_chunk};
+use grain_listing::{Colours, Kind, Naming, Paint, Style, name_of, write_chunk};
 use json::Writer;
 use std::alloc::{AllocError, Global};
 
@@ -22,40 +23,42 @@ struct Report {
     json: bool,
 }
 
-/// The arguments of `grain validate`.
-pub fn command<'a>(alloc: Global) -> Result<Command<'a>, AllocError> {
-    let files = Arg::new(alloc, "FILE")
-        .required(true)
-        .action(ArgAction::Append)
-        .num_args(1..)
-        .help("The files, or - for standard input");
-    let caps = Arg::new(alloc, "caps").long("caps").value_name("CAPS").help(
-        "Capabilities of the host, as in \"ARRAY | MAP\"; all where this is left out",
-    );
-    let numbers = flag(
-        alloc,
-        "numbers",
-        "Print the operands that each function needs",
-    )
-    .short('v');
-    Command::new(alloc, "validate")
-        .about("Says whether program files are accepted, and why not")
-        .after_help("Example:\n  grain validate --caps \"FUNCTION | ARRAY\" -v program.grain")
-        .arg(files)?
-        .arg(caps)?
-        .arg(numbers)?
-        .arg(flag(
-            alloc,
-            "explain",
-            "List the refused chunk of a program, with the path to its flaw",
-        ))?
-        .arg(flag(
-            alloc,
-            "json",
-            "Write a JSON object for each file, on a line of its own",
-        ))?
-        .arg(colour_option(alloc, "Colour what is printed"))
-}
+/// `grain validate`
+pub const SUBCOMMAND: Subcommand = Subcommand {
+    name: "validate",
+    about: "Says whether program files are accepted, and why not",
+    example: "Example:\n  grain validate --caps \"FUNCTION | ARRAY\" -v program.grain",
+    arguments: &[
+        Argument::Words {
+            name: "FILE",
+            help: "The files, or - for standard input",
+        },
+        Argument::Text {
+            name: "caps",
+            value: "CAPS",
+            is_required: false,
+            help: "Capabilities of the host, as in \"ARRAY | MAP\"; all where this is left out",
+        },
+        Argument::Flag {
+            name: "numbers",
+            letter: Some('v'),
+            help: "Print the operands that each function needs",
+        },
+        Argument::Flag {
+            name: "explain",
+            letter: None,
+            help: "List the refused chunk of a program, with the path to its flaw",
+        },
+        Argument::Flag {
+            name: "json",
+            letter: None,
+            help: "Write a JSON object for each file, on a line of its own",
+        },
+        Argument::Colour {
+            help: "Colour what is printed",
+        },
+    ],
+};
 
 /// The address that a refusal names.
 fn address_of(error: &VerifyError) -> Option<usize> {
@@ -174,37 +177,48 @@ fn write_accepted(
     Ok(())
 }
 
-/// A line of JSON of an accepted program, or of why it isn't.
-fn object_of(
+/// Appends the operands that each function of an accepted program needs.
+fn write_operands(json: &mut Writer, numbers: &[u16]) -> Result<(), AllocError> {
+    json.key("operands")?;
+    json.begin_array()?;
+    for number in numbers {
+        json.u64(u64::from(*number))?;
+    }
+    json.end_array()
+}
+
+/// Appends what is said of a file.
+fn write_object(
     alloc: Global,
+    json: &mut Writer,
     path: &str,
     found: Result<&Loaded, &Failure>,
-) -> Result<Vec<u8>, AllocError> {
-    let mut json = Writer::new(Vec::new(alloc));
+) -> Result<(), AllocError> {
     json.begin_object()?;
     json.key("file")?;
     json.string(path)?;
     json.key("accepted")?;
     json.boolean(found.is_ok())?;
     match found {
-        Ok(loaded) => {
-            json.key("operands")?;
-            json.begin_array()?;
-            for number in &loaded.numbers {
-                json.u64(u64::from(*number))?;
-            }
-            json.end_array()?;
-        }
+        Ok(loaded) => write_operands(json, &loaded.numbers)?,
         Err(failure) => {
             json.key("error")?;
             let text = format!(in alloc; "{failure}")?;
             json.string(&text)?;
         }
     }
-    json.end_object()?;
-    let mut bytes = json.into_inner();
-    bytes.push(b'\n')?;
-    Ok(bytes)
+    json.end_object()
+}
+
+/// A line of JSON of an accepted program, or of why it isn't.
+fn object_of(
+    alloc: Global,
+    path: &str,
+    found: Result<&Loaded, &Failure>,
+) -> Result<Vec<u8>, AllocError> {
+    let mut json = writer(alloc);
+    write_object(alloc, &mut json, path, found)?;
+    line_of(json)
 }
 
 /// Reads and verifies a file, says what it is, and returns whether it is accepted.
