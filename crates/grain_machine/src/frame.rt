@@ -1,6 +1,7 @@
 //! The stacks of a run, and its address.
 ghost use Rattle.std.specs.Prelude.{◌≡◌, ◌+◌, ◌-◌, ◌<◌, ◌≤◌, [], ◌∷◌, ◌++◌, IfOk, OnOk, OnErr, Some};
 ghost use Rattle.std.specs.Prelude.{MatchOption, None, false, length, vec_capacity};
+ghost use Rattle.std.specs.Bool.{OnFalse, OnTrue};
 ghost use Rattle.grain_rules.specs.Counts.{without_last};
 ghost use Rattle.grain_rules.specs.Machine.{innermost};
 ghost use Rattle.grain_rules.specs.Rows.{gives};
@@ -14,6 +15,7 @@ ghost use Rattle.grain_machine.specs.Values.{Lands, below, rotated, top};
 use crate::host::{Host, Reply, Request};
 use std::alloc::{AllocError, Global};
 use std::marker::Model;
+use std::mem;
 
 /// A handler that is armed.
 #[derive(Clone, Copy)]
@@ -135,6 +137,135 @@ impl<V: Drop, I: Drop> Frame<V, I> {
         host.is_true(&condition)
     }
 
+    /// Drops an operand.
+    #[inline(always)]
+    pub(crate) fn drop_top<H: Host<Value = V>>(&mut self, host: &H)
+        requires { 0 < length self.old.machine.operands }
+        ensures { self.new ≡ frame_with_operands
+            (below 1 self.old.machine.operands) self.old }
+    {
+        if host.needs_drop(self.top()) {
+            self.drop_apart();
+        } else {
+            mem::forget(self.pop());
+        }
+    }
+
+    /// Drops an operand, in a function of its own: most need no drop.
+    #[inline(never)]
+    fn drop_apart(&mut self)
+        requires { 0 < length self.old.machine.operands }
+        ensures { self.new ≡ frame_with_operands
+            (below 1 self.old.machine.operands) self.old }
+    {
+        let _ = self.pop();
+    }
+
+    /// Has the host do an operation that takes the topmost operands and gives a value, where it does it at once. `false` where it
+    /// doesn't.
+    #[inline(always)]
+    pub(crate) fn quick_give<H: Host<Value = V>>(
+        &mut self,
+        host: &mut H,
+        request: &Request<'_>,
+        takes: usize,
+    ) -> bool
+        requires there { takes ≤ length self.old.machine.operands }
+        requires room { length self.old.machine.operands - takes < self.old.room }
+        requires asked { IsAsked request.now.program.now request.now.chunk request.now.at
+            request.now.op.now takes }
+        requires gives { gives (setting_of request.now.program.now) request.now.op.now ≡ 1 }
+        ensures given { OnTrue result (Replaces takes 1 self.old self.new) }
+        ensures stays { OnFalse result (self.new ≡ self.old) }
+    {
+        let base = self.operands.len() - takes;
+        match host.quick_give(request, &self.operands[base..]) {
+            Some(value) => {
+                self.replace_few(host, takes, value);
+                true
+            }
+            None => false,
+        }
+    }
+
+    /// Puts a value in the place of the topmost operands. It is quick where these are two at most.
+    #[inline(always)]
+    pub(crate) fn replace_few<H: Host<Value = V>>(&mut self, host: &H, takes: usize, value: V)
+        requires there { takes ≤ length self.old.machine.operands }
+        requires room { length self.old.machine.operands - takes < self.old.room }
+        ensures { self.new ≡ frame_with_operands
+            (below takes self.old.machine.operands ++ value ∷ []) self.old }
+    {
+        match takes {
+            0 => self.push(value),
+            1 => {
+                self.drop_top(host);
+                self.push(value);
+            }
+            2 => {
+                self.drop_top(host);
+                self.drop_top(host);
+                self.push(value);
+            }
+            _ => self.replace_apart(takes, value),
+        }
+    }
+
+    /// As [`Frame::replace`], in a function of its own.
+    #[inline(never)]
+    fn replace_apart(&mut self, takes: usize, value: V)
+        requires there { takes ≤ length self.old.machine.operands }
+        requires room { length self.old.machine.operands - takes < self.old.room }
+        ensures { self.new ≡ frame_with_operands
+            (below takes self.old.machine.operands ++ value ∷ []) self.old }
+    {
+        self.replace(takes, value);
+    }
+
+    /// Has the host do an operation that takes one operand or none and gives no value, where it does it at once. `false` where it
+    /// doesn't.
+    #[inline(always)]
+    pub(crate) fn quick_take<H: Host<Value = V>>(
+        &mut self,
+        host: &mut H,
+        request: &Request<'_>,
+        takes: usize,
+    ) -> bool
+        requires few { takes ≤ 1 }
+        requires there { takes ≤ length self.old.machine.operands }
+        requires asked { IsAsked request.now.program.now request.now.chunk request.now.at
+            request.now.op.now takes }
+        requires gives { gives (setting_of request.now.program.now) request.now.op.now ≡ 0 }
+        ensures taken { OnTrue result (Replaces takes 0 self.old self.new) }
+        ensures stays { OnFalse result (self.new ≡ self.old) }
+    {
+        let base = self.operands.len() - takes;
+        if !host.quick_take(request, &self.operands[base..]) {
+            return false;
+        }
+        if takes == 1 {
+            self.drop_top(host);
+        }
+        true
+    }
+
+    /// Pops an operand, if the host says at once whether it holds.
+    #[inline(always)]
+    pub(crate) fn quick_condition<H: Host<Value = V>>(&mut self, host: &mut H) -> Option<bool>
+        requires { 0 < length self.old.machine.operands }
+        ensures { MatchOption result (self.new ≡ self.old)
+            (λ _. self.new ≡ frame_with_operands
+            (below 1 self.old.machine.operands) self.old) }
+    {
+        match host.quick_truth(self.top()) {
+            Some(holds) => {
+                self.drop_top(host);
+                Some(holds)
+            }
+            None => None,
+        }
+    }
+
     /// The top of the operand stack.
     #[inline(always)]
     pub(crate) fn top(&self) -> &V
@@ -247,6 +378,27 @@ impl<V: Drop, I: Drop> Frame<V, I> {
         host.advance(&mut self.iterators[last], counter)
     }
 
+    /// The next item of the innermost iterator, where the host has it at once.
+    #[inline(always)]
+    pub(crate) fn quick_advance<H: Host<Value = V, Iterator = I>>(
+        &mut self,
+        host: &mut H,
+        counter: Option<u16>,
+    ) -> Option<V>
+        requires { 0 < length self.old.machine.iterators }
+        ensures { MatchOption result (self.new ≡ self.old)
+            (λ _. Advances self.old self.new) }
+    {
+        let last = self.iterators.len() - 1;
+        match host.quick_next(&self.iterators[last], counter) {
+            Some(item) => {
+                host.went_on(&mut self.iterators[last]);
+                Some(item)
+            }
+            None => None,
+        }
+    }
+
     /// Ends the innermost iterator.
     pub(crate) fn end(&mut self)
         requires { 0 < length self.old.machine.iterators }
@@ -317,7 +469,9 @@ fn with_room<V: Drop>(
 {
     match spare {
         Some(mut values) => {
-            values.clear();
+            if !values.is_empty() {
+                values.clear();
+            }
             values.reserve(room)?;
             Ok(values)
         }

@@ -1,5 +1,6 @@
 //! The frames of a run: the one that runs, and those that wait for a function that they called.
-ghost use Rattle.std.specs.Prelude.{◌≡◌, ◌<◌, [], ◌∷◌, ◌++◌, IfErr, IfOk, IfSome, OnOk};
+ghost use Rattle.std.specs.Prelude.{◌≡◌, ℕ, ◌<◌, [], ◌∷◌, ◌++◌, IfErr, IfOk, IfSome, OnOk};
+ghost use Rattle.std.specs.Bool.{OnFalse, OnTrue};
 ghost use Rattle.std.specs.Prelude.{vec_capacity, vec_len};
 ghost use Rattle.std.specs.List.{All};
 ghost use Rattle.grain_machine.specs.Calls.{IsCaughtBy, IsGivenBack, IsRaised, Turns};
@@ -70,8 +71,20 @@ impl<'a, V: Drop, I: Drop> Frames<'a, V, I> {
         }
     }
 
-    /// The frame on top does the operation where it stands.
+    /// The frame on top does the operation where it stands, where that is done at once. `false` where it isn't.
     #[inline(always)]
+    pub(crate) fn quick_turn<H: Host<Value = V, Iterator = I>>(&mut self, host: &mut H) -> bool
+        requires { IsStanding self.old.body.program self.old }
+        ensures standing { IsStanding self.old.body.program self.new }
+        ensures goes { OnTrue result ((depth : ℕ)
+            → Turns self.old.body.program depth (stack_of self.old) (stack_of self.new)) }
+        ensures stays { OnFalse result (stack_of self.new ≡ stack_of self.old) }
+    {
+        self.body.quick_step(&mut self.frame, host)
+    }
+
+    /// The frame on top does the operation where it stands.
+    #[inline(never)]
     pub(crate) fn turn<H: Host<Value = V, Iterator = I>>(
         &mut self,
         alloc: Global,
@@ -209,7 +222,7 @@ impl<'a, V: Drop, I: Drop> Frames<'a, V, I> {
             next,
         } = caller;
         let given = value_or_unit(host, value);
-        frame.replace(takes, given);
+        frame.replace_few(host, takes, given);
         frame.go(next);
         self.body = body;
         mem::swap(&mut self.frame, &mut frame);

@@ -108,6 +108,52 @@ pub trait Host {
             request.now.op.now (length operands.old) }
         requires gives { gives (setting_of request.now.program.now) request.now.op.now ≡ 0 };
 
+    /// Does an operation as [`give`](Host::give), where a look at the operands is enough: the value. `None` where it isn't; then
+    /// the machine asks `give`, as if nothing had been asked.
+    fn quick_give(
+        &mut self,
+        _request: &Request<'_>,
+        _operands: &[Self::Value],
+    ) -> Option<Self::Value>
+        requires asked { IsAsked _request.now.program.now _request.now.chunk _request.now.at
+            _request.now.op.now (length _operands.now) }
+        requires gives { gives (setting_of _request.now.program.now) _request.now.op.now ≡ 1 }
+    {
+        None
+    }
+
+    /// Does an operation as [`take`](Host::take), where a look at the operands is enough. `false` where it isn't; then the machine
+    /// asks `take`, as if nothing had been asked.
+    fn quick_take(&mut self, _request: &Request<'_>, _operands: &[Self::Value]) -> bool
+        requires asked { IsAsked _request.now.program.now _request.now.chunk _request.now.at
+            _request.now.op.now (length _operands.now) }
+        requires gives { gives (setting_of _request.now.program.now) _request.now.op.now ≡ 0 }
+    {
+        false
+    }
+
+    /// Whether a condition holds; `None` where [`is_true`](Host::is_true) has to be asked.
+    fn quick_truth(&mut self, _value: &Self::Value) -> Option<bool> {
+        None
+    }
+
+    /// The next item of an iterator, where a look at it is enough; `None` where [`advance`](Host::advance) has to be asked.
+    fn quick_next(
+        &mut self,
+        _iterator: &Self::Iterator,
+        _counter: Option<u16>,
+    ) -> Option<Self::Value> {
+        None
+    }
+
+    /// Is told that the item was taken that [`quick_next`](Host::quick_next) gave of this iterator.
+    fn went_on(&mut self, _iterator: &mut Self::Iterator) {}
+
+    /// Whether dropping the value does anything. Where it doesn't, the machine forgets the value.
+    fn needs_drop(&self, _value: &Self::Value) -> bool {
+        true
+    }
+
     /// Whether a condition holds.
     ///
     /// # Errors

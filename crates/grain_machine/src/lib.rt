@@ -11,6 +11,7 @@ mod decoded;
 mod frame;
 mod frames;
 mod host;
+mod quick;
 mod run;
 mod step;
 

@@ -50,6 +50,9 @@ impl<'a> Runnable<'a> {
     {
         let mut frames = Frames::new(alloc, self)?;
         'turns: for _turn in 0..limits.fuel {
+            if frames.quick_turn(host) {
+                continue;
+            }
             let at = frames.at();
             match frames.turn(alloc, host, limits.depth) {
                 Ok(()) => {}

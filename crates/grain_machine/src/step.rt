@@ -46,7 +46,7 @@ pub(crate) enum Turn {
 impl<'a> Runnable<'a> {
     /// What stands where the run is.
     #[inline(always)]
-    fn read<V: Drop, I: Drop>(&self, frame: &Frame<V, I>) -> &'a Decoded
+    pub(crate) fn read<V: Drop, I: Drop>(&self, frame: &Frame<V, I>) -> &'a Decoded
         requires { IsUnderWay self.now (state_of frame.now) }
         ensures at { IsAt self.now (state_of frame.now) result.now.op result.now.next }
         ensures takes { result.now.takes ≡ takes (setting_of self.now.program) result.now.op }
@@ -58,7 +58,11 @@ impl<'a> Runnable<'a> {
 
     /// What the host is asked to do with an operation where the run is.
     #[inline(always)]
-    fn request<'b, V: Drop, I: Drop>(&'b self, frame: &Frame<V, I>, op: &'b Op) -> Request<'b>
+    pub(crate) fn request<'b, V: Drop, I: Drop>(
+        &'b self,
+        frame: &Frame<V, I>,
+        op: &'b Op,
+    ) -> Request<'b>
         ensures program { result.program.now ≡ self.now.program }
         ensures chunk { result.chunk ≡ self.now.chunk }
         ensures at { result.at ≡ frame.now.machine.address }
@@ -292,7 +296,7 @@ impl<'a> Runnable<'a> {
     }
 
     #[inline(always)]
-    fn unit<V: Drop, I: Drop>(&self, frame: &mut Frame<V, I>, next: usize, unit: V)
+    pub(crate) fn unit<V: Drop, I: Drop>(&self, frame: &mut Frame<V, I>, next: usize, unit: V)
         requires { IsAt self.now (state_of frame.old) Op.Unit next }
         ensures { MakesMove self.now frame.old frame.new }
     {
@@ -301,7 +305,13 @@ impl<'a> Runnable<'a> {
     }
 
     #[inline(always)]
-    fn truth<V: Drop, I: Drop>(&self, frame: &mut Frame<V, I>, next: usize, value: bool, truth: V)
+    pub(crate) fn truth<V: Drop, I: Drop>(
+        &self,
+        frame: &mut Frame<V, I>,
+        next: usize,
+        value: bool,
+        truth: V,
+    )
         requires { IsAt self.now (state_of frame.old) (Op.Bool value) next }
         ensures { MakesMove self.now frame.old frame.new }
     {
@@ -328,7 +338,7 @@ impl<'a> Runnable<'a> {
     }
 
     #[inline(always)]
-    fn unwind<V: Drop, I: Drop>(&self, frame: &mut Frame<V, I>, next: usize, depth: u16)
+    pub(crate) fn unwind<V: Drop, I: Drop>(&self, frame: &mut Frame<V, I>, next: usize, depth: u16)
         requires { IsAt self.now (state_of frame.old) (Op.UnwindTo depth) next }
         ensures { MakesMove self.now frame.old frame.new }
     {
@@ -336,7 +346,7 @@ impl<'a> Runnable<'a> {
     }
 
     #[inline(always)]
-    fn jump<V: Drop, I: Drop>(&self, frame: &mut Frame<V, I>, next: usize, target: u32)
+    pub(crate) fn jump<V: Drop, I: Drop>(&self, frame: &mut Frame<V, I>, next: usize, target: u32)
         requires { IsAt self.now (state_of frame.old) (Op.Jump target) next }
         ensures { MakesMove self.now frame.old frame.new }
     {
@@ -394,7 +404,7 @@ impl<'a> Runnable<'a> {
     }
 
     #[inline(always)]
-    fn skip<H: Host>(
+    pub(crate) fn skip<H: Host>(
         &self,
         frame: &mut Frame<H::Value, H::Iterator>,
         host: &mut H,
