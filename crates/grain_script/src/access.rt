@@ -2,15 +2,16 @@
 ghost use Rattle.std.specs.Prelude.{IfOk, IfSome, length, ◌<◌};
 ghost use Rattle.grain_machine.specs.Reply.{NamesFunction};
 
-use crate::chains::{Goal, keys_of, read, swapped, walk};
-use crate::plain::plain;
+use crate::chains::{Goal, entry_name, keys_of, read, swapped, walk};
+use crate::plain::{assigned, plain};
 use crate::script::Script;
 use crate::variables::{Lent, LentRoot, This};
 use crate::world::World;
 use grain::Program;
 use grain_machine::Reply;
 use grain_pools::{Chain, Root, Step, Tail};
-use grain_value::{Cause, SizeLimits, Value};
+use grain_value::{Cause, Value};
+use std::mem;
 use std::rc::Rc;
 
 impl<W: World + Drop> Script<W> {
@@ -24,9 +25,6 @@ impl<W: World + Drop> Script<W> {
     ) -> Result<Reply<Value>, Cause>
         ensures { IfOk result (NamesFunction program.now) }
     {
-        if let Some(value) = self.item(chain, operands)? {
-            return Ok(Reply::Value(value));
-        }
         let steps = chain.steps.as_slice();
         let goal = match &chain.tail {
             Tail::Read => Goal::Read,
@@ -58,46 +56,85 @@ impl<W: World + Drop> Script<W> {
     }
 
     /// Reads a plain item of an array in a local variable, or assigns a plain value to one. `None` where the chain does something else,
-    /// or fails.
-    fn item(&mut self, chain: &Chain, operands: &[Value]) -> Result<Option<Value>, Cause> {
+    /// or fails: then nothing has changed.
+    #[inline(always)]
+    pub(crate) fn item(
+        &mut self,
+        program: &Program,
+        chain: &Chain,
+        operands: &[Value],
+    ) -> Option<Value> {
         let Root::Local { slot, .. } = &chain.root else {
-            return Ok(None);
+            return None;
         };
         let [step] = chain.steps.as_slice() else {
-            return Ok(None);
+            return None;
         };
         let Step::Index { operand, .. } = step else {
-            return Ok(None);
+            return None;
         };
-        let Some(Value::Int(index)) = operands.get(*operand as usize) else {
-            return Ok(None);
+        let Value::Int(index) = operands.get(*operand as usize)? else {
+            return None;
         };
         let Ok(place) = usize::try_from(*index) else {
-            return Ok(None);
+            return None;
         };
-        match &chain.tail {
-            Tail::Read => Ok(self.variables.plain_item(*slot, place)),
-            Tail::Assign { op: Some(_) } => Ok(None),
-            Tail::Assign { op: None } => match operands.last() {
-                Some(value) => self.assign_item(*slot, place, value),
-                None => Ok(None),
-            },
-        }
-    }
-
-    fn assign_item(
-        &mut self,
-        slot: u16,
-        place: usize,
-        value: &Value,
-    ) -> Result<Option<Value>, Cause> {
-        let Some(value) = plain(value) else {
-            return Ok(None);
+        let Tail::Assign { op } = &chain.tail else {
+            return self.variables.plain_item(*slot, place);
         };
         let limits = self.limits;
-        match self.variables.slot_mut(slot) {
-            Some(array) => replace_item(limits, array, place, value),
-            None => Ok(None),
+        let Value::Array(list) = self.variables.slot_mut(*slot)? else {
+            return None;
+        };
+        let new = assigned(program, *op, list.items().get(place)?, operands.last()?)?;
+        // A plain value makes no array larger.
+        if !limits.allow(list.measure()) {
+            return None;
+        }
+        let old = Rc::get_mut(list)?.replace(place, new)?;
+        mem::forget(old);
+        Some(Value::Unit)
+    }
+
+    /// Reads a plain entry of an object map in a local variable or `this`, or assigns a plain value to one. `None` where the chain does
+    /// something else, or fails: then nothing has changed.
+    #[inline(never)]
+    pub(crate) fn entry(
+        &mut self,
+        program: &Program,
+        chain: &Chain,
+        operands: &[Value],
+    ) -> Option<Value> {
+        let [step] = chain.steps.as_slice() else {
+            return None;
+        };
+        let limits = self.limits;
+        let Value::Map(object) = self.plain_root(&chain.root)? else {
+            return None;
+        };
+        let Ok(name) = entry_name(program, step, operands) else {
+            return None;
+        };
+        let old = object.get(name)?;
+        let Tail::Assign { op } = &chain.tail else {
+            return plain(old);
+        };
+        let new = assigned(program, *op, old, operands.last()?)?;
+        // A plain value makes no object map larger.
+        if !limits.allow(object.measure()) {
+            return None;
+        }
+        let old = Rc::get_mut(object)?.replace(name, new)?;
+        mem::forget(old);
+        Some(Value::Unit)
+    }
+
+    /// The place of the value of a local variable or of `this`, a share itself where it is one.
+    fn plain_root(&mut self, root: &Root) -> Option<&mut Value> {
+        match root {
+            Root::Local { slot, .. } => self.variables.slot_mut(*slot),
+            Root::This { .. } => self.variables.this_mut(),
+            Root::Named { .. } | Root::Temporary => None,
         }
     }
 
@@ -212,24 +249,6 @@ impl<W: World + Drop> Script<W> {
             }
         }
     }
-}
-
-/// Puts a plain value in place of an item. `None` where there is none, or the array is larger than the limits allow.
-fn replace_item(
-    limits: SizeLimits,
-    array: &mut Value,
-    place: usize,
-    value: Value,
-) -> Result<Option<Value>, Cause> {
-    let Value::Array(list) = array else {
-        return Ok(None);
-    };
-    // A plain value makes no array larger.
-    if place >= list.len() || !limits.allow(list.measure()) {
-        return Ok(None);
-    }
-    let _old = Rc::make_mut(list)?.replace(place, value);
-    Ok(Some(Value::Unit))
 }
 
 /// A method that a chain calls at its end.

@@ -210,7 +210,7 @@ fn item_place(len: usize, index: Option<&Value>) -> Result<usize, Cause> {
 }
 
 /// The name of the entry to which a step leads.
-fn entry_name<'o>(
+pub(crate) fn entry_name<'o>(
     program: &'o Program,
     step: &Step,
     operands: &'o [Value],

@@ -4,6 +4,7 @@ ghost use Rattle.grain_machine.specs.Asked.{IsAsked};
 ghost use Rattle.grain_machine.specs.Reply.{NamesFunction};
 
 use crate::fault::Fault;
+use crate::plain::is_plain;
 use crate::script::Script;
 use crate::walk::Walk;
 use crate::world::World;
@@ -75,8 +76,51 @@ impl<W: World + Drop> Host for Script<W> {
         Value::Bool(value)
     }
 
+    #[inline(always)]
     fn unwind_to(&mut self, depth: u16) {
         self.variables.unwind_to(depth);
+    }
+
+    #[inline(always)]
+    fn quick_give(&mut self, request: &Request<'_>, operands: &[Value]) -> Option<Value> {
+        let value = self.plain_answer(request, operands)?;
+        self.at = request.at;
+        Some(value)
+    }
+
+    #[inline(always)]
+    fn quick_take(&mut self, request: &Request<'_>, operands: &[Value]) -> bool {
+        let is_done = self.plain_act(request, operands);
+        if is_done {
+            self.at = request.at;
+        }
+        is_done
+    }
+
+    #[inline(always)]
+    fn quick_truth(&mut self, value: &Value) -> Option<bool> {
+        match value {
+            Value::Bool(value) => Some(*value),
+            _ => None,
+        }
+    }
+
+    #[inline(always)]
+    fn quick_next(&mut self, walk: &Walk, counter: Option<u16>) -> Option<Value> {
+        if counter.is_some() {
+            return None;
+        }
+        walk.plain_item()
+    }
+
+    #[inline(always)]
+    fn went_on(&mut self, walk: &mut Walk) {
+        walk.go_past();
+    }
+
+    #[inline(always)]
+    fn needs_drop(&self, value: &Value) -> bool {
+        !is_plain(value)
     }
 
     /// Its fault has the address of the operation.
@@ -87,9 +131,6 @@ impl<W: World + Drop> Host for Script<W> {
     {
         let at = request.at;
         self.at = at;
-        if let Some(value) = self.plain_answer(request, operands) {
-            return Ok(Reply::Value(value));
-        }
         match self.reply(request, operands) {
             Ok(reply) => Ok(reply),
             Err(cause) => {
@@ -124,9 +165,6 @@ impl<W: World + Drop> Host for Script<W> {
     {
         let at = request.at;
         self.at = at;
-        if self.plain_act(request, operands) {
-            return Ok(());
-        }
         match self.done(request, operands) {
             Ok(()) => Ok(()),
             Err(cause) => {
@@ -163,11 +201,6 @@ impl<W: World + Drop> Host for Script<W> {
 
     #[inline(always)]
     fn advance(&mut self, walk: &mut Walk, counter: Option<u16>) -> Result<Option<Value>, Fault> {
-        if counter.is_none()
-            && let Some(item) = walk.next_plain()
-        {
-            return Ok(Some(item));
-        }
         self.next_item(walk, counter)
     }
 

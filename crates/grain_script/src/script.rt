@@ -125,7 +125,11 @@ impl<W: World + Drop> Script<W> {
 
     /// What a frequent operation on plain values gives. `None` of all others, and of one that fails: then nothing was done.
     #[inline(always)]
-    pub(crate) fn plain_answer(&self, request: &Request<'_>, operands: &[Value]) -> Option<Value> {
+    pub(crate) fn plain_answer(
+        &mut self,
+        request: &Request<'_>,
+        operands: &[Value],
+    ) -> Option<Value> {
         if !self.is_settled {
             return None;
         }
@@ -137,10 +141,20 @@ impl<W: World + Drop> Script<W> {
                 ..
             } => {
                 let operator = request.program.tokens().get(*token as usize)?;
-                of_integers(self.alloc, operator, operands)
+                of_integers(operator, operands)
             }
+            Op::Chain(index) => self.plain_chain(request.program, *index, operands),
             _ => None,
         }
+    }
+
+    #[inline(always)]
+    fn plain_chain(&mut self, program: &Program, index: u32, operands: &[Value]) -> Option<Value> {
+        let chain = program.chains().get(index as usize)?;
+        if let Some(value) = self.item(program, chain, operands) {
+            return Some(value);
+        }
+        self.entry(program, chain, operands)
     }
 
     /// Does a frequent operation on plain values that gives none. `false` of all others, and of one that fails: then nothing was done.
@@ -178,9 +192,8 @@ impl<W: World + Drop> Script<W> {
         let Some(value) = operands.first() else {
             return false;
         };
-        let alloc = self.alloc;
         match self.variables.slot_mut(slot) {
-            Some(place) => assign_integer(alloc, &assign_op.op_assign, place, value),
+            Some(place) => assign_integer(&assign_op.op_assign, place, value),
             None => false,
         }
     }

@@ -140,6 +140,7 @@ impl Variables {
     }
 
     /// The item at a place of the array in a slot, where it is plain.
+    #[inline(always)]
     pub(crate) fn plain_item(&self, slot: u16, place: usize) -> Option<Value> {
         match self.slot(slot)? {
             Value::Array(list) => plain(list.items().get(place)?),
@@ -165,8 +166,17 @@ impl Variables {
     }
 
     /// Keeps this number of local variables of the function that runs, and drops the later ones.
+    #[inline(always)]
     pub(crate) fn unwind_to(&mut self, depth: u16) {
         let place = self.place(depth);
+        if place < self.locals.len() {
+            self.drop_from(place);
+        }
+    }
+
+    /// Drops the local variables from a place on.
+    #[inline(never)]
+    fn drop_from(&mut self, place: usize) {
         self.locals.truncate(place);
     }
 

@@ -26,14 +26,19 @@ struct Numbers {
 }
 
 impl Numbers {
+    /// The next one, if there is one.
     #[inline(always)]
-    fn step(&mut self) -> Option<i64> {
+    fn at(&self) -> Option<i64> {
         let number = self.next?;
-        if number > self.last {
-            return None;
-        }
-        self.next = number.checked_add(1);
-        Some(number)
+        (number <= self.last).then_some(number)
+    }
+
+    #[inline(always)]
+    fn go_past(&mut self) {
+        self.next = match self.next {
+            Some(number) => number.checked_add(1),
+            None => None,
+        };
     }
 }
 
@@ -66,20 +71,25 @@ impl Walk {
         Ok(Walk { source, count: 0 })
     }
 
-    /// The next item, where it is plain; `None` of another one, and behind the last: then nothing has changed.
+    /// The next item, where it is plain; `None` of another one, and behind the last.
     #[inline(always)]
-    pub(crate) fn next_plain(&mut self) -> Option<Value> {
-        let item = match &mut self.source {
-            Source::Numbers(numbers) => Value::Int(numbers.step()?),
-            Source::Items(list, place) => {
-                let item = plain(list.items().get(*place)?)?;
-                *place = place.saturating_add(1);
-                item
-            }
-            Source::Values(_) => return None,
-        };
+    pub(crate) fn plain_item(&self) -> Option<Value> {
+        match &self.source {
+            Source::Numbers(numbers) => Some(Value::Int(numbers.at()?)),
+            Source::Items(list, place) => plain(list.items().get(*place)?),
+            Source::Values(_) => None,
+        }
+    }
+
+    /// Goes past the item that [`plain_item`](Walk::plain_item) gave.
+    #[inline(always)]
+    pub(crate) fn go_past(&mut self) {
+        match &mut self.source {
+            Source::Numbers(numbers) => numbers.go_past(),
+            Source::Items(_, place) => *place = place.saturating_add(1),
+            Source::Values(_) => {}
+        }
         self.count = self.count.saturating_add(1);
-        Some(item)
     }
 
     /// The next item, with how many came before it.
@@ -100,9 +110,10 @@ impl Walk {
                 item
             }
             Source::Numbers(numbers) => {
-                let Some(number) = numbers.step() else {
+                let Some(number) = numbers.at() else {
                     return Ok(None);
                 };
+                numbers.go_past();
                 Value::Int(number)
             }
         };
