@@ -108,8 +108,8 @@ pub trait Host {
             request.now.op.now (length operands.old) }
         requires gives { gives (setting_of request.now.program.now) request.now.op.now ≡ 0 };
 
-    /// Does an operation as [`give`](Host::give), where a look at the operands is enough: the value. `None` where it isn't; then
-    /// the machine asks `give`, as if nothing had been asked.
+    /// As [`give`](Host::give), where a look at the operands is enough for the value. With `None` the machine calls `give`, so nothing
+    /// may have changed.
     fn quick_give(
         &mut self,
         _request: &Request<'_>,
@@ -122,8 +122,8 @@ pub trait Host {
         None
     }
 
-    /// Does an operation as [`take`](Host::take), where a look at the operands is enough. `false` where it isn't; then the machine
-    /// asks `take`, as if nothing had been asked.
+    /// As [`take`](Host::take), where a look at the operands is enough. With `false` the machine calls `take`, so nothing may have
+    /// changed.
     fn quick_take(&mut self, _request: &Request<'_>, _operands: &[Self::Value]) -> bool
         requires asked { IsAsked _request.now.program.now _request.now.chunk _request.now.at
             _request.now.op.now (length _operands.now) }
@@ -132,12 +132,13 @@ pub trait Host {
         false
     }
 
-    /// Whether a condition holds; `None` where [`is_true`](Host::is_true) has to be asked.
+    /// Whether a condition holds. With `None` the machine calls [`is_true`](Host::is_true).
     fn quick_truth(&mut self, _value: &Self::Value) -> Option<bool> {
         None
     }
 
-    /// The next item of an iterator, where a look at it is enough; `None` where [`advance`](Host::advance) has to be asked.
+    /// The next item of an iterator, which stays where it is until [`went_on`](Host::went_on). With `None` the machine calls
+    /// [`advance`](Host::advance).
     fn quick_next(
         &mut self,
         _iterator: &Self::Iterator,
@@ -146,7 +147,7 @@ pub trait Host {
         None
     }
 
-    /// Is told that the item was taken that [`quick_next`](Host::quick_next) gave of this iterator.
+    /// Moves an iterator past the item that [`quick_next`](Host::quick_next) gave.
     fn went_on(&mut self, _iterator: &mut Self::Iterator) {}
 
     /// Whether dropping the value does anything. Where it doesn't, the machine forgets the value.
