@@ -47,6 +47,7 @@ TESTS = {
     "grain_bytecode": "grain_lower_tests",
     "grain": "grain_tests",
     "grain_explain": "grain_tests",
+    "grain_file": "grain_file_tests",
     "grain_machine": "grain_machine_tests",
     "grain_lines": "grain_tests",
 }
@@ -98,6 +99,11 @@ CALLS = {
     "grain_explain": {
         "explain_chunks": "`explain_chunks`",
         "explained_flaw": "`explain_chunks`, `FallsOffTheEnd`",
+    },
+    "grain_file": {
+        "read": "`read`",
+        "write": "`write`",
+        "load": "`load`",
     },
     "grain_machine": {
         "accept": "`accept`",

@@ -15,11 +15,11 @@
  * - A bool is 0 or 1.
  * - A grain_scratch begins as GRAIN_SCRATCH_NONE. Only these calls read or write it, one call at a time. Don't use two
  *   copies of one. Threads may hand it to each other.
- * - Only grain_verify, grain_tighten, grain_explain and grain_listing allocate, through grain_alloc and its two companions
- *   (at the end). They free everything before they return, except what a scratch keeps. Don't call them from a signal
+ * - Only grain_verify, grain_tighten, grain_explain, grain_listing and the calls on files allocate, through grain_alloc and its
+ *   two companions (at the end). They free everything before they return, except what a scratch or a file keeps. Don't call them from a signal
  *   handler, nor in a child that a process with several threads has forked.
  *
- * No call waits, prints or ends the process. Nothing is kept between calls except in a scratch. A call takes up to 22 KiB
+ * No call waits, prints or ends the process. Nothing is kept between calls except in a scratch or a file. A call takes up to 22 KiB
  * of its thread's stack.
  * The library is for x86-64 Linux, on processors with popcnt (x86-64-v2).
  *
@@ -94,7 +94,9 @@ typedef enum grain_status {
     GRAIN_TOO_MUCH_WORK = 5, /* the chunks span more of the code than the limit allows */
     GRAIN_NO_CHUNK = 6,      /* the program has no chunk with this index */
     GRAIN_BAD_CODE = 7,      /* nothing is explained: the code isn't whole instructions whose indices are in bounds */
-    GRAIN_STOPPED = 8        /* the caller's function asked to stop */
+    GRAIN_STOPPED = 8,       /* the caller's function asked to stop */
+    GRAIN_NO_FILE = 9,       /* the bytes are no program file within the limits, and why is written */
+    GRAIN_TOO_LONG = 10      /* a list of the file has 4294967296 entries or more */
 } grain_status;
 
 /* Why a program is refused. Next to each flaw is what `first` and `second` of its grain_refusal are; others are 0. */
@@ -171,6 +173,77 @@ enum grain_list {
     GRAIN_LIST_SWITCHES = 5,
     GRAIN_LIST_CASES = 6,
     GRAIN_LIST_RANGES = 7
+};
+
+/* Why bytes are no program file within the limits. */
+enum grain_cause {
+    GRAIN_CAUSE_TOO_LARGE = 1,       /* at: how many bytes the file has, limit: how many it may have */
+    GRAIN_CAUSE_MAGIC = 2,           /* the bytes don't begin as a file does */
+    GRAIN_CAUSE_VERSION = 3,         /* the file is of a version that the reader doesn't know */
+    GRAIN_CAUSE_KIND = 4,            /* the file is of another kind */
+    GRAIN_CAUSE_TRUNCATED = 5,       /* the bytes end within a field */
+    GRAIN_CAUSE_TOO_WIDE = 6,        /* a number doesn't fit */
+    GRAIN_CAUSE_NOT_SHORTEST = 7,    /* a number has a shorter spelling */
+    GRAIN_CAUSE_NOT_TEXT = 8,        /* a text is not UTF-8 */
+    GRAIN_CAUSE_NOT_CHARACTER = 9,   /* a number is no character */
+    GRAIN_CAUSE_UNKNOWN_TAG = 10,    /* a byte is no tag */
+    GRAIN_CAUSE_KEY_ORDER = 11,      /* a key doesn't come after the one before it */
+    GRAIN_CAUSE_TOO_DEEP = 12,       /* values are nested deeper than the limit */
+    GRAIN_CAUSE_NAMES_TOO_LONG = 13, /* they have more than 4294967295 bytes */
+    GRAIN_CAUSE_CASE_ORDER = 14,     /* the constants of the cases of a switch don't strictly ascend */
+    GRAIN_CAUSE_NO_CONSTANT = 15,    /* a switch has a case whose constant isn't there */
+    GRAIN_CAUSE_TOO_MANY_CASES = 16, /* a switch has more cases than the limit */
+    GRAIN_CAUSE_SAME_CASE = 17,      /* two cases of a switch are of the same value */
+    GRAIN_CAUSE_NO_LINE = 18,        /* a position has line 0 */
+    GRAIN_CAUSE_TRAILING = 19        /* bytes follow the last field */
+};
+
+/* The parts of a program file, in their order. */
+enum grain_part {
+    GRAIN_PART_HEADER = 0,
+    GRAIN_PART_CAPABILITIES = 1,
+    GRAIN_PART_ID = 2,              /* the number of the program */
+    GRAIN_PART_CODE = 3,
+    GRAIN_PART_MAIN_CHUNK = 4,
+    GRAIN_PART_FUNCTIONS = 5,       /* how many there are; and so of the other lists */
+    GRAIN_PART_FUNCTION = 6,        /* index: which; and so of the other items */
+    GRAIN_PART_NAMES = 7,
+    GRAIN_PART_NAME = 8,
+    GRAIN_PART_CONSTANTS = 9,
+    GRAIN_PART_CONSTANT = 10,
+    GRAIN_PART_OPERATORS = 11,
+    GRAIN_PART_OPERATOR = 12,
+    GRAIN_PART_OP_ASSIGNMENTS = 13,
+    GRAIN_PART_OP_ASSIGNMENT = 14,
+    GRAIN_PART_CHAINS = 15,
+    GRAIN_PART_CHAIN = 16,
+    GRAIN_PART_SWITCHES = 17,
+    GRAIN_PART_SWITCH = 18,
+    GRAIN_PART_SOURCE_NAME = 19,
+    GRAIN_PART_POSITIONS = 20,
+    GRAIN_PART_POSITION = 21,
+    GRAIN_PART_ADDRESS_TABLE = 22,  /* of a sidecar file, which no call reads */
+    GRAIN_PART_CHAIN_STREAM = 23,   /* the same */
+    GRAIN_PART_REST = 24            /* what follows the last part */
+};
+
+/* What a value is, and what its grain_value has. In all others count and number are 0. */
+enum grain_value_tag {
+    GRAIN_VALUE_UNIT = 0,
+    GRAIN_VALUE_FALSE = 1,
+    GRAIN_VALUE_TRUE = 2,
+    GRAIN_VALUE_INTEGER = 3,         /* number */
+    GRAIN_VALUE_CHARACTER = 4,       /* number */
+    GRAIN_VALUE_TEXT = 5,            /* count bytes, from number on among the texts */
+    GRAIN_VALUE_RANGE = 6,           /* its two integers follow, the second excluded */
+    GRAIN_VALUE_RANGE_INCLUSIVE = 7, /* the same, the second included */
+    GRAIN_VALUE_ARRAY = 8,           /* count values follow */
+    GRAIN_VALUE_BLOB = 9,            /* as a text */
+    GRAIN_VALUE_MAP = 10,            /* count entries follow: a text and then a value */
+    GRAIN_VALUE_FN_PTR = 11,         /* a text follows, its name, and then count bound values */
+    GRAIN_VALUE_SHARED = 12,         /* the value follows */
+    GRAIN_VALUE_HOST = 13,           /* no file has one */
+    GRAIN_VALUE_OPERATOR = 14        /* number (FORMAT.md); only among operators */
 };
 
 /* In place of the index of a chunk: the refusal is of none. */
@@ -351,6 +424,95 @@ typedef struct grain_pools_flaw {
     uint64_t index;
 } grain_pools_flaw;
 
+/* A function of a program file. Its chunk is the one after that of the function before it, the first after the main chunk. */
+typedef struct grain_function {
+    uint32_t name;       /* the index of its name */
+    uint32_t parameters; /* how many it has */
+    bool is_private;     /* only its own script may call it */
+    bool is_typed;       /* it is declared for receivers of one type */
+    uint32_t this_type;  /* the index of the name of that type, else 0 */
+} grain_function;
+
+/* An op-assignment: the names of its operator, as +=, and of the one that it stands for, as +. */
+typedef struct grain_op_assignment {
+    uint32_t op_assign_name;
+    uint32_t op_name;
+} grain_op_assignment;
+
+/* A range of a switch: the integers from the first up to the second, and where they lead. */
+typedef struct grain_range {
+    int64_t from;
+    int64_t to;
+    bool is_inclusive; /* whether the second is one of them */
+    uint32_t target;
+} grain_range;
+
+/* A value, or the beginning of one: what is in it follows in the list. */
+typedef struct grain_value {
+    uint32_t tag; /* grain_value_tag */
+    size_t count;
+    int64_t number;
+} grain_value;
+
+/* All that a program file has. Lists that go with a list of `program` have its order. */
+typedef struct grain_contents {
+    grain_program program; /* the main chunk comes first */
+    uint16_t caps;         /* the capabilities that the program declares */
+    bool has_source;       /* whether `source` is known */
+    bool has_positions;    /* whether `table` is known */
+    uint64_t id_low;       /* the number of the program */
+    uint64_t id_high;
+    const uint8_t *source; /* the name of the source, as UTF-8 */
+    size_t source_len;
+    const grain_function *functions;
+    size_t functions_len;
+    const uint32_t *parameters; /* the names of the parameters of all functions, function after function */
+    size_t parameters_len;
+    const size_t *constants; /* where each constant begins in `values` */
+    size_t constants_len;
+    const grain_value *values; /* the constants, one after another */
+    size_t values_len;
+    const uint8_t *texts; /* the bytes of the texts and blobs among them */
+    size_t texts_len;
+    const grain_value *operators; /* each operator, and then two for each op-assignment: its own and the one it stands for */
+    size_t operators_len;
+    const uint8_t *operator_texts; /* the bytes of operators of the host's own */
+    size_t operator_texts_len;
+    const grain_op_assignment *op_assignments;
+    size_t op_assignments_len;
+    size_t positions;      /* how many bytes of the code have a position in the file, from the first on */
+    const uint16_t *slots; /* of each chain the slot of the variable at which it begins, else 0 */
+    size_t slots_len;
+    const uint8_t *step_flags; /* of each step: 1 ends the chain early at () */
+    size_t step_flags_len;
+    const grain_range *ranges; /* the ranges of all switches; the first that has the subject counts */
+    size_t ranges_len;
+    const uint8_t *table; /* the address table of the code (grain_site) */
+    size_t table_len;
+    const uint8_t *stream; /* the stream of the chains' positions (grain_stream_site) */
+    size_t stream_len;
+} grain_contents;
+
+/* What a host bounds of the files that it reads. */
+typedef struct grain_limits {
+    size_t size;    /* how many bytes a file has */
+    size_t cases;   /* how many cases a switch has */
+    uint32_t depth; /* how deep values are nested; one that holds no other counts 1 */
+} grain_limits;
+#define GRAIN_LIMITS_DEFAULT {67108864, 4096, 64}
+
+/* Why bytes are no program file within the limits. */
+typedef struct grain_read_error {
+    uint32_t cause; /* grain_cause */
+    uint32_t part;  /* grain_part: where the first wrong byte is */
+    uint64_t index; /* of an item its index, else 0 */
+    uint64_t at;    /* the place of that byte */
+    uint64_t limit; /* how many bytes a file may have, if it has more; else 0 */
+} grain_read_error;
+
+/* A program file that was read. */
+typedef struct grain_file grain_file;
+
 /* Verifies a program for a host that has these capabilities.
  *
  * GRAIN_ACCEPTED: the depth of each chunk is written, which is the greatest number of operands that any run of it reaches.
@@ -411,7 +573,31 @@ typedef int grain_put(void *context, const char *text, size_t length);
 GRAIN_NODISCARD grain_status grain_listing(uint16_t caps, const grain_program *program, size_t chunk, grain_put *put,
                                            void *context);
 
-/* Room for the longest text of the next two calls, with the 0 that ends it. */
+/* Reads a program file (FORMAT.md, "Program files") within the limits; NULL: GRAIN_LIMITS_DEFAULT.
+ *
+ * GRAIN_ACCEPTED: *file is the file, until grain_file_free. Nothing says yet that its program verifies. Otherwise *file is NULL.
+ * GRAIN_NO_FILE: *error is the first thing that is wrong. `error` may be NULL. GRAIN_TOO_LONG, GRAIN_OUT_OF_MEMORY: *error stays.
+ *
+ * Reading goes over the bytes once, and keeps none of them. Memory grows with what the file has, which costs bytes of it, and the
+ * call stack with the nesting of values: 64 deep takes up to 64 KiB. A program has exactly one file, which is these bytes. */
+GRAIN_NODISCARD grain_status grain_file_read(grain_file **file, const uint8_t *bytes, size_t bytes_len,
+                                             const grain_limits *limits, grain_read_error *error);
+
+/* What the file has. The lists stay as they are until the file is freed, and any number of threads may read them. What is said
+ * above of grain_pools holds of contents->program.pools, so that each call on programs takes `&contents->program`. An empty list
+ * has a pointer that leads nowhere. */
+const grain_contents *grain_file_contents(const grain_file *file);
+
+/* Verifies the program of a file for a host that has these capabilities. Where the program declares others, they are missing:
+ * GRAIN_REFUSED by GRAIN_FLAW_MISSING_CAPS, without a test of anything else. Otherwise it is verified under those that it declares,
+ * as grain_verify does. `depths` has a place for the main chunk and for each function. `scratch` and `report` may be NULL. */
+GRAIN_NODISCARD grain_status grain_file_verify(grain_scratch *scratch, const grain_file *file, uint16_t caps, uint64_t limit,
+                                               uint16_t *depths, size_t depths_len, grain_report *report);
+
+/* Frees a file. NULL: nothing happens. */
+void grain_file_free(grain_file *file);
+
+/* Room for the longest text of the next three calls, with the 0 that ends it. */
 #define GRAIN_TEXT_SIZE 129
 
 /* Writes a refusal as a line of ASCII (FORMAT.md). Like snprintf: writes as much as there is room for, always ended by 0
@@ -421,6 +607,10 @@ size_t grain_refusal_text(const grain_refusal *refusal, char *text, size_t size)
 /* Writes the instruction at an address, its name and its fields, such as "CALL 3 2", as grain_refusal_text does. 0: there is
  * none, and nothing is written. */
 size_t grain_instruction_text(const uint8_t *code, size_t code_len, size_t at, char *text, size_t size);
+
+/* Writes why bytes are no file, such as "byte 7, in name 3: text is not UTF-8", as grain_refusal_text does. 0: the record says
+ * nothing of files, and nothing is written. */
+size_t grain_read_error_text(const grain_read_error *error, char *text, size_t size);
 
 /* Counts the instructions of the code. false: *damage is the address of the first thing that is none, and *count stays. */
 bool grain_count_instructions(const uint8_t *code, size_t code_len, size_t *count, size_t *damage);

@@ -135,6 +135,77 @@ GRAIN_SIZE(grain_pools_flaw, 16);
 GRAIN_AT(grain_pools_flaw, list, 0);
 GRAIN_AT(grain_pools_flaw, index, 8);
 
+GRAIN_SIZE(grain_function, 16);
+GRAIN_AT(grain_function, name, 0);
+GRAIN_AT(grain_function, parameters, 4);
+GRAIN_AT(grain_function, is_private, 8);
+GRAIN_AT(grain_function, is_typed, 9);
+GRAIN_AT(grain_function, this_type, 12);
+
+GRAIN_SIZE(grain_op_assignment, 8);
+GRAIN_AT(grain_op_assignment, op_assign_name, 0);
+GRAIN_AT(grain_op_assignment, op_name, 4);
+
+GRAIN_SIZE(grain_range, 24);
+GRAIN_AT(grain_range, from, 0);
+GRAIN_AT(grain_range, to, 8);
+GRAIN_AT(grain_range, is_inclusive, 16);
+GRAIN_AT(grain_range, target, 20);
+
+GRAIN_SIZE(grain_value, 24);
+GRAIN_AT(grain_value, tag, 0);
+GRAIN_AT(grain_value, count, 8);
+GRAIN_AT(grain_value, number, 16);
+
+GRAIN_SIZE(grain_contents, 448);
+GRAIN_AT(grain_contents, program, 0);
+GRAIN_AT(grain_contents, caps, 192);
+GRAIN_AT(grain_contents, has_source, 194);
+GRAIN_AT(grain_contents, has_positions, 195);
+GRAIN_AT(grain_contents, id_low, 200);
+GRAIN_AT(grain_contents, id_high, 208);
+GRAIN_AT(grain_contents, source, 216);
+GRAIN_AT(grain_contents, source_len, 224);
+GRAIN_AT(grain_contents, functions, 232);
+GRAIN_AT(grain_contents, functions_len, 240);
+GRAIN_AT(grain_contents, parameters, 248);
+GRAIN_AT(grain_contents, parameters_len, 256);
+GRAIN_AT(grain_contents, constants, 264);
+GRAIN_AT(grain_contents, constants_len, 272);
+GRAIN_AT(grain_contents, values, 280);
+GRAIN_AT(grain_contents, values_len, 288);
+GRAIN_AT(grain_contents, texts, 296);
+GRAIN_AT(grain_contents, texts_len, 304);
+GRAIN_AT(grain_contents, operators, 312);
+GRAIN_AT(grain_contents, operators_len, 320);
+GRAIN_AT(grain_contents, operator_texts, 328);
+GRAIN_AT(grain_contents, operator_texts_len, 336);
+GRAIN_AT(grain_contents, op_assignments, 344);
+GRAIN_AT(grain_contents, op_assignments_len, 352);
+GRAIN_AT(grain_contents, positions, 360);
+GRAIN_AT(grain_contents, slots, 368);
+GRAIN_AT(grain_contents, slots_len, 376);
+GRAIN_AT(grain_contents, step_flags, 384);
+GRAIN_AT(grain_contents, step_flags_len, 392);
+GRAIN_AT(grain_contents, ranges, 400);
+GRAIN_AT(grain_contents, ranges_len, 408);
+GRAIN_AT(grain_contents, table, 416);
+GRAIN_AT(grain_contents, table_len, 424);
+GRAIN_AT(grain_contents, stream, 432);
+GRAIN_AT(grain_contents, stream_len, 440);
+
+GRAIN_SIZE(grain_limits, 24);
+GRAIN_AT(grain_limits, size, 0);
+GRAIN_AT(grain_limits, cases, 8);
+GRAIN_AT(grain_limits, depth, 16);
+
+GRAIN_SIZE(grain_read_error, 32);
+GRAIN_AT(grain_read_error, cause, 0);
+GRAIN_AT(grain_read_error, part, 4);
+GRAIN_AT(grain_read_error, index, 8);
+GRAIN_AT(grain_read_error, at, 16);
+GRAIN_AT(grain_read_error, limit, 24);
+
 #undef GRAIN_SIZE
 #undef GRAIN_AT
 #undef GRAIN_ASSERT

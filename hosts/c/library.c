@@ -104,6 +104,87 @@ grain_status grain_explain(uint16_t caps, const grain_program *program, size_t c
                                               explanation);
 }
 
+/* A file: what it has, and what keeps that. */
+struct grain_file {
+    grain_contents contents;
+    grain_held_file held;
+};
+
+/* Gives each list of the pools a pointer, as the proved functions want of what they write over. */
+static void fill_pools(grain_pools *pools) {
+    grain_pools none = GRAIN_POOLS_NONE;
+    *pools = whole(&none);
+}
+
+static void fill_contents(grain_contents *contents) {
+    grain_contents none = {0};
+    *contents = none;
+    fill_pools(&contents->program.pools);
+    contents->program.code = some(NULL);
+    contents->program.chunks = some(NULL);
+    contents->source = some(NULL);
+    contents->functions = some(NULL);
+    contents->parameters = some(NULL);
+    contents->constants = some(NULL);
+    contents->values = some(NULL);
+    contents->texts = some(NULL);
+    contents->operators = some(NULL);
+    contents->operator_texts = some(NULL);
+    contents->op_assignments = some(NULL);
+    contents->slots = some(NULL);
+    contents->step_flags = some(NULL);
+    contents->ranges = some(NULL);
+    contents->table = some(NULL);
+    contents->stream = some(NULL);
+}
+
+grain_status grain_file_read(grain_file **file, const uint8_t *bytes, size_t bytes_len, const grain_limits *limits,
+                             grain_read_error *error) {
+    const grain_limits usual = GRAIN_LIMITS_DEFAULT;
+    grain_read_error unread = {0, 0, 0, 0, 0};
+    grain_file *made = grain_alloc(sizeof *made, 8);
+    *file = NULL;
+    if (made == NULL)
+        return GRAIN_OUT_OF_MEMORY;
+    fill_contents(&made->contents);
+    made->held.made = false;
+    made->held.block = NULL;
+    uint32_t status = grain_proved_file_read(&made->held, some(bytes), bytes_len, limits != NULL ? limits : &usual,
+                                             &made->contents, error != NULL ? error : &unread);
+    if (status == GRAIN_ACCEPTED)
+        *file = made;
+    else
+        grain_dealloc(made);
+    return (grain_status)status;
+}
+
+const grain_contents *grain_file_contents(const grain_file *file) {
+    return &file->contents;
+}
+
+grain_status grain_file_verify(grain_scratch *scratch, const grain_file *file, uint16_t caps, uint64_t limit, uint16_t *depths,
+                               size_t depths_len, grain_report *report) {
+    grain_report unread = {{0, 0, 0, 0, 0}, 0};
+    grain_scratch own = GRAIN_SCRATCH_NONE;
+    depths = some_room(depths);
+    report = report != NULL ? report : &unread;
+    uint32_t status = grain_proved_file_verify(scratch != NULL ? scratch : &own, &file->contents, caps, limit, depths,
+                                               depths_len, report);
+    grain_proved_scratch_free(&own);
+    return (grain_status)status;
+}
+
+void grain_file_free(grain_file *file) {
+    if (file == NULL)
+        return;
+    grain_proved_file_free(&file->held);
+    grain_dealloc(file);
+}
+
+size_t grain_read_error_text(const grain_read_error *error, char *text, size_t size) {
+    return grain_proved_read_error_text(error, some_room(text), size);
+}
+
 size_t grain_refusal_text(const grain_refusal *refusal, char *text, size_t size) {
     return grain_proved_refusal_text(refusal, some_room(text), size);
 }

@@ -5,6 +5,12 @@
 
 #include "grain.h"
 
+/* What keeps a file between calls. */
+typedef struct grain_held_file {
+    bool made;
+    void *block;
+} grain_held_file;
+
 uint32_t grain_proved_verify(uint16_t caps, uint64_t limit, const grain_program *program, uint16_t *depths,
                              size_t depths_len, grain_report *report);
 uint32_t grain_proved_verify_with(grain_scratch *scratch, uint16_t caps, uint64_t limit, const grain_program *program,
@@ -15,6 +21,12 @@ void grain_proved_scratch_free(grain_scratch *scratch);
 bool grain_proved_check_pools(const grain_pools *pools, grain_pools_flaw *flaw);
 uint32_t grain_proved_explain(uint16_t caps, const grain_program *program, size_t chunk, grain_row *rows, size_t rows_len,
                               grain_base *bases, size_t bases_len, grain_explanation *explanation);
+uint32_t grain_proved_file_read(grain_held_file *file, const uint8_t *bytes, size_t bytes_len, const grain_limits *limits,
+                                grain_contents *contents, grain_read_error *error);
+void grain_proved_file_free(grain_held_file *file);
+uint32_t grain_proved_file_verify(grain_scratch *scratch, const grain_contents *contents, uint16_t host, uint64_t limit,
+                                  uint16_t *depths, size_t depths_len, grain_report *report);
+size_t grain_proved_read_error_text(const grain_read_error *error, uint8_t *text, size_t text_len);
 size_t grain_proved_refusal_text(const grain_refusal *refusal, uint8_t *text, size_t text_len);
 size_t grain_proved_instruction_text(const uint8_t *code, size_t code_len, size_t at, uint8_t *text, size_t text_len);
 bool grain_proved_count_instructions(const uint8_t *code, size_t code_len, size_t *count, size_t *damage);

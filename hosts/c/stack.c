@@ -7,7 +7,7 @@
 
 #include "checks.h"
 
-enum { STACK_SIZE = 1 << 18, ALLOWED = 22 * 1024, PAINT = 0xa5, HANDLERS = 1000 };
+enum { STACK_SIZE = 1 << 18, ALLOWED = 22 * 1024, ALLOWED_OF_FILES = 64 * 1024, PAINT = 0xa5, HANDLERS = 1000 };
 
 static unsigned char stack[STACK_SIZE];
 static ucontext_t caller, callee;
@@ -138,8 +138,53 @@ static void measure(const grain_program *measured, uint16_t host_caps) {
     }
 }
 
+/* A file of a value in 63 arrays, object maps and function pointers, which is as deep as the usual limits allow. */
+static uint8_t file_bytes[512];
+static size_t file_len;
+static grain_file *file;
+
+static void put_bytes(const char *bytes, size_t len) {
+    memcpy(file_bytes + file_len, bytes, len);
+    file_len += len;
+}
+
+static void write_file(void) {
+    put_bytes("\0grn\1\0\0\0\0\2\2\x13\0\2\1\0\0\1", 18);
+    for (int i = 0; i < 21; i++) {
+        put_bytes("\x08\1", 2);
+        put_bytes("\x0a\1\1a", 4);
+        put_bytes("\x0b\1f\1", 4);
+    }
+    put_bytes("\0\0\0\0\0\0\0", 7);
+}
+
+static void read_file(void) {
+    grain_read_error error;
+    status = grain_file_read(&file, file_bytes, file_len, NULL, &error);
+}
+
+static void verify_file(void) {
+    status = grain_file_verify(NULL, file, GRAIN_CAP_ALL, GRAIN_NO_LIMIT, depths, 2, &report);
+}
+
+static void free_file(void) {
+    grain_file_free(file);
+}
+
+static void measure_files(void) {
+    size_t taken = stack_taken_by(read_file);
+    CHECK(status == GRAIN_ACCEPTED && taken <= ALLOWED_OF_FILES);
+    size_t verifying = stack_taken_by(verify_file);
+    CHECK(status != GRAIN_OUT_OF_MEMORY && verifying <= ALLOWED);
+    size_t freeing = stack_taken_by(free_file);
+    CHECK(freeing <= ALLOWED_OF_FILES);
+    printf("files: %zu to read, %zu to verify, %zu to free\n", taken, verifying, freeing);
+}
+
 int main(void) {
     write_nested();
+    write_file();
+    measure_files();
     measure(&with_pools, GRAIN_CAP_ALL);
     measure(&with_pools, GRAIN_CAP_ALL & ~GRAIN_CAP_PROPERTY);
     measure(&nested, GRAIN_CAP_ALL);

@@ -31,6 +31,25 @@ static void want_program(const grain_program *program, const char *name) {
     want_pools(&program->pools, name);
 }
 
+static void want_contents(const grain_contents *contents, const char *name) {
+    want(contents, name);
+    want_program(&contents->program, name);
+    want(contents->source, name);
+    want(contents->functions, name);
+    want(contents->parameters, name);
+    want(contents->constants, name);
+    want(contents->values, name);
+    want(contents->texts, name);
+    want(contents->operators, name);
+    want(contents->operator_texts, name);
+    want(contents->op_assignments, name);
+    want(contents->slots, name);
+    want(contents->step_flags, name);
+    want(contents->ranges, name);
+    want(contents->table, name);
+    want(contents->stream, name);
+}
+
 /* WRAP(answer, name, parameters, what is wanted, arguments) */
 #define WRAP(answer, name, parameters, wanted, arguments) \
     answer __real_grain_proved_##name parameters; \
@@ -62,6 +81,18 @@ WRAP(uint32_t, explain,
       size_t bases_len, grain_explanation *explanation),
      (want_program(program, called), want(rows, called), want(bases, called), want(explanation, called)),
      (caps, program, chunk, rows, rows_len, bases, bases_len, explanation))
+WRAP(uint32_t, file_read,
+     (grain_held_file *file, const uint8_t *bytes, size_t bytes_len, const grain_limits *limits, grain_contents *contents,
+      grain_read_error *error),
+     (want(file, called), want(bytes, called), want(limits, called), want_contents(contents, called), want(error, called)),
+     (file, bytes, bytes_len, limits, contents, error))
+WRAP(uint32_t, file_verify,
+     (grain_scratch *scratch, const grain_contents *contents, uint16_t host, uint64_t limit, uint16_t *depths, size_t many,
+      grain_report *report),
+     (want(scratch, called), want_contents(contents, called), want(depths, called), want(report, called)),
+     (scratch, contents, host, limit, depths, many, report))
+WRAP(size_t, read_error_text, (const grain_read_error *error, uint8_t *text, size_t size),
+     (want(error, called), want(text, called)), (error, text, size))
 WRAP(size_t, refusal_text, (const grain_refusal *refusal, uint8_t *text, size_t size),
      (want(refusal, called), want(text, called)), (refusal, text, size))
 WRAP(size_t, instruction_text, (const uint8_t *code, size_t code_len, size_t at, uint8_t *text, size_t size),

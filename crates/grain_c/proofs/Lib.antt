@@ -1,3 +1,6 @@
+mod FileAnswers
+mod HeldData
+pub mod HeldWords
 mod Judged
 mod Printing
 mod Streams

@@ -5,3 +5,5 @@ pub mod Written
 -- what the parts of an export promise each other
 pub mod Judging
 pub mod Keeps
+pub mod Holds
+pub mod Files

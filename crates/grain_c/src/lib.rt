@@ -7,7 +7,9 @@
 
 mod code;
 mod explain;
+mod files;
 mod handle;
+mod held;
 mod judge;
 mod pools;
 mod status;
@@ -21,4 +23,8 @@ pub use grain_flat::{
     CBase, CCase, CChain, CChunk, CConstant, CEntry, CExplanation, CField, CInstruction, CPlace,
     CPools, CPoolsFlaw, CProgram, CRefusal, CReport, CRow, CStep, CSwitch,
 };
+pub use grain_flat_file::{
+    CContents, CFunction, CLimits, COpAssignment, CRange, CReadError, CValue,
+};
 pub use handle::CScratch;
+pub use held::CHeldFile;

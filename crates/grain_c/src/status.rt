@@ -29,3 +29,9 @@ pub const BAD_CODE: u32 = 7;
 
 /// The caller's function asked to stop. No function here answers this.
 pub const STOPPED: u32 = 8;
+
+/// The bytes are no file within the limits, and why is written.
+pub const NO_FILE: u32 = 9;
+
+/// A list of the file has 4294967296 entries or more.
+pub const TOO_LONG: u32 = 10;

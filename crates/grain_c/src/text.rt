@@ -104,7 +104,7 @@ fn error_of(refusal: &CRefusal) -> Option<VerifyError>
 }
 
 /// Writes a text as far as there is room for it and for the 0 that ends it, and answers how long it is.
-fn print(room: &mut [u8], text: &[u8]) -> usize
+pub(crate) fn print(room: &mut [u8], text: &[u8]) -> usize
     ensures printed { IsPrinted text.now room.old room.new }
     ensures size { result ≡ length text.now }
 {

@@ -18,7 +18,7 @@ fn put(room: &mut [u16], depths: &[u16])
 
 /// Verifies a program in the memory of a scratch, whatever that was used for before.
 #[inline(always)]
-fn verify_in(
+pub(crate) fn verify_in(
     alloc: Global,
     scratch: &mut Scratch,
     caps: u16,

@@ -34,6 +34,7 @@
 //! | say why not | [`VerifyError`], [`Refusal`], [`Flaw`] |
 //! | show why not | [`Program::explain`], [`Explained`] |
 //! | fill pools | [`Pools`], or [`FlatPools`] where the lists are the host's own |
+//! | read a program file | [`ProgramFile`], with [`Limits`] |
 //! | run what is accepted | [`Verified`], [`Opcode`] |
 //! | find lines | [`Program::site`], [`site`], [`stream_site`] |
 //!
@@ -55,7 +56,8 @@
 //!
 //! - The length of the code, and of each list of the pools: time and memory grow with them.
 //! - The work: chunks may overlap, so that many short chunks cost as much as long code. [`Verifier::limit`] bounds it.
-//! - The depth of constants is the host's to bound, where it reads them: verification sees only what they need.
+//! - The depth of constants is the host's to bound, where it reads them: verification sees only what they need. [`Limits`] bounds
+//!   it for program files.
 //!
 //! No call waits or prints. No call ends the process where the allocator refuses, except the chained calls of [`Pools`] and
 //! clones, which take memory as a `Vec` does.
@@ -75,6 +77,7 @@ mod capabilities;
 mod code;
 mod error;
 mod explained;
+mod file;
 mod flat;
 mod listing;
 mod mnemonics;
@@ -87,6 +90,7 @@ mod refusal;
 mod rows;
 mod tables;
 mod text;
+mod values;
 mod verified;
 mod verifier;
 
@@ -96,6 +100,10 @@ pub use code::{
 };
 pub use error::{ExplainError, VerifyError};
 pub use explained::{explain, Base, Bases, Explained, Row, Subject};
+pub use file::{
+    FileChain, FileError, FileFault, FileFunction, FilePart, FileSwitch, Limits, Malformed,
+    OpAssignment, ProgramFile, Range,
+};
 pub use flat::{FlatPools, PoolsFlaw, PoolsList};
 pub use mnemonics::mnemonic;
 pub use opcode::{Flow, Opcode};
@@ -109,6 +117,7 @@ pub use tables::{
     table_entries_into, Entry, ReadError, Site, TableFlaw,
 };
 pub use text::Text;
+pub use values::{Operator, Value, Values};
 pub use verified::{Rejected, Verified};
 pub use verifier::Verifier;
 

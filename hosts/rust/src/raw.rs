@@ -2,6 +2,7 @@
 // The whole interface is declared, used here or not, so that it can be compared with the header.
 #![allow(dead_code)]
 use crate::explained::Row;
+use crate::file::Range;
 use crate::rows::{Case, ChainRow, Constant, StepRow, SwitchRow};
 use crate::tables::{Entry, Site};
 use crate::Chunk;
@@ -17,6 +18,23 @@ pub(crate) const TOO_MUCH_WORK: u32 = 5;
 pub(crate) const NO_CHUNK: u32 = 6;
 pub(crate) const BAD_CODE: u32 = 7;
 pub(crate) const STOPPED: u32 = 8;
+pub(crate) const NO_FILE: u32 = 9;
+pub(crate) const TOO_LONG: u32 = 10;
+
+pub(crate) const CAUSE_TOO_LARGE: u32 = 1;
+pub(crate) const VALUE_FALSE: u32 = 1;
+pub(crate) const VALUE_TRUE: u32 = 2;
+pub(crate) const VALUE_INTEGER: u32 = 3;
+pub(crate) const VALUE_CHARACTER: u32 = 4;
+pub(crate) const VALUE_TEXT: u32 = 5;
+pub(crate) const VALUE_RANGE: u32 = 6;
+pub(crate) const VALUE_RANGE_INCLUSIVE: u32 = 7;
+pub(crate) const VALUE_ARRAY: u32 = 8;
+pub(crate) const VALUE_BLOB: u32 = 9;
+pub(crate) const VALUE_MAP: u32 = 10;
+pub(crate) const VALUE_FN_PTR: u32 = 11;
+pub(crate) const VALUE_SHARED: u32 = 12;
+pub(crate) const VALUE_OPERATOR: u32 = 14;
 
 pub(crate) const INTERFACE: u32 = 2;
 pub(crate) const WHOLE_PROGRAM: u64 = u64::MAX;
@@ -73,6 +91,93 @@ impl Scratch {
         made: false,
         block: std::ptr::null_mut(),
     };
+}
+
+/// A file, of which only the library knows what it is.
+#[repr(C)]
+pub(crate) struct File {
+    _own: [u8; 0],
+}
+
+#[repr(C)]
+#[derive(Clone, Copy, Debug)]
+pub(crate) struct Function {
+    pub(crate) name: u32,
+    pub(crate) parameters: u32,
+    pub(crate) is_private: bool,
+    pub(crate) is_typed: bool,
+    pub(crate) this_type: u32,
+}
+
+#[repr(C)]
+#[derive(Clone, Copy, Debug)]
+pub(crate) struct OpAssignment {
+    pub(crate) op_assign_name: u32,
+    pub(crate) op_name: u32,
+}
+
+#[repr(C)]
+#[derive(Clone, Copy, Debug, PartialEq)]
+pub(crate) struct Value {
+    pub(crate) tag: u32,
+    pub(crate) count: usize,
+    pub(crate) number: i64,
+}
+
+#[repr(C)]
+pub(crate) struct Contents {
+    pub(crate) program: Program,
+    pub(crate) caps: u16,
+    pub(crate) has_source: bool,
+    pub(crate) has_positions: bool,
+    pub(crate) id_low: u64,
+    pub(crate) id_high: u64,
+    pub(crate) source: *const u8,
+    pub(crate) source_len: usize,
+    pub(crate) functions: *const Function,
+    pub(crate) functions_len: usize,
+    pub(crate) parameters: *const u32,
+    pub(crate) parameters_len: usize,
+    pub(crate) constants: *const usize,
+    pub(crate) constants_len: usize,
+    pub(crate) values: *const Value,
+    pub(crate) values_len: usize,
+    pub(crate) texts: *const u8,
+    pub(crate) texts_len: usize,
+    pub(crate) operators: *const Value,
+    pub(crate) operators_len: usize,
+    pub(crate) operator_texts: *const u8,
+    pub(crate) operator_texts_len: usize,
+    pub(crate) op_assignments: *const OpAssignment,
+    pub(crate) op_assignments_len: usize,
+    pub(crate) positions: usize,
+    pub(crate) slots: *const u16,
+    pub(crate) slots_len: usize,
+    pub(crate) step_flags: *const u8,
+    pub(crate) step_flags_len: usize,
+    pub(crate) ranges: *const Range,
+    pub(crate) ranges_len: usize,
+    pub(crate) table: *const u8,
+    pub(crate) table_len: usize,
+    pub(crate) stream: *const u8,
+    pub(crate) stream_len: usize,
+}
+
+#[repr(C)]
+pub(crate) struct Limits {
+    pub(crate) size: usize,
+    pub(crate) cases: usize,
+    pub(crate) depth: u32,
+}
+
+#[repr(C)]
+#[derive(Clone, Copy, Debug, Default, PartialEq, Eq, Hash)]
+pub(crate) struct ReadError {
+    pub(crate) cause: u32,
+    pub(crate) part: u32,
+    pub(crate) index: u64,
+    pub(crate) at: u64,
+    pub(crate) limit: u64,
 }
 
 #[repr(C)]
@@ -151,6 +256,13 @@ const _: () = assert!(size_of::<Row>() == 20);
 const _: () = assert!(size_of::<Base>() == 12);
 const _: () = assert!(size_of::<Explanation>() == 72);
 const _: () = assert!(size_of::<PoolsFlaw>() == 16);
+const _: () = assert!(size_of::<Function>() == 16);
+const _: () = assert!(size_of::<OpAssignment>() == 8);
+const _: () = assert!(size_of::<Range>() == 24);
+const _: () = assert!(size_of::<Value>() == 24);
+const _: () = assert!(size_of::<Contents>() == 448);
+const _: () = assert!(size_of::<Limits>() == 24);
+const _: () = assert!(size_of::<ReadError>() == 32);
 
 /// Takes a piece of a listing. It returns other than 0 to end the listing.
 pub(crate) type Put =
@@ -202,6 +314,29 @@ extern "C" {
         put: Put,
         context: *mut c_void,
     ) -> u32;
+    pub(crate) fn grain_file_read(
+        file: *mut *mut File,
+        bytes: *const u8,
+        bytes_len: usize,
+        limits: *const Limits,
+        error: *mut ReadError,
+    ) -> u32;
+    pub(crate) fn grain_file_contents(file: *const File) -> *const Contents;
+    pub(crate) fn grain_file_verify(
+        scratch: *mut Scratch,
+        file: *const File,
+        caps: u16,
+        limit: u64,
+        depths: *mut u16,
+        depths_len: usize,
+        report: *mut Report,
+    ) -> u32;
+    pub(crate) fn grain_file_free(file: *mut File);
+    pub(crate) fn grain_read_error_text(
+        error: *const ReadError,
+        text: *mut c_char,
+        size: usize,
+    ) -> usize;
     pub(crate) fn grain_refusal_text(
         refusal: *const Refusal,
         text: *mut c_char,

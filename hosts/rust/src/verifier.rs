@@ -2,6 +2,7 @@
 use crate::capabilities::Caps;
 use crate::error::{ExplainError, VerifyError};
 use crate::explained::{self, Explained, Subject};
+use crate::file::ProgramFile;
 use crate::flat::FlatPools;
 use crate::program::Program;
 use crate::refusal::Refusal;
@@ -127,6 +128,23 @@ impl Verifier {
             &pools.into(),
             depths,
         )
+    }
+
+    /// Verifies the program of a file, and returns the depth of each chunk, as [`ProgramFile::verify`] does.
+    ///
+    /// # Errors
+    /// Those of [`ProgramFile::verify`], and [`VerifyError::TooMuchWork`].
+    pub fn verify_file(&mut self, caps: Caps, file: &ProgramFile) -> Result<&[u16], VerifyError> {
+        let chunks = file.chunks().len();
+        self.depths
+            .try_reserve(chunks.saturating_sub(self.depths.len()))
+            .map_err(|_| VerifyError::OutOfMemory)?;
+        self.depths.resize(chunks, 0);
+        let mut report = raw::Report::default();
+        let (limit, depths) = (self.limit, &mut self.depths[..]);
+        let status = file.judge(&mut self.scratch, caps, limit, depths, &mut report);
+        verdict(status, &report, &file.pools())?;
+        Ok(&self.depths)
     }
 
     /// Verifies a program, and returns it as a [`Verified`], as [`Program::into_verified`] does.

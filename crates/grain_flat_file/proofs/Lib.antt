@@ -1,0 +1,2 @@
+pub mod FlatForm
+mod ValueRows

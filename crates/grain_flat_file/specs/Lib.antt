@@ -1,0 +1,4 @@
+pub mod Contents
+pub mod Errors
+pub mod Loading
+pub mod Values

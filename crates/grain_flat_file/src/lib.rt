@@ -1,0 +1,24 @@
+//! Program files in the flat form in which they are handed to programs in C and Rust.
+//!
+//! [`FlatFile`] is a program with its flat form beside it. What stands in that form is said in the folder `specs/`. The exports
+//! of the static library stand in `grain_c`.
+#![tactic(auto)]
+
+pub mod causes;
+mod contents;
+mod errors;
+mod functions;
+pub mod laws;
+mod loading;
+pub mod parts;
+mod pools;
+mod records;
+pub mod tags;
+mod unflat;
+mod values;
+
+pub use contents::FlatFile;
+pub use errors::{read_error_of, read_error_record};
+pub use loading::{FileStop, read_flat};
+pub use records::{CContents, CFunction, CLimits, COpAssignment, CRange, CReadError, CValue};
+pub use unflat::Unflat;

@@ -1,0 +1,245 @@
+//! Program files: what is read of one, what refusals say, and that what was read is verified.
+use grain::{
+    explain, Caps, FileError, FileFault, FilePart, FlatPools, Flaw, Limits, Operator, ProgramFile,
+    Range, Root, Site, Subject, Tail, Value, Verifier, VerifyError,
+};
+
+/// A file with something in each list, the one of the tests in C.
+const SAMPLE: &str = "
+    0067726e0100ffff010709040100001300040102000201000000000402010001010100040102036c656e02c3
+    a90d000102035304e901050268690602040702040802030208000902ff000a0201610001620501630b016601
+    03080c030a020027023c3e011c00000103000301010000010000000101000001010001000001020301010000
+    0301020002000000000201020300050401020801030001017301040101050000010200
+";
+
+fn sample() -> Vec<u8> {
+    let digits: Vec<u8> = SAMPLE.bytes().filter(u8::is_ascii_hexdigit).collect();
+    let pairs = digits
+        .chunks(2)
+        .map(|pair| std::str::from_utf8(pair).unwrap());
+    pairs
+        .map(|pair| u8::from_str_radix(pair, 16).unwrap())
+        .collect()
+}
+
+#[test]
+fn all_is_read() {
+    let file = ProgramFile::read(&sample(), &Limits::default()).unwrap();
+    assert_eq!(file.caps(), Caps::ALL);
+    assert_eq!(file.id(), 9 << 64 | 7);
+    assert_eq!(file.code(), [0x01, 0, 0, 0x13]);
+    assert_eq!(file.chunks().len(), 3);
+    assert_eq!(file.source(), Some("s"));
+    assert_eq!(file.names().collect::<Vec<_>>(), ["len", "é"]);
+    let functions: Vec<_> = file.functions().collect();
+    assert_eq!(
+        (functions[0].parameters, functions[0].this_type),
+        (&[1, 0][..], None)
+    );
+    assert_eq!(
+        (functions[1].is_private, functions[1].this_type),
+        (true, Some(1))
+    );
+    assert_eq!(functions[1].chunk, file.chunks()[2]);
+    let operators: Vec<_> = file.operators().collect();
+    assert_eq!(operators, [Operator::Number(0), Operator::Custom("<>")]);
+    let assigned = file.op_assignments().next().unwrap();
+    assert_eq!(
+        (assigned.op_assign, assigned.op),
+        (Operator::Number(28), Operator::Number(0))
+    );
+    assert_eq!((assigned.op_assign_name, assigned.op_name), (0, 1));
+    let chains: Vec<_> = file.chains().collect();
+    assert_eq!(
+        (chains[0].row.root(), chains[0].slot, chains[0].flags),
+        (Root::Local { name: 1 }, 3, &[1][..])
+    );
+    assert_eq!(
+        (chains[1].row.tail(), chains[1].steps.len()),
+        (Tail::AssignThrough { op: 0 }, 1)
+    );
+    let switch = file.switches().next().unwrap();
+    let mut cases: Vec<_> = switch
+        .cases
+        .iter()
+        .map(|case| (case.constant, case.target))
+        .collect();
+    cases.sort_unstable();
+    assert_eq!((cases, switch.otherwise), (vec![(3, 0), (5, 4)], 0));
+    assert_eq!(
+        switch.ranges,
+        [Range {
+            from: 1,
+            to: 4,
+            is_inclusive: true,
+            target: 3
+        }]
+    );
+    assert_eq!(file.site(0), Some(Site { line: 1, column: 5 }));
+    assert_eq!(file.site(1), None);
+    assert_eq!(file.chain_site(3), Some(Site { line: 2, column: 3 }));
+}
+
+#[test]
+fn constants_are_read() {
+    let file = ProgramFile::try_from(&sample()[..]).unwrap();
+    let all: Vec<_> = file.constants().collect();
+    assert_eq!(all.len(), 13);
+    assert_eq!(
+        all[..4],
+        [
+            Value::Unit,
+            Value::Bool(false),
+            Value::Bool(true),
+            Value::Integer(-42)
+        ]
+    );
+    assert_eq!(
+        all[4..8],
+        [
+            Value::Char('é'),
+            Value::Text("hi"),
+            Value::Range(1, 2),
+            Value::RangeInclusive(1, 2)
+        ]
+    );
+    let Value::Array(items) = all[8] else {
+        panic!()
+    };
+    let items: Vec<_> = items.collect();
+    assert_eq!(items[0], Value::Integer(1));
+    assert!(matches!(items[1], Value::Array(none) if none.len() == 0));
+    assert_eq!(all[9], Value::Blob(&[0xff, 0]));
+    let Value::Map(entries) = all[10] else {
+        panic!()
+    };
+    let entries: Vec<_> = entries.collect();
+    assert_eq!(
+        entries,
+        [
+            Value::Text("a"),
+            Value::Unit,
+            Value::Text("b"),
+            Value::Text("c")
+        ]
+    );
+    let Value::FnPtr("f", mut bound) = all[11] else {
+        panic!()
+    };
+    assert_eq!(
+        (bound.next(), bound.next()),
+        (Some(Value::Integer(4)), None)
+    );
+    let Value::Shared(mut inner) = all[12] else {
+        panic!()
+    };
+    assert_eq!(inner.next(), Some(Value::Integer(5)));
+    for (index, value) in all.iter().enumerate() {
+        assert_eq!(file.constant(index).as_ref(), Some(value));
+    }
+    assert_eq!(file.constant(13), None);
+}
+
+#[test]
+fn files_are_verified() {
+    let file = ProgramFile::read(&sample(), &Limits::default()).unwrap();
+    assert_eq!(file.verify(Caps::ALL), Ok(vec![1, 1, 1]));
+    let refused = file.verify(Caps::FUNCTION).unwrap_err();
+    assert!(matches!(
+        refused.refusal().unwrap().flaw(),
+        Flaw::MissingCaps { .. }
+    ));
+    let mut verifier = Verifier::new().limit(11);
+    assert_eq!(
+        verifier.verify_file(Caps::ALL, &file),
+        Err(VerifyError::TooMuchWork)
+    );
+    let mut verifier = Verifier::new().limit(12);
+    assert_eq!(verifier.verify_file(Caps::ALL, &file), Ok(&[1, 1, 1][..]));
+    let pools = FlatPools::from(&file);
+    assert_eq!(pools.check(), Ok(()));
+    assert_eq!(
+        verifier.verify(Caps::ALL, file.code(), file.chunks(), pools),
+        Ok(&[1, 1, 1][..])
+    );
+    let explained = explain(
+        Caps::ALL,
+        file.code(),
+        file.chunks(),
+        pools,
+        Subject::from(0),
+    )
+    .unwrap();
+    assert_eq!(explained.rows().len(), 2);
+}
+
+#[test]
+fn refusals_are_named() {
+    let bytes = sample();
+    let Err(FileError::Malformed(cut)) = ProgramFile::read(&bytes[..20], &Limits::default()) else {
+        panic!()
+    };
+    assert_eq!(
+        (cut.at(), cut.part(), cut.index()),
+        (20, FilePart::Function, 0)
+    );
+    assert_eq!(cut.fault(), FileFault::Truncated);
+    assert_eq!(
+        cut.to_string(),
+        "byte 20, in function 0: the file ends within a field"
+    );
+    let small = Limits {
+        size: 9,
+        ..Limits::default()
+    };
+    let error = ProgramFile::read(&bytes, &small).unwrap_err();
+    assert_eq!(
+        error,
+        FileError::TooLarge {
+            size: bytes.len() as u64,
+            limit: 9
+        }
+    );
+    assert_eq!(
+        error.to_string(),
+        format!("file of {} bytes, limit 9", bytes.len())
+    );
+    let flat = Limits {
+        depth: 1,
+        ..Limits::default()
+    };
+    let Err(FileError::Malformed(deep)) = ProgramFile::read(&bytes, &flat) else {
+        panic!()
+    };
+    assert_eq!(
+        (deep.part(), deep.index(), deep.fault()),
+        (FilePart::Constant, 8, FileFault::TooDeep)
+    );
+    let few = Limits {
+        cases: 1,
+        ..Limits::default()
+    };
+    let Err(FileError::Malformed(many)) = ProgramFile::read(&bytes, &few) else {
+        panic!()
+    };
+    assert_eq!(
+        (many.part(), many.fault()),
+        (FilePart::Switch, FileFault::TooManyCases)
+    );
+    for len in 0..bytes.len() {
+        assert!(ProgramFile::read(&bytes[..len], &Limits::default()).is_err());
+    }
+}
+
+#[test]
+fn threads_share_a_file() {
+    let file = ProgramFile::read(&sample(), &Limits::default()).unwrap();
+    std::thread::scope(|scope| {
+        for _ in 0..4 {
+            scope.spawn(|| assert_eq!(file.verify(Caps::ALL), Ok(vec![1, 1, 1])));
+        }
+    });
+    std::thread::spawn(move || assert_eq!(file.names().len(), 2))
+        .join()
+        .unwrap();
+}
