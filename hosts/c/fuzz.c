@@ -2,9 +2,13 @@
  * the archive that hosts/build has made:
  *
  *     clang -g -O1 -fsanitize=fuzzer,address,undefined hosts/c/fuzz.c hosts/out/libgrain.a -o hosts/out/fuzz
- *     mkdir -p hosts/out/found && hosts/out/fuzz -max_len=4096 -max_total_time=600 hosts/out/found hosts/c/corpus
+ *     mkdir -p hosts/out/corpus hosts/out/found
+ *     python3 -c 'for n, line in enumerate(open("hosts/c/corpus.txt")):
+ *         open(f"hosts/out/corpus/{n}", "wb").write(bytes.fromhex(line))'
+ *     hosts/out/fuzz -max_len=4096 -max_total_time=600 hosts/out/found hosts/out/corpus
  *
- * hosts/c/corpus has what bench/random_files.py makes, as far as it reaches something new. */
+ * hosts/c/corpus.txt has a file in each line: that of files.c, some that bench/random_files.py makes, and what was found of them.
+ */
 #include "rewrite.h"
 
 #include <stdio.h>
@@ -61,7 +65,7 @@ static void explain_all(const grain_contents *all) {
 int LLVMFuzzerTestOneInput(const uint8_t *bytes, size_t len);
 
 int LLVMFuzzerTestOneInput(const uint8_t *bytes, size_t len) {
-    static volatile uint32_t sink;
+    static volatile uint32_t sum;
     grain_file *file;
     grain_read_error error = {0, 0, 0, 0, 0};
     char text[GRAIN_TEXT_SIZE];
@@ -72,7 +76,8 @@ int LLVMFuzzerTestOneInput(const uint8_t *bytes, size_t len) {
         return 0;
     }
     const grain_contents *all = grain_file_contents(file);
-    sink = sum_of_all(all);
+    sum = sum_of_all(all);
+    (void)sum;
     REQUIRE(grain_check_pools(&all->program.pools, NULL));
     uint64_t named;
     REQUIRE(grain_check_table(all->table, all->table_len, &named) == GRAIN_TABLE_SOUND);

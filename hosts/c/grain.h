@@ -19,8 +19,8 @@
  *   two companions (at the end). They free everything before they return, except what a scratch or a file keeps. Don't call them from a signal
  *   handler, nor in a child that a process with several threads has forked.
  *
- * No call waits, prints or ends the process. Nothing is kept between calls except in a scratch or a file. A call takes up to 22 KiB
- * of its thread's stack.
+ * No call waits, prints or ends the process. Nothing is kept between calls except in a scratch or a file. A call takes up to
+ * 22 KiB of its thread's stack, except grain_file_read and grain_file_free.
  * The library is for x86-64 Linux, on processors with popcnt (x86-64-v2).
  *
  * FORMAT.md has the instructions, the tables and the rules of verification; EMBEDDING.md says what a host owes
@@ -579,7 +579,7 @@ GRAIN_NODISCARD grain_status grain_listing(uint16_t caps, const grain_program *p
  * GRAIN_NO_FILE: *error is the first thing that is wrong. `error` may be NULL. GRAIN_TOO_LONG, GRAIN_OUT_OF_MEMORY: *error stays.
  *
  * Reading goes over the bytes once, and keeps none of them. Memory grows with what the file has, which costs bytes of it, and the
- * call stack with the nesting of values: 64 deep takes up to 64 KiB. A program has exactly one file, which is these bytes. */
+ * call stack with the nesting of values: 64 deep takes up to 80 KiB. A program has exactly one file, which is these bytes. */
 GRAIN_NODISCARD grain_status grain_file_read(grain_file **file, const uint8_t *bytes, size_t bytes_len,
                                              const grain_limits *limits, grain_read_error *error);
 

@@ -7,7 +7,7 @@
 
 #include "checks.h"
 
-enum { STACK_SIZE = 1 << 18, ALLOWED = 22 * 1024, ALLOWED_OF_FILES = 64 * 1024, PAINT = 0xa5, HANDLERS = 1000 };
+enum { STACK_SIZE = 1 << 18, ALLOWED = 22 * 1024, ALLOWED_OF_FILES = 80 * 1024, PAINT = 0xa5, HANDLERS = 1000 };
 
 static unsigned char stack[STACK_SIZE];
 static ucontext_t caller, callee;
