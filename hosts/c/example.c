@@ -111,6 +111,33 @@ static bool list_places(void) {
     return true;
 }
 
+/* The first program file of FORMAT.md: it returns its constant 21. */
+static const uint8_t file_bytes[] = {0x00, 0x67, 0x72, 0x6e, 0x01, 0x00, 0x00, 0x07, 0x00, 0x04, 0x01, 0x00,
+                                     0x00, 0x13, 0x00, 0x04, 0x01, 0x00, 0x01, 0x03, 0x6c, 0x65, 0x6e, 0x01,
+                                     0x03, 0x2a, 0x01, 0x00, 0x00, 0x00, 0x00, 0x00, 0x00};
+
+/* Reads a program file and verifies its program; prints a constant and the depth, or why the bytes are no file. */
+static bool read_file(size_t length) {
+    const grain_limits limits = GRAIN_LIMITS_DEFAULT;
+    grain_file *file;
+    grain_read_error error = {0, 0, 0, 0, 0};
+    char text[GRAIN_TEXT_SIZE];
+    uint16_t depth = 0;
+    grain_status status = grain_file_read(&file, file_bytes, length, &limits, &error);
+    if (status != GRAIN_ACCEPTED) {
+        if (status == GRAIN_NO_FILE && grain_read_error_text(&error, text, sizeof text) != 0)
+            printf("no file: %s\n", text);
+        return false;
+    }
+    const grain_contents *contents = grain_file_contents(file);
+    const grain_value *constant = &contents->values[contents->constants[0]];
+    status = grain_file_verify(NULL, file, GRAIN_CAP_NONE, contents->program.code_len, &depth, 1, NULL);
+    if (status == GRAIN_ACCEPTED && constant->tag == GRAIN_VALUE_INTEGER)
+        printf("file of constant %lld, depth %u\n", (long long)constant->number, depth);
+    grain_file_free(file);
+    return status == GRAIN_ACCEPTED;
+}
+
 int main(void) {
     bool as_wanted = verify(GRAIN_CAP_ALL, &program) == GRAIN_ACCEPTED;
     as_wanted = tighten() && list_code() && list_places() && as_wanted;
@@ -129,5 +156,7 @@ int main(void) {
     uneven.pools.steps = NULL;
     uneven.pools.steps_len = 0;
     as_wanted = verify(GRAIN_CAP_ALL, &uneven) == GRAIN_NOT_FLAT && as_wanted;
+
+    as_wanted = read_file(sizeof file_bytes) && !read_file(22) && as_wanted;
     return as_wanted ? 0 : 1;
 }
