@@ -1,8 +1,7 @@
 -- What calls on files answer follows from what their parts do.
-use Rattle.std.proofs.Common.{◌≡◌, ◌≢◌, ◌⊎◌, ◌∙◌, ℕ, List, refl, sym, ap, subst, inl, inr}
+use Rattle.std.proofs.Common.{◌≡◌, ◌⊎◌, ◌∙◌, ℕ, List, refl, sym, ap, subst, inl, inr}
 use Rattle.std.specs.Prelude.{Some}
 use Rattle.grain.specs.Program.{Program, input_of}
-use Rattle.grain_base.specs.CapBits.{missing}
 use Rattle.grain_c.specs.Files.{IsFileAnswer, IsReadAnswer, IsStopAnswer}
 use Rattle.grain_c.specs.declared.status.TheConstants.{ACCEPTED, REFUSED, OUT_OF_MEMORY, NO_FILE, TOO_LONG}
 use Rattle.grain_file.specs.Loading.{IsFileOf, IsLoadable}

@@ -1,5 +1,5 @@
 -- The two words of a file's handle, read through a `&`. Assumes `Logic`.
-use Rattle.std.proofs.Common.{◌≡◌, Bool, List, [], ◌∷◌, ◌++◌, refl, ap, ◌∙◌}
+use Rattle.std.proofs.Common.{◌≡◌, Bool, List, [], ◌∷◌, ◌++◌, ap, ◌∙◌}
 use mir.Val.{Val, vbool, vstruct, vcons, vnil, of_list}
 use denote.RattleType.{RattleType}
 use denote.Laws.{Is}

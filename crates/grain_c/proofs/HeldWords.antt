@@ -4,7 +4,7 @@ use mir.{Syntax.tcons, Val.vstruct, Val.vcons, Val.vnil, Raw.raw as bare}
 use types.Kit.{Item, Goal, Step, step, use0}
 use denote.{Laws.Is, Laws.Typed, Param.arg, RattleType.RattleType, Param.Laws.Laws, Param.Laws.arg_laws, Param.Laws.param_laws, Struct.Owning.shape, Struct.Struct.Struct, Struct.Struct.Struct-Makes}
 use Rattle.grain_c.proofs.Destruct++none.drop.Symbol.{symbol}
-use Rattle.grain_c.specs.Holds.{heap as the_heap, holds}
+use Rattle.grain_c.specs.Holds.{holds}
 pub use Rattle.std.proofs.Common.{[], ◌∷◌, refl, lit<, false, List, ◌≡◌, Bool, true, ◌++◌, ap}
 pub use Rattle.std.proofs.raw_atomic.Walks.{proved, leaves, proved_at}
 pub use Rattle.std.proofs.alloc.Calls.{Goes-blank}

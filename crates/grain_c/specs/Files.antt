@@ -1,5 +1,5 @@
 -- What calls on program files answer.
-use Rattle.std.specs.Prelude.{◌≡◌, ◌≢◌, ◌⊎◌, ◌↔◌, ℕ, ◌≤◌, List, Option, Some, None, length}
+use Rattle.std.specs.Prelude.{◌≡◌, ◌≢◌, ◌⊎◌, ℕ, List, Option, Some, None, length}
 use Rattle.grain.specs.Program.{Program}
 use Rattle.grain_base.specs.CapBits.{missing}
 use Rattle.grain_c.specs.Answers.{IsAnswer, WritesDepths}

@@ -1,6 +1,6 @@
 -- `into_box` makes the box again of the block that a full handle keeps.
 use Rattle.grain_c.proofs.HeldWords.{Kept, Kept-laws, Heap, Heap-laws, no_drop, Boxed, Boxed-typed, static, passes, ◌≡◌, List, [], ◌∷◌, Bool, refl, true, Goes-blank, proved, leaves, ftrue, full_share, id⊢, fact, tables}
-use Rattle.grain_c.proofs.HeldWords.{Val, ‵, raw, ◌⊛◌, some, later, at_ret, ◌$◌, ◌∵◌, !, qed, by, move, keep, drop, split, join, fsplit, fjoin, fpick, pick, use1, await, rewrite, feq_i, enter, of_opd, fld, stop, no_more}
+use Rattle.grain_c.proofs.HeldWords.{Val, ‵, raw, ◌⊛◌, some, later, at_ret, ◌$◌, ◌∵◌, !, qed, by, move, keep, drop, split, join, fsplit, fjoin, pick, use1, await, rewrite, feq_i, enter, of_opd, fld, stop, no_more}
 use Rattle.grain_c.proofs.HeldWords.{and_then, first, blocks, exec, returns, alloc_all, pass_all, free_all, look_at, get, get_in, sets, lands_last, env, sub, whole, yes, shows, glues, ptr_val, rawptr_Lawful, plain}
 use Rattle.grain_c.proofs.HeldWords.{nothing, heard, peeks, calls_at_last, alive, triple_of, framed, Stays, stay_dropped, walk_of, ghosts, dict, passed}
 use denote.Struct.OwningLaws.{lawful}
@@ -10,7 +10,7 @@ use denote.{Triple.Clauses.Lasts, Triple.Clauses.lasts}
 use contract.Monad.{fact_i}
 use types.Kit.{use0}
 use Rattle.std.specs.Box.{box_allocator}
-use Rattle.grain_c.specs.Holds.{heap, holds}
+use Rattle.grain_c.specs.Holds.{holds}
 use Rattle.grain_c.specs.contracts.held.CHeldFile.into_box.{ended, clauses}
 use Rattle.grain_c.specs.contracts.held.CHeldFile.into_box.Key.{name}
 use Rattle.grain_c.proofs.held.CHeldFile.into_box.Statement.{statement}

@@ -1,6 +1,6 @@
 -- `lend` reads the pointer behind the reference, and lends what the handle keeps.
 use Rattle.std.proofs.Common.{◌≡◌, ℕ, Bool, true, List, [], ◌∷◌, ap, ◌∙◌, sym, refl}
-use base.Fml.{Lft, Share, GName, Fml, ftrue, fsep, flft, fex}
+use base.Fml.{Lft, Share, GName, Fml, ftrue, fsep, flft}
 use base.Fraction.{full_share}
 use base.Logic.{SProp, ent, sep, emp, fst∗, never}
 use contract.Monad.{fact, fact_i}
@@ -9,20 +9,18 @@ use mir.Raw.{raw as bare}
 use mir.Syntax.{named}
 use mir.Val.{Val, vptr}
 use seplogic.Ra.Ura.{Ura}
-use types.Kit.{at_ret, ‵, raw, ◌⊛◌, some, later, await, pick, use0, use1, ◌$◌, ◌∵◌, !, qed, by, move, keep, drop, split, join, group, fsplit, fsplit3, split3, fjoin, fpack, rewrite, done}
+use types.Kit.{at_ret, ‵, raw, ◌⊛◌, some, later, await, pick, use0, use1, ◌$◌, ◌∵◌, !, qed, by, move, keep, split, join, group, fsplit, fsplit3, split3, fjoin, fpack, rewrite, done}
 use types.Logic.{Logic, sem}
 use types.Part.{sub, whole, look_in}
 use types.Run.{stop, addr, fld, load, of_opd, first, blocks, exec, returns, enter}
 use types.ByLocal.{alloc_all, pass_all, free_all, look_at, get, through, sets, sets_last, env}
-use denote.Builtin.{RefMutOf}
 use denote.Exit.{no}
-use denote.Follow.{Part, follows, lends_Part}
+use denote.Follow.{follows, lends_Part}
 use denote.Laws.{Is, shows}
 use denote.Memory.{cell_at, lone, mem, part_at, part_of}
-use denote.RattleType.{owns}
 use denote.RawPtr.{Ptr, block_ptr, null_ptr, in_a_block}
 use denote.Ref.{MutRef, mut_vals, mut_Tells}
-use denote.Signature.{types_at, plain, mut_ref_to}
+use denote.Signature.{plain, mut_ref_to}
 use denote.Steps.{nothing, heard, opens, peeks}
 use denote.Triple.Walked.{Stays, stay_dropped, walk_of, Goes-spent_ref}
 use Rattle.std.proofs.raw_atomic.Walks.{proved, leaves}

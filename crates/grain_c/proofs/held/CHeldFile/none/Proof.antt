@@ -1,5 +1,5 @@
 -- `none` makes a handle that keeps nothing.
-use Rattle.grain_c.proofs.HeldWords.{word, makes_handle, ◌≡◌, emp, fact, keep, [], ◌∷◌, refl, lit<, false, proved, leaves, ftrue, ‵, raw, ◌⊛◌, ◌$◌, ◌∵◌, !, qed, by, move, split, enter, lit, false_lit, no_more, and_then, returns, alloc_all}
+use Rattle.grain_c.proofs.HeldWords.{word, makes_handle, ◌≡◌, emp, fact, keep, [], ◌∷◌, refl, lit<, false, proved, leaves, ftrue, ‵, raw, ◌⊛◌, ◌$◌, ◌∵◌, !, qed, by, split, enter, lit, false_lit, no_more, and_then, returns, alloc_all}
 use Rattle.grain_c.proofs.HeldWords.{pass_all, free_all, look_at, sets, agg, null_ptr, nothing, alive}
 use contract.Monad.{fact_i}
 use types.Kit.{use0}

@@ -3,12 +3,11 @@ use contract.Monad.{fact_i}
 use types.Kit.{use0}
 use Rattle.grain_c.proofs.HeldWords.{word, ◌≡◌, keep, Kept, Kept-laws, Heap, Heap-laws, no_drop, Boxed, Boxed-typed, static, passes, makes_handle, List, [], ◌∷◌, ◌++◌, refl, true, ap, Goes-blank, proved_at, leaves, ftrue, flft}
 use Rattle.grain_c.proofs.HeldWords.{full_share, sep, emp, via, mono_l, id⊢, ◌⊑◌, fact, Running, tables, Dict, impl, tnil, dnil, method, no_args, Val, Ura, Logic, sem, ‵, raw, ◌⊛◌, some, later, prop, Sq, ◌$◌, ◌∵◌, !, qed}
-use Rattle.grain_c.proofs.HeldWords.{by, done, move, drop, split, join, fsplit, fjoin, fpack, feq_l, pick, show, frame, updating, now, use1, await, enter, of_opd, true_lit, no_more, and_then, returns, alloc_all, pass_all}
+use Rattle.grain_c.proofs.HeldWords.{by, done, move, drop, split, join, fsplit, fjoin, feq_l, pick, show, frame, updating, now, use1, await, enter, of_opd, true_lit, no_more, and_then, returns, alloc_all, pass_all}
 use Rattle.grain_c.proofs.HeldWords.{free_all, look_at, get, sets, lands_as, agg, unit, RawPtr, no, yes, layout, glues, owns, Ptr, rawptr_Lawful, types_at, plain, nothing, only, calls_at, alive, triple_of, Back, framed}
 use Rattle.grain_c.proofs.HeldWords.{widened, run_framed, Stays, stay_dropped, walk_of, ghosts, dict, passed}
 use Rattle.std.proofs.ResultValues.{and_tt}
 use Rattle.std.specs.Box.Ownership.{box_owns}
-use Rattle.std.specs.Global.{Global}
 use Rattle.std.proofs.boxed.Box.into_raw.Met.{met}
 use Rattle.grain_c.proofs.grain_flat_file++contents++FlatFile+Destruct.drop.Met.{met as drop_met}
 use Rattle.grain_c.proofs.grain_flat_file++contents++FlatFile+Destruct.drop.Symbol.{code as drop_code, as_method}
