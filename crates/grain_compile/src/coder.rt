@@ -25,11 +25,22 @@ pub(crate) fn expr(
     if depth == 0 {
         return Err(CompileError::new(from.place, Problem::TooDeep));
     }
-    Coder {
+    let coder = Coder {
         depth: depth - 1,
         writes: expr,
+    };
+    match coder.form(emitter, from, is_wanted) {
+        Ok(()) => Ok(()),
+        Err(error) => Err(placed(error, from.place)),
     }
-    .form(emitter, from, is_wanted)
+}
+
+/// An error at this place, if it has none and is about the text.
+pub(crate) fn placed(error: CompileError, place: Place) -> CompileError {
+    match error.problem {
+        Problem::TooMany(_) if !error.place.is_some() => CompileError::new(place, error.problem),
+        _ => error,
+    }
 }
 
 impl<F: Fn(&mut Emitter, &Expr, usize, bool) -> Result<(), CompileError>> Coder<F> {

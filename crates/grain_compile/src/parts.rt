@@ -1,7 +1,8 @@
 //! The parts of a program, made from pools.
 
 use grain::{
-    AssignOp, Dynamic, Op, Parts, Position, Positions, Strings, Switch, SwitchRange, assemble,
+    AssembleError, AssignOp, Dynamic, Op, Parts, Position, Positions, Strings, StringsError,
+    Switch, SwitchRange, assemble,
 };
 use grain_emit::{Emitter, Pools, Table, assigning, position, spelling, token};
 use grain_lexer::{CompileError, Names, Operator, Place, Problem, Thing};
@@ -55,7 +56,12 @@ fn strings(alloc: Global, names: &Names) -> Result<Strings, CompileError> {
     }
     match Strings::new(alloc, &list) {
         Ok(strings) => Ok(strings),
-        Err(_) => Err(CompileError::new(Place::NONE, Problem::TooMany(Thing::Names))),
+        Err(StringsError::TooLong) => {
+            Err(CompileError::new(Place::NONE, Problem::TooMany(Thing::Names)))
+        }
+        Err(StringsError::OutOfMemory) => {
+            Err(CompileError::new(Place::NONE, Problem::OutOfMemory))
+        }
     }
 }
 
@@ -93,8 +99,14 @@ fn switches(emitter: &Emitter) -> Result<Vec<Switch>, CompileError> {
 
 /// The position of each byte of the code of the operations: none but where one begins.
 fn positions(alloc: Global, ops: &[Op], places: &[Place]) -> Result<Positions, CompileError> {
-    let Ok((code, offsets)) = assemble(alloc, ops) else {
-        return Err(CompileError::new(Place::NONE, Problem::TooMany(Thing::Operations)));
+    let (code, offsets) = match assemble(alloc, ops) {
+        Ok(assembled) => assembled,
+        Err(AssembleError::OutOfMemory) => {
+            return Err(CompileError::new(Place::NONE, Problem::OutOfMemory));
+        }
+        Err(_) => {
+            return Err(CompileError::new(Place::NONE, Problem::TooMany(Thing::Operations)));
+        }
     };
     let mut positions = vec![in alloc; Position::NONE; code.len()]?;
     for (offset, place) in offsets.iter().zip(places) {

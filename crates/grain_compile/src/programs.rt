@@ -20,7 +20,8 @@ const MAX_LEVELS: usize = 8 * MAX_DEPTH;
 /// that each use of a variable is compared with the local variables there.
 ///
 /// # Errors
-/// The first thing that is wrong with the text, with its line and column. `TooMany` and `OutOfMemory` may have no place.
+/// The first thing that is wrong with the text, with its line and column. `OutOfMemory` has no place, nor has `TooMany` where it
+/// is about the program as a whole.
 pub fn compile(
     alloc: Global,
     source: &str,

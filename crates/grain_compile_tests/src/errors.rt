@@ -153,6 +153,33 @@ fn repeated(alloc: Global, part: &str) -> Result<String, AllocError> {
     Ok(text)
 }
 
+/// The error of a text.
+fn failure(alloc: Global, text: &str) -> Result<String, AllocError> {
+    match compile(alloc, text, &Options::default()) {
+        Ok(_) => String::from_str(alloc, "compiled"),
+        Err(error) => error.to_string(alloc),
+    }
+}
+
+/// What becomes of an array of 65,535 items, the last of which is the operand that code can't declare.
+fn one_operand_too_many(alloc: Global) -> Result<String, AllocError> {
+    let mut text = String::from_str(alloc, "1 +\n [1")?;
+    for _turn in 1..65_535 {
+        text.push_str(",1")?;
+    }
+    text.push_str("].len()")?;
+    failure(alloc, text.as_str())
+}
+
+/// What becomes of more names than code can number, each in a line of its own.
+fn one_name_too_many(alloc: Global) -> Result<String, AllocError> {
+    let mut text = String::new(alloc);
+    for turn in 0..65_537 {
+        writeln!(text, "v{turn};")?;
+    }
+    failure(alloc, text.as_str())
+}
+
 /// The report of the error of a text.
 fn reported(alloc: Global, source: &str) -> Result<String, AllocError> {
     match compile(alloc, source, &Options::default()) {
@@ -210,4 +237,22 @@ fn hostile_texts_are_refused(rt: HostRuntime) {
 fn reports_show_the_line(rt: HostRuntime) {
     let report = made(&rt, reported(rt.alloc(), "f(\n\tg(3 + x;\n)"));
     assert_same(&rt, report.as_str(), REPORT);
+}
+
+#[test]
+fn operands_are_limited(rt: HostRuntime) {
+    assert_same(
+        &rt,
+        made(&rt, one_operand_too_many(rt.alloc())).as_str(),
+        "2:131071: there are too many items",
+    );
+}
+
+#[test]
+fn names_are_limited(rt: HostRuntime) {
+    assert_same(
+        &rt,
+        made(&rt, one_name_too_many(rt.alloc())).as_str(),
+        "65537:1: there are too many names",
+    );
 }

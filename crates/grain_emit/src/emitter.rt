@@ -4,7 +4,7 @@ use crate::operators::spelling;
 use crate::options::Options;
 use crate::pools::Pools;
 use crate::scope::{Found, Local, Scope, slot_of};
-use grain_code::Op;
+use grain_code::{Field, Op, Pool};
 use grain_lexer::{CompileError, Operator, Place, Problem, Thing};
 use grain_syntax::{Binding, Literal};
 use std::alloc::{AllocError, Global};
@@ -13,6 +13,12 @@ use strsim::levenshtein;
 
 /// A label that isn't bound yet.
 const NOWHERE: u32 = u32::MAX;
+
+/// A chunk declares at most this many operands.
+const MAX_OPERANDS: usize = 65535;
+
+/// Code has an index into a pool as two bytes.
+const MAX_INDEX: u32 = 65535;
 
 /// Names that differ by at most this many edits are similar.
 const SIMILAR: usize = 2;
@@ -105,6 +111,9 @@ impl Emitter {
     }
 
     /// One more operation, which takes and gives this many operands.
+    ///
+    /// # Errors
+    /// There are more operands than a chunk can declare, or an index is larger than code can have.
     pub fn put(
         &mut self,
         place: Place,
@@ -112,9 +121,14 @@ impl Emitter {
         takes: usize,
         gives: usize,
     ) -> Result<(), CompileError> {
+        let height = self.height.saturating_sub(takes).saturating_add(gives);
+        if height > MAX_OPERANDS {
+            return Err(CompileError::new(place, Problem::TooMany(Thing::Items)));
+        }
+        check_indices(place, &op)?;
         self.ops.push(op)?;
         self.places.push(place)?;
-        self.height = self.height.saturating_sub(takes).saturating_add(gives);
+        self.height = height;
         Ok(())
     }
 
@@ -306,6 +320,30 @@ impl Emitter {
     pub fn unwind(&mut self, place: Place, locals: usize) -> Result<(), CompileError> {
         let depth = slot_of(locals)?;
         self.put(place, Op::UnwindTo(depth), 0, 0)
+    }
+}
+
+/// Each index of the operation is one that code can have.
+fn check_indices(place: Place, op: &Op) -> Result<(), CompileError> {
+    for field in op.fields().as_slice() {
+        if let Field::Index(pool, index) = *field
+            && index > MAX_INDEX
+        {
+            return Err(CompileError::new(place, Problem::TooMany(entries_of(pool))));
+        }
+    }
+    Ok(())
+}
+
+/// What a pool has.
+fn entries_of(pool: Pool) -> Thing {
+    match pool {
+        Pool::Constants => Thing::Constants,
+        Pool::Names => Thing::Names,
+        Pool::Operators | Pool::OpAssignments => Thing::Operators,
+        Pool::Chains => Thing::Chains,
+        Pool::Switches => Thing::Switches,
+        Pool::Fragments | Pool::SyntaxSites => Thing::Operations,
     }
 }
 
