@@ -1,0 +1,16 @@
+use Rattle.std.proofs.Common.{◌≡◌, false, length, sym, subst, rules, ◌∙◌}
+use Rattle.grain_assembly.specs.Assembled.{kept}
+use Rattle.grain_assembly.specs.Sound.{Kept}
+use Rattle.grain_assembly.specs.Written.{Written}
+use Rattle.grain_assembly.proofs.Marks.{one_chunk}
+use Rattle.grain_assembly.proofs.assembler.Assembler.end_chunk.Goals as goal
+
+pub invariant_of-self-2 : goal.invariant_of-self-2
+invariant_of-self-2 c =
+    let k : Kept = kept c.self.inside in
+    let loose : k.fixed ≡ false = subst (λ (w : Written). w.fixed ≡ false) (sym c.self.view_is) c.requires.loose in
+    let entry : c.in-Ok.entry ≡ k.level.home = search rules in
+    let end : c.in-Ok-try_from.end ≡ length k.ops = search rules in
+    let next : c.len-next.result ≡ length k.ops = search rules in
+    let cut : c.new.result ≡ record { entry = k.level.home; end = length k.ops; max_stack = 65535 } = c.new.ensures ∙ (λ i. record { entry = entry i; end = end i; max_stack = 65535 }) in
+    rw (c.in_ok-push.ensures.items, c.outermost-frame.ensures, next) (one_chunk k c.self.invariant loose c.new.result cut)

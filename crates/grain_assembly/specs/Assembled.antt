@@ -1,0 +1,37 @@
+-- What the fields of an assembler say.
+use Rattle.std.specs.Prelude.{ℕ, map}
+use Rattle.grain_assembly.specs.Sound.{Kept}
+use Rattle.grain_assembly.specs.Written.{Spot, Written, spot}
+use Rattle.grain_assembly.specs.declared.assembler.Assembler.TheInside.{Inside}
+use Rattle.grain_assembly.specs.declared.assembler.Label.{Label}
+
+abbrev pub spot_at : Label → Spot
+spot_at l = spot l.operands l.frame
+
+abbrev pub place_of : Label → ℕ
+place_of l = l.at
+
+abbrev pub kept : Inside → Kept
+kept a = record {
+  ops = a.ops.items;
+  chains = a.chains.items;
+  tables = map (λ t. t.items) a.tables.items;
+  labels = map spot_at a.labels.items;
+  outers = map (λ (l : Label). l.outer) a.labels.items;
+  places = map place_of a.labels.items;
+  cuts = a.cuts.items;
+  operands = a.operands;
+  level = a.frame;
+  pending = a.pending;
+  fixed = a.is_fixed;
+}
+
+abbrev pub written : Inside → Written
+written a = record {
+  operands = a.operands;
+  level = a.frame;
+  labels = map spot_at a.labels.items;
+  outers = map (λ (l : Label). l.outer) a.labels.items;
+  pending = a.pending;
+  fixed = a.is_fixed;
+}

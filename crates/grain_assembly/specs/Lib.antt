@@ -1,0 +1,7 @@
+pub mod Written
+pub mod Fitting
+pub mod Sound
+pub mod Resolved
+pub mod Frames
+pub mod Assembled
+pub mod Finished

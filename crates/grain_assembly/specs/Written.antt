@@ -1,0 +1,75 @@
+-- What is assembled, as the rules that write code see it.
+use Rattle.std.specs.Prelude.{◌≡◌, ℕ, ◌+◌, ◌-◌, Bool, List, [], ◌∷◌, slice_get, Some}
+use Rattle.grain_rules.specs.Counts.{Base}
+
+-- What surrounds the operations that are written: how many operands and iterators have to stay, how many iterators there
+-- are, the bases of the armed handlers, and where the chunk begins.
+pub record Level : Type 0 where
+  pub floor : ℕ
+  pub least : ℕ
+  pub iterators : ℕ
+  pub bases : List Base
+  pub home : ℕ
+
+-- what the operation at a place finds: the counts of a typing, and where its chunk begins
+pub record Spot : Type 0 where
+  pub operands : ℕ
+  pub iterators : ℕ
+  pub bases : List Base
+  pub home : ℕ
+
+-- The operands and what surrounds them; what is found at each label, and which labels were open when it was made; the
+-- labels that are open, as one more than the last of them; and whether what the next operation finds is settled.
+pub record Written : Type 0 where
+  pub operands : ℕ
+  pub level : Level
+  pub labels : List Spot
+  pub outers : List ℕ
+  pub pending : ℕ
+  pub fixed : Bool
+
+-- this many operands at a level
+abbrev pub spot : ℕ → Level → Spot
+spot n l = record { operands = n; iterators = l.iterators; bases = l.bases; home = l.home }
+
+-- each entry stays where it is
+abbrev pub Keeps : {A : Type 0} → List A → List A → Type 0
+Keeps {A} xs ys = (i : ℕ) (x : A) → slice_get xs i ≡ Some x → slice_get ys i ≡ Some x
+
+-- this many operands, all else as it was
+pub record Leaves (old new : Written) (n : ℕ) : Type 0 where
+  pub operands : new.operands ≡ n
+  pub level : new.level ≡ old.level
+  pub labels : new.labels ≡ old.labels
+  pub outers : new.outers ≡ old.outers
+  pub pending : new.pending ≡ old.pending
+
+-- Code was written that gives this many operands: what surrounds it is as it was, and so are the labels that were there and
+-- those that are open.
+pub record Gives (old new : Written) (n : ℕ) : Type 0 where
+  pub operands : new.operands ≡ old.operands + n
+  pub level : new.level ≡ old.level
+  pub labels : Keeps old.labels new.labels
+  pub outers : Keeps old.outers new.outers
+  pub pending : new.pending ≡ old.pending
+
+-- what surrounds the first operation of a chunk that begins there
+abbrev pub fresh : ℕ → Level
+fresh home = record { floor = 0; least = 0; iterators = 0; bases = []; home = home }
+
+-- a level with one more iterator; those that are there already stay
+abbrev pub with_iterator : Level → Level
+with_iterator l = record l { least = l.iterators; iterators = l.iterators + 1 }
+
+abbrev pub without_iterator : Level → Level
+without_iterator l = record l { iterators = l.iterators - 1 }
+
+-- a level with one more handler, which stands on this many operands and on what iterators there are
+abbrev pub with_handler : ℕ → Level → Level
+with_handler n l = record l { floor = n; least = l.iterators; bases = record { operands = n; iterators = l.iterators } ∷ l.bases }
+
+-- all labels are as they were, those that are open too
+pub record SameLabels (old new : Written) : Type 0 where
+  pub labels : new.labels ≡ old.labels
+  pub outers : new.outers ≡ old.outers
+  pub pending : new.pending ≡ old.pending

@@ -1,0 +1,68 @@
+//! Operations in the making.
+
+use crate::frame::Frame;
+use grain_code::{Chunk, Op};
+use grain_lexer::Place;
+use grain_pools::Chain;
+use std::alloc::{AllocError, Global};
+use std::marker::Model;
+
+/// A label, and what is found there.
+#[derive(Drop)]
+pub struct Label {
+    /// The operation to which it is bound.
+    pub at: u32,
+    /// The labels that were open when it was made.
+    pub outer: usize,
+    /// How many operands there are.
+    pub operands: usize,
+    /// What surrounds it.
+    pub frame: Frame,
+}
+
+/// Operations in the making, whose targets are labels. Each fits where it stands. Contracts see a `Written`.
+#[derive(Drop)]
+pub struct Assembler {
+    pub(crate) alloc: Global,
+    pub(crate) ops: Vec<Op>,
+    pub(crate) places: Vec<Place>,
+    pub(crate) chains: Vec<Chain>,
+    pub(crate) tables: Vec<Vec<u32>>,
+    pub(crate) labels: Vec<Label>,
+    pub(crate) cuts: Vec<Chunk>,
+    pub(crate) operands: usize,
+    pub(crate) frame: Frame,
+    pub(crate) pending: usize,
+    pub(crate) is_fixed: bool,
+}
+
+impl Model for Assembler {
+    ghost use Rattle.grain_assembly.specs.Written.{Written};
+
+    ghost Value = { Written };
+
+    ghost use Rattle.grain_assembly.specs.Assembled.{kept, written};
+    ghost use Rattle.grain_assembly.specs.Sound.{IsSound};
+
+    ghost view = { written };
+
+    ghost invariant = { λ a. IsSound (kept a) };
+}
+
+impl Assembler {
+    ghost use Rattle.std.specs.Prelude.{◌≡◌, IfOk};
+
+    /// How many operands there are.
+    pub fn operands(&self) -> usize
+        ensures { result ≡ self.now.operands }
+    {
+        self.operands
+    }
+
+    /// What surrounds the next operation.
+    pub fn frame(&self) -> Result<Frame, AllocError>
+        ensures { IfOk result (λ f. f ≡ self.now.level) }
+    {
+        self.frame.copied()
+    }
+}

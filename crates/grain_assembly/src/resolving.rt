@@ -1,0 +1,135 @@
+//! Labels become indices of operations.
+ghost use Rattle.std.specs.Prelude.{◌≡◌, ℕ, IfOk, map, slice_index};
+ghost use Rattle.grain_assembly.specs.Assembled.{place_of};
+ghost use Rattle.grain_assembly.specs.Finished.{AreTypedCuts};
+ghost use Rattle.grain_assembly.specs.Resolved.{resolved, resolved_tables};
+
+use crate::assembler::{Assembler, Label};
+use grain_code::{Chunk, Op};
+use grain_lexer::{CompileError, Place};
+use grain_pools::Chain;
+use std::alloc::{AllocError, Global};
+
+/// Operations whose targets are indices of operations.
+#[derive(Drop)]
+pub struct Assembled {
+    /// The operations.
+    pub ops: Vec<Op>,
+    /// The place of each.
+    pub places: Vec<Place>,
+    /// The chains.
+    pub chains: Vec<Chain>,
+    /// Where each switch leads.
+    pub tables: Vec<Vec<u32>>,
+    /// The chunks.
+    pub cuts: Vec<Chunk>,
+}
+
+/// The operation to which a label is bound, or the first one where there is no such label.
+fn target(places: &[u32], label: u32) -> u32
+    ensures { result ≡ slice_index places.now label }
+{
+    match places.get(label as usize) {
+        Some(place) => *place,
+        None => 0,
+    }
+}
+
+/// The operation with its label resolved.
+fn resolve(op: Op, places: &[u32]) -> Op
+    ensures { result ≡ resolved places.now op }
+{
+    match op {
+        Op::Jump(label) => Op::Jump(target(places, label)),
+        Op::JumpIfTrue { target: label } => Op::JumpIfTrue {
+            target: target(places, label),
+        },
+        Op::JumpIfFalse { target: label } => Op::JumpIfFalse {
+            target: target(places, label),
+        },
+        Op::SkipIfNotUnit { target: label } => Op::SkipIfNotUnit {
+            target: target(places, label),
+        },
+        Op::IterNext { exit, counter_slot } => Op::IterNext {
+            exit: target(places, exit),
+            counter_slot,
+        },
+        Op::PushHandler {
+            target: label,
+            catch_var,
+        } => Op::PushHandler {
+            target: target(places, label),
+            catch_var,
+        },
+        op => op,
+    }
+}
+
+fn resolve_ops(alloc: Global, ops: &[Op], places: &[u32]) -> Result<Vec<Op>, AllocError>
+    ensures { IfOk result (λ v. v.items ≡ map (resolved places.now) ops.now) }
+{
+    let mut found = Vec::new(alloc);
+    for op in ops {
+        found.push(resolve(*op, places))?;
+    }
+    Ok(found)
+}
+
+/// The operations to which the labels are bound.
+fn places_of(alloc: Global, labels: &[Label]) -> Result<Vec<u32>, AllocError>
+    ensures { IfOk result (λ v. v.items ≡ map place_of labels.now) }
+{
+    let mut places = Vec::new(alloc);
+    for label in labels {
+        places.push(label.at)?;
+    }
+    Ok(places)
+}
+
+fn resolve_table(alloc: Global, table: &[u32], places: &[u32]) -> Result<Vec<u32>, AllocError>
+    ensures { IfOk result (λ v. v.items ≡ map (slice_index places.now) table.now) }
+{
+    let mut resolved = Vec::new(alloc);
+    for label in table {
+        resolved.push(target(places, *label))?;
+    }
+    Ok(resolved)
+}
+
+fn resolve_tables(
+    alloc: Global,
+    tables: &[Vec<u32>],
+    places: &[u32],
+) -> Result<Vec<Vec<u32>>, AllocError>
+    ensures { IfOk result (λ v. map (λ t. t.items) v.items
+        ≡ resolved_tables places.now (map (λ t. t.items) tables.now)) }
+{
+    let mut resolved = Vec::new(alloc);
+    for table in tables {
+        resolved.push(resolve_table(alloc, table.as_slice(), places)?)?;
+    }
+    Ok(resolved)
+}
+
+impl Assembler {
+    /// The operations with the places to which their labels are bound. Each chunk that was ended has a typing by index.
+    ///
+    /// # Errors
+    /// The allocator refused.
+    pub fn finish(self) -> Result<Assembled, CompileError>
+        requires { self.pending ≡ 0 }
+        ensures { IfOk result (λ done. AreTypedCuts done.ops.items done.chains.items
+            (map (λ t. t.items) done.tables.items) done.cuts.items) }
+    {
+        let targets = places_of(self.alloc, &self.labels)?;
+        let tables = resolve_tables(self.alloc, &self.tables, &targets)?;
+        let ops = resolve_ops(self.alloc, &self.ops, &targets)?;
+        Ok(Assembled {
+            ops,
+            places: self.places,
+            chains: self.chains,
+            tables,
+            cuts: self.cuts,
+        })
+    }
+}
