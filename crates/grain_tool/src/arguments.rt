@@ -79,12 +79,7 @@ pub const FILE: Argument = Argument::Word {
 };
 
 /// An argument that has a value after its name.
-fn valued(
-    alloc: Global,
-    name: &'static str,
-    value: &'static str,
-    help: &'static str,
-) -> Arg<'static> {
+fn valued<'a>(alloc: Global, name: &'a str, value: &'a str, help: &'a str) -> Arg<'a> {
     Arg::new(alloc, name)
         .long(name)
         .value_name(value)
@@ -92,12 +87,7 @@ fn valued(
 }
 
 /// A flag.
-fn flag(
-    alloc: Global,
-    name: &'static str,
-    letter: Option<char>,
-    help: &'static str,
-) -> Arg<'static> {
+fn flag<'a>(alloc: Global, name: &'a str, letter: Option<char>, help: &'a str) -> Arg<'a> {
     let flag = Arg::new(alloc, name)
         .long(name)
         .action(ArgAction::SetTrue)
@@ -108,7 +98,7 @@ fn flag(
     }
 }
 
-fn argument_of(alloc: Global, from: &Argument) -> Arg<'static> {
+fn argument_of<'a>(alloc: Global, from: &Argument) -> Arg<'a> {
     match *from {
         Argument::Word { name, help } => Arg::new(alloc, name).required(true).help(help),
         Argument::Words { name, help } => Arg::new(alloc, name)
@@ -151,7 +141,7 @@ fn argument_of(alloc: Global, from: &Argument) -> Arg<'static> {
 }
 
 /// A subcommand as `clap` has it.
-pub fn command_of(alloc: Global, from: &Subcommand) -> Result<Command<'static>, AllocError> {
+pub fn command_of<'a>(alloc: Global, from: &Subcommand) -> Result<Command<'a>, AllocError> {
     let mut command = Command::new(alloc, from.name)
         .about(from.about)
         .after_help(from.example);

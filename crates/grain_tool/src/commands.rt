@@ -49,7 +49,7 @@ const SUBCOMMANDS: &[Subcommand] = &[
 pub const WRONG_ARGUMENTS: u8 = 2;
 
 /// The command without its subcommands.
-fn bare(alloc: Global) -> Result<Command<'static>, AllocError> {
+fn bare<'a>(alloc: Global) -> Result<Command<'a>, AllocError> {
     Ok(
         Command::new(alloc, NAME)
             .bin_name(NAME)?
@@ -63,7 +63,7 @@ fn bare(alloc: Global) -> Result<Command<'static>, AllocError> {
 }
 
 /// The command as `clap` has it.
-pub fn command(alloc: Global) -> Result<Command<'static>, AllocError> {
+pub fn command<'a>(alloc: Global) -> Result<Command<'a>, AllocError> {
     let mut command = bare(alloc)?;
     for subcommand in SUBCOMMANDS {
         command = command.subcommand(command_of(alloc, subcommand)?)?;
