@@ -1,8 +1,9 @@
-//! What several tests share.
+//! What several tests share. A function owns a program, what is accepted of it, or a script, and not two of them: each `?`
+//! would cost the prover a drop of all three.
 
 use grain::Program;
 use grain_compile::{CompileError, Options, compile};
-use grain_machine::{Limits, Outcome, accept};
+use grain_machine::{Accepted, Limits, Outcome, accept};
 use grain_script::{Fault, Recorder, Script};
 use grain_value::Value;
 use std::alloc::{AllocError, Global};
@@ -28,8 +29,19 @@ pub(crate) fn compiled(alloc: Global, source: &str) -> Result<Program, CompileEr
         strict_variables: true,
         debug_id: 7,
     };
-    let (program, _) = compile(alloc, source, &options)?;
-    Ok(program)
+    match compile(alloc, source, &options) {
+        Ok((program, _)) => Ok(program),
+        Err(error) => Err(error),
+    }
+}
+
+/// A script of a program, that prints to a text.
+fn script_of(alloc: Global, program: &Program) -> Result<Script<Recorder>, AllocError> {
+    let limits = Script::<Recorder>::DEFAULT_LIMITS;
+    match Script::new(alloc, program, Recorder::new(alloc), limits) {
+        Ok(script) => Ok(script),
+        Err(_) => Err(AllocError),
+    }
 }
 
 /// What a run returned, or how it failed, as a text.
@@ -48,30 +60,53 @@ fn described(
     }
 }
 
-/// What a script prints, and then its value, its fault, or the error of its text.
-pub(crate) fn outcome(alloc: Global, source: &str) -> Result<String, AllocError> {
-    let program = match compiled(alloc, source) {
-        Ok(program) => program,
-        Err(error) => return error.to_string(alloc),
-    };
-    let accepted = match accept(&program) {
-        Ok(accepted) => accepted,
-        Err(error) => return error.to_string(alloc),
-    };
-    let world = Recorder::new(alloc);
-    let limits = Script::<Recorder>::DEFAULT_LIMITS;
-    let Ok(mut script) = Script::new(alloc, &program, world, limits) else {
-        return Err(AllocError);
-    };
+/// How a run ends, as a text.
+fn ended(
+    alloc: Global,
+    program: &Program,
+    accepted: &Accepted<'_>,
+    script: &mut Script<Recorder>,
+) -> Result<String, AllocError> {
     let limits = Limits {
         fuel: 1_000_000,
         depth: 50,
     };
-    let ending = accepted.main().run(alloc, &mut script, limits)?;
-    let described = described(alloc, &program, &ending.outcome)?;
-    let mut text = script.world().text.clone()?;
-    text.push_str(described.as_str())?;
-    Ok(text)
+    let ending = accepted.main().run(alloc, script, limits)?;
+    described(alloc, program, &ending.outcome)
+}
+
+/// What was printed, and then this text.
+fn after_prints(script: &Script<Recorder>, text: &str) -> Result<String, AllocError> {
+    let mut printed = script.world().text.clone()?;
+    printed.push_str(text)?;
+    Ok(printed)
+}
+
+/// What a run prints, and then how it ends.
+fn printed(
+    alloc: Global,
+    program: &Program,
+    accepted: &Accepted<'_>,
+) -> Result<String, AllocError> {
+    let mut script = script_of(alloc, program)?;
+    let ended = ended(alloc, program, accepted, &mut script)?;
+    after_prints(&script, ended.as_str())
+}
+
+/// What a program prints, and then how its run ends, or why it is refused.
+fn outcome_of(alloc: Global, program: &Program) -> Result<String, AllocError> {
+    match accept(program) {
+        Ok(accepted) => printed(alloc, program, &accepted),
+        Err(error) => error.to_string(alloc),
+    }
+}
+
+/// What a script prints, and then its value, its fault, or the error of its text.
+pub(crate) fn outcome(alloc: Global, source: &str) -> Result<String, AllocError> {
+    match compiled(alloc, source) {
+        Ok(program) => outcome_of(alloc, &program),
+        Err(error) => error.to_string(alloc),
+    }
 }
 
 /// The scripts with another outcome than they should have, each in a line.
@@ -93,25 +128,41 @@ pub(crate) fn failure(alloc: Global, source: &str, wanted: &str) -> Result<Strin
     format!(in alloc; "{source} => {found} and not {wanted}\n")
 }
 
-/// How many calls the fault of each of two runs of one script ended.
-pub(crate) fn calls_of_two_runs(alloc: Global, source: &str) -> Result<(usize, usize), AllocError> {
-    let Ok(program) = compiled(alloc, source) else {
-        return Err(AllocError);
-    };
-    let Ok(accepted) = accept(&program) else {
-        return Err(AllocError);
-    };
-    let limits = Script::<Recorder>::DEFAULT_LIMITS;
-    let Ok(mut script) = Script::new(alloc, &program, Recorder::new(alloc), limits) else {
-        return Err(AllocError);
-    };
+/// How many calls the fault of a run ended.
+fn calls_of_run(
+    alloc: Global,
+    accepted: &Accepted<'_>,
+    script: &mut Script<Recorder>,
+) -> Result<usize, AllocError> {
     let limits = Limits {
         fuel: 1_000,
         depth: 50,
     };
-    let main = accepted.main();
-    let _ending = main.run(alloc, &mut script, limits)?;
-    let first = script.backtrace().len();
-    let _ending = main.run(alloc, &mut script, limits)?;
-    Ok((first, script.backtrace().len()))
+    let _ending = accepted.main().run(alloc, script, limits)?;
+    Ok(script.backtrace().len())
+}
+
+fn calls_of_both(
+    alloc: Global,
+    program: &Program,
+    accepted: &Accepted<'_>,
+) -> Result<(usize, usize), AllocError> {
+    let mut script = script_of(alloc, program)?;
+    let first = calls_of_run(alloc, accepted, &mut script)?;
+    Ok((first, calls_of_run(alloc, accepted, &mut script)?))
+}
+
+fn calls_of(alloc: Global, program: &Program) -> Result<(usize, usize), AllocError> {
+    match accept(program) {
+        Ok(accepted) => calls_of_both(alloc, program, &accepted),
+        Err(_) => Err(AllocError),
+    }
+}
+
+/// How many calls the fault of each of two runs of one script ended.
+pub(crate) fn calls_of_two_runs(alloc: Global, source: &str) -> Result<(usize, usize), AllocError> {
+    match compiled(alloc, source) {
+        Ok(program) => calls_of(alloc, &program),
+        Err(_) => Err(AllocError),
+    }
 }
