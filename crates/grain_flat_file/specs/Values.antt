@@ -15,7 +15,7 @@ use Rattle.grain_flat_file.specs.declared.values.ValueLists.{ValueLists}
 abbrev pub row : ℕ → ℕ → ℤ → CValue
 row tag count number = record { tag = tag; count = count; number = number }
 
--- a row of so many bytes, or of so many values
+-- a row of this many bytes, or of this many values
 abbrev pub counted : ℕ → ℕ → CValue
 counted tag count = row tag count (pos 0)
 
