@@ -12,12 +12,13 @@ use Rattle.grain_assembly.specs.Sound.{IsBased, IsSound, Kept}
 use Rattle.grain_pools.specs.Chain.{consumed}
 use Rattle.grain_pools.specs.declared.chain.Chain.{Chain}
 use Rattle.grain_assembly.proofs.Appended.{get_end}
+use Rattle.grain_assembly.proofs.Bases.{nested_within}
 use Rattle.grain_assembly.proofs.Marks.{one_chain, one_table}
 use Rattle.grain_assembly.proofs.Plain.{fits_by, only_one, put_plain}
 use Rattle.grain_assembly.proofs.Steps.{made_settled, put_falling, put_leaving}
 
 based_iterator : (l : Level) → IsBased l → IsBased (with_iterator l)
-based_iterator l b = record { operands = b.operands; iterators = let x = b.iterators in let y = b.there in omega arith; there = omega arith }
+based_iterator l b = record { operands = b.operands; iterators = nested_within l.least l.iterators l.bases b.there b.iterators; there = omega arith }
 
 add_zero : (n : ℕ) → n + 0 ≡ n
 add_zero n = omega arith
@@ -69,7 +70,7 @@ module _ (k : Kept) (s : IsSound k) where
       (λ loud set c. (omega arith, let h = s.base.there in omega arith))
       (λ set all m c h has. subst (λ x. slice_get k.labels x ≡ Some (spot k.operands (with_handler k.operands k.level))) (sym (only_one l m has)) there))
       k.operands (with_handler k.operands k.level) refl s.room
-      (record { operands = omega arith; iterators = omega arith; there = omega arith })
+      (record { operands = omega arith; iterators = (omega arith, nested_within k.level.least k.level.iterators k.level.bases s.base.there s.base.iterators); there = omega arith })
       (λ set c. refl)
 
   pub disarm : (level : Level) → 1 ≤ length k.level.bases → level.bases ≡ without_last k.level.bases → level.iterators ≡ k.level.iterators → level.home ≡ k.level.home → IsBased level → IsSound (record k { ops = k.ops ++ ops.PopHandler ∷ []; level = level; fixed = true })

@@ -1,4 +1,5 @@
 pub mod Appended
+pub mod Bases
 pub mod Frames
 pub mod LabelLists
 pub mod Marks

@@ -10,10 +10,11 @@ use Rattle.grain_code.specs.declared.op.Op.{Op}
 use Rattle.grain_pools.specs.declared.chain.Chain.{Chain}
 use Rattle.grain_rules.specs.Counts.{nothing}
 use Rattle.grain_rules.specs.Effects.{after_fall, after_jump}
-use Rattle.grain_assembly.specs.Written.{Keeps, Level, Spot, fresh, spot}
+use Rattle.grain_assembly.specs.Written.{IsSameButFloor, Keeps, Level, Spot, fresh, spot}
 use Rattle.grain_assembly.specs.Fitting.{AreFitting, Fits, counts_of, spot_of}
 use Rattle.grain_assembly.specs.Sound.{IsBased, IsChunk, IsSound, Kept, nowhere}
 use Rattle.grain_assembly.proofs.Appended.{get_cases, get_end, get_left, some_inj}
+use Rattle.grain_assembly.proofs.Bases.{based_fresh}
 use Rattle.grain_assembly.proofs.Steps.{chunk_further}
 
 set_cases : (xs : List ℕ) (l y j x : ℕ) → slice_get (set xs l y) j ≡ Some x → ((slice_get xs j ≡ Some x) × (j ≢ l)) ⊎ ((j ≡ l) × (y ≡ x))
@@ -91,6 +92,24 @@ module _ (k : Kept) (s : IsSound k) where
     bound = s.bound;
     cuts = λ j cut e. let c = s.cuts j cut e in (c.0, let q = home in let h = c.1 in omega arith);
     room = room;
+    base = base;
+  }
+
+  -- what has to stay may change where nothing on the stacks does
+  pub other_floor : (level : Level) → IsSameButFloor level k.level → IsBased level → IsSound (record k { level = level })
+  other_floor level same base = record {
+    spots = s.spots;
+    fitting = s.fitting;
+    count = s.count;
+    last = λ h. s.last h ∙ ap (λ (p : Spot). Some p) (λ i. record { operands = k.operands; iterators = sym same.iterators i; bases = sym same.bases i; home = sym same.home i });
+    lengths = s.lengths;
+    landing = s.landing;
+    homes = s.homes;
+    home = let h = s.home in let q = same.home in omega arith;
+    begun = subst (λ m. slice_get s.spots m ≡ Some (spot_of m nothing)) (sym same.home) s.begun;
+    bound = s.bound;
+    cuts = λ j cut e. let c = s.cuts j cut e in (c.0, let q = same.home in let h = c.1 in omega arith);
+    room = s.room;
     base = base;
   }
 
@@ -209,7 +228,7 @@ one_chunk k s loose cut is =
         | inr new ↦ subst (λ (x : Span). IsChunk k.ops (s.spots ++ next ∷ []) x × (x.end ≤ length k.ops)) (sym is ∙ new.1) (chunk, omega arith)
       ];
       room = omega arith;
-      base = record { operands = omega arith; iterators = omega arith; there = omega arith };
+      base = based_fresh (length k.ops);
     }
 
 -- nothing is assembled yet
@@ -237,5 +256,5 @@ started =
       };
       cuts = λ j cut e. absurd (none-some cut e);
       room = omega arith;
-      base = record { operands = omega arith; iterators = omega arith; there = omega arith };
+      base = based_fresh 0;
     }

@@ -14,6 +14,7 @@ use Rattle.grain_rules.proofs.Splits.{in_cons, in_nil}
 use Rattle.grain_assembly.specs.Written.{spot}
 use Rattle.grain_assembly.specs.Fitting.{Fits, HasChains, HasTables, counts_of, spot_of}
 use Rattle.grain_assembly.specs.Sound.{IsSound, Kept}
+use Rattle.grain_assembly.proofs.Bases.{last_least}
 use Rattle.grain_assembly.proofs.Steps.{made_settled, put_falling, put_leaving}
 
 -- all but the edges to labels
@@ -33,7 +34,7 @@ fits_by k sound op f is enough iterators handlers stays jumps = record {
   stays = λ s c loud.
       let h = stays loud s c in
       let a = sound.base.operands in
-      let b = sound.base.iterators in
+      let b = last_least k.level.least k.level.bases sound.base.iterators in
       let h0 = h.0 in
       let h1 : k.level.least + iterators_for (flow_of op) ≤ k.level.iterators = subst (λ (g : Flow). k.level.least + iterators_for g ≤ k.level.iterators) (sym is) h.1 in
       record { operands = omega arith; iterators = omega arith };

@@ -1,9 +1,9 @@
 -- What is true of all that is assembled.
-use Rattle.std.specs.Prelude.{◌≡◌, ℕ, ◌+◌, ◌<◌, ◌≤◌, Bool, true, cond, List, length, slice_get, Some}
+use Rattle.std.specs.Prelude.{◌≡◌, ℕ, ◌+◌, ◌<◌, ◌≤◌, Bool, true, cond, List, [], ◌∷◌, length, slice_get, Some}
 use Rattle.grain_code.specs.Span.{Span}
 use Rattle.grain_code.specs.declared.op.Op.{Op}
 use Rattle.grain_pools.specs.declared.chain.Chain.{Chain}
-use Rattle.grain_rules.specs.Counts.{nothing, last_base}
+use Rattle.grain_rules.specs.Counts.{Base, nothing, last_base}
 use Rattle.grain_assembly.specs.Fitting.{AreFitting, spot_of}
 use Rattle.grain_assembly.specs.Written.{Level, Spot, spot}
 
@@ -38,10 +38,15 @@ pub record AreBound (outers places : List ℕ) (pending : ℕ) : Type 0 where
   pub behind : (l at : ℕ) → pending ≤ l → slice_get places l ≡ Some at → at < nowhere
   pub between : (l o k at : ℕ) → slice_get outers l ≡ Some o → o ≤ k → k < l → slice_get places k ≡ Some at → at < nowhere
 
--- what has to stay is no less than the last handler stands on, and no more than there is of iterators
+-- the last handler stands on at most this many iterators, and each other one on no more than the one that was armed after it
+abbrev pub AreNested : ℕ → List Base → Type 0
+AreNested n [] = Unit {0}
+AreNested n (b ∷ bases) = (b.iterators ≤ n) × AreNested b.iterators bases
+
+-- what has to stay is no less than the handlers stand on, and no more than there is of iterators
 pub record IsBased (level : Level) : Type 0 where
   pub operands : (last_base level.bases).operands ≤ level.floor
-  pub iterators : (last_base level.bases).iterators ≤ level.least
+  pub iterators : AreNested level.least level.bases
   pub there : level.least ≤ level.iterators
 
 -- There are spots with which all operations fit, and at which labels are bound.

@@ -1,6 +1,6 @@
 -- What is assembled, as the rules that write code see it.
-use Rattle.std.specs.Prelude.{◌≡◌, ℕ, ◌+◌, ◌-◌, Bool, List, [], ◌∷◌, slice_get, Some}
-use Rattle.grain_rules.specs.Counts.{Base}
+use Rattle.std.specs.Prelude.{◌≡◌, ℕ, ◌+◌, ◌-◌, Bool, List, [], ◌∷◌, drop, slice_get, Some}
+use Rattle.grain_rules.specs.Counts.{Base, last_base}
 
 -- What surrounds the operations that are written: how many operands and iterators have to stay, how many iterators there
 -- are, the bases of the armed handlers, and where the chunk begins.
@@ -67,6 +67,24 @@ without_iterator l = record l { iterators = l.iterators - 1 }
 -- a level with one more handler, which stands on this many operands and on what iterators there are
 abbrev pub with_handler : ℕ → Level → Level
 with_handler n l = record l { floor = n; least = l.iterators; bases = record { operands = n; iterators = l.iterators } ∷ l.bases }
+
+-- a level all of whose operands have to stay, of which there are this many
+abbrev pub guarded : ℕ → Level → Level
+guarded n l = record l { floor = n }
+
+-- a level with these bases, where no more has to stay than what the last handler stands on
+abbrev pub based_on : List Base → Level → Level
+based_on bases l = record l { floor = (last_base bases).operands; least = (last_base bases).iterators; bases = bases }
+
+-- a level without this many handlers, the last first
+abbrev pub without_handlers : ℕ → Level → Level
+without_handlers n l = based_on (drop n l.bases) l
+
+-- two levels that differ at most in what has to stay
+pub record IsSameButFloor (one other : Level) : Type 0 where
+  pub iterators : one.iterators ≡ other.iterators
+  pub bases : one.bases ≡ other.bases
+  pub home : one.home ≡ other.home
 
 -- all labels are as they were, those that are open too
 pub record SameLabels (old new : Written) : Type 0 where

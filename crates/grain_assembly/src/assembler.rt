@@ -50,11 +50,12 @@ impl Model for Assembler {
 }
 
 impl Assembler {
-    ghost use Rattle.std.specs.Prelude.{◌≡◌, IfOk};
+    ghost use Rattle.std.specs.Prelude.{◌≡◌, ◌≤◌, IfOk};
 
     /// How many operands there are.
     pub fn operands(&self) -> usize
-        ensures { result ≡ self.now.operands }
+        ensures value { result ≡ self.now.operands }
+        ensures few { result ≤ 65535 }
     {
         self.operands
     }

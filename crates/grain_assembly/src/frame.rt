@@ -1,6 +1,8 @@
 //! What surrounds operations.
-ghost use Rattle.std.specs.Prelude.{◌≡◌, ◌+◌, ◌≤◌, IfOk};
-ghost use Rattle.grain_assembly.specs.Written.{fresh, with_handler, with_iterator, without_iterator};
+ghost use Rattle.std.specs.Prelude.{◌≡◌, ◌+◌, ◌≤◌, IfOk, length, map};
+ghost use Rattle.grain_rules.specs.Counts.{last_base};
+ghost use Rattle.grain_assembly.specs.Frames.{base_of};
+ghost use Rattle.grain_assembly.specs.Written.{fresh, guarded, with_handler, with_iterator, without_handlers, without_iterator};
 
 use grain_lexer::{CompileError, Place, Problem, Thing};
 use std::alloc::{AllocError, Global};
@@ -13,6 +15,19 @@ pub struct Base {
     pub operands: usize,
     /// The iterators.
     pub iterators: usize,
+}
+
+/// What the handler that was armed last stands on, or empty stacks where none is armed.
+fn last_of(bases: &[Base]) -> Base
+    ensures { base_of result ≡ last_base (map base_of bases.now) }
+{
+    match bases.first() {
+        Some(base) => *base,
+        None => Base {
+            operands: 0,
+            iterators: 0,
+        },
+    }
 }
 
 /// What surrounds the operations that are written: how many operands and iterators have to stay, how many iterators there are,
@@ -101,6 +116,45 @@ impl Frame {
             floor: self.floor,
             least: self.least,
             iterators: self.iterators - 1,
+            bases,
+            home: self.home,
+        })
+    }
+
+    /// How many handlers are armed.
+    pub(crate) fn handlers(&self) -> usize
+        ensures { result ≡ length self.now.bases }
+    {
+        self.bases.len()
+    }
+
+    /// With all of this many operands to stay.
+    pub(crate) fn guarded(&self, operands: usize) -> Result<Frame, AllocError>
+        requires { self.now.floor ≤ operands }
+        ensures { IfOk result (λ f. f ≡ guarded operands self.now) }
+    {
+        let bases = self.bases.clone()?;
+        Ok(Frame {
+            floor: operands,
+            least: self.least,
+            iterators: self.iterators,
+            bases,
+            home: self.home,
+        })
+    }
+
+    /// Without this many handlers, the last first. What the next handler stands on has to stay, and no more.
+    pub(crate) fn without_handlers(&self, alloc: Global, count: usize) -> Result<Frame, AllocError>
+        requires { count ≤ length self.now.bases }
+        ensures { IfOk result (λ f. f ≡ without_handlers count self.now) }
+    {
+        let kept = &self.bases[count..];
+        let last = last_of(kept);
+        let bases = Vec::from_slice(alloc, kept)?;
+        Ok(Frame {
+            floor: last.operands,
+            least: last.iterators,
+            iterators: self.iterators,
             bases,
             home: self.home,
         })

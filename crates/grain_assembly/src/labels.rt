@@ -1,5 +1,5 @@
 //! Labels.
-ghost use Rattle.std.specs.Prelude.{◌≡◌, ◌+◌, ◌≤◌, IfOk, OnOk, Some, false, slice_get};
+ghost use Rattle.std.specs.Prelude.{◌≡◌, ◌+◌, ◌≤◌, IfOk, OnOk, Some, false, length, slice_get};
 ghost use Rattle.grain_assembly.specs.Written.{Keeps, SameLabels, spot};
 
 use crate::assembler::{Assembler, Label};
@@ -18,6 +18,8 @@ impl Assembler {
     pub fn label_in(&mut self, operands: usize, frame: Frame) -> Result<u32, CompileError>
         ensures here { IfOk result (λ l. slice_get self.new.labels l ≡ Some (spot operands frame)) }
         ensures outer { IfOk result (λ l. slice_get self.new.outers l ≡ Some self.old.pending) }
+        ensures last { IfOk result (λ l. l ≡ length self.old.labels) }
+        ensures more { OnOk result (length self.new.labels ≡ length self.old.labels + 1) }
         ensures pending { IfOk result (λ l. self.new.pending ≡ l + 1) }
         ensures labels { OnOk result (Keeps self.old.labels self.new.labels) }
         ensures outers { OnOk result (Keeps self.old.outers self.new.outers) }
@@ -45,6 +47,8 @@ impl Assembler {
     pub fn label(&mut self, operands: usize) -> Result<u32, CompileError>
         ensures here { IfOk result (λ l. slice_get self.new.labels l ≡ Some (spot operands self.old.level)) }
         ensures outer { IfOk result (λ l. slice_get self.new.outers l ≡ Some self.old.pending) }
+        ensures last { IfOk result (λ l. l ≡ length self.old.labels) }
+        ensures more { OnOk result (length self.new.labels ≡ length self.old.labels + 1) }
         ensures pending { IfOk result (λ l. self.new.pending ≡ l + 1) }
         ensures labels { OnOk result (Keeps self.old.labels self.new.labels) }
         ensures outers { OnOk result (Keeps self.old.outers self.new.outers) }

@@ -7,6 +7,7 @@ mod blocks;
 mod chunks;
 mod frame;
 mod labels;
+mod leaving;
 mod resolving;
 mod writing;
 

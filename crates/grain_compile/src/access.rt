@@ -1,4 +1,8 @@
 //! The code of chains: parts of values, methods, and assignments.
+ghost use Rattle.std.specs.Prelude.{◌≡◌, ◌+◌, ◌-◌, ◌<◌, ◌≤◌, IfOk, OnOk, cond, length, nat_lt};
+ghost use Rattle.grain_pools.specs.Chain.{consumed, roots_on_stack};
+ghost use Rattle.grain_emit.specs.Loops.{count};
+ghost use Rattle.grain_emit.specs.Rules.{IsWritten, Stands};
 
 use crate::coder::Coder;
 use grain::{Chain, Flags, Op, Root, Step, StepFlags, Tail};
@@ -16,28 +20,59 @@ impl<F: Fn(&mut Emitter, &Expr, usize, bool) -> Result<(), CompileError>> Coder<
         root: &Expr,
         steps: &[Access],
     ) -> Result<(), CompileError>
-        requires { (m : _) (e : _) (w : _) → F.pre self.now.writes m e self.now.depth w }
+        requires may { (m : _) (e : _) (w : _) → Stands m.now → F.pre self.now.writes m e self.now.depth w }
+        requires does { (m : _) (e : _) (w : _) (r : _) (n : _) → F.post self.now.writes m e self.now.depth w r n
+            → OnOk r (IsWritten m.now n.now (m.now.code.operands + count w)) }
+        requires stands { Stands emitter.old }
+        ensures { OnOk result (IsWritten emitter.old emitter.new (emitter.old.code.operands + 1)) }
     {
         let mut from = 0;
-        for (index, step) in steps.iter().enumerate() {
-            let before = steps.get(from..index).unwrap_or_default();
-            if let Part::Method(name, arguments) = &step.part
-                && !step.is_optional
-                && !has_optional(before)
-                && emitter.is_call(root, (from, index), *name, arguments.len())
-            {
-                let method = (step.place, *name);
-                self.method_of(emitter, place, root, (before, from > 0), method, arguments)?;
-                from = index.saturating_add(1);
-            } else if ends_chain(emitter, step) && !has_optional(before) {
-                let until = index.saturating_add(1);
-                let upto = steps.get(from..until).unwrap_or_default();
-                self.read(emitter, place, root, upto, from > 0)?;
-                from = until;
-            }
+        for index in 0..steps.len() {
+            from = self.turn(emitter, place, root, steps, (from, index))?;
         }
         let rest = steps.get(from..).unwrap_or_default();
         self.read(emitter, place, root, rest, from > 0)
+    }
+
+    /// Ends the chain at the step at an index where that has to be. The steps before the first place are done; the result is the
+    /// place up to which they are done now.
+    fn turn(
+        &self,
+        emitter: &mut Emitter,
+        place: Place,
+        root: &Expr,
+        steps: &[Access],
+        at: (usize, usize),
+    ) -> Result<usize, CompileError>
+        requires may { (m : _) (e : _) (w : _) → Stands m.now → F.pre self.now.writes m e self.now.depth w }
+        requires does { (m : _) (e : _) (w : _) (r : _) (n : _) → F.post self.now.writes m e self.now.depth w r n
+            → OnOk r (IsWritten m.now n.now (m.now.code.operands + count w)) }
+        requires stands { Stands emitter.old }
+        requires room { emitter.old.code.level.floor + count (nat_lt 0 at.0) ≤ emitter.old.code.operands }
+        requires within { at.1 < length steps.now }
+        ensures { IfOk result (λ done. IsWritten emitter.old emitter.new
+            (emitter.old.code.operands - count (nat_lt 0 at.0) + count (nat_lt 0 done))) }
+    {
+        let (from, index) = at;
+        let step = &steps[index];
+        let before = steps.get(from..index).unwrap_or_default();
+        if has_optional(before) {
+            return Ok(from);
+        }
+        if let Part::Method(name, arguments) = &step.part
+            && !step.is_optional
+            && emitter.is_call(root, (from, index), *name, arguments.len())
+        {
+            let method = (step.place, *name);
+            self.method_of(emitter, place, root, (before, from > 0), method, arguments)?;
+            return Ok(index + 1);
+        }
+        if !ends_chain(emitter, step) {
+            return Ok(from);
+        }
+        let upto = steps.get(from..index + 1).unwrap_or_default();
+        self.read(emitter, place, root, upto, from > 0)?;
+        Ok(index + 1)
     }
 
     /// A method of what these steps reach, from the root or from the value on top.
@@ -50,7 +85,12 @@ impl<F: Fn(&mut Emitter, &Expr, usize, bool) -> Result<(), CompileError>> Coder<
         method: (Place, u32),
         arguments: &[Expr],
     ) -> Result<(), CompileError>
-        requires { (m : _) (e : _) (w : _) → F.pre self.now.writes m e self.now.depth w }
+        requires may { (m : _) (e : _) (w : _) → Stands m.now → F.pre self.now.writes m e self.now.depth w }
+        requires does { (m : _) (e : _) (w : _) (r : _) (n : _) → F.post self.now.writes m e self.now.depth w r n
+            → OnOk r (IsWritten m.now n.now (m.now.code.operands + count w)) }
+        requires stands { Stands emitter.old }
+        requires room { emitter.old.code.level.floor + count before.1 ≤ emitter.old.code.operands }
+        ensures { OnOk result (IsWritten emitter.old emitter.new (emitter.old.code.operands - count before.entry.1 + 1)) }
     {
         let (steps, is_on_top) = before;
         let (at, name) = method;
@@ -76,7 +116,12 @@ impl<F: Fn(&mut Emitter, &Expr, usize, bool) -> Result<(), CompileError>> Coder<
         steps: &[Access],
         is_on_top: bool,
     ) -> Result<(), CompileError>
-        requires { (m : _) (e : _) (w : _) → F.pre self.now.writes m e self.now.depth w }
+        requires may { (m : _) (e : _) (w : _) → Stands m.now → F.pre self.now.writes m e self.now.depth w }
+        requires does { (m : _) (e : _) (w : _) (r : _) (n : _) → F.post self.now.writes m e self.now.depth w r n
+            → OnOk r (IsWritten m.now n.now (m.now.code.operands + count w)) }
+        requires stands { Stands emitter.old }
+        requires room { emitter.old.code.level.floor + count is_on_top ≤ emitter.old.code.operands }
+        ensures { OnOk result (IsWritten emitter.old emitter.new (emitter.old.code.operands - count is_on_top + 1)) }
     {
         if steps.is_empty() {
             if is_on_top {
@@ -84,27 +129,15 @@ impl<F: Fn(&mut Emitter, &Expr, usize, bool) -> Result<(), CompileError>> Coder<
             }
             return self.expr(emitter, root, true);
         }
-        let height = emitter.height;
+        let height = emitter.code.operands();
         let steps = self.steps(emitter, steps)?;
-        let operands = len_of(place, emitter.height.saturating_sub(height))?;
-        let root = if is_on_top {
+        let operands = len_of(place, emitter.code.operands() - height)?;
+        if is_on_top {
             emitter.raise(place, operands)?;
-            Root::Temporary
-        } else {
-            self.root(emitter, root)?
-        };
-        let height = if is_on_top {
-            height.saturating_sub(1)
-        } else {
-            height
-        };
-        let chain = Chain {
-            root,
-            steps,
-            tail: Tail::Read,
-            operands,
-        };
-        emitter.chain(place, chain, height)
+            return emitter.chain(place, reading(Root::Temporary, steps, operands));
+        }
+        let root = self.root(emitter, root)?;
+        emitter.chain(place, reading(root, steps, operands))
     }
 
     /// An assignment to a variable or to a part of one.
@@ -116,7 +149,11 @@ impl<F: Fn(&mut Emitter, &Expr, usize, bool) -> Result<(), CompileError>> Coder<
         operator: Option<Operator>,
         value: &Expr,
     ) -> Result<(), CompileError>
-        requires { (m : _) (e : _) (w : _) → F.pre self.now.writes m e self.now.depth w }
+        requires may { (m : _) (e : _) (w : _) → Stands m.now → F.pre self.now.writes m e self.now.depth w }
+        requires does { (m : _) (e : _) (w : _) (r : _) (n : _) → F.post self.now.writes m e self.now.depth w r n
+            → OnOk r (IsWritten m.now n.now (m.now.code.operands + count w)) }
+        requires stands { Stands emitter.old }
+        ensures { OnOk result (IsWritten emitter.old emitter.new (emitter.old.code.operands)) }
     {
         let op = emitter.op_assignment(operator)?;
         match &target.form {
@@ -145,12 +182,16 @@ impl<F: Fn(&mut Emitter, &Expr, usize, bool) -> Result<(), CompileError>> Coder<
         steps: &[Access],
         assigned: (Option<u32>, &Expr),
     ) -> Result<(), CompileError>
-        requires { (m : _) (e : _) (w : _) → F.pre self.now.writes m e self.now.depth w }
+        requires may { (m : _) (e : _) (w : _) → Stands m.now → F.pre self.now.writes m e self.now.depth w }
+        requires does { (m : _) (e : _) (w : _) (r : _) (n : _) → F.post self.now.writes m e self.now.depth w r n
+            → OnOk r (IsWritten m.now n.now (m.now.code.operands + count w)) }
+        requires stands { Stands emitter.old }
+        ensures { OnOk result (IsWritten emitter.old emitter.new (emitter.old.code.operands)) }
     {
         let (op, value) = assigned;
-        let height = emitter.height;
+        let height = emitter.code.operands();
         let steps = self.steps(emitter, steps)?;
-        let operands = len_of(place, emitter.height.saturating_sub(height))?;
+        let operands = len_of(place, emitter.code.operands() - height)?;
         let root = self.root(emitter, root)?;
         self.expr(emitter, value, true)?;
         let chain = Chain {
@@ -159,19 +200,23 @@ impl<F: Fn(&mut Emitter, &Expr, usize, bool) -> Result<(), CompileError>> Coder<
             tail: Tail::Assign { op },
             operands,
         };
-        emitter.chain(place, chain, height)?;
+        emitter.chain(place, chain)?;
         emitter.put(place, Op::Pop, 1, 0)
     }
 
     /// The steps of a chain, whose operands are given here.
     fn steps(&self, emitter: &mut Emitter, steps: &[Access]) -> Result<Vec<Step>, CompileError>
-        requires { (m : _) (e : _) (w : _) → F.pre self.now.writes m e self.now.depth w }
+        requires may { (m : _) (e : _) (w : _) → Stands m.now → F.pre self.now.writes m e self.now.depth w }
+        requires does { (m : _) (e : _) (w : _) (r : _) (n : _) → F.post self.now.writes m e self.now.depth w r n
+            → OnOk r (IsWritten m.now n.now (m.now.code.operands + count w)) }
+        requires stands { Stands emitter.old }
+        ensures written { OnOk result (IsWritten emitter.old emitter.new emitter.new.code.operands) }
+        ensures more { OnOk result (emitter.old.code.operands ≤ emitter.new.code.operands) }
     {
-        let height = emitter.height;
+        let height = emitter.code.operands();
         let mut found = Vec::new(emitter.alloc);
         for step in steps {
-            let operand = emitter.height.saturating_sub(height);
-            let operand = len_of(step.place, operand)?;
+            let operand = len_of(step.place, emitter.code.operands() - height)?;
             found.push(self.step(emitter, step, operand)?)?;
         }
         Ok(found)
@@ -179,7 +224,12 @@ impl<F: Fn(&mut Emitter, &Expr, usize, bool) -> Result<(), CompileError>> Coder<
 
     /// A step, whose first operand is at that place.
     fn step(&self, emitter: &mut Emitter, step: &Access, operand: u16) -> Result<Step, CompileError>
-        requires { (m : _) (e : _) (w : _) → F.pre self.now.writes m e self.now.depth w }
+        requires may { (m : _) (e : _) (w : _) → Stands m.now → F.pre self.now.writes m e self.now.depth w }
+        requires does { (m : _) (e : _) (w : _) (r : _) (n : _) → F.post self.now.writes m e self.now.depth w r n
+            → OnOk r (IsWritten m.now n.now (m.now.code.operands + count w)) }
+        requires stands { Stands emitter.old }
+        ensures written { OnOk result (IsWritten emitter.old emitter.new emitter.new.code.operands) }
+        ensures more { OnOk result (emitter.old.code.operands ≤ emitter.new.code.operands) }
     {
         let flags = if step.is_optional {
             StepFlags::SKIP_IF_UNIT
@@ -212,7 +262,11 @@ impl<F: Fn(&mut Emitter, &Expr, usize, bool) -> Result<(), CompileError>> Coder<
 
     /// Where a chain begins, whose value is given here if it is no variable.
     fn root(&self, emitter: &mut Emitter, root: &Expr) -> Result<Root, CompileError>
-        requires { (m : _) (e : _) (w : _) → F.pre self.now.writes m e self.now.depth w }
+        requires may { (m : _) (e : _) (w : _) → Stands m.now → F.pre self.now.writes m e self.now.depth w }
+        requires does { (m : _) (e : _) (w : _) (r : _) (n : _) → F.post self.now.writes m e self.now.depth w r n
+            → OnOk r (IsWritten m.now n.now (m.now.code.operands + count w)) }
+        requires stands { Stands emitter.old }
+        ensures { IfOk result (λ r. IsWritten emitter.old emitter.new (emitter.old.code.operands + cond (roots_on_stack r) 1 0)) }
     {
         let pos = position(root.place);
         match &root.form {
@@ -229,6 +283,18 @@ impl<F: Fn(&mut Emitter, &Expr, usize, bool) -> Result<(), CompileError>> Coder<
                 Ok(Root::Temporary)
             }
         }
+    }
+}
+
+/// A chain that reads.
+fn reading(root: Root, steps: Vec<Step>, operands: u16) -> Chain
+    ensures { consumed result ≡ operands + cond (roots_on_stack root) 1 0 }
+{
+    Chain {
+        root,
+        steps,
+        tail: Tail::Read,
+        operands,
     }
 }
 

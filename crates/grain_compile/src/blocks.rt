@@ -1,4 +1,8 @@
 //! The code of statements, and of expressions that have blocks.
+ghost use Rattle.std.specs.Prelude.{◌≡◌, ◌+◌, ◌-◌, ◌≤◌, OnOk, Some, slice_get};
+ghost use Rattle.grain_assembly.specs.Written.{spot};
+ghost use Rattle.grain_emit.specs.Loops.{count};
+ghost use Rattle.grain_emit.specs.Rules.{IsWritten, Stands};
 
 use crate::coder::Coder;
 use grain::Op;
@@ -15,7 +19,11 @@ impl<F: Fn(&mut Emitter, &Expr, usize, bool) -> Result<(), CompileError>> Coder<
         form: &Form,
         is_wanted: bool,
     ) -> Result<(), CompileError>
-        requires { (m : _) (e : _) (w : _) → F.pre self.now.writes m e self.now.depth w }
+        requires may { (m : _) (e : _) (w : _) → Stands m.now → F.pre self.now.writes m e self.now.depth w }
+        requires does { (m : _) (e : _) (w : _) (r : _) (n : _) → F.post self.now.writes m e self.now.depth w r n
+            → OnOk r (IsWritten m.now n.now (m.now.code.operands + count w)) }
+        requires stands { Stands emitter.old }
+        ensures { OnOk result (IsWritten emitter.old emitter.new (emitter.old.code.operands + count is_wanted)) }
     {
         match form {
             Form::Block(statements) => self.block(emitter, place, statements, is_wanted),
@@ -27,9 +35,7 @@ impl<F: Fn(&mut Emitter, &Expr, usize, bool) -> Result<(), CompileError>> Coder<
                 self.repeated(emitter, place, form, is_wanted)
             }
             Form::Return(_) | Form::Throw(_) | Form::Break(_) | Form::Continue => {
-                self.leaving(emitter, place, form)?;
-                emitter.after_leaving(is_wanted);
-                Ok(())
+                self.leaving(emitter, place, form, is_wanted)
             }
             form => {
                 self.done(emitter, place, form)?;
@@ -40,7 +46,11 @@ impl<F: Fn(&mut Emitter, &Expr, usize, bool) -> Result<(), CompileError>> Coder<
 
     /// What gives nothing.
     fn done(&self, emitter: &mut Emitter, place: Place, form: &Form) -> Result<(), CompileError>
-        requires { (m : _) (e : _) (w : _) → F.pre self.now.writes m e self.now.depth w }
+        requires may { (m : _) (e : _) (w : _) → Stands m.now → F.pre self.now.writes m e self.now.depth w }
+        requires does { (m : _) (e : _) (w : _) (r : _) (n : _) → F.post self.now.writes m e self.now.depth w r n
+            → OnOk r (IsWritten m.now n.now (m.now.code.operands + count w)) }
+        requires stands { Stands emitter.old }
+        ensures { OnOk result (IsWritten emitter.old emitter.new (emitter.old.code.operands)) }
     {
         match form {
             Form::Let(name, is_const, value) => {
@@ -69,7 +79,11 @@ impl<F: Fn(&mut Emitter, &Expr, usize, bool) -> Result<(), CompileError>> Coder<
         statements: &[Expr],
         is_wanted: bool,
     ) -> Result<(), CompileError>
-        requires { (m : _) (e : _) (w : _) → F.pre self.now.writes m e self.now.depth w }
+        requires may { (m : _) (e : _) (w : _) → Stands m.now → F.pre self.now.writes m e self.now.depth w }
+        requires does { (m : _) (e : _) (w : _) (r : _) (n : _) → F.post self.now.writes m e self.now.depth w r n
+            → OnOk r (IsWritten m.now n.now (m.now.code.operands + count w)) }
+        requires stands { Stands emitter.old }
+        ensures { OnOk result (IsWritten emitter.old emitter.new (emitter.old.code.operands + count is_wanted)) }
     {
         let Some((last, others)) = statements.split_last() else {
             return emitter.nothing(place, is_wanted);
@@ -88,7 +102,11 @@ impl<F: Fn(&mut Emitter, &Expr, usize, bool) -> Result<(), CompileError>> Coder<
         statements: &[Expr],
         is_wanted: bool,
     ) -> Result<(), CompileError>
-        requires { (m : _) (e : _) (w : _) → F.pre self.now.writes m e self.now.depth w }
+        requires may { (m : _) (e : _) (w : _) → Stands m.now → F.pre self.now.writes m e self.now.depth w }
+        requires does { (m : _) (e : _) (w : _) (r : _) (n : _) → F.post self.now.writes m e self.now.depth w r n
+            → OnOk r (IsWritten m.now n.now (m.now.code.operands + count w)) }
+        requires stands { Stands emitter.old }
+        ensures { OnOk result (IsWritten emitter.old emitter.new (emitter.old.code.operands + count is_wanted)) }
     {
         let locals = emitter.scope.len();
         self.statements(emitter, place, statements, is_wanted)?;
@@ -103,16 +121,19 @@ impl<F: Fn(&mut Emitter, &Expr, usize, bool) -> Result<(), CompileError>> Coder<
         otherwise: &[Expr],
         is_wanted: bool,
     ) -> Result<(), CompileError>
-        requires { (m : _) (e : _) (w : _) → F.pre self.now.writes m e self.now.depth w }
+        requires may { (m : _) (e : _) (w : _) → Stands m.now → F.pre self.now.writes m e self.now.depth w }
+        requires does { (m : _) (e : _) (w : _) (r : _) (n : _) → F.post self.now.writes m e self.now.depth w r n
+            → OnOk r (IsWritten m.now n.now (m.now.code.operands + count w)) }
+        requires stands { Stands emitter.old }
+        ensures { OnOk result (IsWritten emitter.old emitter.new (emitter.old.code.operands + count is_wanted)) }
     {
-        let end = emitter.label()?;
-        let height = emitter.height;
+        let height = emitter.code.operands();
+        let end = emitter.code.label(height_with(height, is_wanted))?;
         for branch in branches {
             self.branch(emitter, branch, end, is_wanted)?;
-            emitter.height = height;
         }
         self.block(emitter, place, otherwise, is_wanted)?;
-        emitter.bind(end, height_with(height, is_wanted))
+        emitter.code.bind(end)
     }
 
     /// A condition and its block, which leads to the end.
@@ -123,197 +144,41 @@ impl<F: Fn(&mut Emitter, &Expr, usize, bool) -> Result<(), CompileError>> Coder<
         end: u32,
         is_wanted: bool,
     ) -> Result<(), CompileError>
-        requires { (m : _) (e : _) (w : _) → F.pre self.now.writes m e self.now.depth w }
+        requires may { (m : _) (e : _) (w : _) → Stands m.now → F.pre self.now.writes m e self.now.depth w }
+        requires does { (m : _) (e : _) (w : _) (r : _) (n : _) → F.post self.now.writes m e self.now.depth w r n
+            → OnOk r (IsWritten m.now n.now (m.now.code.operands + count w)) }
+        requires stands { Stands emitter.old }
+        requires there { slice_get emitter.old.code.labels end
+            ≡ Some (spot (emitter.old.code.operands + count is_wanted) emitter.old.code.level) }
+        ensures { OnOk result (IsWritten emitter.old emitter.new (emitter.old.code.operands)) }
     {
         let place = branch.condition.place;
-        let next = emitter.label()?;
-        let height = emitter.height;
+        let height = emitter.code.operands();
+        let next = emitter.code.label(height)?;
         self.expr(emitter, &branch.condition, true)?;
-        emitter.jump_if_false(place, next)?;
+        emitter.jump_where(place, false, next)?;
         self.block(emitter, place, &branch.body, is_wanted)?;
-        emitter.jump(place, end)?;
-        emitter.bind(next, height)
+        emitter.code.jump(place, end, height)?;
+        emitter.code.bind(next)
     }
 
-    /// A loop.
-    fn repeated(
-        &self,
-        emitter: &mut Emitter,
-        place: Place,
-        form: &Form,
-        is_wanted: bool,
-    ) -> Result<(), CompileError>
-        requires { (m : _) (e : _) (w : _) → F.pre self.now.writes m e self.now.depth w }
-    {
-        match form {
-            Form::While(condition, body) => {
-                self.while_loop(emitter, place, condition, body, is_wanted)
-            }
-            Form::Loop(body) => self.endless(emitter, place, body, is_wanted),
-            Form::Do(body, condition, goes_on) => {
-                self.do_loop(emitter, place, body, condition, *goes_on, is_wanted)
-            }
-            Form::For(name, counter, items, body) => {
-                let locals = emitter.scope.len();
-                self.expr(emitter, items, true)?;
-                emitter.put(items.place, Op::IterInit, 1, 0)?;
-                let counter = emitter.walked(place, *counter)?;
-                emitter.put(place, Op::Unit, 0, 1)?;
-                let slot = emitter.declare(place, Local::variable(*name))?;
-                self.walk(emitter, place, (slot, counter), body, is_wanted)?;
-                emitter.leave(place, locals)
-            }
-            _ => Ok(()),
-        }
-    }
-
-    fn while_loop(
-        &self,
-        emitter: &mut Emitter,
-        place: Place,
-        condition: &Expr,
-        body: &[Expr],
-        is_wanted: bool,
-    ) -> Result<(), CompileError>
-        requires { (m : _) (e : _) (w : _) → F.pre self.now.writes m e self.now.depth w }
-    {
-        let exit = emitter.label()?;
-        let around = emitter.begin_loop(is_wanted, false)?;
-        emitter.bind(around.next, around.height)?;
-        emitter.put(place, Op::Tick, 0, 0)?;
-        self.expr(emitter, condition, true)?;
-        emitter.jump_if_false(condition.place, exit)?;
-        self.block(emitter, place, body, false)?;
-        emitter.jump(place, around.next)?;
-        emitter.bind(exit, around.height)?;
-        emitter.end_loop(place, around)
-    }
-
-    fn endless(
-        &self,
-        emitter: &mut Emitter,
-        place: Place,
-        body: &[Expr],
-        is_wanted: bool,
-    ) -> Result<(), CompileError>
-        requires { (m : _) (e : _) (w : _) → F.pre self.now.writes m e self.now.depth w }
-    {
-        let around = emitter.begin_loop(is_wanted, false)?;
-        emitter.bind(around.next, around.height)?;
-        emitter.put(place, Op::Tick, 0, 0)?;
-        self.block(emitter, place, body, false)?;
-        emitter.jump(place, around.next)?;
-        emitter.drop_loop();
-        emitter.bind(around.end, height_with(around.height, is_wanted))
-    }
-
-    fn do_loop(
-        &self,
-        emitter: &mut Emitter,
-        place: Place,
-        body: &[Expr],
-        condition: &Expr,
-        goes_on: bool,
-        is_wanted: bool,
-    ) -> Result<(), CompileError>
-        requires { (m : _) (e : _) (w : _) → F.pre self.now.writes m e self.now.depth w }
-    {
-        let start = emitter.label()?;
-        let around = emitter.begin_loop(is_wanted, false)?;
-        emitter.bind(start, around.height)?;
-        emitter.put(place, Op::Tick, 0, 0)?;
-        self.block(emitter, place, body, false)?;
-        emitter.bind(around.next, around.height)?;
-        self.expr(emitter, condition, true)?;
-        if goes_on {
-            emitter.jump_if_true(condition.place, start)?;
-        } else {
-            emitter.jump_if_false(condition.place, start)?;
-        }
-        emitter.end_loop(place, around)
-    }
-
-    /// A loop over the items of an iterator, with the slots of its variable and its counter.
-    fn walk(
-        &self,
-        emitter: &mut Emitter,
-        place: Place,
-        slots: (u16, Option<u16>),
-        body: &[Expr],
-        is_wanted: bool,
-    ) -> Result<(), CompileError>
-        requires { (m : _) (e : _) (w : _) → F.pre self.now.writes m e self.now.depth w }
-    {
-        let (slot, counter_slot) = slots;
-        let exit = emitter.label()?;
-        let around = emitter.begin_loop(is_wanted, true)?;
-        emitter.bind(around.next, around.height)?;
-        emitter.put(place, Op::Tick, 0, 0)?;
-        emitter.put(place, Op::IterNext { exit, counter_slot }, 0, 1)?;
-        emitter.put(place, Op::StoreShared(slot), 1, 0)?;
-        self.block(emitter, place, body, false)?;
-        emitter.jump(place, around.next)?;
-        emitter.bind(exit, around.height)?;
-        emitter.end_loop(place, around)
-    }
-
-    /// What leads away from here.
-    fn leaving(&self, emitter: &mut Emitter, place: Place, form: &Form) -> Result<(), CompileError>
-        requires { (m : _) (e : _) (w : _) → F.pre self.now.writes m e self.now.depth w }
-    {
-        let height = emitter.height;
-        match form {
-            Form::Return(value) => {
-                self.optional(emitter, place, value)?;
-                emitter.put(place, Op::Return, 1, 0)?;
-            }
-            Form::Throw(Some(value)) => {
-                self.expr(emitter, value, true)?;
-                emitter.put(place, Op::Throw, 1, 0)?;
-            }
-            Form::Throw(None) => emitter.throw_again(place)?,
-            Form::Break(value) => self.broken(emitter, place, value)?,
-            _ => emitter.go_on(place)?,
-        }
-        emitter.height = height;
-        Ok(())
-    }
-
-    fn optional(
+    /// The value, or unit where there is none.
+    pub(crate) fn optional(
         &self,
         emitter: &mut Emitter,
         place: Place,
         value: &Option<Box<Expr>>,
     ) -> Result<(), CompileError>
-        requires { (m : _) (e : _) (w : _) → F.pre self.now.writes m e self.now.depth w }
+        requires may { (m : _) (e : _) (w : _) → Stands m.now → F.pre self.now.writes m e self.now.depth w }
+        requires does { (m : _) (e : _) (w : _) (r : _) (n : _) → F.post self.now.writes m e self.now.depth w r n
+            → OnOk r (IsWritten m.now n.now (m.now.code.operands + count w)) }
+        requires stands { Stands emitter.old }
+        ensures { OnOk result (IsWritten emitter.old emitter.new (emitter.old.code.operands + 1)) }
     {
         match value {
             Some(value) => self.expr(emitter, value, true),
             None => emitter.put(place, Op::Unit, 0, 1),
         }
-    }
-
-    /// Leaves the innermost loop, whose value is given before the operands of the loop go: they are dropped below it.
-    fn broken(
-        &self,
-        emitter: &mut Emitter,
-        place: Place,
-        value: &Option<Box<Expr>>,
-    ) -> Result<(), CompileError>
-        requires { (m : _) (e : _) (w : _) → F.pre self.now.writes m e self.now.depth w }
-    {
-        let around = emitter.innermost(place)?;
-        if !around.is_wanted {
-            if let Some(value) = value {
-                self.expr(emitter, value, false)?;
-            }
-            emitter.clear(place, around)?;
-        } else {
-            // The value has a slot of its own while the operands of the loop go.
-            self.optional(emitter, place, value)?;
-            emitter.clear_below(place, around)?;
-        }
-        emitter.jump(place, around.end)
     }
 
     fn tried(
@@ -324,23 +189,74 @@ impl<F: Fn(&mut Emitter, &Expr, usize, bool) -> Result<(), CompileError>> Coder<
         catch: Catch,
         catching: &[Expr],
     ) -> Result<(), CompileError>
-        requires { (m : _) (e : _) (w : _) → F.pre self.now.writes m e self.now.depth w }
+        requires may { (m : _) (e : _) (w : _) → Stands m.now → F.pre self.now.writes m e self.now.depth w }
+        requires does { (m : _) (e : _) (w : _) (r : _) (n : _) → F.post self.now.writes m e self.now.depth w r n
+            → OnOk r (IsWritten m.now n.now (m.now.code.operands + count w)) }
+        requires stands { Stands emitter.old }
+        ensures { OnOk result (IsWritten emitter.old emitter.new (emitter.old.code.operands)) }
     {
-        let target = emitter.label()?;
-        let end = emitter.label()?;
-        let height = emitter.height;
+        let height = emitter.code.operands();
+        let end = emitter.code.label(height)?;
         let fault = emitter.fault_name(catch)?;
+        self.guarded(emitter, place, body, fault, end)?;
+        self.catching(emitter, place, (catch, fault), catching)?;
+        emitter.code.bind(end)
+    }
+
+    /// Statements whose faults are caught; where there is none they lead to the end. Code after this is that of the `catch`.
+    fn guarded(
+        &self,
+        emitter: &mut Emitter,
+        place: Place,
+        body: &[Expr],
+        fault: Option<u32>,
+        end: u32,
+    ) -> Result<(), CompileError>
+        requires may { (m : _) (e : _) (w : _) → Stands m.now → F.pre self.now.writes m e self.now.depth w }
+        requires does { (m : _) (e : _) (w : _) (r : _) (n : _) → F.post self.now.writes m e self.now.depth w r n
+            → OnOk r (IsWritten m.now n.now (m.now.code.operands + count w)) }
+        requires stands { Stands emitter.old }
+        requires there { slice_get emitter.old.code.labels end
+            ≡ Some (spot emitter.old.code.operands emitter.old.code.level) }
+        ensures { OnOk result (IsWritten emitter.old emitter.new emitter.old.code.operands) }
+    {
+        let height = emitter.code.operands();
+        let outer = emitter.code.frame()?;
+        let around = outer.copied()?;
+        let target = emitter.code.catch_label()?;
         emitter.arm(place, target, fault)?;
+        let inner = emitter.code.frame()?;
         self.block(emitter, place, body, false)?;
-        emitter.disarm(place)?;
-        emitter.jump(place, end)?;
-        emitter.bind(target, height)?;
+        emitter.code.disarm(place, outer)?;
+        emitter.code.jump(place, end, height)?;
+        emitter.code.resume_in(place, height, inner)?;
+        emitter.code.bind(target)?;
+        let locals = emitter.scope.len();
+        emitter.unwind(place, locals)?;
+        emitter.code.disarm(place, around)?;
+        Ok(())
+    }
+
+    /// What a `catch` does with the fault that it caught.
+    fn catching(
+        &self,
+        emitter: &mut Emitter,
+        place: Place,
+        caught: (Catch, Option<u32>),
+        body: &[Expr],
+    ) -> Result<(), CompileError>
+        requires may { (m : _) (e : _) (w : _) → Stands m.now → F.pre self.now.writes m e self.now.depth w }
+        requires does { (m : _) (e : _) (w : _) (r : _) (n : _) → F.post self.now.writes m e self.now.depth w r n
+            → OnOk r (IsWritten m.now n.now (m.now.code.operands + count w)) }
+        requires stands { Stands emitter.old }
+        ensures { OnOk result (IsWritten emitter.old emitter.new (emitter.old.code.operands)) }
+    {
+        let (catch, fault) = caught;
         let locals = emitter.scope.len();
         let around = emitter.scope.caught;
         emitter.caught(place, catch, fault)?;
-        self.statements(emitter, place, catching, false)?;
+        self.statements(emitter, place, body, false)?;
         emitter.scope.caught = around;
-        emitter.leave(place, locals)?;
-        emitter.bind(end, height)
+        emitter.leave(place, locals)
     }
 }

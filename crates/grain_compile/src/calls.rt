@@ -1,4 +1,7 @@
 //! The code of calls and closures.
+ghost use Rattle.std.specs.Prelude.{◌≡◌, ◌+◌, ◌-◌, ◌≤◌, OnOk};
+ghost use Rattle.grain_emit.specs.Loops.{count};
+ghost use Rattle.grain_emit.specs.Rules.{IsWritten, Stands};
 
 use crate::coder::Coder;
 use grain::Op;
@@ -14,21 +17,33 @@ impl<F: Fn(&mut Emitter, &Expr, usize, bool) -> Result<(), CompileError>> Coder<
         name: u32,
         arguments: &[Expr],
     ) -> Result<(), CompileError>
-        requires { (m : _) (e : _) (w : _) → F.pre self.now.writes m e self.now.depth w }
+        requires may { (m : _) (e : _) (w : _) → Stands m.now → F.pre self.now.writes m e self.now.depth w }
+        requires does { (m : _) (e : _) (w : _) (r : _) (n : _) → F.post self.now.writes m e self.now.depth w r n
+            → OnOk r (IsWritten m.now n.now (m.now.code.operands + count w)) }
+        requires stands { Stands emitter.old }
+        ensures { OnOk result (IsWritten emitter.old emitter.new (emitter.old.code.operands + 1)) }
     {
-        let callee = callee_of(emitter.pools.names.get(name));
-        if callee == Callee::Evaluated {
-            return Err(CompileError::new(place, Problem::Unsupported(Thing::Eval)));
+        match (callee_of(emitter.pools.names.get(name)), arguments) {
+            (Callee::Evaluated, _) => {
+                Err(CompileError::new(place, Problem::Unsupported(Thing::Eval)))
+            }
+            (Callee::Shared, [argument]) => self.is_shared(emitter, place, argument),
+            (Callee::Pointer, [argument]) => {
+                self.expr(emitter, argument, true)?;
+                emitter.put(place, Op::MakeFnPtr, 1, 1)
+            }
+            (Callee::Called, [pointer, others @ ..]) => {
+                self.expr(emitter, pointer, true)?;
+                self.all(emitter, others)?;
+                emitter.call_pointer(place, argc_of(place, others.len())?)
+            }
+            (Callee::Curried, [pointer, others @ ..]) => {
+                self.expr(emitter, pointer, true)?;
+                self.all(emitter, others)?;
+                emitter.curry(place, argc_of(place, others.len())?)
+            }
+            _ => self.function(emitter, place, name, arguments),
         }
-        if !callee.takes(arguments.len()) {
-            return self.function(emitter, place, name, arguments);
-        }
-        if let (Callee::Shared, [argument]) = (callee, arguments) {
-            return self.is_shared(emitter, place, argument);
-        }
-        self.all(emitter, arguments)?;
-        let argc = argc_of(place, arguments.len())?;
-        emitter.point(place, callee, argc.saturating_sub(1))
     }
 
     /// Whether a value is shared. Of a local variable it is the shared value itself that is tested, not what it holds.
@@ -38,7 +53,11 @@ impl<F: Fn(&mut Emitter, &Expr, usize, bool) -> Result<(), CompileError>> Coder<
         place: Place,
         argument: &Expr,
     ) -> Result<(), CompileError>
-        requires { (m : _) (e : _) (w : _) → F.pre self.now.writes m e self.now.depth w }
+        requires may { (m : _) (e : _) (w : _) → Stands m.now → F.pre self.now.writes m e self.now.depth w }
+        requires does { (m : _) (e : _) (w : _) (r : _) (n : _) → F.post self.now.writes m e self.now.depth w r n
+            → OnOk r (IsWritten m.now n.now (m.now.code.operands + count w)) }
+        requires stands { Stands emitter.old }
+        ensures { OnOk result (IsWritten emitter.old emitter.new (emitter.old.code.operands + 1)) }
     {
         match emitter.slot_of(argument) {
             Some(slot) => emitter.put(argument.place, Op::LoadShared(slot), 0, 1)?,
@@ -55,7 +74,11 @@ impl<F: Fn(&mut Emitter, &Expr, usize, bool) -> Result<(), CompileError>> Coder<
         name: u32,
         arguments: &[Expr],
     ) -> Result<(), CompileError>
-        requires { (m : _) (e : _) (w : _) → F.pre self.now.writes m e self.now.depth w }
+        requires may { (m : _) (e : _) (w : _) → Stands m.now → F.pre self.now.writes m e self.now.depth w }
+        requires does { (m : _) (e : _) (w : _) (r : _) (n : _) → F.post self.now.writes m e self.now.depth w r n
+            → OnOk r (IsWritten m.now n.now (m.now.code.operands + count w)) }
+        requires stands { Stands emitter.old }
+        ensures { OnOk result (IsWritten emitter.old emitter.new (emitter.old.code.operands + 1)) }
     {
         let argc = argc_of(place, arguments.len())?;
         if !emitter.has_function(name, arguments.len())
@@ -77,14 +100,19 @@ impl<F: Fn(&mut Emitter, &Expr, usize, bool) -> Result<(), CompileError>> Coder<
         name: u32,
         arguments: &[Expr],
     ) -> Result<(), CompileError>
-        requires { (m : _) (e : _) (w : _) → F.pre self.now.writes m e self.now.depth w }
+        requires may { (m : _) (e : _) (w : _) → Stands m.now → F.pre self.now.writes m e self.now.depth w }
+        requires does { (m : _) (e : _) (w : _) (r : _) (n : _) → F.post self.now.writes m e self.now.depth w r n
+            → OnOk r (IsWritten m.now n.now (m.now.code.operands + count w)) }
+        requires stands { Stands emitter.old }
+        requires room { emitter.old.code.level.floor + 1 ≤ emitter.old.code.operands }
+        ensures { OnOk result (IsWritten emitter.old emitter.new (emitter.old.code.operands)) }
     {
         self.all(emitter, arguments)?;
         let with_value = argc_of(place, arguments.len().saturating_add(1))?;
         let argc = with_value.saturating_sub(1);
         match callee_of(emitter.pools.names.get(name)) {
-            Callee::Called => emitter.point(place, Callee::Called, argc),
-            Callee::Curried => emitter.point(place, Callee::Curried, argc),
+            Callee::Called => emitter.call_pointer(place, argc),
+            Callee::Curried => emitter.curry(place, argc),
             _ => emitter.call(place, name, with_value),
         }
     }

@@ -1,5 +1,8 @@
 //! The code of expressions. The rules take the function that writes the code of an expression as a parameter, so that each is
 //! proved by itself and only `expr` calls itself.
+ghost use Rattle.std.specs.Prelude.{◌≡◌, ◌+◌, ◌-◌, ◌≤◌, OnOk, length};
+ghost use Rattle.grain_emit.specs.Loops.{count};
+ghost use Rattle.grain_emit.specs.Rules.{IsWritten, Stands};
 
 use grain::Op;
 use grain_emit::{Emitter, len_of};
@@ -21,7 +24,10 @@ pub(crate) fn expr(
     from: &Expr,
     depth: usize,
     is_wanted: bool,
-) -> Result<(), CompileError> {
+) -> Result<(), CompileError>
+    requires { Stands emitter.old }
+    ensures { OnOk result (IsWritten emitter.old emitter.new (emitter.old.code.operands + count is_wanted)) }
+{
     if depth == 0 {
         return Err(CompileError::new(from.place, Problem::TooDeep));
     }
@@ -51,14 +57,22 @@ impl<F: Fn(&mut Emitter, &Expr, usize, bool) -> Result<(), CompileError>> Coder<
         from: &Expr,
         is_wanted: bool,
     ) -> Result<(), CompileError>
-        requires { (m : _) (e : _) (w : _) → F.pre self.now.writes m e self.now.depth w }
+        requires may { (m : _) (e : _) (w : _) → Stands m.now → F.pre self.now.writes m e self.now.depth w }
+        requires does { (m : _) (e : _) (w : _) (r : _) (n : _) → F.post self.now.writes m e self.now.depth w r n
+            → OnOk r (IsWritten m.now n.now (m.now.code.operands + count w)) }
+        requires stands { Stands emitter.old }
+        ensures { OnOk result (IsWritten emitter.old emitter.new (emitter.old.code.operands + count is_wanted)) }
     {
         (self.writes)(emitter, from, self.depth, is_wanted)
     }
 
     /// Writes the code of expressions, all of whose values are wanted.
     pub(crate) fn all(&self, emitter: &mut Emitter, list: &[Expr]) -> Result<(), CompileError>
-        requires { (m : _) (e : _) (w : _) → F.pre self.now.writes m e self.now.depth w }
+        requires may { (m : _) (e : _) (w : _) → Stands m.now → F.pre self.now.writes m e self.now.depth w }
+        requires does { (m : _) (e : _) (w : _) (r : _) (n : _) → F.post self.now.writes m e self.now.depth w r n
+            → OnOk r (IsWritten m.now n.now (m.now.code.operands + count w)) }
+        requires stands { Stands emitter.old }
+        ensures { OnOk result (IsWritten emitter.old emitter.new (emitter.old.code.operands + length list.now)) }
     {
         for item in list {
             self.expr(emitter, item, true)?;
@@ -67,7 +81,11 @@ impl<F: Fn(&mut Emitter, &Expr, usize, bool) -> Result<(), CompileError>> Coder<
     }
 
     fn form(&self, emitter: &mut Emitter, from: &Expr, is_wanted: bool) -> Result<(), CompileError>
-        requires { (m : _) (e : _) (w : _) → F.pre self.now.writes m e self.now.depth w }
+        requires may { (m : _) (e : _) (w : _) → Stands m.now → F.pre self.now.writes m e self.now.depth w }
+        requires does { (m : _) (e : _) (w : _) (r : _) (n : _) → F.post self.now.writes m e self.now.depth w r n
+            → OnOk r (IsWritten m.now n.now (m.now.code.operands + count w)) }
+        requires stands { Stands emitter.old }
+        ensures { OnOk result (IsWritten emitter.old emitter.new (emitter.old.code.operands + count is_wanted)) }
     {
         let place = from.place;
         match &from.form {
@@ -92,7 +110,11 @@ impl<F: Fn(&mut Emitter, &Expr, usize, bool) -> Result<(), CompileError>> Coder<
 
     /// What gives a value.
     fn value(&self, emitter: &mut Emitter, place: Place, form: &Form) -> Result<(), CompileError>
-        requires { (m : _) (e : _) (w : _) → F.pre self.now.writes m e self.now.depth w }
+        requires may { (m : _) (e : _) (w : _) → Stands m.now → F.pre self.now.writes m e self.now.depth w }
+        requires does { (m : _) (e : _) (w : _) (r : _) (n : _) → F.post self.now.writes m e self.now.depth w r n
+            → OnOk r (IsWritten m.now n.now (m.now.code.operands + count w)) }
+        requires stands { Stands emitter.old }
+        ensures { OnOk result (IsWritten emitter.old emitter.new (emitter.old.code.operands + 1)) }
     {
         match form {
             Form::Literal(literal) => emitter.literal(place, *literal),
@@ -107,7 +129,7 @@ impl<F: Fn(&mut Emitter, &Expr, usize, bool) -> Result<(), CompileError>> Coder<
             Form::Access(root, steps) => self.access(emitter, place, root, steps),
             Form::Closure(index) => emitter.closure(place, *index),
             Form::Qualified(space, name) => emitter.qualified(place, *space, *name),
-            _ => Ok(()),
+            _ => emitter.put(place, Op::Unit, 0, 1),
         }
     }
 
@@ -117,18 +139,26 @@ impl<F: Fn(&mut Emitter, &Expr, usize, bool) -> Result<(), CompileError>> Coder<
         place: Place,
         pieces: &[Expr],
     ) -> Result<(), CompileError>
-        requires { (m : _) (e : _) (w : _) → F.pre self.now.writes m e self.now.depth w }
+        requires may { (m : _) (e : _) (w : _) → Stands m.now → F.pre self.now.writes m e self.now.depth w }
+        requires does { (m : _) (e : _) (w : _) (r : _) (n : _) → F.post self.now.writes m e self.now.depth w r n
+            → OnOk r (IsWritten m.now n.now (m.now.code.operands + count w)) }
+        requires stands { Stands emitter.old }
+        ensures { OnOk result (IsWritten emitter.old emitter.new (emitter.old.code.operands + 1)) }
     {
         emitter.put(place, Op::InterpolateStart, 0, 1)?;
         for piece in pieces {
             self.expr(emitter, piece, true)?;
-            emitter.put(piece.place, Op::InterpolateAppend, 2, 1)?;
+            emitter.put(piece.place, Op::InterpolateAppend, 1, 0)?;
         }
         emitter.put(place, Op::InterpolateEnd, 1, 1)
     }
 
     fn array(&self, emitter: &mut Emitter, place: Place, items: &[Expr]) -> Result<(), CompileError>
-        requires { (m : _) (e : _) (w : _) → F.pre self.now.writes m e self.now.depth w }
+        requires may { (m : _) (e : _) (w : _) → Stands m.now → F.pre self.now.writes m e self.now.depth w }
+        requires does { (m : _) (e : _) (w : _) (r : _) (n : _) → F.post self.now.writes m e self.now.depth w r n
+            → OnOk r (IsWritten m.now n.now (m.now.code.operands + count w)) }
+        requires stands { Stands emitter.old }
+        ensures { OnOk result (IsWritten emitter.old emitter.new (emitter.old.code.operands + 1)) }
     {
         self.all(emitter, items)?;
         let len = len_of(place, items.len())?;
@@ -141,17 +171,19 @@ impl<F: Fn(&mut Emitter, &Expr, usize, bool) -> Result<(), CompileError>> Coder<
         place: Place,
         entries: &[Entry],
     ) -> Result<(), CompileError>
-        requires { (m : _) (e : _) (w : _) → F.pre self.now.writes m e self.now.depth w }
+        requires may { (m : _) (e : _) (w : _) → Stands m.now → F.pre self.now.writes m e self.now.depth w }
+        requires does { (m : _) (e : _) (w : _) (r : _) (n : _) → F.post self.now.writes m e self.now.depth w r n
+            → OnOk r (IsWritten m.now n.now (m.now.code.operands + count w)) }
+        requires stands { Stands emitter.old }
+        ensures { OnOk result (IsWritten emitter.old emitter.new (emitter.old.code.operands + 1)) }
     {
-        let height = emitter.height;
         emitter.put(place, Op::Unit, 0, 1)?;
         for entry in entries {
             emitter.literal(entry.value.place, Literal::Text(entry.name))?;
             self.expr(emitter, &entry.value, true)?;
         }
         let len = len_of(place, entries.len())?;
-        let takes = emitter.height.saturating_sub(height);
-        emitter.put(place, Op::MakeMap(len), takes, 1)
+        emitter.put(place, Op::MakeMap(len), 2 * usize::from(len) + 1, 1)
     }
 
     fn prefixed(
@@ -161,7 +193,11 @@ impl<F: Fn(&mut Emitter, &Expr, usize, bool) -> Result<(), CompileError>> Coder<
         operator: Operator,
         operand: &Expr,
     ) -> Result<(), CompileError>
-        requires { (m : _) (e : _) (w : _) → F.pre self.now.writes m e self.now.depth w }
+        requires may { (m : _) (e : _) (w : _) → Stands m.now → F.pre self.now.writes m e self.now.depth w }
+        requires does { (m : _) (e : _) (w : _) (r : _) (n : _) → F.post self.now.writes m e self.now.depth w r n
+            → OnOk r (IsWritten m.now n.now (m.now.code.operands + count w)) }
+        requires stands { Stands emitter.old }
+        ensures { OnOk result (IsWritten emitter.old emitter.new (emitter.old.code.operands + 1)) }
     {
         self.expr(emitter, operand, true)?;
         emitter.operate(place, operator, 1)
@@ -174,7 +210,11 @@ impl<F: Fn(&mut Emitter, &Expr, usize, bool) -> Result<(), CompileError>> Coder<
         first: &Expr,
         rest: &[Operation],
     ) -> Result<(), CompileError>
-        requires { (m : _) (e : _) (w : _) → F.pre self.now.writes m e self.now.depth w }
+        requires may { (m : _) (e : _) (w : _) → Stands m.now → F.pre self.now.writes m e self.now.depth w }
+        requires does { (m : _) (e : _) (w : _) (r : _) (n : _) → F.post self.now.writes m e self.now.depth w r n
+            → OnOk r (IsWritten m.now n.now (m.now.code.operands + count w)) }
+        requires stands { Stands emitter.old }
+        ensures { OnOk result (IsWritten emitter.old emitter.new (emitter.old.code.operands + 1)) }
     {
         self.expr(emitter, first, true)?;
         for operation in rest {
@@ -185,7 +225,12 @@ impl<F: Fn(&mut Emitter, &Expr, usize, bool) -> Result<(), CompileError>> Coder<
 
     /// An operator and its right operand, after the left one.
     fn operation(&self, emitter: &mut Emitter, operation: &Operation) -> Result<(), CompileError>
-        requires { (m : _) (e : _) (w : _) → F.pre self.now.writes m e self.now.depth w }
+        requires may { (m : _) (e : _) (w : _) → Stands m.now → F.pre self.now.writes m e self.now.depth w }
+        requires does { (m : _) (e : _) (w : _) (r : _) (n : _) → F.post self.now.writes m e self.now.depth w r n
+            → OnOk r (IsWritten m.now n.now (m.now.code.operands + count w)) }
+        requires stands { Stands emitter.old }
+        requires room { emitter.old.code.level.floor + 1 ≤ emitter.old.code.operands }
+        ensures { OnOk result (IsWritten emitter.old emitter.new (emitter.old.code.operands)) }
     {
         match operation.operator {
             Operator::And => self.junction(emitter, operation, false),
@@ -201,11 +246,16 @@ impl<F: Fn(&mut Emitter, &Expr, usize, bool) -> Result<(), CompileError>> Coder<
 
     /// `in` and `!in` call `contains` of the right operand.
     fn membership(&self, emitter: &mut Emitter, operation: &Operation) -> Result<(), CompileError>
-        requires { (m : _) (e : _) (w : _) → F.pre self.now.writes m e self.now.depth w }
+        requires may { (m : _) (e : _) (w : _) → Stands m.now → F.pre self.now.writes m e self.now.depth w }
+        requires does { (m : _) (e : _) (w : _) (r : _) (n : _) → F.post self.now.writes m e self.now.depth w r n
+            → OnOk r (IsWritten m.now n.now (m.now.code.operands + count w)) }
+        requires stands { Stands emitter.old }
+        requires room { emitter.old.code.level.floor + 1 ≤ emitter.old.code.operands }
+        ensures { OnOk result (IsWritten emitter.old emitter.new (emitter.old.code.operands)) }
     {
         let place = operation.place;
         self.expr(emitter, &operation.right, true)?;
-        emitter.put(place, Op::Rotate(1), 0, 0)?;
+        emitter.put(place, Op::Rotate(1), 2, 2)?;
         let contains = emitter.pools.name("contains")?;
         emitter.call(place, contains, 2)?;
         if operation.operator == Operator::NotIn {
@@ -221,33 +271,44 @@ impl<F: Fn(&mut Emitter, &Expr, usize, bool) -> Result<(), CompileError>> Coder<
         operation: &Operation,
         is_short: bool,
     ) -> Result<(), CompileError>
-        requires { (m : _) (e : _) (w : _) → F.pre self.now.writes m e self.now.depth w }
+        requires may { (m : _) (e : _) (w : _) → Stands m.now → F.pre self.now.writes m e self.now.depth w }
+        requires does { (m : _) (e : _) (w : _) (r : _) (n : _) → F.post self.now.writes m e self.now.depth w r n
+            → OnOk r (IsWritten m.now n.now (m.now.code.operands + count w)) }
+        requires stands { Stands emitter.old }
+        requires room { emitter.old.code.level.floor + 1 ≤ emitter.old.code.operands }
+        ensures { OnOk result (IsWritten emitter.old emitter.new (emitter.old.code.operands)) }
     {
         let place = operation.place;
-        let short = emitter.label()?;
-        let end = emitter.label()?;
+        let height = emitter.code.operands() - 1;
+        let end = emitter.code.label(height + 1)?;
+        let short = emitter.code.label(height)?;
         emitter.jump_where(place, is_short, short)?;
-        let height = emitter.height;
         self.expr(emitter, &operation.right, true)?;
         emitter.jump_where(operation.right.place, is_short, short)?;
         emitter.put(place, Op::Bool(!is_short), 0, 1)?;
-        emitter.jump(place, end)?;
-        emitter.bind(short, height)?;
+        emitter.code.jump(place, end, height)?;
+        emitter.code.bind(short)?;
         emitter.put(place, Op::Bool(is_short), 0, 1)?;
-        let height = emitter.height;
-        emitter.bind(end, height)
+        emitter.code.bind(end)
     }
 
     /// `??`
     fn coalesce(&self, emitter: &mut Emitter, operation: &Operation) -> Result<(), CompileError>
-        requires { (m : _) (e : _) (w : _) → F.pre self.now.writes m e self.now.depth w }
+        requires may { (m : _) (e : _) (w : _) → Stands m.now → F.pre self.now.writes m e self.now.depth w }
+        requires does { (m : _) (e : _) (w : _) (r : _) (n : _) → F.post self.now.writes m e self.now.depth w r n
+            → OnOk r (IsWritten m.now n.now (m.now.code.operands + count w)) }
+        requires stands { Stands emitter.old }
+        requires room { emitter.old.code.level.floor + 1 ≤ emitter.old.code.operands }
+        ensures { OnOk result (IsWritten emitter.old emitter.new (emitter.old.code.operands)) }
     {
         let place = operation.place;
-        let end = emitter.label()?;
-        emitter.put(place, Op::SkipIfNotUnit { target: end }, 0, 0)?;
+        let height = emitter.code.operands();
+        let end = emitter.code.label(height)?;
+        emitter
+            .code
+            .branch(place, Op::SkipIfNotUnit { target: end }, end, 0)?;
         emitter.put(place, Op::Pop, 1, 0)?;
         self.expr(emitter, &operation.right, true)?;
-        let height = emitter.height;
-        emitter.bind(end, height)
+        emitter.code.bind(end)
     }
 }

@@ -9,6 +9,7 @@ mod blocks;
 mod building;
 mod calls;
 mod coder;
+mod loops;
 mod parts;
 mod prelude;
 mod programs;

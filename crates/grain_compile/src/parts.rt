@@ -1,10 +1,10 @@
 //! The parts of a program, made from pools.
 
 use grain::{
-    AssembleError, AssignOp, Dynamic, Op, Parts, Position, Positions, Strings, StringsError,
+    AssembleError, AssignOp, Chain, Dynamic, Op, Parts, Position, Positions, Strings, StringsError,
     Switch, SwitchRange, assemble,
 };
-use grain_emit::{Emitter, Pools, Table, assigning, position, spelling, token};
+use grain_emit::{Options, Pools, Table, assigning, position, spelling, token};
 use grain_lexer::{CompileError, Names, Operator, Place, Problem, Thing};
 use grain_syntax::Literal;
 use std::alloc::{AllocError, Global};
@@ -65,40 +65,44 @@ fn strings(alloc: Global, names: &Names) -> Result<Strings, CompileError> {
     }
 }
 
-/// A switch whose targets are operations.
-fn switch(emitter: &Emitter, table: &Table) -> Result<Switch, CompileError> {
-    let mut cases = HashMap::new(emitter.alloc);
-    for leading in &table.values {
-        let subject = value(emitter.alloc, &emitter.pools.texts, leading.value)?;
-        let target = emitter.target(leading.label);
-        let _ = cases.insert(subject, (target, leading.constant))?;
+/// A switch with these targets: those of its values, those of its ranges, and that of all other subjects.
+fn switch(pools: &Pools, table: &Table, targets: &[u32]) -> Result<Switch, CompileError> {
+    let mut cases = HashMap::new(pools.alloc);
+    for (leading, target) in table.values.iter().zip(targets) {
+        let subject = value(pools.alloc, &pools.texts, leading.value)?;
+        let _ = cases.insert(subject, (*target, leading.constant))?;
     }
-    let mut ranges = Vec::new(emitter.alloc);
-    for range in &table.ranges {
+    let others = targets.get(table.values.len()..).unwrap_or_default();
+    let mut ranges = Vec::new(pools.alloc);
+    for (range, target) in table.ranges.iter().zip(others) {
         ranges.push(SwitchRange {
             from: range.from,
             to: range.to,
             inclusive: range.is_inclusive,
-            target: emitter.target(range.label),
+            target: *target,
         })?;
     }
     Ok(Switch {
         cases: Some(cases),
         ranges,
-        default: emitter.target(table.default),
+        default: targets.last().copied().unwrap_or_default(),
     })
 }
 
-fn switches(emitter: &Emitter) -> Result<Vec<Switch>, CompileError> {
-    let mut switches = Vec::new(emitter.alloc);
-    for table in &emitter.pools.switches {
-        switches.push(switch(emitter, table)?)?;
+fn switches(pools: &Pools, targets: &[Vec<u32>]) -> Result<Vec<Switch>, CompileError> {
+    let mut switches = Vec::new(pools.alloc);
+    for (table, targets) in pools.switches.iter().zip(targets) {
+        switches.push(switch(pools, table, targets)?)?;
     }
     Ok(switches)
 }
 
 /// The position of each byte of the code of the operations: none but where one begins.
-fn positions(alloc: Global, ops: &[Op], places: &[Place]) -> Result<Positions, CompileError> {
+pub(crate) fn positions(
+    alloc: Global,
+    ops: &[Op],
+    places: &[Place],
+) -> Result<Positions, CompileError> {
     let (code, offsets) = match assemble(alloc, ops) {
         Ok(assembled) => assembled,
         Err(AssembleError::OutOfMemory) => {
@@ -118,22 +122,26 @@ fn positions(alloc: Global, ops: &[Op], places: &[Place]) -> Result<Positions, C
 }
 
 /// All that a program has except for code and chunks.
-pub(crate) fn parts(emitter: &mut Emitter) -> Result<Parts, CompileError> {
-    let alloc = emitter.alloc;
-    let assign_ops = assign_ops(&mut emitter.pools)?;
+pub(crate) fn parts(
+    mut pools: Pools,
+    options: Options,
+    positions: Positions,
+    chains: Vec<Chain>,
+    targets: &[Vec<u32>],
+) -> Result<Parts, CompileError> {
+    let alloc = pools.alloc;
+    let assign_ops = assign_ops(&mut pools)?;
     let mut tokens = Vec::new(alloc);
-    for operator in &emitter.pools.tokens {
+    for operator in &pools.tokens {
         tokens.push(token(*operator))?;
     }
-    let positions = positions(alloc, &emitter.ops, &emitter.places)?;
-    let switches = switches(emitter)?;
-    let chains = emitter.take_chains();
+    let switches = switches(&pools, targets)?;
     Ok(Parts {
         positions,
-        debug_id: emitter.options.debug_id,
+        debug_id: options.debug_id,
         residuals: 0,
-        consts: constants(&emitter.pools)?,
-        names: strings(alloc, &emitter.pools.names)?,
+        consts: constants(&pools)?,
+        names: strings(alloc, &pools.names)?,
         tokens,
         assign_ops,
         chains,

@@ -1,12 +1,13 @@
 //! Whole programs.
-ghost use Rattle.std.specs.Prelude.{◌≡◌, IfOk};
+ghost use Rattle.std.specs.Prelude.{◌≡◌, ◌≤◌, IfOk, None, OnOk};
 ghost use Rattle.grain_rules.specs.Accepted.{AreDeepest, IsAccepted};
 ghost use Rattle.grain.specs.Program.{declared_by, input_of};
+ghost use Rattle.grain_compile.specs.Chunks.{IsBegun};
 
 use crate::building::{finish, head_of};
 use crate::coder::{Coder, expr};
 use crate::prelude::{needed, with_functions};
-use grain::{Cut, Head, Op, Program};
+use grain::{Head, Op, Program};
 use grain_emit::{Emitter, Options, Pools, global_constants, split_functions};
 use grain_lexer::{CompileError, Place};
 use grain_syntax::{Expr, MAX_DEPTH, Syntax, parse};
@@ -62,44 +63,40 @@ fn compiled(
     let pools = Pools::new(alloc, names, texts);
     let constants = global_constants(alloc, &body)?;
     let mut emitter = Emitter::new(alloc, *options, pools, signatures, constants);
-    let (cuts, heads) = chunks(&mut emitter, &body, &bodies)?;
-    forget_places(&mut emitter.places, last_line);
-    finish(emitter, &cuts, heads)
+    let heads = chunks(&mut emitter, &body, &bodies)?;
+    finish(emitter, heads, last_line)
 }
 
-/// Forgets the places behind a line.
-fn forget_places(places: &mut [Place], last_line: u32) {
-    for place in places {
-        if place.line > last_line {
-            *place = Place::NONE;
-        }
-    }
-}
-
-/// The code of the top level and of the functions. A closure comes after the code that makes it, which captures its variables.
+/// The code of the top level and of the functions, and what each function has except for its chunk. A closure comes after the
+/// code that makes it, which captures its variables.
 fn chunks(
     emitter: &mut Emitter,
     body: &[Expr],
     bodies: &[Vec<Expr>],
-) -> Result<(Vec<Cut>, Vec<Head>), CompileError> {
-    let mut cuts = Vec::new(emitter.alloc);
+) -> Result<Vec<Head>, CompileError>
+    requires around { emitter.old.scope.around ≡ None }
+    requires begun { IsBegun emitter.old.code }
+    ensures { OnOk result (emitter.new.code.pending ≡ 0) }
+{
     let mut heads = Vec::new(emitter.alloc);
-    cuts.push(main_chunk(emitter, body)?)?;
+    main_chunk(emitter, body)?;
     for turn in 0..bodies.len() {
         let index = bodies.len() - 1 - turn;
         heads.push(head_of(emitter, index)?)?;
-        cuts.push(function_chunk(emitter, index, &bodies[index])?)?;
+        function_chunk(emitter, index, &bodies[index])?;
     }
-    Ok((cuts, heads))
+    Ok(heads)
 }
 
 /// The top level. A checkpoint before each statement says which variables a fault in it keeps.
-fn main_chunk(emitter: &mut Emitter, body: &[Expr]) -> Result<Cut, CompileError> {
-    let start = Place::START;
+fn main_chunk(emitter: &mut Emitter, body: &[Expr]) -> Result<(), CompileError>
+    requires around { emitter.old.scope.around ≡ None }
+    requires begun { IsBegun emitter.old.code }
+    ensures { OnOk result (IsBegun emitter.new.code) }
+{
     let Some((last, others)) = body.split_last() else {
-        emitter.put(start, Op::Unit, 0, 1)?;
-        emitter.put(start, Op::Return, 1, 0)?;
-        return Ok(cut(0, emitter.ops.len()));
+        emitter.put(Place::START, Op::Unit, 0, 1)?;
+        return ended(emitter, Place::START);
     };
     for statement in others {
         emitter.put(statement.place, Op::Checkpoint, 0, 0)?;
@@ -107,27 +104,28 @@ fn main_chunk(emitter: &mut Emitter, body: &[Expr]) -> Result<Cut, CompileError>
     }
     emitter.put(last.place, Op::Checkpoint, 0, 0)?;
     expr(emitter, last, MAX_LEVELS, true)?;
-    emitter.put(last.place, Op::Return, 1, 0)?;
-    Ok(cut(0, emitter.ops.len()))
+    ended(emitter, last.place)
 }
 
-fn function_chunk(emitter: &mut Emitter, index: usize, body: &[Expr]) -> Result<Cut, CompileError> {
-    let first = emitter.ops.len();
+fn function_chunk(emitter: &mut Emitter, index: usize, body: &[Expr]) -> Result<(), CompileError>
+    requires { IsBegun emitter.old.code }
+    ensures { OnOk result (IsBegun emitter.new.code) }
+{
     let place = emitter.begin_function(index)?;
     let coder = Coder {
         depth: MAX_LEVELS,
         writes: expr,
     };
     coder.statements(emitter, place, body, true)?;
-    emitter.put(place, Op::Return, 1, 0)?;
-    Ok(cut(first, emitter.ops.len()))
+    ended(emitter, place)
 }
 
-/// A chunk that declares as much as it may, since the verifier computes how much it takes.
-fn cut(first: usize, end: usize) -> Cut {
-    Cut {
-        first,
-        end,
-        max_stack: u16::MAX,
-    }
+/// The chunk ends with its value, and the next one begins.
+fn ended(emitter: &mut Emitter, place: Place) -> Result<(), CompileError>
+    requires floor { emitter.old.code.level.floor ≤ emitter.old.code.operands }
+    requires closed { emitter.old.code.pending ≡ 0 }
+    ensures { OnOk result (IsBegun emitter.new.code) }
+{
+    emitter.code.stop(place, Op::Return, 0, 0)?;
+    emitter.code.end_chunk()
 }

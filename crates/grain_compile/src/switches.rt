@@ -1,8 +1,13 @@
 //! The code of switches.
+ghost use Rattle.std.specs.Prelude.{◌≡◌, ◌+◌, ◌-◌, ◌<◌, ◌≤◌, OnOk, Some, slice_get};
+ghost use Rattle.grain_assembly.specs.Written.{Keeps, spot};
+ghost use Rattle.grain_emit.specs.Loops.{count};
+ghost use Rattle.grain_emit.specs.Rules.{IsWritten, Stands};
+ghost use Rattle.grain_emit.specs.Switches.{AreArms};
 
 use crate::coder::Coder;
 use grain::Op;
-use grain_emit::{Emitter, Labels, check_arms, height_with};
+use grain_emit::{Emitter, Labels, check_arms};
 use grain_lexer::{CompileError, Place};
 use grain_syntax::{Arm, Expr};
 
@@ -15,36 +20,75 @@ impl<F: Fn(&mut Emitter, &Expr, usize, bool) -> Result<(), CompileError>> Coder<
         arms: &[Arm],
         is_wanted: bool,
     ) -> Result<(), CompileError>
-        requires { (m : _) (e : _) (w : _) → F.pre self.now.writes m e self.now.depth w }
+        requires may { (m : _) (e : _) (w : _) → Stands m.now → F.pre self.now.writes m e self.now.depth w }
+        requires does { (m : _) (e : _) (w : _) (r : _) (n : _) → F.post self.now.writes m e self.now.depth w r n
+            → OnOk r (IsWritten m.now n.now (m.now.code.operands + count w)) }
+        requires stands { Stands emitter.old }
+        ensures { OnOk result (IsWritten emitter.old emitter.new (emitter.old.code.operands + count is_wanted)) }
     {
         check_arms(emitter.alloc, arms)?;
-        let height = emitter.height;
         self.expr(emitter, subject, true)?;
-        let labels = emitter.arm_labels(arms)?;
+        let labels = emitter.arm_labels(arms, is_wanted)?;
         emitter.dispatch(place, arms, &labels, 0)?;
         for (index, arm) in arms.iter().enumerate() {
-            let label = labels.arm(index);
-            emitter.bind(label, height_with(height, true))?;
-            self.arm(emitter, arms, &labels, index)?;
-            emitter.put(arm.place, Op::Pop, 1, 0)?;
-            self.expr(emitter, &arm.body, is_wanted)?;
-            emitter.jump(arm.place, labels.end)?;
+            self.arm(emitter, arms, &labels, (index, arm), is_wanted)?;
         }
-        emitter.bind(labels.none, height_with(height, true))?;
+        emitter.code.bind(labels.none)?;
         emitter.put(place, Op::Pop, 1, 0)?;
         emitter.nothing(place, is_wanted)?;
-        emitter.bind(labels.end, height_with(height, is_wanted))
+        emitter.code.bind(labels.end)
+    }
+
+    /// The code of an arm, which leads to the end.
+    fn arm(
+        &self,
+        emitter: &mut Emitter,
+        arms: &[Arm],
+        labels: &Labels,
+        which: (usize, &Arm),
+        is_wanted: bool,
+    ) -> Result<(), CompileError>
+        requires may { (m : _) (e : _) (w : _) → Stands m.now → F.pre self.now.writes m e self.now.depth w }
+        requires does { (m : _) (e : _) (w : _) (r : _) (n : _) → F.post self.now.writes m e self.now.depth w r n
+            → OnOk r (IsWritten m.now n.now (m.now.code.operands + count w)) }
+        requires stands { Stands emitter.old }
+        requires room { emitter.old.code.level.floor + 1 ≤ emitter.old.code.operands }
+        requires arms { AreArms labels.now emitter.old.code.operands emitter.old.code }
+        requires within { labels.now.none + which.0 < labels.now.first }
+        requires pending { emitter.old.code.pending + which.0 ≡ labels.now.first + 1 }
+        requires end { slice_get emitter.old.code.labels labels.now.end
+            ≡ Some (spot (emitter.old.code.operands - 1 + count is_wanted) emitter.old.code.level) }
+        ensures operands { OnOk result (emitter.new.code.operands ≡ emitter.old.code.operands) }
+        ensures level { OnOk result (emitter.new.code.level ≡ emitter.old.code.level) }
+        ensures labels { OnOk result (Keeps emitter.old.code.labels emitter.new.code.labels) }
+        ensures outers { OnOk result (Keeps emitter.old.code.outers emitter.new.code.outers) }
+        ensures pending { OnOk result (emitter.new.code.pending + which.entry.0 ≡ labels.now.first) }
+        ensures around { OnOk result (emitter.new.scope.around ≡ emitter.old.scope.around) }
+    {
+        let (index, arm) = which;
+        let operands = emitter.code.operands();
+        emitter.code.bind(labels.arm(index))?;
+        self.condition(emitter, arms, labels, index)?;
+        emitter.put(arm.place, Op::Pop, 1, 0)?;
+        self.expr(emitter, &arm.body, is_wanted)?;
+        emitter.code.jump(arm.place, labels.end, operands)
     }
 
     /// The condition of an arm, if it has one, and the switch where it doesn't hold.
-    fn arm(
+    fn condition(
         &self,
         emitter: &mut Emitter,
         arms: &[Arm],
         labels: &Labels,
         index: usize,
     ) -> Result<(), CompileError>
-        requires { (m : _) (e : _) (w : _) → F.pre self.now.writes m e self.now.depth w }
+        requires may { (m : _) (e : _) (w : _) → Stands m.now → F.pre self.now.writes m e self.now.depth w }
+        requires does { (m : _) (e : _) (w : _) (r : _) (n : _) → F.post self.now.writes m e self.now.depth w r n
+            → OnOk r (IsWritten m.now n.now (m.now.code.operands + count w)) }
+        requires stands { Stands emitter.old }
+        requires room { emitter.old.code.level.floor + 1 ≤ emitter.old.code.operands }
+        requires arms { AreArms labels.now emitter.old.code.operands emitter.old.code }
+        ensures { OnOk result (IsWritten emitter.old emitter.new (emitter.old.code.operands)) }
     {
         let Some(arm) = arms.get(index) else {
             return Ok(());
@@ -52,11 +96,11 @@ impl<F: Fn(&mut Emitter, &Expr, usize, bool) -> Result<(), CompileError>> Coder<
         let Some(condition) = &arm.condition else {
             return Ok(());
         };
-        let body = emitter.label()?;
+        let operands = emitter.code.operands();
+        let body = emitter.code.label(operands)?;
         self.expr(emitter, condition, true)?;
-        emitter.jump_if_true(condition.place, body)?;
-        let height = emitter.height;
+        emitter.jump_where(condition.place, true, body)?;
         emitter.dispatch(condition.place, arms, labels, index.saturating_add(1))?;
-        emitter.bind(body, height)
+        emitter.code.bind(body)
     }
 }

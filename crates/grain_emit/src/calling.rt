@@ -1,7 +1,10 @@
 //! Calls, function pointers and closures.
+ghost use Rattle.std.specs.Prelude.{◌≡◌, ◌+◌, ◌-◌, ◌≤◌, OnOk};
+ghost use Rattle.grain_emit.specs.Rules.{IsWritten};
 
-use crate::emitter::{Emitter, argc_of};
+use crate::emitter::Emitter;
 use crate::scope::Local;
+use crate::writing::argc_of;
 use grain_code::{Op, Receiver};
 use grain_lexer::{CompileError, Place};
 use grain_syntax::{Expr, Form};
@@ -21,17 +24,6 @@ pub enum Callee {
     Evaluated,
     /// Any other function.
     Function,
-}
-
-impl Callee {
-    /// Whether this many arguments make it an operation, and no call of a function by its name.
-    pub fn takes(self, count: usize) -> bool {
-        match self {
-            Callee::Pointer | Callee::Shared => count == 1,
-            Callee::Called | Callee::Curried => count > 0,
-            Callee::Evaluated | Callee::Function => false,
-        }
-    }
 }
 
 /// What a call of this name is.
@@ -83,7 +75,10 @@ impl Emitter {
         name: u32,
         slot: u16,
         argc: u8,
-    ) -> Result<(), CompileError> {
+    ) -> Result<(), CompileError>
+        requires { self.old.code.level.floor + (argc - 1) ≤ self.old.code.operands }
+        ensures { OnOk result (IsWritten self.old self.new (self.old.code.operands - (argc - 1) + 1)) }
+    {
         let call = Op::CallRef {
             name,
             argc,
@@ -93,65 +88,79 @@ impl Emitter {
         self.put(place, call, usize::from(argc.saturating_sub(1)), 1)
     }
 
-    /// What is done with a function pointer and this many arguments above it.
-    pub fn point(&mut self, place: Place, callee: Callee, argc: u8) -> Result<(), CompileError> {
-        let op = match callee {
-            Callee::Pointer => Op::MakeFnPtr,
-            Callee::Shared => Op::IsShared,
-            Callee::Curried => Op::Curry(argc),
-            _ => Op::CallFnPtr {
-                argc,
-                is_method: false,
-                capture_parent_scope: false,
-                receiver: None,
-            },
+    /// Calls the function pointer below this many arguments.
+    pub fn call_pointer(&mut self, place: Place, argc: u8) -> Result<(), CompileError>
+        requires { self.old.code.level.floor + argc + 1 ≤ self.old.code.operands }
+        ensures { OnOk result (IsWritten self.old self.new (self.old.code.operands - argc)) }
+    {
+        let call = Op::CallFnPtr {
+            argc,
+            is_method: false,
+            capture_parent_scope: false,
+            receiver: None,
         };
-        self.put(place, op, usize::from(argc).saturating_add(1), 1)
+        self.put(place, call, usize::from(argc) + 1, 1)
+    }
+
+    /// Binds this many arguments to the function pointer below them.
+    pub fn curry(&mut self, place: Place, argc: u8) -> Result<(), CompileError>
+        requires { self.old.code.level.floor + argc + 1 ≤ self.old.code.operands }
+        ensures { OnOk result (IsWritten self.old self.new (self.old.code.operands - argc)) }
+    {
+        self.put(place, Op::Curry(argc), usize::from(argc) + 1, 1)
     }
 
     /// A pointer to a closure. Each variable that it captures becomes a shared value, which is bound to the pointer.
-    pub fn closure(&mut self, place: Place, index: usize) -> Result<(), CompileError> {
-        let captured = self.captured(index)?;
+    pub fn closure(&mut self, place: Place, index: usize) -> Result<(), CompileError>
+        requires { self.old.code.level.floor ≤ self.old.code.operands }
+        ensures { OnOk result (IsWritten self.old self.new (self.old.code.operands + 1)) }
+    {
         let Some(signature) = self.signatures.get(index) else {
-            return Ok(());
+            return self.put(place, Op::Unit, 0, 1);
         };
         let name = signature.name;
+        let (captured, slots) = self.captured(index)?;
         self.put(place, Op::MakeClosure(name), 0, 1)?;
-        for local in &captured {
-            self.capture(place, local.name)?;
-        }
-        let argc = argc_of(place, captured.len())?;
-        if argc > 0 {
-            self.put(place, Op::Curry(argc), captured.len().saturating_add(1), 1)?;
-        }
+        self.bind_captured(place, &slots)?;
         if let Some(signature) = self.signatures.get_mut(index) {
             signature.captured = captured;
         }
         Ok(())
     }
 
-    fn capture(&mut self, place: Place, name: u32) -> Result<(), CompileError> {
-        if let Some(found) = self.scope.find(name) {
-            self.put(place, Op::Share(found.slot), 0, 0)?;
-            self.put(place, Op::LoadShared(found.slot), 0, 1)?;
+    /// Shares the variables in these slots, and binds them to the pointer on top.
+    fn bind_captured(&mut self, place: Place, slots: &[u16]) -> Result<(), CompileError>
+        requires { self.old.code.level.floor + 1 ≤ self.old.code.operands }
+        ensures { OnOk result (IsWritten self.old self.new self.old.code.operands) }
+    {
+        let argc = argc_of(place, slots.len())?;
+        if argc == 0 {
+            return Ok(());
         }
-        Ok(())
+        for slot in slots {
+            self.put(place, Op::Share(*slot), 0, 0)?;
+            self.put(place, Op::LoadShared(*slot), 0, 1)?;
+        }
+        self.curry(place, argc)
     }
 
-    /// The variables around a closure that it uses and that are none of its parameters.
-    fn captured(&self, index: usize) -> Result<Vec<Local>, CompileError> {
+    /// The variables around a closure that it uses and that are none of its parameters, and their slots.
+    fn captured(&self, index: usize) -> Result<(Vec<Local>, Vec<u16>), CompileError> {
         let mut captured = Vec::new(self.alloc);
+        let mut slots = Vec::new(self.alloc);
         let Some(signature) = self.signatures.get(index) else {
-            return Ok(captured);
+            return Ok((captured, slots));
         };
         for name in &signature.uses {
             if !signature.has_param(*name)
                 && let Some(local) = self.local(*name)
+                && let Some(found) = self.scope.find(*name)
             {
                 captured.push(local)?;
+                slots.push(found.slot)?;
             }
         }
-        Ok(captured)
+        Ok((captured, slots))
     }
 
     /// The local variable that was declared last with this name.

@@ -1,7 +1,11 @@
-//! Chains, and assignments to variables.
+//! Chains.
+ghost use Rattle.std.specs.Prelude.{◌≡◌, ◌+◌, ◌-◌, ◌≤◌, OnOk};
+ghost use Rattle.grain_pools.specs.Chain.{consumed};
+ghost use Rattle.grain_emit.specs.Rules.{IsWritten};
 
-use crate::emitter::{Emitter, argc_of};
+use crate::emitter::Emitter;
 use crate::positions::position;
+use crate::writing::argc_of;
 use grain_code::Op;
 use grain_lexer::{CompileError, Operator, Place, Problem};
 use grain_pools::{Chain, Step, StepFlags};
@@ -25,19 +29,24 @@ impl Emitter {
     }
 
     /// Moves the value below this many operands above them.
-    pub fn raise(&mut self, place: Place, operands: u16) -> Result<(), CompileError> {
+    pub fn raise(&mut self, place: Place, operands: u16) -> Result<(), CompileError>
+        requires { self.old.code.level.floor + operands + 1 ≤ self.old.code.operands }
+        ensures { OnOk result (IsWritten self.old self.new self.old.code.operands) }
+    {
         let depth = argc_of(place, usize::from(operands))?;
-        for _turn in 0..operands {
-            self.put(place, Op::Rotate(depth), 0, 0)?;
+        let turned = usize::from(depth) + 1;
+        'turns: for _turn in 0..operands {
+            self.put(place, Op::Rotate(depth), turned, turned)?;
         }
         Ok(())
     }
 
-    /// A chain, which takes the operands down to this many.
-    pub fn chain(&mut self, place: Place, chain: Chain, height: usize) -> Result<(), CompileError> {
-        let takes = self.height.saturating_sub(height);
-        let index = self.pools.chain(chain)?;
-        self.put(place, Op::Chain(index), takes, 1)
+    /// A chain, which takes its operands, its root and what it assigns, and gives one.
+    pub fn chain(&mut self, place: Place, chain: Chain) -> Result<(), CompileError>
+        requires { self.old.code.level.floor + consumed chain ≤ self.old.code.operands }
+        ensures { OnOk result (IsWritten self.old self.new (self.old.code.operands - consumed chain + 1)) }
+    {
+        self.code.chain(place, chain)
     }
 
     /// The step to a property, with the names of the functions that read and write it.
@@ -46,7 +55,10 @@ impl Emitter {
         place: Place,
         name: u32,
         flags: StepFlags,
-    ) -> Result<Step, CompileError> {
+    ) -> Result<Step, CompileError>
+        ensures code { self.new.code ≡ self.old.code }
+        ensures scope { self.new.scope ≡ self.old.scope }
+    {
         Ok(Step::Property {
             name,
             getter: self.pools.joined("get$", name)?,
@@ -57,10 +69,10 @@ impl Emitter {
     }
 
     /// The index of the op-assignment of an operator.
-    pub fn op_assignment(
-        &mut self,
-        operator: Option<Operator>,
-    ) -> Result<Option<u32>, CompileError> {
+    pub fn op_assignment(&mut self, operator: Option<Operator>) -> Result<Option<u32>, CompileError>
+        ensures code { self.new.code ≡ self.old.code }
+        ensures scope { self.new.scope ≡ self.old.scope }
+    {
         match operator {
             Some(operator) => Ok(Some(self.pools.assign_op(operator)?)),
             None => Ok(None),
@@ -78,28 +90,6 @@ impl Emitter {
             },
             _ => Ok(()),
         }
-    }
-
-    /// Assigns the value on top to a variable.
-    pub fn assign(
-        &mut self,
-        target: Place,
-        place: Place,
-        name: u32,
-        op: Option<u32>,
-    ) -> Result<(), CompileError> {
-        let assign = match self.find(target, name)? {
-            Some(found) if found.is_const => {
-                return Err(CompileError::new(place, Problem::ConstantAssigned));
-            }
-            Some(found) => Op::AssignLocal {
-                slot: found.slot,
-                var_name: name,
-                op,
-            },
-            None => Op::AssignNamed { name, op },
-        };
-        self.put(place, assign, 1, 0)
     }
 }
 

@@ -1,16 +1,46 @@
-//! The code of a function begins; jumps are bound.
+//! The code of the top level and of functions begins.
+ghost use Rattle.std.specs.Prelude.{◌≡◌, [], None, OnOk, true};
+ghost use Rattle.grain_assembly.specs.Written.{fresh};
 
-use crate::emitter::Emitter;
+use crate::emitter::{Emitter, Signature};
+use crate::options::Options;
+use crate::pools::Pools;
 use crate::scope::{Local, Scope};
+use grain_assembly::Assembler;
 use grain_lexer::{CompileError, Place, Problem};
-use grain_pools::Chain;
-use std::mem;
+use grain_syntax::Literal;
+use std::alloc::Global;
+use std::collections::HashMap;
 
 impl Emitter {
+    /// No code yet.
+    pub fn new(
+        alloc: Global,
+        options: Options,
+        pools: Pools,
+        signatures: Vec<Signature>,
+        constants: HashMap<u32, Literal>,
+    ) -> Emitter
+        ensures around { result.scope.around ≡ None }
+        ensures code { result.code
+            ≡ record { operands = 0; level = fresh 0; labels = []; outers = []; pending = 0; fixed = true } }
+    {
+        Emitter {
+            alloc,
+            options,
+            code: Assembler::new(alloc),
+            pools,
+            scope: Scope::new(alloc),
+            signatures,
+            constants,
+        }
+    }
+
     /// The code of a function begins, whose variables are its parameters.
-    pub fn begin_function(&mut self, index: usize) -> Result<Place, CompileError> {
-        self.height = 0;
-        self.handlers = 0;
+    pub fn begin_function(&mut self, index: usize) -> Result<Place, CompileError>
+        ensures code { OnOk result (self.new.code ≡ self.old.code) }
+        ensures around { OnOk result (self.new.scope.around ≡ None) }
+    {
         let mut scope = Scope::new(self.alloc);
         let Some(signature) = self.signatures.get(index) else {
             return Err(CompileError::new(Place::NONE, Problem::Refused));
@@ -24,19 +54,5 @@ impl Emitter {
         let place = signature.place;
         self.scope = scope;
         Ok(place)
-    }
-
-    /// Replaces the labels of jumps by indices of operations.
-    pub fn bind_jumps(&mut self) {
-        let labels = mem::replace(&mut self.labels, Vec::new(self.alloc));
-        for op in self.ops.iter_mut() {
-            op.bind_target(&labels);
-        }
-        self.labels = labels;
-    }
-
-    /// Takes the chains out of the pools.
-    pub fn take_chains(&mut self) -> Vec<Chain> {
-        mem::replace(&mut self.pools.chains, Vec::new(self.alloc))
     }
 }

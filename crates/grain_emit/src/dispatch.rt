@@ -2,10 +2,15 @@
 //!
 //! An arm with a condition is followed by a switch among the arms after it, to which a condition leads that doesn't hold. The
 //! subject stays on the stack until an arm is taken.
+ghost use Rattle.std.specs.Prelude.{◌≡◌, ◌+◌, ◌-◌, ◌≤◌, IfOk, OnOk, Some, false, length, slice_get};
+ghost use Rattle.grain_assembly.specs.Written.{spot};
+ghost use Rattle.grain_emit.specs.Loops.{count};
+ghost use Rattle.grain_emit.specs.Rules.{IsWritten};
+ghost use Rattle.grain_emit.specs.Switches.{AreArms, AreWithin};
 
 use crate::emitter::Emitter;
 use crate::table::{Leading, Spanning, Table};
-use grain_code::Op;
+use crate::writing::height_with;
 use grain_lexer::{CompileError, Place, Problem, Thing};
 use grain_syntax::{Arm, Case, Literal};
 use std::alloc::Global;
@@ -14,28 +19,39 @@ use std::collections::HashSet;
 /// How many arms of a switch may have a condition, each of which has a table of its own.
 const MAX_CONDITIONS: usize = 255;
 
-/// Where the arms of a switch and its end are.
-#[derive(Drop)]
+/// Where the arms of a switch and its end are. The labels of the arms come after that where no arm is taken, the last arm's
+/// first, so that each is bound while it is the last one that is open.
+#[derive(Clone, Copy)]
 pub struct Labels {
-    /// Where each arm begins.
-    arms: Vec<u32>,
-    /// Where no arm is taken.
-    pub none: u32,
     /// The end.
     pub end: u32,
+    /// Where no arm is taken.
+    pub none: u32,
+    /// Where the first arm begins, or `none` where there is no arm.
+    pub first: u32,
 }
 
 impl Labels {
-    /// Where the arm with this place among the arms begins.
-    pub fn arm(&self, index: usize) -> u32 {
-        match self.arms.get(index) {
-            Some(label) => *label,
-            None => self.none,
+    /// Where the arm with this place among the arms begins; past the arms where no arm is taken.
+    pub fn arm(&self, index: usize) -> u32
+        requires { self.now.none ≤ self.now.first }
+        ensures least { self.now.none ≤ result }
+        ensures most { result ≤ self.now.first }
+        ensures value { index ≤ self.now.first - self.now.none → result + index ≡ self.now.first }
+    {
+        let count = self.first - self.none;
+        match u32::try_from(index) {
+            Ok(index) if index <= count => self.first - index,
+            _ => self.none,
         }
     }
 
     /// Where the arm with the case `_` begins, or where no arm is taken.
-    fn default_of(&self, arms: &[Arm]) -> u32 {
+    fn default_of(&self, arms: &[Arm]) -> u32
+        requires { self.now.none ≤ self.now.first }
+        ensures least { self.now.none ≤ result }
+        ensures most { result ≤ self.now.first }
+    {
         for (index, arm) in arms.iter().enumerate() {
             if has_any(&arm.cases) {
                 return self.arm(index);
@@ -43,6 +59,14 @@ impl Labels {
         }
         self.none
     }
+}
+
+/// The table of a switch in the making, with the labels to which it leads, and the values that lead somewhere already.
+#[derive(Drop)]
+struct Draft {
+    table: Table,
+    targets: Vec<u32>,
+    seen: HashSet<Literal>,
 }
 
 /// Whether one of the cases is `_`.
@@ -57,19 +81,27 @@ fn has_any(cases: &[Case]) -> bool {
 }
 
 impl Emitter {
-    /// A label for each arm, and two for the end.
-    pub fn arm_labels(&mut self, arms: &[Arm]) -> Result<Labels, CompileError> {
-        let none = self.label()?;
-        let end = self.label()?;
-        let mut labels = Vec::new(self.alloc);
+    /// A label for each arm, and two for the end. The subject is on top.
+    pub fn arm_labels(&mut self, arms: &[Arm], is_wanted: bool) -> Result<Labels, CompileError>
+        requires { self.old.code.level.floor + 1 ≤ self.old.code.operands }
+        ensures written { OnOk result (IsWritten self.old
+            (record self.new { code = record self.new.code { pending = self.old.code.pending } })
+            self.old.code.operands) }
+        ensures arms { IfOk result (λ l. AreArms l self.old.code.operands self.new.code) }
+        ensures count { IfOk result (λ l. l.first ≡ l.none + length arms.now) }
+        ensures pending { IfOk result (λ l. self.new.code.pending ≡ l.first + 1) }
+        ensures end { IfOk result (λ l. slice_get self.new.code.labels l.end
+            ≡ Some (spot (self.old.code.operands - 1 + count is_wanted) self.old.code.level)) }
+        ensures outer { IfOk result (λ l. slice_get self.new.code.outers l.end ≡ Some self.old.code.pending) }
+    {
+        let operands = self.code.operands();
+        let end = self.code.label(height_with(operands - 1, is_wanted))?;
+        let none = self.code.label(operands)?;
+        let mut first = none;
         for _arm in arms {
-            labels.push(self.label()?)?;
+            first = self.code.label(operands)?;
         }
-        Ok(Labels {
-            arms: labels,
-            none,
-            end,
-        })
+        Ok(Labels { end, none, first })
     }
 
     /// Leads the subject to the first arm from this one on that has it.
@@ -79,69 +111,107 @@ impl Emitter {
         arms: &[Arm],
         labels: &Labels,
         from: usize,
-    ) -> Result<(), CompileError> {
-        let mut table = Table {
-            values: Vec::new(self.alloc),
-            ranges: Vec::new(self.alloc),
-            default: labels.default_of(arms),
-        };
-        let mut seen = HashSet::new(self.alloc);
-        for (index, arm) in arms.iter().enumerate().skip(from) {
-            let label = labels.arm(index);
-            self.add_cases(&mut table, &mut seen, &arm.cases, label)?;
-        }
-        let default = table.default;
-        for arm in arms.iter().take(from) {
-            self.add_values(&mut table, &mut seen, &arm.cases, default)?;
-        }
-        let index = self.pools.switch(table)?;
-        self.put(place, Op::Switch(index), 0, 0)
+    ) -> Result<(), CompileError>
+        requires room { self.old.code.level.floor + 1 ≤ self.old.code.operands }
+        requires arms { AreArms labels.now self.old.code.operands self.old.code }
+        ensures written { OnOk result (IsWritten self.old self.new self.old.code.operands) }
+        ensures loose { OnOk result (self.new.code.fixed ≡ false) }
+    {
+        let draft = self.drafted(arms, labels, from)?;
+        let Draft {
+            table,
+            targets,
+            seen: _,
+        } = draft;
+        let _index = self.code.switch(place, targets)?;
+        self.pools.switches.push(table)?;
+        Ok(())
     }
 
-    /// Adds the cases of an arm, except for values that an earlier arm has.
-    fn add_cases(
-        &mut self,
-        table: &mut Table,
-        seen: &mut HashSet<Literal>,
-        cases: &[Case],
-        label: u32,
-    ) -> Result<(), CompileError> {
-        for case in cases {
-            match *case {
-                Case::Range(from, to, is_inclusive) => table.ranges.push(Spanning {
-                    from,
-                    to,
-                    is_inclusive,
-                    label,
-                })?,
-                Case::Any | Case::Value(_) => {}
+    /// The table of a switch among the arms from this one on. A value of an earlier arm leads to the case `_`.
+    fn drafted(&mut self, arms: &[Arm], labels: &Labels, from: usize) -> Result<Draft, CompileError>
+        requires { labels.now.none ≤ labels.now.first }
+        ensures within { IfOk result (λ d. AreWithin labels.now d.targets.items) }
+        ensures code { self.new.code ≡ self.old.code }
+        ensures scope { self.new.scope ≡ self.old.scope }
+    {
+        let default = labels.default_of(arms);
+        let mut draft = Draft {
+            table: Table {
+                values: Vec::new(self.alloc),
+                ranges: Vec::new(self.alloc),
+            },
+            targets: Vec::new(self.alloc),
+            seen: HashSet::new(self.alloc),
+        };
+        for (index, arm) in arms.iter().enumerate() {
+            if index >= from {
+                self.add_values(&mut draft, &arm.cases, labels, labels.arm(index))?;
             }
         }
-        self.add_values(table, seen, cases, label)
+        for arm in arms.iter().take(from) {
+            self.add_values(&mut draft, &arm.cases, labels, default)?;
+        }
+        for (index, arm) in arms.iter().enumerate() {
+            if index >= from {
+                add_ranges(&mut draft, &arm.cases, labels, labels.arm(index))?;
+            }
+        }
+        draft.targets.push(default)?;
+        Ok(draft)
     }
 
     /// Adds the values among the cases of an arm, except for those that were added before.
     fn add_values(
         &mut self,
-        table: &mut Table,
-        seen: &mut HashSet<Literal>,
+        draft: &mut Draft,
         cases: &[Case],
+        labels: &Labels,
         label: u32,
-    ) -> Result<(), CompileError> {
+    ) -> Result<(), CompileError>
+        requires within { AreWithin labels.now draft.old.targets.items }
+        requires least { labels.now.none ≤ label }
+        requires most { label ≤ labels.now.first }
+        ensures within { AreWithin labels.now draft.new.targets.items }
+        ensures code { self.new.code ≡ self.old.code }
+        ensures scope { self.new.scope ≡ self.old.scope }
+    {
         for case in cases {
             if let Case::Value(value) = *case
-                && seen.insert(value)?
+                && draft.seen.insert(value)?
             {
                 let constant = self.pools.constant(value)?;
-                table.values.push(Leading {
-                    value,
-                    constant,
-                    label,
-                })?;
+                draft.table.values.push(Leading { value, constant })?;
+                draft.targets.push(label)?;
             }
         }
         Ok(())
     }
+}
+
+/// Adds the ranges among the cases of an arm.
+fn add_ranges(
+    draft: &mut Draft,
+    cases: &[Case],
+    labels: &Labels,
+    label: u32,
+) -> Result<(), CompileError>
+    requires within { AreWithin labels.now draft.old.targets.items }
+    requires least { labels.now.none ≤ label }
+    requires most { label ≤ labels.now.first }
+    ensures { AreWithin labels.now draft.new.targets.items }
+{
+    for case in cases {
+        if let Case::Range(from, to, is_inclusive) = *case {
+            draft.table.ranges.push(Spanning {
+                from,
+                to,
+                is_inclusive,
+            })?;
+            draft.targets.push(label)?;
+        }
+    }
+    Ok(())
 }
 
 /// No value is repeated among the arms without a condition, nor the case `_`, and not too many arms have a condition.

@@ -1,8 +1,13 @@
 //! Handlers of faults, and faults that are raised again.
+ghost use Rattle.std.specs.Prelude.{◌≡◌, ◌+◌, ◌-◌, ◌≤◌, OnOk, Some, length, slice_get};
+ghost use Rattle.grain_rules.specs.Counts.{without_last};
+ghost use Rattle.grain_assembly.specs.Written.{SameLabels, spot, with_handler};
+ghost use Rattle.grain_emit.specs.Rules.{IsLeft, IsWritten, Stands};
 
 use crate::emitter::Emitter;
 use crate::scope::Local;
-use grain_code::Op;
+use crate::writing::check_index;
+use grain_code::{Op, Pool};
 use grain_lexer::{CompileError, Place};
 use grain_syntax::{Binding, Catch};
 
@@ -10,29 +15,30 @@ use grain_syntax::{Binding, Catch};
 const FAULT: &str = "fault$";
 
 impl Emitter {
-    /// Arms a handler, which binds the fault to this name.
-    pub fn arm(
-        &mut self,
-        place: Place,
-        target: u32,
-        name: Option<u32>,
-    ) -> Result<(), CompileError> {
-        self.handlers = self.handlers.saturating_add(1);
-        let arm = Op::PushHandler {
-            target,
-            catch_var: name,
-        };
-        self.put(place, arm, 0, 0)
-    }
-
-    /// Disarms the innermost handler.
-    pub fn disarm(&mut self, place: Place) -> Result<(), CompileError> {
-        self.handlers = self.handlers.saturating_sub(1);
-        self.put(place, Op::PopHandler, 0, 0)
+    /// Arms a handler, which catches at the label and binds the fault to this name.
+    pub fn arm(&mut self, place: Place, target: u32, name: Option<u32>) -> Result<(), CompileError>
+        requires stands { Stands self.old }
+        requires there { slice_get self.old.code.labels target
+            ≡ Some (spot self.old.code.operands (with_handler self.old.code.operands self.old.code.level)) }
+        ensures stands { OnOk result (Stands self.new) }
+        ensures operands { OnOk result (self.new.code.operands ≡ self.old.code.operands) }
+        ensures level { OnOk result (self.new.code.level
+            ≡ with_handler self.old.code.operands self.old.code.level) }
+        ensures labels { OnOk result (SameLabels self.old.code self.new.code) }
+        ensures scope { OnOk result (self.new.scope ≡ self.old.scope) }
+    {
+        if let Some(name) = name {
+            check_index(place, Pool::Names, name)?;
+        }
+        self.code.arm(place, target, name)?;
+        Ok(())
     }
 
     /// The name that the host binds a fault to. One that is raised again has a name of its own if the script gives it none.
-    pub fn fault_name(&mut self, catch: Catch) -> Result<Option<u32>, CompileError> {
+    pub fn fault_name(&mut self, catch: Catch) -> Result<Option<u32>, CompileError>
+        ensures code { self.new.code ≡ self.old.code }
+        ensures scope { self.new.scope ≡ self.old.scope }
+    {
         match catch.name {
             Some(binding) => Ok(Some(binding.name)),
             None if catch.rethrows => Ok(Some(self.pools.name(FAULT)?)),
@@ -40,16 +46,16 @@ impl Emitter {
         }
     }
 
-    /// The beginning of a catch: it cuts the variables, and the fault becomes one or two of them.
+    /// The fault that was caught becomes one or two variables.
     pub fn caught(
         &mut self,
         place: Place,
         catch: Catch,
         fault: Option<u32>,
-    ) -> Result<(), CompileError> {
-        let locals = self.scope.len();
-        self.unwind(place, locals)?;
-        self.put(place, Op::PopHandler, 0, 0)?;
+    ) -> Result<(), CompileError>
+        requires { self.old.code.level.floor ≤ self.old.code.operands }
+        ensures { OnOk result (IsWritten self.old self.new self.old.code.operands) }
+    {
         let Some(fault) = fault else {
             return Ok(());
         };
@@ -74,18 +80,31 @@ impl Emitter {
         place: Place,
         fault: u32,
         binding: Binding,
-    ) -> Result<u16, CompileError> {
+    ) -> Result<u16, CompileError>
+        requires { self.old.code.level.floor ≤ self.old.code.operands }
+        ensures { OnOk result (IsWritten self.old self.new self.old.code.operands) }
+    {
         self.put(place, Op::LoadNamed(fault), 0, 1)?;
         self.declare(place, Local::variable(binding))
     }
 
     /// `throw` without a value: it raises the fault again that the innermost `catch` has, and else throws unit.
-    pub fn throw_again(&mut self, place: Place) -> Result<(), CompileError> {
-        let op = match self.scope.caught {
-            Some(slot) => Op::LoadLocal(slot),
-            None => Op::Unit,
-        };
-        self.put(place, op, 0, 1)?;
-        self.put(place, Op::Throw, 1, 0)
+    pub fn throw_again(&mut self, place: Place) -> Result<(), CompileError>
+        requires { self.old.code.level.floor ≤ self.old.code.operands }
+        ensures { OnOk result (IsLeft self.old self.new) }
+    {
+        match self.scope.caught {
+            Some(slot) => self.put(place, Op::LoadLocal(slot), 0, 1)?,
+            None => self.put(place, Op::Unit, 0, 1)?,
+        }
+        self.throw(place)
+    }
+
+    /// Throws the value on top.
+    pub fn throw(&mut self, place: Place) -> Result<(), CompileError>
+        requires { self.old.code.level.floor + 1 ≤ self.old.code.operands }
+        ensures { OnOk result (IsLeft self.old self.new) }
+    {
+        self.code.stop(place, Op::Throw, 1, 0)
     }
 }

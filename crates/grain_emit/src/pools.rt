@@ -2,7 +2,6 @@
 
 use crate::table::Table;
 use grain_lexer::{CompileError, Names, Operator, Place, Problem, Thing};
-use grain_pools::Chain;
 use grain_syntax::Literal;
 use std::alloc::Global;
 use std::collections::HashMap;
@@ -23,8 +22,6 @@ pub struct Pools {
     pub tokens: Vec<Operator>,
     /// The operators of op-assignments.
     pub assign_ops: Vec<Operator>,
-    /// The chains.
-    pub chains: Vec<Chain>,
     /// The switches.
     pub switches: Vec<Table>,
 }
@@ -40,7 +37,6 @@ impl Pools {
             places: HashMap::new(alloc),
             tokens: Vec::new(alloc),
             assign_ops: Vec::new(alloc),
-            chains: Vec::new(alloc),
             switches: Vec::new(alloc),
         }
     }
@@ -77,20 +73,6 @@ impl Pools {
     /// The index of an op-assignment.
     pub fn assign_op(&mut self, operator: Operator) -> Result<u32, CompileError> {
         place_in(&mut self.assign_ops, operator)
-    }
-
-    /// The index of a new chain.
-    pub fn chain(&mut self, chain: Chain) -> Result<u32, CompileError> {
-        let place = index_of(self.chains.len(), Thing::Chains)?;
-        self.chains.push(chain)?;
-        Ok(place)
-    }
-
-    /// The index of a new switch.
-    pub fn switch(&mut self, table: Table) -> Result<u32, CompileError> {
-        let place = index_of(self.switches.len(), Thing::Switches)?;
-        self.switches.push(table)?;
-        Ok(place)
     }
 }
 

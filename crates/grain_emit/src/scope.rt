@@ -1,4 +1,5 @@
-//! Variables by their slots, and loops that can be left.
+//! Variables by their slots, and the loop that can be left.
+ghost use Rattle.std.specs.Prelude.{◌≡◌, None};
 
 use grain_lexer::{CompileError, Place, Problem, Thing};
 use grain_syntax::Binding;
@@ -46,7 +47,7 @@ pub struct Loop {
     pub is_wanted: bool,
     /// Whether it has an iterator.
     pub walks: bool,
-    /// How many operands are below it.
+    /// How many operands there are where its body begins.
     pub height: usize,
     /// How many handlers are armed around it.
     pub handlers: usize,
@@ -59,18 +60,20 @@ pub struct Loop {
 pub struct Scope {
     /// The local variables, by their slots.
     pub locals: Vec<Local>,
-    /// The loops around the code, the innermost last.
-    pub loops: Vec<Loop>,
+    /// The innermost loop around the code.
+    pub around: Option<Loop>,
     /// The slot of the fault that the innermost `catch` of this chunk can raise again.
     pub caught: Option<u16>,
 }
 
 impl Scope {
     /// No variables and no loops.
-    pub fn new(alloc: Global) -> Scope {
+    pub fn new(alloc: Global) -> Scope
+        ensures { result.around ≡ None }
+    {
         Scope {
             locals: Vec::new(alloc),
-            loops: Vec::new(alloc),
+            around: None,
             caught: None,
         }
     }
@@ -81,14 +84,18 @@ impl Scope {
     }
 
     /// A variable is declared, and has the next slot.
-    pub fn declare(&mut self, local: Local) -> Result<u16, CompileError> {
+    pub fn declare(&mut self, local: Local) -> Result<u16, CompileError>
+        ensures { self.new.around ≡ self.old.around }
+    {
         let slot = slot_of(self.locals.len())?;
         self.locals.push(local)?;
         Ok(slot)
     }
 
     /// The variables down to this many are dropped.
-    pub fn cut(&mut self, count: usize) {
+    pub fn cut(&mut self, count: usize)
+        ensures { self.new.around ≡ self.old.around }
+    {
         self.locals.truncate(count);
     }
 

@@ -9,8 +9,6 @@ pub struct Leading {
     pub value: Literal,
     /// The index of the constant.
     pub constant: u32,
-    /// The label to which it leads.
-    pub label: u32,
 }
 
 /// A range of integers that leads somewhere.
@@ -22,17 +20,14 @@ pub struct Spanning {
     pub to: i64,
     /// Whether `to` is one of them.
     pub is_inclusive: bool,
-    /// The label to which they lead.
-    pub label: u32,
 }
 
-/// A switch in the making. Targets are labels.
+/// A switch in the making. The code has its targets: those of the values in their order, those of the ranges in theirs, and that
+/// of all other subjects.
 #[derive(Drop)]
 pub struct Table {
     /// The values, without repeats.
     pub values: Vec<Leading>,
     /// The ranges, of which the first that has the subject counts.
     pub ranges: Vec<Spanning>,
-    /// The label of all other subjects.
-    pub default: u32,
 }

@@ -1,0 +1,12 @@
+use Rattle.std.proofs.Common.{rules}
+use Rattle.grain_compile.proofs.coder.Coder.do_loop.Goals as goal
+
+pub returns : goal.returns
+returns g c = record {
+  operands = search rules;
+  level = search rules;
+  labels = search rules;
+  outers = search rules;
+  pending = search rules;
+  loop = search rules;
+}

@@ -1,0 +1,5 @@
+use Rattle.grain_emit.specs.Rules.{IsWritten}
+use Rattle.grain_compile.proofs.coder.Coder.statements.Given as goal
+
+abbrev pub invariant-loop-statement : goal.invariant-loop-statement
+invariant-loop-statement g l = IsWritten l.initial.emitter l.emitter l.initial.emitter.code.operands

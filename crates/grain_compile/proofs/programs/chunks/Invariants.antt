@@ -1,0 +1,5 @@
+use Rattle.grain_compile.specs.Chunks.{IsBegun}
+use Rattle.grain_compile.proofs.programs.chunks.Given as goal
+
+abbrev pub invariant-loop-turn : goal.invariant-loop-turn
+invariant-loop-turn l = IsBegun l.emitter.code

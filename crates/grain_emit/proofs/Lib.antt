@@ -1,0 +1,2 @@
+pub mod ArmLabels
+pub mod LoopFacts

@@ -1,0 +1,8 @@
+use Rattle.std.proofs.Common.{◌≡◌, None}
+use Rattle.grain_emit.proofs.emitter.Emitter.begin_function.Given as goal
+
+abbrev pub invariant-loop-local : goal.invariant-loop-local
+invariant-loop-local l = l.scope.around ≡ None
+
+abbrev pub invariant-loop-param : goal.invariant-loop-param
+invariant-loop-param l = l.scope.around ≡ None
