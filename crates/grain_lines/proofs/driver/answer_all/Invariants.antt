@@ -1,6 +1,6 @@
 use Rattle.std.proofs.Common.{◌≡◌, ◌<◌, length}
 use Rattle.grain_lines.proofs.RunLaws.{Reading}
-use Rattle.grain_lines.proofs.driver.run.Given as goal
+use Rattle.grain_lines.proofs.driver.answer_all.Given as goal
 
 abbrev pub invariant-reading : goal.invariant-reading
 invariant-reading g l = record {
