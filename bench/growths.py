@@ -4,8 +4,8 @@
     python3 bench/growths.py [--crate NAME] [--jobs N] [--last N]
 
 The tests of growths stand in bench/growths/CRATE of tests, apart from the crates, since the gate would prove each of them and
-run it where nothing is refused. A file MODULE.tests there is a module of that crate: it is put into a scratch copy, so that
-nothing of the work tree changes, and its parent names it.
+run it where nothing is refused. A file MODULE.tests there is a module of that crate, or of one that stands there alone: it is put
+into a scratch copy, so that nothing of the work tree changes, and its parent names it.
 
 In the copy's folder of each crate that has such tests it runs `rt try --test --fail-alloc N`, for N from 1 on, and reads the
 tests whose names end in _growth_fails. In such a run the Nth growth of each test is refused, and the test says which one that was:
@@ -51,6 +51,9 @@ TESTS = {
     "grain_machine": "grain_machine_tests",
     "grain_lines": "grain_tests",
 }
+
+# The crates of tests that stand there alone, and what each uses.
+OWN = {"grain_file_tests": "grain_file grain"}
 
 # The call of each test.
 CALLS = {
@@ -145,7 +148,14 @@ def kind_of(lines):
 def scratch_copy(room):
     """The crates as the work tree has them, each of tests with its modules of growths."""
     scratch.copy_crates(room)
-    for module in (TOP / "bench" / "growths").glob("*/**/*.tests"):
+    for crate, used in OWN.items():
+        source = room / "crates" / crate / "src"
+        source.mkdir(parents=True)
+        (source / "lib.rt").write_text("//! Tests of growths.\n#![tactic(auto)]\n")
+        with (room / "crates.txt").open("a") as listed:
+            listed.write(f"{crate}: {used}\n")
+    modules = (TOP / "bench" / "growths").glob("*/**/*.tests")
+    for module in sorted(modules, key=lambda it: len(it.parts)):
         crate, *place = module.relative_to(TOP / "bench" / "growths").with_suffix(".rt").parts
         source = room / "crates" / crate / "src"
         source.joinpath(*place).parent.mkdir(exist_ok=True)

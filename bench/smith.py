@@ -87,10 +87,14 @@ def check_accepted(tool, folder, count):
 
 def check_repeats(tool, folder, files):
     """The same seed gives the same bytes, and its text gives them back."""
-    for seed, file in enumerate(files[:100]):
+    for seed, file in enumerate(files[:300]):
         data = pathlib.Path(file).read_bytes()
         expect(call(tool, "smith", "--seed", str(seed)) == data, f"seed {seed} gives two programs")
         expect(call(tool, "parse", "-", given=call(tool, "print", file)) == data, f"seed {seed} doesn't come back from its text")
+    for size in ("1", "2", "1000"):
+        first = call(tool, "smith", "--seed", "7", "--size", size)
+        expect(call(tool, "smith", "--seed", "7", "--size", size) == first, f"size {size} gives two programs")
+        call(tool, "validate", "-", given=first)
     small = call(tool, "smith", "--seed", "7", "--size", "0")
     large = call(tool, "smith", "--seed", "7", "--size", "5000")
     expect(len(small) < len(large) and verdict(large) == "file", "--size changes nothing")

@@ -17,6 +17,10 @@ import sys
 import tempfile
 import xml.etree.ElementTree
 
+import file_reader
+import refusals
+from random_programs import Random
+
 TOP = pathlib.Path(__file__).resolve().parent.parent
 COMMANDS = ("run", "check", "compile", "validate", "print", "parse", "list", "flow", "dump", "smith", "strip", "attach", "addr2line")
 SNAPSHOTS = TOP / "bench/tool.txt"
@@ -25,9 +29,6 @@ SECTIONS = [
     "header", "capabilities", "id", "code", "main chunk", "functions", "names", "constants", "operators", "op-assignments",
     "chains", "switches", "source name", "positions",
 ]
-# Tag and field letters of each instruction, by docs/FORMAT.md.
-ROW = re.compile(r"^\| ([0-9a-f]{2}) \| [A-Z_]+ \| ([a-z ]*) \| \d \|", re.M)
-WIDTH = {letter: 2 for letter in "cntofhwys"} | {"a": 1, "j": 4}
 
 
 def expect(is_so, what):
@@ -63,142 +64,6 @@ class Tool:
 
     def read(self, name):
         return (pathlib.Path(self.folder) / name).read_bytes()
-
-
-def number(value):
-    """The shortest spelling of a number."""
-    out = bytearray()
-    while value > 127:
-        out.append(value & 127 | 128)
-        value >>= 7
-    return bytes([*out, value])
-
-
-def signed(value):
-    return number(2 * value if value >= 0 else -2 * value - 1)
-
-
-def text(value):
-    return number(len(value.encode())) + value.encode()
-
-
-def listed(items):
-    return number(len(items)) + b"".join(items)
-
-
-class Random:
-    """Random program files, by docs/FORMAT.md, "Program files"."""
-
-    def __init__(self, seed):
-        self.random = random.Random(seed)
-        self.rows = [(int(tag, 16), fields.split()) for tag, fields in ROW.findall((TOP / "docs/FORMAT.md").read_text())]
-
-    def below(self, limit):
-        return self.random.randrange(limit)
-
-    def small(self, limit=1 << 16):
-        return self.random.choice([0, 1, 2, limit - 1, self.below(limit)])
-
-    def word(self):
-        return "".join(self.random.choices("ab_\"\\'\n\t;# é\U0001f600\x00\x7f$", k=self.below(5)))
-
-    def option(self, made):
-        return b"\1" + made() if self.below(2) else b"\0"
-
-    def many(self, made, most=3):
-        return listed([made() for _ in range(self.below(most + 1))])
-
-    def integer(self):
-        return self.random.choice([0, 1, -1, -(1 << 63), (1 << 63) - 1, self.below(1 << 20)])
-
-    def value(self, depth=3):
-        kind = self.below(13 if depth else 8)
-        if kind < 3:
-            return bytes([kind])
-        if kind == 3:
-            return b"\3" + signed(self.integer())
-        if kind == 4:
-            return b"\4" + number(ord(self.random.choice("a'\\\né\U0001f600\x00")))
-        if kind == 5:
-            return b"\5" + text(self.word())
-        if kind in (6, 7):
-            return bytes([kind]) + signed(self.integer()) + signed(self.integer())
-        if kind == 8:
-            return b"\x08" + self.many(lambda: self.value(depth - 1))
-        if kind == 9:
-            data = self.random.randbytes(self.below(5))
-            return b"\x09" + number(len(data)) + data
-        if kind == 10:
-            keys = sorted({self.word() for _ in range(self.below(4))}, key=str.encode)
-            return b"\x0a" + listed([text(key) + self.value(depth - 1) for key in keys])
-        if kind == 11:
-            return b"\x0b" + text(self.word()) + self.many(lambda: self.value(depth - 1))
-        return b"\x0c" + self.value(depth - 1)
-
-    def token(self):
-        tag = self.below(40)
-        return bytes([tag]) + (text(self.word()) if tag == 39 else b"")
-
-    def position(self):
-        return b"\1" + number(1 + self.small((1 << 16) - 1)) + number(self.small()) if self.below(2) else b"\0"
-
-    def chunk(self, length):
-        return number(self.small(length + 2)) + number(self.small(1 << 32)) + number(self.small())
-
-    def index(self):
-        return number(self.small(1 << 32))
-
-    def root(self):
-        return self.random.choice([
-            lambda: b"\0" + number(self.small()) + self.index(),
-            lambda: b"\1" + self.index() + self.position(),
-            lambda: b"\2" + self.position(),
-            lambda: b"\3",
-        ])()
-
-    def step(self):
-        flags = bytes([self.below(256)])
-        return self.random.choice([
-            lambda: b"\0" + number(self.small()) + flags + self.position() + self.position(),
-            lambda: b"\1" + self.index() + self.index() + self.index() + flags + self.position(),
-            lambda: b"\2" + self.index() + bytes([self.below(256)]) + number(self.small()) + flags + self.position(),
-        ])()
-
-    def chain(self):
-        tail = b"\1" + self.option(self.index) if self.below(2) else b"\0"
-        return self.root() + self.many(self.step) + tail + number(self.small())
-
-    def switch(self, constants):
-        chosen = sorted(self.random.sample(range(constants), self.below(constants + 1))) if constants else []
-        cases = [number(constant) + number(self.small(1 << 32)) for constant in chosen]
-        ranges = self.many(lambda: signed(self.integer()) + signed(self.integer()) + bytes([self.below(2)]) + self.index())
-        return listed(cases) + ranges + self.index()
-
-    def code(self):
-        code = b""
-        for _ in range(self.below(12)):
-            tag, fields = self.random.choice(self.rows)
-            code += bytes([tag])
-            for field in fields:
-                code += self.below(1 << 8 * WIDTH[field] if field != "j" else 40).to_bytes(WIDTH[field], "little")
-        return code + self.random.randbytes(self.below(3)) * self.below(2)
-
-    def program(self):
-        code = self.code()
-        function = lambda: self.index() + self.many(self.index) + bytes([self.below(2)]) + self.option(self.index) + self.chunk(len(code))
-        # Constants that are all different, as the cases of a switch have to be.
-        constants = [b"\3" + signed(at) for at in range(self.below(4))]
-        others = [self.value() for _ in range(self.below(4))]
-        parts = [
-            b"\0grn\1\0", number(self.small()), number(self.small(1 << 64)), number(self.small(1 << 64)),
-            number(len(code)), code, self.chunk(len(code)), self.many(function),
-            self.many(lambda: text(self.word())), listed(constants + others), self.many(self.token),
-            self.many(lambda: self.token() + self.index() + self.token() + self.index()),
-            self.many(self.chain), self.many(lambda: self.switch(len(constants))),
-            self.option(lambda: text(self.word())),
-            self.option(lambda: listed([self.position() for _ in range(self.random.choice([len(code), self.below(9)]))])),
-        ]
-        return b"".join(parts)
 
 
 def check_help(tool):
@@ -309,6 +174,8 @@ def check_scripts(tool):
 
 
 def check_refusals(tool):
+    for unlike in refusals.wrong(tool):
+        expect(False, unlike)
     said = tool.refused("parse", "-", given=b"return\n  halt\n")
     expect("(line 2, column 3)" in said and "  2 |   halt" in said, f"a wrong line is refused by {said!r}")
     broken = b'.chunks\nmain 0 5 stack 2\n.code\ncall "+" 2\nreturn\n'
@@ -366,6 +233,107 @@ def check_dumps(tool):
     for _ in range(40):
         tool.write("random.grain", made.program())
         dump_of(tool, "random.grain", SECTIONS)
+
+
+def pages_files():
+    """The files whose bytes docs/FORMAT.md has: two programs and a sidecar."""
+    lines = re.findall(r"^    ((?:[0-9a-f]{2}[0-9a-f ]*?)(?=  |$).*)$", (TOP / "docs/FORMAT.md").read_text(), re.M)
+    files = []
+    for line in lines:
+        digits = line.split("  ")[0]
+        if digits.startswith("0067726e"):
+            files.append("")
+        if files:
+            files[-1] += digits
+    return [bytes.fromhex(digits) for digits in files]
+
+
+# A program with something in each list, by docs/FORMAT.md: all roots, steps and tails, and the greatest numbers.
+FULL = bytes.fromhex(
+    "0067726e0100 09" + 2 * "ffffffffffffffffff01" + "0113 0001ac02"
+    # A private function with two parameters for a receiver, names, -64, ^= and => of the host, and an op-assignment.
+    "01 01 0200ac02 01 0101 000102  02 00 02c3a9  01 037f  02 26 27023d3e  01 1c01 00c801"
+    # Four chains, of which the first has three steps.
+    "04 01f0a204010205 03 00ac020100010200 010102030100 020405060100 010109 9003"
+    "00070800010000 0200000000 03000000"
+    # A switch with a range, the name of the source, and a position.
+    "01 00 01090a018001 01  01 06612e72686169  01 01 01ffff0300"
+)
+
+
+def ends_of(dump):
+    """Where each section of a file ends, by its dump."""
+    return [section["offset"] + section["size"] for section in dump.values()]
+
+
+def check_page(tool):
+    """What docs/FORMAT.md shows of files is so."""
+    first, second, sidecar = pages_files()
+    tool.write("first.grain", first), tool.write("second.grain", second), tool.write("page.pos", sidecar)
+    found = dump_of(tool, "first.grain", SECTIONS)
+    expect(ends_of(found) == [6, 7, 9, 14, 17, 18, 23, 26, 28, 29, 30, 31, 32, 33], f"the first file ends at {ends_of(found)}")
+    texts = {name: [item["text"] for item in section["items"]] for name, section in found.items()}
+    expect(texts["names"][1:] == ['"len"'] and texts["constants"][1:] == ["21"], f"the first file has {texts}")
+    expect(tool.done("validate", "-v", "first.grain", "second.grain") == (
+        b"first.grain: accepted\n        1 operands  main\nsecond.grain: accepted\n        2 operands  main\n"
+    ), "the files aren't accepted with their numbers")
+    expect(tool.done("addr2line", "second.grain", "0", "3") == b"main at 1:1\nmain at 1:8\n", "the second file has other places")
+    printed = tool.done("print", "second.grain").decode()
+    expect('.source "a.rhai"' in printed and len(re.findall(r"(?m)^ *case 5 ", printed)) == 1, f"the second file is printed as {printed}")
+    maps = first[:6] + b"\x08" + first[7:]
+    tool.done("validate", "-", given=maps)
+    said = tool.refused("validate", "--caps", "ARRAY", "-", given=maps)
+    expect(said == "error: standard input: the host lacks capabilities Caps(8)\n", f"capabilities are refused by {said!r}")
+    said = tool.refused("validate", "-", given=first[:11] + b"\x01" + first[12:])
+    expect(said.startswith("error: standard input: bad-index at=0 index=1 what=constant"), f"a missing constant is refused by {said!r}")
+
+
+def check_sidecar(tool):
+    """The sidecar of docs/FORMAT.md is that of a program with this position."""
+    sidecar = tool.read("page.pos")
+    expect(ends_of(dump_of(tool, "page.pos", ["header", "id", "address table", "chain stream"])) == [6, 8, 13, 15], "a sidecar ends elsewhere")
+    tool.write("placed.grain", tool.done("parse", "-", given=b".id 7\n.code\n  unit\n  return @1:5\n"))
+    tool.done("strip", "placed.grain", "--sidecar", "stripped.pos", "-o", "bare.grain")
+    expect(tool.read("stripped.pos") == sidecar, "a sidecar is written otherwise than docs/FORMAT.md has it")
+    tool.done("attach", "bare.grain", "page.pos", "-o", "whole.grain")
+    expect(tool.read("whole.grain") == tool.read("placed.grain"), "a sidecar isn't read")
+    said = tool.refused("attach", "bare.grain", "first.grain", "-o", "x")
+    expect("a file of another kind (the header, byte 5)" in said, f"a program is no sidecar: {said!r}")
+    said = tool.refused("dump", "-", given=sidecar[:14])
+    expect("the file ends within a field (the chain stream, byte 14)" in said, f"a sidecar that is cut off: {said!r}")
+
+
+def parts_of(dump):
+    """The part of each byte of a file, as refusals name it: an item of a list, or else the section."""
+    parts = []
+    for name, section in dump.items():
+        pieces = section["items"] if name != "code" else []
+        parts += [f"the {name}"] * (pieces[0]["size"] if pieces else section["size"])
+        for number, piece in enumerate(pieces[1:]):
+            one = name.removesuffix("es") if name == "switches" else name.removesuffix("s")
+            parts += [f"{one} {number}"] * piece["size"]
+    return parts
+
+
+def check_changes(tool):
+    """Fronts of files are refused at their end, in the part that is cut off. With a byte changed each is refused as a model of
+    docs/FORMAT.md says, or comes back from its assembly text."""
+    first, second, _ = pages_files()
+    made = random.Random(5)
+    for content in (first, second, FULL):
+        parts = parts_of(dump_of(tool, tool.write("front.grain", content), SECTIONS))
+        for end, part in enumerate(parts):
+            at, _ = file_reader.verdict(content[:end]).split()
+            said = tool.refused("print", "-", given=content[:end])
+            expect(said == f"error: standard input: the file ends within a field ({part}, byte {at})\n", f"{content[:end].hex()} is refused by {said!r}")
+            changed = content[:end] + bytes([made.randrange(256)]) + content[end + 1:]
+            wanted = file_reader.verdict(changed)
+            status, text_, errors = tool.run("print", "-", given=changed)
+            if wanted == "file":
+                expect(status == 0 and tool.done("parse", "-", given=text_) == changed, f"{changed.hex()} doesn't come back")
+            else:
+                at, fault = wanted.split()
+                expect(status == 1 and errors.decode().endswith(f", byte {at})\n") and refusals.SENTENCES[fault] in errors.decode(), f"{changed.hex()} is refused by {errors!r}, and not by {wanted}")
 
 
 # A loop in a try, a switch and a function.
@@ -469,6 +437,25 @@ def check_documents(tool):
     expect(answers == [b"55", b"no luck", b"30"], f"the programs of docs/ASSEMBLY.md give {answers}")
 
 
+def check_texts(tool):
+    """Each text of bench/assembly makes a program that its printed text makes too, and that of the try is printed so."""
+    for path in sorted((TOP / "bench/assembly").glob("*.gasm")):
+        file = tool.write("text.grain", tool.done("parse", "-", given=path.read_bytes()))
+        printed = tool.done("print", file)
+        expect(tool.done("parse", "-", given=printed) == tool.read(file), f"{path.name} doesn't come back")
+        wanted = path.with_suffix(".printed")
+        expect(not wanted.exists() or printed == wanted.read_bytes(), f"{path.name} is printed as {printed.decode()}")
+
+
+def check_items(tool):
+    """Each instruction of bench/assembly/items.gasm is listed with the text that docs/LISTINGS.md says."""
+    tool.write("items.grain", tool.done("parse", "-", given=(TOP / "bench/assembly/items.gasm").read_bytes()))
+    texts = [item["instruction"].rstrip() for item in items_of(tool, "items.grain", "main")]
+    wanted = (TOP / "bench/assembly/items.texts").read_text().splitlines()
+    for found, text_ in zip(texts + [""], wanted + [""]):
+        expect(found == text_, f"`{found}` is listed, and not `{text_}`")
+
+
 def check_round_trips(tool, count):
     made = Random(11)
     for at in range(count):
@@ -505,7 +492,7 @@ def main():
         if given.write:
             SNAPSHOTS.write_text(snapshots(tool))
             return
-        for check in (check_help, check_snapshots, check_missing, check_programs, check_scripts, check_refusals, check_listings, check_flows, check_dumps, check_documents, check_large):
+        for check in (check_help, check_snapshots, check_missing, check_programs, check_scripts, check_refusals, check_listings, check_flows, check_dumps, check_page, check_sidecar, check_changes, check_texts, check_items, check_documents, check_large):
             check(tool)
         check_round_trips(tool, given.programs)
     print("grain: all well")

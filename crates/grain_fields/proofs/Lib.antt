@@ -2,6 +2,7 @@ pub mod KeyOrder
 pub mod EntriesLoop
 pub mod Groups
 pub mod FieldLoop
+pub mod PutLoop
 pub mod MapEnd
 pub mod NameLists
 pub mod PointerForm

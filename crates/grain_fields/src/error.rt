@@ -3,66 +3,83 @@ ghost use Rattle.std.specs.Prelude.{◌≡◌};
 ghost use Rattle.grain_fields.specs.declared.error.Stop.TheVariants.{OutOfMemory};
 
 use std::alloc::{AllocError, AllocFailed};
+use std::{error, fmt};
 use thiserror::Error;
 
 /// What is wrong with the bytes, at the first place where something is.
-#[derive(Clone, Copy, Debug, PartialEq, Eq, Error)]
+#[derive(Clone, Copy, Debug, PartialEq, Eq)]
 pub enum Fault {
     /// The bytes don't begin as a file does.
-    #[error("not a Grain file")]
     Magic,
     /// The file is of a version that this reader doesn't know.
-    #[error("unknown version")]
     Version,
     /// The file is of another kind.
-    #[error("a file of another kind")]
     Kind,
     /// The bytes end within a field.
-    #[error("the file ends within a field")]
     Truncated,
     /// A number doesn't fit.
-    #[error("number too large")]
     TooWide,
     /// A number has a shorter spelling.
-    #[error("number with a shorter spelling")]
     NotShortest,
     /// A text is not UTF-8.
-    #[error("text is not UTF-8")]
     NotText,
     /// A number is no Unicode scalar value.
-    #[error("not a character")]
     NotCharacter,
     /// A byte is no tag.
-    #[error("unknown tag")]
     UnknownTag,
     /// A key doesn't come after the one before it.
-    #[error("keys out of order")]
     KeyOrder,
     /// Values are nested deeper than the limit.
-    #[error("values nested too deep")]
     TooDeep,
     /// The names have more than 4294967295 bytes.
-    #[error("names too long")]
     NamesTooLong,
     /// The constants of the cases of a switch don't strictly ascend.
-    #[error("cases out of order")]
     CaseOrder,
     /// A switch has a case whose constant isn't there.
-    #[error("case without its constant")]
     NoConstant,
     /// A switch has more cases than the limit.
-    #[error("too many cases")]
     TooManyCases,
     /// Two cases of a switch are of the same value.
-    #[error("cases of the same value")]
     SameCase,
     /// A position has line 0.
-    #[error("position without a line")]
     NoLine,
     /// Bytes follow the last field.
-    #[error("bytes after the end")]
     Trailing,
 }
+
+impl Fault {
+    /// What is wrong, in a few words.
+    fn sentence(self) -> &'static str {
+        match self {
+            Fault::Magic => "not a Grain file",
+            Fault::Version => "unknown version",
+            Fault::Kind => "a file of another kind",
+            Fault::Truncated => "the file ends within a field",
+            Fault::TooWide => "number too large",
+            Fault::NotShortest => "number with a shorter spelling",
+            Fault::NotText => "text is not UTF-8",
+            Fault::NotCharacter => "not a character",
+            Fault::UnknownTag => "unknown tag",
+            Fault::KeyOrder => "keys out of order",
+            Fault::TooDeep => "values nested too deep",
+            Fault::NamesTooLong => "names too long",
+            Fault::CaseOrder => "cases out of order",
+            Fault::NoConstant => "case without its constant",
+            Fault::TooManyCases => "too many cases",
+            Fault::SameCase => "cases of the same value",
+            Fault::NoLine => "position without a line",
+            Fault::Trailing => "bytes after the end",
+        }
+    }
+}
+
+impl fmt::Display for Fault {
+    fn fmt<W: fmt::Write>(&self, f: &mut fmt::Formatter<W>) -> fmt::Result {
+        f.write_str(self.sentence())
+    }
+}
+
+impl error::Error for Fault {}
 
 /// Why reading stopped.
 #[derive(Clone, Copy, Debug, PartialEq, Eq)]

@@ -2,7 +2,7 @@
 
 use crate::edges::{Edge, EdgeKind};
 use crate::graph::{Graph, Node, Standing};
-use std::alloc::AllocError;
+use std::alloc::{AllocError, Global};
 
 /// Appends text in quotes, in which a quote and a backslash are escaped.
 fn push_quoted(piece: &str, out: &mut String) -> Result<(), AllocError> {
@@ -26,22 +26,41 @@ fn style_of(standing: Standing) -> &'static str {
     }
 }
 
-/// Appends a node: its address, its text and the state there.
-fn push_node(node: &Node, out: &mut String) -> Result<(), AllocError> {
-    let alloc = *out.allocator();
+/// What a node says: its address, its text and the state there.
+fn node_text(alloc: Global, node: &Node) -> Result<String, AllocError> {
     let at = node.at;
     let label = &node.label;
-    let text = if node.counts.is_empty() {
-        format!(in alloc; "{at}  {label}")?
-    } else {
-        let counts = &node.counts;
-        let bases = &node.bases;
-        format!(in alloc; "{at}  {label}  ({counts}; {bases})")?
-    };
+    if node.counts.is_empty() {
+        return format!(in alloc; "{at}  {label}");
+    }
+    let counts = &node.counts;
+    let bases = &node.bases;
+    format!(in alloc; "{at}  {label}  ({counts}; {bases})")
+}
+
+/// Appends what a node says.
+fn push_label(node: &Node, out: &mut String) -> Result<(), AllocError> {
+    let text = node_text(*out.allocator(), node)?;
+    push_quoted(&text, out)
+}
+
+/// Appends a node.
+fn push_node(node: &Node, out: &mut String) -> Result<(), AllocError> {
+    let at = node.at;
     write!(out, "  n{at} [label=")?;
-    push_quoted(&text, out)?;
-    out.push_str(style_of(node.standing))?;
-    out.push_str("];\n")
+    push_label(node, out)?;
+    let style = style_of(node.standing);
+    write!(out, "{style}];\n")
+}
+
+/// How an edge is drawn other than usual.
+fn edge_style(edge: &Edge) -> &'static str {
+    match (edge.is_on_path, edge.kind) {
+        (true, EdgeKind::Catches) => " [color=red, style=dashed]",
+        (true, EdgeKind::Falls | EdgeKind::Jumps) => " [color=red]",
+        (false, EdgeKind::Catches) => " [color=blue, style=dashed]",
+        (false, EdgeKind::Falls | EdgeKind::Jumps) => "",
+    }
 }
 
 /// Appends an edge.
@@ -49,16 +68,16 @@ fn push_edge(nodes: &[Node], edge: &Edge, out: &mut String) -> Result<(), AllocE
     let (Some(from), Some(to)) = (nodes.get(edge.from), nodes.get(edge.to)) else {
         return Ok(());
     };
-    let start = from.at;
-    let end = to.at;
-    write!(out, "  n{start} -> n{end}")?;
-    out.push_str(match (edge.is_on_path, edge.kind) {
-        (true, EdgeKind::Catches) => " [color=red, style=dashed]",
-        (true, EdgeKind::Falls | EdgeKind::Jumps) => " [color=red]",
-        (false, EdgeKind::Catches) => " [color=blue, style=dashed]",
-        (false, EdgeKind::Falls | EdgeKind::Jumps) => "",
-    })?;
-    out.push_str(";\n")
+    let (start, end, style) = (from.at, to.at, edge_style(edge));
+    write!(out, "  n{start} -> n{end}{style};\n")
+}
+
+/// Appends what is wrong with the code, as what stands below the picture.
+fn push_wrong(graph: &Graph, out: &mut String) -> Result<(), AllocError> {
+    let wrong = &graph.wrong;
+    let rule = graph.rule;
+    let said = format!(in *out.allocator(); "{wrong} The rule: {rule}")?;
+    push_quoted(&said, out)
 }
 
 /// Appends the graph as text for Graphviz. Its nodes are called `n` and their address. It takes time by the length of the text.
@@ -71,10 +90,7 @@ pub fn write_dot(graph: &Graph, out: &mut String) -> Result<(), AllocError> {
     out.push_str(" {\n  node [shape=box, fontname=monospace];\n")?;
     if graph.is_refused() {
         out.push_str("  labelloc=b;\n  fontcolor=red;\n  label=")?;
-        let wrong = &graph.wrong;
-        let rule = graph.rule;
-        let said = format!(in *out.allocator(); "{wrong} The rule: {rule}")?;
-        push_quoted(&said, out)?;
+        push_wrong(graph, out)?;
         out.push_str(";\n")?;
     }
     for node in &graph.nodes {

@@ -176,22 +176,29 @@ fn node_of(
     })
 }
 
-/// The title of a picture.
-fn title_of(
-    alloc: Global,
-    program: &Program,
-    listing: &ProgramListing,
-    place: usize,
-) -> Result<String, AllocError> {
+/// What a chunk is called in a title.
+fn short_name(alloc: Global, program: &Program, place: usize) -> Result<String, AllocError> {
     let mut name = String::new(alloc);
     push_shown(name_of(program, place), &mut name)?;
-    let mut title = shortened(alloc, &name, LONGEST_NAME)?;
-    if let Some(chunk) = listing.chunks.get(place) {
-        let entry = chunk.entry();
-        let end = chunk.end();
-        write!(title, " from {entry} to {end}: ")?;
-    }
-    title.push_str(match listing.explained.chunks.get(place) {
+    shortened(alloc, &name, LONGEST_NAME)
+}
+
+/// Appends where a chunk is.
+fn push_bounds(
+    listing: &ProgramListing,
+    place: usize,
+    title: &mut String,
+) -> Result<(), AllocError> {
+    let Some(chunk) = listing.chunks.get(place) else {
+        return Ok(());
+    };
+    let (entry, end) = (chunk.entry(), chunk.end());
+    write!(title, " from {entry} to {end}: ")
+}
+
+/// Whether a chunk passes, in a word.
+fn outcome_of(listing: &ProgramListing, place: usize) -> &'static str {
+    match listing.explained.chunks.get(place) {
         Some(
             ExplainedChunk {
                 refusal: Some(_),
@@ -199,7 +206,19 @@ fn title_of(
             },
         ) => "refused",
         _ => "passes",
-    })?;
+    }
+}
+
+/// The title of a picture.
+fn title_of(
+    alloc: Global,
+    program: &Program,
+    listing: &ProgramListing,
+    place: usize,
+) -> Result<String, AllocError> {
+    let mut title = short_name(alloc, program, place)?;
+    push_bounds(listing, place, &mut title)?;
+    title.push_str(outcome_of(listing, place))?;
     Ok(title)
 }
 

@@ -1,10 +1,9 @@
 //! What several tests share.
 
 use grain_base::{Flags, Position};
-use grain_bytecode::{Chain, Root, Step, StepFlags, Strings, Tail};
-use grain_rules::{Pools, VerifyError};
+use grain_bytecode::{Chain, Root, Step, StepFlags, Tail};
 use std::alloc::{AllocError, Global};
-use std::fmt::{Debug, Display};
+use std::fmt::Debug;
 use std::process::Abort;
 
 /// Asserts that both are the same. `assert_eq!` in its place costs the prover five times as much.
@@ -44,64 +43,4 @@ pub(crate) fn chain(alloc: Global) -> Result<Chain, AllocError> {
         tail: Tail::Read,
         operands: 1,
     })
-}
-
-/// A call of a method of a temporary value, at that position.
-pub(crate) fn call(alloc: Global, pos: Position) -> Result<Chain, AllocError> {
-    let method = Step::Method {
-        name: 0,
-        argc: 0,
-        operand: 0,
-        flags: StepFlags::empty(),
-        pos,
-    };
-    Ok(Chain {
-        root: Root::Temporary,
-        steps: vec![in alloc; method]?,
-        tail: Tail::Read,
-        operands: 0,
-    })
-}
-
-/// The debug text of a value, and then its text.
-pub(crate) fn both_texts<T: Debug + Display>(
-    alloc: Global,
-    value: &T,
-) -> Result<String, AllocError> {
-    format!(in alloc; "{value:?}: {value}")
-}
-
-/// Asserts that an error has these texts, one after the other.
-pub(crate) fn assert_texts<E: Debug + Display + Drop>(
-    rt: &impl Abort,
-    alloc: Global,
-    row: (E, &str),
-) -> Result<(), AllocError> {
-    assert_same(rt, both_texts(alloc, &row.0)?.as_str(), row.1);
-    Ok(())
-}
-
-/// Pools with these names and nothing else.
-pub(crate) fn pools(names: &Strings) -> Pools<'_> {
-    Pools {
-        consts: 0,
-        names,
-        tokens: 0,
-        assign_ops: 0,
-        residuals: 0,
-        chains: &[],
-        switches: &[],
-    }
-}
-
-/// What is answered of one chunk: its number, or why it is refused. Where not just one number is answered there is none.
-pub(crate) type Answer = Result<Option<u16>, VerifyError>;
-
-/// What was answered of one chunk.
-pub(crate) fn of_one_chunk(answer: Result<Vec<u16>, VerifyError>) -> Answer {
-    let numbers = answer?;
-    match numbers.as_slice() {
-        [number] => Ok(Some(*number)),
-        _ => Ok(None),
-    }
 }

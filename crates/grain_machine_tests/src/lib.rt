@@ -1,4 +1,5 @@
-//! The tests of `grain_machine`, which call it as a host does: a test that changes has no crate proved again but this one.
+//! The tests of `grain_machine`, which call it as a host does, and one of `grain_script`: a test that changes has no crate proved
+//! again but this one.
 #![tactic(auto)]
 
 #[cfg(test)]
@@ -7,3 +8,5 @@ mod calls;
 mod runs;
 #[cfg(test)]
 mod samples;
+#[cfg(test)]
+mod scripts;

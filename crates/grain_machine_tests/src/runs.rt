@@ -35,6 +35,32 @@ fn number(value: Option<&Dynamic>) -> i64 {
     }
 }
 
+/// What a call gives: `0` adds, `1` compares, `3` stops the script, anything else divides.
+fn called(name: u32, operands: &[Dynamic]) -> Result<Dynamic, Fault> {
+    let a = number(operands.get(0));
+    let b = number(operands.get(1));
+    match name {
+        0 => Ok(Dynamic::Int(a.wrapping_add(b))),
+        1 => Ok(Dynamic::Bool(a < b)),
+        3 => Err(Fault::Stopped),
+        _ => match a.checked_div(b) {
+            Some(x) => Ok(Dynamic::Int(x)),
+            None => Err(Fault::Wrong),
+        },
+    }
+}
+
+/// An array of these integers.
+fn array_of(alloc: Global, operands: &[Dynamic]) -> Result<Dynamic, Fault> {
+    let mut items = Vec::new(alloc);
+    for operand in operands.iter() {
+        if items.push(Dynamic::Int(number(Some(operand)))).is_err() {
+            return Err(Fault::OutOfMemory);
+        }
+    }
+    Ok(Dynamic::Array(items))
+}
+
 impl Script {
     /// The place of a local variable of the function that runs.
     fn place(&self, slot: u16) -> usize {
@@ -68,29 +94,8 @@ impl Script {
                 Some(x) => Ok(Dynamic::Int(*x)),
                 None => Err(Fault::Wrong),
             },
-            // `0` adds, `1` compares, `3` stops the script, anything else divides.
-            Op::Call { name, .. } => {
-                let a = number(operands.get(0));
-                let b = number(operands.get(1));
-                match *name {
-                    0 => Ok(Dynamic::Int(a.wrapping_add(b))),
-                    1 => Ok(Dynamic::Bool(a < b)),
-                    3 => Err(Fault::Stopped),
-                    _ => match a.checked_div(b) {
-                        Some(x) => Ok(Dynamic::Int(x)),
-                        None => Err(Fault::Wrong),
-                    },
-                }
-            }
-            Op::MakeArray(_) => {
-                let mut items = Vec::new(self.alloc);
-                for operand in operands.iter() {
-                    if items.push(Dynamic::Int(number(Some(operand)))).is_err() {
-                        return Err(Fault::OutOfMemory);
-                    }
-                }
-                Ok(Dynamic::Array(items))
-            }
+            Op::Call { name, .. } => called(*name, operands),
+            Op::MakeArray(_) => array_of(self.alloc, operands),
             _ => Err(Fault::Wrong),
         }
     }
@@ -385,16 +390,15 @@ pub(crate) fn program_of(alloc: Global, ops: &[Op], parts: Parts) -> Result<Prog
     built(alloc, ops, &[cut(0, ops.len())], Vec::new(alloc), parts)
 }
 
-/// The head of the function of the name 4, which declares no parameters.
+/// The head of the function of the name 4, with one parameter of the name 5.
 fn heads(alloc: Global) -> Result<Vec<Head>, AllocError> {
-    let mut heads = Vec::new(alloc);
-    heads.push(Head {
+    let head = Head {
         name: 4,
-        params: Vec::new(alloc),
+        params: vec![in alloc; 5]?,
         access: FnAccess::Public,
         this_type: None,
-    })?;
-    Ok(heads)
+    };
+    Ok(vec![in alloc; head]?)
 }
 
 /// A program of the top level, which ends at an operation, and of one function.
@@ -423,11 +427,11 @@ pub(crate) enum Seen {
     OutOfMemory,
 }
 
-fn told(outcome: Outcome<Dynamic, Fault>) -> Seen {
+fn told(outcome: &Outcome<Dynamic, Fault>) -> Seen {
     match outcome {
-        Outcome::Returned(Some(Dynamic::Int(x))) => Seen::Returned(x),
+        Outcome::Returned(Some(Dynamic::Int(x))) => Seen::Returned(*x),
         Outcome::Returned(_) => Seen::Wrong,
-        Outcome::Faulted(Fault::Thrown(Dynamic::Int(x))) => Seen::Thrown(x),
+        Outcome::Faulted(Fault::Thrown(Dynamic::Int(x))) => Seen::Thrown(*x),
         Outcome::Faulted(Fault::TooDeep) => Seen::TooDeep,
         Outcome::Faulted(Fault::OutOfMemory) => Seen::OutOfMemory,
         Outcome::Faulted(_) => Seen::Wrong,
@@ -457,11 +461,24 @@ pub(crate) fn ended(
 ) -> Result<(Seen, usize), AllocError> {
     let limits = Limits { fuel, depth: 3 };
     let ending = main.run(alloc, script, limits)?;
-    let at = ending.at;
-    Ok((told(ending.outcome), at))
+    Ok((told(&ending.outcome), ending.at))
 }
 
-/// How a run of the program ends, where, and whether this was caught in it, and in one that does at once what it can.
+/// How a run of the chunk ends, where, and whether this was caught in it, by a host that does at once what it can, or nothing.
+fn ended_by(
+    main: &Runnable<'_>,
+    alloc: Global,
+    is_quick: bool,
+    fuel: u64,
+    caught: &[i64],
+) -> Result<(Seen, usize, bool), AllocError> {
+    let mut script = idle_script(alloc);
+    script.is_quick = is_quick;
+    let (told, at) = ended(main, alloc, &mut script, fuel)?;
+    Ok((told, at, script.caught.as_slice() == caught))
+}
+
+/// How a run of the program ends, where, and whether this was caught in it, by both hosts.
 fn ends(
     alloc: Global,
     program: &Program,
@@ -470,12 +487,8 @@ fn ends(
 ) -> Result<(Seen, usize, bool), Fail> {
     let accepted = accept(program)?;
     let main = accepted.main();
-    let mut script = idle_script(alloc);
-    let (told, at) = ended(&main, alloc, &mut script, fuel)?;
-    let mut quick = idle_script(alloc);
-    quick.is_quick = true;
-    let same = ended(&main, alloc, &mut quick, fuel)? == (told, at);
-    let all = script.caught.as_slice() == caught && quick.caught.as_slice() == caught;
+    let (told, at, all) = ended_by(&main, alloc, false, fuel, caught)?;
+    let same = ended_by(&main, alloc, true, fuel, caught)? == (told, at, all);
     Ok((told, at, same && all))
 }
 

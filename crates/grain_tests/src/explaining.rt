@@ -44,11 +44,3 @@ fn a_refused_chunk_has_the_flaw_of_the_verdict(rt: HostRuntime) {
     assert_same(&rt, refused(&explained), Some((Some(1), &flaw)));
     assert_same(&rt, flaw_of_chunk(&explained, 1), Some(&flaw));
 }
-
-#[test]
-fn no_chunk_is_explained_of_code_that_is_refused(rt: HostRuntime) {
-    let explained = explained(rt.alloc(), &[0x02, 0x13, 0xff], &[Chunk::new(0, 2, 8)]).expect(
-        &rt, "memory",
-    );
-    assert_same(&rt, explained.chunks.len(), 0);
-}

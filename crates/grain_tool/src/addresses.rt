@@ -117,6 +117,34 @@ fn write_known(
     }
 }
 
+/// What a sidecar knows of each address, a line each.
+fn lines_apart(
+    alloc: Global,
+    sidecar: &Sidecar,
+    addresses: &[u32],
+    is_json: bool,
+) -> Result<Vec<u8>, AllocError> {
+    let mut out = Vec::new(alloc);
+    for at in addresses {
+        write_known(alloc, &mut out, known_apart(sidecar, *at), is_json)?;
+    }
+    Ok(out)
+}
+
+/// What a program knows of each address, a line each.
+fn lines_in(
+    alloc: Global,
+    program: &Program,
+    addresses: &[u32],
+    is_json: bool,
+) -> Result<Vec<u8>, AllocError> {
+    let mut out = Vec::new(alloc);
+    for at in addresses {
+        write_known(alloc, &mut out, known_in(program, *at), is_json)?;
+    }
+    Ok(out)
+}
+
 /// What is known of each address, a line each.
 fn lines_of(
     alloc: Global,
@@ -125,19 +153,12 @@ fn lines_of(
     addresses: &[u32],
     is_json: bool,
 ) -> Result<Vec<u8>, Failure> {
-    let mut out = Vec::new(alloc);
     if is_sidecar(bytes) {
         let sidecar = sidecar_of(alloc, path, bytes)?;
-        for at in addresses {
-            write_known(alloc, &mut out, known_apart(&sidecar, *at), is_json)?;
-        }
-        return Ok(out);
+        return Ok(lines_apart(alloc, &sidecar, addresses, is_json)?);
     }
     let program = program_of(alloc, path, bytes)?;
-    for at in addresses {
-        write_known(alloc, &mut out, known_in(&program, *at), is_json)?;
-    }
-    Ok(out)
+    Ok(lines_in(alloc, &program, addresses, is_json)?)
 }
 
 /// The addresses that the arguments name.

@@ -86,6 +86,16 @@ fn valued<'a>(alloc: Global, name: &'a str, value: &'a str, help: &'a str) -> Ar
         .help(help)
 }
 
+/// A number after its name.
+fn number<'a>(alloc: Global, name: &'a str, value: &'a str, help: &'a str) -> Arg<'a> {
+    valued(alloc, name, value, help).value_parser(value_parser!(u64))
+}
+
+/// A size after its name.
+fn size<'a>(alloc: Global, name: &'a str, value: &'a str, help: &'a str) -> Arg<'a> {
+    valued(alloc, name, value, help).value_parser(value_parser!(usize))
+}
+
 /// A flag.
 fn flag<'a>(alloc: Global, name: &'a str, letter: Option<char>, help: &'a str) -> Arg<'a> {
     let flag = Arg::new(alloc, name)
@@ -98,17 +108,37 @@ fn flag<'a>(alloc: Global, name: &'a str, letter: Option<char>, help: &'a str) -
     }
 }
 
+/// One word that has to be there.
+fn word<'a>(alloc: Global, name: &'a str, help: &'a str) -> Arg<'a> {
+    Arg::new(alloc, name).required(true).help(help)
+}
+
+/// One word or more.
+fn words<'a>(alloc: Global, name: &'a str, help: &'a str) -> Arg<'a> {
+    word(alloc, name, help)
+        .action(ArgAction::Append)
+        .num_args(1..)
+}
+
+/// All words behind `--`.
+fn rest<'a>(alloc: Global, name: &'a str, help: &'a str) -> Arg<'a> {
+    Arg::new(alloc, name).num_args(0..).last(true).help(help)
+}
+
+/// The file that is written.
+fn output<'a>(alloc: Global) -> Arg<'a> {
+    Arg::new(alloc, "output")
+        .short('o')
+        .value_name("FILE")
+        .help("Write to this file in place of standard output")
+}
+
+/// An argument as `clap` has it. Each arm calls a function: a chain of calls in each costs the prover more.
 fn argument_of<'a>(alloc: Global, from: &Argument) -> Arg<'a> {
     match *from {
-        Argument::Word { name, help } => Arg::new(alloc, name).required(true).help(help),
-        Argument::Words { name, help } => Arg::new(alloc, name)
-            .required(true)
-            .action(ArgAction::Append)
-            .num_args(1..)
-            .help(help),
-        Argument::Rest { name, help } => {
-            Arg::new(alloc, name).num_args(0..).last(true).help(help)
-        }
+        Argument::Word { name, help } => word(alloc, name, help),
+        Argument::Words { name, help } => words(alloc, name, help),
+        Argument::Rest { name, help } => rest(alloc, name, help),
         Argument::Flag { name, letter, help } => flag(alloc, name, letter, help),
         Argument::Text {
             name,
@@ -121,21 +151,14 @@ fn argument_of<'a>(alloc: Global, from: &Argument) -> Arg<'a> {
             value,
             is_required,
             help,
-        } => valued(alloc, name, value, help)
-            .value_parser(value_parser!(u64))
-            .required(is_required),
+        } => number(alloc, name, value, help).required(is_required),
         Argument::Size {
             name,
             value,
             default,
             help,
-        } => valued(alloc, name, value, help)
-            .value_parser(value_parser!(usize))
-            .default_value(default),
-        Argument::Output => Arg::new(alloc, "output")
-            .short('o')
-            .value_name("FILE")
-            .help("Write to this file in place of standard output"),
+        } => size(alloc, name, value, help).default_value(default),
+        Argument::Output => output(alloc),
         Argument::Colour { help } => colour_option(alloc, help),
     }
 }

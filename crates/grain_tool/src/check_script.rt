@@ -111,18 +111,23 @@ fn tell(rt: &HostRuntime, failure: &Failure) {
     };
 }
 
+/// Compiles a script, says why it can't be, and returns whether it can.
+fn visit(rt: &HostRuntime, is_json: bool, path: &str) -> Result<bool, Failure> {
+    let flaw = flaw_of(rt, path)?;
+    if is_json {
+        write_standard(rt, &object_of(rt.alloc(), path, flaw.as_ref())?)?;
+    } else if let Some(failure) = &flaw {
+        tell(rt, failure);
+    }
+    Ok(flaw.is_none())
+}
+
 /// Compiles each script, and writes nothing else. The status is 1 where one can't be compiled.
 pub fn run(rt: &HostRuntime, matches: &ArgMatches<'_>) -> Result<u8, Failure> {
     let is_json = matches.get_flag("json");
     let mut status = 0u8;
     for path in matches.get_raw("FILE").unwrap_or_default() {
-        let flaw = flaw_of(rt, path)?;
-        if is_json {
-            write_standard(rt, &object_of(rt.alloc(), path, flaw.as_ref())?)?;
-        } else if let Some(failure) = &flaw {
-            tell(rt, failure);
-        }
-        if flaw.is_some() {
+        if !visit(rt, is_json, path)? {
             status = 1;
         }
     }

@@ -48,25 +48,41 @@ const SUBCOMMANDS: &[Subcommand] = &[
 /// The status for wrong arguments. It is that of `clap`.
 pub const WRONG_ARGUMENTS: u8 = 2;
 
-/// The command without its subcommands.
-fn bare<'a>(alloc: Global) -> Result<Command<'a>, AllocError> {
+/// The command with its texts.
+fn described<'a>(alloc: Global) -> Result<Command<'a>, AllocError> {
     Ok(
         Command::new(alloc, NAME)
             .bin_name(NAME)?
             .version(VERSION)
             .about("Compiles, verifies and runs Rhai scripts as Grain bytecode")
-            .after_help(AFTER_HELP)
+            .after_help(AFTER_HELP),
+    )
+}
+
+/// The command without its subcommands.
+fn bare<'a>(alloc: Global) -> Result<Command<'a>, AllocError> {
+    Ok(
+        described(alloc)?
             .subcommand_required(true)
             .arg_required_else_help(true)
             .propagate_version(true),
     )
 }
 
+/// The command with one subcommand more.
+fn with_subcommand<'a>(
+    alloc: Global,
+    command: Command<'a>,
+    subcommand: &Subcommand,
+) -> Result<Command<'a>, AllocError> {
+    command.subcommand(command_of(alloc, subcommand)?)
+}
+
 /// The command as `clap` has it.
 pub fn command<'a>(alloc: Global) -> Result<Command<'a>, AllocError> {
     let mut command = bare(alloc)?;
     for subcommand in SUBCOMMANDS {
-        command = command.subcommand(command_of(alloc, subcommand)?)?;
+        command = with_subcommand(alloc, command, subcommand)?;
     }
     Ok(command)
 }

@@ -177,6 +177,23 @@ fn show<W: World + Drop>(
     Ok(())
 }
 
+/// Runs the program, and prints its value: what was printed is written also where the run fails.
+fn run_script<O: Write + Drop, E: Write + Drop>(
+    alloc: Global,
+    path: &str,
+    program: &Program,
+    script: &mut Script<Terminal<O, E>>,
+    limits: Limits,
+) -> Result<(), Failure> {
+    let value = value_of(alloc, path, program, script, limits);
+    if let Ok(value) = &value {
+        show(alloc, script, value)?;
+    }
+    script.world_mut().finish()?;
+    let _value = value?;
+    Ok(())
+}
+
 /// Runs a program whose script has this world: what it prints, and at last its value.
 fn run_in<O: Write + Drop, E: Write + Drop>(
     alloc: Global,
@@ -185,26 +202,33 @@ fn run_in<O: Write + Drop, E: Write + Drop>(
     bounds: Bounds,
     world: Terminal<O, E>,
 ) -> Result<(), Failure> {
-    let mut script = match Script::new(alloc, program, world, bounds.size) {
-        Ok(script) => script,
-        Err(cause) => return Err(unready(alloc, path, &cause)),
-    };
-    let value = value_of(alloc, path, program, &mut script, bounds.run);
-    if let Ok(value) = &value {
-        show(alloc, &mut script, value)?;
+    match Script::new(alloc, program, world, bounds.size) {
+        Ok(mut script) => run_script(alloc, path, program, &mut script, bounds.run),
+        Err(cause) => Err(unready(alloc, path, &cause)),
     }
-    script.world_mut().finish()?;
-    let _value = value?;
-    Ok(())
+}
+
+/// Runs a program in this process: what it prints goes to standard output, and what it debugs to standard error.
+fn run_here(
+    rt: &HostRuntime,
+    matches: &ArgMatches<'_>,
+    path: &str,
+    program: &Program,
+) -> Result<(), Failure> {
+    let alloc = rt.alloc();
+    let words = words(alloc, matches)?;
+    let output = match BufWriter::new(alloc, rt.stdout()) {
+        Ok(output) => output,
+        Err(error) => return Err(Failure::of_output(error)),
+    };
+    let world = Terminal::new(alloc, output, rt.stderr(), words);
+    run_in(alloc, path, program, bounds_of(matches), world)
 }
 
 /// Runs a script or a program file.
 pub fn run(rt: &HostRuntime, matches: &ArgMatches<'_>) -> Result<u8, Failure> {
-    let alloc = rt.alloc();
     let path = matches.get_str("FILE").unwrap_or("-");
     let program = program_in(rt, path)?;
-    let output = BufWriter::new(alloc, rt.stdout()).map_err(Failure::of_output)?;
-    let world = Terminal::new(alloc, output, rt.stderr(), words(alloc, matches)?);
-    run_in(alloc, path, &program, bounds_of(matches), world)?;
+    run_here(rt, matches, path, &program)?;
     Ok(0)
 }

@@ -9,7 +9,7 @@ use crate::places::write_address;
 use clap::ArgMatches;
 use grain::{Caps, Flags, Program, VerifyError};
 use grain_file::{Limits, LoadError, Loaded, load};
-use grain_listing::{Colours, Kind, Naming, Paint, Style, name_of, write_chunk};
+use grain_listing::{Colours, Kind, Naming, Paint, ProgramListing, Style, name_of, write_chunk};
 use json::Writer;
 use std::alloc::{AllocError, Global};
 
@@ -81,23 +81,39 @@ fn address_of(error: &VerifyError) -> Option<usize> {
     }
 }
 
+/// The place of the refused chunk, if it is one.
+fn refused_place(listing: &ProgramListing) -> Option<usize> {
+    match &listing.explained.verdict {
+        Ok(_) => None,
+        Err(refusal) => refusal.place,
+    }
+}
+
+/// The listing of a chunk.
+fn chunk_text(
+    alloc: Global,
+    style: Style<'_>,
+    listing: &ProgramListing,
+    place: Option<usize>,
+) -> Result<String, AllocError> {
+    let mut out = String::new(alloc);
+    if let Some(place) = place {
+        write_chunk(style, listing, place, &mut out)?;
+    }
+    Ok(out)
+}
+
 /// What is explained of a refused program: the place of the refused chunk, and its listing.
 fn explanation_of(
     alloc: Global,
     paint: Paint,
     program: &Program,
 ) -> Result<(Option<usize>, String), AllocError> {
-    let mut out = String::new(alloc);
     let listing = explained(alloc, program)?;
-    let place = match &listing.explained.verdict {
-        Ok(_) => None,
-        Err(refusal) => refusal.place,
-    };
-    if let Some(place) = place {
-        let naming = Naming::Program(program);
-        write_chunk(Style { paint, naming }, &listing, place, &mut out)?;
-    }
-    Ok((place, out))
+    let place = refused_place(&listing);
+    let naming = Naming::Program(program);
+    let text = chunk_text(alloc, Style { paint, naming }, &listing, place)?;
+    Ok((place, text))
 }
 
 /// Why a program is refused: the sentence, the function and the place.
@@ -120,6 +136,27 @@ fn sentence(
     }
 }
 
+/// Explains a refused program where that is asked for, and returns the place of the refused chunk.
+fn explain(rt: &HostRuntime, report: Report, program: &Program) -> Result<Option<usize>, Failure> {
+    let (place, listing) = explanation_of(rt.alloc(), report.paint, program)?;
+    if report.explain && !report.json {
+        write_standard(rt, listing.as_bytes())?;
+    }
+    Ok(place)
+}
+
+/// What is said of a refused program.
+fn refusal_of(
+    alloc: Global,
+    path: &str,
+    program: &Program,
+    place: Option<usize>,
+    error: &VerifyError,
+) -> Result<Failure, AllocError> {
+    let what = sentence(alloc, program, place, error)?;
+    Ok(Failure::of(alloc, shown(path), what.as_str()))
+}
+
 /// Says that a program is refused.
 fn refuse(
     rt: &HostRuntime,
@@ -128,14 +165,9 @@ fn refuse(
     bytes: &[u8],
     error: &VerifyError,
 ) -> Result<Failure, Failure> {
-    let alloc = rt.alloc();
-    let program = crate::files::program_of(alloc, path, bytes)?;
-    let (place, listing) = explanation_of(alloc, report.paint, &program)?;
-    if report.explain && !report.json {
-        write_standard(rt, listing.as_bytes())?;
-    }
-    let what = sentence(alloc, &program, place, error)?;
-    Ok(Failure::of(alloc, shown(path), what.as_str()))
+    let program = crate::files::program_of(rt.alloc(), path, bytes)?;
+    let place = explain(rt, report, &program)?;
+    Ok(refusal_of(rt.alloc(), path, &program, place, error)?)
 }
 
 /// Why a file isn't loaded.
@@ -221,28 +253,45 @@ fn object_of(
     line_of(json)
 }
 
+/// Says that a file is accepted.
+fn tell_accepted(
+    rt: &HostRuntime,
+    report: Report,
+    path: &str,
+    loaded: &Loaded,
+) -> Result<bool, Failure> {
+    let alloc = rt.alloc();
+    if report.json {
+        write_standard(rt, &object_of(alloc, path, Ok(loaded))?)?;
+        return Ok(true);
+    }
+    let mut out = String::new(alloc);
+    write_accepted(&mut out, report, shown(path), loaded)?;
+    write_standard(rt, out.as_bytes())?;
+    Ok(true)
+}
+
+/// Says why a file isn't loaded.
+fn tell_refused(
+    rt: &HostRuntime,
+    report: Report,
+    path: &str,
+    bytes: &[u8],
+    error: LoadError,
+) -> Result<bool, Failure> {
+    let failure = failure_of(rt, report, path, bytes, error)?;
+    tell(rt, report, path, failure)
+}
+
 /// Reads and verifies a file, says what it is, and returns whether it is accepted.
 fn visit(rt: &HostRuntime, report: Report, path: &str) -> Result<bool, Failure> {
-    let alloc = rt.alloc();
     let bytes = match read_bytes(rt, path) {
         Ok(bytes) => bytes,
         Err(failure) => return tell(rt, report, path, failure),
     };
-    match load(alloc, &bytes, report.host, &Limits::default()) {
-        Ok(loaded) => {
-            if report.json {
-                write_standard(rt, &object_of(alloc, path, Ok(&loaded))?)?;
-            } else {
-                let mut out = String::new(alloc);
-                write_accepted(&mut out, report, shown(path), &loaded)?;
-                write_standard(rt, out.as_bytes())?;
-            }
-            Ok(true)
-        }
-        Err(error) => {
-            let failure = failure_of(rt, report, path, &bytes, error)?;
-            tell(rt, report, path, failure)
-        }
+    match load(rt.alloc(), &bytes, report.host, &Limits::default()) {
+        Ok(loaded) => tell_accepted(rt, report, path, &loaded),
+        Err(error) => tell_refused(rt, report, path, &bytes, error),
     }
 }
 

@@ -1,0 +1,38 @@
+//! Texts that make programs, as the command doesn't have it: bench/tool.py and bench/scripts have the rest.
+
+use crate::samples::{assert_same, made};
+use grain_asm::{ParseError, parse_accepted};
+use grain_compile::{Options, compile};
+use std::alloc::Global;
+
+/// The numbers of the assembly text's program, where it is accepted.
+fn numbers(alloc: Global, text: &str) -> Result<Vec<u16>, ParseError> {
+    let (_program, numbers) = parse_accepted(alloc, text)?;
+    Ok(numbers)
+}
+
+#[test]
+fn accepted_texts_have_numbers(rt: HostRuntime) {
+    let numbers = made(
+        &rt,
+        numbers(rt.alloc(), "  unit\n  unit\n  pop\n  return\n"),
+    );
+    assert_same(&rt, numbers.as_slice(), [2].as_slice());
+}
+
+/// Whether a script of a variable that it doesn't declare is compiled.
+fn is_compiled(alloc: Global, strict_variables: bool) -> bool {
+    let options = Options {
+        strict_variables,
+        debug_id: 7,
+    };
+    compile(alloc, "x + 1", &options).is_ok()
+}
+
+#[test]
+fn variables_may_be_of_the_host(rt: HostRuntime) {
+    for strict in [false, true] {
+        let found = is_compiled(rt.alloc(), strict);
+        assert_same(&rt, (strict, found), (strict, !strict));
+    }
+}
