@@ -211,7 +211,7 @@ pub enum FileError {
         /// How many it may have.
         limit: u64,
     },
-    /// A list of it has 4294967296 entries or more.
+    /// A list of it has 4294967296 entries or more, or a text or a blob as many bytes.
     TooLong,
     /// The allocator refused.
     OutOfMemory,
@@ -534,10 +534,11 @@ impl ProgramFile {
     #[must_use]
     pub fn constant(&self, index: usize) -> Option<Value<'_>> {
         let contents = self.contents();
-        let begins: &[usize] = contents!(contents, constants, constants_len);
+        let begins: &[u32] = contents!(contents, constants, constants_len);
         let values: &[raw::Value] = contents!(contents, values, values_len);
         let texts = contents!(contents, texts, texts_len);
-        Values::new(values.get(*begins.get(index)?..)?, texts, 1).next()
+        let begin = *begins.get(index)? as usize;
+        Values::new(values.get(begin..)?, texts, 1).next()
     }
 
     fn all_operators(&self) -> impl Iterator<Item = Operator<'_>> + '_ {
