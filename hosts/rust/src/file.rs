@@ -343,8 +343,7 @@ pub struct ProgramFile {
     file: NonNull<raw::File>,
 }
 
-// SAFETY: the file is this value's alone: memory of the allocator with plain data in it, of which nothing is tied to a thread.
-// That is read in the code of the library; it is proved of a scratch, and not of a file.
+// SAFETY: the file is this value's alone, and that it may be handed to another thread is proved of the library's handle.
 unsafe impl Send for ProgramFile {}
 
 // SAFETY: nothing writes what a file has before it is freed, and only a drop frees it.
