@@ -48,9 +48,13 @@ TESTS = {
     "grain": "grain_tests",
     "grain_explain": "grain_tests",
     "grain_file": "grain_file_tests",
+    "grain_flat_file": "grain_file_tests",
     "grain_machine": "grain_machine_tests",
     "grain_lines": "grain_tests",
 }
+
+# What the tests of growths of a crate of tests use that its other tests don't.
+ALSO_USED = {"grain_file_tests": ["grain_flat_file"]}
 
 # The call of each test.
 CALLS = {
@@ -104,6 +108,13 @@ CALLS = {
         "read": "`read`",
         "write": "`write`",
         "load": "`load`",
+        "read_sidecar": "`read_sidecar`",
+        "write_sidecar": "`write_sidecar`",
+        "outline": "`outline`",
+        "outline_sidecar": "`outline_sidecar`",
+    },
+    "grain_flat_file": {
+        "read_flat": "`read_flat`",
     },
     "grain_machine": {
         "accept": "`accept`",
@@ -155,6 +166,9 @@ def scratch_copy(room):
             text.write(f"\n#[cfg(test)]\nmod {module.stem};\n")
     for tests in set(TESTS.values()):
         leave_out_others(room / "crates" / tests / "src")
+    crates = room / "crates.txt"
+    lines = crates.read_text().splitlines()
+    crates.write_text("".join(" ".join([line, *ALSO_USED.get(line.partition(":")[0], [])]) + "\n" for line in lines))
 
 
 def leave_out_others(source):
