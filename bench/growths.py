@@ -48,12 +48,13 @@ TESTS = {
     "grain": "grain_tests",
     "grain_explain": "grain_tests",
     "grain_file": "grain_file_tests",
+    "grain_flat_file": "grain_file_tests",
     "grain_machine": "grain_machine_tests",
     "grain_lines": "grain_tests",
 }
 
 # The crates of tests that stand there alone, and what each uses.
-OWN = {"grain_file_tests": "grain_file grain"}
+OWN = {"grain_file_tests": "grain_flat_file grain_file grain"}
 
 # The call of each test.
 CALLS = {
@@ -107,6 +108,13 @@ CALLS = {
         "read": "`read`",
         "write": "`write`",
         "load": "`load`",
+        "read_sidecar": "`read_sidecar`",
+        "write_sidecar": "`write_sidecar`",
+        "outline": "`outline`",
+        "outline_sidecar": "`outline_sidecar`",
+    },
+    "grain_flat_file": {
+        "read_flat": "`read_flat`",
     },
     "grain_machine": {
         "accept": "`accept`",

@@ -16,11 +16,11 @@
  * - A grain_scratch begins as GRAIN_SCRATCH_NONE. Only these calls read or write it, one call at a time. Don't use two
  *   copies of one. Threads may hand it to each other.
  * - Only grain_verify, grain_tighten, grain_explain, grain_listing and the calls on files allocate, through grain_alloc and its
- *   two companions (at the end). They free everything before they return, except what a scratch or a file keeps. Don't call them from a signal
- *   handler, nor in a child that a process with several threads has forked.
+ *   two companions (at the end). They free everything before they return, except what a scratch or a file keeps. Don't call
+ *   them from a signal handler, nor in a child that a process with several threads has forked.
  *
  * No call waits, prints or ends the process. Nothing is kept between calls except in a scratch or a file. A call takes up to
- * 22 KiB of its thread's stack, except grain_file_read and grain_file_free.
+ * 22 KiB of its thread's stack, except grain_file_read.
  * The library is for x86-64 Linux, on processors with popcnt (x86-64-v2).
  *
  * FORMAT.md has the instructions, the tables and the rules of verification; EMBEDDING.md says what a host owes
@@ -96,7 +96,7 @@ typedef enum grain_status {
     GRAIN_BAD_CODE = 7,      /* nothing is explained: the code isn't whole instructions whose indices are in bounds */
     GRAIN_STOPPED = 8,       /* the caller's function asked to stop */
     GRAIN_NO_FILE = 9,       /* the bytes are no program file within the limits, and why is written */
-    GRAIN_TOO_LONG = 10      /* a list of the file has 4294967296 entries or more */
+    GRAIN_TOO_LONG = 10      /* a list of the file has 4294967296 entries or more, or a text or a blob as many bytes */
 } grain_status;
 
 /* Why a program is refused. Next to each flaw is what `first` and `second` of its grain_refusal are; others are 0. */
@@ -450,7 +450,7 @@ typedef struct grain_range {
 /* A value, or the beginning of one: what is in it follows in the list. */
 typedef struct grain_value {
     uint32_t tag; /* grain_value_tag */
-    size_t count;
+    uint32_t count;
     int64_t number;
 } grain_value;
 
@@ -468,7 +468,7 @@ typedef struct grain_contents {
     size_t functions_len;
     const uint32_t *parameters; /* the names of the parameters of all functions, function after function */
     size_t parameters_len;
-    const size_t *constants; /* where each constant begins in `values` */
+    const uint32_t *constants; /* where each constant begins in `values` */
     size_t constants_len;
     const grain_value *values; /* the constants, one after another */
     size_t values_len;

@@ -152,10 +152,10 @@ GRAIN_AT(grain_range, to, 8);
 GRAIN_AT(grain_range, is_inclusive, 16);
 GRAIN_AT(grain_range, target, 20);
 
-GRAIN_SIZE(grain_value, 24);
+GRAIN_SIZE(grain_value, 16);
 GRAIN_AT(grain_value, tag, 0);
-GRAIN_AT(grain_value, count, 8);
-GRAIN_AT(grain_value, number, 16);
+GRAIN_AT(grain_value, count, 4);
+GRAIN_AT(grain_value, number, 8);
 
 GRAIN_SIZE(grain_contents, 448);
 GRAIN_AT(grain_contents, program, 0);

@@ -177,7 +177,7 @@ static void measure_files(void) {
     size_t verifying = stack_taken_by(verify_file);
     CHECK(status != GRAIN_OUT_OF_MEMORY && verifying <= ALLOWED);
     size_t freeing = stack_taken_by(free_file);
-    CHECK(freeing <= ALLOWED_OF_FILES);
+    CHECK(freeing <= ALLOWED);
     printf("files: %zu to read, %zu to verify, %zu to free\n", taken, verifying, freeing);
 }
 

@@ -3,6 +3,7 @@ mod HeldData
 pub mod HeldWords
 mod Judged
 mod Printing
+pub mod ScratchWords
 mod Streams
 mod Tags
 pub mod Words

@@ -1,10 +1,9 @@
--- What the walks of a handle share: the names that they cite, a handle as two machine words, a box of a scratch as one machine value, and what a call at a scratch and the heap wants. Assumes `Logic`.
+-- What the walks of handles share: the names that they cite, a handle as two machine words, a box as one machine value, and what a call at its type and the heap wants. Assumes `Logic`.
 use contract.{BorrowLft.⊑_static, Monad.fact_i}
 use mir.{Syntax.tcons, Val.vstruct, Val.vcons, Val.vnil, Raw.raw as bare}
 use types.Kit.{Item, Goal, Step, step, use0}
-use denote.{Laws.Is, Laws.Typed, Param.arg, RattleType.RattleType, Param.Laws.Laws, Param.Laws.arg_laws, Param.Laws.param_laws, Struct.Owning.shape, Struct.Struct.Struct, Struct.Struct.Struct-Makes}
+use denote.{Laws.Is, Laws.Typed, Param.arg, RattleType.RattleType, Param.Laws.Laws, Param.Laws.arg_laws, Param.Laws.param_laws}
 use Rattle.grain_c.proofs.Destruct++none.drop.Symbol.{symbol}
-use Rattle.grain_c.specs.Keeps.{keeps}
 pub use Rattle.std.proofs.Common.{[], ◌∷◌, refl, lit<, false, List, ◌≡◌, Bool, true, ◌++◌, ap}
 pub use Rattle.std.proofs.raw_atomic.Walks.{proved, leaves, proved_at}
 pub use Rattle.std.proofs.alloc.Calls.{Goes-blank}
@@ -30,50 +29,42 @@ use Rattle.std.specs.contracts.alloc.Global as heap
 use Rattle.std.specs.contracts.boxed.Box as boxed
 use Rattle.std.proofs.alloc.Global.TheLaws as heap_laws
 use Rattle.std.proofs.boxed.Box.TheLaws as box_laws
-use Rattle.grain_flat.specs.contracts.scratch.Scratch as scratch
-use Rattle.grain_flat.proofs.scratch.Scratch.TheLaws as scratch_laws
-use Rattle.grain_c.specs.contracts.handle.CScratch as handle
 
 -- the machine value of a handle
 abbrev pub word : Bool → Ptr → Val
 word y p = vstruct (vcons (vbool y) (vcons (ptr_val p) vnil))
 
--- a scratch and the heap as type arguments, and what is known of them
-abbrev pub Kept : RattleType
-Kept = arg (bare (layout scratch.the_row)) no scratch.the_row
+module _ (T : RattleType) where
+  -- a type argument
+  abbrev pub argument : RattleType
+  argument = arg (bare (layout T)) no T
 
-abbrev pub Kept-laws : Laws Kept
-Kept-laws = arg_laws (bare (layout scratch.the_row)) no scratch.the_row scratch_laws.the_row_laws refl
+  -- a box of one, which is one machine value of its type
+  abbrev pub box_of : RattleType
+  box_of = boxed.the_row T heap.the_row ghosts
+
+  module _ (laws : Laws T) where
+    abbrev pub argument_laws : bare (bare (layout T)) ≡ bare (layout T) → Laws argument
+    argument_laws same = arg_laws (bare (layout T)) no T laws same
+
+    pub box_typed : {M : Type 1} {𝓤 : Ura M} (𝓛 : Logic 𝓤) (r : box_of.Denot) (vs : List Val) → Is box_of r vs → Typed (layout box_of ∷ []) vs
+    box_typed 𝓛 = ((param_laws 0 box_of (box_laws.the_row_laws T heap.the_row ghosts laws heap_laws.the_row_laws)).lawful 𝓛).typed
 
 abbrev pub Heap : RattleType
-Heap = arg (bare (layout heap.the_row)) no heap.the_row
+Heap = argument heap.the_row
 
 abbrev pub Heap-laws : Laws Heap
-Heap-laws = arg_laws (bare (layout heap.the_row)) no heap.the_row heap_laws.the_row_laws refl
+Heap-laws = argument_laws heap.the_row heap_laws.the_row_laws refl
 
 -- the heap's drop, which does nothing
 abbrev pub no_drop : Dict
 no_drop = impl (symbol ∷ []) (tcons (layout Heap) tnil) dnil
-
--- a box of a scratch, which is one machine value of its type
-abbrev pub Boxed : RattleType
-Boxed = boxed.the_row scratch.the_row heap.the_row ghosts
-
-pub Boxed-typed : {M : Type 1} {𝓤 : Ura M} (𝓛 : Logic 𝓤) (r : Boxed.Denot) (vs : List Val) → Is Boxed r vs → Typed (layout Boxed ∷ []) vs
-Boxed-typed 𝓛 =
-    ((param_laws 0 Boxed (box_laws.the_row_laws scratch.the_row heap.the_row ghosts scratch_laws.the_row_laws heap_laws.the_row_laws)).lawful 𝓛).typed
 
 -- the tokens of two lifetimes that are 'static
 abbrev pub static : {M : Type 1} {𝓤 : Ura M} → Item 𝓤
 static = ‵ (flft [] full_share) ⊛ ‵ (flft [] full_share) ⊛ ‵ ftrue
 
 module _ {M : Type 1} {𝓤 : Ura M} {𝓛 : Logic 𝓤} {K : Type 0} {Γ : List (Item 𝓤)} {G : Goal 𝓤 𝓛.H} where
-  -- two words with what they keep are a handle
-  pub makes_handle : K → (y : Bool) (p : Ptr) → Step K 𝓛 (‵ (handle.the_row.own_val (record { made = y; block = p }) (word y p ∷ [])) ∷ Γ) G (‵ (keeps y p) ∷ Γ) G
-  makes_handle t y p = step (λ s.
-      owned t (Struct (shape handle.the_type)) _ (Struct-Makes 𝓛 (shape handle.the_type) ((λ x vs. tt), ((λ x vs. tt), tt))) (y, (p, tt)) (word y p ∷ [])
-      ((vbool y ∷ [], (ptr_val p ∷ [], tt)), (refl, (refl, (refl, tt)))) $ fjoin t $ s)
-
   -- what a call at two type arguments wants, of what its parameters own, i, and of what its `requires` asks, j: both lifetimes are 'static, whose tokens are free
   pub passes : K → {i j : Item 𝓤} → Step K 𝓛 (((static ⊛ i) ⊛ raw (fact 𝓤 ([] ⊑ [])) ⊛ raw (fact 𝓤 ([] ⊑ [])) ⊛ j) ∷ Γ) G (i ∷ j ∷ Γ) G
   passes t = step (λ s. let free = 𝓛.lfts.lft-nil full_share in let within = fact_i 𝓤 ([] ⊑ []) (emp 𝓤) (⊑_static []) in

@@ -47,7 +47,7 @@ pub record LacksCaps (contents : CContents) (host : ℕ) (depths written : List 
   pub depths_kept : written ≡ depths
 
 -- The host has them, and the rest is answered as of any flat form.
-pub record IsJudged (contents : CContents) (host limit : ℕ) (depths written : List ℕ) (old new : CReport) (status : ℕ) : Type 0 where
+pub record HasCaps (contents : CContents) (host limit : ℕ) (depths written : List ℕ) (old new : CReport) (status : ℕ) : Type 0 where
   pub lacks_none : missing host contents.caps ≡ 0
   pub writes : WritesDepths contents.caps contents.program depths written status
   pub answer : IsAnswer contents.caps limit contents.program (length depths) old new status
@@ -55,4 +55,4 @@ pub record IsJudged (contents : CContents) (host limit : ℕ) (depths written : 
 abbrev pub IsFileAnswer : CContents → ℕ → ℕ → List ℕ → List ℕ → CReport → CReport → ℕ → Type 0
 IsFileAnswer contents host limit depths written old new status =
     LacksCaps contents host depths written old new status
-    ⊎ IsJudged contents host limit depths written old new status
+    ⊎ HasCaps contents host limit depths written old new status

@@ -10,8 +10,8 @@ use Rattle.std.specs.Global.{Global}
 use Rattle.std.specs.contracts.impls.GlobalAllocator.TheImpl.{ghosts}
 use Rattle.grain_flat_file.specs.contracts.contents.FlatFile.{the_row}
 
-abbrev pub program_code : Coded the_row.Denot
-program_code = the_row.coded
+abbrev pub content_code : Coded the_row.Denot
+content_code = the_row.coded
 
 -- what stands for the content of a handle that keeps nothing
 abbrev pub no_content : the_row.Denot

@@ -80,7 +80,7 @@ fn read_into(
 ///
 /// 0 where it is read: the handle keeps it, and what it has is written, which stays until the handle is freed or used again. What
 /// the handle kept before is freed. 9 where the bytes are no file within the limits: then why is written. 10 where a list of it
-/// has 4294967296 entries or more. 3 where the allocator refused.
+/// has 4294967296 entries or more, or a text or a blob as many bytes. 3 where the allocator refused.
 #[unsafe(no_mangle)]
 pub extern "C" fn grain_proved_file_read<'a>(
     alloc: Global,

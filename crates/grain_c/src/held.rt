@@ -1,11 +1,10 @@
 //! The handle by which C keeps a file that was read.
 //!
 //! What a handle keeps is a block of the heap with a [`FlatFile`] in it. Contracts see its program. While it is lent, what stands
-//! in the block doesn't change. A handle has no `Drop`, so that none which keeps something is let go in silence. That another
-//! thread may free what it keeps isn't proved: values hold others of their own type, of which the prover has no `Send`.
+//! in the block doesn't change. A handle has no `Drop`, so that none which keeps something is let go in silence.
 ghost use Rattle.std.specs.Prelude.{◌≡◌, true, false, IfSome, IfNone};
 ghost use Rattle.grain.specs.Program.{Program};
-ghost use Rattle.grain_c.specs.Holds.{program_code};
+ghost use Rattle.grain_c.specs.Holds.{content_code};
 
 use grain_flat_file::FlatFile;
 use std::alloc::Global;
@@ -17,7 +16,7 @@ use std::{mem, ptr};
 pub struct CHeldFile {
     made: bool,
     block: *mut u8,
-    pub ghost content: { Program } by { program_code },
+    pub ghost content: { Program } by { content_code },
 }
 
 impl Model for CHeldFile {
@@ -25,6 +24,8 @@ impl Model for CHeldFile {
 
     ghost also_owns = { λ f. holds f.made f.block f.content };
 }
+
+unsafe impl Send for CHeldFile {}
 
 impl CHeldFile {
     /// Keeps nothing.

@@ -33,5 +33,5 @@ pub const STOPPED: u32 = 8;
 /// The bytes are no file within the limits, and why is written.
 pub const NO_FILE: u32 = 9;
 
-/// A list of the file has 4294967296 entries or more.
+/// A list of the file has 4294967296 entries or more, or a text or a blob as many bytes.
 pub const TOO_LONG: u32 = 10;

@@ -1,2 +1,4 @@
+mod Fieldless
 pub mod FlatForm
+mod Placing
 mod ValueRows

@@ -5,7 +5,7 @@ use Rattle.std.specs.Prelude.{string_bytes}
 use Rattle.grain_base.specs.declared.value.FnPtr.{FnPtr}
 use Rattle.grain_fields.specs.Form.{Form, array, object_map, form_entries_of, forms, forms_of, listed_entries, listed_forms, pointer_form}
 use Rattle.grain_fields.proofs.PointerForm.{pointer_form_is}
-use Rattle.grain_flat_file.specs.Values.{counted, entry_rows, entry_texts, rows_of_entries, rows_of_forms, texts_of_entries, texts_of_forms, value_rows, value_texts}
+use Rattle.grain_flat_file.specs.Values.{counted_row, entry_rows, entry_texts, rows_of_entries, rows_of_forms, texts_of_entries, texts_of_forms, value_rows, value_texts}
 use Rattle.grain_flat_file.specs.declared.records.CValue.{CValue}
 use Rattle.grain_flat_file.specs.declared.tags.TheConstants as tags
 
@@ -35,24 +35,24 @@ entries_as_listed (e ∷ es) = ap (λ fs. (e.0, e.1) ∷ fs) (entries_as_listed 
 
 -- appended one by one they are those of the whole
 
-pub array_rows : (old : List CValue) (n : ℕ) (xs : List Form) → n ≡ length xs → (old ++ counted tags.ARRAY n ∷ []) ++ flat_map value_rows xs ≡ old ++ value_rows (array (forms_of xs))
-array_rows old n xs e = rw (e, rows_listed xs, as_listed xs) (append_assoc old (counted tags.ARRAY (length xs) ∷ []) (flat_map value_rows xs))
+pub array_rows : (old : List CValue) (n : ℕ) (xs : List Form) → n ≡ length xs → (old ++ counted_row tags.ARRAY n ∷ []) ++ flat_map value_rows xs ≡ old ++ value_rows (array (forms_of xs))
+array_rows old n xs e = rw (e, rows_listed xs, as_listed xs) (append_assoc old (counted_row tags.ARRAY (length xs) ∷ []) (flat_map value_rows xs))
 
 pub array_texts : (old : List ℕ) (xs : List Form) → old ++ flat_map value_texts xs ≡ old ++ value_texts (array (forms_of xs))
 array_texts old xs = ap (λ (b : List ℕ). old ++ b) (sym (texts_listed xs))
 
-pub map_rows : (old : List CValue) (n : ℕ) (es : List (List ℕ × Form)) → n ≡ length es → (old ++ counted tags.MAP n ∷ []) ++ flat_map entry_rows es ≡ old ++ value_rows (object_map (form_entries_of es))
-map_rows old n es e = rw (e, entry_rows_listed es, entries_as_listed es) (append_assoc old (counted tags.MAP (length es) ∷ []) (flat_map entry_rows es))
+pub map_rows : (old : List CValue) (n : ℕ) (es : List (List ℕ × Form)) → n ≡ length es → (old ++ counted_row tags.MAP n ∷ []) ++ flat_map entry_rows es ≡ old ++ value_rows (object_map (form_entries_of es))
+map_rows old n es e = rw (e, entry_rows_listed es, entries_as_listed es) (append_assoc old (counted_row tags.MAP (length es) ∷ []) (flat_map entry_rows es))
 
 pub map_texts : (old : List ℕ) (es : List (List ℕ × Form)) → old ++ flat_map entry_texts es ≡ old ++ value_texts (object_map (form_entries_of es))
 map_texts old es = ap (λ (b : List ℕ). old ++ b) (sym (entry_texts_listed es))
 
 pub pointer_rows : (old : List CValue) (n : ℕ) (p : FnPtr) → n ≡ length (forms p.curry.items)
-    → ((old ++ counted tags.FN_PTR n ∷ []) ++ counted tags.TEXT (length (string_bytes p.name)) ∷ []) ++ flat_map value_rows (forms p.curry.items) ≡ old ++ value_rows (pointer_form p)
+    → ((old ++ counted_row tags.FN_PTR n ∷ []) ++ counted_row tags.TEXT (length (string_bytes p.name)) ∷ []) ++ flat_map value_rows (forms p.curry.items) ≡ old ++ value_rows (pointer_form p)
 pointer_rows old n p e =
     rw (pointer_form_is p, e, rows_listed (forms p.curry.items), as_listed (forms p.curry.items))
-    (append_assoc (old ++ counted tags.FN_PTR (length (forms p.curry.items)) ∷ []) (counted tags.TEXT (length (string_bytes p.name)) ∷ []) (flat_map value_rows (forms p.curry.items))
-    ∙ append_assoc old (counted tags.FN_PTR (length (forms p.curry.items)) ∷ []) (counted tags.TEXT (length (string_bytes p.name)) ∷ flat_map value_rows (forms p.curry.items)))
+    (append_assoc (old ++ counted_row tags.FN_PTR (length (forms p.curry.items)) ∷ []) (counted_row tags.TEXT (length (string_bytes p.name)) ∷ []) (flat_map value_rows (forms p.curry.items))
+    ∙ append_assoc old (counted_row tags.FN_PTR (length (forms p.curry.items)) ∷ []) (counted_row tags.TEXT (length (string_bytes p.name)) ∷ flat_map value_rows (forms p.curry.items)))
 
 pub pointer_texts : (old : List ℕ) (p : FnPtr) → (old ++ string_bytes p.name) ++ flat_map value_texts (forms p.curry.items) ≡ old ++ value_texts (pointer_form p)
 pointer_texts old p = rw (pointer_form_is p, texts_listed (forms p.curry.items)) (append_assoc old (string_bytes p.name) (flat_map value_texts (forms p.curry.items)))

@@ -16,6 +16,8 @@ use Rattle.grain_flat.specs.Flat.{asked_row, case_rows, arm_range_targets, chain
 use Rattle.grain_flat.specs.declared.records.CCase.{CCase}
 use Rattle.grain_flat.specs.declared.records.CConstant.{CConstant}
 use Rattle.grain_flat_file.specs.Values.{AreConstantLists, AreOperatorLists, assigned_names}
+use Rattle.grain_flat_file.specs.declared.copies.Copies.{Copies}
+use Rattle.grain_flat_file.specs.declared.copies.Numbers.{Numbers}
 use Rattle.grain_flat_file.specs.declared.functions.FunctionLists.{FunctionLists}
 use Rattle.grain_flat_file.specs.declared.pools.ChainLists.{ChainLists}
 use Rattle.grain_flat_file.specs.declared.pools.SwitchLists.{SwitchLists}
@@ -32,11 +34,31 @@ use Rattle.grain_pools.specs.declared.switch.SwitchRange.{SwitchRange}
 use Rattle.grain_rules.specs.ConstCaps.{const_caps}
 use Rattle.grain_flat.specs.declared.records.CProgram.{CProgram}
 use Rattle.grain_flat.specs.declared.records.CPools.{CPools}
-use Rattle.grain_flat_file.specs.Values.{value_begins, value_rows, value_texts, placed, operator_rows, operator_texts, assigned_rows, assigned_texts}
+use Rattle.grain_flat_file.specs.Values.{value_begins, value_rows, value_texts, placed_rows, operator_rows, operator_texts, assigned_rows, assigned_texts}
 use Rattle.grain_base.specs.Tokens.{token_parts}
 use Rattle.grain_flat_file.specs.declared.records.CContents.{CContents}
 use Rattle.grain_flat_file.specs.declared.contents.Lists.{Lists}
 use Rattle.grain_pools.specs.Names.{starts_of}
+
+-- ---- what is taken as it is
+
+pub record AreNumbers (p : Program) (n : Numbers) : Type 0 where
+  pub caps_are : n.caps ≡ p.caps.0
+  pub id_is : (n.id_low, n.id_high) ≡ halves p.debug_id
+  pub has_source_is : n.has_source ≡ is_some p.source
+  pub has_positions_is : n.has_positions ≡ is_some p.positions
+  pub positions_are : n.positions ≡ length (unwrap_or p.positions [])
+  pub operators_are : n.operators ≡ length p.tokens
+  pub op_assignments_are : n.op_assignments ≡ length p.assign_ops
+  pub fragments_are : n.fragments ≡ p.residuals
+  pub functions_are : n.functions ≡ length p.functions
+
+pub record AreCopies (p : Program) (copies : Copies) : Type 0 where
+  pub code_is : copies.code.items ≡ p.code
+  pub names_are : copies.names.items ≡ concat p.names
+  pub texts : list_all is_utf8 p.names ≡ true
+  pub starts_are : copies.starts.items ≡ starts_of 0 p.names
+  pub source_is : copies.source.items ≡ unwrap_or p.source []
 
 -- ---- functions
 
@@ -110,8 +132,10 @@ pub record AreSwitchLists (switches : List Switch) (lists : SwitchLists) : Type 
 
 -- ---- all of it
 
--- these lists are what the program has
+-- these numbers and lists are what the program has
 pub record AreLists (p : Program) (lists : Lists) : Type 0 where
+  pub numbers : AreNumbers p lists.numbers
+  pub copies : AreCopies p lists.copies
   pub functions : AreFunctionLists p lists.functions
   pub asked : lists.asked.items ≡ map constant_row p.consts
   pub chains : AreChainLists p.chains lists.chains
@@ -153,9 +177,9 @@ pub record AreContents (p : Program) (c : CContents) : Type 0 where
   pub functions_are : c.functions.now ≡ map function_row p.functions
   pub parameters_are : c.parameters.now ≡ flat_map parameters_of p.functions
   pub constants_are : c.constants.now ≡ value_begins 0 (forms p.consts)
-  pub values_are : c.values.now ≡ placed 0 (flat_map value_rows (forms p.consts))
+  pub values_are : c.values.now ≡ placed_rows 0 (flat_map value_rows (forms p.consts))
   pub texts_are : c.texts.now ≡ flat_map value_texts (forms p.consts)
-  pub operators_are : c.operators.now ≡ placed 0 (flat_map (λ t. operator_rows (token_parts t)) p.tokens ++ flat_map assigned_rows p.assign_ops)
+  pub operators_are : c.operators.now ≡ placed_rows 0 (flat_map (λ t. operator_rows (token_parts t)) p.tokens ++ flat_map assigned_rows p.assign_ops)
   pub operator_texts_are : c.operator_texts.now ≡ flat_map (λ t. operator_texts (token_parts t)) p.tokens ++ flat_map assigned_texts p.assign_ops
   pub op_assignments_are : c.op_assignments.now ≡ map assigned_names p.assign_ops
   pub slots_are : c.slots.now ≡ map slot_of p.chains

@@ -12,31 +12,31 @@ use Rattle.grain_flat_file.specs.declared.tags.TheConstants as tags
 use Rattle.grain_flat_file.specs.declared.values.ConstantLists.{ConstantLists}
 use Rattle.grain_flat_file.specs.declared.values.ValueLists.{ValueLists}
 
-abbrev pub row : ℕ → ℕ → ℤ → CValue
-row tag count number = record { tag = tag; count = count; number = number }
+abbrev pub value_row : ℕ → ℕ → ℤ → CValue
+value_row tag count number = record { tag = tag; count = count; number = number }
 
 -- a row of this many bytes, or of this many values
-abbrev pub counted : ℕ → ℕ → CValue
-counted tag count = row tag count (pos 0)
+abbrev pub counted_row : ℕ → ℕ → CValue
+counted_row tag count = value_row tag count (pos 0)
 
 -- ---- the rows of a value, its own first
 
 abbrev mutual
   pub value_rows : Form → List CValue
-  value_rows unit = counted tags.UNIT 0 ∷ []
-  value_rows (boolean false) = counted tags.FALSE 0 ∷ []
-  value_rows (boolean true) = counted tags.TRUE 0 ∷ []
-  value_rows (integer z) = row tags.INTEGER 0 z ∷ []
-  value_rows (character n) = row tags.CHARACTER 0 (pos n) ∷ []
-  value_rows (text t) = counted tags.TEXT (length t) ∷ []
-  value_rows (range a b) = counted tags.RANGE 0 ∷ row tags.INTEGER 0 a ∷ row tags.INTEGER 0 b ∷ []
-  value_rows (range_inclusive a b) = counted tags.RANGE_INCLUSIVE 0 ∷ row tags.INTEGER 0 a ∷ row tags.INTEGER 0 b ∷ []
-  value_rows (array xs) = counted tags.ARRAY (length (listed_forms xs)) ∷ rows_of_forms xs
-  value_rows (blob b) = counted tags.BLOB (length b) ∷ []
-  value_rows (object_map es) = counted tags.MAP (length (listed_entries es)) ∷ rows_of_entries es
-  value_rows (fn_ptr name xs) = counted tags.FN_PTR (length (listed_forms xs)) ∷ counted tags.TEXT (length name) ∷ rows_of_forms xs
-  value_rows (shared x) = counted tags.SHARED 0 ∷ value_rows x
-  value_rows (host t i) = counted tags.HOST 0 ∷ []
+  value_rows unit = counted_row tags.UNIT 0 ∷ []
+  value_rows (boolean false) = counted_row tags.FALSE 0 ∷ []
+  value_rows (boolean true) = counted_row tags.TRUE 0 ∷ []
+  value_rows (integer z) = value_row tags.INTEGER 0 z ∷ []
+  value_rows (character n) = value_row tags.CHARACTER 0 (pos n) ∷ []
+  value_rows (text t) = counted_row tags.TEXT (length t) ∷ []
+  value_rows (range a b) = counted_row tags.RANGE 0 ∷ value_row tags.INTEGER 0 a ∷ value_row tags.INTEGER 0 b ∷ []
+  value_rows (range_inclusive a b) = counted_row tags.RANGE_INCLUSIVE 0 ∷ value_row tags.INTEGER 0 a ∷ value_row tags.INTEGER 0 b ∷ []
+  value_rows (array xs) = counted_row tags.ARRAY (length (listed_forms xs)) ∷ rows_of_forms xs
+  value_rows (blob b) = counted_row tags.BLOB (length b) ∷ []
+  value_rows (object_map es) = counted_row tags.MAP (length (listed_entries es)) ∷ rows_of_entries es
+  value_rows (fn_ptr name xs) = counted_row tags.FN_PTR (length (listed_forms xs)) ∷ counted_row tags.TEXT (length name) ∷ rows_of_forms xs
+  value_rows (shared x) = counted_row tags.SHARED 0 ∷ value_rows x
+  value_rows (host t i) = counted_row tags.HOST 0 ∷ []
 
   pub rows_of_forms : Forms → List CValue
   rows_of_forms no_forms = []
@@ -44,10 +44,10 @@ abbrev mutual
 
   pub rows_of_entries : Entries → List CValue
   rows_of_entries no_entries = []
-  rows_of_entries (entry_then k x es) = (counted tags.TEXT (length k) ∷ value_rows x) ++ rows_of_entries es
+  rows_of_entries (entry_then k x es) = (counted_row tags.TEXT (length k) ∷ value_rows x) ++ rows_of_entries es
 
 abbrev pub entry_rows : List ℕ × Form → List CValue
-entry_rows e = counted tags.TEXT (length e.0) ∷ value_rows e.1
+entry_rows e = counted_row tags.TEXT (length e.0) ∷ value_rows e.1
 
 -- ---- the bytes of its texts and blobs, in the order of the rows
 
@@ -81,8 +81,8 @@ entry_texts e = e.0 ++ value_texts e.1
 -- ---- operators
 
 abbrev pub operator_rows : TokenParts → List CValue
-operator_rows (inl t) = counted tags.TEXT (length t) ∷ []
-operator_rows (inr n) = row tags.OPERATOR 0 (pos n) ∷ []
+operator_rows (inl t) = counted_row tags.TEXT (length t) ∷ []
+operator_rows (inr n) = value_row tags.OPERATOR 0 (pos n) ∷ []
 
 abbrev pub operator_texts : TokenParts → List ℕ
 operator_texts (inl t) = t
@@ -109,25 +109,25 @@ abbrev pub has_bytes : ℕ → Bool
 has_bytes tag = tag == tags.TEXT || tag == tags.BLOB
 
 -- how many bytes belong to a row
-abbrev pub bytes_of : CValue → ℕ
-bytes_of r = cond (has_bytes r.tag) r.count 0
+abbrev pub row_bytes : CValue → ℕ
+row_bytes r = cond (has_bytes r.tag) r.count 0
 
 -- a row that says where its bytes begin, if it has any
 abbrev pub placed_row : ℕ → CValue → CValue
 placed_row from r = cond (has_bytes r.tag) (record r { number = pos from }) r
 
 -- the rows, of which the first has its bytes there
-abbrev pub placed : ℕ → List CValue → List CValue
-placed from [] = []
-placed from (r ∷ rs) = placed_row from r ∷ placed (from + bytes_of r) rs
+abbrev pub placed_rows : ℕ → List CValue → List CValue
+placed_rows from [] = []
+placed_rows from (r ∷ rs) = placed_row from r ∷ placed_rows (from + row_bytes r) rs
 
 -- these are the constants as rows
 pub record AreConstantLists (xs : List Form) (lists : ConstantLists) : Type 0 where
   pub begins_are : lists.begins.items ≡ value_begins 0 xs
-  pub rows_are : lists.values.rows.items ≡ placed 0 (flat_map value_rows xs)
+  pub rows_are : lists.values.rows.items ≡ placed_rows 0 (flat_map value_rows xs)
   pub texts_are : lists.values.texts.items ≡ flat_map value_texts xs
 
 -- these are the operators, and then those of the op-assignments, as rows
 pub record AreOperatorLists (operators : List Token) (assigned : List AssignOp) (lists : ValueLists) : Type 0 where
-  pub rows_are : lists.rows.items ≡ placed 0 (flat_map (λ t. operator_rows (token_parts t)) operators ++ flat_map assigned_rows assigned)
+  pub rows_are : lists.rows.items ≡ placed_rows 0 (flat_map (λ t. operator_rows (token_parts t)) operators ++ flat_map assigned_rows assigned)
   pub texts_are : lists.texts.items ≡ flat_map (λ t. operator_texts (token_parts t)) operators ++ flat_map assigned_texts assigned

@@ -1,24 +1,26 @@
-//! A program with its flat form.
-ghost use Rattle.std.specs.Prelude.{◌≡◌, [], IfOk, length, unwrap_or};
+//! The flat form of a program.
+ghost use Rattle.std.specs.Prelude.{◌≡◌, IfOk};
 ghost use Rattle.grain.specs.Sidecars.{IsSidecar};
-ghost use Rattle.grain_file.specs.ProgramFile.{halves};
 ghost use Rattle.grain_flat_file.specs.Contents.{AreContents, AreLists, ArePools, IsFlatFormOf};
 
+use crate::copies::{Copies, Numbers, copies_of, numbers_of};
 use crate::functions::{FunctionLists, function_lists};
 use crate::pools::{ChainLists, SwitchLists, chain_lists, constant_rows, switch_lists};
+use crate::recalled::Recalled;
 use crate::records::{CContents, COpAssignment};
 use crate::unflat::Unflat;
 use crate::values::{ConstantLists, ValueLists, assigned_names, constant_lists, operator_lists};
 use grain::{Program, Sidecar};
-use grain_base::Flags;
-use grain_bytecode::{Positions, StripError};
+use grain_bytecode::StripError;
 use grain_flat::{CConstant, CPools, CProgram};
 use std::alloc::Global;
 use std::marker::Model;
 
-/// What a program has, as lists.
+/// What a program has, as numbers and lists.
 #[derive(Drop)]
 pub(crate) struct Lists {
+    pub(crate) numbers: Numbers,
+    pub(crate) copies: Copies,
     pub(crate) functions: FunctionLists,
     pub(crate) asked: Vec<CConstant>,
     pub(crate) chains: ChainLists,
@@ -29,12 +31,12 @@ pub(crate) struct Lists {
     pub(crate) positions: Sidecar,
 }
 
-/// A program with its flat form.
+/// The flat form of a program.
 ///
-/// Contracts see the program. It takes memory for both.
+/// Contracts see the program, which isn't kept itself.
 #[derive(Drop)]
 pub struct FlatFile {
-    program: Program,
+    recalled: Recalled,
     lists: Lists,
 }
 
@@ -47,9 +49,9 @@ impl Model for FlatFile {
 
     ghost coded = { whole.the_row.coded };
 
-    ghost view = { λ f. f.program };
+    ghost view = { λ f. f.recalled.program };
 
-    ghost invariant = { λ f. AreLists f.program f.lists };
+    ghost invariant = { λ f. AreLists f.recalled.program f.lists };
 }
 
 /// The positions of a program, apart from it.
@@ -63,10 +65,11 @@ fn positions_of(program: &Program) -> Result<Sidecar, Unflat>
     }
 }
 
-/// What a program has, as lists.
+/// What a program has, as numbers and lists.
 fn lists_of(alloc: Global, program: &Program) -> Result<Lists, Unflat>
     ensures { IfOk result (AreLists program.now) }
 {
+    let copies = copies_of(alloc, program)?;
     let functions = function_lists(alloc, program)?;
     let asked = constant_rows(alloc, program.consts())?;
     let chains = chain_lists(alloc, program.chains())?;
@@ -76,6 +79,8 @@ fn lists_of(alloc: Global, program: &Program) -> Result<Lists, Unflat>
     let assigned = assigned_names(alloc, program.assign_ops())?;
     let positions = positions_of(program)?;
     Ok(Lists {
+        numbers: numbers_of(program),
+        copies,
         functions,
         asked,
         chains,
@@ -88,7 +93,7 @@ fn lists_of(alloc: Global, program: &Program) -> Result<Lists, Unflat>
 }
 
 impl FlatFile {
-    /// A program with its flat form. Time and memory are linear in what the program has.
+    /// The flat form of a program, which is dropped when that is made. Time and memory are linear in what the program has.
     ///
     /// # Errors
     /// `TooLong` where a list has more entries than a row can count. `OutOfMemory` where a growth was refused.
@@ -96,22 +101,22 @@ impl FlatFile {
         ensures { IfOk result (λ file. file ≡ program) }
     {
         let lists = lists_of(alloc, &program)?;
-        Ok(FlatFile { program, lists })
+        let recalled = Recalled::of(&program);
+        Ok(FlatFile { recalled, lists })
     }
 
     /// The pools.
     fn pools(&self) -> CPools<'_>
         ensures { ArePools self.now result }
     {
-        let names = self.program.names();
         CPools {
             constants: &self.lists.asked,
-            names: names.blob(),
-            starts: names.starts(),
-            operators: self.program.tokens().len(),
-            op_assignments: self.program.assign_ops().len(),
-            fragments: self.program.residual_count(),
-            functions: self.program.num_functions(),
+            names: &self.lists.copies.names,
+            starts: &self.lists.copies.starts,
+            operators: self.lists.numbers.operators,
+            op_assignments: self.lists.numbers.op_assignments,
+            fragments: self.lists.numbers.fragments,
+            functions: self.lists.numbers.functions,
             chains: &self.lists.chains.rows,
             steps: &self.lists.chains.steps,
             switches: &self.lists.switches.rows,
@@ -125,29 +130,9 @@ impl FlatFile {
         ensures { IsFlatFormOf self.now result }
     {
         CProgram {
-            code: self.program.code(),
+            code: &self.lists.copies.code,
             chunks: &self.lists.functions.chunks,
             pools: self.pools(),
-        }
-    }
-
-    /// The name of the source.
-    fn source(&self) -> &[u8]
-        ensures { result.now ≡ unwrap_or self.now.source [] }
-    {
-        match self.program.source() {
-            Some(source) => source.as_bytes(),
-            None => &[],
-        }
-    }
-
-    /// How many positions of the code there are.
-    fn count_positions(&self) -> usize
-        ensures { result ≡ length (unwrap_or self.now.positions []) }
-    {
-        match self.program.positions() {
-            Positions::Dense(positions) => positions.len(),
-            Positions::Stripped => 0,
         }
     }
 
@@ -155,15 +140,14 @@ impl FlatFile {
     pub fn contents(&self) -> CContents<'_>
         ensures { AreContents self.now result }
     {
-        let id = self.program.debug_id();
         CContents {
             program: self.flat_form(),
-            caps: self.program.caps().bits(),
-            has_source: self.program.source().is_some(),
-            has_positions: !self.program.positions().is_stripped(),
-            id_low: low_half(id),
-            id_high: high_half(id),
-            source: self.source(),
+            caps: self.lists.numbers.caps,
+            has_source: self.lists.numbers.has_source,
+            has_positions: self.lists.numbers.has_positions,
+            id_low: self.lists.numbers.id_low,
+            id_high: self.lists.numbers.id_high,
+            source: &self.lists.copies.source,
             functions: &self.lists.functions.rows,
             parameters: &self.lists.functions.parameters,
             constants: &self.lists.constants.begins,
@@ -172,7 +156,7 @@ impl FlatFile {
             operators: &self.lists.operators.rows,
             operator_texts: &self.lists.operators.texts,
             op_assignments: &self.lists.assigned,
-            positions: self.count_positions(),
+            positions: self.lists.numbers.positions,
             slots: &self.lists.chains.slots,
             step_flags: &self.lists.chains.flags,
             ranges: &self.lists.switches.ranges,
@@ -180,16 +164,4 @@ impl FlatFile {
             stream: &self.lists.positions.chains,
         }
     }
-}
-
-fn low_half(id: u128) -> u64
-    ensures { result ≡ (halves id).0 }
-{
-    (id % (1 << 64)) as u64
-}
-
-fn high_half(id: u128) -> u64
-    ensures { result ≡ (halves id).1 }
-{
-    (id / (1 << 64)) as u64
 }

@@ -1,17 +1,19 @@
 //! Program files in the flat form in which they are handed to programs in C and Rust.
 //!
-//! [`FlatFile`] is a program with its flat form beside it. What stands in that form is said in the folder `specs/`. The exports
-//! of the static library stand in `grain_c`.
+//! [`FlatFile`] is the flat form of a program, which takes its place. What stands in that form is said in the folder `specs/`. The
+//! exports of the static library stand in `grain_c`.
 #![tactic(auto)]
 
 pub mod causes;
 mod contents;
+mod copies;
 mod errors;
 mod functions;
 pub mod laws;
 mod loading;
 pub mod parts;
 mod pools;
+mod recalled;
 mod records;
 pub mod tags;
 mod unflat;

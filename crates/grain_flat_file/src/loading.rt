@@ -19,7 +19,7 @@ pub enum FileStop {
     TooLong,
 }
 
-/// The program that the bytes are a file of, with its flat form. It costs one [`read`] and one [`FlatFile::new`].
+/// The flat form of the program that the bytes are a file of. It costs one [`read`] and one [`FlatFile::new`].
 ///
 /// # Errors
 /// As these.

@@ -161,16 +161,18 @@ pub(crate) struct ChainLists {
 }
 
 impl ChainLists {
-    /// Of no chains.
-    fn new(alloc: Global) -> ChainLists
-        ensures { AreChainLists [] result }
+    /// Of no chains, with room for this many.
+    fn new(alloc: Global, count: usize) -> Result<ChainLists, AllocError>
+        ensures { IfOk result (AreChainLists []) }
     {
-        ChainLists {
-            rows: Vec::new(alloc),
-            slots: Vec::new(alloc),
+        let rows = Vec::with_capacity(alloc, count)?;
+        let slots = Vec::with_capacity(alloc, count)?;
+        Ok(ChainLists {
+            rows,
+            slots,
             steps: Vec::new(alloc),
             flags: Vec::new(alloc),
-        }
+        })
     }
 
     /// Adds steps.
@@ -212,7 +214,7 @@ impl ChainLists {
 pub(crate) fn chain_lists(alloc: Global, chains: &[Chain]) -> Result<ChainLists, Unflat>
     ensures { IfOk result (AreChainLists chains.now) }
 {
-    let mut lists = ChainLists::new(alloc);
+    let mut lists = ChainLists::new(alloc, chains.len())?;
     for chain in chains {
         lists.add(chain)?;
     }
@@ -259,7 +261,7 @@ fn add_cases(rows: &mut Vec<CCase>, cases: &HashMap<Dynamic, (u32, u32)>) -> Res
 }
 
 /// How many entries there are, as a row says it.
-fn count_of(count: usize) -> Result<u32, Unflat>
+pub(crate) fn count_of(count: usize) -> Result<u32, Unflat>
     ensures { IfOk result (λ row. row ≡ count) }
 {
     match u32::try_from(count) {
@@ -292,16 +294,17 @@ fn switch_row(switch: &Switch) -> Result<CSwitch, Unflat>
 }
 
 impl SwitchLists {
-    /// Of no switches.
-    fn new(alloc: Global) -> SwitchLists
-        ensures { AreSwitchLists [] result }
+    /// Of no switches, with room for this many.
+    fn new(alloc: Global, count: usize) -> Result<SwitchLists, AllocError>
+        ensures { IfOk result (AreSwitchLists []) }
     {
-        SwitchLists {
-            rows: Vec::new(alloc),
+        let rows = Vec::with_capacity(alloc, count)?;
+        Ok(SwitchLists {
+            rows,
             cases: Vec::new(alloc),
             targets: Vec::new(alloc),
             ranges: Vec::new(alloc),
-        }
+        })
     }
 
     /// Adds the cases of a switch.
@@ -357,7 +360,7 @@ impl SwitchLists {
 pub(crate) fn switch_lists(alloc: Global, switches: &[Switch]) -> Result<SwitchLists, Unflat>
     ensures { IfOk result (AreSwitchLists switches.now) }
 {
-    let mut lists = SwitchLists::new(alloc);
+    let mut lists = SwitchLists::new(alloc, switches.len())?;
     for switch in switches {
         lists.add(switch)?;
     }

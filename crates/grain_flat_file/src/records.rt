@@ -50,7 +50,7 @@ pub struct CValue {
     pub tag: u32,
     /// How many bytes a text or a blob has, how many values an array has, how many entries a map, and how many values are bound
     /// to a function pointer; else 0.
-    pub count: usize,
+    pub count: u32,
     /// An integer, the number of a character or an operator, or where the bytes of a text or a blob begin in
     /// [`CContents::texts`]; else 0.
     pub number: i64,
@@ -79,7 +79,7 @@ pub struct CContents<'a> {
     /// The indices of the names of the parameters of all functions.
     pub parameters: &'a [u32],
     /// Where each constant begins among the values.
-    pub constants: &'a [usize],
+    pub constants: &'a [u32],
     /// The constants, one after another.
     pub values: &'a [CValue],
     /// The bytes of the texts and blobs among the values.
@@ -120,9 +120,9 @@ pub struct CLimits {
 #[repr(C)]
 #[derive(Clone, Copy)]
 pub struct CReadError {
-    /// What is wrong, by a number of [`crate::tags`].
+    /// What is wrong, by a number of [`crate::causes`].
     pub cause: u32,
-    /// The part that the byte is in, by a number of [`crate::tags`].
+    /// The part that the byte is in, by a number of [`crate::parts`].
     pub part: u32,
     /// The index of an item of a list, where the part is one.
     pub index: u64,

@@ -1,4 +1,4 @@
-//! What a value is, why bytes are no file, and the parts of a file, by number.
+//! What a value is, by number.
 
 /// No value.
 pub const UNIT: u32 = 0;

@@ -7,7 +7,7 @@ use std::alloc::{AllocError, AllocFailed};
 pub enum Unflat {
     /// A growth was refused.
     OutOfMemory,
-    /// A list has 4294967296 entries or more.
+    /// A list has 4294967296 entries or more, or a text or a blob as many bytes.
     TooLong,
 }
 

@@ -4,8 +4,9 @@ ghost use Rattle.std.specs.List.{flat_map};
 ghost use Rattle.grain_base.specs.Tokens.{token_parts};
 ghost use Rattle.grain_fields.specs.Form.{entry_forms, form_entries_of, forms, forms_of, pointer_form, value_form};
 ghost use Rattle.grain_fields.specs.Form as form;
-ghost use Rattle.grain_flat_file.specs.Values.{AreConstantLists, AreOperatorLists, assigned_names, assigned_rows, assigned_texts, bytes_of, entry_rows, entry_texts, has_bytes, operator_rows, operator_texts, placed, placed_row, row, value_begins, value_rows, value_texts};
+ghost use Rattle.grain_flat_file.specs.Values.{AreConstantLists, AreOperatorLists, assigned_names, assigned_rows, assigned_texts, entry_rows, entry_texts, has_bytes, operator_rows, operator_texts, placed_row, placed_rows, row_bytes, value_begins, value_row, value_rows, value_texts};
 
+use crate::pools::count_of;
 use crate::records::{COpAssignment, CValue};
 use crate::tags::{
     ARRAY, BLOB, CHARACTER, FALSE, FN_PTR, HOST, INTEGER, MAP, OPERATOR, RANGE, RANGE_INCLUSIVE,
@@ -27,40 +28,41 @@ pub(crate) struct ValueLists {
 }
 
 impl ValueLists {
-    /// Of no values.
-    pub(crate) fn new(alloc: Global) -> ValueLists
-        ensures { (result.rows.items ≡ []) × (result.texts.items ≡ []) }
+    /// Of no values, with room for this many rows and bytes.
+    pub(crate) fn new(alloc: Global, rows: usize, bytes: usize) -> Result<ValueLists, AllocError>
+        ensures { IfOk result (λ lists. (lists.rows.items ≡ []) × (lists.texts.items ≡ [])) }
     {
-        ValueLists {
-            rows: Vec::new(alloc),
-            texts: Vec::new(alloc),
-        }
+        let rows = Vec::with_capacity(alloc, rows)?;
+        let texts = Vec::with_capacity(alloc, bytes)?;
+        Ok(ValueLists { rows, texts })
     }
 
     /// Adds a row.
-    fn push(&mut self, tag: u32, count: usize, number: i64) -> Result<(), AllocError>
+    fn push(&mut self, tag: u32, count: usize, number: i64) -> Result<(), Unflat>
         ensures rows { OnOk result
-            (self.new.rows.items ≡ self.old.rows.items ++ row tag count number ∷ []) }
+            (self.new.rows.items ≡ self.old.rows.items ++ value_row tag count number ∷ []) }
         ensures texts { self.new.texts ≡ self.old.texts }
     {
+        let count = count_of(count)?;
         self.rows.push(CValue { tag, count, number })?;
         Ok(())
     }
 
     /// Adds a text or a blob.
-    fn push_bytes(&mut self, tag: u32, bytes: &[u8]) -> Result<(), AllocError>
+    fn push_bytes(&mut self, tag: u32, bytes: &[u8]) -> Result<(), Unflat>
         ensures rows { OnOk result (self.new.rows.items
-            ≡ self.old.rows.items ++ row tag (length bytes.now) (pos 0) ∷ []) }
+            ≡ self.old.rows.items ++ value_row tag (length bytes.now) (pos 0) ∷ []) }
         ensures texts { OnOk result (self.new.texts.items ≡ self.old.texts.items ++ bytes.now) }
     {
         self.push(tag, bytes.len(), 0)?;
-        self.texts.extend_from_slice(bytes)
+        self.texts.extend_from_slice(bytes)?;
+        Ok(())
     }
 
     /// Adds a range.
-    fn push_range(&mut self, tag: u32, from: i64, to: i64) -> Result<(), AllocError>
+    fn push_range(&mut self, tag: u32, from: i64, to: i64) -> Result<(), Unflat>
         ensures rows { OnOk result (self.new.rows.items ≡ self.old.rows.items
-            ++ row tag 0 (pos 0) ∷ row INTEGER 0 from ∷ row INTEGER 0 to ∷ []) }
+            ++ value_row tag 0 (pos 0) ∷ value_row INTEGER 0 from ∷ value_row INTEGER 0 to ∷ []) }
         ensures texts { self.new.texts ≡ self.old.texts }
     {
         self.push(tag, 0, 0)?;
@@ -70,7 +72,7 @@ impl ValueLists {
 
     /// Adds a value.
     #[cycle(add_value)]
-    pub(crate) fn add(&mut self, value: &Dynamic) -> Result<(), AllocError>
+    pub(crate) fn add(&mut self, value: &Dynamic) -> Result<(), Unflat>
         ensures rows { OnOk result
             (self.new.rows.items ≡ self.old.rows.items ++ value_rows (value_form value.now)) }
         ensures texts { OnOk result
@@ -95,7 +97,7 @@ impl ValueLists {
 
     /// Adds a shared value.
     #[cycle(add_value)]
-    fn add_shared(&mut self, inner: &Box<Dynamic>) -> Result<(), AllocError>
+    fn add_shared(&mut self, inner: &Box<Dynamic>) -> Result<(), Unflat>
         ensures rows { OnOk result (self.new.rows.items ≡ self.old.rows.items
             ++ value_rows (form.shared (value_form inner.now.value))) }
         ensures texts { OnOk result (self.new.texts.items ≡ self.old.texts.items
@@ -107,7 +109,7 @@ impl ValueLists {
 
     /// Adds an array.
     #[cycle(add_value)]
-    fn add_array(&mut self, values: &Vec<Dynamic>) -> Result<(), AllocError>
+    fn add_array(&mut self, values: &Vec<Dynamic>) -> Result<(), Unflat>
         ensures rows { OnOk result (self.new.rows.items ≡ self.old.rows.items
             ++ value_rows (form.array (forms_of (forms values.now.items)))) }
         ensures texts { OnOk result (self.new.texts.items ≡ self.old.texts.items
@@ -120,7 +122,7 @@ impl ValueLists {
 
     /// Adds a function pointer.
     #[cycle(add_value)]
-    fn add_pointer(&mut self, pointer: &FnPtr) -> Result<(), AllocError>
+    fn add_pointer(&mut self, pointer: &FnPtr) -> Result<(), Unflat>
         ensures rows { OnOk result (self.new.rows.items
             ≡ self.old.rows.items ++ value_rows (pointer_form pointer.now)) }
         ensures texts { OnOk result (self.new.texts.items
@@ -135,7 +137,7 @@ impl ValueLists {
 
     /// Adds values, one after another.
     #[cycle(add_value)]
-    pub(crate) fn add_all(&mut self, values: &[Dynamic]) -> Result<(), AllocError>
+    pub(crate) fn add_all(&mut self, values: &[Dynamic]) -> Result<(), Unflat>
         ensures rows { OnOk result (self.new.rows.items
             ≡ self.old.rows.items ++ flat_map value_rows (forms values.now)) }
         ensures texts { OnOk result (self.new.texts.items
@@ -149,7 +151,7 @@ impl ValueLists {
 
     /// Adds a map.
     #[cycle(add_value)]
-    fn add_map(&mut self, entries: &BTreeMap<String, Dynamic>) -> Result<(), AllocError>
+    fn add_map(&mut self, entries: &BTreeMap<String, Dynamic>) -> Result<(), Unflat>
         ensures rows { OnOk result (self.new.rows.items ≡ self.old.rows.items
             ++ value_rows (form.object_map (form_entries_of (entry_forms entries.now.entries)))) }
         ensures texts { OnOk result (self.new.texts.items ≡ self.old.texts.items
@@ -162,7 +164,7 @@ impl ValueLists {
 
     /// Adds the entries of a map.
     #[cycle(add_value)]
-    fn add_entries(&mut self, entries: &BTreeMap<String, Dynamic>) -> Result<(), AllocError>
+    fn add_entries(&mut self, entries: &BTreeMap<String, Dynamic>) -> Result<(), Unflat>
         ensures rows { OnOk result (self.new.rows.items ≡ self.old.rows.items
             ++ flat_map entry_rows (entry_forms entries.now.entries)) }
         ensures texts { OnOk result (self.new.texts.items ≡ self.old.texts.items
@@ -176,7 +178,7 @@ impl ValueLists {
     }
 
     /// Adds an operator.
-    fn add_operator(&mut self, token: &Token) -> Result<(), AllocError>
+    fn add_operator(&mut self, token: &Token) -> Result<(), Unflat>
         ensures rows { OnOk result (self.new.rows.items
             ≡ self.old.rows.items ++ operator_rows (token_parts token.now)) }
         ensures texts { OnOk result (self.new.texts.items
@@ -199,7 +201,7 @@ fn has_bytes(tag: u32) -> bool
 /// A row that says where its bytes begin, and where the next one's do.
 fn placed_row(from: usize, row: &CValue) -> Result<(CValue, usize), Unflat>
     ensures row { IfOk result (λ p. p.0 ≡ placed_row from row.now) }
-    ensures next { IfOk result (λ p. p.1 ≡ from + bytes_of row.now) }
+    ensures next { IfOk result (λ p. p.1 ≡ from + row_bytes row.now) }
 {
     if !has_bytes(row.tag) {
         return Ok((*row, from));
@@ -207,7 +209,7 @@ fn placed_row(from: usize, row: &CValue) -> Result<(CValue, usize), Unflat>
     let Ok(number) = i64::try_from(from) else {
         return Err(Unflat::TooLong);
     };
-    let Some(next) = from.checked_add(row.count) else {
+    let Some(next) = from.checked_add(row.count as usize) else {
         return Err(Unflat::TooLong);
     };
     let placed = CValue {
@@ -218,31 +220,44 @@ fn placed_row(from: usize, row: &CValue) -> Result<(CValue, usize), Unflat>
     Ok((placed, next))
 }
 
-/// The rows, which say where their bytes begin.
-fn place(alloc: Global, rows: &[CValue]) -> Result<Vec<CValue>, Unflat>
-    ensures { IfOk result (λ made. made.items ≡ placed 0 rows.now) }
+/// Has the rows say where their bytes begin.
+fn place(rows: &mut [CValue]) -> Result<(), Unflat>
+    ensures { OnOk result (rows.new ≡ placed_rows 0 rows.old) }
 {
-    let mut made = Vec::with_capacity(alloc, rows.len())?;
     let mut from = 0;
-    for row in rows {
+    for row in rows.iter_mut() {
         let (placed, next) = placed_row(from, row)?;
-        made.push(placed)?;
+        *row = placed;
         from = next;
     }
-    Ok(made)
+    Ok(())
 }
 
 /// Constants as rows.
 #[derive(Drop)]
 pub(crate) struct ConstantLists {
     /// Where each constant begins.
-    pub(crate) begins: Vec<usize>,
+    pub(crate) begins: Vec<u32>,
     /// The constants, one after another.
     pub(crate) values: ValueLists,
 }
 
+/// How many bytes the texts and blobs among the constants have, without what is inside of others.
+fn count_bytes(constants: &[Dynamic]) -> usize {
+    let mut count: usize = 0;
+    for constant in constants {
+        let more = match constant {
+            Dynamic::Str(text) => text.len(),
+            Dynamic::Blob(bytes) => bytes.len(),
+            _ => 0,
+        };
+        count = count.saturating_add(more);
+    }
+    count
+}
+
 /// The constants as rows, and where each begins.
-fn list_constants(alloc: Global, constants: &[Dynamic]) -> Result<ConstantLists, AllocError>
+fn list_constants(alloc: Global, constants: &[Dynamic]) -> Result<ConstantLists, Unflat>
     ensures begins { IfOk result (λ lists. lists.begins.items ≡ value_begins 0 (forms constants.now)) }
     ensures rows { IfOk result (λ lists.
         lists.values.rows.items ≡ flat_map value_rows (forms constants.now)) }
@@ -250,9 +265,10 @@ fn list_constants(alloc: Global, constants: &[Dynamic]) -> Result<ConstantLists,
         lists.values.texts.items ≡ flat_map value_texts (forms constants.now)) }
 {
     let mut begins = Vec::with_capacity(alloc, constants.len())?;
-    let mut values = ValueLists::new(alloc);
+    let mut values = ValueLists::new(alloc, constants.len(), count_bytes(constants))?;
     for constant in constants {
-        begins.push(values.rows.len())?;
+        let begin = count_of(values.rows.len())?;
+        begins.push(begin)?;
         values.add(constant)?;
     }
     Ok(ConstantLists { begins, values })
@@ -262,17 +278,13 @@ fn list_constants(alloc: Global, constants: &[Dynamic]) -> Result<ConstantLists,
 pub(crate) fn constant_lists(alloc: Global, constants: &[Dynamic]) -> Result<ConstantLists, Unflat>
     ensures { IfOk result (AreConstantLists (forms constants.now)) }
 {
-    let ConstantLists { begins, values } = list_constants(alloc, constants)?;
-    let rows = place(alloc, &values.rows)?;
-    let values = ValueLists {
-        rows,
-        texts: values.texts,
-    };
-    Ok(ConstantLists { begins, values })
+    let mut lists = list_constants(alloc, constants)?;
+    place(&mut lists.values.rows)?;
+    Ok(lists)
 }
 
 /// Adds the operators of op-assignments.
-fn add_assigned(lists: &mut ValueLists, assigned: &[AssignOp]) -> Result<(), AllocError>
+fn add_assigned(lists: &mut ValueLists, assigned: &[AssignOp]) -> Result<(), Unflat>
     ensures rows { OnOk result (lists.new.rows.items
         ≡ lists.old.rows.items ++ flat_map assigned_rows assigned.now) }
     ensures texts { OnOk result (lists.new.texts.items
@@ -286,7 +298,7 @@ fn add_assigned(lists: &mut ValueLists, assigned: &[AssignOp]) -> Result<(), All
 }
 
 /// Adds operators.
-fn add_operators(lists: &mut ValueLists, operators: &[Token]) -> Result<(), AllocError>
+fn add_operators(lists: &mut ValueLists, operators: &[Token]) -> Result<(), Unflat>
     ensures rows { OnOk result (lists.new.rows.items
         ≡ lists.old.rows.items ++ flat_map (λ t. operator_rows (token_parts t)) operators.now) }
     ensures texts { OnOk result (lists.new.texts.items
@@ -306,14 +318,11 @@ pub(crate) fn operator_lists(
 ) -> Result<ValueLists, Unflat>
     ensures { IfOk result (AreOperatorLists operators.now assigned.now) }
 {
-    let mut lists = ValueLists::new(alloc);
+    let mut lists = ValueLists::new(alloc, operators.len(), 0)?;
     add_operators(&mut lists, operators)?;
     add_assigned(&mut lists, assigned)?;
-    let rows = place(alloc, &lists.rows)?;
-    Ok(ValueLists {
-        rows,
-        texts: lists.texts,
-    })
+    place(&mut lists.rows)?;
+    Ok(lists)
 }
 
 /// What the op-assignments name.

@@ -211,7 +211,7 @@ pub enum FileError {
         /// How many it may have.
         limit: u64,
     },
-    /// A list of it has 4294967296 entries or more.
+    /// A list of it has 4294967296 entries or more, or a text or a blob as many bytes.
     TooLong,
     /// The allocator refused.
     OutOfMemory,
@@ -343,8 +343,7 @@ pub struct ProgramFile {
     file: NonNull<raw::File>,
 }
 
-// SAFETY: the file is this value's alone: memory of the allocator with plain data in it, of which nothing is tied to a thread.
-// That is read in the code of the library; it is proved of a scratch, and not of a file.
+// SAFETY: the file is this value's alone, and that it may be handed to another thread is proved of the library's handle.
 unsafe impl Send for ProgramFile {}
 
 // SAFETY: nothing writes what a file has before it is freed, and only a drop frees it.
@@ -534,10 +533,11 @@ impl ProgramFile {
     #[must_use]
     pub fn constant(&self, index: usize) -> Option<Value<'_>> {
         let contents = self.contents();
-        let begins: &[usize] = contents!(contents, constants, constants_len);
+        let begins: &[u32] = contents!(contents, constants, constants_len);
         let values: &[raw::Value] = contents!(contents, values, values_len);
         let texts = contents!(contents, texts, texts_len);
-        Values::new(values.get(*begins.get(index)?..)?, texts, 1).next()
+        let begin = *begins.get(index)? as usize;
+        Values::new(values.get(begin..)?, texts, 1).next()
     }
 
     fn all_operators(&self) -> impl Iterator<Item = Operator<'_>> + '_ {

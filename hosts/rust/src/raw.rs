@@ -120,7 +120,7 @@ pub(crate) struct OpAssignment {
 #[derive(Clone, Copy, Debug, PartialEq)]
 pub(crate) struct Value {
     pub(crate) tag: u32,
-    pub(crate) count: usize,
+    pub(crate) count: u32,
     pub(crate) number: i64,
 }
 
@@ -138,7 +138,7 @@ pub(crate) struct Contents {
     pub(crate) functions_len: usize,
     pub(crate) parameters: *const u32,
     pub(crate) parameters_len: usize,
-    pub(crate) constants: *const usize,
+    pub(crate) constants: *const u32,
     pub(crate) constants_len: usize,
     pub(crate) values: *const Value,
     pub(crate) values_len: usize,
@@ -259,7 +259,7 @@ const _: () = assert!(size_of::<PoolsFlaw>() == 16);
 const _: () = assert!(size_of::<Function>() == 16);
 const _: () = assert!(size_of::<OpAssignment>() == 8);
 const _: () = assert!(size_of::<Range>() == 24);
-const _: () = assert!(size_of::<Value>() == 24);
+const _: () = assert!(size_of::<Value>() == 16);
 const _: () = assert!(size_of::<Contents>() == 448);
 const _: () = assert!(size_of::<Limits>() == 24);
 const _: () = assert!(size_of::<ReadError>() == 32);

@@ -89,15 +89,15 @@ impl<'a> Values<'a> {
             raw::VALUE_TEXT => Value::Text(text_of(row, self.texts)),
             raw::VALUE_RANGE => Value::Range(self.pair().0, self.pair().1),
             raw::VALUE_RANGE_INCLUSIVE => Value::RangeInclusive(self.pair().0, self.pair().1),
-            raw::VALUE_ARRAY => Value::Array(self.inside(row.count)),
+            raw::VALUE_ARRAY => Value::Array(self.inside(count_of(row))),
             raw::VALUE_BLOB => Value::Blob(bytes_of(row, self.texts)),
-            raw::VALUE_MAP => Value::Map(self.inside(row.count.saturating_mul(2))),
+            raw::VALUE_MAP => Value::Map(self.inside(count_of(row).saturating_mul(2))),
             raw::VALUE_FN_PTR => {
                 let name = self.rows.get(1).map_or("", |row| text_of(row, self.texts));
                 let bound = Values::new(
                     self.rows.get(2..).unwrap_or_default(),
                     self.texts,
-                    row.count,
+                    count_of(row),
                 );
                 Value::FnPtr(name, bound)
             }
@@ -126,13 +126,18 @@ impl<'a> Iterator for Values<'a> {
 
 impl ExactSizeIterator for Values<'_> {}
 
+/// How many bytes, values or entries a row counts.
+fn count_of(row: &raw::Value) -> usize {
+    row.count as usize
+}
+
 /// How many values a row says are behind it.
 fn count_inside(row: &raw::Value) -> usize {
     match row.tag {
         raw::VALUE_RANGE | raw::VALUE_RANGE_INCLUSIVE => 2,
-        raw::VALUE_ARRAY => row.count,
-        raw::VALUE_MAP => row.count.saturating_mul(2),
-        raw::VALUE_FN_PTR => row.count.saturating_add(1),
+        raw::VALUE_ARRAY => count_of(row),
+        raw::VALUE_MAP => count_of(row).saturating_mul(2),
+        raw::VALUE_FN_PTR => count_of(row).saturating_add(1),
         raw::VALUE_SHARED => 1,
         _ => 0,
     }
@@ -153,7 +158,7 @@ fn rows_of_first(rows: &[raw::Value]) -> usize {
 fn bytes_of<'a>(row: &raw::Value, texts: &'a [u8]) -> &'a [u8] {
     let from = usize::try_from(row.number).unwrap_or_default();
     texts
-        .get(from..from.saturating_add(row.count))
+        .get(from..from.saturating_add(count_of(row)))
         .unwrap_or_default()
 }
 

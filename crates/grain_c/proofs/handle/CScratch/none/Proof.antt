@@ -1,6 +1,7 @@
 -- `none` makes a handle that keeps nothing.
-use Rattle.grain_c.proofs.Words.{word, makes_handle, [], ◌∷◌, refl, lit<, false, proved, leaves, ftrue, ‵, raw, ◌⊛◌, ◌$◌, ◌∵◌, !, qed, by, move, split, enter, lit, false_lit, no_more, and_then, returns, alloc_all}
+use Rattle.grain_c.proofs.Words.{word, [], ◌∷◌, refl, lit<, false, proved, leaves, ftrue, ‵, raw, ◌⊛◌, ◌$◌, ◌∵◌, !, qed, by, move, split, enter, lit, false_lit, no_more, and_then, returns, alloc_all}
 use Rattle.grain_c.proofs.Words.{pass_all, free_all, look_at, sets, agg, null_ptr, nothing, alive}
+use Rattle.grain_c.proofs.ScratchWords.{makes_handle}
 use Rattle.grain_c.specs.contracts.handle.CScratch.none.{ended, clauses}
 use Rattle.grain_c.specs.contracts.handle.CScratch.none.Key.{name}
 use Rattle.grain_c.proofs.handle.CScratch.none.Statement.{statement}

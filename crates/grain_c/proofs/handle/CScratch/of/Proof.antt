@@ -1,9 +1,10 @@
 -- `of` takes the box apart, and forgets its allocator and its type.
-use Rattle.grain_c.proofs.Words.{word, Kept, Kept-laws, Heap, Heap-laws, no_drop, Boxed, Boxed-typed, static, passes, makes_handle, List, [], ◌∷◌, ◌++◌, refl, true, ap, Goes-blank, proved_at, leaves, ftrue, flft}
+use Rattle.grain_c.proofs.Words.{word, Heap, Heap-laws, no_drop, static, passes, List, [], ◌∷◌, ◌++◌, refl, true, ap, Goes-blank, proved_at, leaves, ftrue, flft}
 use Rattle.grain_c.proofs.Words.{full_share, sep, emp, via, mono_l, id⊢, ◌⊑◌, fact, Running, tables, Dict, impl, tnil, dnil, method, no_args, Val, Ura, Logic, sem, ‵, raw, ◌⊛◌, some, later, prop, Sq, ◌$◌, ◌∵◌, !, qed}
 use Rattle.grain_c.proofs.Words.{by, done, move, drop, split, join, fsplit, fjoin, fpack, feq_l, pick, show, frame, updating, now, use1, await, enter, of_opd, true_lit, no_more, and_then, returns, alloc_all, pass_all}
 use Rattle.grain_c.proofs.Words.{free_all, look_at, get, sets, lands_as, agg, unit, RawPtr, no, yes, layout, glues, owns, Ptr, rawptr_Lawful, types_at, plain, nothing, only, calls_at, alive, triple_of, Back, framed}
 use Rattle.grain_c.proofs.Words.{widened, run_framed, Stays, stay_dropped, walk_of, ghosts, dict, passed}
+use Rattle.grain_c.proofs.ScratchWords.{Kept, Kept-laws, Boxed, Boxed-typed, makes_handle}
 use Rattle.std.proofs.ResultValues.{and_tt}
 use Rattle.std.specs.Box.Ownership.{box_owns}
 use Rattle.std.specs.Global.{Global}

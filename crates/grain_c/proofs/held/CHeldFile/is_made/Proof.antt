@@ -1,7 +1,7 @@
 -- `is_made` reads the first word behind the reference, and leaves the handle as it was.
-use Rattle.grain_c.proofs.HeldWords.{[], ◌∷◌, List, refl, proved, ftrue, flft, full_share, named, Val, vbool, ‵, ◌⊛◌, ◌$◌, ◌∵◌, !, qed, done, move, keep, split, join, fsplit3, rewrite, suffices, frame, group, enter}
-use Rattle.grain_c.proofs.HeldWords.{of_opd, load, fld, stop, returns, alloc_all, pass_all, free_all, look_at, through, sets, whole, sub, look_in, bool, shows, plain, nothing, owned, opens, closes, peeks, Stays, stay_ref}
-use Rattle.grain_c.proofs.HeldWords.{Goes-ref, says, ends_at}
+use Rattle.grain_c.proofs.Words.{[], ◌∷◌, List, refl, proved, ftrue, flft, full_share, named, Val, vbool, ‵, ◌⊛◌, ◌$◌, ◌∵◌, !, qed, done, move, keep, split, join, fsplit3, rewrite, suffices, frame, group, enter}
+use Rattle.grain_c.proofs.Words.{of_opd, load, fld, stop, returns, alloc_all, pass_all, free_all, look_at, through, sets, whole, sub, look_in, bool, shows, plain, nothing, owned, opens, closes, peeks, Stays, stay_ref}
+use Rattle.grain_c.proofs.Words.{Goes-ref, says, ends_at}
 use denote.{Memory.cell_at, Plain.bool_Makes, Ref.MutRef, Ref.mut_vals, Ref.mut_Tells}
 use Rattle.grain_c.specs.contracts.held.CHeldFile.{the_row as R}
 use Rattle.grain_c.proofs.held.CHeldFile.TheLaws.{lowers}

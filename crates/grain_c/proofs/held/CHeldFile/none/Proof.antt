@@ -1,6 +1,7 @@
 -- `none` makes a handle that keeps nothing.
-use Rattle.grain_c.proofs.HeldWords.{word, makes_handle, ◌≡◌, emp, fact, keep, [], ◌∷◌, refl, lit<, false, proved, leaves, ftrue, ‵, raw, ◌⊛◌, ◌$◌, ◌∵◌, !, qed, by, split, enter, lit, false_lit, no_more, and_then, returns, alloc_all}
-use Rattle.grain_c.proofs.HeldWords.{pass_all, free_all, look_at, sets, agg, null_ptr, nothing, alive}
+use Rattle.grain_c.proofs.Words.{word, ◌≡◌, emp, fact, keep, [], ◌∷◌, refl, lit<, false, proved, leaves, ftrue, ‵, raw, ◌⊛◌, ◌$◌, ◌∵◌, !, qed, by, split, enter, lit, false_lit, no_more, and_then, returns, alloc_all}
+use Rattle.grain_c.proofs.Words.{pass_all, free_all, look_at, sets, agg, null_ptr, nothing, alive}
+use Rattle.grain_c.proofs.HeldWords.{makes_handle}
 use contract.Monad.{fact_i}
 use types.Kit.{use0}
 use Rattle.grain_c.specs.Holds.{no_content}

@@ -1,11 +1,12 @@
 -- `of` takes the box apart, and forgets its allocator and its type.
 use contract.Monad.{fact_i}
 use types.Kit.{use0}
-use Rattle.grain_c.proofs.HeldWords.{word, ◌≡◌, keep, Kept, Kept-laws, Heap, Heap-laws, no_drop, Boxed, Boxed-typed, static, passes, makes_handle, List, [], ◌∷◌, ◌++◌, refl, true, ap, Goes-blank, proved_at, leaves, ftrue, flft}
-use Rattle.grain_c.proofs.HeldWords.{full_share, sep, emp, via, mono_l, id⊢, ◌⊑◌, fact, Running, tables, Dict, impl, tnil, dnil, method, no_args, Val, Ura, Logic, sem, ‵, raw, ◌⊛◌, some, later, prop, Sq, ◌$◌, ◌∵◌, !, qed}
-use Rattle.grain_c.proofs.HeldWords.{by, done, move, drop, split, join, fsplit, fjoin, feq_l, pick, show, frame, updating, now, use1, await, enter, of_opd, true_lit, no_more, and_then, returns, alloc_all, pass_all}
-use Rattle.grain_c.proofs.HeldWords.{free_all, look_at, get, sets, lands_as, agg, unit, RawPtr, no, yes, layout, glues, owns, Ptr, rawptr_Lawful, types_at, plain, nothing, only, calls_at, alive, triple_of, Back, framed}
-use Rattle.grain_c.proofs.HeldWords.{widened, run_framed, Stays, stay_dropped, walk_of, ghosts, dict, passed}
+use Rattle.grain_c.proofs.Words.{word, ◌≡◌, keep, Heap, Heap-laws, no_drop, static, passes, List, [], ◌∷◌, ◌++◌, refl, true, ap, Goes-blank, proved_at, leaves, ftrue, flft}
+use Rattle.grain_c.proofs.Words.{full_share, sep, emp, via, mono_l, id⊢, ◌⊑◌, fact, Running, tables, Dict, impl, tnil, dnil, method, no_args, Val, Ura, Logic, sem, ‵, raw, ◌⊛◌, some, later, prop, Sq, ◌$◌, ◌∵◌, !, qed}
+use Rattle.grain_c.proofs.Words.{by, done, move, drop, split, join, fsplit, fjoin, feq_l, pick, show, frame, updating, now, use1, await, enter, of_opd, true_lit, no_more, and_then, returns, alloc_all, pass_all}
+use Rattle.grain_c.proofs.Words.{free_all, look_at, get, sets, lands_as, agg, unit, RawPtr, no, yes, layout, glues, owns, Ptr, rawptr_Lawful, types_at, plain, nothing, only, calls_at, alive, triple_of, Back, framed}
+use Rattle.grain_c.proofs.Words.{widened, run_framed, Stays, stay_dropped, walk_of, ghosts, dict, passed}
+use Rattle.grain_c.proofs.HeldWords.{Kept, Kept-laws, Boxed, Boxed-typed, makes_handle}
 use Rattle.std.proofs.ResultValues.{and_tt}
 use Rattle.std.specs.Box.Ownership.{box_owns}
 use Rattle.std.proofs.boxed.Box.into_raw.Met.{met}
@@ -18,11 +19,11 @@ use prog.{Model.Model, Wired.Wired, Wp.WpFn}
 use denote.{Param.Steps.one_value, Triple.Clauses.Lasts, Triple.Clauses.lasts, Triple.End.lasts_of}
 use denote.Param.Glue as glue
 use Rattle.std.specs.contracts.boxed.Box.into_raw as callee
-use Rattle.grain_flat_file.specs.contracts.contents.FlatFile as scratch
+use Rattle.grain_flat_file.specs.contracts.contents.FlatFile as flat
 use Rattle.grain_c.specs.contracts.grain_flat_file++contents++FlatFile+Destruct.drop as dropped
 use Rattle.grain_c.proofs.held.CHeldFile.of.Code as code
 
--- the drop of a scratch
+-- the drop of a flat file
 abbrev drops : Dict
 drops = impl (dropped.Key.symbol ∷ []) tnil dnil
 
@@ -63,7 +64,7 @@ of_spec {M = M} 𝓤 𝓛 𝓜 𝓡 wired =
     enter ! _ _ _ _ _ $ alloc_all ! (λ l. pass_all ! refl (fits, tt) $ sets ! (of_opd ! (get ! refl)) refl fits $
     calls_at ! (framed 𝓤 𝓛.H 𝓜 𝓣) goes_to calls z (and_then ! (get ! refl) (no_more !)) (λ u.
     use1 𝓛 (later (some (λ (r : Ptr). (static ⊛ ‵ (RawPtr.own_val r (u ∷ []))) ⊛ some (λ (ws : Lasts of_callee z.0.0 z.0.3).
-    ‵ (lasts of_callee z.0.0 z.0.3 ws) ⊛ ‵ (box_owns (ghosts.dealloc_token v.alloc) scratch.the_row r v.value))))) (id⊢ 𝓤 (goes_to.post z u)) $
+    ‵ (lasts of_callee z.0.0 z.0.3 ws) ⊛ ‵ (box_owns (ghosts.dealloc_token v.alloc) flat.the_row r v.value))))) (id⊢ 𝓤 (goes_to.post z u)) $
     await ! tt $ pick ! (λ r. let p_typed = ((rawptr_Lawful 𝓛).typed r _ refl).0 in split ! $ split ! $ drop ! $ feq_l ! (λ e. pick ! (λ ws. split ! $ drop ! $
     lands_as ! (ap only e) refl p_typed $ sets ! (of_opd ! (get ! refl)) refl p_typed $
     sets ! (agg ! (and_then ! (true_lit !) (and_then ! (get ! refl) (no_more !)))) refl (and_tt _ p_typed.0, (tt, (p_typed.1, tt))) $

@@ -21,5 +21,5 @@ returns c = record {
   dispatch_is = search rules;
   positions_are = search rules;
   has_positions_is = search rules;
-  sites = (c.self.inside.lists.positions, rw (← c.self.view_is) c.self.invariant.positions, c.deref-12.ensures.value, c.deref-13.ensures.value);
+  sites = (c.self.inside.lists.positions, rw (← c.self.view_is) c.self.invariant.positions, c.deref-13.ensures.value, c.deref-14.ensures.value);
 }
