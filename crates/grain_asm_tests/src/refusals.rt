@@ -12,7 +12,7 @@ fn refusal(alloc: Global, text: &str) -> Option<(usize, usize, Problem)> {
 
 #[test]
 fn lines_are_refused(rt: HostRuntime) {
-    let cases: [(&str, usize, usize, Problem); 12] = [
+    let cases: [(&str, usize, usize, Problem); 15] = [
         ("return\n  halt\n", 2, 3, Problem::Mnemonic),
         (".code\n jump there", 2, 7, Problem::UnknownLabel),
         ("a:\nreturn\na:\n", 3, 1, Problem::LabelTwice),
@@ -25,6 +25,9 @@ fn lines_are_refused(rt: HostRuntime) {
         (".operators\n  +++", 2, 3, Problem::NotOperator),
         ("return @0:1", 1, 9, Problem::NoLine),
         (".switches\ncase 1 -> 0", 2, 12, Problem::NoSwitch),
+        (".positions 0\nreturn  @1:1", 2, 9, Problem::NoPosition),
+        (".places\n 3 @1:1", 2, 2, Problem::NoPosition),
+        ("return @1:1\n.positions 9", 2, 1, Problem::NoPosition),
     ];
     for (text, line, column, problem) in cases {
         assert_same(
