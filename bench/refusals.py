@@ -115,6 +115,9 @@ TEXTS = [
     (".operators\n  +++", 2, 3, "no such operator"),
     ("return @0:1", 1, 9, "position without a line"),
     (".switches\ncase 1 -> 0", 2, 12, "no switch before this"),
+    (".positions 0\nreturn  @1:1", 2, 9, "position outside of .positions"),
+    (".places\n 3 @1:1", 2, 2, "position outside of .positions"),
+    ("return @1:1\n.positions 9", 2, 1, "position outside of .positions"),
 ]
 # Assembly texts whose programs have no file, and why.
 UNKEPT = [

@@ -173,6 +173,52 @@ def check_scripts(tool):
     expect("out of fuel" in tool.refused("run", "--fuel", "1000", "-", given=b"loop { }\n"), "a script runs forever")
 
 
+# `x.call(f, ..)` by the Rhai Book, for which the compiler doesn't make these operations: a function that adds to `this` is called on a
+# variable, which is 7 then, and on the value 30. A pointer that lies in a variable is called itself.
+ON_VALUES = b"""
+  load_const 5
+  declare_local x
+  load_const Fn("add")
+  load_const 2
+  call_fn_ptr_on_local 1 0
+  pop
+  load_local 0
+  load_const 30
+  load_const Fn("add")
+  load_const 4
+  call_fn_ptr_method 2
+  call "+" 2
+  load_const Fn("add", 1)
+  declare_local f
+  load_const 1
+  call_fn_ptr_on_local 0 1
+  call "+" 2
+  return
+add:
+  load_this
+  load_local 0
+  call "+" 2
+  assign_this
+  load_this
+  return
+sum:
+  load_local 0
+  load_local 1
+  call "+" 2
+  return
+end:
+.chunks
+  main 0 add
+  function add (y) add sum
+  function add (x, y) sum end
+"""
+
+
+def check_pointers(tool):
+    tool.write("pointers.grain", tool.done("parse", "-", given=ON_VALUES))
+    expect(tool.done("run", "pointers.grain") == b"43\n", "a function pointer isn't called on a value")
+
+
 def check_refusals(tool):
     for unlike in refusals.wrong(tool):
         expect(False, unlike)
@@ -492,7 +538,7 @@ def main():
         if given.write:
             SNAPSHOTS.write_text(snapshots(tool))
             return
-        for check in (check_help, check_snapshots, check_missing, check_programs, check_scripts, check_refusals, check_listings, check_flows, check_dumps, check_page, check_sidecar, check_changes, check_texts, check_items, check_documents, check_large):
+        for check in (check_help, check_snapshots, check_missing, check_programs, check_scripts, check_pointers, check_refusals, check_listings, check_flows, check_dumps, check_page, check_sidecar, check_changes, check_texts, check_items, check_documents, check_large):
             check(tool)
         check_round_trips(tool, given.programs)
     print("grain: all well")

@@ -1,4 +1,5 @@
 //! The main chunk and the functions.
+ghost use Rattle.std.specs.Prelude.{◌≡◌, IfOk, MatchOption};
 
 use crate::cursor::Cursor;
 use crate::error::{Problem, Stop};
@@ -138,7 +139,11 @@ impl Chunks {
     }
 
     /// Takes the whole code as the main chunk where the text has none.
-    pub fn complete(&mut self, len: usize) -> Result<Chunk, Stop> {
+    pub fn complete(&mut self, len: usize) -> Result<Chunk, Stop>
+        ensures { IfOk result (λ main. MatchOption self.old.main
+            (main ≡ record { entry = 0; end = len; max_stack = 65535 })
+            (λ read. main ≡ read)) }
+    {
         if let Some(main) = self.main {
             return Ok(main);
         }

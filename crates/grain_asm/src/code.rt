@@ -1,4 +1,6 @@
 //! Instructions.
+ghost use Rattle.std.specs.Prelude.{◌<◌, OnOk, sum_by, ℕ};
+ghost use Rattle.grain_asm.specs.Widths.{Appends, operand_width};
 
 use crate::cursor::Cursor;
 use crate::error::{Problem, Stop};
@@ -60,7 +62,9 @@ fn read_operand(
     code: &mut Vec<u8>,
     cursor: &mut Cursor<'_>,
     operand: Operand,
-) -> Result<(), Stop> {
+) -> Result<(), Stop>
+    ensures { OnOk result (Appends (operand_width operand) code.old.items code.new.items) }
+{
     match operand {
         Operand::Count => code.push(cursor.number_8()?)?,
         Operand::Target => {
@@ -79,13 +83,33 @@ fn read_operand(
     Ok(())
 }
 
+/// Reads the operands of an instruction, and appends their bytes: as many as a label behind them counts.
+fn read_operands(
+    pools: &mut Pools,
+    labels: &Labels,
+    code: &mut Vec<u8>,
+    cursor: &mut Cursor<'_>,
+    operands: &[Operand],
+) -> Result<(), Stop>
+    ensures { OnOk result
+        (Appends (sum_by operand_width operands.now) code.old.items code.new.items) }
+{
+    for operand in operands {
+        read_operand(pools, labels, code, cursor, *operand)?;
+    }
+    Ok(())
+}
+
 /// Reads an instruction, and appends its bytes.
 pub(crate) fn read_instruction(
     pools: &mut Pools,
     labels: &Labels,
     code: &mut Vec<u8>,
     cursor: &mut Cursor<'_>,
-) -> Result<(), Stop> {
+) -> Result<(), Stop>
+    ensures { OnOk result
+        ((count : ℕ) × (0 < count) × Appends count code.old.items code.new.items) }
+{
     let start = cursor.left;
     let word = cursor.word()?;
     if word == "byte" {
@@ -98,10 +122,7 @@ pub(crate) fn read_instruction(
         return Err(Stop::Fault(Problem::Mnemonic));
     };
     code.push(tag)?;
-    for operand in form.operands {
-        read_operand(pools, labels, code, cursor, *operand)?;
-    }
-    Ok(())
+    read_operands(pools, labels, code, cursor, form.operands)
 }
 
 /// Goes past a label, if the line is one.

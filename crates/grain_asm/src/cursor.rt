@@ -1,4 +1,9 @@
 //! A cursor over a line. What reads a thing moves it past that; where something is wrong, it stays at what is wrong.
+ghost use Rattle.std.specs.Prelude.{◌≡◌, ◌<◌, ◌≤◌, ◌∷◌, ◌++◌, IfOk, IfSome, MatchResult, length, position};
+ghost use Rattle.std.specs.Bool.{OnFalse, OnTrue};
+ghost use Rattle.std.specs.Str.Parse.{ParsesUnsigned};
+ghost use Rattle.grain_asm.specs.Blanks.{ReadsText, is_mark, unblanked};
+ghost use Rattle.grain_asm.specs.Numbers.{ReadsInteger, ReadsNumber, digits_of, radix_of};
 
 use crate::error::{Problem, Stop};
 use grain_base::Position;
@@ -19,34 +24,52 @@ fn is_word_byte(byte: u8) -> bool {
 }
 
 /// The first bytes up to one that ends them, and the others.
-fn split_word(bytes: &[u8]) -> (&[u8], &[u8]) {
+fn split_word(bytes: &[u8]) -> (&[u8], &[u8])
+    ensures { bytes.now ≡ result.0.now ++ result.1.now }
+{
     let len = bytes.iter().position(|byte| !is_word_byte(*byte));
     split_front(bytes, len)
 }
 
-fn split_number(bytes: &[u8]) -> (&[u8], &[u8]) {
+fn split_number(bytes: &[u8]) -> (&[u8], &[u8])
+    ensures { bytes.now ≡ result.0.now ++ result.1.now }
+{
     let len = bytes
         .iter()
         .position(|byte| !is_word_byte(*byte) && *byte != b'-');
     split_front(bytes, len)
 }
 
-fn split_spelling(bytes: &[u8]) -> (&[u8], &[u8]) {
+fn split_spelling(bytes: &[u8]) -> (&[u8], &[u8])
+    ensures { bytes.now ≡ result.0.now ++ result.1.now }
+{
     let len = bytes
         .iter()
         .position(|byte| matches!(*byte, b' ' | b'\t' | b';'));
     split_front(bytes, len)
 }
 
-fn split_front(bytes: &[u8], len: Option<usize>) -> (&[u8], &[u8]) {
-    match len {
-        Some(len) => bytes.split_at_checked(len).unwrap_or((bytes, &[])),
+fn split_front(bytes: &[u8], len: Option<usize>) -> (&[u8], &[u8])
+    ensures { bytes.now ≡ result.0.now ++ result.1.now }
+{
+    match bytes.split_at_checked(len.unwrap_or(bytes.len())) {
+        Some(parts) => parts,
         None => (bytes, &[]),
     }
 }
 
+/// Where the first byte is that is no blank.
+fn first_mark(bytes: &[u8]) -> Option<usize>
+    ensures place { result ≡ position is_mark bytes.now }
+    ensures within { IfSome result (λ at. at < length bytes.now) }
+{
+    bytes.iter().position(|byte| !matches!(*byte, b' ' | b'\t'))
+}
+
 /// The text of these bytes.
-fn text_of(bytes: &[u8]) -> Result<&str, Stop> {
+fn text_of(bytes: &[u8]) -> Result<&str, Stop>
+    ensures { IfOk result (λ text. text.now ≡ bytes.now) }
+{
     match str::from_utf8(bytes) {
         Ok(text) => Ok(text),
         Err(_) => Err(Stop::Fault(Problem::NotText)),
@@ -54,7 +77,9 @@ fn text_of(bytes: &[u8]) -> Result<&str, Stop> {
 }
 
 /// The number that these digits are, decimal or after 0x hexadecimal.
-fn number_of(digits: &str) -> Result<u64, Stop> {
+fn number_of(digits: &str) -> Result<u64, Stop>
+    ensures { ParsesUnsigned 64 (radix_of digits.now) (digits_of digits.now) result }
+{
     let number = match digits.strip_prefix("0x") {
         Some(digits) => u64::from_str_radix(digits, 16),
         None => digits.parse::<u64>(),
@@ -67,13 +92,11 @@ fn number_of(digits: &str) -> Result<u64, Stop> {
 
 impl<'a> Cursor<'a> {
     /// Goes past spaces and tabs.
-    pub fn blanks(&mut self) {
-        let blanks = self
-            .left
-            .iter()
-            .position(|byte| !matches!(*byte, b' ' | b'\t'));
-        match blanks {
-            Some(blanks) => self.left = self.left.get(blanks..).unwrap_or_default(),
+    pub fn blanks(&mut self)
+        ensures { self.new.left.now ≡ unblanked self.old.left.now }
+    {
+        match first_mark(self.left) {
+            Some(at) => self.left = &self.left[at..],
             None => self.left = &[],
         }
     }
@@ -94,7 +117,10 @@ impl<'a> Cursor<'a> {
     }
 
     /// Goes past a byte, if it is next.
-    pub fn eat(&mut self, byte: u8) -> bool {
+    pub fn eat(&mut self, byte: u8) -> bool
+        ensures eaten { OnTrue result (unblanked self.old.left.now ≡ byte ∷ self.new.left.now) }
+        ensures left { OnFalse result (self.new.left.now ≡ unblanked self.old.left.now) }
+    {
         self.blanks();
         match self.left {
             [first, rest @ ..] if *first == byte => {
@@ -106,7 +132,11 @@ impl<'a> Cursor<'a> {
     }
 
     /// Reads a byte that has to be next.
-    pub fn expect(&mut self, byte: u8) -> Result<(), Stop> {
+    pub fn expect(&mut self, byte: u8) -> Result<(), Stop>
+        ensures { MatchResult result
+            (λ _. unblanked self.old.left.now ≡ byte ∷ self.new.left.now)
+            (λ _. self.new.left.now ≡ unblanked self.old.left.now) }
+    {
         if self.eat(byte) {
             Ok(())
         } else {
@@ -115,7 +145,9 @@ impl<'a> Cursor<'a> {
     }
 
     /// Reads a word: letters, digits, `_` and `$`.
-    pub fn word(&mut self) -> Result<&'a str, Stop> {
+    pub fn word(&mut self) -> Result<&'a str, Stop>
+        ensures { IfOk result (λ word. ReadsText self.old.left.now word.now self.new.left.now) }
+    {
         self.blanks();
         let (word, rest) = split_word(self.left);
         if word.is_empty() {
@@ -148,7 +180,10 @@ impl<'a> Cursor<'a> {
     }
 
     /// Reads a number.
-    pub fn number(&mut self) -> Result<u64, Stop> {
+    pub fn number(&mut self) -> Result<u64, Stop>
+        ensures { IfOk result (λ number.
+            ReadsNumber self.old.left.now number self.new.left.now) }
+    {
         self.blanks();
         let start = self.left;
         let word = self.word()?;
@@ -160,7 +195,11 @@ impl<'a> Cursor<'a> {
     }
 
     /// Reads a number up to a limit.
-    pub fn number_up_to(&mut self, limit: u64) -> Result<u64, Stop> {
+    pub fn number_up_to(&mut self, limit: u64) -> Result<u64, Stop>
+        ensures limit { IfOk result (λ number. number ≤ limit) }
+        ensures reads { IfOk result (λ number.
+            ReadsNumber self.old.left.now number self.new.left.now) }
+    {
         self.blanks();
         let start = self.left;
         let number = self.number()?;
@@ -172,25 +211,37 @@ impl<'a> Cursor<'a> {
     }
 
     /// Reads a number of 32 bits.
-    pub fn number_32(&mut self) -> Result<u32, Stop> {
+    pub fn number_32(&mut self) -> Result<u32, Stop>
+        ensures { IfOk result (λ number.
+            ReadsNumber self.old.left.now number self.new.left.now) }
+    {
         let number = self.number_up_to(u64::from(u32::MAX))?;
         u32::try_from(number).map_err(|_| Stop::Fault(Problem::TooWide))
     }
 
     /// Reads a number of 16 bits.
-    pub fn number_16(&mut self) -> Result<u16, Stop> {
+    pub fn number_16(&mut self) -> Result<u16, Stop>
+        ensures { IfOk result (λ number.
+            ReadsNumber self.old.left.now number self.new.left.now) }
+    {
         let number = self.number_up_to(u64::from(u16::MAX))?;
         u16::try_from(number).map_err(|_| Stop::Fault(Problem::TooWide))
     }
 
     /// Reads a number of 8 bits.
-    pub fn number_8(&mut self) -> Result<u8, Stop> {
+    pub fn number_8(&mut self) -> Result<u8, Stop>
+        ensures { IfOk result (λ number.
+            ReadsNumber self.old.left.now number self.new.left.now) }
+    {
         let number = self.number_up_to(u64::from(u8::MAX))?;
         u8::try_from(number).map_err(|_| Stop::Fault(Problem::TooWide))
     }
 
     /// Reads an integer, with a sign or without.
-    pub fn integer(&mut self) -> Result<i64, Stop> {
+    pub fn integer(&mut self) -> Result<i64, Stop>
+        ensures { IfOk result (λ number.
+            ReadsInteger self.old.left.now number self.new.left.now) }
+    {
         self.blanks();
         let (digits, rest) = split_number(self.left);
         let digits = text_of(digits)?;

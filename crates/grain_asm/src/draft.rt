@@ -1,4 +1,10 @@
 //! A program while its text is read.
+ghost use Rattle.std.specs.Prelude.{◌≡◌, ◌<◌, IfOk, List, MatchOption, OnOk, [], length, map, option_map, string_bytes, unwrap_or};
+ghost use Rattle.std.specs.Option.{ForSome};
+ghost use Rattle.grain.specs.Program.{listed_positions, made};
+ghost use Rattle.grain_code.specs.Span.{Span};
+ghost use Rattle.grain_code.specs.declared.function.Function.{Function};
+ghost use Rattle.grain_asm.specs.Drafted.{HasEntries, HasDirectives, IsProgramOf};
 
 use crate::chains::read_chain;
 use crate::chunks::{Chunks, declare};
@@ -107,7 +113,9 @@ impl Draft {
     }
 
     /// Notes the position of an address.
-    fn place(&mut self, at: usize, position: Position) -> Result<(), Stop> {
+    fn place(&mut self, at: usize, position: Position) -> Result<(), Stop>
+        ensures { OnOk result (ForSome self.old.head.positions (λ len. at < len)) }
+    {
         match self.head.positions {
             Some(len) if at >= len => Err(Stop::Fault(Problem::NoPosition)),
             _ => {
@@ -124,10 +132,16 @@ impl Draft {
         }
         let at = self.code.len();
         read_instruction(&mut self.pools, labels, &mut self.code, cursor)?;
-        match cursor.position()? {
-            Some(position) => self.place(at, position),
-            None => Ok(()),
+        cursor.blanks();
+        let start = cursor.left;
+        let Some(position) = cursor.position()? else {
+            return Ok(());
+        };
+        let placed = self.place(at, position);
+        if placed.is_err() {
+            cursor.left = start;
         }
+        placed
     }
 
     /// Reads a position by its address.
@@ -135,11 +149,14 @@ impl Draft {
         let start = cursor.left;
         let at = cursor.number_up_to(MAX_POSITIONS)? as usize;
         let position = cursor.position_or_none()?;
-        if self.head.positions.is_none() {
+        let placed = match self.head.positions {
+            Some(_) => self.place(at, position),
+            None => Err(Stop::Fault(Problem::NoPosition)),
+        };
+        if placed.is_err() {
             cursor.left = start;
-            return Err(Stop::Fault(Problem::NoPosition));
         }
-        self.place(at, position)
+        placed
     }
 
     /// Reads an entry of a pool.
@@ -174,6 +191,10 @@ impl Draft {
             None => self.read_entry(labels, cursor)?,
             Some(directive) => match section_named(directive) {
                 Some(section) => self.section = section,
+                None if directive == ".positions" && !self.places.is_empty() => {
+                    cursor.left = start;
+                    return Err(Stop::Fault(Problem::NoPosition));
+                }
                 None => {
                     if let Err(stop) = self.head.read(cursor, directive) {
                         if stop == Stop::Fault(Problem::Directive) {
@@ -188,7 +209,9 @@ impl Draft {
     }
 
     /// The program that was read.
-    pub fn finish(self, alloc: Global) -> Result<Program, Unfinished> {
+    pub fn finish(self, alloc: Global) -> Result<Program, Unfinished>
+        ensures { IfOk result (IsProgramOf self) }
+    {
         let Draft {
             head,
             pools,
@@ -225,13 +248,16 @@ fn positions_of(
     declared: Option<usize>,
     places: &[(usize, Position)],
     len: usize,
-) -> Result<Positions, AllocError> {
-    let len = match declared {
-        Some(len) => len,
-        None if places.is_empty() => return Ok(Positions::Stripped),
-        None => len,
-    };
-    let mut list = vec![in alloc; Position::NONE; len]?;
+) -> Result<Positions, AllocError>
+    // As many as are declared, or else as the code has. None are kept where none are declared and none are noted.
+    ensures { IfOk result (λ positions. MatchOption (listed_positions positions)
+        ((declared ≡ None) × (places.now ≡ []))
+        (λ list. length list ≡ unwrap_or declared len)) }
+{
+    if declared.is_none() && places.is_empty() {
+        return Ok(Positions::Stripped);
+    }
+    let mut list = vec![in alloc; Position::NONE; declared.unwrap_or(len)]?;
     for (at, position) in places {
         if let Some(place) = list.get_mut(*at) {
             *place = *position;
@@ -241,7 +267,9 @@ fn positions_of(
 }
 
 /// The names as a program has them.
-fn names_of(alloc: Global, names: &[String]) -> Result<Strings, Unfinished> {
+fn names_of(alloc: Global, names: &[String]) -> Result<Strings, Unfinished>
+    ensures { IfOk result (λ strings. strings ≡ map string_bytes names.now) }
+{
     let mut texts = Vec::with_capacity(alloc, names.len())?;
     for name in names {
         texts.push(name.as_str()).map_err(AllocError::from)?;
@@ -261,7 +289,11 @@ fn parts_of(
     source: Option<String>,
     pools: Pools,
     positions: Positions,
-) -> Result<Parts, Unfinished> {
+) -> Result<Parts, Unfinished>
+    ensures entries { IfOk result (HasEntries pools) }
+    ensures head { IfOk result (HasDirectives debug_id residuals
+        (option_map string_bytes source) (listed_positions positions)) }
+{
     let Pools {
         alloc: _,
         names,
@@ -320,7 +352,10 @@ fn assemble(
     mut functions: Vec<Function>,
     parts: Parts,
     automatic: &[usize],
-) -> Result<Program, Unfinished> {
+) -> Result<Program, Unfinished>
+    ensures { IfOk result (λ program. (declared : Span) × (all : List Function)
+        × (program ≡ made caps code.items declared all parts)) }
+{
     if !automatic.is_empty() {
         match numbers_of(alloc, caps, &code, main, &functions, &parts) {
             Ok(numbers) => declare(&mut main, &mut functions, automatic, &numbers),

@@ -1,5 +1,7 @@
 //! Labels and their addresses, which are found before anything else is read.
-ghost use Rattle.std.specs.Prelude.{◌<◌, IfErr, length};
+ghost use Rattle.std.specs.Prelude.{◌≡◌, ◌+◌, ◌<◌, IfErr, IfOk, length, min, sum_by};
+ghost use Rattle.grain_asm.specs.Addresses.{ReadsAddress};
+ghost use Rattle.grain_asm.specs.Widths.{operand_width};
 
 use crate::cursor::Cursor;
 use crate::error::{Flaw, Problem, Stop};
@@ -15,7 +17,9 @@ pub(crate) struct Labels {
 }
 
 /// How many bytes an operand has.
-fn operand_width(operand: Operand) -> u32 {
+fn operand_width(operand: Operand) -> u32
+    ensures { result ≡ operand_width operand }
+{
     match operand {
         Operand::Count => 1,
         Operand::Target => 4,
@@ -31,8 +35,10 @@ fn operand_width(operand: Operand) -> u32 {
     }
 }
 
-/// How many bytes an instruction has.
-fn width_of(form: &Form) -> u32 {
+/// How many bytes an instruction has: its tag, and its operands.
+fn width_of(form: &Form) -> u32
+    ensures { result ≡ min (1 + sum_by operand_width form.now.operands.now) u32.MAX }
+{
     let mut width = 1u32;
     for operand in form.operands {
         width = width.saturating_add(operand_width(*operand));
@@ -144,7 +150,10 @@ impl Labels {
     }
 
     /// Reads an address: a number, or a label.
-    pub fn read_address(&self, cursor: &mut Cursor<'_>) -> Result<u32, Stop> {
+    pub fn read_address(&self, cursor: &mut Cursor<'_>) -> Result<u32, Stop>
+        ensures { IfOk result (λ address.
+            ReadsAddress self.now cursor.old.left.now address cursor.new.left.now) }
+    {
         cursor.blanks();
         if let [b'0'..=b'9', ..] = cursor.left {
             return cursor.number_32();

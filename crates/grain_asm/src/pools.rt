@@ -1,4 +1,7 @@
 //! The pools of a program while its text is read. What is written in place gets an entry, unless there is the same already.
+ghost use Rattle.std.specs.Prelude.{◌≡◌, ◌+◌, IfOk, IfSome, string_bytes};
+ghost use Rattle.grain_base.specs.View.{content};
+ghost use Rattle.grain_asm.specs.Entries.{Enters, Leads};
 
 use crate::cursor::Cursor;
 use crate::error::{Problem, Stop};
@@ -22,39 +25,48 @@ pub(crate) struct Pools {
 }
 
 /// The index of the last entry of a pool of this length.
-fn last(count: usize) -> Result<u32, Stop> {
-    let Some(last) = count.checked_sub(1) else {
-        return Err(Stop::Fault(Problem::TooWide));
-    };
-    u32::try_from(last).map_err(|_| Stop::Fault(Problem::TooWide))
+fn last(count: usize) -> Result<u32, Stop>
+    ensures { IfOk result (λ last. last + 1 ≡ count) }
+{
+    match count.checked_sub(1) {
+        Some(last) => index_of(last),
+        None => Err(Stop::Fault(Problem::TooWide)),
+    }
 }
 
 /// The index at a place.
-fn index_of(place: usize) -> Result<u32, Stop> {
-    u32::try_from(place).map_err(|_| Stop::Fault(Problem::TooWide))
+fn index_of(place: usize) -> Result<u32, Stop>
+    ensures { IfOk result (λ index. index ≡ place) }
+{
+    match u32::try_from(place) {
+        Ok(index) => Ok(index),
+        Err(_) => Err(Stop::Fault(Problem::TooWide)),
+    }
 }
 
 /// Whether a value holds no other, so that one entry serves all that are equal to it.
 fn is_plain(value: &Dynamic) -> bool {
     match value {
-        Dynamic::Unit
-        | Dynamic::Bool(_)
-        | Dynamic::Int(_)
-        | Dynamic::Char(_)
-        | Dynamic::Str(_)
-        | Dynamic::Range(_, _)
-        | Dynamic::RangeInclusive(_, _)
-        | Dynamic::Blob(_) => true,
         Dynamic::Array(_)
         | Dynamic::Map(_)
         | Dynamic::FnPtr(_)
         | Dynamic::Shared(_)
         | Dynamic::Host(_) => false,
+        _ => true,
     }
 }
 
+/// The place of this name.
+fn place_of_name(names: &[String], name: &str) -> Option<usize>
+    ensures { IfSome result (Leads (λ other. string_bytes other ≡ name.now) names.now) }
+{
+    names.iter().position(|other| other.as_str() == name)
+}
+
 /// The place of a constant that is the same, neither under a mark that it is shared nor holding another value.
-fn place_of(consts: &[Dynamic], value: &Dynamic) -> Option<usize> {
+fn place_of_constant(consts: &[Dynamic], value: &Dynamic) -> Option<usize>
+    ensures { IfSome result (Leads (λ other. content other ≡ content value.now) consts.now) }
+{
     consts
         .iter()
         .position(|constant| is_plain(constant) && *constant == *value)
@@ -75,8 +87,11 @@ impl Pools {
     }
 
     /// The index of a name, which gets an entry where it has none.
-    fn name_index(&mut self, name: String) -> Result<u32, Stop> {
-        match self.names.iter().position(|other| *other == name) {
+    fn name_index(&mut self, name: String) -> Result<u32, Stop>
+        ensures { IfOk result (Enters (λ other. string_bytes other ≡ string_bytes name)
+            self.old.names.items self.new.names.items) }
+    {
+        match place_of_name(&self.names, name.as_str()) {
             Some(place) => index_of(place),
             None => {
                 self.names.push(name)?;
@@ -86,8 +101,11 @@ impl Pools {
     }
 
     /// The index of a constant, which gets an entry unless it is plain and there is the same.
-    pub fn constant_index(&mut self, value: Dynamic) -> Result<u32, Stop> {
-        match place_of(&self.consts, &value) {
+    pub fn constant_index(&mut self, value: Dynamic) -> Result<u32, Stop>
+        ensures { IfOk result (Enters (λ other. content other ≡ content value)
+            self.old.consts.items self.new.consts.items) }
+    {
+        match place_of_constant(&self.consts, &value) {
             Some(place) => index_of(place),
             None => {
                 self.consts.push(value)?;

@@ -1,8 +1,8 @@
 //! Functions of arrays.
 
 use crate::function::Function;
-use crate::places::{count_of, number_of, place_of, start_of};
-use grain_value::{Cause, List, SizeLimits, Value, are_equal};
+use crate::places::{count_of, number_of, start_of};
+use grain_value::{Cause, List, SizeLimits, Value, are_equal, place_of};
 use std::alloc::Global;
 use std::rc::Rc;
 

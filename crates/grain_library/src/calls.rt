@@ -2,9 +2,8 @@
 
 use crate::function::Function;
 use crate::{arrays, maps, numbers, scalars, texts};
-use grain_value::{Cause, Interval, SizeLimits, Value};
+use grain_value::{Cause, SizeLimits, Value};
 use std::alloc::Global;
-use std::rc::Rc;
 
 /// Calls a function of the library. What it changes in place is its first argument, the receiver. `None` means that the function
 /// doesn't take such arguments.
@@ -48,20 +47,11 @@ fn of_any(
         (Function::ToDebug, []) => format!(in alloc; "{receiver:?}")?,
         (Function::Range, [Value::Int(to)]) => {
             return match receiver {
-                Value::Int(from) => interval(alloc, *from, *to),
+                Value::Int(from) => Ok(Some(Value::range(alloc, *from, *to, false)?)),
                 _ => Ok(None),
             };
         }
         _ => return Ok(None),
     };
     Ok(Some(Value::text(alloc, text)?))
-}
-
-fn interval(alloc: Global, from: i64, to: i64) -> Result<Option<Value>, Cause> {
-    let interval = Interval {
-        from,
-        to,
-        inclusive: false,
-    };
-    Ok(Some(Value::Range(Rc::new(alloc, interval)?)))
 }

@@ -1,12 +1,15 @@
 //! The functions and operators that every script has: of integers, characters, texts, arrays, object maps, ranges and function
 //! pointers. docs/LANGUAGE.md lists them.
 //!
-//! A function is found by its name once, when a program is prepared; a call is by [`Function`] alone.
+//! A function is found by its name once, when a program is prepared; a call is by [`Callee`] alone.
 #![tactic(auto)]
 
 mod arrays;
+mod callee;
 mod calls;
 mod function;
+mod integers;
+mod items;
 mod maps;
 mod numbers;
 mod operators;
@@ -15,7 +18,9 @@ mod scalars;
 mod texts;
 mod words;
 
+pub use callee::{Callee, operate_at};
 pub use calls::call;
 pub use function::Function;
-pub use operators::{negate, operate, operate_on_integers};
-pub use places::place_of;
+pub use integers::{arithmetic, assign_integer, of_integers};
+pub use items::{item_of, item_place, set_character};
+pub use operators::{negate, operate, operate_on, operate_on_integers};

@@ -1,7 +1,7 @@
 //! Operators by their tokens.
 
 use grain_base::Token;
-use grain_value::{Cause, Interval, Value, are_equal, order};
+use grain_value::{Cause, Value, are_equal, order};
 use std::alloc::Global;
 use std::cmp::Ordering;
 use std::rc::Rc;
@@ -28,6 +28,25 @@ pub fn operate(
             Token::Plus | Token::PlusAssign => extended(alloc, operator, left, right),
             _ => Ok(compared(operator, left, right)),
         },
+    }
+}
+
+/// What an operator gives of one or two operands. The left one may be used up, as by [`operate`].
+///
+/// # Errors
+/// As [`operate`].
+#[inline]
+pub fn operate_on(
+    alloc: Global,
+    operator: &Token,
+    operands: &mut [Value],
+) -> Result<Option<Value>, Cause> {
+    let Some((left, rest)) = operands.split_first_mut() else {
+        return Ok(None);
+    };
+    match rest.first() {
+        None => negate(operator, left),
+        Some(right) => operate(alloc, operator, left, right),
     }
 }
 
@@ -79,8 +98,8 @@ pub fn operate_on_integers(
         Token::LessThanEqualsTo => return Ok(Some(Value::Bool(x <= y))),
         Token::GreaterThan => return Ok(Some(Value::Bool(x > y))),
         Token::GreaterThanEqualsTo => return Ok(Some(Value::Bool(x >= y))),
-        Token::ExclusiveRange => return interval(alloc, x, y, false),
-        Token::InclusiveRange => return interval(alloc, x, y, true),
+        Token::ExclusiveRange => return Ok(Some(Value::range(alloc, x, y, false)?)),
+        Token::InclusiveRange => return Ok(Some(Value::range(alloc, x, y, true)?)),
         Token::Plus | Token::PlusAssign => x.checked_add(y),
         Token::Minus | Token::MinusAssign => x.checked_sub(y),
         Token::Multiply | Token::MultiplyAssign => x.checked_mul(y),
@@ -101,15 +120,6 @@ pub fn operate_on_integers(
         Some(number) => Ok(Some(Value::Int(number))),
         None => Err(Cause::Overflow),
     }
-}
-
-fn interval(alloc: Global, from: i64, to: i64, inclusive: bool) -> Result<Option<Value>, Cause> {
-    let interval = Interval {
-        from,
-        to,
-        inclusive,
-    };
-    Ok(Some(Value::Range(Rc::new(alloc, interval)?)))
 }
 
 fn powered(x: i64, y: i64) -> Result<Option<i64>, Cause> {

@@ -1,9 +1,9 @@
 //! Functions of texts. Places in a text count characters.
 
 use crate::function::Function;
-use crate::places::{count_of, number_of, place_of, start_of};
+use crate::places::{count_of, number_of, start_of};
 use crate::words;
-use grain_value::{Cause, SizeLimits, Value};
+use grain_value::{Cause, SizeLimits, Value, place_of};
 use std::alloc::Global;
 use std::rc::Rc;
 
@@ -43,7 +43,7 @@ fn alone(alloc: Global, function: Function, text: &mut Rc<String>) -> Result<Opt
         Function::IsEmpty => Value::Bool(text.is_empty()),
         Function::ToUpper => Value::text(alloc, words::upper(alloc, text.as_str())?)?,
         Function::ToLower => Value::text(alloc, words::lower(alloc, text.as_str())?)?,
-        Function::Chars => Value::array(alloc, words::characters(alloc, text.as_str())?)?,
+        Function::Chars => Value::array(alloc, Value::characters(alloc, text.as_str())?)?,
         Function::Split => words::split_at_blanks(alloc, text.as_str())?,
         Function::ParseInt => match text.as_str().trim().parse::<i64>() {
             Ok(number) => Value::Int(number),

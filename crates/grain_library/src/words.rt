@@ -26,15 +26,6 @@ pub(crate) fn lower(alloc: Global, text: &str) -> Result<String, Cause> {
     Ok(changed)
 }
 
-/// Its characters, in order.
-pub(crate) fn characters(alloc: Global, text: &str) -> Result<Vec<Value>, Cause> {
-    let mut characters = Vec::new(alloc);
-    for character in text.chars() {
-        characters.push(Value::Char(character))?;
-    }
-    Ok(characters)
-}
-
 /// The character at a place, or unit where there is none.
 pub(crate) fn character_at(text: &str, place: usize) -> Value {
     match text.chars().nth(place) {
@@ -84,7 +75,7 @@ pub(crate) fn index_of(text: &str, other: &str) -> Value {
 pub(crate) fn split(alloc: Global, text: &str, separator: &str) -> Result<Value, Cause> {
     let mut parts = Vec::new(alloc);
     if separator.is_empty() {
-        return Ok(Value::array(alloc, characters(alloc, text)?)?);
+        return Ok(Value::array(alloc, Value::characters(alloc, text)?)?);
     }
     for part in text.split(separator) {
         parts.push(Value::text(alloc, String::from_str(alloc, part)?)?)?;

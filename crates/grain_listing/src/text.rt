@@ -101,14 +101,7 @@ fn write_target(op: &Op, text: &mut String) -> Result<(), AllocError> {
     let how = match effect.flow {
         Flow::AdvancesIterator => "at its end ",
         Flow::PushesHandler => "catches ",
-        Flow::Falls
-        | Flow::Ends
-        | Flow::Jumps
-        | Flow::Branches
-        | Flow::Switches
-        | Flow::BeginsIterator
-        | Flow::EndsIterator
-        | Flow::PopsHandler => "",
+        _ => "",
     };
     write!(text, "  {how}-> {target}")?;
     Ok(())

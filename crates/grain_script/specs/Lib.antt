@@ -1,2 +1,1 @@
--- what is promised
-pub mod Parts
+-- definitions

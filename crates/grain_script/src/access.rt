@@ -2,15 +2,15 @@
 ghost use Rattle.std.specs.Prelude.{IfOk, IfSome, length, ◌<◌};
 ghost use Rattle.grain_machine.specs.Reply.{NamesFunction};
 
-use crate::chains::{Goal, entry_name, keys_of, read, swapped, walk};
-use crate::plain::{assigned, plain};
+use crate::chains::{Goal, entry_name, keys_of, read, walk};
 use crate::script::Script;
-use crate::variables::{Lent, LentRoot, This};
 use crate::world::World;
 use grain::Program;
+use grain_library::arithmetic;
 use grain_machine::Reply;
 use grain_pools::{Chain, Root, Step, Tail};
-use grain_value::{Cause, Value};
+use grain_value::{Cause, Value, swapped};
+use grain_variables::{Lent, This, Variable};
 use std::mem;
 use std::rc::Rc;
 
@@ -41,7 +41,7 @@ impl<W: World + Drop> Script<W> {
         {
             return Ok(reply);
         }
-        let root = match &chain.root {
+        let variable = match &chain.root {
             Root::Temporary => {
                 let Some(value) = operands.last_mut() else {
                     return Err(Cause::Unsupported);
@@ -52,7 +52,7 @@ impl<W: World + Drop> Script<W> {
             }
             root => variable_of(root)?,
         };
-        Ok(Reply::Value(self.chain_from(program, root, steps, operands, goal)?))
+        Ok(Reply::Value(self.chain_from(program, variable, steps, operands, goal)?))
     }
 
     /// Reads a plain item of an array in a local variable, or assigns a plain value to one. `None` where the chain does something else,
@@ -112,7 +112,7 @@ impl<W: World + Drop> Script<W> {
         };
         let old = object.get(name)?;
         let Tail::Assign { op } = &chain.tail else {
-            return plain(old);
+            return old.plain();
         };
         let new = assigned(program, *op, old, operands.last()?)?;
         // A plain value in place of another one makes no object map larger.
@@ -134,7 +134,7 @@ impl<W: World + Drop> Script<W> {
     fn chain_from(
         &mut self,
         program: &Program,
-        root: LentRoot,
+        variable: Variable,
         steps: &[Step],
         operands: &mut [Value],
         goal: Goal,
@@ -142,13 +142,13 @@ impl<W: World + Drop> Script<W> {
         if let (Goal::Read, [step]) = (&goal, steps)
             && !matches!(step, Step::Method { .. })
         {
-            return self.read_from(program, root, step, operands);
+            return self.read_from(program, variable, step, operands);
         }
-        let mut value = self.root_mut(program, root)?.take();
+        let mut value = self.variable_mut(program, variable)?.take();
         let context = self.context(program);
         let result = walk(&context, &mut value, steps, operands, goal);
         let allowed = self.allowed(&value);
-        *self.root_mut(program, root)? = value;
+        *self.variable_mut(program, variable)? = value;
         allowed?;
         result
     }
@@ -156,12 +156,12 @@ impl<W: World + Drop> Script<W> {
     fn read_from(
         &self,
         program: &Program,
-        root: LentRoot,
+        variable: Variable,
         step: &Step,
         operands: &[Value],
     ) -> Result<Value, Cause> {
         let context = self.context(program);
-        let value = self.root(program, root)?;
+        let value = self.variable(program, variable)?;
         if matches!(value, Value::Unit) {
             let mut value = Value::Unit;
             return walk(&context, &mut value, &[step.clone()?], operands, Goal::Read);
@@ -197,7 +197,7 @@ impl<W: World + Drop> Script<W> {
             .table
             .method(program, called.name, called.count, &value);
         let Some(function) = method else {
-            self.give_back(value, lent)?;
+            self.variables.give_back(value, lent)?;
             return Ok(None);
         };
         let end = called.first.saturating_add(called.count);
@@ -229,14 +229,15 @@ impl<W: World + Drop> Script<W> {
                 None,
             ));
         }
-        let root = variable_of(root)?;
+        let variable = variable_of(root)?;
         match keys_of(&self.context(program), path, operands)? {
             Some(path) => {
-                let value = swapped(self.root_mut(program, root)?, path.as_slice(), Value::Unit)?;
-                Ok((value, Some(Lent { root, path })))
+                let place = self.variable_mut(program, variable)?;
+                let value = swapped(place, path.as_slice(), Value::Unit)?;
+                Ok((value, Some(Lent { variable, path })))
             }
             None => {
-                let value = self.chain_from(program, root, path, operands, Goal::Read)?;
+                let value = self.chain_from(program, variable, path, operands, Goal::Read)?;
                 Ok((value, None))
             }
         }
@@ -277,11 +278,25 @@ fn method_at_end(chain: &Chain) -> Option<Called> {
 }
 
 /// The variable at which a chain begins.
-fn variable_of(root: &Root) -> Result<LentRoot, Cause> {
+fn variable_of(root: &Root) -> Result<Variable, Cause> {
     match root {
-        Root::Local { slot, .. } => Ok(LentRoot::Local(*slot)),
-        Root::Named { name, .. } => Ok(LentRoot::Named(*name)),
-        Root::This { .. } => Ok(LentRoot::This),
+        Root::Local { slot, .. } => Ok(Variable::Local(*slot)),
+        Root::Named { name, .. } => Ok(Variable::Named(*name)),
+        Root::This { .. } => Ok(Variable::This),
         Root::Temporary => Err(Cause::Unsupported),
     }
+}
+
+/// What a part of a value becomes where a plain value is assigned to it, by way of an op-assignment if there is one. `None` where
+/// one of them isn't plain, and as [`arithmetic`].
+#[inline(always)]
+fn assigned(program: &Program, op: Option<u32>, old: &Value, value: &Value) -> Option<Value> {
+    let Some(op) = op else {
+        return if old.is_plain() { value.plain() } else { None };
+    };
+    let (Value::Int(left), Value::Int(right)) = (old, value) else {
+        return None;
+    };
+    let assign_op = program.assign_ops().get(op as usize)?;
+    Some(Value::Int(arithmetic(&assign_op.op_assign, *left, *right)?))
 }

@@ -2,18 +2,23 @@
 ghost use Rattle.std.specs.Prelude.{IfOk, length, ◌<◌};
 ghost use Rattle.grain_machine.specs.Reply.{NamesFunction};
 
-use crate::chains::no_function;
-use crate::script::{Script, copies};
-use crate::table::{Callee, callee_named, token_at};
-use crate::variables::{Lent, LentRoot, This};
+use crate::script::Script;
 use crate::world::World;
 use grain::Program;
-use grain_base::Token;
 use grain_code::Receiver;
-use grain_library::{call, negate, operate};
+use grain_library::{Callee, call, operate_at, operate_on};
 use grain_machine::Reply;
-use grain_value::{Cause, Value};
-use std::alloc::Global;
+use grain_value::{Cause, Pointer, Value, copies};
+use grain_variables::{Lent, This, Variable};
+
+/// What a function pointer is called on in method position.
+#[derive(Drop)]
+enum On {
+    /// A variable, which gets back what `this` is at last.
+    Variable(Variable),
+    /// A value that lies in none.
+    Value(Value),
+}
 
 impl<W: World + Drop> Script<W> {
     /// What an operator gives: that of the library, or a function of the script that has its name.
@@ -30,7 +35,7 @@ impl<W: World + Drop> Script<W> {
         let Some(operator) = program.tokens().get(token as usize) else {
             return Err(Cause::Unsupported);
         };
-        match operated(self.alloc, operator, operands)? {
+        match operate_on(self.alloc, operator, operands)? {
             Some(value) => Ok(Reply::Value(value)),
             None => self.call(program, name, operands),
         }
@@ -92,43 +97,88 @@ impl<W: World + Drop> Script<W> {
         let name = program.names().get(name).unwrap_or("");
         match self.world.call(self.alloc, name, operands)? {
             Some(value) => Ok(value),
-            None => Err(no_function(self.alloc, name, None, operands)),
+            None => Err(Cause::no_function(self.alloc, name, None, operands)),
         }
     }
 
-    /// Calls the function of a pointer that lies below its arguments, on a variable where it has one.
+    /// Calls the function of a pointer that lies below its arguments. In method position what it is called on, a value below the
+    /// pointer or a variable, is `this` there. Where that is a function pointer itself, it is the one that is called.
     pub(crate) fn call_pointer(
         &mut self,
         program: &Program,
+        is_method: bool,
         receiver: &Option<Receiver>,
         operands: &mut [Value],
     ) -> Result<Reply<Value>, Cause>
         ensures { IfOk result (NamesFunction program.now) }
     {
-        let Some((pointer, places)) = operands.split_first_mut() else {
+        if let Some(receiver) = receiver {
+            let variable = variable_of(receiver);
+            if let Value::Pointer(pointer) = self.variable(program, variable)? {
+                let pointer = pointer.clone()?;
+                return self.call_function(program, &pointer, None, operands);
+            }
+            return self.call_below(program, Some(On::Variable(variable)), operands);
+        }
+        if is_method && !matches!(operands.first(), Some(Value::Pointer(_))) {
+            let Some((value, others)) = operands.split_first_mut() else {
+                return Err(Cause::Unsupported);
+            };
+            let value = value.take();
+            return self.call_below(program, Some(On::Value(value)), others);
+        }
+        self.call_below(program, None, operands)
+    }
+
+    /// Calls the function of the pointer that lies below its arguments, on a variable or a value where there is one.
+    #[inline]
+    fn call_below(
+        &mut self,
+        program: &Program,
+        on: Option<On>,
+        operands: &mut [Value],
+    ) -> Result<Reply<Value>, Cause>
+        ensures { IfOk result (NamesFunction program.now) }
+    {
+        let Some((pointer, arguments)) = operands.split_first_mut() else {
             return Err(Cause::Unsupported);
         };
         let Value::Pointer(pointer) = pointer.take() else {
             return Err(Cause::WrongType("Fn"));
         };
+        self.call_function(program, &pointer, on, arguments)
+    }
+
+    /// Calls the function of a pointer with these arguments, after those that are bound.
+    #[inline]
+    fn call_function(
+        &mut self,
+        program: &Program,
+        pointer: &Pointer,
+        on: Option<On>,
+        arguments: &mut [Value],
+    ) -> Result<Reply<Value>, Cause>
+        ensures { IfOk result (NamesFunction program.now) }
+    {
         let bound = pointer.bound();
-        let count = bound.len().saturating_add(places.len());
+        let count = bound.len().saturating_add(arguments.len());
         let name = self.table.index_of(pointer.name());
         if let Some(name) = name
             && let Some(function) = self.table.function(program, name, count)
         {
-            let this = match receiver {
-                Some(receiver) => Some(self.lent(program, receiver)?),
+            let this = match on {
+                Some(On::Variable(variable)) => Some(self.lent(program, variable)?),
+                Some(On::Value(value)) => Some(This { value, lent: None }),
                 None => None,
             };
-            self.variables.begin_bound(bound, places, this, self.at)?;
+            self.variables.begin_bound(bound, arguments, this, self.at)?;
             return Ok(Reply::Call { function });
         }
-        let mut arguments = copies(self.alloc, bound)?;
-        for place in places {
-            arguments.push(place.take())?;
+        let mut all = copies(self.alloc, bound)?;
+        for argument in arguments {
+            all.push(argument.take())?;
         }
-        let given = self.call_by_name(program, pointer.name(), name, arguments.as_slice())?;
+        let given = self.call_by_name(program, pointer.name(), name, all.as_slice())?;
         Ok(Reply::Value(given))
     }
 
@@ -143,9 +193,9 @@ impl<W: World + Drop> Script<W> {
         if let Some(name) = name {
             return self.call_outside(program, name, arguments);
         }
-        match self.call_known(callee_named(text), arguments)? {
+        match self.call_known(Callee::named(text), arguments)? {
             Some(value) => Ok(value),
-            None => Err(no_function(self.alloc, text, None, arguments)),
+            None => Err(Cause::no_function(self.alloc, text, None, arguments)),
         }
     }
 
@@ -163,36 +213,31 @@ impl<W: World + Drop> Script<W> {
                 }
                 None => Ok(None),
             },
-            Some(Callee::Operator(index)) => operated_by_name(self.alloc, index, arguments),
+            Some(Callee::Operator(index)) => operate_at(self.alloc, index, arguments),
             Some(callee) => self.written(callee, arguments),
             None => Ok(None),
         }
     }
 
     /// Takes the value of a variable out for a call on it.
-    fn lent(&mut self, program: &Program, receiver: &Receiver) -> Result<This, Cause> {
-        let root = match receiver {
-            Receiver::Local(slot) => LentRoot::Local(*slot),
-            Receiver::Named(name) => LentRoot::Named(*name),
-            Receiver::This => LentRoot::This,
-        };
-        let value = self.root_mut(program, root)?.take();
+    fn lent(&mut self, program: &Program, variable: Variable) -> Result<This, Cause> {
+        let value = self.variable_mut(program, variable)?.take();
         let path = Vec::new(self.alloc);
         Ok(This {
             value,
-            lent: Some(Lent { root, path }),
+            lent: Some(Lent { variable, path }),
         })
     }
 
     /// The value of a variable, or of `this`.
-    pub(crate) fn root(&self, program: &Program, root: LentRoot) -> Result<&Value, Cause> {
-        match root {
-            LentRoot::Local(slot) => self.variables.local(slot),
-            LentRoot::Named(name) => match self.variables.named(name) {
+    pub(crate) fn variable(&self, program: &Program, variable: Variable) -> Result<&Value, Cause> {
+        match variable {
+            Variable::Local(slot) => self.variables.local(slot),
+            Variable::Named(name) => match self.variables.named(name) {
                 Some(value) => Ok(value),
                 None => Err(self.no_variable(program, name)),
             },
-            LentRoot::This => match self.variables.this() {
+            Variable::This => match self.variables.this() {
                 Some(value) => Ok(value),
                 None => Err(Cause::NoThis),
             },
@@ -200,14 +245,14 @@ impl<W: World + Drop> Script<W> {
     }
 
     /// The place of the value of a variable, or of `this`.
-    pub(crate) fn root_mut(
+    pub(crate) fn variable_mut(
         &mut self,
         program: &Program,
-        root: LentRoot,
+        variable: Variable,
     ) -> Result<&mut Value, Cause> {
-        match root {
-            LentRoot::Local(slot) => self.variables.local_mut(slot),
-            LentRoot::Named(name) => {
+        match variable {
+            Variable::Local(slot) => self.variables.local_mut(slot),
+            Variable::Named(name) => {
                 if self.variables.named(name).is_none() {
                     return Err(self.no_variable(program, name));
                 }
@@ -216,7 +261,7 @@ impl<W: World + Drop> Script<W> {
                     None => Err(Cause::Unsupported),
                 }
             }
-            LentRoot::This => match self.variables.this_mut() {
+            Variable::This => match self.variables.this_mut() {
                 Some(value) => Ok(value),
                 None => Err(Cause::NoThis),
             },
@@ -234,22 +279,22 @@ impl<W: World + Drop> Script<W> {
     ) -> Result<Reply<Value>, Cause>
         ensures { IfOk result (NamesFunction program.now) }
     {
-        let (root, skipped) = match receiver {
-            Receiver::Local(slot) => (LentRoot::Local(*slot), 0usize),
-            Receiver::Named(name) => (LentRoot::Named(*name), 1),
-            Receiver::This => (LentRoot::This, 1),
+        let variable = variable_of(receiver);
+        let skipped = match receiver {
+            Receiver::Local(_) => 0usize,
+            Receiver::Named(_) | Receiver::This => 1,
         };
         let Some(arguments) = operands.get_mut(skipped..) else {
             return Err(Cause::Unsupported);
         };
         let count = arguments.len().saturating_add(1);
         if let Some(function) = self.table.function(program, name, count) {
-            let first = [self.root_mut(program, root)?.clone()?];
+            let first = [self.variable_mut(program, variable)?.clone()?];
             self.variables
                 .begin_bound(&first, arguments, None, self.at)?;
             return Ok(Reply::Call { function });
         }
-        Ok(Reply::Value(self.call_in_place(program, name, root, arguments)?))
+        Ok(Reply::Value(self.call_in_place(program, name, variable, arguments)?))
     }
 
     /// Calls a function of the library on the value of a variable, in place, or another one on a copy.
@@ -257,13 +302,13 @@ impl<W: World + Drop> Script<W> {
         &mut self,
         program: &Program,
         name: u32,
-        root: LentRoot,
+        variable: Variable,
         arguments: &[Value],
     ) -> Result<Value, Cause> {
         let alloc = self.alloc;
         let limits = self.limits;
         let callee = self.table.callee(name);
-        let receiver = self.root_mut(program, root)?;
+        let receiver = self.variable_mut(program, variable)?;
         if let Some(Callee::Library(function)) = callee {
             let given = call(alloc, limits, function, receiver, arguments);
             if !limits.allow(receiver.measure()) {
@@ -282,33 +327,11 @@ impl<W: World + Drop> Script<W> {
     }
 }
 
-/// What an operator gives of one or two operands. The left one may be used up.
-#[inline]
-fn operated(
-    alloc: Global,
-    operator: &Token,
-    operands: &mut [Value],
-) -> Result<Option<Value>, Cause> {
-    let Some((left, rest)) = operands.split_first_mut() else {
-        return Ok(None);
-    };
-    match rest.first() {
-        None => negate(operator, left),
-        Some(right) => operate(alloc, operator, left, right),
-    }
-}
-
-/// What the operator of a name gives of one or two values.
-fn operated_by_name(alloc: Global, index: usize, values: &[Value]) -> Result<Option<Value>, Cause> {
-    let Some(operator) = token_at(index) else {
-        return Ok(None);
-    };
-    match values {
-        [value] => negate(&operator, value),
-        [left, right] => {
-            let mut left = left.clone()?;
-            operate(alloc, &operator, &mut left, right)
-        }
-        _ => Ok(None),
+/// The variable that is the receiver of a call.
+fn variable_of(receiver: &Receiver) -> Variable {
+    match receiver {
+        Receiver::Local(slot) => Variable::Local(*slot),
+        Receiver::Named(name) => Variable::Named(*name),
+        Receiver::This => Variable::This,
     }
 }

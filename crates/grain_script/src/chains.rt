@@ -1,13 +1,13 @@
 //! Chains of accesses: parts of values by index, property and method.
 
-use crate::table::{Callee, Table};
+use crate::table::Table;
 use grain::Program;
-use grain_library::{Function, call, operate, place_of};
+use grain_library::{Callee, Function, call, item_of, item_place, operate, set_character};
 use grain_pools::{Step, StepFlags};
-use grain_value::{Cause, List, Object, SizeLimits, Value};
+use grain_value::{Cause, Key, List, Object, SizeLimits, Value};
 use std::alloc::Global;
-use std::mem;
 use std::rc::Rc;
+use std::slice;
 
 /// What accesses need to know of the script.
 #[derive(Clone, Copy)]
@@ -16,13 +16,6 @@ pub(crate) struct Context<'a> {
     pub(crate) limits: SizeLimits,
     pub(crate) program: &'a Program,
     pub(crate) table: &'a Table,
-}
-
-/// An index or a name by which a part of a value is found.
-#[derive(Drop)]
-pub(crate) enum Key {
-    Index(i64),
-    Name(Rc<String>),
 }
 
 /// What is done with the part of the value to which a chain leads.
@@ -129,14 +122,9 @@ pub(crate) fn assign_to(
 }
 
 /// The cause where an operator doesn't take such operands.
-pub(crate) fn no_operator(context: &Context<'_>, name: u32, left: &Value, right: &Value) -> Cause {
+fn no_operator(context: &Context<'_>, name: u32, left: &Value, right: &Value) -> Cause {
     let name = context.program.names().get(name).unwrap_or("");
-    let first = left.type_name();
-    let second = right.type_name();
-    match format!(in context.alloc; "{name} ({first}, {second})") {
-        Ok(text) => Cause::NoFunction(text),
-        Err(_) => Cause::OutOfMemory,
-    }
+    Cause::no_function(context.alloc, name, Some(left), slice::from_ref(right))
 }
 
 /// Whether the step ends the chain, since it is taken on unit and says so.
@@ -196,17 +184,6 @@ fn taken_item(
     };
     let place = item_place(list.len(), operands.get(*operand as usize))?;
     Ok(Rc::make_mut(list)?.replace(place, Value::Unit))
-}
-
-/// The place of an item that has to be there.
-fn item_place(len: usize, index: Option<&Value>) -> Result<usize, Cause> {
-    let Some(Value::Int(index)) = index else {
-        return Err(Cause::WrongType("an integer as index"));
-    };
-    match place_of(len, *index) {
-        Some(place) => Ok(place),
-        None => Err(Cause::OutOfBounds(*index)),
-    }
 }
 
 /// The name of the entry to which a step leads.
@@ -283,33 +260,6 @@ pub(crate) fn read(
     }
 }
 
-/// The character of a text, or the bit of an integer, at an index.
-fn item_of(value: &Value, index: &Value) -> Result<Value, Cause> {
-    let Value::Int(index) = index else {
-        return Err(Cause::WrongType("an integer as index"));
-    };
-    match value {
-        Value::Text(text) => {
-            let text = text.as_str();
-            let place = place_of(text.chars().count(), *index).unwrap_or(usize::MAX);
-            match text.chars().nth(place) {
-                Some(character) => Ok(Value::Char(character)),
-                None => Err(Cause::OutOfBounds(*index)),
-            }
-        }
-        Value::Int(bits) => match place_of(64, *index) {
-            Some(place) => Ok(Value::Bool(bit_at(*bits, place))),
-            None => Err(Cause::OutOfBounds(*index)),
-        },
-        _ => Err(Cause::WrongType("a value that has items")),
-    }
-}
-
-fn bit_at(bits: i64, place: usize) -> bool {
-    let distance = u32::try_from(place).unwrap_or(0);
-    bits.wrapping_shr(distance) & 1 == 1
-}
-
 /// A property that the library reads.
 fn property(context: &Context<'_>, value: &Value, name: u32) -> Result<Value, Cause> {
     if let Some(Callee::Library(function)) = context.table.callee(name)
@@ -352,30 +302,7 @@ fn assign(
         let _ = Rc::make_mut(list)?.replace(place, assigned);
         return Ok(());
     }
-    set_character(context, value, index, assigned)
-}
-
-/// Replaces the character of a text at an index.
-fn set_character(
-    context: &Context<'_>,
-    text: &mut Value,
-    index: Option<&Value>,
-    assigned: Value,
-) -> Result<(), Cause> {
-    let (Value::Text(_), Some(index)) = (&*text, index) else {
-        return Err(Cause::WrongType("a value that has items"));
-    };
-    let arguments = [index.clone()?, assigned];
-    match call(
-        context.alloc,
-        context.limits,
-        Function::Set,
-        text,
-        &arguments,
-    )? {
-        Some(_) => Ok(()),
-        None => Err(Cause::WrongType("a character")),
-    }
+    set_character(context.alloc, context.limits, value, index, assigned)
 }
 
 /// What the method of a step gives, which may change the value in place.
@@ -404,44 +331,7 @@ fn called(
         return Ok(value);
     }
     let name = context.program.names().get(*name).unwrap_or("");
-    Err(no_function(context.alloc, name, Some(value), arguments))
-}
-
-/// The cause where no function has this name and takes such arguments.
-pub(crate) fn no_function(
-    alloc: Global,
-    name: &str,
-    receiver: Option<&Value>,
-    arguments: &[Value],
-) -> Cause {
-    match signature(alloc, name, receiver, arguments) {
-        Ok(text) => Cause::NoFunction(text),
-        Err(cause) => cause,
-    }
-}
-
-fn signature(
-    alloc: Global,
-    name: &str,
-    receiver: Option<&Value>,
-    arguments: &[Value],
-) -> Result<String, Cause> {
-    let mut text = String::from_str(alloc, name)?;
-    text.push_str(" (")?;
-    let mut is_first = true;
-    if let Some(receiver) = receiver {
-        text.push_str(receiver.type_name())?;
-        is_first = false;
-    }
-    for argument in arguments {
-        if !is_first {
-            text.push_str(", ")?;
-        }
-        is_first = false;
-        text.push_str(argument.type_name())?;
-    }
-    text.push(')')?;
-    Ok(text)
+    Err(Cause::no_function(context.alloc, name, Some(value), arguments))
 }
 
 /// The keys of steps that are all indices and properties; `None` where one is a method.
@@ -467,39 +357,4 @@ pub(crate) fn keys_of(
         keys.push(key)?;
     }
     Ok(Some(keys))
-}
-
-/// Puts a value in place of the part to which the keys lead, and gives that one back.
-pub(crate) fn swapped(value: &mut Value, keys: &[Key], new: Value) -> Result<Value, Cause> {
-    let Some((key, rest)) = keys.split_first() else {
-        return Ok(mem::replace(value, new));
-    };
-    if rest.is_empty() {
-        return replaced(value, key, new);
-    }
-    let mut part = replaced(value, key, Value::Unit)?;
-    let result = swapped(&mut part, rest, new);
-    let _ = replaced(value, key, part)?;
-    result
-}
-
-/// Puts a value in place of one part, and gives that one back.
-fn replaced(value: &mut Value, key: &Key, new: Value) -> Result<Value, Cause> {
-    match (value, key) {
-        (Value::Array(list), Key::Index(index)) => {
-            let place = place_of(list.len(), *index).unwrap_or(usize::MAX);
-            match Rc::make_mut(list)?.replace(place, new) {
-                Some(old) => Ok(old),
-                None => Err(Cause::OutOfBounds(*index)),
-            }
-        }
-        (Value::Map(object), Key::Name(name)) => {
-            Ok(
-                Rc::make_mut(object)?
-                    .replace(name.as_str(), new)
-                    .unwrap_or(Value::Unit),
-            )
-        }
-        _ => Err(Cause::WrongType("a value that has parts")),
-    }
 }

@@ -4,13 +4,11 @@ ghost use Rattle.grain_machine.specs.Asked.{IsAsked};
 ghost use Rattle.grain_machine.specs.Reply.{NamesFunction};
 
 use crate::fault::Fault;
-use crate::plain::is_plain;
 use crate::script::Script;
-use crate::walk::Walk;
 use crate::world::World;
 use grain_machine::{CallError, Host, Reply, Request, dispatch};
 use grain_pools::Switch;
-use grain_value::{Cause, Value, constant_of};
+use grain_value::{Cause, Value, Walk, constant_of};
 
 impl<W: World + Drop> Script<W> {
     fn fault(&mut self, cause: Cause) -> Fault {
@@ -120,7 +118,7 @@ impl<W: World + Drop> Host for Script<W> {
 
     #[inline(always)]
     fn needs_drop(&self, value: &Value) -> bool {
-        !is_plain(value)
+        !value.is_plain()
     }
 
     /// Its fault has the address of the operation.

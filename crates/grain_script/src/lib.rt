@@ -1,5 +1,5 @@
-//! A host of `grain_machine` for scripts: variables, calls, chains of accesses and iterators over the values of `grain_value`, with the
-//! functions and operators of `grain_library`.
+//! A host of `grain_machine` for scripts: calls, assignments and chains of accesses over the values of `grain_value`, which lie in the
+//! variables of `grain_variables`, with the functions and operators of `grain_library`.
 //!
 //! What operations do to the stacks is the machine's, and proved there. What they mean for values docs/FORMAT.md leaves to a
 //! host: here it is as Rhai's documentation says, as far as docs/LANGUAGE.md lists it. Proved of this host is that each call is safe
@@ -11,14 +11,10 @@ mod calls;
 mod chains;
 mod fault;
 mod host;
-mod plain;
 mod script;
 mod table;
-mod variables;
-mod walk;
 mod world;
 
 pub use fault::Fault;
 pub use script::Script;
-pub use walk::Walk;
 pub use world::{Recorder, World};

@@ -2,15 +2,15 @@
 ghost use Rattle.std.specs.Prelude.{IfOk};
 ghost use Rattle.grain_machine.specs.Reply.{NamesFunction};
 
-use crate::chains::{Context, assign_to, swapped};
-use crate::plain::{assign_integer, of_integers, plain, replace_plain};
+use crate::chains::{Context, assign_to};
 use crate::table::Table;
-use crate::variables::{Lent, LentRoot, This, Variables};
 use crate::world::World;
 use grain::Program;
 use grain_code::Op;
+use grain_library::{assign_integer, of_integers};
 use grain_machine::{Reply, Request};
-use grain_value::{Cause, Object, Pointer, SizeLimits, Value};
+use grain_value::{Cause, SizeLimits, Value};
+use grain_variables::{This, Variable, Variables};
 use std::alloc::{AllocError, Global};
 use std::rc::Rc;
 
@@ -134,8 +134,8 @@ impl<W: World + Drop> Script<W> {
             return None;
         }
         match request.op {
-            Op::LoadLocal(slot) => plain(self.variables.slot(*slot)?),
-            Op::Const(index) => plain(self.table.constant(*index)?),
+            Op::LoadLocal(slot) => self.variables.slot(*slot)?.plain(),
+            Op::Const(index) => self.table.constant(*index)?.plain(),
             Op::Call {
                 op: Some(token),
                 ..
@@ -204,7 +204,7 @@ impl<W: World + Drop> Script<W> {
             return false;
         };
         match self.variables.slot_mut(slot) {
-            Some(place) => replace_plain(place, value),
+            Some(place) => place.replace_plain(value),
             None => false,
         }
     }
@@ -214,7 +214,7 @@ impl<W: World + Drop> Script<W> {
         let Some(value) = operands.first() else {
             return false;
         };
-        match plain(value) {
+        match value.plain() {
             Some(value) => self.variables.declare_reserved(value),
             None => false,
         }
@@ -246,9 +246,11 @@ impl<W: World + Drop> Script<W> {
                 Some(chain) => return self.chain(program, chain, operands),
                 None => return Err(Cause::Unsupported),
             },
-            Op::CallFnPtr { receiver, .. } => {
-                return self.call_pointer(program, receiver, operands);
-            }
+            Op::CallFnPtr {
+                is_method,
+                receiver,
+                ..
+            } => return self.call_pointer(program, *is_method, receiver, operands),
             Op::CallRef { name, receiver, .. } => {
                 return self.call_on(program, *name, receiver, operands);
             }
@@ -300,7 +302,7 @@ impl<W: World + Drop> Script<W> {
                 None => Err(Cause::NoThis),
             },
             Op::MakeClosure(name) => match program.names().get(*name) {
-                Some(name) => pointer_to(self.alloc, name),
+                Some(name) => Value::pointer(self.alloc, name),
                 None => Err(Cause::Unsupported),
             },
             op => made(self.alloc, op, operands),
@@ -313,26 +315,6 @@ impl<W: World + Drop> Script<W> {
             Ok(name) => Cause::NoVariable(name),
             Err(_) => Cause::OutOfMemory,
         }
-    }
-
-    /// Puts a value back where it was taken from.
-    pub(crate) fn give_back(&mut self, value: Value, lent: Option<Lent>) -> Result<(), Cause> {
-        let Some(Lent { root, path }) = lent else {
-            return Ok(());
-        };
-        let place = match root {
-            LentRoot::Local(slot) => self.variables.local_mut(slot)?,
-            LentRoot::Named(name) => match self.variables.named_mut(name) {
-                Some(place) => place,
-                None => return Err(Cause::Unsupported),
-            },
-            LentRoot::This => match self.variables.this_mut() {
-                Some(place) => place,
-                None => return Err(Cause::NoThis),
-            },
-        };
-        let _ = swapped(place, path.as_slice(), value)?;
-        Ok(())
     }
 
     /// A function that was entered has ended: its variables go, and `this` goes back to where it was taken from.
@@ -355,7 +337,7 @@ impl<W: World + Drop> Script<W> {
         let Some(This { value, lent }) = self.variables.take_this() else {
             return;
         };
-        if let Err(cause) = self.give_back(value, lent) {
+        if let Err(cause) = self.variables.give_back(value, lent) {
             self.pending = Some(cause);
             self.is_settled = false;
         }
@@ -375,12 +357,12 @@ impl<W: World + Drop> Script<W> {
                 self.variables.set_local(*slot, only(operands)?)
             }
             Op::AssignLocal { slot, op, .. } => {
-                self.assign(program, LentRoot::Local(*slot), *op, only(operands)?)
+                self.assign(program, Variable::Local(*slot), *op, only(operands)?)
             }
             Op::AssignNamed { name, op } => {
-                self.assign(program, LentRoot::Named(*name), *op, only(operands)?)
+                self.assign(program, Variable::Named(*name), *op, only(operands)?)
             }
-            Op::AssignThis { op } => { self.assign(program, LentRoot::This, *op, only(operands)?) }
+            Op::AssignThis { op } => { self.assign(program, Variable::This, *op, only(operands)?) }
             Op::InterpolateAppend => match operands.split_first_mut() {
                 Some((text, rest)) => self.interpolate(text, rest.first()),
                 None => Err(Cause::Unsupported),
@@ -400,18 +382,18 @@ impl<W: World + Drop> Script<W> {
     fn assign(
         &mut self,
         program: &Program,
-        root: LentRoot,
+        variable: Variable,
         op: Option<u32>,
         value: Value,
     ) -> Result<(), Cause> {
         if op.is_none() {
-            *self.root_mut(program, root)? = value;
+            *self.variable_mut(program, variable)? = value;
             return Ok(());
         }
-        let mut place = self.root_mut(program, root)?.take();
+        let mut place = self.variable_mut(program, variable)?.take();
         let result = assign_to(&self.context(program), &mut place, op, value);
         let allowed = self.allowed(&place);
-        *self.root_mut(program, root)? = place;
+        *self.variable_mut(program, variable)? = place;
         allowed?;
         result
     }
@@ -433,27 +415,19 @@ impl<W: World + Drop> Script<W> {
     }
 }
 
-pub(crate) fn copies(alloc: Global, values: &[Value]) -> Result<Vec<Value>, Cause> {
-    let mut copies = Vec::new(alloc);
-    for value in values {
-        copies.push(value.clone()?)?;
-    }
-    Ok(copies)
-}
-
 /// What an operation makes of its operands.
 fn made(alloc: Global, op: &Op, operands: &mut [Value]) -> Result<Value, Cause> {
     match op {
         Op::InterpolateStart => Ok(Value::text(alloc, String::new(alloc))?),
         Op::InterpolateEnd | Op::CheckSize { .. } => only(operands),
-        Op::MakeArray(_) => made_array(alloc, operands),
-        Op::MakeMap(_) => made_map(alloc, operands),
+        Op::MakeArray(_) => Value::array_from(alloc, operands),
+        Op::MakeMap(_) => Value::map_from(alloc, operands),
         Op::MakeFnPtr => match only(operands)? {
-            Value::Text(name) => pointer_to(alloc, name.as_str()),
+            Value::Text(name) => Value::pointer(alloc, name.as_str()),
             _ => Err(Cause::WrongType("string")),
         },
         Op::IsShared => Ok(Value::Bool(matches!(only(operands)?, Value::Shared(_)))),
-        Op::Curry(_) => curried(alloc, operands),
+        Op::Curry(_) => Value::curried(alloc, operands),
         _ => Err(Cause::Unsupported),
     }
 }
@@ -465,57 +439,4 @@ fn only(operands: &mut [Value]) -> Result<Value, Cause> {
         Some(value) => Ok(value.take()),
         None => Err(Cause::Unsupported),
     }
-}
-
-fn made_array(alloc: Global, places: &mut [Value]) -> Result<Value, Cause> {
-    let mut items = Vec::new(alloc);
-    for place in places {
-        items.push(place.take())?;
-    }
-    Ok(Value::array(alloc, items)?)
-}
-
-/// The object map that operands make: one or unit, and above it names and values in turn.
-fn made_map(alloc: Global, operands: &mut [Value]) -> Result<Value, Cause> {
-    let Some((first, rest)) = operands.split_first_mut() else {
-        return Err(Cause::Unsupported);
-    };
-    let mut object = match first.take() {
-        Value::Map(object) => Rc::unwrap_or_clone(object)?,
-        Value::Unit => Object::new(alloc),
-        _ => return Err(Cause::WrongType("map")),
-    };
-    let mut key = None;
-    for place in rest {
-        match (key.take(), place.take()) {
-            (None, Value::Text(name)) => key = Some(name),
-            (Some(name), value) => {
-                let _ = object.insert(Rc::unwrap_or_clone(name)?, value)?;
-            }
-            (None, _) => return Err(Cause::WrongType("string")),
-        }
-    }
-    Ok(Value::Map(Rc::new(alloc, object)?))
-}
-
-/// A pointer to the function of a name, without arguments.
-fn pointer_to(alloc: Global, name: &str) -> Result<Value, Cause> {
-    let pointer = Pointer::new(String::from_str(alloc, name)?, Vec::new(alloc));
-    Ok(Value::Pointer(Rc::new(alloc, pointer)?))
-}
-
-/// The function pointer below arguments, with these bound.
-fn curried(alloc: Global, operands: &mut [Value]) -> Result<Value, Cause> {
-    let Some((pointer, places)) = operands.split_first_mut() else {
-        return Err(Cause::Unsupported);
-    };
-    let Value::Pointer(pointer) = pointer.take() else {
-        return Err(Cause::WrongType("Fn"));
-    };
-    let mut bound = copies(alloc, pointer.bound())?;
-    for place in places {
-        bound.push(place.take())?;
-    }
-    let name = String::from_str(alloc, pointer.name())?;
-    Ok(Value::Pointer(Rc::new(alloc, Pointer::new(name, bound))?))
 }

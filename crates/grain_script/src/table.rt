@@ -2,58 +2,11 @@
 ghost use Rattle.std.specs.Prelude.{◌<◌, IfSome, length};
 
 use grain::Program;
-use grain_base::Token;
-use grain_library::Function;
+use grain_library::Callee;
 use grain_value::{Cause, Value, value_of};
 use std::alloc::{AllocError, Global};
 use std::collections::BTreeMap;
 use std::rc::Rc;
-
-/// A function that every script has.
-#[derive(Clone, Copy, PartialEq, Eq, Drop)]
-pub(crate) enum Callee {
-    /// A function of the library.
-    Library(Function),
-    /// `print`.
-    Print,
-    /// `debug`.
-    Debug,
-    /// An operator, by its index for [`token_at`].
-    Operator(usize),
-}
-
-/// The operators that a function pointer may name, in the order of [`token_at`].
-const OPERATORS: &'static [&'static str] = &[
-    "+", "-", "*", "/", "%", "**", "<<", ">>", "&", "|", "^", "!", "==", "!=", "<", "<=", ">",
-    ">=", "..", "..=",
-];
-
-/// The token of an operator.
-pub(crate) fn token_at(index: usize) -> Option<Token> {
-    match index {
-        0 => Some(Token::Plus),
-        1 => Some(Token::Minus),
-        2 => Some(Token::Multiply),
-        3 => Some(Token::Divide),
-        4 => Some(Token::Modulo),
-        5 => Some(Token::PowerOf),
-        6 => Some(Token::LeftShift),
-        7 => Some(Token::RightShift),
-        8 => Some(Token::Ampersand),
-        9 => Some(Token::Pipe),
-        10 => Some(Token::XOr),
-        11 => Some(Token::Bang),
-        12 => Some(Token::EqualsTo),
-        13 => Some(Token::NotEqualsTo),
-        14 => Some(Token::LessThan),
-        15 => Some(Token::LessThanEqualsTo),
-        16 => Some(Token::GreaterThan),
-        17 => Some(Token::GreaterThanEqualsTo),
-        18 => Some(Token::ExclusiveRange),
-        19 => Some(Token::InclusiveRange),
-        _ => None,
-    }
-}
 
 /// A function of the program.
 #[derive(Clone, Copy, Drop)]
@@ -103,7 +56,7 @@ impl Table {
         for name in program.names().iter() {
             self.meanings.push(Meaning {
                 name: Rc::new(alloc, String::from_str(alloc, name)?)?,
-                callee: callee_named(name),
+                callee: Callee::named(name),
                 declared: Vec::new(alloc),
             })?;
             let _ = self.indices.insert(String::from_str(alloc, name)?, index)?;
@@ -219,25 +172,4 @@ fn is_for(program: &Program, this_type: Option<u32>, receiver: &Value) -> bool {
         Some(name) => receiver.type_name() == name,
         None => false,
     }
-}
-
-/// What every script has by this name, if it is anything.
-pub(crate) fn callee_named(name: &str) -> Option<Callee> {
-    match name {
-        "print" => Some(Callee::Print),
-        "debug" => Some(Callee::Debug),
-        name => match Function::named(name) {
-            Some(function) => Some(Callee::Library(function)),
-            None => operator_named(name),
-        },
-    }
-}
-
-fn operator_named(name: &str) -> Option<Callee> {
-    for index in 0..OPERATORS.len() {
-        if OPERATORS[index] == name {
-            return Some(Callee::Operator(index));
-        }
-    }
-    None
 }

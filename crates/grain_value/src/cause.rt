@@ -1,7 +1,7 @@
 //! Why operations fail.
 
 use crate::value::Value;
-use std::alloc::{AllocError, AllocFailed};
+use std::alloc::{AllocError, AllocFailed, Global};
 use std::fmt;
 
 /// Why an operation of a script fails.
@@ -46,6 +46,46 @@ impl Cause {
             _ => true,
         }
     }
+
+    /// The cause where no function has this name and takes such arguments, the receiver before the others. It is
+    /// [`Cause::OutOfMemory`] where there is none for its text.
+    #[must_use]
+    pub fn no_function(
+        alloc: Global,
+        name: &str,
+        receiver: Option<&Value>,
+        arguments: &[Value],
+    ) -> Cause {
+        match signature(alloc, name, receiver, arguments) {
+            Ok(text) => Cause::NoFunction(text),
+            Err(_) => Cause::OutOfMemory,
+        }
+    }
+}
+
+/// A name with the types of its arguments.
+fn signature(
+    alloc: Global,
+    name: &str,
+    receiver: Option<&Value>,
+    arguments: &[Value],
+) -> Result<String, AllocError> {
+    let mut text = String::from_str(alloc, name)?;
+    text.push_str(" (")?;
+    let mut is_first = true;
+    if let Some(receiver) = receiver {
+        text.push_str(receiver.type_name())?;
+        is_first = false;
+    }
+    for argument in arguments {
+        if !is_first {
+            text.push_str(", ")?;
+        }
+        is_first = false;
+        text.push_str(argument.type_name())?;
+    }
+    text.push(')')?;
+    Ok(text)
 }
 
 impl From<AllocError> for Cause {

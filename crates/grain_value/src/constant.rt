@@ -1,7 +1,6 @@
 //! Values as constants of programs, and back.
 
 use crate::cause::Cause;
-use crate::interval::Interval;
 use crate::value::{Object, Pointer, Value};
 use grain_base::{Dynamic, FnPtr};
 use std::alloc::{AllocError, Global};
@@ -20,8 +19,8 @@ pub fn value_of(alloc: Global, constant: &Dynamic) -> Result<Value, Cause> {
         Dynamic::Int(x) => Ok(Value::Int(*x)),
         Dynamic::Char(x) => Ok(Value::Char(*x)),
         Dynamic::Str(text) => Ok(Value::text(alloc, text.clone()?)?),
-        Dynamic::Range(from, to) => interval(alloc, *from, *to, false),
-        Dynamic::RangeInclusive(from, to) => interval(alloc, *from, *to, true),
+        Dynamic::Range(from, to) => Ok(Value::range(alloc, *from, *to, false)?),
+        Dynamic::RangeInclusive(from, to) => Ok(Value::range(alloc, *from, *to, true)?),
         Dynamic::Array(items) => Ok(Value::array(alloc, values_of(alloc, items)?)?),
         Dynamic::Blob(bytes) => Ok(Value::Blob(Rc::new(alloc, bytes.clone()?)?)),
         Dynamic::Map(entries) => object_of(alloc, entries),
@@ -33,15 +32,6 @@ pub fn value_of(alloc: Global, constant: &Dynamic) -> Result<Value, Cause> {
         Dynamic::Shared(inner) => value_of(alloc, inner),
         Dynamic::Host(_) => Err(Cause::Unsupported),
     }
-}
-
-fn interval(alloc: Global, from: i64, to: i64, inclusive: bool) -> Result<Value, Cause> {
-    let interval = Interval {
-        from,
-        to,
-        inclusive,
-    };
-    Ok(Value::Range(Rc::new(alloc, interval)?))
 }
 
 #[cycle(value_of)]

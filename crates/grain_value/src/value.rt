@@ -45,6 +45,31 @@ impl Value {
         Ok(Value::Text(Rc::new(alloc, text)?))
     }
 
+    /// The characters of a text, in order.
+    ///
+    /// # Errors
+    /// Out of memory.
+    pub fn characters(alloc: Global, text: &str) -> Result<Vec<Value>, AllocError> {
+        let mut characters = Vec::new(alloc);
+        for character in text.chars() {
+            characters.push(Value::Char(character))?;
+        }
+        Ok(characters)
+    }
+
+    /// The integers from one to another, with that one where it is inclusive.
+    ///
+    /// # Errors
+    /// Out of memory.
+    pub fn range(alloc: Global, from: i64, to: i64, inclusive: bool) -> Result<Value, AllocError> {
+        let interval = Interval {
+            from,
+            to,
+            inclusive,
+        };
+        Ok(Value::Range(Rc::new(alloc, interval)?))
+    }
+
     /// An array of these items.
     ///
     /// # Errors

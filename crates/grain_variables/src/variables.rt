@@ -1,51 +1,12 @@
-//! Variables: local ones in slots, named ones, those that closures share, and `this`.
+//! The variables of a run, by their slots and names.
 
-use crate::chains::Key;
-use crate::plain::plain;
-use grain_value::{Cause, Value};
+use crate::frames::{Call, Lent, This, Variable};
+use grain_value::{Cause, Value, swapped};
 use std::alloc::{AllocError, Global};
-
-/// Where the value of `this` was taken from, and goes back to when the function ends.
-#[derive(Drop)]
-pub(crate) struct Lent {
-    pub(crate) root: LentRoot,
-    /// Where it lies inside the value of the variable.
-    pub(crate) path: Vec<Key>,
-}
-
-/// The variable that a value was taken from.
-#[derive(Clone, Copy, Drop)]
-pub(crate) enum LentRoot {
-    /// The local variable in a slot of the calling function.
-    Local(u16),
-    /// The variable of a name.
-    Named(u32),
-    /// `this` of the calling function.
-    This,
-}
-
-/// The value of `this` in a function.
-#[derive(Drop)]
-pub(crate) struct This {
-    pub(crate) value: Value,
-    /// Where it goes back to, if anywhere.
-    pub(crate) lent: Option<Lent>,
-}
-
-/// A function that has begun.
-#[derive(Clone, Copy, Drop)]
-pub(crate) struct Call {
-    /// Where the local variables of the calling function begin.
-    base: usize,
-    /// The address of the operation that called it.
-    pub(crate) at: usize,
-    /// Whether it was called on a value, which is then the last of `Variables::receivers`.
-    pub(crate) has_this: bool,
-}
 
 /// The variables of a run. Each function sees its own local ones, and all named ones.
 #[derive(Drop)]
-pub(crate) struct Variables {
+pub struct Variables {
     alloc: Global,
     locals: Vec<Value>,
     /// Where the local variables of the function that runs begin.
@@ -60,7 +21,9 @@ pub(crate) struct Variables {
 }
 
 impl Variables {
-    pub(crate) fn new(alloc: Global) -> Variables {
+    /// No variables, of a script that has called nothing yet.
+    #[must_use]
+    pub fn new(alloc: Global) -> Variables {
         Variables {
             alloc,
             locals: Vec::new(alloc),
@@ -79,19 +42,23 @@ impl Variables {
 
     /// What a slot holds, a share itself where it is one.
     #[inline(always)]
-    pub(crate) fn slot(&self, slot: u16) -> Option<&Value> {
+    #[must_use]
+    pub fn slot(&self, slot: u16) -> Option<&Value> {
         self.locals.get(self.place(slot))
     }
 
     /// The place of what a slot holds, a share itself where it is one.
     #[inline(always)]
-    pub(crate) fn slot_mut(&mut self, slot: u16) -> Option<&mut Value> {
+    pub fn slot_mut(&mut self, slot: u16) -> Option<&mut Value> {
         let place = self.place(slot);
         self.locals.get_mut(place)
     }
 
-    /// What a slot holds, a share itself where it is one. No compiled script asks for a slot that isn't there.
-    pub(crate) fn raw(&self, slot: u16) -> Result<&Value, Cause> {
+    /// What a slot holds, a share itself where it is one.
+    ///
+    /// # Errors
+    /// [`Cause::NoVariable`] where the slot holds nothing. No compiled script asks for one that doesn't.
+    pub fn raw(&self, slot: u16) -> Result<&Value, Cause> {
         match self.locals.get(self.place(slot)) {
             Some(value) => Ok(value),
             None => Err(self.no_slot(slot)),
@@ -99,7 +66,10 @@ impl Variables {
     }
 
     /// The value of the local variable in a slot.
-    pub(crate) fn local(&self, slot: u16) -> Result<&Value, Cause> {
+    ///
+    /// # Errors
+    /// As [`raw`](Variables::raw).
+    pub fn local(&self, slot: u16) -> Result<&Value, Cause> {
         match self.locals.get(self.place(slot)) {
             Some(Value::Shared(index)) => match self.shared.get(*index) {
                 Some(value) => Ok(value),
@@ -111,7 +81,10 @@ impl Variables {
     }
 
     /// The place of the value of the local variable in a slot.
-    pub(crate) fn local_mut(&mut self, slot: u16) -> Result<&mut Value, Cause> {
+    ///
+    /// # Errors
+    /// As [`raw`](Variables::raw).
+    pub fn local_mut(&mut self, slot: u16) -> Result<&mut Value, Cause> {
         let alloc = self.alloc;
         let place = self.place(slot);
         match self.shared_at(place) {
@@ -133,7 +106,10 @@ impl Variables {
     }
 
     /// Assigns to the local variable in a slot.
-    pub(crate) fn set_local(&mut self, slot: u16, value: Value) -> Result<(), Cause> {
+    ///
+    /// # Errors
+    /// As [`raw`](Variables::raw).
+    pub fn set_local(&mut self, slot: u16, value: Value) -> Result<(), Cause> {
         let place = self.local_mut(slot)?;
         *place = value;
         Ok(())
@@ -141,16 +117,17 @@ impl Variables {
 
     /// The item at a place of the array in a slot, where it is plain.
     #[inline(always)]
-    pub(crate) fn plain_item(&self, slot: u16, place: usize) -> Option<Value> {
+    #[must_use]
+    pub fn plain_item(&self, slot: u16, place: usize) -> Option<Value> {
         match self.slot(slot)? {
-            Value::Array(list) => plain(list.items().get(place)?),
+            Value::Array(list) => list.items().get(place)?.plain(),
             _ => None,
         }
     }
 
     /// Declares a local variable, whose slot is the next one, where that needs no memory.
     #[inline(always)]
-    pub(crate) fn declare_reserved(&mut self, value: Value) -> bool {
+    pub fn declare_reserved(&mut self, value: Value) -> bool {
         if self.locals.len() < self.locals.capacity() {
             self.locals.push_reserved(value);
             true
@@ -160,14 +137,17 @@ impl Variables {
     }
 
     /// Declares a local variable, whose slot is the next one.
-    pub(crate) fn declare(&mut self, value: Value) -> Result<(), Cause> {
+    ///
+    /// # Errors
+    /// Out of memory.
+    pub fn declare(&mut self, value: Value) -> Result<(), Cause> {
         self.locals.push(value)?;
         Ok(())
     }
 
     /// Keeps this number of local variables of the function that runs, and drops the later ones.
     #[inline(always)]
-    pub(crate) fn unwind_to(&mut self, depth: u16) {
+    pub fn unwind_to(&mut self, depth: u16) {
         let place = self.place(depth);
         if place < self.locals.len() {
             self.drop_from(place);
@@ -181,7 +161,10 @@ impl Variables {
     }
 
     /// Makes a slot one that closures may share.
-    pub(crate) fn share(&mut self, slot: u16) -> Result<(), Cause> {
+    ///
+    /// # Errors
+    /// As [`raw`](Variables::raw), or out of memory: then the variable is lost.
+    pub fn share(&mut self, slot: u16) -> Result<(), Cause> {
         let index = self.shared.len();
         let place = self.place(slot);
         match self.locals.get_mut(place) {
@@ -197,7 +180,10 @@ impl Variables {
     }
 
     /// Makes the variable of a name one that closures may share.
-    pub(crate) fn share_named(&mut self, name: u32) -> Result<(), Cause> {
+    ///
+    /// # Errors
+    /// [`Cause::NoVariable`], without the name, where there is none; or out of memory: then the variable is lost.
+    pub fn share_named(&mut self, name: u32) -> Result<(), Cause> {
         let index = self.shared.len();
         match self.named.get_mut(name as usize) {
             Some(Some(Value::Shared(_))) => Ok(()),
@@ -212,7 +198,8 @@ impl Variables {
     }
 
     /// The value of a named variable, a share itself where it is one.
-    pub(crate) fn raw_named(&self, name: u32) -> Option<&Value> {
+    #[must_use]
+    pub fn raw_named(&self, name: u32) -> Option<&Value> {
         match self.named.get(name as usize) {
             Some(Some(value)) => Some(value),
             _ => None,
@@ -220,7 +207,8 @@ impl Variables {
     }
 
     /// The value of a named variable.
-    pub(crate) fn named(&self, name: u32) -> Option<&Value> {
+    #[must_use]
+    pub fn named(&self, name: u32) -> Option<&Value> {
         match self.raw_named(name)? {
             Value::Shared(index) => self.shared.get(*index),
             value => Some(value),
@@ -228,7 +216,7 @@ impl Variables {
     }
 
     /// The place of the value of a named variable.
-    pub(crate) fn named_mut(&mut self, name: u32) -> Option<&mut Value> {
+    pub fn named_mut(&mut self, name: u32) -> Option<&mut Value> {
         match self.shared_named(name) {
             Some(index) => self.shared.get_mut(index),
             None => match self.named.get_mut(name as usize) {
@@ -247,7 +235,10 @@ impl Variables {
     }
 
     /// Gives the variable of a name its value, and declares it where it isn't there.
-    pub(crate) fn set_named(&mut self, name: u32, value: Value) -> Result<(), AllocError> {
+    ///
+    /// # Errors
+    /// Out of memory; the variable is as it was.
+    pub fn set_named(&mut self, name: u32, value: Value) -> Result<(), AllocError> {
         if let Some(variable) = self.named_mut(name) {
             *variable = value;
             return Ok(());
@@ -263,7 +254,8 @@ impl Variables {
     }
 
     /// The value of `this` in the function that runs, if it has one.
-    pub(crate) fn this(&self) -> Option<&Value> {
+    #[must_use]
+    pub fn this(&self) -> Option<&Value> {
         if !self.calls.last()?.has_this {
             return None;
         }
@@ -274,7 +266,7 @@ impl Variables {
     }
 
     /// The place of the value of `this` in the function that runs, if it has one.
-    pub(crate) fn this_mut(&mut self) -> Option<&mut Value> {
+    pub fn this_mut(&mut self) -> Option<&mut Value> {
         if !self.calls.last()?.has_this {
             return None;
         }
@@ -284,8 +276,11 @@ impl Variables {
         }
     }
 
-    /// A function begins, whose first local variables are these arguments.
-    pub(crate) fn begin(&mut self, arguments: &mut [Value], at: usize) -> Result<(), Cause> {
+    /// A function begins, whose first local variables are these arguments. It was called by the operation at an address.
+    ///
+    /// # Errors
+    /// Out of memory; no function has begun, and the arguments are where they were.
+    pub fn begin(&mut self, arguments: &mut [Value], at: usize) -> Result<(), Cause> {
         self.calls.reserve(1)?;
         self.locals.reserve(arguments.len())?;
         let base = self.locals.len();
@@ -296,7 +291,10 @@ impl Variables {
     }
 
     /// As [`begin`](Variables::begin), of a function whose first arguments are bound, or that is called on a value.
-    pub(crate) fn begin_bound(
+    ///
+    /// # Errors
+    /// Out of memory.
+    pub fn begin_bound(
         &mut self,
         bound: &[Value],
         arguments: &mut [Value],
@@ -333,7 +331,7 @@ impl Variables {
 
     /// The last function ends that began, and its local variables with it. Its `this` stays, for
     /// [`take_this`](Variables::take_this).
-    pub(crate) fn end(&mut self) -> Option<Call> {
+    pub fn end(&mut self) -> Option<Call> {
         let call = self.calls.pop()?;
         self.locals.truncate(self.base);
         self.base = call.base;
@@ -341,8 +339,31 @@ impl Variables {
     }
 
     /// The value of `this` of the function that has just ended on one.
-    pub(crate) fn take_this(&mut self) -> Option<This> {
+    pub fn take_this(&mut self) -> Option<This> {
         self.receivers.pop()
+    }
+
+    /// Puts a value back where it was taken from, if it was.
+    ///
+    /// # Errors
+    /// The variable is no longer there, or has no such part: then the value is lost.
+    pub fn give_back(&mut self, value: Value, lent: Option<Lent>) -> Result<(), Cause> {
+        let Some(Lent { variable, path }) = lent else {
+            return Ok(());
+        };
+        let place = match variable {
+            Variable::Local(slot) => self.local_mut(slot)?,
+            Variable::Named(name) => match self.named_mut(name) {
+                Some(place) => place,
+                None => return Err(Cause::Unsupported),
+            },
+            Variable::This => match self.this_mut() {
+                Some(place) => place,
+                None => return Err(Cause::NoThis),
+            },
+        };
+        let _ = swapped(place, path.as_slice(), value)?;
+        Ok(())
     }
 }
 

@@ -1,7 +1,7 @@
 //! Walks over the items of values.
 
-use crate::plain::plain;
-use grain_value::{Cause, List, Value};
+use crate::cause::Cause;
+use crate::value::{List, Value};
 use std::alloc::Global;
 use std::rc::Rc;
 
@@ -51,8 +51,11 @@ pub struct Walk {
 }
 
 impl Walk {
-    /// Begins to go over a value. What changes in it later isn't seen.
-    pub(crate) fn over(alloc: Global, value: Value) -> Result<Walk, Cause> {
+    /// Begins to go over a value. What changes in it later isn't seen. Of a text it takes memory by its characters.
+    ///
+    /// # Errors
+    /// [`Cause::WrongType`] for a value that has no items, or out of memory.
+    pub fn over(alloc: Global, value: Value) -> Result<Walk, Cause> {
         let source = match value {
             Value::Array(list) => Source::Items(list, 0),
             Value::Range(range) => match range.last() {
@@ -65,7 +68,11 @@ impl Walk {
                     last: 0,
                 }),
             },
-            Value::Text(text) => Source::Values(characters(alloc, text.as_str())?),
+            Value::Text(text) => {
+                let mut characters = Value::characters(alloc, text.as_str())?;
+                characters.reverse();
+                Source::Values(characters)
+            }
             _ => return Err(Cause::WrongType("a value to iterate over")),
         };
         Ok(Walk { source, count: 0 })
@@ -73,17 +80,18 @@ impl Walk {
 
     /// The next item, where it is plain; `None` of another one, and behind the last.
     #[inline(always)]
-    pub(crate) fn plain_item(&self) -> Option<Value> {
+    #[must_use]
+    pub fn plain_item(&self) -> Option<Value> {
         match &self.source {
             Source::Numbers(numbers) => Some(Value::Int(numbers.at()?)),
-            Source::Items(list, place) => plain(list.items().get(*place)?),
+            Source::Items(list, place) => list.items().get(*place)?.plain(),
             Source::Values(_) => None,
         }
     }
 
     /// Goes past the item that [`plain_item`](Walk::plain_item) gave.
     #[inline(always)]
-    pub(crate) fn go_past(&mut self) {
+    pub fn go_past(&mut self) {
         match &mut self.source {
             Source::Numbers(numbers) => numbers.go_past(),
             Source::Items(_, place) => *place = place.saturating_add(1),
@@ -93,7 +101,10 @@ impl Walk {
     }
 
     /// The next item, with how many came before it.
-    pub(crate) fn next_item(&mut self) -> Result<Option<(Value, i64)>, Cause> {
+    ///
+    /// # Errors
+    /// Out of memory, where a copy of the item needs some: it is the next one again.
+    pub fn next_item(&mut self) -> Result<Option<(Value, i64)>, Cause> {
         let item = match &mut self.source {
             Source::Items(list, place) => {
                 let Some(item) = list.items().get(*place) else {
@@ -121,14 +132,4 @@ impl Walk {
         self.count = count.saturating_add(1);
         Ok(Some((item, count)))
     }
-}
-
-/// The characters of a text, the first one last.
-fn characters(alloc: Global, text: &str) -> Result<Vec<Value>, Cause> {
-    let mut items = Vec::new(alloc);
-    for character in text.chars() {
-        items.push(Value::Char(character))?;
-    }
-    items.reverse();
-    Ok(items)
 }

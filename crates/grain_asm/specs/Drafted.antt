@@ -1,0 +1,37 @@
+-- What the program of a text has of what was read.
+use Rattle.std.specs.Prelude.{◌≡◌, ℕ, List, Option, map, option_map, string_bytes}
+use Rattle.grain.specs.Program.{Program, listed_positions}
+use Rattle.grain.specs.declared.program.Parts.{Parts}
+use Rattle.grain_base.specs.declared.position.Position.{Position}
+use Rattle.grain_asm.specs.declared.draft.Draft.{Draft}
+use Rattle.grain_asm.specs.declared.pools.Pools.{Pools}
+
+-- each entry is where it was read, so that an index leads to the same
+pub record HasEntries (pools : Pools) (parts : Parts) : Type 0 where
+  pub names : parts.names ≡ map string_bytes pools.names.items
+  pub consts : parts.consts ≡ pools.consts
+  pub tokens : parts.tokens ≡ pools.tokens
+  pub assign_ops : parts.assign_ops ≡ pools.assign_ops
+  pub chains : parts.chains ≡ pools.chains
+  pub switches : parts.switches ≡ pools.switches
+
+-- what the directives say
+pub record HasDirectives (id fragments : ℕ) (name : Option (List ℕ)) (places : Option (List Position)) (parts : Parts) : Type 0 where
+  pub debug_id : parts.debug_id ≡ id
+  pub residuals : parts.residuals ≡ fragments
+  pub source : option_map string_bytes parts.source ≡ name
+  pub positions : listed_positions parts.positions ≡ places
+
+-- the program has the code, the entries and what the directives say
+pub record IsProgramOf (draft : Draft) (program : Program) : Type 0 where
+  pub code : program.code ≡ draft.code.items
+  pub names : program.names ≡ map string_bytes draft.pools.names.items
+  pub consts : program.consts ≡ draft.pools.consts.items
+  pub tokens : program.tokens ≡ draft.pools.tokens.items
+  pub assign_ops : program.assign_ops ≡ draft.pools.assign_ops.items
+  pub chains : program.chains ≡ draft.pools.chains.items
+  pub switches : program.switches ≡ draft.pools.switches.items
+  pub caps : program.caps ≡ draft.head.caps
+  pub debug_id : program.debug_id ≡ draft.head.debug_id
+  pub residuals : program.residuals ≡ draft.head.fragments
+  pub source : program.source ≡ option_map string_bytes draft.head.source

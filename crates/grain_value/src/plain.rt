@@ -1,0 +1,51 @@
+//! Plain values: integers, truth values, characters and unit, which have no counter and meet no limit.
+
+use crate::value::Value;
+
+impl Value {
+    /// Whether it is plain.
+    #[inline(always)]
+    #[must_use]
+    pub fn is_plain(&self) -> bool {
+        matches!(
+            self,
+            Value::Int(_) | Value::Bool(_) | Value::Char(_) | Value::Unit
+        )
+    }
+
+    /// A copy, where it is plain.
+    #[inline(always)]
+    #[must_use]
+    pub fn plain(&self) -> Option<Value> {
+        match self {
+            Value::Int(number) => Some(Value::Int(*number)),
+            Value::Bool(truth) => Some(Value::Bool(*truth)),
+            Value::Char(character) => Some(Value::Char(*character)),
+            Value::Unit => Some(Value::Unit),
+            _ => None,
+        }
+    }
+
+    /// Puts an integer in place of an integer, or a truth value in place of one. `false` of other values: then nothing has
+    /// changed.
+    #[inline(always)]
+    pub fn replace_plain(&mut self, value: &Value) -> bool {
+        match value {
+            Value::Int(number) => match self {
+                Value::Int(old) => {
+                    *old = *number;
+                    true
+                }
+                _ => false,
+            },
+            Value::Bool(truth) => match self {
+                Value::Bool(old) => {
+                    *old = *truth;
+                    true
+                }
+                _ => false,
+            },
+            _ => false,
+        }
+    }
+}
