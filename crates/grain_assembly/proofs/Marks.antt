@@ -56,6 +56,7 @@ module _ (k : Kept) (s : IsSound k) where
     begun = s.begun;
     bound = s.bound;
     cuts = s.cuts;
+    ended = s.ended;
     room = s.room;
     base = s.base;
   }
@@ -73,6 +74,7 @@ module _ (k : Kept) (s : IsSound k) where
     begun = s.begun;
     bound = s.bound;
     cuts = s.cuts;
+    ended = s.ended;
     room = s.room;
     base = s.base;
   }
@@ -91,6 +93,7 @@ module _ (k : Kept) (s : IsSound k) where
     begun = subst (λ m. slice_get s.spots m ≡ Some (spot_of m nothing)) (sym home) s.begun;
     bound = s.bound;
     cuts = λ j cut e. let c = s.cuts j cut e in (c.0, let q = home in let h = c.1 in omega arith);
+    ended = λ h. s.ended (let q = home in omega arith);
     room = room;
     base = base;
   }
@@ -109,6 +112,7 @@ module _ (k : Kept) (s : IsSound k) where
     begun = subst (λ m. slice_get s.spots m ≡ Some (spot_of m nothing)) (sym same.home) s.begun;
     bound = s.bound;
     cuts = λ j cut e. let c = s.cuts j cut e in (c.0, let q = same.home in let h = c.1 in omega arith);
+    ended = λ h. s.ended (let q = same.home in omega arith);
     room = s.room;
     base = base;
   }
@@ -142,6 +146,7 @@ module _ (k : Kept) (s : IsSound k) where
       ];
     };
     cuts = s.cuts;
+    ended = s.ended;
     room = s.room;
     base = s.base;
   }
@@ -180,6 +185,7 @@ module _ (k : Kept) (s : IsSound k) where
       ];
     };
     cuts = s.cuts;
+    ended = s.ended;
     room = s.room;
     base = s.base;
   }
@@ -227,6 +233,7 @@ one_chunk k s loose cut is =
         | inl old ↦ let h = s.cuts j c old in let i = h.1 in let m = s.home in (chunk_further k.ops s.spots next c h.0 (omega arith), omega arith)
         | inr new ↦ subst (λ (x : Span). IsChunk k.ops (s.spots ++ next ∷ []) x × (x.end ≤ length k.ops)) (sym is ∙ new.1) (chunk, omega arith)
       ];
+      ended = λ _. let l = length-append k.cuts (cut ∷ []) in omega arith;
       room = omega arith;
       base = based_fresh (length k.ops);
     }
@@ -255,6 +262,7 @@ started =
         between = λ l o j at a b c e. absurd (none-some at e);
       };
       cuts = λ j cut e. absurd (none-some cut e);
+      ended = λ h. absurd (omega arith);
       room = omega arith;
       base = based_fresh 0;
     }

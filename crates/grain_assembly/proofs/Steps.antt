@@ -65,6 +65,7 @@ settled k s loose =
       begun = get_left s.spots (now ∷ []) k.level.home (spot_of k.level.home nothing) s.begun;
       bound = s.bound;
       cuts = λ j cut e. let c = s.cuts j cut e in (chunk_further k.ops s.spots now cut c.0 c.1, c.1);
+      ended = s.ended;
       room = s.room;
       base = s.base;
     }
@@ -116,6 +117,7 @@ module _ (k : Kept) (s : IsSound k) (here : k.fixed ≡ true) (op : Op) (fits : 
     begun = subst (λ m. slice_get s.spots m ≡ Some (spot_of m nothing)) (sym home) s.begun;
     bound = s.bound;
     cuts = λ j cut e. let c = s.cuts j cut e in (chunk_longer k.ops (op ∷ []) s.spots cut c.0, let q = home in let h = c.1 in omega arith);
+    ended = λ h. s.ended (let q = home in omega arith);
     room = room;
     base = base;
   }
@@ -164,6 +166,7 @@ module _ (k : Kept) (s : IsSound k) (here : k.fixed ≡ true) (op : Op) (fits : 
         cuts = λ j cut e. let c = s.cuts j cut e in
             let behind : cut.end ≤ level.home = let q = home in let h = c.1 in omega arith in
             (chunk_further (k.ops ++ op ∷ []) s.spots next cut (chunk_longer k.ops (op ∷ []) s.spots cut c.0) behind, behind);
+        ended = λ h. s.ended (let q = home in omega arith);
         room = room;
         base = base;
       }

@@ -1,17 +1,23 @@
 -- A chunk of what is assembled has a typing by index once its labels are resolved.
-use Rattle.std.proofs.Common.{◌≡◌, ℕ, ◌<◌, ◌≤◌, inl, inr, Bool, cond, nat_eq, List, [], length, map, get_or, Option, Some, None, refl, sym, ap, subst, ◌∙◌, arith, option_map}
+use Rattle.std.proofs.Common.{◌≡◌, ℕ, ◌<◌, ◌≤◌, inl, inr, Bool, true, false, cond, nat_eq, List, [], length, map, get_or, Option, Some, None, refl, sym, ap, subst, ◌∙◌, arith, option_map}
 use Rattle.std.specs.Prelude.{slice_get, slice_index}
+use Rattle.std.specs.List.{All, Contains}
+use Rattle.std.proofs.lemmas.List.Elements.{All-map}
 use Rattle.std.proofs.lemmas.Bool.{cases_lt, eq-eqb}
 use Rattle.std.proofs.lemmas.Bool.Decides.{eqb_tells}
+use Rattle.std.proofs.lemmas.List.{get_or_past}
 use Rattle.std.proofs.lemmas.Option.{get_or_from_slice_get, none-some, slice_get-get_or, slice_get-map, slice_get_within}
 use Rattle.grain_code.specs.Span.{Span}
 use Rattle.grain_code.specs.declared.op.Op.{Op}
 use Rattle.grain_code.specs.declared.op.Op.TheVariants as ops
-use Rattle.grain_rules.specs.ByIndex.{code_by_index}
+use Rattle.grain_rules.specs.ByIndex.{IsCut, LeadWithin, code_by_index}
 use Rattle.grain_rules.specs.Capabilities.{Allows}
 use Rattle.grain_rules.specs.Counts.{Counts, nothing}
 use Rattle.grain_rules.specs.Effects.{Edge, Meets, after_fall, after_jump}
-use Rattle.grain_rules.specs.Rows.{caps_of}
+use Rattle.grain_rules.specs.Flow as flows
+use Rattle.grain_rules.specs.Flow.{Flow}
+use Rattle.grain_rules.specs.FlowFields.{targets_for}
+use Rattle.grain_rules.specs.Rows.{caps_of, flow_of}
 use Rattle.grain_rules.specs.Setting.{Setting}
 use Rattle.grain_rules.specs.Sinking.{Stays}
 use Rattle.grain_rules.specs.Typing.{HasTyping, Passes}
@@ -19,10 +25,15 @@ use Rattle.grain_assembly.specs.Written.{Spot}
 use Rattle.grain_assembly.specs.Fitting.{HasChains, HasTables, counts_of, spot_of}
 use Rattle.grain_assembly.specs.Resolved.{resolved, resolved_tables}
 use Rattle.grain_assembly.specs.Sound.{IsChunk, IsSound, Kept}
+use Rattle.grain_assembly.specs.Finished.{LeadAmong}
 use Rattle.grain_assembly.proofs.ResolvedRows.{fall_same, falls_same, jump_same, meets_resolved, stays_resolved, target_label}
 
 some_inj : {A : Type 0} {x y : A} → Some x ≡ Some y → x ≡ y
 some_inj e = cc
+
+at_most_one : (b : Bool) → cond b 1 0 ≤ 1
+at_most_one true = omega arith
+at_most_one false = omega arith
 
 -- the counts of a spot that is of the chunk that begins here
 abbrev pub counts_within : ℕ → Option Spot → Option Counts
@@ -40,7 +51,51 @@ within_spot home (Some p) c e = elim (eqb_tells p.home home) [
       absurd (none-some c g)
 ]
 
-module _ (k : Kept) (sound : IsSound k) (closed : k.pending ≡ 0) (s : Setting) (chains : HasChains s k.chains) (allowed : (op : Op) → Allows s.caps (caps_of s op)) (cut : Span) (chunk : IsChunk k.ops sound.spots cut) where
+-- with switches that lead nowhere else an operation has no other targets
+targets_among : (leads tables : List (List ℕ)) → LeadAmong leads tables → (f : Flow) (b : ℕ) → Contains (targets_for leads f) b → Contains (targets_for tables f) b
+targets_among leads tables among (flows.Switches w) b c = among w b c
+targets_among leads tables among flows.Falls b c = c
+targets_among leads tables among flows.Ends b c = c
+targets_among leads tables among (flows.Jumps t) b c = c
+targets_among leads tables among (flows.Branches t) b c = c
+targets_among leads tables among flows.BeginsIterator b c = c
+targets_among leads tables among (flows.AdvancesIterator t) b c = c
+targets_among leads tables among flows.EndsIterator b c = c
+targets_among leads tables among (flows.PushesHandler t) b c = c
+targets_among leads tables among flows.PopsHandler b c = c
+
+-- the place of a label that is bound is that of an operation, or behind the last one
+module _ (k : Kept) (sound : IsSound k) (closed : k.pending ≡ 0) where
+  pub place_within : (l : ℕ) → slice_index k.places l ≤ length k.ops
+  place_within l = elim (cases_lt l (length k.places)) [
+    | inr far ↦ let e = get_or_past k.places l 0 far in omega arith
+    | inl near ↦
+        let same = sound.lengths.0 in
+        let place : slice_get k.places l ≡ Some (get_or k.places l 0) = slice_get-get_or k.places l 0 near in
+        let label : slice_get k.labels l ≡ Some (get_or k.labels l (spot_of 0 nothing)) = slice_get-get_or k.labels l (spot_of 0 nothing) (omega arith) in
+        let here = sound.landing l (get_or k.places l 0) (get_or k.labels l (spot_of 0 nothing)) place label (sound.bound.behind l (get_or k.places l 0) (omega arith) place) in
+        let few = slice_get_within sound.spots (get_or k.places l 0) (get_or k.labels l (spot_of 0 nothing)) here in
+        let count = sound.count in
+        let one : cond k.fixed 1 0 ≤ 1 = at_most_one k.fixed in
+        omega arith
+  ]
+
+  pub lead_within : LeadWithin (length k.ops) (resolved_tables k.places k.tables)
+  lead_within = All-map (All (λ (t : ℕ). t ≤ length k.ops)) (map (slice_index k.places)) k.tables
+      (λ j d h. All-map (λ (t : ℕ). t ≤ length k.ops) (slice_index k.places) (get_or k.tables j d) (λ i e g. place_within (get_or (get_or k.tables j d) i e)))
+
+  pub are_cuts : All (IsCut (length k.ops)) k.cuts
+  are_cuts j d h =
+      let chunk = (sound.cuts j (get_or k.cuts j d) (slice_get-get_or k.cuts j d h)).0 in
+      record {
+        ordered = elim (cases_lt (get_or k.cuts j d).end (get_or k.cuts j d).entry) [
+          | inl l ↦ absurd (chunk.behind (get_or k.cuts j d).entry (spot_of (get_or k.cuts j d).entry nothing) (omega arith) chunk.entry refl)
+          | inr g ↦ g
+        ];
+        inside = chunk.inside;
+      }
+
+module _ (k : Kept) (sound : IsSound k) (closed : k.pending ≡ 0) (s : Setting) (leads : List (List ℕ)) (chains : HasChains s k.chains) (allowed : (op : Op) → Allows s.caps (caps_of s op)) (among : LeadAmong leads (resolved_tables k.places k.tables)) (cut : Span) (chunk : IsChunk k.ops sound.spots cut) where
   abbrev typing : ℕ → Option Counts
   typing at = counts_within cut.entry (slice_get sound.spots at)
 
@@ -66,7 +121,7 @@ module _ (k : Kept) (sound : IsSound k) (closed : k.pending ≡ 0) (s : Setting)
   read_resolved : (i : ℕ) (op : Op) → slice_get k.ops i ≡ Some op → slice_get listed i ≡ Some (resolved k.places op)
   read_resolved i op e = slice_get-map (resolved k.places) k.ops i ∙ ap (option_map (resolved k.places)) e
 
-  met : (at : ℕ) (c : Counts) → typing at ≡ Some c → (op : Op) × Passes (code_by_index s listed tables) cut at c op
+  met : (at : ℕ) (c : Counts) → typing at ≡ Some c → (op : Op) × Passes (code_by_index s listed leads) cut at c op
   met at c e =
       let w = within_spot cut.entry (slice_get sound.spots at) c e in
       let o = op_there at w.0 w.1 w.2 in
@@ -95,7 +150,7 @@ module _ (k : Kept) (sound : IsSound k) (closed : k.pending ≡ 0) (s : Setting)
       let here : slice_get k.places l ≡ Some (get_or k.places l 0) = slice_get-get_or k.places l 0 (omega arith) in
       sound.landing l (get_or k.places l 0) p here e (sound.bound.behind l (get_or k.places l 0) (omega arith) here)
 
-  closed_edges : (at : ℕ) (c : Counts) (op : Op) (b : ℕ) (d : Counts) → typing at ≡ Some c → slice_get listed at ≡ Some op → Edge (code_by_index s listed tables) op at c b d → typing b ≡ Some d
+  closed_edges : (at : ℕ) (c : Counts) (op : Op) (b : ℕ) (d : Counts) → typing at ≡ Some c → slice_get listed at ≡ Some op → Edge (code_by_index s listed leads) op at c b d → typing b ≡ Some d
   closed_edges at c op b d e r edge =
       let w = within_spot cut.entry (slice_get sound.spots at) c e in
       let p = w.0 in
@@ -103,12 +158,12 @@ module _ (k : Kept) (sound : IsSound k) (closed : k.pending ≡ 0) (s : Setting)
       let fits = sound.fitting.fits at o.0 p o.1 w.1 in
       let read : slice_get listed at ≡ Some (resolved k.places o.0) = read_resolved at o.0 o.1 in
       let same : op ≡ resolved k.places o.0 = some_inj (sym r ∙ read) in
-      let there : Edge (code_by_index s listed tables) (resolved k.places o.0) at (counts_of p) b d =
-      subst (λ (x : Op). Edge (code_by_index s listed tables) x at (counts_of p) b d) same
-      (subst (λ (x : Counts). Edge (code_by_index s listed tables) op at x b d) (sym w.3) edge) in
+      let there : Edge (code_by_index s listed leads) (resolved k.places o.0) at (counts_of p) b d =
+      subst (λ (x : Op). Edge (code_by_index s listed leads) x at (counts_of p) b d) same
+      (subst (λ (x : Counts). Edge (code_by_index s listed leads) op at x b d) (sym w.3) edge) in
       elim there [
         | inl j ↦
-            let t = target_label k.places k.tables o.0 b j.0 in
+            let t = target_label k.places k.tables o.0 b (targets_among leads tables among (flow_of (resolved k.places o.0)) b j.0) in
             let found = label_there t.0 _ (fits.jumps s k.tables t.0 chains own_tables t.1) in
             typed_at b _ (subst (λ (n : ℕ). slice_get sound.spots n ≡ Some (spot_of p.home (after_jump s o.0 (counts_of p)))) t.2 found) w.2
             ∙ ap (λ (x : Counts). Some x) (sym (j.1 ∙ jump_same s k.places o.0 (counts_of p)))
@@ -128,7 +183,7 @@ module _ (k : Kept) (sound : IsSound k) (closed : k.pending ≡ 0) (s : Setting)
       let m = chunk.most in
       omega arith
 
-  pub typed : HasTyping (code_by_index s listed tables) cut cut.max_stack
+  pub typed : HasTyping (code_by_index s listed leads) cut cut.max_stack
   typed = (
     typing,
     record {

@@ -1,9 +1,10 @@
 -- What the fields of an assembler say.
-use Rattle.std.specs.Prelude.{ℕ, map}
+use Rattle.std.specs.Prelude.{ℕ, List, [], ◌∷◌, ◌++◌, map}
 use Rattle.grain_assembly.specs.Sound.{Kept}
 use Rattle.grain_assembly.specs.Written.{Spot, Written, spot}
 use Rattle.grain_assembly.specs.declared.assembler.Assembler.TheInside.{Inside}
 use Rattle.grain_assembly.specs.declared.assembler.Label.{Label}
+use Rattle.grain_assembly.specs.declared.assembler.Targets.{Targets}
 
 abbrev pub spot_at : Label → Spot
 spot_at l = spot l.operands l.frame
@@ -11,11 +12,15 @@ spot_at l = spot l.operands l.frame
 abbrev pub place_of : Label → ℕ
 place_of l = l.at
 
+-- all targets of a switch
+abbrev pub targets_of : Targets → List ℕ
+targets_of t = t.cases.items ++ t.default ∷ []
+
 abbrev pub kept : Inside → Kept
 kept a = record {
   ops = a.ops.items;
   chains = a.chains.items;
-  tables = map (λ t. t.items) a.tables.items;
+  tables = map targets_of a.tables.items;
   labels = map spot_at a.labels.items;
   outers = map (λ (l : Label). l.outer) a.labels.items;
   places = map place_of a.labels.items;

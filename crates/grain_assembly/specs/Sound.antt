@@ -62,5 +62,6 @@ pub record IsSound (k : Kept) : Type 0 where
   pub begun : slice_get spots k.level.home ≡ Some (spot_of k.level.home nothing)
   pub bound : AreBound k.outers k.places k.pending
   pub cuts : (j : ℕ) (cut : Span) → slice_get k.cuts j ≡ Some cut → IsChunk k.ops spots cut × (cut.end ≤ k.level.home)
+  pub ended : 1 ≤ k.level.home → 1 ≤ length k.cuts
   pub room : k.operands ≤ 65535
   pub base : IsBased k.level

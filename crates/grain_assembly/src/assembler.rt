@@ -20,6 +20,15 @@ pub struct Label {
     pub frame: Frame,
 }
 
+/// Where a switch leads.
+#[derive(Drop)]
+pub struct Targets {
+    /// Where its cases and its ranges lead, in this order.
+    pub cases: Vec<u32>,
+    /// Where all other subjects lead.
+    pub default: u32,
+}
+
 /// Operations in the making, whose targets are labels. Each fits where it stands. Contracts see a `Written`.
 #[derive(Drop)]
 pub struct Assembler {
@@ -27,7 +36,7 @@ pub struct Assembler {
     pub(crate) ops: Vec<Op>,
     pub(crate) places: Vec<Place>,
     pub(crate) chains: Vec<Chain>,
-    pub(crate) tables: Vec<Vec<u32>>,
+    pub(crate) tables: Vec<Targets>,
     pub(crate) labels: Vec<Label>,
     pub(crate) cuts: Vec<Chunk>,
     pub(crate) operands: usize,

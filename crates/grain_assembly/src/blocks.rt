@@ -3,9 +3,10 @@ ghost use Rattle.std.specs.Prelude.{◌≡◌, ℕ, ◌+◌, ◌-◌, ◌≤◌,
 ghost use Rattle.std.specs.List.{Contains};
 ghost use Rattle.grain_pools.specs.Chain.{consumed};
 ghost use Rattle.grain_rules.specs.Counts.{without_last};
+ghost use Rattle.grain_assembly.specs.Assembled.{targets_of};
 ghost use Rattle.grain_assembly.specs.Written.{Keeps, Leaves, SameLabels, spot, with_handler, with_iterator, without_iterator};
 
-use crate::assembler::Assembler;
+use crate::assembler::{Assembler, Targets};
 use crate::frame::Frame;
 use crate::writing::{MAX_OPERANDS, too_many};
 use grain_code::Op;
@@ -144,9 +145,9 @@ impl Assembler {
     ///
     /// # Errors
     /// There are too many switches, or the allocator refused.
-    pub fn switch(&mut self, place: Place, table: Vec<u32>) -> Result<u32, CompileError>
+    pub fn switch(&mut self, place: Place, targets: Targets) -> Result<u32, CompileError>
         requires room { self.old.level.floor + 1 ≤ self.old.operands }
-        requires there { (l : ℕ) → Contains table.items l
+        requires there { (l : ℕ) → Contains (targets_of targets) l
             → slice_get self.old.labels l ≡ Some (spot self.old.operands self.old.level) }
         ensures leaves { OnOk result (Leaves self.old self.new self.old.operands) }
         ensures loose { OnOk result (self.new.fixed ≡ false) }
@@ -156,7 +157,7 @@ impl Assembler {
         };
         let index = u32::from(index);
         self.places.push(place)?;
-        self.tables.push(table)?;
+        self.tables.push(targets)?;
         self.ops.push(Op::Switch(index))?;
         self.is_fixed = false;
         Ok(index)

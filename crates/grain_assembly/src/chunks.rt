@@ -1,5 +1,5 @@
 //! Chunks: where they begin and end.
-ghost use Rattle.std.specs.Prelude.{◌≡◌, [], IfOk, OnOk, false, true};
+ghost use Rattle.std.specs.Prelude.{◌≡◌, ◌≤◌, [], OnOk, false, true};
 ghost use Rattle.grain_assembly.specs.Written.{SameLabels, fresh};
 
 use crate::assembler::Assembler;
@@ -44,6 +44,7 @@ impl Assembler {
         ensures operands { OnOk result (self.new.operands ≡ 0) }
         ensures level { OnOk result (self.new.level ≡ fresh self.new.level.home) }
         ensures labels { OnOk result (SameLabels self.old self.new) }
+        ensures further { OnOk result (1 ≤ self.new.level.home) }
     {
         let Ok(entry) = u32::try_from(self.frame.home()) else {
             return Err(too_long());

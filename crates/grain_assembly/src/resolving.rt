@@ -1,10 +1,10 @@
 //! Labels become indices of operations.
-ghost use Rattle.std.specs.Prelude.{◌≡◌, ℕ, IfOk, map, slice_index};
-ghost use Rattle.grain_assembly.specs.Assembled.{place_of};
-ghost use Rattle.grain_assembly.specs.Finished.{AreTypedCuts};
+ghost use Rattle.std.specs.Prelude.{◌≡◌, ◌≤◌, IfOk, map, slice_index};
+ghost use Rattle.grain_assembly.specs.Assembled.{place_of, targets_of};
+ghost use Rattle.grain_assembly.specs.Finished.{IsComplete};
 ghost use Rattle.grain_assembly.specs.Resolved.{resolved, resolved_tables};
 
-use crate::assembler::{Assembler, Label};
+use crate::assembler::{Assembler, Label, Targets};
 use grain_code::{Chunk, Op};
 use grain_lexer::{CompileError, Place};
 use grain_pools::Chain;
@@ -20,7 +20,7 @@ pub struct Assembled {
     /// The chains.
     pub chains: Vec<Chain>,
     /// Where each switch leads.
-    pub tables: Vec<Vec<u32>>,
+    pub tables: Vec<Targets>,
     /// The chunks.
     pub cuts: Vec<Chunk>,
 }
@@ -86,40 +86,50 @@ fn places_of(alloc: Global, labels: &[Label]) -> Result<Vec<u32>, AllocError>
     Ok(places)
 }
 
-fn resolve_table(alloc: Global, table: &[u32], places: &[u32]) -> Result<Vec<u32>, AllocError>
-    ensures { IfOk result (λ v. v.items ≡ map (slice_index places.now) table.now) }
+fn resolve_labels(alloc: Global, labels: &[u32], places: &[u32]) -> Result<Vec<u32>, AllocError>
+    ensures { IfOk result (λ v. v.items ≡ map (slice_index places.now) labels.now) }
 {
     let mut resolved = Vec::new(alloc);
-    for label in table {
+    for label in labels {
         resolved.push(target(places, *label))?;
     }
     Ok(resolved)
 }
 
+fn resolve_table(alloc: Global, table: &Targets, places: &[u32]) -> Result<Targets, AllocError>
+    ensures { IfOk result (λ t. targets_of t ≡ map (slice_index places.now) (targets_of table.now)) }
+{
+    let cases = resolve_labels(alloc, &table.cases, places)?;
+    Ok(Targets {
+        cases,
+        default: target(places, table.default),
+    })
+}
+
 fn resolve_tables(
     alloc: Global,
-    tables: &[Vec<u32>],
+    tables: &[Targets],
     places: &[u32],
-) -> Result<Vec<Vec<u32>>, AllocError>
-    ensures { IfOk result (λ v. map (λ t. t.items) v.items
-        ≡ resolved_tables places.now (map (λ t. t.items) tables.now)) }
+) -> Result<Vec<Targets>, AllocError>
+    ensures { IfOk result (λ v. map targets_of v.items
+        ≡ resolved_tables places.now (map targets_of tables.now)) }
 {
     let mut resolved = Vec::new(alloc);
     for table in tables {
-        resolved.push(resolve_table(alloc, table.as_slice(), places)?)?;
+        resolved.push(resolve_table(alloc, table, places)?)?;
     }
     Ok(resolved)
 }
 
 impl Assembler {
-    /// The operations with the places to which their labels are bound. Each chunk that was ended has a typing by index.
+    /// The operations with the places to which their labels are bound, of at least one chunk. Each chunk has a typing by index.
     ///
     /// # Errors
     /// The allocator refused.
     pub fn finish(self) -> Result<Assembled, CompileError>
-        requires { self.pending ≡ 0 }
-        ensures { IfOk result (λ done. AreTypedCuts done.ops.items done.chains.items
-            (map (λ t. t.items) done.tables.items) done.cuts.items) }
+        requires closed { self.pending ≡ 0 }
+        requires ended { 1 ≤ self.level.home }
+        ensures { IfOk result IsComplete }
     {
         let targets = places_of(self.alloc, &self.labels)?;
         let tables = resolve_tables(self.alloc, &self.tables, &targets)?;

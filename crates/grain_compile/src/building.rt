@@ -1,15 +1,24 @@
 //! From the code that was made to an accepted program.
-ghost use Rattle.std.specs.Prelude.{◌≡◌, IfOk};
-ghost use Rattle.grain_rules.specs.Accepted.{AreDeepest, IsAccepted};
+ghost use Rattle.std.specs.Prelude.{◌≡◌, ◌+◌, ◌≤◌, IfOk, OnOk, length, map, take};
+ghost use Rattle.std.specs.List.{All};
+ghost use Rattle.grain_base.specs.declared.caps.Caps.{Caps};
+ghost use Rattle.grain_code.specs.Assembly.{CanAssemble, IsAssembly};
+ghost use Rattle.grain_rules.specs.Accepted.{AreDeepest, AreIndexed, IsAccepted};
+ghost use Rattle.grain_rules.specs.Indices.{Indexed};
+ghost use Rattle.grain.specs.Build.{CanBuild, draft, setting_with, span_of};
 ghost use Rattle.grain.specs.Program.{declared_by, input_of};
+ghost use Rattle.grain_assembly.specs.Finished.{IsComplete};
+ghost use Rattle.grain_compile.specs.Capabilities.{every_capability};
 
-use crate::parts::{parts, positions};
+use crate::parts::parts;
 use grain::{
-    BuildError, Caps, Chunk, Cut, Flags, FnAccess, Head, Op, Parts, Program, VerifyError, build,
+    AssembleError, BuildError, Caps, Chunk, Cut, Flags, FnAccess, Head, Op, Parts, Position,
+    Positions, Program, VerifyError, assemble, build,
 };
 use grain_assembly::Assembled;
-use grain_emit::Emitter;
-use grain_lexer::{CompileError, Place, Problem};
+use grain_emit::{Emitter, Options, Signature, position};
+use grain_lexer::{CompileError, Place, Problem, Thing};
+use grain_rules::{Pools, check_code};
 use std::alloc::{AllocError, Global};
 
 /// Builds the program of the code that was made. What lies behind the last line of the script has no places.
@@ -18,7 +27,8 @@ pub(crate) fn finish(
     heads: Vec<Head>,
     last_line: u32,
 ) -> Result<(Program, Vec<u16>), CompileError>
-    requires { emitter.code.pending ≡ 0 }
+    requires closed { emitter.code.pending ≡ 0 }
+    requires ended { 1 ≤ emitter.code.level.home }
     ensures accepted { IfOk result (λ built. IsAccepted (input_of built.0)) }
     ensures declared { IfOk result (λ built. declared_by built.0 ≡ built.1.items) }
     ensures deepest { IfOk result (λ built. AreDeepest (input_of built.0) built.1.items) }
@@ -30,17 +40,35 @@ pub(crate) fn finish(
         pools,
         ..
     } = emitter;
+    let made = code.finish()?;
+    complete(alloc, options, pools, (made, heads), last_line)
+}
+
+/// Builds the program of operations, and of what functions have except for their chunks.
+fn complete(
+    alloc: Global,
+    options: Options,
+    pools: grain_emit::Pools,
+    made: (Assembled, Vec<Head>),
+    last_line: u32,
+) -> Result<(Program, Vec<u16>), CompileError>
+    requires { IsComplete made.0 }
+    ensures accepted { IfOk result (λ built. IsAccepted (input_of built.0)) }
+    ensures declared { IfOk result (λ built. declared_by built.0 ≡ built.1.items) }
+    ensures deepest { IfOk result (λ built. AreDeepest (input_of built.0) built.1.items) }
+{
+    let (assembled, heads) = made;
     let Assembled {
         ops,
         mut places,
         chains,
         tables,
         cuts,
-    } = code.finish()?;
+    } = assembled;
     forget_places(&mut places, last_line);
-    let positions = positions(alloc, &ops, &places)?;
-    let parts = parts(pools, options, positions, chains, &tables)?;
-    let cuts = cuts_of(alloc, &cuts)?;
+    let parts = parts(pools, options, chains, &tables)?;
+    let parts = positioned(alloc, &ops, &places, parts)?;
+    let (cuts, heads) = paired(alloc, &cuts, heads)?;
     built(alloc, &ops, &cuts, heads, parts)
 }
 
@@ -53,8 +81,27 @@ fn forget_places(places: &mut [Place], last_line: u32) {
     }
 }
 
+/// The chunks as cuts of the operations, and for each but the first what its function has besides.
+fn paired(
+    alloc: Global,
+    chunks: &[Chunk],
+    heads: Vec<Head>,
+) -> Result<(Vec<Cut>, Vec<Head>), AllocError>
+    requires { 1 ≤ length chunks.now }
+    ensures count { IfOk result (λ p. length p.0.items ≡ length p.1.items + 1) }
+    ensures cuts { IfOk result
+        (λ p. map span_of p.0.items ≡ take (length p.1.items + 1) chunks.now) }
+{
+    let mut heads = heads;
+    heads.truncate(chunks.len() - 1);
+    let cuts = cuts_of(alloc, &chunks[..heads.len() + 1])?;
+    Ok((cuts, heads))
+}
+
 /// The chunks as cuts of the operations.
-fn cuts_of(alloc: Global, chunks: &[Chunk]) -> Result<Vec<Cut>, AllocError> {
+fn cuts_of(alloc: Global, chunks: &[Chunk]) -> Result<Vec<Cut>, AllocError>
+    ensures { IfOk result (λ v. map span_of v.items ≡ chunks.now) }
+{
     let mut cuts = Vec::new(alloc);
     for chunk in chunks {
         cuts.push(Cut {
@@ -66,6 +113,66 @@ fn cuts_of(alloc: Global, chunks: &[Chunk]) -> Result<Vec<Cut>, AllocError> {
     Ok(cuts)
 }
 
+/// The code of the operations, and where each of them begins in it.
+fn coded(alloc: Global, ops: &[Op]) -> Result<(Vec<u8>, Vec<u32>), CompileError>
+    ensures assembly { IfOk result (λ made. IsAssembly ops.now made.0.items made.1.items) }
+    ensures can { OnOk result (CanAssemble ops.now) }
+{
+    match assemble(alloc, ops) {
+        Ok(made) => Ok(made),
+        Err(AssembleError::OutOfMemory) => {
+            Err(CompileError::new(Place::NONE, Problem::OutOfMemory))
+        }
+        Err(_) => Err(CompileError::new(Place::NONE, Problem::TooMany(Thing::Operations))),
+    }
+}
+
+/// The parts with the position of each byte of the code of the operations: none but where one begins.
+fn positioned(
+    alloc: Global,
+    ops: &[Op],
+    places: &[Place],
+    mut parts: Parts,
+) -> Result<Parts, CompileError>
+    ensures can { OnOk result (CanAssemble ops.now) }
+    ensures indexed { IfOk result
+        (λ p. (caps : Caps) → All (Indexed (setting_with caps p)) ops.now) }
+    ensures constants { IfOk result (λ p. p.consts ≡ parts.consts) }
+    ensures chains { IfOk result (λ p. p.chains ≡ parts.chains) }
+    ensures switches { IfOk result (λ p. p.switches ≡ parts.switches) }
+{
+    let (code, offsets) = coded(alloc, ops)?;
+    check_indices(&parts, &code)?;
+    let mut positions = vec![in alloc; Position::NONE; code.len()]?;
+    for (offset, place) in offsets.iter().zip(places) {
+        if let Some(found) = positions.get_mut(*offset as usize) {
+            *found = position(*place);
+        }
+    }
+    parts.positions = Positions::dense(positions);
+    Ok(parts)
+}
+
+/// Each index of the code is one that its pool has. Only what `Pools` of `grain_emit` can't hold has none.
+fn check_indices(parts: &Parts, code: &[u8]) -> Result<(), CompileError>
+    ensures { OnOk result ((caps : Caps) → AreIndexed (setting_with caps parts.now) code.now) }
+{
+    let pools = Pools {
+        consts: parts.consts.len(),
+        names: &parts.names,
+        tokens: parts.tokens.len(),
+        assign_ops: parts.assign_ops.len(),
+        residuals: parts.residuals,
+        chains: &parts.chains,
+        switches: &parts.switches,
+    };
+    match check_code(&pools, code) {
+        Ok(()) => Ok(()),
+        Err(_) => Err(CompileError::new(Place::NONE, Problem::TooMany(Thing::Names))),
+    }
+}
+
+/// Builds the program, which passes by index.
 fn built(
     alloc: Global,
     ops: &[Op],
@@ -73,22 +180,30 @@ fn built(
     heads: Vec<Head>,
     parts: Parts,
 ) -> Result<(Program, Vec<u16>), CompileError>
+    requires count { length cuts.now ≡ length heads.items + 1 }
+    requires can { (caps : Caps) → caps.0 ≡ every_capability
+        → CanBuild (draft caps ops.now cuts.now heads.items parts) }
     ensures accepted { IfOk result (λ built. IsAccepted (input_of built.0)) }
     ensures declared { IfOk result (λ built. declared_by built.0 ≡ built.1.items) }
     ensures deepest { IfOk result (λ built. AreDeepest (input_of built.0) built.1.items) }
 {
-    if cuts.len() != heads.len() + 1 {
-        return Err(CompileError::new(Place::NONE, Problem::Refused));
-    }
-    match build(alloc, Caps::all(), ops, cuts, heads, parts) {
+    match build(alloc, every_cap(), ops, cuts, heads, parts) {
         Ok((program, _)) => tightened(alloc, program),
         Err(BuildError::OutOfMemory) => Err(CompileError::new(Place::NONE, Problem::OutOfMemory)),
-        Err(_) => Err(CompileError::new(Place::NONE, Problem::Refused)),
+        Err(_) => unreachable!(),
     }
+}
+
+/// The capabilities of a program: all of them.
+fn every_cap() -> Caps
+    ensures { result.0 ≡ every_capability }
+{
+    Caps::all()
 }
 
 /// Has each chunk declare the greatest operand count that it reaches, and returns these counts too.
 fn tightened(alloc: Global, mut program: Program) -> Result<(Program, Vec<u16>), CompileError>
+    requires { IsAccepted (input_of program) }
     ensures accepted { IfOk result (λ built. IsAccepted (input_of built.0)) }
     ensures declared { IfOk result (λ built. declared_by built.0 ≡ built.1.items) }
     ensures deepest { IfOk result (λ built. AreDeepest (input_of built.0) built.1.items) }
@@ -98,7 +213,7 @@ fn tightened(alloc: Global, mut program: Program) -> Result<(Program, Vec<u16>),
         Err(VerifyError::OutOfMemory) => {
             return Err(CompileError::new(Place::NONE, Problem::OutOfMemory));
         }
-        Err(_) => return Err(CompileError::new(Place::NONE, Problem::Refused)),
+        Err(_) => unreachable!(),
     }
     let numbers = declared(alloc, &program)?;
     Ok((program, numbers))
@@ -116,11 +231,21 @@ fn declared(alloc: Global, program: &Program) -> Result<Vec<u16>, AllocError>
 }
 
 /// What a function has except for its chunk.
-pub(crate) fn head_of(emitter: &Emitter, index: usize) -> Result<Head, CompileError> {
-    let mut params = Vec::new(emitter.alloc);
-    let Some(signature) = emitter.signatures.get(index) else {
-        return Err(CompileError::new(Place::NONE, Problem::Refused));
-    };
+pub(crate) fn head_of(emitter: &Emitter, index: usize) -> Result<Head, AllocError> {
+    match emitter.signatures.get(index) {
+        Some(signature) => head_with(emitter.alloc, signature),
+        None => Ok(Head {
+            name: 0,
+            params: Vec::new(emitter.alloc),
+            access: FnAccess::Private,
+            this_type: None,
+        }),
+    }
+}
+
+/// What a function with this signature has except for its chunk.
+fn head_with(alloc: Global, signature: &Signature) -> Result<Head, AllocError> {
+    let mut params = Vec::new(alloc);
     for local in &signature.captured {
         params.push(local.name)?;
     }

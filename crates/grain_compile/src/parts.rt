@@ -1,17 +1,27 @@
 //! The parts of a program, made from pools.
+ghost use Rattle.std.specs.Prelude.{◌≡◌, ℕ, IfOk, map};
+ghost use Rattle.std.specs.HashMap.{values};
+ghost use Rattle.std.specs.List.{All, Contains};
+ghost use Rattle.grain_rules.specs.Accepted.{ConstantPasses};
+ghost use Rattle.grain_rules.specs.Code.{switch_targets};
+ghost use Rattle.grain_assembly.specs.Assembled.{targets_of};
+ghost use Rattle.grain_assembly.specs.Finished.{LeadAmong};
+ghost use Rattle.grain_compile.specs.Capabilities.{every_capability};
 
 use grain::{
-    AssembleError, AssignOp, Chain, Dynamic, Op, Parts, Position, Positions, Strings, StringsError,
-    Switch, SwitchRange, assemble,
+    AssignOp, Chain, Dynamic, Parts, Positions, Strings, StringsError, Switch, SwitchRange,
 };
-use grain_emit::{Options, Pools, Table, assigning, position, spelling, token};
+use grain_assembly::Targets;
+use grain_emit::{Leading, Options, Pools, Spanning, Table, assigning, spelling, token};
 use grain_lexer::{CompileError, Names, Operator, Place, Problem, Thing};
 use grain_syntax::Literal;
 use std::alloc::{AllocError, Global};
 use std::collections::HashMap;
 
 /// The value of a literal.
-fn value(alloc: Global, texts: &Names, literal: Literal) -> Result<Dynamic, AllocError> {
+fn value(alloc: Global, texts: &Names, literal: Literal) -> Result<Dynamic, AllocError>
+    ensures { IfOk result (λ v. ConstantPasses every_capability v) }
+{
     match literal {
         Literal::Unit => Ok(Dynamic::Unit),
         Literal::Bool(value) => Ok(Dynamic::Bool(value)),
@@ -21,7 +31,9 @@ fn value(alloc: Global, texts: &Names, literal: Literal) -> Result<Dynamic, Allo
     }
 }
 
-fn constants(pools: &Pools) -> Result<Vec<Dynamic>, CompileError> {
+fn constants(pools: &Pools) -> Result<Vec<Dynamic>, CompileError>
+    ensures { IfOk result (λ v. All (ConstantPasses every_capability) v.items) }
+{
     let mut consts = Vec::new(pools.alloc);
     for literal in &pools.consts {
         consts.push(value(pools.alloc, &pools.texts, *literal)?)?;
@@ -65,70 +77,94 @@ fn strings(alloc: Global, names: &Names) -> Result<Strings, CompileError> {
     }
 }
 
-/// A switch with these targets: those of its values, those of its ranges, and that of all other subjects.
-fn switch(pools: &Pools, table: &Table, targets: &[u32]) -> Result<Switch, CompileError> {
-    let mut cases = HashMap::new(pools.alloc);
-    for (leading, target) in table.values.iter().zip(targets) {
-        let subject = value(pools.alloc, &pools.texts, leading.value)?;
-        let _ = cases.insert(subject, (*target, leading.constant))?;
+/// The target of a case or a range at its place among these.
+fn target_at(targets: &Targets, place: usize) -> u32
+    ensures { Contains (targets_of targets.now) result }
+{
+    if place < targets.cases.len() {
+        targets.cases[place]
+    } else {
+        targets.default
     }
-    let others = targets.get(table.values.len()..).unwrap_or_default();
-    let mut ranges = Vec::new(pools.alloc);
-    for (range, target) in table.ranges.iter().zip(others) {
+}
+
+/// The cases of a switch with these targets.
+fn cases(
+    pools: &Pools,
+    leading: &[Leading],
+    targets: &Targets,
+) -> Result<HashMap<Dynamic, (u32, u32)>, CompileError>
+    ensures { IfOk result (λ m. All (λ v. Contains (targets_of targets.now) v.0) (values m)) }
+{
+    let mut cases = HashMap::new(pools.alloc);
+    for (place, one) in leading.iter().enumerate() {
+        let subject = value(pools.alloc, &pools.texts, one.value)?;
+        let _ = cases.insert(subject, (target_at(targets, place), one.constant))?;
+    }
+    Ok(cases)
+}
+
+/// The ranges of a switch with these targets, of which there are as many before theirs as there are cases.
+fn ranges(
+    alloc: Global,
+    spans: &[Spanning],
+    before: usize,
+    targets: &Targets,
+) -> Result<Vec<SwitchRange>, AllocError>
+    ensures { IfOk result (λ v. All (λ r. Contains (targets_of targets.now) r.target) v.items) }
+{
+    let mut ranges = Vec::new(alloc);
+    for (place, range) in spans.iter().enumerate() {
         ranges.push(SwitchRange {
             from: range.from,
             to: range.to,
             inclusive: range.is_inclusive,
-            target: *target,
+            target: target_at(targets, before.saturating_add(place)),
         })?;
     }
+    Ok(ranges)
+}
+
+/// A switch with these targets.
+fn switch(pools: &Pools, table: &Table, targets: &Targets) -> Result<Switch, CompileError>
+    ensures { IfOk result
+        (λ s. (l : ℕ) → Contains (switch_targets s) l → Contains (targets_of targets.now) l) }
+{
+    let cases = cases(pools, &table.values, targets)?;
+    let ranges = ranges(pools.alloc, &table.ranges, table.values.len(), targets)?;
     Ok(Switch {
         cases: Some(cases),
         ranges,
-        default: targets.last().copied().unwrap_or_default(),
+        default: targets.default,
     })
 }
 
-fn switches(pools: &Pools, targets: &[Vec<u32>]) -> Result<Vec<Switch>, CompileError> {
+fn switches(pools: &Pools, targets: &[Targets]) -> Result<Vec<Switch>, CompileError>
+    ensures { IfOk result
+        (λ v. LeadAmong (map switch_targets v.items) (map targets_of targets.now)) }
+{
     let mut switches = Vec::new(pools.alloc);
-    for (table, targets) in pools.switches.iter().zip(targets) {
+    for (place, targets) in targets.iter().enumerate() {
+        let Some(table) = pools.switches.get(place) else {
+            break;
+        };
         switches.push(switch(pools, table, targets)?)?;
     }
     Ok(switches)
 }
 
-/// The position of each byte of the code of the operations: none but where one begins.
-pub(crate) fn positions(
-    alloc: Global,
-    ops: &[Op],
-    places: &[Place],
-) -> Result<Positions, CompileError> {
-    let (code, offsets) = match assemble(alloc, ops) {
-        Ok(assembled) => assembled,
-        Err(AssembleError::OutOfMemory) => {
-            return Err(CompileError::new(Place::NONE, Problem::OutOfMemory));
-        }
-        Err(_) => {
-            return Err(CompileError::new(Place::NONE, Problem::TooMany(Thing::Operations)));
-        }
-    };
-    let mut positions = vec![in alloc; Position::NONE; code.len()]?;
-    for (offset, place) in offsets.iter().zip(places) {
-        if let Some(found) = positions.get_mut(*offset as usize) {
-            *found = position(*place);
-        }
-    }
-    Ok(Positions::dense(positions))
-}
-
-/// All that a program has except for code and chunks.
+/// All that a program has except for code, chunks and positions.
 pub(crate) fn parts(
     mut pools: Pools,
     options: Options,
-    positions: Positions,
     chains: Vec<Chain>,
-    targets: &[Vec<u32>],
-) -> Result<Parts, CompileError> {
+    targets: &[Targets],
+) -> Result<Parts, CompileError>
+    ensures constants { IfOk result (λ p. All (ConstantPasses every_capability) p.consts.items) }
+    ensures chains { IfOk result (λ p. p.chains.items ≡ chains.items) }
+    ensures switches { IfOk result
+        (λ p. LeadAmong (map switch_targets p.switches.items) (map targets_of targets.now)) }
+{
     let alloc = pools.alloc;
     let assign_ops = assign_ops(&mut pools)?;
     let mut tokens = Vec::new(alloc);
@@ -137,7 +173,7 @@ pub(crate) fn parts(
     }
     let switches = switches(&pools, targets)?;
     Ok(Parts {
-        positions,
+        positions: Positions::Stripped,
         debug_id: options.debug_id,
         residuals: 0,
         consts: constants(&pools)?,

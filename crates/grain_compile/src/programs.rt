@@ -76,7 +76,8 @@ fn chunks(
 ) -> Result<Vec<Head>, CompileError>
     requires around { emitter.old.scope.around ≡ None }
     requires begun { IsBegun emitter.old.code }
-    ensures { OnOk result (emitter.new.code.pending ≡ 0) }
+    ensures closed { OnOk result (emitter.new.code.pending ≡ 0) }
+    ensures ended { OnOk result (1 ≤ emitter.new.code.level.home) }
 {
     let mut heads = Vec::new(emitter.alloc);
     main_chunk(emitter, body)?;
@@ -92,7 +93,8 @@ fn chunks(
 fn main_chunk(emitter: &mut Emitter, body: &[Expr]) -> Result<(), CompileError>
     requires around { emitter.old.scope.around ≡ None }
     requires begun { IsBegun emitter.old.code }
-    ensures { OnOk result (IsBegun emitter.new.code) }
+    ensures begun { OnOk result (IsBegun emitter.new.code) }
+    ensures ended { OnOk result (1 ≤ emitter.new.code.level.home) }
 {
     let Some((last, others)) = body.split_last() else {
         emitter.put(Place::START, Op::Unit, 0, 1)?;
@@ -109,7 +111,8 @@ fn main_chunk(emitter: &mut Emitter, body: &[Expr]) -> Result<(), CompileError>
 
 fn function_chunk(emitter: &mut Emitter, index: usize, body: &[Expr]) -> Result<(), CompileError>
     requires { IsBegun emitter.old.code }
-    ensures { OnOk result (IsBegun emitter.new.code) }
+    ensures begun { OnOk result (IsBegun emitter.new.code) }
+    ensures ended { OnOk result (1 ≤ emitter.new.code.level.home) }
 {
     let place = emitter.begin_function(index)?;
     let coder = Coder {
@@ -124,7 +127,8 @@ fn function_chunk(emitter: &mut Emitter, index: usize, body: &[Expr]) -> Result<
 fn ended(emitter: &mut Emitter, place: Place) -> Result<(), CompileError>
     requires floor { emitter.old.code.level.floor ≤ emitter.old.code.operands }
     requires closed { emitter.old.code.pending ≡ 0 }
-    ensures { OnOk result (IsBegun emitter.new.code) }
+    ensures begun { OnOk result (IsBegun emitter.new.code) }
+    ensures ended { OnOk result (1 ≤ emitter.new.code.level.home) }
 {
     emitter.code.stop(place, Op::Return, 0, 0)?;
     emitter.code.end_chunk()

@@ -1,9 +1,13 @@
 -- Labels of arms.
 use Rattle.std.proofs.Common.{◌≡◌, ℕ, ◌+◌, ◌≤◌, inl, inr, List, Some, ap, sym, subst, ◌∙◌, arith}
 use Rattle.std.specs.Prelude.{slice_get}
+use Rattle.std.specs.List.{Contains}
 use Rattle.std.proofs.lemmas.Bool.{cases_lt}
+use Rattle.std.proofs.lemmas.List.Elements.{All-contains, Contains-push_cases}
 use Rattle.grain_assembly.specs.Written.{Keeps, Level, Written, spot}
-use Rattle.grain_emit.specs.Switches.{AreArms}
+use Rattle.grain_assembly.specs.Assembled.{targets_of}
+use Rattle.grain_assembly.specs.declared.assembler.Targets.{Targets}
+use Rattle.grain_emit.specs.Switches.{AreArms, IsArm, LeadWithin}
 use Rattle.grain_emit.specs.declared.dispatch.Labels.{Labels}
 
 -- what is found at some entries up to one, and at the next, is found at all of these
@@ -21,3 +25,10 @@ arms_after l n old new arms level labels outers = record {
   outers = λ label low high. outers label label (arms.outers label low high);
   last = outers l.none (l.end + 1) arms.last;
 }
+
+-- what leads to them finds what is found there
+pub lead_to_arms : (l : Labels) (n : ℕ) (code : Written) (t : Targets) → AreArms l n code → LeadWithin l t → (label : ℕ) → Contains (targets_of t) label → slice_get code.labels label ≡ Some (spot n code.level)
+lead_to_arms l n code t arms within label has = elim (Contains-push_cases t.cases.items t.default label has) [
+  | inl case ↦ let arm = All-contains (IsArm l) t.cases.items label within.cases case in arms.arms label arm.0 arm.1
+  | inr is ↦ subst (λ (x : ℕ). slice_get code.labels x ≡ Some (spot n code.level)) is (arms.arms t.default within.default.0 within.default.1)
+]

@@ -1,5 +1,5 @@
 //! The code of the top level and of functions begins.
-ghost use Rattle.std.specs.Prelude.{◌≡◌, [], None, OnOk, true};
+ghost use Rattle.std.specs.Prelude.{◌≡◌, [], IfOk, None, OnOk, true};
 ghost use Rattle.grain_assembly.specs.Written.{fresh};
 
 use crate::emitter::{Emitter, Signature};
@@ -7,7 +7,7 @@ use crate::options::Options;
 use crate::pools::Pools;
 use crate::scope::{Local, Scope};
 use grain_assembly::Assembler;
-use grain_lexer::{CompileError, Place, Problem};
+use grain_lexer::{CompileError, Place};
 use grain_syntax::Literal;
 use std::alloc::Global;
 use std::collections::HashMap;
@@ -41,18 +41,26 @@ impl Emitter {
         ensures code { OnOk result (self.new.code ≡ self.old.code) }
         ensures around { OnOk result (self.new.scope.around ≡ None) }
     {
-        let mut scope = Scope::new(self.alloc);
         let Some(signature) = self.signatures.get(index) else {
-            return Err(CompileError::new(Place::NONE, Problem::Refused));
+            self.scope = Scope::new(self.alloc);
+            return Ok(Place::NONE);
         };
-        for local in &signature.captured {
-            let _slot = scope.declare(*local)?;
-        }
-        for param in &signature.params {
-            let _slot = scope.declare(Local::variable(*param))?;
-        }
         let place = signature.place;
-        self.scope = scope;
+        self.scope = scope_of(self.alloc, signature)?;
         Ok(place)
     }
+}
+
+/// The variables with which the code of a function begins.
+fn scope_of(alloc: Global, signature: &Signature) -> Result<Scope, CompileError>
+    ensures { IfOk result (λ s. s.around ≡ None) }
+{
+    let mut scope = Scope::new(alloc);
+    for local in &signature.captured {
+        let _slot = scope.declare(*local)?;
+    }
+    for param in &signature.params {
+        let _slot = scope.declare(Local::variable(*param))?;
+    }
+    Ok(scope)
 }

@@ -6,11 +6,12 @@ ghost use Rattle.std.specs.Prelude.{◌≡◌, ◌+◌, ◌-◌, ◌≤◌, IfOk
 ghost use Rattle.grain_assembly.specs.Written.{spot};
 ghost use Rattle.grain_emit.specs.Loops.{count};
 ghost use Rattle.grain_emit.specs.Rules.{IsWritten};
-ghost use Rattle.grain_emit.specs.Switches.{AreArms, AreWithin};
+ghost use Rattle.grain_emit.specs.Switches.{AreArms, LeadWithin};
 
 use crate::emitter::Emitter;
 use crate::table::{Leading, Spanning, Table};
 use crate::writing::height_with;
+use grain_assembly::Targets;
 use grain_lexer::{CompileError, Place, Problem, Thing};
 use grain_syntax::{Arm, Case, Literal};
 use std::alloc::Global;
@@ -65,7 +66,7 @@ impl Labels {
 #[derive(Drop)]
 struct Draft {
     table: Table,
-    targets: Vec<u32>,
+    targets: Targets,
     seen: HashSet<Literal>,
 }
 
@@ -117,12 +118,7 @@ impl Emitter {
         ensures written { OnOk result (IsWritten self.old self.new self.old.code.operands) }
         ensures loose { OnOk result (self.new.code.fixed ≡ false) }
     {
-        let draft = self.drafted(arms, labels, from)?;
-        let Draft {
-            table,
-            targets,
-            seen: _,
-        } = draft;
+        let Draft { table, targets, .. } = self.drafted(arms, labels, from)?;
         let _index = self.code.switch(place, targets)?;
         self.pools.switches.push(table)?;
         Ok(())
@@ -131,7 +127,7 @@ impl Emitter {
     /// The table of a switch among the arms from this one on. A value of an earlier arm leads to the case `_`.
     fn drafted(&mut self, arms: &[Arm], labels: &Labels, from: usize) -> Result<Draft, CompileError>
         requires { labels.now.none ≤ labels.now.first }
-        ensures within { IfOk result (λ d. AreWithin labels.now d.targets.items) }
+        ensures within { IfOk result (λ d. LeadWithin labels.now d.targets) }
         ensures code { self.new.code ≡ self.old.code }
         ensures scope { self.new.scope ≡ self.old.scope }
     {
@@ -141,7 +137,10 @@ impl Emitter {
                 values: Vec::new(self.alloc),
                 ranges: Vec::new(self.alloc),
             },
-            targets: Vec::new(self.alloc),
+            targets: Targets {
+                cases: Vec::new(self.alloc),
+                default,
+            },
             seen: HashSet::new(self.alloc),
         };
         for (index, arm) in arms.iter().enumerate() {
@@ -157,7 +156,6 @@ impl Emitter {
                 add_ranges(&mut draft, &arm.cases, labels, labels.arm(index))?;
             }
         }
-        draft.targets.push(default)?;
         Ok(draft)
     }
 
@@ -169,10 +167,10 @@ impl Emitter {
         labels: &Labels,
         label: u32,
     ) -> Result<(), CompileError>
-        requires within { AreWithin labels.now draft.old.targets.items }
+        requires within { LeadWithin labels.now draft.old.targets }
         requires least { labels.now.none ≤ label }
         requires most { label ≤ labels.now.first }
-        ensures within { AreWithin labels.now draft.new.targets.items }
+        ensures within { LeadWithin labels.now draft.new.targets }
         ensures code { self.new.code ≡ self.old.code }
         ensures scope { self.new.scope ≡ self.old.scope }
     {
@@ -182,7 +180,7 @@ impl Emitter {
             {
                 let constant = self.pools.constant(value)?;
                 draft.table.values.push(Leading { value, constant })?;
-                draft.targets.push(label)?;
+                draft.targets.cases.push(label)?;
             }
         }
         Ok(())
@@ -196,10 +194,10 @@ fn add_ranges(
     labels: &Labels,
     label: u32,
 ) -> Result<(), CompileError>
-    requires within { AreWithin labels.now draft.old.targets.items }
+    requires within { LeadWithin labels.now draft.old.targets }
     requires least { labels.now.none ≤ label }
     requires most { label ≤ labels.now.first }
-    ensures { AreWithin labels.now draft.new.targets.items }
+    ensures { LeadWithin labels.now draft.new.targets }
 {
     for case in cases {
         if let Case::Range(from, to, is_inclusive) = *case {
@@ -208,7 +206,7 @@ fn add_ranges(
                 to,
                 is_inclusive,
             })?;
-            draft.targets.push(label)?;
+            draft.targets.cases.push(label)?;
         }
     }
     Ok(())

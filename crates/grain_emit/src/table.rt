@@ -22,8 +22,7 @@ pub struct Spanning {
     pub is_inclusive: bool,
 }
 
-/// A switch in the making. The code has its targets: those of the values in their order, those of the ranges in theirs, and that
-/// of all other subjects.
+/// A switch in the making. The code has its targets: those of the values in their order, and then those of the ranges in theirs.
 #[derive(Drop)]
 pub struct Table {
     /// The values, without repeats.

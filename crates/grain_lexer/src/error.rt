@@ -261,9 +261,6 @@ pub enum Problem {
     /// This isn't compiled.
     #[error("{0} can't be compiled")]
     Unsupported(Thing),
-    /// The verifier refuses what was compiled, which is a flaw of the compiler.
-    #[error("the compiler made code that the verifier refuses")]
-    Refused,
     /// The allocator refused.
     #[error("out of memory")]
     OutOfMemory,

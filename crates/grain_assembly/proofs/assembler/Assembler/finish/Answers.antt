@@ -1,24 +1,47 @@
-use Rattle.std.proofs.Common.{Global, Vec, ◌≡◌, ℕ, List, map, sym, subst, ap, ◌∙◌}
+use Rattle.std.proofs.Common.{◌≡◌, ◌≤◌, ℕ, List, length, map, sym, subst, ap, ◌∙◌}
+use Rattle.std.proofs.lemmas.List.{length-map}
 use Rattle.grain_code.specs.declared.op.Op.{Op}
-use Rattle.grain_rules.specs.ByIndex.{code_by_index}
+use Rattle.grain_rules.specs.ByIndex.{IsCut, LeadWithin, code_by_index}
+use Rattle.std.specs.List.{All}
+use Rattle.grain_code.specs.Span.{Span}
 use Rattle.grain_rules.specs.Typing.{HasTyping}
-use Rattle.grain_assembly.specs.Assembled.{kept, place_of}
+use Rattle.grain_assembly.specs.Assembled.{kept, place_of, targets_of}
+use Rattle.grain_assembly.specs.Finished.{AreTypedCuts, LeadAmong}
 use Rattle.grain_assembly.specs.declared.assembler.Label.{Label}
+use Rattle.grain_assembly.specs.declared.assembler.Targets.{Targets}
 use Rattle.grain_assembly.specs.Resolved.{resolved, resolved_tables}
 use Rattle.grain_assembly.specs.Sound.{Kept}
 use Rattle.grain_assembly.specs.Written.{Written}
-use Rattle.grain_assembly.proofs.Typings.{typed}
+use Rattle.grain_assembly.proofs.Typings.{are_cuts, lead_within, typed}
 use Rattle.grain_assembly.proofs.assembler.Assembler.finish.Goals as goal
+use Rattle.grain_assembly.proofs.assembler.Assembler.finish.Goals.{After-drop-self-inside-5}
+
+abbrev k : After-drop-self-inside-5 → Kept
+k c = kept c.self.inside
+
+closed : (c : After-drop-self-inside-5) → (k c).pending ≡ 0
+closed c = subst (λ (w : Written). w.pending ≡ 0) (sym c.self.view_is) c.requires.closed
+
+places : (c : After-drop-self-inside-5) → c.in_ok-targets.targets.items ≡ (k c).places
+places c = c.in_ok-targets.ensures ∙ ap (λ (ls : List Label). map place_of ls) c.deref.ensures.value
+
+listed : (c : After-drop-self-inside-5) → c.in_ok-ops.ops.items ≡ map (resolved (k c).places) (k c).ops
+listed c = c.in_ok-ops.ensures ∙ (ap (λ (ps : List ℕ). map (resolved ps) c.deref-4.result.now) (c.deref-5.ensures.value ∙ places c) ∙ ap (λ (xs : List Op). map (resolved (k c).places) xs) c.deref-4.ensures.value)
+
+tables : (c : After-drop-self-inside-5) → map targets_of c.in_ok-tables.tables.items ≡ resolved_tables (k c).places (k c).tables
+tables c = c.in_ok-tables.ensures ∙ (ap (λ (ps : List ℕ). resolved_tables ps (map targets_of c.deref-2.result.now)) (c.deref-3.ensures.value ∙ places c) ∙ ap (λ (ts : List Targets). resolved_tables (k c).places (map targets_of ts)) c.deref-2.ensures.value)
+
+many : (c : After-drop-self-inside-5) → length c.in_ok-ops.ops.items ≡ length (k c).ops
+many c = ap (λ (xs : List Op). length xs) (listed c) ∙ length-map (k c).ops (resolved (k c).places)
 
 pub returns : goal.returns
-returns c = λ s j cut chains allowed e.
-    let k : Kept = kept c.self.inside in
-    let closed : k.pending ≡ 0 = subst (λ (w : Written). w.pending ≡ 0) (sym c.self.view_is) c.requires in
-    let places : c.in_ok-targets.targets.items ≡ map place_of c.self.inside.labels.items = c.in_ok-targets.ensures ∙ ap (λ (ls : List Label). map place_of ls) c.deref.ensures.value in
-    let listed : c.in_ok-ops.ops.items ≡ map (resolved k.places) k.ops =
-    c.in_ok-ops.ensures ∙ (ap (λ (ps : List ℕ). map (resolved ps) c.deref-4.result.now) (c.deref-5.ensures.value ∙ places) ∙ ap (λ (xs : List Op). map (resolved k.places) xs) c.deref-4.ensures.value) in
-    let tables : map (λ t. t.items) c.in_ok-tables.tables.items ≡ resolved_tables k.places k.tables =
-    c.in_ok-tables.ensures ∙ (ap (λ (ps : List ℕ). resolved_tables ps (map (λ t. t.items) c.deref-2.result.now)) (c.deref-3.ensures.value ∙ places) ∙ ap (λ (ts : List (Vec ℕ Global)). resolved_tables k.places (map (λ t. t.items) ts)) c.deref-2.ensures.value) in
-    subst (λ (xs : List Op). HasTyping (code_by_index s xs (map (λ t. t.items) c.in_ok-tables.tables.items)) cut cut.max_stack) (sym listed)
-    (subst (λ (ts : List (List ℕ)). HasTyping (code_by_index s (map (resolved k.places) k.ops) ts) cut cut.max_stack) (sym tables)
-    (typed k c.self.invariant closed s chains allowed cut (c.self.invariant.cuts j cut e).0))
+returns c = record {
+  typed = λ s leads j cut chains allowed among e.
+      subst (λ (xs : List Op). HasTyping (code_by_index s xs leads) cut cut.max_stack) (sym (listed c))
+      (typed (k c) c.self.invariant (closed c) s leads chains allowed (subst (LeadAmong leads) (tables c) among) cut (c.self.invariant.cuts j cut e).0);
+  cuts = subst (λ (n : ℕ). All (IsCut n) (k c).cuts) (sym (many c)) (are_cuts (k c) c.self.invariant (closed c));
+  some = c.self.invariant.ended (subst (λ (w : Written). 1 ≤ w.level.home) (sym c.self.view_is) c.requires.ended);
+  leads =
+      subst (λ (n : ℕ). LeadWithin n (map targets_of c.in_ok-tables.tables.items)) (sym (many c))
+      (subst (LeadWithin (length (k c).ops)) (sym (tables c)) (lead_within (k c) c.self.invariant (closed c)));
+}

@@ -1,5 +1,5 @@
 use Rattle.std.proofs.Common.{◌≡◌, None}
-use Rattle.grain_emit.proofs.emitter.Emitter.begin_function.Given as goal
+use Rattle.grain_emit.proofs.chunks.scope_of.Given as goal
 
 abbrev pub invariant-loop-local : goal.invariant-loop-local
 invariant-loop-local l = l.scope.around ≡ None

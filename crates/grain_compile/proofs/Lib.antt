@@ -1,0 +1,4 @@
+pub mod AllAllowed
+pub mod AssembledIndices
+pub mod BuildPremises
+pub mod SwitchParts

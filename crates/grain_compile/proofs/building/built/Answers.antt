@@ -1,0 +1,9 @@
+use Rattle.grain.specs.Build.{CanBuild, draft}
+use Rattle.grain.proofs.BuildAcceptance.{accepted_there}
+use Rattle.grain_compile.proofs.building.built.Goals as goal
+
+pub tightened-requires : goal.tightened-requires
+tightened-requires c =
+    let d = draft c.every_cap.result c.args.ops.now c.args.cuts.now c.args.heads.items c.args.parts in
+    let can : CanBuild d = c.requires.can c.every_cap.result c.every_cap.ensures in
+    accepted_there d c.in-Ok.program can.lays c.in-Ok.ensures.laid can
