@@ -153,7 +153,7 @@ fn positioned(
     Ok(parts)
 }
 
-/// Each index of the code is one that its pool has. Only what `Pools` of `grain_emit` can't hold has none.
+/// Tests that each index of the code leads into its pool, as it does for each syntax tree that the parser makes.
 fn check_indices(parts: &Parts, code: &[u8]) -> Result<(), CompileError>
     ensures { OnOk result ((caps : Caps) → AreIndexed (setting_with caps parts.now) code.now) }
 {
@@ -172,7 +172,7 @@ fn check_indices(parts: &Parts, code: &[u8]) -> Result<(), CompileError>
     }
 }
 
-/// Builds the program, which passes by index.
+/// Builds the program, which passes by index: what `build` can refuse is proved not to come.
 fn built(
     alloc: Global,
     ops: &[Op],
@@ -187,7 +187,7 @@ fn built(
     ensures declared { IfOk result (λ built. declared_by built.0 ≡ built.1.items) }
     ensures deepest { IfOk result (λ built. AreDeepest (input_of built.0) built.1.items) }
 {
-    match build(alloc, every_cap(), ops, cuts, heads, parts) {
+    match build(alloc, all_capabilities(), ops, cuts, heads, parts) {
         Ok((program, _)) => tightened(alloc, program),
         Err(BuildError::OutOfMemory) => Err(CompileError::new(Place::NONE, Problem::OutOfMemory)),
         Err(_) => unreachable!(),
@@ -195,7 +195,7 @@ fn built(
 }
 
 /// The capabilities of a program: all of them.
-fn every_cap() -> Caps
+fn all_capabilities() -> Caps
     ensures { result.0 ≡ every_capability }
 {
     Caps::all()

@@ -22,7 +22,7 @@ const MAX_LEVELS: usize = 8 * MAX_DEPTH;
 ///
 /// # Errors
 /// The first thing that is wrong with the text, with its line and column. `OutOfMemory` has no place, nor has `TooMany` where it
-/// is about the program as a whole.
+/// is about the program as a whole. What it makes is never refused.
 pub fn compile(
     alloc: Global,
     source: &str,
