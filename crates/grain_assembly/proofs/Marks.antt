@@ -10,9 +10,9 @@ use Rattle.grain_code.specs.declared.op.Op.{Op}
 use Rattle.grain_pools.specs.declared.chain.Chain.{Chain}
 use Rattle.grain_rules.specs.Counts.{nothing}
 use Rattle.grain_rules.specs.Effects.{after_fall, after_jump}
-use Rattle.grain_assembly.specs.Written.{IsSameButFloor, Keeps, Level, Spot, fresh, spot}
-use Rattle.grain_assembly.specs.Fitting.{AreFitting, Fits, counts_of, spot_of}
-use Rattle.grain_assembly.specs.Sound.{IsBased, IsChunk, IsSound, Kept, nowhere}
+use Rattle.grain_assembly.specs.Unfinished.{IsSameButFloor, Extends, Level, Spot, fresh, spot}
+use Rattle.grain_assembly.specs.Fitting.{AreFitting, FitsAt, spot_counts, spot_of}
+use Rattle.grain_assembly.specs.Sound.{IsBased, IsChunk, IsWellMade, Workings, nowhere}
 use Rattle.grain_assembly.proofs.Appended.{get_cases, get_end, get_left, some_inj}
 use Rattle.grain_assembly.proofs.Bases.{based_fresh}
 use Rattle.grain_assembly.proofs.Steps.{chunk_further}
@@ -25,25 +25,25 @@ set_cases (z ∷ xs) (suc l) y zero x e = inl (e, λ h. omega arith)
 set_cases (z ∷ xs) (suc l) y (suc j) x e = elim (set_cases xs l y j x e) [ inl h ↦ inl (h.0, λ same. h.1 (omega arith)) | inr h ↦ inr (ap suc h.0, h.1) ]
 
 -- what fits with these chains, switches and labels fits with more of them
-fits_longer : (cs ds : List Chain) (ts us : List (List ℕ)) (ls ms : List Spot) (op : Op) (p : Spot) → Keeps cs ds → Keeps ts us → Keeps ls ms → Fits cs ts ls op p → Fits ds us ms op p
+fits_longer : (cs ds : List Chain) (ts us : List (List ℕ)) (ls ms : List Spot) (op : Op) (p : Spot) → Extends cs ds → Extends ts us → Extends ls ms → FitsAt cs ts ls op p → FitsAt ds us ms op p
 fits_longer cs ds ts us ls ms op p c t l f = record {
   shallow = f.shallow;
   meets = λ s h. f.meets s (λ i x e. h i x (c i x e));
   stays = λ s h. f.stays s (λ i x e. h i x (c i x e));
-  jumps = λ s all j h g k. l j (spot_of p.home (after_jump s op (counts_of p))) (f.jumps s all j (λ i x e. h i x (c i x e)) (λ i x e. g i x (t i x e)) k);
+  jumps = λ s all j h g k. l j (spot_of p.home (after_jump s op (spot_counts p))) (f.jumps s all j (λ i x e. h i x (c i x e)) (λ i x e. g i x (t i x e)) k);
 }
 
-fitting_longer : (cs ds : List Chain) (ts us : List (List ℕ)) (ls ms : List Spot) (ops : List Op) (spots : List Spot) → Keeps cs ds → Keeps ts us → Keeps ls ms → AreFitting cs ts ls ops spots → AreFitting ds us ms ops spots
+fitting_longer : (cs ds : List Chain) (ts us : List (List ℕ)) (ls ms : List Spot) (ops : List Op) (spots : List Spot) → Extends cs ds → Extends ts us → Extends ls ms → AreFitting cs ts ls ops spots → AreFitting ds us ms ops spots
 fitting_longer cs ds ts us ls ms ops spots c t l f = record {
   fits = λ i op p a b. fits_longer cs ds ts us ls ms op p c t l (f.fits i op p a b);
   falls = λ i op p s a b h g. f.falls i op p s a b (λ j x e. h j x (c j x e)) g;
 }
 
-keeps_itself : {A : Type 0} (xs : List A) → Keeps xs xs
+keeps_itself : {A : Type 0} (xs : List A) → Extends xs xs
 keeps_itself xs i x e = e
 
-module _ (k : Kept) (s : IsSound k) where
-  pub one_chain : (c : Chain) → IsSound (record k { chains = k.chains ++ c ∷ [] })
+module _ (k : Workings) (s : IsWellMade k) where
+  pub one_chain : (c : Chain) → IsWellMade (record k { chains = k.chains ++ c ∷ [] })
   one_chain c = record {
     spots = s.spots;
     fitting = fitting_longer k.chains (k.chains ++ c ∷ []) k.tables k.tables k.labels k.labels k.ops s.spots (get_left k.chains (c ∷ [])) (keeps_itself k.tables) (keeps_itself k.labels) s.fitting;
@@ -61,7 +61,7 @@ module _ (k : Kept) (s : IsSound k) where
     base = s.base;
   }
 
-  pub one_table : (t : List ℕ) → IsSound (record k { tables = k.tables ++ t ∷ [] })
+  pub one_table : (t : List ℕ) → IsWellMade (record k { tables = k.tables ++ t ∷ [] })
   one_table t = record {
     spots = s.spots;
     fitting = fitting_longer k.chains k.chains k.tables (k.tables ++ t ∷ []) k.labels k.labels k.ops s.spots (keeps_itself k.chains) (get_left k.tables (t ∷ [])) (keeps_itself k.labels) s.fitting;
@@ -80,7 +80,7 @@ module _ (k : Kept) (s : IsSound k) where
   }
 
   -- where the run has left, another state may follow
-  pub elsewhere : k.fixed ≡ false → (n : ℕ) (level : Level) → level.home ≡ k.level.home → n ≤ 65535 → IsBased level → IsSound (record k { operands = n; level = level })
+  pub elsewhere : k.fixed ≡ false → (n : ℕ) (level : Level) → level.home ≡ k.level.home → n ≤ 65535 → IsBased level → IsWellMade (record k { operands = n; level = level })
   elsewhere loose n level home room base = record {
     spots = s.spots;
     fitting = s.fitting;
@@ -99,7 +99,7 @@ module _ (k : Kept) (s : IsSound k) where
   }
 
   -- what has to stay may change where nothing on the stacks does
-  pub other_floor : (level : Level) → IsSameButFloor level k.level → IsBased level → IsSound (record k { level = level })
+  pub other_floor : (level : Level) → IsSameButFloor level k.level → IsBased level → IsWellMade (record k { level = level })
   other_floor level same base = record {
     spots = s.spots;
     fitting = s.fitting;
@@ -118,7 +118,7 @@ module _ (k : Kept) (s : IsSound k) where
   }
 
   -- a label that isn't bound, at which this is found
-  pub one_label : (p : Spot) → IsSound (record k { labels = k.labels ++ p ∷ []; outers = k.outers ++ k.pending ∷ []; places = k.places ++ nowhere ∷ []; pending = length k.places + 1 })
+  pub one_label : (p : Spot) → IsWellMade (record k { labels = k.labels ++ p ∷ []; outers = k.outers ++ k.pending ∷ []; places = k.places ++ nowhere ∷ []; pending = length k.places + 1 })
   one_label p = record {
     spots = s.spots;
     fitting = fitting_longer k.chains k.chains k.tables k.tables k.labels (k.labels ++ p ∷ []) k.ops s.spots (keeps_itself k.chains) (keeps_itself k.tables) (get_left k.labels (p ∷ [])) s.fitting;
@@ -152,7 +152,7 @@ module _ (k : Kept) (s : IsSound k) where
   }
 
   -- the last label that is open is bound to the next operation
-  pub one_bound : k.fixed ≡ true → (l o : ℕ) → slice_get k.labels l ≡ Some (spot k.operands k.level) → slice_get k.outers l ≡ Some o → k.pending ≡ l + 1 → length k.ops < nowhere → IsSound (record k { places = set k.places l (length k.ops); pending = o })
+  pub one_bound : k.fixed ≡ true → (l o : ℕ) → slice_get k.labels l ≡ Some (spot k.operands k.level) → slice_get k.outers l ≡ Some o → k.pending ≡ l + 1 → length k.ops < nowhere → IsWellMade (record k { places = set k.places l (length k.ops); pending = o })
   one_bound here l o is outer innermost few = record {
     spots = s.spots;
     fitting = s.fitting;
@@ -191,7 +191,7 @@ module _ (k : Kept) (s : IsSound k) where
   }
 
 -- a chunk ends, and the next begins
-pub one_chunk : (k : Kept) → IsSound k → k.fixed ≡ false → (cut : Span) → cut ≡ record { entry = k.level.home; end = length k.ops; max_stack = 65535 } → IsSound (record k { cuts = k.cuts ++ cut ∷ []; operands = 0; level = fresh (length k.ops); fixed = true })
+pub one_chunk : (k : Workings) → IsWellMade k → k.fixed ≡ false → (cut : Span) → cut ≡ record { entry = k.level.home; end = length k.ops; max_stack = 65535 } → IsWellMade (record k { cuts = k.cuts ++ cut ∷ []; operands = 0; level = fresh (length k.ops); fixed = true })
 one_chunk k s loose cut is =
     let many : length s.spots ≡ length k.ops + cond false 1 0 = subst (λ (b : Bool). length s.spots ≡ length k.ops + cond b 1 0) loose s.count in
     let same : length s.spots ≡ length k.ops = omega arith in
@@ -214,7 +214,7 @@ one_chunk k s loose cut is =
           | inr new ↦ absurd (let l = slice_get_within k.ops i op a in let h = new.0 in omega arith)
         ];
         falls = λ i op p set a b c f. elim (get_cases s.spots next i p b) [
-          | inl old ↦ get_left s.spots (next ∷ []) (i + 1) (spot_of p.home (after_fall set op (counts_of p))) (s.fitting.falls i op p set a old c f)
+          | inl old ↦ get_left s.spots (next ∷ []) (i + 1) (spot_of p.home (after_fall set op (spot_counts p))) (s.fitting.falls i op p set a old c f)
           | inr new ↦ absurd (let l = slice_get_within k.ops i op a in let h = new.0 in omega arith)
         ];
       };
@@ -239,7 +239,7 @@ one_chunk k s loose cut is =
     }
 
 -- nothing is assembled yet
-pub started : IsSound (record { ops = []; chains = []; tables = []; labels = []; outers = []; places = []; cuts = []; operands = 0; level = fresh 0; pending = 0; fixed = true })
+pub started : IsWellMade (record { ops = []; chains = []; tables = []; labels = []; outers = []; places = []; cuts = []; operands = 0; level = fresh 0; pending = 0; fixed = true })
 started =
     record {
       spots = spot 0 (fresh 0) ∷ [];

@@ -11,19 +11,19 @@ use Rattle.grain_rules.specs.FlowFields.{fall_for, falls_for, handlers_for, iter
 use Rattle.grain_rules.specs.Rows.{flow_of, gives, is_quiet, needs, takes}
 use Rattle.grain_rules.specs.Setting.{Setting}
 use Rattle.grain_rules.proofs.Splits.{in_cons, in_nil}
-use Rattle.grain_assembly.specs.Written.{spot}
-use Rattle.grain_assembly.specs.Fitting.{Fits, HasChains, HasTables, counts_of, spot_of}
-use Rattle.grain_assembly.specs.Sound.{IsSound, Kept}
+use Rattle.grain_assembly.specs.Unfinished.{spot}
+use Rattle.grain_assembly.specs.Fitting.{FitsAt, HasChains, HasTables, spot_counts, spot_of}
+use Rattle.grain_assembly.specs.Sound.{IsWellMade, Workings}
 use Rattle.grain_assembly.proofs.Bases.{last_least}
 use Rattle.grain_assembly.proofs.Steps.{made_settled, put_falling, put_leaving}
 
 -- all but the edges to labels
-pub fits_by : (k : Kept) → IsSound k → (op : Op) (f : Flow) → flow_of op ≡ f
+pub fits_by : (k : Workings) → IsWellMade k → (op : Op) (f : Flow) → flow_of op ≡ f
     → ((s : Setting) → HasChains s k.chains → needs s op ≤ k.operands)
     → iterators_for f ≤ k.level.iterators → handlers_for f ≤ length k.level.bases
     → (is_quiet op ≡ false → (s : Setting) → HasChains s k.chains → (k.level.floor + takes s op ≤ k.operands) × (k.level.least + iterators_for f ≤ k.level.iterators))
-    → ((s : Setting) (all : List (List ℕ)) (l : ℕ) → HasChains s k.chains → HasTables all k.tables → Contains (targets_for all f) l → slice_get k.labels l ≡ Some (spot_of k.level.home (jump_for f (operands_after s op k.operands) (counts_of (spot k.operands k.level)))))
-    → Fits k.chains k.tables k.labels op (spot k.operands k.level)
+    → ((s : Setting) (all : List (List ℕ)) (l : ℕ) → HasChains s k.chains → HasTables all k.tables → Contains (targets_for all f) l → slice_get k.labels l ≡ Some (spot_of k.level.home (jump_for f (operands_after s op k.operands) (spot_counts (spot k.operands k.level)))))
+    → FitsAt k.chains k.tables k.labels op (spot k.operands k.level)
 fits_by k sound op f is enough iterators handlers stays jumps = record {
   shallow = sound.room;
   meets = λ s c. record {
@@ -39,7 +39,7 @@ fits_by k sound op f is enough iterators handlers stays jumps = record {
       let h1 : k.level.least + iterators_for (flow_of op) ≤ k.level.iterators = subst (λ (g : Flow). k.level.least + iterators_for g ≤ k.level.iterators) (sym is) h.1 in
       record { operands = omega arith; iterators = omega arith };
   jumps = λ s all l c t has.
-      subst (λ (g : Flow). slice_get k.labels l ≡ Some (spot_of k.level.home (jump_for g (operands_after s op k.operands) (counts_of (spot k.operands k.level))))) (sym is)
+      subst (λ (g : Flow). slice_get k.labels l ≡ Some (spot_of k.level.home (jump_for g (operands_after s op k.operands) (spot_counts (spot k.operands k.level))))) (sym is)
       (jumps s all l c t (subst (λ (g : Flow). Contains (targets_for all g) l) is has));
 }
 
@@ -55,15 +55,15 @@ pub record Does (chains : List Chain) (op : Op) (operands t g : ℕ) : Type 0 wh
 pub after_is : (chains : List Chain) (op : Op) (n t g : ℕ) → Does chains op n t g → (s : Setting) → HasChains s chains → operands_after s op n ≡ n - t + g
 after_is chains op n t g does s h = ap (λ x. n - x + gives s op) (does.takes_some s h) ∙ ap (λ x. n - t + x) (does.gives_some s h)
 
-module _ (k : Kept) (s : IsSound k) (op : Op) (t g : ℕ) (does : Does k.chains op k.operands t g) where
-  abbrev fixed_k : Kept
+module _ (k : Workings) (s : IsWellMade k) (op : Op) (t g : ℕ) (does : Does k.chains op k.operands t g) where
+  abbrev fixed_k : Workings
   fixed_k = record k { fixed = true }
 
   reaches : (n i : ℕ) → k.level.floor + t ≤ n → (set : Setting) → HasChains set k.chains → k.level.floor + takes set op ≤ n
   reaches n i h set c = subst (λ x. k.level.floor + x ≤ n) (sym (does.takes_some set c)) h
 
   -- it falls through
-  pub put_plain : flow_of op ≡ flows.Falls → (k.level.floor + t ≤ k.operands) ⊎ (is_quiet op ≡ true) → k.operands - t + g ≤ 65535 → IsSound (record k { ops = k.ops ++ op ∷ []; operands = k.operands - t + g; fixed = true })
+  pub put_plain : flow_of op ≡ flows.Falls → (k.level.floor + t ≤ k.operands) ⊎ (is_quiet op ≡ true) → k.operands - t + g ≤ 65535 → IsWellMade (record k { ops = k.ops ++ op ∷ []; operands = k.operands - t + g; fixed = true })
   put_plain is room few =
       let sound = made_settled k s in
       put_falling fixed_k sound refl op
@@ -71,11 +71,11 @@ module _ (k : Kept) (s : IsSound k) (op : Op) (t g : ℕ) (does : Does k.chains 
       (λ loud set c. (elim room [ inl h ↦ reaches k.operands 0 h set c | inr q ↦ absurd (let e : true ≡ false = sym q ∙ loud in cc) ], let h = sound.base.there in omega arith))
       (λ set all l c h has. absurd (in_nil l has)))
       (k.operands - t + g) k.level refl few sound.base
-      (λ set c. ap (λ (f : Flow). fall_for f (operands_after set op k.operands) (counts_of (spot k.operands k.level))) is
-      ∙ ap (λ x. counts_of (spot x k.level)) (after_is k.chains op k.operands t g does set c))
+      (λ set c. ap (λ (f : Flow). fall_for f (operands_after set op k.operands) (spot_counts (spot k.operands k.level))) is
+      ∙ ap (λ x. spot_counts (spot x k.level)) (after_is k.chains op k.operands t g does set c))
 
   -- it ends the run
-  pub put_end : flow_of op ≡ flows.Ends → (k.level.floor + t ≤ k.operands) ⊎ (is_quiet op ≡ true) → (n : ℕ) → n ≤ 65535 → IsSound (record k { ops = k.ops ++ op ∷ []; operands = n; fixed = false })
+  pub put_end : flow_of op ≡ flows.Ends → (k.level.floor + t ≤ k.operands) ⊎ (is_quiet op ≡ true) → (n : ℕ) → n ≤ 65535 → IsWellMade (record k { ops = k.ops ++ op ∷ []; operands = n; fixed = false })
   put_end is room n few =
       let sound = made_settled k s in
       put_leaving fixed_k sound refl op
@@ -86,7 +86,7 @@ module _ (k : Kept) (s : IsSound k) (op : Op) (t g : ℕ) (does : Does k.chains 
       (ap falls_for is)
 
   -- it jumps to a label
-  pub put_jump : (l : ℕ) → flow_of op ≡ flows.Jumps l → k.level.floor + t ≤ k.operands → slice_get k.labels l ≡ Some (spot (k.operands - t + g) k.level) → (n : ℕ) → n ≤ 65535 → IsSound (record k { ops = k.ops ++ op ∷ []; operands = n; fixed = false })
+  pub put_jump : (l : ℕ) → flow_of op ≡ flows.Jumps l → k.level.floor + t ≤ k.operands → slice_get k.labels l ≡ Some (spot (k.operands - t + g) k.level) → (n : ℕ) → n ≤ 65535 → IsWellMade (record k { ops = k.ops ++ op ∷ []; operands = n; fixed = false })
   put_jump l is room there n few =
       let sound = made_settled k s in
       put_leaving fixed_k sound refl op
@@ -99,7 +99,7 @@ module _ (k : Kept) (s : IsSound k) (op : Op) (t g : ℕ) (does : Does k.chains 
       (ap falls_for is)
 
   -- it jumps to a label or falls through
-  pub put_branch : (l : ℕ) → flow_of op ≡ flows.Branches l → k.level.floor + t ≤ k.operands → slice_get k.labels l ≡ Some (spot (k.operands - t + g) k.level) → k.operands - t + g ≤ 65535 → IsSound (record k { ops = k.ops ++ op ∷ []; operands = k.operands - t + g; fixed = true })
+  pub put_branch : (l : ℕ) → flow_of op ≡ flows.Branches l → k.level.floor + t ≤ k.operands → slice_get k.labels l ≡ Some (spot (k.operands - t + g) k.level) → k.operands - t + g ≤ 65535 → IsWellMade (record k { ops = k.ops ++ op ∷ []; operands = k.operands - t + g; fixed = true })
   put_branch l is room there few =
       let sound = made_settled k s in
       put_falling fixed_k sound refl op
@@ -109,5 +109,5 @@ module _ (k : Kept) (s : IsSound k) (op : Op) (t g : ℕ) (does : Does k.chains 
       subst (λ x. slice_get k.labels x ≡ Some (spot (operands_after set op k.operands) k.level)) (sym (only_one l m has))
       (there ∙ ap (λ x. Some (spot x k.level)) (sym (after_is k.chains op k.operands t g does set c)))))
       (k.operands - t + g) k.level refl few sound.base
-      (λ set c. ap (λ (f : Flow). fall_for f (operands_after set op k.operands) (counts_of (spot k.operands k.level))) is
-      ∙ ap (λ x. counts_of (spot x k.level)) (after_is k.chains op k.operands t g does set c))
+      (λ set c. ap (λ (f : Flow). fall_for f (operands_after set op k.operands) (spot_counts (spot k.operands k.level))) is
+      ∙ ap (λ x. spot_counts (spot x k.level)) (after_is k.chains op k.operands t g does set c))

@@ -8,9 +8,9 @@ use Rattle.grain_code.specs.declared.op.Op.{Op}
 use Rattle.grain_rules.specs.Counts.{Counts, nothing}
 use Rattle.grain_rules.specs.Effects.{after_fall, falls_through}
 use Rattle.grain_rules.specs.Setting.{Setting}
-use Rattle.grain_assembly.specs.Written.{Level, Spot, spot}
-use Rattle.grain_assembly.specs.Fitting.{Fits, HasChains, counts_of, spot_of}
-use Rattle.grain_assembly.specs.Sound.{IsBased, IsChunk, IsSound, Kept}
+use Rattle.grain_assembly.specs.Unfinished.{Level, Spot, spot}
+use Rattle.grain_assembly.specs.Fitting.{FitsAt, HasChains, spot_counts, spot_of}
+use Rattle.grain_assembly.specs.Sound.{IsBased, IsChunk, IsWellMade, Workings}
 use Rattle.grain_assembly.proofs.Appended.{get_cases, get_end, get_left, some_inj}
 
 -- a chunk stays one with more operations and one more spot behind it that is of another chunk
@@ -36,7 +36,7 @@ chunk_further ops spots p cut c h = record {
 }
 
 -- what the next operation finds is settled
-pub settled : (k : Kept) → IsSound k → k.fixed ≡ false → IsSound (record k { fixed = true })
+pub settled : (k : Workings) → IsWellMade k → k.fixed ≡ false → IsWellMade (record k { fixed = true })
 settled k s loose =
     let now : Spot = spot k.operands k.level in
     let many : length s.spots ≡ length k.ops + cond false 1 0 = subst (λ (b : Bool). length s.spots ≡ length k.ops + cond b 1 0) loose s.count in
@@ -49,7 +49,7 @@ settled k s loose =
           | inr new ↦ absurd (let l = slice_get_within k.ops i op o in let h = new.0 in omega arith)
         ];
         falls = λ i op p set o e c f. elim (get_cases s.spots now i p e) [
-          | inl old ↦ get_left s.spots (now ∷ []) (i + 1) (spot_of p.home (after_fall set op (counts_of p))) (s.fitting.falls i op p set o old c f)
+          | inl old ↦ get_left s.spots (now ∷ []) (i + 1) (spot_of p.home (after_fall set op (spot_counts p))) (s.fitting.falls i op p set o old c f)
           | inr new ↦ absurd (let l = slice_get_within k.ops i op o in let h = new.0 in omega arith)
         ];
       };
@@ -75,14 +75,14 @@ bool_cases true = inl refl
 bool_cases false = inr refl
 
 -- whether it was settled or not
-pub made_settled : (k : Kept) → IsSound k → IsSound (record k { fixed = true })
+pub made_settled : (k : Workings) → IsWellMade k → IsWellMade (record k { fixed = true })
 made_settled k s = elim (bool_cases k.fixed) [
-  | inl e ↦ subst (λ (b : Bool). IsSound (record k { fixed = b })) e s
+  | inl e ↦ subst (λ (b : Bool). IsWellMade (record k { fixed = b })) e s
   | inr e ↦ settled k s e
 ]
 
 -- All labels, what they lead to, and the chunks are as they were.
-module _ (k : Kept) (s : IsSound k) (here : k.fixed ≡ true) (op : Op) (fits : Fits k.chains k.tables k.labels op (spot k.operands k.level)) (n : ℕ) (level : Level) (home : level.home ≡ k.level.home) (room : n ≤ 65535) (base : IsBased level) where
+module _ (k : Workings) (s : IsWellMade k) (here : k.fixed ≡ true) (op : Op) (fits : FitsAt k.chains k.tables k.labels op (spot k.operands k.level)) (n : ℕ) (level : Level) (home : level.home ≡ k.level.home) (room : n ≤ 65535) (base : IsBased level) where
   abbrev now : Spot
   now = spot k.operands k.level
 
@@ -93,7 +93,7 @@ module _ (k : Kept) (s : IsSound k) (here : k.fixed ≡ true) (op : Op) (fits : 
   last_spot = s.last here
 
   -- one more operation that doesn't fall through
-  pub put_leaving : falls_through op ≡ false → IsSound (record k { ops = k.ops ++ op ∷ []; operands = n; level = level; fixed = false })
+  pub put_leaving : falls_through op ≡ false → IsWellMade (record k { ops = k.ops ++ op ∷ []; operands = n; level = level; fixed = false })
   put_leaving stops = record {
     spots = s.spots;
     fitting = record {
@@ -101,7 +101,7 @@ module _ (k : Kept) (s : IsSound k) (here : k.fixed ≡ true) (op : Op) (fits : 
         | inl old ↦ s.fitting.fits i o p old b
         | inr new ↦
             let e : Some now ≡ Some p = sym last_spot ∙ subst (λ m. slice_get s.spots m ≡ Some p) new.0 b in
-            subst (λ (x : Op). Fits k.chains k.tables k.labels x p) new.1 (subst (λ (x : Spot). Fits k.chains k.tables k.labels op x) (some_inj e) fits)
+            subst (λ (x : Op). FitsAt k.chains k.tables k.labels x p) new.1 (subst (λ (x : Spot). FitsAt k.chains k.tables k.labels op x) (some_inj e) fits)
       ];
       falls = λ i o p set a b c f. elim (get_cases k.ops op i o a) [
         | inl old ↦ s.fitting.falls i o p set old b c f
@@ -123,7 +123,7 @@ module _ (k : Kept) (s : IsSound k) (here : k.fixed ≡ true) (op : Op) (fits : 
   }
 
   -- one more operation that falls through
-  pub put_falling : ((set : Setting) → HasChains set k.chains → after_fall set op (counts_of now) ≡ counts_of (spot n level)) → IsSound (record k { ops = k.ops ++ op ∷ []; operands = n; level = level; fixed = true })
+  pub put_falling : ((set : Setting) → HasChains set k.chains → after_fall set op (spot_counts now) ≡ spot_counts (spot n level)) → IsWellMade (record k { ops = k.ops ++ op ∷ []; operands = n; level = level; fixed = true })
   put_falling after =
       let next : Spot = spot n level in
       record {
@@ -135,20 +135,20 @@ module _ (k : Kept) (s : IsSound k) (here : k.fixed ≡ true) (op : Op) (fits : 
               | inl old ↦ s.fitting.fits i o p old b
               | inr new ↦
                   let e : Some now ≡ Some p = sym last_spot ∙ subst (λ m. slice_get s.spots m ≡ Some p) new.0 b in
-                  subst (λ (x : Op). Fits k.chains k.tables k.labels x p) new.1 (subst (λ (x : Spot). Fits k.chains k.tables k.labels op x) (some_inj e) fits)
+                  subst (λ (x : Op). FitsAt k.chains k.tables k.labels x p) new.1 (subst (λ (x : Spot). FitsAt k.chains k.tables k.labels op x) (some_inj e) fits)
             ]
           ];
           falls = λ i o p set a b c f. elim (get_cases s.spots next i p b) [
             | inr far ↦ absurd (let l = slice_get_within (k.ops ++ op ∷ []) i o a in let e = length-append k.ops (op ∷ []) in let m = one_more in let q = far.0 in omega arith)
             | inl b ↦ elim (get_cases k.ops op i o a) [
-              | inl old ↦ get_left s.spots (next ∷ []) (i + 1) (spot_of p.home (after_fall set o (counts_of p))) (s.fitting.falls i o p set old b c f)
+              | inl old ↦ get_left s.spots (next ∷ []) (i + 1) (spot_of p.home (after_fall set o (spot_counts p))) (s.fitting.falls i o p set old b c f)
               | inr new ↦
                   let e : now ≡ p = some_inj (sym last_spot ∙ subst (λ m. slice_get s.spots m ≡ Some p) new.0 b) in
                   let g : slice_get (s.spots ++ next ∷ []) (length k.ops + 1) ≡ Some next = subst (λ m. slice_get (s.spots ++ next ∷ []) m ≡ Some next) one_more (get_end s.spots next) in
-                  let same : next ≡ spot_of now.home (after_fall set op (counts_of now)) = ap (λ (x : Counts). spot_of level.home x) (sym (after set c)) ∙ ap (λ m. spot_of m (after_fall set op (counts_of now))) home in
-                  let there : slice_get (s.spots ++ next ∷ []) (i + 1) ≡ Some (spot_of now.home (after_fall set op (counts_of now))) = subst (λ m. slice_get (s.spots ++ next ∷ []) (m + 1) ≡ Some (spot_of now.home (after_fall set op (counts_of now)))) (sym new.0) (g ∙ ap (λ (x : Spot). Some x) same) in
-                  subst (λ (x : Op). slice_get (s.spots ++ next ∷ []) (i + 1) ≡ Some (spot_of p.home (after_fall set x (counts_of p)))) new.1
-                  (subst (λ (x : Spot). slice_get (s.spots ++ next ∷ []) (i + 1) ≡ Some (spot_of x.home (after_fall set op (counts_of x)))) e there)
+                  let same : next ≡ spot_of now.home (after_fall set op (spot_counts now)) = ap (λ (x : Counts). spot_of level.home x) (sym (after set c)) ∙ ap (λ m. spot_of m (after_fall set op (spot_counts now))) home in
+                  let there : slice_get (s.spots ++ next ∷ []) (i + 1) ≡ Some (spot_of now.home (after_fall set op (spot_counts now))) = subst (λ m. slice_get (s.spots ++ next ∷ []) (m + 1) ≡ Some (spot_of now.home (after_fall set op (spot_counts now)))) (sym new.0) (g ∙ ap (λ (x : Spot). Some x) same) in
+                  subst (λ (x : Op). slice_get (s.spots ++ next ∷ []) (i + 1) ≡ Some (spot_of p.home (after_fall set x (spot_counts p)))) new.1
+                  (subst (λ (x : Spot). slice_get (s.spots ++ next ∷ []) (i + 1) ≡ Some (spot_of x.home (after_fall set op (spot_counts x)))) e there)
             ]
           ];
         };

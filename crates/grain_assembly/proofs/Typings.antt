@@ -21,10 +21,10 @@ use Rattle.grain_rules.specs.Rows.{caps_of, flow_of}
 use Rattle.grain_rules.specs.Setting.{Setting}
 use Rattle.grain_rules.specs.Sinking.{Stays}
 use Rattle.grain_rules.specs.Typing.{HasTyping, Passes}
-use Rattle.grain_assembly.specs.Written.{Spot}
-use Rattle.grain_assembly.specs.Fitting.{HasChains, HasTables, counts_of, spot_of}
+use Rattle.grain_assembly.specs.Unfinished.{Spot}
+use Rattle.grain_assembly.specs.Fitting.{HasChains, HasTables, spot_counts, spot_of}
 use Rattle.grain_assembly.specs.Resolved.{resolved, resolved_tables}
-use Rattle.grain_assembly.specs.Sound.{IsChunk, IsSound, Kept}
+use Rattle.grain_assembly.specs.Sound.{IsChunk, IsWellMade, Workings}
 use Rattle.grain_assembly.specs.Finished.{LeadAmong}
 use Rattle.grain_assembly.proofs.ResolvedRows.{fall_same, falls_same, jump_same, meets_resolved, stays_resolved, target_label}
 
@@ -38,16 +38,16 @@ at_most_one false = omega arith
 -- the counts of a spot that is of the chunk that begins here
 abbrev pub counts_within : ℕ → Option Spot → Option Counts
 counts_within home None = None
-counts_within home (Some p) = cond (nat_eq p.home home) (Some (counts_of p)) None
+counts_within home (Some p) = cond (nat_eq p.home home) (Some (spot_counts p)) None
 
-within_spot : (home : ℕ) (found : Option Spot) (c : Counts) → counts_within home found ≡ Some c → (p : Spot) × (found ≡ Some p) × (p.home ≡ home) × (counts_of p ≡ c)
+within_spot : (home : ℕ) (found : Option Spot) (c : Counts) → counts_within home found ≡ Some c → (p : Spot) × (found ≡ Some p) × (p.home ≡ home) × (spot_counts p ≡ c)
 within_spot home None c e = absurd (none-some c e)
 within_spot home (Some p) c e = elim (eqb_tells p.home home) [
   | inl w ↦
-      let g : Some (counts_of p) ≡ Some c = subst (λ (b : Bool). cond b (Some (counts_of p)) None ≡ Some c) w.0 e in
+      let g : Some (spot_counts p) ≡ Some c = subst (λ (b : Bool). cond b (Some (spot_counts p)) None ≡ Some c) w.0 e in
       (p, refl, w.1, (cc))
   | inr w ↦
-      let g : None ≡ Some c = subst (λ (b : Bool). cond b (Some (counts_of p)) None ≡ Some c) w.0 e in
+      let g : None ≡ Some c = subst (λ (b : Bool). cond b (Some (spot_counts p)) None ≡ Some c) w.0 e in
       absurd (none-some c g)
 ]
 
@@ -65,7 +65,7 @@ targets_among leads tables among (flows.PushesHandler t) b c = c
 targets_among leads tables among flows.PopsHandler b c = c
 
 -- the place of a label that is bound is that of an operation, or behind the last one
-module _ (k : Kept) (sound : IsSound k) (closed : k.pending ≡ 0) where
+module _ (k : Workings) (sound : IsWellMade k) (closed : k.pending ≡ 0) where
   pub place_within : (l : ℕ) → slice_index k.places l ≤ length k.ops
   place_within l = elim (cases_lt l (length k.places)) [
     | inr far ↦ let e = get_or_past k.places l 0 far in omega arith
@@ -95,7 +95,7 @@ module _ (k : Kept) (sound : IsSound k) (closed : k.pending ≡ 0) where
         inside = chunk.inside;
       }
 
-module _ (k : Kept) (sound : IsSound k) (closed : k.pending ≡ 0) (s : Setting) (leads : List (List ℕ)) (chains : HasChains s k.chains) (allowed : (op : Op) → Allows s.caps (caps_of s op)) (among : LeadAmong leads (resolved_tables k.places k.tables)) (cut : Span) (chunk : IsChunk k.ops sound.spots cut) where
+module _ (k : Workings) (sound : IsWellMade k) (closed : k.pending ≡ 0) (s : Setting) (leads : List (List ℕ)) (chains : HasChains s k.chains) (allowed : (op : Op) → Allows s.caps (caps_of s op)) (among : LeadAmong leads (resolved_tables k.places k.tables)) (cut : Span) (chunk : IsChunk k.ops sound.spots cut) where
   abbrev typing : ℕ → Option Counts
   typing at = counts_within cut.entry (slice_get sound.spots at)
 
@@ -115,8 +115,8 @@ module _ (k : Kept) (sound : IsSound k) (closed : k.pending ≡ 0) (s : Setting)
     | inr g ↦ absurd (chunk.behind i p g e h)
   ]
 
-  typed_at : (at : ℕ) (p : Spot) → slice_get sound.spots at ≡ Some p → p.home ≡ cut.entry → typing at ≡ Some (counts_of p)
-  typed_at at p e h = ap (counts_within cut.entry) e ∙ ap (λ (b : Bool). cond b (Some (counts_of p)) None) (eq-eqb p.home cut.entry h)
+  typed_at : (at : ℕ) (p : Spot) → slice_get sound.spots at ≡ Some p → p.home ≡ cut.entry → typing at ≡ Some (spot_counts p)
+  typed_at at p e h = ap (counts_within cut.entry) e ∙ ap (λ (b : Bool). cond b (Some (spot_counts p)) None) (eq-eqb p.home cut.entry h)
 
   read_resolved : (i : ℕ) (op : Op) → slice_get k.ops i ≡ Some op → slice_get listed i ≡ Some (resolved k.places op)
   read_resolved i op e = slice_get-map (resolved k.places) k.ops i ∙ ap (option_map (resolved k.places)) e
@@ -137,9 +137,9 @@ module _ (k : Kept) (sound : IsSound k) (closed : k.pending ≡ 0) (s : Setting)
             };
             is = read;
           };
-          meets = subst (λ (x : Counts). Meets s (resolved k.places o.0) x) w.3 (meets_resolved s k.places o.0 (counts_of w.0) (fits.meets s chains));
+          meets = subst (λ (x : Counts). Meets s (resolved k.places o.0) x) w.3 (meets_resolved s k.places o.0 (spot_counts w.0) (fits.meets s chains));
           allowed = allowed (resolved k.places o.0);
-          stays = subst (λ (x : Counts). Stays s (resolved k.places o.0) x) w.3 (stays_resolved s k.places o.0 (counts_of w.0) (fits.stays s chains));
+          stays = subst (λ (x : Counts). Stays s (resolved k.places o.0) x) w.3 (stays_resolved s k.places o.0 (spot_counts w.0) (fits.stays s chains));
         },
       )
 
@@ -158,19 +158,19 @@ module _ (k : Kept) (sound : IsSound k) (closed : k.pending ≡ 0) (s : Setting)
       let fits = sound.fitting.fits at o.0 p o.1 w.1 in
       let read : slice_get listed at ≡ Some (resolved k.places o.0) = read_resolved at o.0 o.1 in
       let same : op ≡ resolved k.places o.0 = some_inj (sym r ∙ read) in
-      let there : Edge (code_by_index s listed leads) (resolved k.places o.0) at (counts_of p) b d =
-      subst (λ (x : Op). Edge (code_by_index s listed leads) x at (counts_of p) b d) same
+      let there : Edge (code_by_index s listed leads) (resolved k.places o.0) at (spot_counts p) b d =
+      subst (λ (x : Op). Edge (code_by_index s listed leads) x at (spot_counts p) b d) same
       (subst (λ (x : Counts). Edge (code_by_index s listed leads) op at x b d) (sym w.3) edge) in
       elim there [
         | inl j ↦
             let t = target_label k.places k.tables o.0 b (targets_among leads tables among (flow_of (resolved k.places o.0)) b j.0) in
             let found = label_there t.0 _ (fits.jumps s k.tables t.0 chains own_tables t.1) in
-            typed_at b _ (subst (λ (n : ℕ). slice_get sound.spots n ≡ Some (spot_of p.home (after_jump s o.0 (counts_of p)))) t.2 found) w.2
-            ∙ ap (λ (x : Counts). Some x) (sym (j.1 ∙ jump_same s k.places o.0 (counts_of p)))
+            typed_at b _ (subst (λ (n : ℕ). slice_get sound.spots n ≡ Some (spot_of p.home (after_jump s o.0 (spot_counts p)))) t.2 found) w.2
+            ∙ ap (λ (x : Counts). Some x) (sym (j.1 ∙ jump_same s k.places o.0 (spot_counts p)))
         | inr f ↦
             let found = sound.fitting.falls at o.0 p s o.1 w.1 chains (sym (falls_same s k.places o.0) ∙ f.0) in
-            typed_at b _ (subst (λ (n : ℕ). slice_get sound.spots n ≡ Some (spot_of p.home (after_fall s o.0 (counts_of p)))) (sym f.1) found) w.2
-            ∙ ap (λ (x : Counts). Some x) (sym (f.2 ∙ fall_same s k.places o.0 (counts_of p)))
+            typed_at b _ (subst (λ (n : ℕ). slice_get sound.spots n ≡ Some (spot_of p.home (after_fall s o.0 (spot_counts p)))) (sym f.1) found) w.2
+            ∙ ap (λ (x : Counts). Some x) (sym (f.2 ∙ fall_same s k.places o.0 (spot_counts p)))
       ]
 
   shallow : (at : ℕ) (c : Counts) → typing at ≡ Some c → c.operands ≤ cut.max_stack
@@ -178,7 +178,7 @@ module _ (k : Kept) (sound : IsSound k) (closed : k.pending ≡ 0) (s : Setting)
       let w = within_spot cut.entry (slice_get sound.spots at) c e in
       let o = op_there at w.0 w.1 w.2 in
       let fits = sound.fitting.fits at o.0 w.0 o.1 w.1 in
-      let n : (counts_of w.0).operands ≡ c.operands = ap (λ (x : Counts). x.operands) w.3 in
+      let n : (spot_counts w.0).operands ≡ c.operands = ap (λ (x : Counts). x.operands) w.3 in
       let h : w.0.operands ≤ 65535 = fits.shallow in
       let m = chunk.most in
       omega arith

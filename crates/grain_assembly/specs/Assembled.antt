@@ -1,7 +1,7 @@
 -- What the fields of an assembler say.
 use Rattle.std.specs.Prelude.{ℕ, List, [], ◌∷◌, ◌++◌, map}
-use Rattle.grain_assembly.specs.Sound.{Kept}
-use Rattle.grain_assembly.specs.Written.{Spot, Written, spot}
+use Rattle.grain_assembly.specs.Sound.{Workings}
+use Rattle.grain_assembly.specs.Unfinished.{Spot, Unfinished, spot}
 use Rattle.grain_assembly.specs.declared.assembler.Assembler.TheInside.{Inside}
 use Rattle.grain_assembly.specs.declared.assembler.Label.{Label}
 use Rattle.grain_assembly.specs.declared.assembler.Targets.{Targets}
@@ -9,21 +9,21 @@ use Rattle.grain_assembly.specs.declared.assembler.Targets.{Targets}
 abbrev pub spot_at : Label → Spot
 spot_at l = spot l.operands l.frame
 
-abbrev pub place_of : Label → ℕ
-place_of l = l.at
+abbrev pub label_place : Label → ℕ
+label_place l = l.at
 
 -- all targets of a switch
 abbrev pub targets_of : Targets → List ℕ
 targets_of t = t.cases.items ++ t.default ∷ []
 
-abbrev pub kept : Inside → Kept
+abbrev pub kept : Inside → Workings
 kept a = record {
   ops = a.ops.items;
   chains = a.chains.items;
   tables = map targets_of a.tables.items;
   labels = map spot_at a.labels.items;
   outers = map (λ (l : Label). l.outer) a.labels.items;
-  places = map place_of a.labels.items;
+  places = map label_place a.labels.items;
   cuts = a.cuts.items;
   operands = a.operands;
   level = a.frame;
@@ -31,7 +31,7 @@ kept a = record {
   fixed = a.is_fixed;
 }
 
-abbrev pub written : Inside → Written
+abbrev pub written : Inside → Unfinished
 written a = record {
   operands = a.operands;
   level = a.frame;

@@ -1,4 +1,4 @@
-pub mod Written
+pub mod Unfinished
 pub mod Fitting
 pub mod Sound
 pub mod Resolved

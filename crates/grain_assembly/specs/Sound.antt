@@ -5,11 +5,11 @@ use Rattle.grain_code.specs.declared.op.Op.{Op}
 use Rattle.grain_pools.specs.declared.chain.Chain.{Chain}
 use Rattle.grain_rules.specs.Counts.{Base, nothing, last_base}
 use Rattle.grain_assembly.specs.Fitting.{AreFitting, spot_of}
-use Rattle.grain_assembly.specs.Written.{Level, Spot, spot}
+use Rattle.grain_assembly.specs.Unfinished.{Level, Spot, spot}
 
 -- All that is kept: the operations, whose targets are labels; chains; the labels of each switch; the spot of each label, the
 -- labels that were open around it, and the operation to which it is bound; the chunks that are complete; and what the rules see.
-pub record Kept : Type 0 where
+pub record Workings : Type 0 where
   pub ops : List Op
   pub chains : List Chain
   pub tables : List (List ℕ)
@@ -50,7 +50,7 @@ pub record IsBased (level : Level) : Type 0 where
   pub there : level.least ≤ level.iterators
 
 -- There are spots with which all operations fit, and at which labels are bound.
-pub record IsSound (k : Kept) : Type 0 where
+pub record IsWellMade (k : Workings) : Type 0 where
   pub spots : List Spot
   pub fitting : AreFitting k.chains k.tables k.labels k.ops spots
   pub count : length spots ≡ length k.ops + cond k.fixed 1 0

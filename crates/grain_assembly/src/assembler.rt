@@ -29,7 +29,7 @@ pub struct Targets {
     pub default: u32,
 }
 
-/// Operations in the making, whose targets are labels. Each fits where it stands. Contracts see a `Written`.
+/// Operations in the making, whose targets are labels. Each fits where it stands. Contracts see an `Unfinished`.
 #[derive(Drop)]
 pub struct Assembler {
     pub(crate) alloc: Global,
@@ -46,16 +46,16 @@ pub struct Assembler {
 }
 
 impl Model for Assembler {
-    ghost use Rattle.grain_assembly.specs.Written.{Written};
+    ghost use Rattle.grain_assembly.specs.Unfinished.{Unfinished};
 
-    ghost Value = { Written };
+    ghost Value = { Unfinished };
 
     ghost use Rattle.grain_assembly.specs.Assembled.{kept, written};
-    ghost use Rattle.grain_assembly.specs.Sound.{IsSound};
+    ghost use Rattle.grain_assembly.specs.Sound.{IsWellMade};
 
     ghost view = { written };
 
-    ghost invariant = { λ a. IsSound (kept a) };
+    ghost invariant = { λ a. IsWellMade (kept a) };
 }
 
 impl Assembler {

@@ -4,7 +4,7 @@ ghost use Rattle.std.specs.List.{Contains};
 ghost use Rattle.grain_pools.specs.Chain.{consumed};
 ghost use Rattle.grain_rules.specs.Counts.{without_last};
 ghost use Rattle.grain_assembly.specs.Assembled.{targets_of};
-ghost use Rattle.grain_assembly.specs.Written.{Keeps, Leaves, SameLabels, spot, with_handler, with_iterator, without_iterator};
+ghost use Rattle.grain_assembly.specs.Unfinished.{Extends, LeavesOperands, SameLabels, spot, level_with_handler, level_with_iterator, level_without_iterator};
 
 use crate::assembler::{Assembler, Targets};
 use crate::frame::Frame;
@@ -21,7 +21,7 @@ impl Assembler {
     pub fn begin_iterator(&mut self, place: Place) -> Result<(), CompileError>
         requires { self.old.level.floor + 1 ≤ self.old.operands }
         ensures operands { OnOk result (self.new.operands ≡ self.old.operands - 1) }
-        ensures level { OnOk result (self.new.level ≡ with_iterator self.old.level) }
+        ensures level { OnOk result (self.new.level ≡ level_with_iterator self.old.level) }
         ensures labels { OnOk result (SameLabels self.old self.new) }
     {
         let frame = self.frame.with_iterator(place)?;
@@ -46,8 +46,8 @@ impl Assembler {
         requires room { self.old.level.floor ≤ self.old.operands }
         requires one { self.old.level.least + 1 ≤ self.old.level.iterators }
         requires there { slice_get self.old.labels exit
-            ≡ Some (spot self.old.operands (without_iterator self.old.level)) }
-        ensures { OnOk result (Leaves self.old self.new (self.old.operands + 1)) }
+            ≡ Some (spot self.old.operands (level_without_iterator self.old.level)) }
+        ensures { OnOk result (LeavesOperands self.old self.new (self.old.operands + 1)) }
     {
         if self.operands >= MAX_OPERANDS {
             return Err(too_many(place));
@@ -66,7 +66,7 @@ impl Assembler {
     pub fn drop_iterator(&mut self, place: Place) -> Result<(), CompileError>
         requires { self.old.level.least + 1 ≤ self.old.level.iterators }
         ensures operands { OnOk result (self.new.operands ≡ self.old.operands) }
-        ensures level { OnOk result (self.new.level ≡ without_iterator self.old.level) }
+        ensures level { OnOk result (self.new.level ≡ level_without_iterator self.old.level) }
         ensures labels { OnOk result (SameLabels self.old self.new) }
     {
         let frame = self.frame.without_iterator()?;
@@ -83,11 +83,11 @@ impl Assembler {
     /// As [`Assembler::label`].
     pub fn catch_label(&mut self) -> Result<u32, CompileError>
         ensures here { IfOk result (λ l. slice_get self.new.labels l
-            ≡ Some (spot self.old.operands (with_handler self.old.operands self.old.level))) }
+            ≡ Some (spot self.old.operands (level_with_handler self.old.operands self.old.level))) }
         ensures outer { IfOk result (λ l. slice_get self.new.outers l ≡ Some self.old.pending) }
         ensures pending { IfOk result (λ l. self.new.pending ≡ l + 1) }
-        ensures labels { OnOk result (Keeps self.old.labels self.new.labels) }
-        ensures outers { OnOk result (Keeps self.old.outers self.new.outers) }
+        ensures labels { OnOk result (Extends self.old.labels self.new.labels) }
+        ensures outers { OnOk result (Extends self.old.outers self.new.outers) }
         ensures operands { OnOk result (self.new.operands ≡ self.old.operands) }
         ensures level { OnOk result (self.new.level ≡ self.old.level) }
     {
@@ -103,9 +103,9 @@ impl Assembler {
     pub fn arm(&mut self, place: Place, label: u32, name: Option<u32>) -> Result<(), CompileError>
         requires room { self.old.level.floor ≤ self.old.operands }
         requires there { slice_get self.old.labels label
-            ≡ Some (spot self.old.operands (with_handler self.old.operands self.old.level)) }
+            ≡ Some (spot self.old.operands (level_with_handler self.old.operands self.old.level)) }
         ensures operands { OnOk result (self.new.operands ≡ self.old.operands) }
-        ensures level { OnOk result (self.new.level ≡ with_handler self.old.operands self.old.level) }
+        ensures level { OnOk result (self.new.level ≡ level_with_handler self.old.operands self.old.level) }
         ensures labels { OnOk result (SameLabels self.old self.new) }
     {
         let frame = self.frame.with_handler(self.operands)?;
@@ -149,7 +149,7 @@ impl Assembler {
         requires room { self.old.level.floor + 1 ≤ self.old.operands }
         requires there { (l : ℕ) → Contains (targets_of targets) l
             → slice_get self.old.labels l ≡ Some (spot self.old.operands self.old.level) }
-        ensures leaves { OnOk result (Leaves self.old self.new self.old.operands) }
+        ensures leaves { OnOk result (LeavesOperands self.old self.new self.old.operands) }
         ensures loose { OnOk result (self.new.fixed ≡ false) }
     {
         let Ok(index) = u16::try_from(self.tables.len()) else {
@@ -169,7 +169,7 @@ impl Assembler {
     /// There are too many chains or operands, or the allocator refused.
     pub fn chain(&mut self, place: Place, chain: Chain) -> Result<(), CompileError>
         requires { self.old.level.floor + consumed chain ≤ self.old.operands }
-        ensures { OnOk result (Leaves self.old self.new (self.old.operands - consumed chain + 1)) }
+        ensures { OnOk result (LeavesOperands self.old self.new (self.old.operands - consumed chain + 1)) }
     {
         let Ok(index) = u16::try_from(self.chains.len()) else {
             return Err(CompileError::new(place, Problem::TooMany(Thing::Chains)));

@@ -1,6 +1,6 @@
 //! Chunks: where they begin and end.
 ghost use Rattle.std.specs.Prelude.{◌≡◌, ◌≤◌, [], OnOk, false, true};
-ghost use Rattle.grain_assembly.specs.Written.{SameLabels, fresh};
+ghost use Rattle.grain_assembly.specs.Unfinished.{SameLabels, fresh};
 
 use crate::assembler::Assembler;
 use crate::frame::Frame;

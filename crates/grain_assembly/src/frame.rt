@@ -1,8 +1,8 @@
 //! What surrounds operations.
 ghost use Rattle.std.specs.Prelude.{◌≡◌, ◌+◌, ◌≤◌, IfOk, length, map};
 ghost use Rattle.grain_rules.specs.Counts.{last_base};
-ghost use Rattle.grain_assembly.specs.Frames.{base_of};
-ghost use Rattle.grain_assembly.specs.Written.{fresh, guarded, with_handler, with_iterator, without_handlers, without_iterator};
+ghost use Rattle.grain_assembly.specs.Frames.{frame_base};
+ghost use Rattle.grain_assembly.specs.Unfinished.{fresh, guarded, level_with_handler, level_with_iterator, level_without_handlers, level_without_iterator};
 
 use grain_lexer::{CompileError, Place, Problem, Thing};
 use std::alloc::{AllocError, Global};
@@ -19,7 +19,7 @@ pub struct Base {
 
 /// What the handler that was armed last stands on, or empty stacks where none is armed.
 fn last_of(bases: &[Base]) -> Base
-    ensures { base_of result ≡ last_base (map base_of bases.now) }
+    ensures { frame_base result ≡ last_base (map frame_base bases.now) }
 {
     match bases.first() {
         Some(base) => *base,
@@ -42,7 +42,7 @@ pub struct Frame {
 }
 
 impl Model for Frame {
-    ghost use Rattle.grain_assembly.specs.Written.{Level};
+    ghost use Rattle.grain_assembly.specs.Unfinished.{Level};
 
     ghost Value = { Level };
 
@@ -91,7 +91,7 @@ impl Frame {
 
     /// With one more iterator. Those that are there stay.
     pub(crate) fn with_iterator(&self, place: Place) -> Result<Frame, CompileError>
-        ensures { IfOk result (λ f. f ≡ with_iterator self.now) }
+        ensures { IfOk result (λ f. f ≡ level_with_iterator self.now) }
     {
         let Some(iterators) = self.iterators.checked_add(1) else {
             return Err(CompileError::new(place, Problem::TooMany(Thing::Statement)));
@@ -109,7 +109,7 @@ impl Frame {
     /// Without the last iterator.
     pub(crate) fn without_iterator(&self) -> Result<Frame, AllocError>
         requires { self.now.least + 1 ≤ self.now.iterators }
-        ensures { IfOk result (λ f. f ≡ without_iterator self.now) }
+        ensures { IfOk result (λ f. f ≡ level_without_iterator self.now) }
     {
         let bases = self.bases.clone()?;
         Ok(Frame {
@@ -146,7 +146,7 @@ impl Frame {
     /// Without this many handlers, the last first. What the next handler stands on has to stay, and no more.
     pub(crate) fn without_handlers(&self, alloc: Global, count: usize) -> Result<Frame, AllocError>
         requires { count ≤ length self.now.bases }
-        ensures { IfOk result (λ f. f ≡ without_handlers count self.now) }
+        ensures { IfOk result (λ f. f ≡ level_without_handlers count self.now) }
     {
         let kept = &self.bases[count..];
         let last = last_of(kept);
@@ -162,7 +162,7 @@ impl Frame {
 
     /// With one more handler, which stands on this many operands.
     pub(crate) fn with_handler(&self, operands: usize) -> Result<Frame, AllocError>
-        ensures { IfOk result (λ f. f ≡ with_handler operands self.now) }
+        ensures { IfOk result (λ f. f ≡ level_with_handler operands self.now) }
     {
         let mut bases = self.bases.clone()?;
         let base = Base {

@@ -1,7 +1,7 @@
 //! What has to stay, and what a path that leads away drops first.
 ghost use Rattle.std.specs.Prelude.{◌≡◌, ◌+◌, ◌-◌, ◌≤◌, OnOk, length};
 ghost use Rattle.grain_assembly.specs.Sound.{IsBased};
-ghost use Rattle.grain_assembly.specs.Written.{IsSameButFloor, Leaves, SameLabels, guarded, without_handlers};
+ghost use Rattle.grain_assembly.specs.Unfinished.{IsSameButFloor, LeavesOperands, SameLabels, guarded, level_without_handlers};
 
 use crate::assembler::Assembler;
 use crate::frame::Frame;
@@ -51,7 +51,7 @@ impl Assembler {
     pub fn drop_handlers(&mut self, place: Place, count: usize) -> Result<(), CompileError>
         requires { count ≤ length self.old.level.bases }
         ensures operands { OnOk result (self.new.operands ≡ self.old.operands) }
-        ensures level { OnOk result (self.new.level ≡ without_handlers count self.old.level) }
+        ensures level { OnOk result (self.new.level ≡ level_without_handlers count self.old.level) }
         ensures labels { OnOk result (SameLabels self.old self.new) }
     {
         let frame = self.frame.without_handlers(self.alloc, 0)?;
@@ -66,7 +66,7 @@ impl Assembler {
     fn drop_handler(&mut self, place: Place) -> Result<(), CompileError>
         requires { 1 ≤ length self.old.level.bases }
         ensures operands { OnOk result (self.new.operands ≡ self.old.operands) }
-        ensures level { OnOk result (self.new.level ≡ without_handlers 1 self.old.level) }
+        ensures level { OnOk result (self.new.level ≡ level_without_handlers 1 self.old.level) }
         ensures labels { OnOk result (SameLabels self.old self.new) }
     {
         let frame = self.frame.without_handlers(self.alloc, 1)?;
@@ -79,7 +79,7 @@ impl Assembler {
     /// The allocator refused.
     pub fn drop_operands(&mut self, place: Place, count: usize) -> Result<(), CompileError>
         requires { self.old.level.floor + count ≤ self.old.operands }
-        ensures { OnOk result (Leaves self.old self.new (self.old.operands - count)) }
+        ensures { OnOk result (LeavesOperands self.old self.new (self.old.operands - count)) }
     {
         'operands: for _turn in 0..count {
             self.put(place, Op::Pop, 1, 0)?;
@@ -93,7 +93,7 @@ impl Assembler {
     /// The allocator refused.
     pub fn drop_below(&mut self, place: Place, count: usize) -> Result<(), CompileError>
         requires { self.old.level.floor + count + 1 ≤ self.old.operands }
-        ensures { OnOk result (Leaves self.old self.new (self.old.operands - count)) }
+        ensures { OnOk result (LeavesOperands self.old self.new (self.old.operands - count)) }
     {
         'operands: for _turn in 0..count {
             self.put(place, Op::Rotate(1), 2, 2)?;

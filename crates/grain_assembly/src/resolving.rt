@@ -1,6 +1,6 @@
 //! Labels become indices of operations.
 ghost use Rattle.std.specs.Prelude.{◌≡◌, ◌≤◌, IfOk, map, slice_index};
-ghost use Rattle.grain_assembly.specs.Assembled.{place_of, targets_of};
+ghost use Rattle.grain_assembly.specs.Assembled.{label_place, targets_of};
 ghost use Rattle.grain_assembly.specs.Finished.{IsComplete};
 ghost use Rattle.grain_assembly.specs.Resolved.{resolved, resolved_tables};
 
@@ -77,7 +77,7 @@ fn resolve_ops(alloc: Global, ops: &[Op], places: &[u32]) -> Result<Vec<Op>, All
 
 /// The operations to which the labels are bound.
 fn places_of(alloc: Global, labels: &[Label]) -> Result<Vec<u32>, AllocError>
-    ensures { IfOk result (λ v. v.items ≡ map place_of labels.now) }
+    ensures { IfOk result (λ v. v.items ≡ map label_place labels.now) }
 {
     let mut places = Vec::new(alloc);
     for label in labels {

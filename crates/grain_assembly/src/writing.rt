@@ -3,7 +3,7 @@ ghost use Rattle.std.specs.Prelude.{◌≡◌, ◌+◌, ◌-◌, ◌≤◌, OnOk
 ghost use Rattle.grain_rules.specs.Flow.{Falls, Ends, Jumps, Branches};
 ghost use Rattle.grain_rules.specs.Rows.{flow_of};
 ghost use Rattle.grain_assembly.specs.Fitting.{HasEffect};
-ghost use Rattle.grain_assembly.specs.Written.{Leaves, spot};
+ghost use Rattle.grain_assembly.specs.Unfinished.{LeavesOperands, spot};
 
 use crate::assembler::Assembler;
 use grain_code::Op;
@@ -32,7 +32,7 @@ impl Assembler {
         requires falls { flow_of op ≡ Falls }
         requires does { HasEffect op self.old.operands takes gives }
         requires room { self.old.level.floor + takes ≤ self.old.operands }
-        ensures { OnOk result (Leaves self.old self.new (self.old.operands - takes + gives)) }
+        ensures { OnOk result (LeavesOperands self.old self.new (self.old.operands - takes + gives)) }
     {
         let kept = self.operands - takes;
         if gives > MAX_OPERANDS.saturating_sub(kept) {
@@ -59,7 +59,7 @@ impl Assembler {
         requires ends { flow_of op ≡ Ends }
         requires does { HasEffect op self.old.operands takes 0 }
         requires room { self.old.level.floor + takes ≤ self.old.operands }
-        ensures leaves { OnOk result (Leaves self.old self.new left) }
+        ensures leaves { OnOk result (LeavesOperands self.old self.new left) }
         ensures loose { OnOk result (self.new.fixed ≡ false) }
     {
         if left > MAX_OPERANDS {
@@ -79,7 +79,7 @@ impl Assembler {
     pub fn jump(&mut self, place: Place, label: u32, left: usize) -> Result<(), CompileError>
         requires there { slice_get self.old.labels label ≡ Some (spot self.old.operands self.old.level) }
         requires room { self.old.level.floor ≤ self.old.operands }
-        ensures leaves { OnOk result (Leaves self.old self.new left) }
+        ensures leaves { OnOk result (LeavesOperands self.old self.new left) }
         ensures loose { OnOk result (self.new.fixed ≡ false) }
     {
         if left > MAX_OPERANDS {
@@ -107,7 +107,7 @@ impl Assembler {
         requires does { HasEffect op self.old.operands takes 0 }
         requires room { self.old.level.floor + takes ≤ self.old.operands }
         requires there { slice_get self.old.labels label ≡ Some (spot (self.old.operands - takes) self.old.level) }
-        ensures { OnOk result (Leaves self.old self.new (self.old.operands - takes)) }
+        ensures { OnOk result (LeavesOperands self.old self.new (self.old.operands - takes)) }
     {
         let operands = self.operands - takes;
         self.places.push(place)?;

@@ -1,6 +1,6 @@
 //! The code of statements, and of expressions that have blocks.
 ghost use Rattle.std.specs.Prelude.{◌≡◌, ◌+◌, ◌-◌, ◌≤◌, OnOk, Some, slice_get};
-ghost use Rattle.grain_assembly.specs.Written.{spot};
+ghost use Rattle.grain_assembly.specs.Unfinished.{spot};
 ghost use Rattle.grain_emit.specs.Loops.{count};
 ghost use Rattle.grain_emit.specs.Rules.{IsWritten, Stands};
 

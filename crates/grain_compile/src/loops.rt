@@ -1,7 +1,7 @@
 //! The code of loops, and of what leads away.
 ghost use Rattle.std.specs.Prelude.{◌≡◌, ◌+◌, ◌-◌, ◌≤◌, OnOk};
 ghost use Rattle.grain_emit.specs.Loops.{count};
-ghost use Rattle.grain_emit.specs.Rules.{IsLeft, IsWritten, Stands};
+ghost use Rattle.grain_emit.specs.Rules.{LeadsAway, IsWritten, Stands};
 
 use crate::coder::Coder;
 use grain::Op;
@@ -201,7 +201,7 @@ impl<F: Fn(&mut Emitter, &Expr, usize, bool) -> Result<(), CompileError>> Coder<
         requires does { (m : _) (e : _) (w : _) (r : _) (n : _) → F.post self.now.writes m e self.now.depth w r n
             → OnOk r (IsWritten m.now n.now (m.now.code.operands + count w)) }
         requires stands { Stands emitter.old }
-        ensures { OnOk result (IsLeft emitter.old emitter.new) }
+        ensures { OnOk result (LeadsAway emitter.old emitter.new) }
     {
         match form {
             Form::Return(value) => {
@@ -229,7 +229,7 @@ impl<F: Fn(&mut Emitter, &Expr, usize, bool) -> Result<(), CompileError>> Coder<
         requires does { (m : _) (e : _) (w : _) (r : _) (n : _) → F.post self.now.writes m e self.now.depth w r n
             → OnOk r (IsWritten m.now n.now (m.now.code.operands + count w)) }
         requires stands { Stands emitter.old }
-        ensures { OnOk result (IsLeft emitter.old emitter.new) }
+        ensures { OnOk result (LeadsAway emitter.old emitter.new) }
     {
         let around = emitter.innermost(place)?;
         if around.is_wanted {

@@ -2,7 +2,7 @@
 ghost use Rattle.std.specs.Prelude.{◌≡◌, ◌≤◌, IfOk, None, OnOk};
 ghost use Rattle.grain_rules.specs.Accepted.{AreDeepest, IsAccepted};
 ghost use Rattle.grain.specs.Program.{declared_by, input_of};
-ghost use Rattle.grain_compile.specs.Chunks.{IsBegun};
+ghost use Rattle.grain_compile.specs.Chunks.{BeginsChunk};
 
 use crate::building::{finish, head_of};
 use crate::coder::{Coder, expr};
@@ -75,7 +75,7 @@ fn chunks(
     bodies: &[Vec<Expr>],
 ) -> Result<Vec<Head>, CompileError>
     requires around { emitter.old.scope.around ≡ None }
-    requires begun { IsBegun emitter.old.code }
+    requires begun { BeginsChunk emitter.old.code }
     ensures closed { OnOk result (emitter.new.code.pending ≡ 0) }
     ensures ended { OnOk result (1 ≤ emitter.new.code.level.home) }
 {
@@ -92,8 +92,8 @@ fn chunks(
 /// The top level. A checkpoint before each statement says which variables a fault in it keeps.
 fn main_chunk(emitter: &mut Emitter, body: &[Expr]) -> Result<(), CompileError>
     requires around { emitter.old.scope.around ≡ None }
-    requires begun { IsBegun emitter.old.code }
-    ensures begun { OnOk result (IsBegun emitter.new.code) }
+    requires begun { BeginsChunk emitter.old.code }
+    ensures begun { OnOk result (BeginsChunk emitter.new.code) }
     ensures ended { OnOk result (1 ≤ emitter.new.code.level.home) }
 {
     let Some((last, others)) = body.split_last() else {
@@ -110,8 +110,8 @@ fn main_chunk(emitter: &mut Emitter, body: &[Expr]) -> Result<(), CompileError>
 }
 
 fn function_chunk(emitter: &mut Emitter, index: usize, body: &[Expr]) -> Result<(), CompileError>
-    requires { IsBegun emitter.old.code }
-    ensures begun { OnOk result (IsBegun emitter.new.code) }
+    requires { BeginsChunk emitter.old.code }
+    ensures begun { OnOk result (BeginsChunk emitter.new.code) }
     ensures ended { OnOk result (1 ≤ emitter.new.code.level.home) }
 {
     let place = emitter.begin_function(index)?;
@@ -127,7 +127,7 @@ fn function_chunk(emitter: &mut Emitter, index: usize, body: &[Expr]) -> Result<
 fn ended(emitter: &mut Emitter, place: Place) -> Result<(), CompileError>
     requires floor { emitter.old.code.level.floor ≤ emitter.old.code.operands }
     requires closed { emitter.old.code.pending ≡ 0 }
-    ensures begun { OnOk result (IsBegun emitter.new.code) }
+    ensures begun { OnOk result (BeginsChunk emitter.new.code) }
     ensures ended { OnOk result (1 ≤ emitter.new.code.level.home) }
 {
     emitter.code.stop(place, Op::Return, 0, 0)?;

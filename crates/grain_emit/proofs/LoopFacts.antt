@@ -5,7 +5,7 @@ use Rattle.std.proofs.Math.Seq.{drop-append_seam}
 use Rattle.std.proofs.lemmas.List.{length-append}
 use Rattle.grain_rules.specs.Counts.{Base, last_base}
 use Rattle.grain_assembly.specs.Sound.{IsBased}
-use Rattle.grain_assembly.specs.Written.{Keeps, Level, SameLabels, Spot, spot, with_handler, without_handlers}
+use Rattle.grain_assembly.specs.Unfinished.{Extends, Level, SameLabels, Spot, spot, level_with_handler, level_without_handlers}
 use Rattle.grain_assembly.proofs.Bases.{last_least}
 use Rattle.grain_emit.specs.Loops.{CanLeave, IsBare, IsInside, count}
 use Rattle.grain_emit.specs.Rules.{IsWritten, Stands}
@@ -14,7 +14,7 @@ use Rattle.grain_emit.specs.declared.scope.Loop.{Loop}
 use Rattle.grain_emit.specs.declared.scope.Scope.{Scope}
 
 -- with more labels
-pub leave_kept : (around : Option Loop) (level : Level) (old new : List Spot) → Keeps old new → CanLeave around level old → CanLeave around level new
+pub leave_kept : (around : Option Loop) (level : Level) (old new : List Spot) → Extends old new → CanLeave around level old → CanLeave around level new
 leave_kept None level old new keeps can = tt
 leave_kept (Some l) level old new keeps can = record {
   above = can.above;
@@ -29,7 +29,7 @@ leave_kept (Some l) level old new keeps can = record {
 }
 
 -- where another handler is armed
-pub leave_armed : (around : Option Loop) (level : Level) (labels : List Spot) (n : ℕ) → level.floor ≤ n → CanLeave around level labels → CanLeave around (with_handler n level) labels
+pub leave_armed : (around : Option Loop) (level : Level) (labels : List Spot) (n : ℕ) → level.floor ≤ n → CanLeave around level labels → CanLeave around (level_with_handler n level) labels
 leave_armed None level labels n floor can = tt
 leave_armed (Some l) level labels n floor can = record {
   above = record { operands = n; iterators = level.iterators } ∷ can.above;
@@ -54,13 +54,13 @@ stands_after old new n written floor stands = record {
 }
 
 -- a handler that is armed leaves what stands
-pub stands_armed : (old new : Emitter) → new.code.operands ≡ old.code.operands → new.code.level ≡ with_handler old.code.operands old.code.level → SameLabels old.code new.code → new.scope ≡ old.scope → Stands old → Stands new
+pub stands_armed : (old new : Emitter) → new.code.operands ≡ old.code.operands → new.code.level ≡ level_with_handler old.code.operands old.code.level → SameLabels old.code new.code → new.scope ≡ old.scope → Stands old → Stands new
 stands_armed old new operands level same scope stands = record {
   floor = let l = ap (λ (v : Level). v.floor) level in omega arith;
   loop =
       subst (λ (s : Scope). CanLeave s.around new.code.level new.code.labels) (sym scope)
       (subst (λ (v : Level). CanLeave old.scope.around v new.code.labels) (sym level)
-      (subst (λ (ls : List Spot). CanLeave old.scope.around (with_handler old.code.operands old.code.level) ls) (sym same.labels)
+      (subst (λ (ls : List Spot). CanLeave old.scope.around (level_with_handler old.code.operands old.code.level) ls) (sym same.labels)
       (leave_armed old.scope.around old.code.level old.code.labels old.code.operands stands.floor stands.loop)));
 }
 
@@ -83,7 +83,7 @@ inside_begun l level labels height handlers based least next end = record {
 }
 
 -- the handlers that were armed in the loop are disarmed
-pub inside_bare : (l : Loop) (level : Level) (labels : List Spot) (n : ℕ) → n ≡ length level.bases - l.handlers → IsInside l level labels → IsBare l (without_handlers n level) labels
+pub inside_bare : (l : Loop) (level : Level) (labels : List Spot) (n : ℕ) → n ≡ length level.bases - l.handlers → IsInside l level labels → IsBare l (level_without_handlers n level) labels
 inside_bare l level labels n is inside =
     let few : n ≡ length inside.above = let e = ap (λ (bs : List Base). length bs) inside.bases in let f = length-append inside.above inside.below in let g = inside.handlers in omega arith in
     let left : drop n level.bases ≡ inside.below =

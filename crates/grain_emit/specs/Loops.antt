@@ -1,7 +1,7 @@
 -- What `break` and `continue` find.
 use Rattle.std.specs.Prelude.{◌≡◌, ℕ, ◌+◌, ◌-◌, ◌≤◌, Bool, cond, List, ◌++◌, length, slice_get, Some, Option, None}
 use Rattle.grain_rules.specs.Counts.{Base, last_base}
-use Rattle.grain_assembly.specs.Written.{Level, Spot, spot}
+use Rattle.grain_assembly.specs.Unfinished.{Level, Spot, spot}
 use Rattle.grain_emit.specs.declared.scope.Loop.{Loop}
 
 abbrev pub count : Bool → ℕ

@@ -1,6 +1,6 @@
 //! The code of the top level and of functions begins.
 ghost use Rattle.std.specs.Prelude.{◌≡◌, [], IfOk, None, OnOk, true};
-ghost use Rattle.grain_assembly.specs.Written.{fresh};
+ghost use Rattle.grain_assembly.specs.Unfinished.{fresh};
 
 use crate::emitter::{Emitter, Signature};
 use crate::options::Options;

@@ -3,10 +3,10 @@
 //! An arm with a condition is followed by a switch among the arms after it, to which a condition leads that doesn't hold. The
 //! subject stays on the stack until an arm is taken.
 ghost use Rattle.std.specs.Prelude.{◌≡◌, ◌+◌, ◌-◌, ◌≤◌, IfOk, OnOk, Some, false, length, slice_get};
-ghost use Rattle.grain_assembly.specs.Written.{spot};
+ghost use Rattle.grain_assembly.specs.Unfinished.{spot};
 ghost use Rattle.grain_emit.specs.Loops.{count};
 ghost use Rattle.grain_emit.specs.Rules.{IsWritten};
-ghost use Rattle.grain_emit.specs.Switches.{AreArms, LeadWithin};
+ghost use Rattle.grain_emit.specs.Switches.{AreArms, LeadToArms};
 
 use crate::emitter::Emitter;
 use crate::table::{Leading, Spanning, Table};
@@ -127,7 +127,7 @@ impl Emitter {
     /// The table of a switch among the arms from this one on. A value of an earlier arm leads to the case `_`.
     fn drafted(&mut self, arms: &[Arm], labels: &Labels, from: usize) -> Result<Draft, CompileError>
         requires { labels.now.none ≤ labels.now.first }
-        ensures within { IfOk result (λ d. LeadWithin labels.now d.targets) }
+        ensures within { IfOk result (λ d. LeadToArms labels.now d.targets) }
         ensures code { self.new.code ≡ self.old.code }
         ensures scope { self.new.scope ≡ self.old.scope }
     {
@@ -167,10 +167,10 @@ impl Emitter {
         labels: &Labels,
         label: u32,
     ) -> Result<(), CompileError>
-        requires within { LeadWithin labels.now draft.old.targets }
+        requires within { LeadToArms labels.now draft.old.targets }
         requires least { labels.now.none ≤ label }
         requires most { label ≤ labels.now.first }
-        ensures within { LeadWithin labels.now draft.new.targets }
+        ensures within { LeadToArms labels.now draft.new.targets }
         ensures code { self.new.code ≡ self.old.code }
         ensures scope { self.new.scope ≡ self.old.scope }
     {
@@ -194,10 +194,10 @@ fn add_ranges(
     labels: &Labels,
     label: u32,
 ) -> Result<(), CompileError>
-    requires within { LeadWithin labels.now draft.old.targets }
+    requires within { LeadToArms labels.now draft.old.targets }
     requires least { labels.now.none ≤ label }
     requires most { label ≤ labels.now.first }
-    ensures { LeadWithin labels.now draft.new.targets }
+    ensures { LeadToArms labels.now draft.new.targets }
 {
     for case in cases {
         if let Case::Range(from, to, is_inclusive) = *case {

@@ -1,8 +1,8 @@
 //! Handlers of faults, and faults that are raised again.
 ghost use Rattle.std.specs.Prelude.{◌≡◌, ◌+◌, ◌-◌, ◌≤◌, OnOk, Some, length, slice_get};
 ghost use Rattle.grain_rules.specs.Counts.{without_last};
-ghost use Rattle.grain_assembly.specs.Written.{SameLabels, spot, with_handler};
-ghost use Rattle.grain_emit.specs.Rules.{IsLeft, IsWritten, Stands};
+ghost use Rattle.grain_assembly.specs.Unfinished.{SameLabels, spot, level_with_handler};
+ghost use Rattle.grain_emit.specs.Rules.{LeadsAway, IsWritten, Stands};
 
 use crate::emitter::Emitter;
 use crate::scope::Local;
@@ -19,11 +19,11 @@ impl Emitter {
     pub fn arm(&mut self, place: Place, target: u32, name: Option<u32>) -> Result<(), CompileError>
         requires stands { Stands self.old }
         requires there { slice_get self.old.code.labels target
-            ≡ Some (spot self.old.code.operands (with_handler self.old.code.operands self.old.code.level)) }
+            ≡ Some (spot self.old.code.operands (level_with_handler self.old.code.operands self.old.code.level)) }
         ensures stands { OnOk result (Stands self.new) }
         ensures operands { OnOk result (self.new.code.operands ≡ self.old.code.operands) }
         ensures level { OnOk result (self.new.code.level
-            ≡ with_handler self.old.code.operands self.old.code.level) }
+            ≡ level_with_handler self.old.code.operands self.old.code.level) }
         ensures labels { OnOk result (SameLabels self.old.code self.new.code) }
         ensures scope { OnOk result (self.new.scope ≡ self.old.scope) }
     {
@@ -91,7 +91,7 @@ impl Emitter {
     /// `throw` without a value: it raises the fault again that the innermost `catch` has, and else throws unit.
     pub fn throw_again(&mut self, place: Place) -> Result<(), CompileError>
         requires { self.old.code.level.floor ≤ self.old.code.operands }
-        ensures { OnOk result (IsLeft self.old self.new) }
+        ensures { OnOk result (LeadsAway self.old self.new) }
     {
         match self.scope.caught {
             Some(slot) => self.put(place, Op::LoadLocal(slot), 0, 1)?,
@@ -103,7 +103,7 @@ impl Emitter {
     /// Throws the value on top.
     pub fn throw(&mut self, place: Place) -> Result<(), CompileError>
         requires { self.old.code.level.floor + 1 ≤ self.old.code.operands }
-        ensures { OnOk result (IsLeft self.old self.new) }
+        ensures { OnOk result (LeadsAway self.old self.new) }
     {
         self.code.stop(place, Op::Throw, 1, 0)
     }

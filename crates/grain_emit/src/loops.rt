@@ -1,8 +1,8 @@
 //! Loops: how they begin, and what is dropped where they are left.
 ghost use Rattle.std.specs.Prelude.{◌≡◌, ◌+◌, ◌-◌, ◌≤◌, IfOk, OnOk, Some, false, slice_get, true};
-ghost use Rattle.grain_assembly.specs.Written.{Keeps, SameLabels, guarded, spot, without_iterator};
+ghost use Rattle.grain_assembly.specs.Unfinished.{Extends, SameLabels, guarded, spot, level_without_iterator};
 ghost use Rattle.grain_emit.specs.Loops.{IsBare, count};
-ghost use Rattle.grain_emit.specs.Rules.{IsLeft, IsWritten, Stands};
+ghost use Rattle.grain_emit.specs.Rules.{LeadsAway, IsWritten, Stands};
 
 use crate::emitter::Emitter;
 use crate::scope::{Local, Loop};
@@ -29,8 +29,8 @@ impl Emitter {
         ensures operands { OnOk result (self.new.code.operands ≡ self.old.code.operands) }
         ensures level { OnOk result (self.new.code.level
             ≡ guarded self.old.code.operands self.old.code.level) }
-        ensures labels { OnOk result (Keeps self.old.code.labels self.new.code.labels) }
-        ensures outers { OnOk result (Keeps self.old.code.outers self.new.code.outers) }
+        ensures labels { OnOk result (Extends self.old.code.labels self.new.code.labels) }
+        ensures outers { OnOk result (Extends self.old.code.outers self.new.code.outers) }
         ensures next { IfOk result (λ l. slice_get self.new.code.labels l.next
             ≡ Some (spot self.old.code.operands self.old.code.level)) }
         ensures outer { IfOk result (λ l. slice_get self.new.code.outers l.next
@@ -81,8 +81,8 @@ impl Emitter {
         requires innermost { self.old.code.pending ≡ label + 1 }
         ensures stands { OnOk result (Stands self.new) }
         ensures pending { OnOk result (slice_get self.old.code.outers label ≡ Some self.new.code.pending) }
-        ensures labels { OnOk result (Keeps self.old.code.labels self.new.code.labels) }
-        ensures outers { OnOk result (Keeps self.old.code.outers self.new.code.outers) }
+        ensures labels { OnOk result (Extends self.old.code.labels self.new.code.labels) }
+        ensures outers { OnOk result (Extends self.old.code.outers self.new.code.outers) }
         ensures operands { OnOk result (self.new.code.operands ≡ self.old.code.operands) }
         ensures level { OnOk result (self.new.code.level ≡ self.old.code.level) }
         ensures around { OnOk result (self.new.scope.around ≡ self.old.scope.around) }
@@ -101,7 +101,7 @@ impl Emitter {
         requires room { self.old.code.level.floor ≤ self.old.code.operands }
         requires one { self.old.code.level.least + 1 ≤ self.old.code.level.iterators }
         requires there { slice_get self.old.code.labels exit
-            ≡ Some (spot self.old.code.operands (without_iterator self.old.code.level)) }
+            ≡ Some (spot self.old.code.operands (level_without_iterator self.old.code.level)) }
         ensures { OnOk result (IsWritten self.old self.new self.old.code.operands) }
     {
         let (slot, counter) = slots;
@@ -122,7 +122,7 @@ impl Emitter {
     /// `continue`
     pub fn go_on(&mut self, place: Place) -> Result<(), CompileError>
         requires { Stands self.old }
-        ensures { OnOk result (IsLeft self.old self.new) }
+        ensures { OnOk result (LeadsAway self.old self.new) }
     {
         let around = self.innermost(place)?;
         self.disarm_down(place, around)?;
@@ -137,7 +137,7 @@ impl Emitter {
         requires stands { Stands self.old }
         requires is { self.old.scope.around ≡ Some around }
         requires unwanted { around.is_wanted ≡ false }
-        ensures { OnOk result (IsLeft self.old self.new) }
+        ensures { OnOk result (LeadsAway self.old self.new) }
     {
         self.disarm_down(place, around)?;
         self.drop_walk(place, around.walks)?;
@@ -153,7 +153,7 @@ impl Emitter {
         requires is { self.old.scope.around ≡ Some around }
         requires wanted { around.is_wanted ≡ true }
         requires room { self.old.code.level.floor + 1 ≤ self.old.code.operands }
-        ensures { OnOk result (IsLeft self.old self.new) }
+        ensures { OnOk result (LeadsAway self.old self.new) }
     {
         self.disarm_down(place, around)?;
         self.drop_walk(place, around.walks)?;

@@ -3,7 +3,7 @@ ghost use Rattle.std.specs.Prelude.{◌≡◌, ◌+◌, ◌-◌, ◌≤◌, IfOk
 ghost use Rattle.grain_rules.specs.Flow.{Falls};
 ghost use Rattle.grain_rules.specs.Rows.{flow_of};
 ghost use Rattle.grain_assembly.specs.Fitting.{HasEffect};
-ghost use Rattle.grain_assembly.specs.Written.{spot};
+ghost use Rattle.grain_assembly.specs.Unfinished.{spot};
 ghost use Rattle.grain_emit.specs.Loops.{count};
 ghost use Rattle.grain_emit.specs.Rules.{IsWritten};
 

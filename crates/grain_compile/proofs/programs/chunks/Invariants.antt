@@ -1,9 +1,9 @@
 use Rattle.std.proofs.Common.{◌≤◌}
-use Rattle.grain_compile.specs.Chunks.{IsBegun}
+use Rattle.grain_compile.specs.Chunks.{BeginsChunk}
 use Rattle.grain_compile.proofs.programs.chunks.Given as goal
 
 abbrev pub invariant-loop-turn : goal.invariant-loop-turn
 invariant-loop-turn l = record {
-  begun : IsBegun l.emitter.code;
+  begun : BeginsChunk l.emitter.code;
   ended : 1 ≤ l.emitter.code.level.home;
 }

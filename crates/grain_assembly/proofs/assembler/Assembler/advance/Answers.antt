@@ -1,15 +1,15 @@
 use Rattle.std.proofs.Common.{◌≡◌, ◌+◌, ◌≤◌, sym, subst, arith, Some}
 use Rattle.std.specs.Prelude.{slice_get}
 use Rattle.grain_assembly.specs.Assembled.{kept}
-use Rattle.grain_assembly.specs.Sound.{Kept}
-use Rattle.grain_assembly.specs.Written.{Written, spot, without_iterator}
+use Rattle.grain_assembly.specs.Sound.{Workings}
+use Rattle.grain_assembly.specs.Unfinished.{Unfinished, spot, level_without_iterator}
 use Rattle.grain_assembly.proofs.Frames.{advance}
 use Rattle.grain_assembly.proofs.assembler.Assembler.advance.Goals as goal
 
 pub invariant_of-self-2 : goal.invariant_of-self-2
 invariant_of-self-2 c =
-    let k : Kept = kept c.self.inside in
-    let room : k.level.floor ≤ k.operands = subst (λ (w : Written). w.level.floor ≤ w.operands) (sym c.self.view_is) c.requires.room in
-    let one : k.level.least + 1 ≤ k.level.iterators = subst (λ (w : Written). w.level.least + 1 ≤ w.level.iterators) (sym c.self.view_is) c.requires.one in
-    let there : slice_get k.labels c.args.exit ≡ Some (spot k.operands (without_iterator k.level)) = subst (λ (w : Written). slice_get w.labels c.args.exit ≡ Some (spot w.operands (without_iterator w.level))) (sym c.self.view_is) c.requires.there in
+    let k : Workings = kept c.self.inside in
+    let room : k.level.floor ≤ k.operands = subst (λ (w : Unfinished). w.level.floor ≤ w.operands) (sym c.self.view_is) c.requires.room in
+    let one : k.level.least + 1 ≤ k.level.iterators = subst (λ (w : Unfinished). w.level.least + 1 ≤ w.level.iterators) (sym c.self.view_is) c.requires.one in
+    let there : slice_get k.labels c.args.exit ≡ Some (spot k.operands (level_without_iterator k.level)) = subst (λ (w : Unfinished). slice_get w.labels c.args.exit ≡ Some (spot w.operands (level_without_iterator w.level))) (sym c.self.view_is) c.requires.there in
     rw c.in_ok-push-2.ensures.items (advance k c.self.invariant c.args.exit c.args.counter_slot room one there (omega arith))

@@ -1,8 +1,8 @@
 use Rattle.std.proofs.Common.{◌≡◌, ◌+◌, ◌-◌, ◌≤◌, length, sym, subst, arith, rules}
 use Rattle.grain_pools.specs.Chain.{consumed}
 use Rattle.grain_assembly.specs.Assembled.{kept}
-use Rattle.grain_assembly.specs.Sound.{Kept}
-use Rattle.grain_assembly.specs.Written.{Written}
+use Rattle.grain_assembly.specs.Sound.{Workings}
+use Rattle.grain_assembly.specs.Unfinished.{Unfinished}
 use Rattle.grain_assembly.proofs.Marks.{one_chain}
 use Rattle.grain_assembly.proofs.Frames.{chained_new}
 use Rattle.grain_assembly.proofs.assembler.Assembler.chain.Goals as goal
@@ -14,8 +14,8 @@ invariant_of-self-in_err-push-3 c =
 
 pub invariant_of-self-2 : goal.invariant_of-self-2
 invariant_of-self-2 c =
-    let k : Kept = kept c.self.inside in
-    let room : k.level.floor + consumed c.args.chain ≤ k.operands = subst (λ (w : Written). w.level.floor + consumed c.args.chain ≤ w.operands) (sym c.self.view_is) c.requires in
+    let k : Workings = kept c.self.inside in
+    let room : k.level.floor + consumed c.args.chain ≤ k.operands = subst (λ (w : Unfinished). w.level.floor + consumed c.args.chain ≤ w.operands) (sym c.self.view_is) c.requires in
     let first : c.from-index.result ≡ length c.self.inside.chains.items = search rules in
     let few : k.operands - consumed c.args.chain + 1 ≤ 65535 = let e = c.consumes-takes.ensures.value in omega arith in
     rw (c.in_ok-push-3.ensures.items, c.in_ok-push-2.ensures.items, c.consumes-takes.ensures.value) (chained_new k c.self.invariant c.from-index.result c.args.chain first room few)

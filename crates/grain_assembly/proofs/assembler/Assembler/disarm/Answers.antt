@@ -1,17 +1,17 @@
 use Rattle.std.proofs.Common.{◌≡◌, ◌≤◌, length, sym, subst}
 use Rattle.grain_rules.specs.Counts.{without_last}
 use Rattle.grain_assembly.specs.Assembled.{kept}
-use Rattle.grain_assembly.specs.Sound.{IsBased, Kept}
-use Rattle.grain_assembly.specs.Written.{Level, Written}
+use Rattle.grain_assembly.specs.Sound.{IsBased, Workings}
+use Rattle.grain_assembly.specs.Unfinished.{Level, Unfinished}
 use Rattle.grain_assembly.proofs.Frames.{disarm}
 use Rattle.grain_assembly.proofs.assembler.Assembler.disarm.Goals as goal
 
 pub invariant_of-self-2 : goal.invariant_of-self-2
 invariant_of-self-2 c =
-    let k : Kept = kept c.self.inside in
-    let armed : 1 ≤ length k.level.bases = subst (λ (w : Written). 1 ≤ length w.level.bases) (sym c.self.view_is) c.requires.armed in
-    let bases : c.args.outer.bases ≡ without_last k.level.bases = subst (λ (w : Written). c.args.outer.bases ≡ without_last w.level.bases) (sym c.self.view_is) c.requires.bases in
-    let iterators : c.args.outer.iterators ≡ k.level.iterators = subst (λ (w : Written). c.args.outer.iterators ≡ w.level.iterators) (sym c.self.view_is) c.requires.iterators in
-    let home : c.args.outer.home ≡ k.level.home = subst (λ (w : Written). c.args.outer.home ≡ w.level.home) (sym c.self.view_is) c.requires.home in
+    let k : Workings = kept c.self.inside in
+    let armed : 1 ≤ length k.level.bases = subst (λ (w : Unfinished). 1 ≤ length w.level.bases) (sym c.self.view_is) c.requires.armed in
+    let bases : c.args.outer.bases ≡ without_last k.level.bases = subst (λ (w : Unfinished). c.args.outer.bases ≡ without_last w.level.bases) (sym c.self.view_is) c.requires.bases in
+    let iterators : c.args.outer.iterators ≡ k.level.iterators = subst (λ (w : Unfinished). c.args.outer.iterators ≡ w.level.iterators) (sym c.self.view_is) c.requires.iterators in
+    let home : c.args.outer.home ≡ k.level.home = subst (λ (w : Unfinished). c.args.outer.home ≡ w.level.home) (sym c.self.view_is) c.requires.home in
     let based : IsBased c.args.outer = subst (λ (l : Level). IsBased l) c.outer.view_is c.outer.invariant in
     rw c.in_ok-push-2.ensures.items (disarm k c.self.invariant c.args.outer armed bases iterators home based)

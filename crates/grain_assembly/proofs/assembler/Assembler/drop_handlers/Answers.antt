@@ -1,5 +1,5 @@
 use Rattle.std.proofs.Common.{ap, rules, ◌∙◌}
-use Rattle.grain_assembly.specs.Written.{Level, without_handlers}
+use Rattle.grain_assembly.specs.Unfinished.{Level, level_without_handlers}
 use Rattle.grain_assembly.proofs.Bases.{without_one_more}
 use Rattle.grain_assembly.proofs.assembler.Assembler.drop_handlers.Goals as goal
 
@@ -8,7 +8,7 @@ handlers-preserved c = record {
   operands = search rules;
   level =
       c.in_ok-drop_handler.ensures.level
-      ∙ ap (λ (l : Level). without_handlers 1 l) c.handlers.invariant.level
+      ∙ ap (λ (l : Level). level_without_handlers 1 l) c.handlers.invariant.level
       ∙ without_one_more c.handlers._turn c.args.self.now.level;
   labels = search rules;
 }

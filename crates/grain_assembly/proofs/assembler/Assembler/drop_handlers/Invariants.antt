@@ -1,10 +1,10 @@
 use Rattle.std.proofs.Common.{◌≡◌}
-use Rattle.grain_assembly.specs.Written.{SameLabels, without_handlers}
+use Rattle.grain_assembly.specs.Unfinished.{SameLabels, level_without_handlers}
 use Rattle.grain_assembly.proofs.assembler.Assembler.drop_handlers.Given as goal
 
 abbrev pub invariant-handlers : goal.invariant-handlers
 invariant-handlers l = record {
   operands : l.self.operands ≡ l.fn.self.operands;
-  level : l.self.level ≡ without_handlers l._turn l.fn.self.level;
+  level : l.self.level ≡ level_without_handlers l._turn l.fn.self.level;
   labels : SameLabels l.fn.self l.self;
 }

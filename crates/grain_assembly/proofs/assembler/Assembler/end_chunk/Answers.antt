@@ -1,14 +1,14 @@
 use Rattle.std.proofs.Common.{◌≡◌, false, length, sym, subst, rules, ◌∙◌}
 use Rattle.grain_assembly.specs.Assembled.{kept}
-use Rattle.grain_assembly.specs.Sound.{Kept}
-use Rattle.grain_assembly.specs.Written.{Written}
+use Rattle.grain_assembly.specs.Sound.{Workings}
+use Rattle.grain_assembly.specs.Unfinished.{Unfinished}
 use Rattle.grain_assembly.proofs.Marks.{one_chunk}
 use Rattle.grain_assembly.proofs.assembler.Assembler.end_chunk.Goals as goal
 
 pub invariant_of-self-2 : goal.invariant_of-self-2
 invariant_of-self-2 c =
-    let k : Kept = kept c.self.inside in
-    let loose : k.fixed ≡ false = subst (λ (w : Written). w.fixed ≡ false) (sym c.self.view_is) c.requires.loose in
+    let k : Workings = kept c.self.inside in
+    let loose : k.fixed ≡ false = subst (λ (w : Unfinished). w.fixed ≡ false) (sym c.self.view_is) c.requires.loose in
     let entry : c.in-Ok.entry ≡ k.level.home = search rules in
     let end : c.in-Ok-try_from.end ≡ length k.ops = search rules in
     let next : c.len-next.result ≡ length k.ops = search rules in

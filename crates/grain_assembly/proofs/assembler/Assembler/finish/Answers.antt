@@ -5,25 +5,25 @@ use Rattle.grain_rules.specs.ByIndex.{IsCut, LeadWithin, code_by_index}
 use Rattle.std.specs.List.{All}
 use Rattle.grain_code.specs.Span.{Span}
 use Rattle.grain_rules.specs.Typing.{HasTyping}
-use Rattle.grain_assembly.specs.Assembled.{kept, place_of, targets_of}
+use Rattle.grain_assembly.specs.Assembled.{kept, label_place, targets_of}
 use Rattle.grain_assembly.specs.Finished.{AreTypedCuts, LeadAmong}
 use Rattle.grain_assembly.specs.declared.assembler.Label.{Label}
 use Rattle.grain_assembly.specs.declared.assembler.Targets.{Targets}
 use Rattle.grain_assembly.specs.Resolved.{resolved, resolved_tables}
-use Rattle.grain_assembly.specs.Sound.{Kept}
-use Rattle.grain_assembly.specs.Written.{Written}
+use Rattle.grain_assembly.specs.Sound.{Workings}
+use Rattle.grain_assembly.specs.Unfinished.{Unfinished}
 use Rattle.grain_assembly.proofs.Typings.{are_cuts, lead_within, typed}
 use Rattle.grain_assembly.proofs.assembler.Assembler.finish.Goals as goal
 use Rattle.grain_assembly.proofs.assembler.Assembler.finish.Goals.{After-drop-self-inside-5}
 
-abbrev k : After-drop-self-inside-5 → Kept
+abbrev k : After-drop-self-inside-5 → Workings
 k c = kept c.self.inside
 
 closed : (c : After-drop-self-inside-5) → (k c).pending ≡ 0
-closed c = subst (λ (w : Written). w.pending ≡ 0) (sym c.self.view_is) c.requires.closed
+closed c = subst (λ (w : Unfinished). w.pending ≡ 0) (sym c.self.view_is) c.requires.closed
 
 places : (c : After-drop-self-inside-5) → c.in_ok-targets.targets.items ≡ (k c).places
-places c = c.in_ok-targets.ensures ∙ ap (λ (ls : List Label). map place_of ls) c.deref.ensures.value
+places c = c.in_ok-targets.ensures ∙ ap (λ (ls : List Label). map label_place ls) c.deref.ensures.value
 
 listed : (c : After-drop-self-inside-5) → c.in_ok-ops.ops.items ≡ map (resolved (k c).places) (k c).ops
 listed c = c.in_ok-ops.ensures ∙ (ap (λ (ps : List ℕ). map (resolved ps) c.deref-4.result.now) (c.deref-5.ensures.value ∙ places c) ∙ ap (λ (xs : List Op). map (resolved (k c).places) xs) c.deref-4.ensures.value)
@@ -40,7 +40,7 @@ returns c = record {
       subst (λ (xs : List Op). HasTyping (code_by_index s xs leads) cut cut.max_stack) (sym (listed c))
       (typed (k c) c.self.invariant (closed c) s leads chains allowed (subst (LeadAmong leads) (tables c) among) cut (c.self.invariant.cuts j cut e).0);
   cuts = subst (λ (n : ℕ). All (IsCut n) (k c).cuts) (sym (many c)) (are_cuts (k c) c.self.invariant (closed c));
-  some = c.self.invariant.ended (subst (λ (w : Written). 1 ≤ w.level.home) (sym c.self.view_is) c.requires.ended);
+  some = c.self.invariant.ended (subst (λ (w : Unfinished). 1 ≤ w.level.home) (sym c.self.view_is) c.requires.ended);
   leads =
       subst (λ (n : ℕ). LeadWithin n (map targets_of c.in_ok-tables.tables.items)) (sym (many c))
       (subst (LeadWithin (length (k c).ops)) (sym (tables c)) (lead_within (k c) c.self.invariant (closed c)));

@@ -1,18 +1,18 @@
 use Rattle.std.proofs.Common.{◌≡◌, ◌+◌, ◌-◌, ◌≤◌, sym, refl, subst, arith, Some}
 use Rattle.std.specs.Prelude.{slice_get}
 use Rattle.grain_assembly.specs.Assembled.{kept}
-use Rattle.grain_assembly.specs.Sound.{Kept}
-use Rattle.grain_assembly.specs.Written.{Written, spot}
+use Rattle.grain_assembly.specs.Sound.{Workings}
+use Rattle.grain_assembly.specs.Unfinished.{Unfinished, spot}
 use Rattle.grain_code.specs.declared.op.Op.TheVariants as ops
 use Rattle.grain_assembly.proofs.Plain.{put_jump}
 use Rattle.grain_assembly.proofs.assembler.Assembler.jump.Goals as goal
 
 pub invariant_of-self-2 : goal.invariant_of-self-2
 invariant_of-self-2 c =
-    let k : Kept = kept c.self.inside in
-    let room : k.level.floor + 0 ≤ k.operands = let r : k.level.floor ≤ k.operands = subst (λ (w : Written). w.level.floor ≤ w.operands) (sym c.self.view_is) c.requires.room in omega arith in
+    let k : Workings = kept c.self.inside in
+    let room : k.level.floor + 0 ≤ k.operands = let r : k.level.floor ≤ k.operands = subst (λ (w : Unfinished). w.level.floor ≤ w.operands) (sym c.self.view_is) c.requires.room in omega arith in
     let few : c.self.inside.operands ≤ 65535 = c.self.invariant.room in
     let zero : k.operands - 0 + 0 ≡ k.operands = omega arith in
-    let there : slice_get k.labels c.args.label ≡ Some (spot k.operands k.level) = subst (λ (w : Written). slice_get w.labels c.args.label ≡ Some (spot w.operands w.level)) (sym c.self.view_is) c.requires.there in
+    let there : slice_get k.labels c.args.label ≡ Some (spot k.operands k.level) = subst (λ (w : Unfinished). slice_get w.labels c.args.label ≡ Some (spot w.operands w.level)) (sym c.self.view_is) c.requires.there in
     rw c.in_ok-push-2.ensures.items
     (put_jump k c.self.invariant (ops.Jump c.args.label) 0 0 (record { needs_some = λ s h. omega arith; takes_some = λ s h. refl; gives_some = λ s h. refl }) c.args.label refl room (subst (λ n. slice_get k.labels c.args.label ≡ Some (spot n k.level)) (sym zero) there) c.args.left (omega arith))

@@ -1,16 +1,16 @@
 use Rattle.std.proofs.Common.{◌+◌, ◌≤◌, inl, sym, subst, arith}
 use Rattle.grain_assembly.specs.Assembled.{kept}
 use Rattle.grain_assembly.specs.Fitting.{HasEffect}
-use Rattle.grain_assembly.specs.Sound.{Kept}
-use Rattle.grain_assembly.specs.Written.{Written}
+use Rattle.grain_assembly.specs.Sound.{Workings}
+use Rattle.grain_assembly.specs.Unfinished.{Unfinished}
 use Rattle.grain_assembly.proofs.Plain.{put_plain}
 use Rattle.grain_assembly.proofs.assembler.Assembler.put.Goals as goal
 
 pub invariant_of-self-2 : goal.invariant_of-self-2
 invariant_of-self-2 c =
-    let k : Kept = kept c.self.inside in
-    let does : HasEffect c.args.op k.operands c.args.takes c.args.gives = subst (λ (w : Written). HasEffect c.args.op w.operands c.args.takes c.args.gives) (sym c.self.view_is) c.requires.does in
-    let room : k.level.floor + c.args.takes ≤ k.operands = subst (λ (w : Written). w.level.floor + c.args.takes ≤ w.operands) (sym c.self.view_is) c.requires.room in
+    let k : Workings = kept c.self.inside in
+    let does : HasEffect c.args.op k.operands c.args.takes c.args.gives = subst (λ (w : Unfinished). HasEffect c.args.op w.operands c.args.takes c.args.gives) (sym c.self.view_is) c.requires.does in
+    let room : k.level.floor + c.args.takes ≤ k.operands = subst (λ (w : Unfinished). w.level.floor + c.args.takes ≤ w.operands) (sym c.self.view_is) c.requires.room in
     let few : c.self.inside.operands ≤ 65535 = c.self.invariant.room in
     rw c.in_ok-push-2.ensures.items
     (put_plain k c.self.invariant c.args.op c.args.takes c.args.gives (record { needs_some = λ s h. (does s).0; takes_some = λ s h. (does s).1; gives_some = λ s h. (does s).2 }) c.requires.falls (inl room) (omega arith))

@@ -3,8 +3,8 @@ use Rattle.std.specs.Prelude.{slice_get}
 use Rattle.std.specs.List.{Contains}
 use Rattle.std.proofs.lemmas.List.{length-map, map-append}
 use Rattle.grain_assembly.specs.Assembled.{kept, targets_of}
-use Rattle.grain_assembly.specs.Sound.{Kept}
-use Rattle.grain_assembly.specs.Written.{Written, spot}
+use Rattle.grain_assembly.specs.Sound.{Workings}
+use Rattle.grain_assembly.specs.Unfinished.{Unfinished, spot}
 use Rattle.grain_assembly.proofs.Marks.{one_table}
 use Rattle.grain_assembly.proofs.Frames.{switched_new}
 use Rattle.grain_assembly.proofs.assembler.Assembler.switch.Goals as goal
@@ -16,9 +16,9 @@ invariant_of-self-in_err-push-3 c =
 
 pub invariant_of-self-2 : goal.invariant_of-self-2
 invariant_of-self-2 c =
-    let k : Kept = kept c.self.inside in
-    let room : k.level.floor + 1 ≤ k.operands = subst (λ (w : Written). w.level.floor + 1 ≤ w.operands) (sym c.self.view_is) c.requires.room in
-    let there : (l : ℕ) → Contains (targets_of c.args.targets) l → slice_get k.labels l ≡ Some (spot k.operands k.level) = subst (λ (w : Written). (l : ℕ) → Contains (targets_of c.args.targets) l → slice_get w.labels l ≡ Some (spot w.operands w.level)) (sym c.self.view_is) c.requires.there in
+    let k : Workings = kept c.self.inside in
+    let room : k.level.floor + 1 ≤ k.operands = subst (λ (w : Unfinished). w.level.floor + 1 ≤ w.operands) (sym c.self.view_is) c.requires.room in
+    let there : (l : ℕ) → Contains (targets_of c.args.targets) l → slice_get k.labels l ≡ Some (spot k.operands k.level) = subst (λ (w : Unfinished). (l : ℕ) → Contains (targets_of c.args.targets) l → slice_get w.labels l ≡ Some (spot w.operands w.level)) (sym c.self.view_is) c.requires.there in
     let many = length-map c.self.inside.tables.items targets_of in
     let first : c.from-index.result ≡ length c.self.inside.tables.items = search rules in
     rw (c.in_ok-push-3.ensures.items, c.in_ok-push-2.ensures.items, map-append) (switched_new k c.self.invariant c.from-index.result (targets_of c.args.targets) (first ∙ sym many) room there)

@@ -1,10 +1,10 @@
 use Rattle.std.proofs.Common.{◌≡◌}
-use Rattle.grain_emit.specs.Switches.{LeadWithin}
+use Rattle.grain_emit.specs.Switches.{LeadToArms}
 use Rattle.grain_emit.proofs.emitter.Emitter.add_values.Given as goal
 
 abbrev pub invariant-loop-case : goal.invariant-loop-case
 invariant-loop-case l = record {
-  within : LeadWithin l.labels l.draft.targets;
+  within : LeadToArms l.labels l.draft.targets;
   code : l.self.code ≡ l.fn.self.code;
   scope : l.self.scope ≡ l.fn.self.scope;
 }

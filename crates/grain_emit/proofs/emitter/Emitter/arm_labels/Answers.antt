@@ -1,5 +1,5 @@
 use Rattle.std.proofs.Common.{◌≡◌, ◌∙◌, ℕ, ◌+◌, ◌≤◌, ◌<◌, Some, ap, arith, sym}
-use Rattle.grain_assembly.specs.Written.{Level, Spot, spot}
+use Rattle.grain_assembly.specs.Unfinished.{Level, Spot, spot}
 use Rattle.grain_emit.proofs.ArmLabels.{one_more}
 use Rattle.grain_emit.proofs.emitter.Emitter.arm_labels.Goals as goal
 

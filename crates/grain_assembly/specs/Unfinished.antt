@@ -20,7 +20,7 @@ pub record Spot : Type 0 where
 
 -- The operands and what surrounds them; what is found at each label, and which labels were open when it was made; the
 -- labels that are open, as one more than the last of them; and whether what the next operation finds is settled.
-pub record Written : Type 0 where
+pub record Unfinished : Type 0 where
   pub operands : ℕ
   pub level : Level
   pub labels : List Spot
@@ -33,24 +33,15 @@ abbrev pub spot : ℕ → Level → Spot
 spot n l = record { operands = n; iterators = l.iterators; bases = l.bases; home = l.home }
 
 -- each entry stays where it is
-abbrev pub Keeps : {A : Type 0} → List A → List A → Type 0
-Keeps {A} xs ys = (i : ℕ) (x : A) → slice_get xs i ≡ Some x → slice_get ys i ≡ Some x
+abbrev pub Extends : {A : Type 0} → List A → List A → Type 0
+Extends {A} xs ys = (i : ℕ) (x : A) → slice_get xs i ≡ Some x → slice_get ys i ≡ Some x
 
 -- this many operands, all else as it was
-pub record Leaves (old new : Written) (n : ℕ) : Type 0 where
+pub record LeavesOperands (old new : Unfinished) (n : ℕ) : Type 0 where
   pub operands : new.operands ≡ n
   pub level : new.level ≡ old.level
   pub labels : new.labels ≡ old.labels
   pub outers : new.outers ≡ old.outers
-  pub pending : new.pending ≡ old.pending
-
--- Code was written that gives this many operands: what surrounds it is as it was, and so are the labels that were there and
--- those that are open.
-pub record Gives (old new : Written) (n : ℕ) : Type 0 where
-  pub operands : new.operands ≡ old.operands + n
-  pub level : new.level ≡ old.level
-  pub labels : Keeps old.labels new.labels
-  pub outers : Keeps old.outers new.outers
   pub pending : new.pending ≡ old.pending
 
 -- what surrounds the first operation of a chunk that begins there
@@ -58,15 +49,15 @@ abbrev pub fresh : ℕ → Level
 fresh home = record { floor = 0; least = 0; iterators = 0; bases = []; home = home }
 
 -- a level with one more iterator; those that are there already stay
-abbrev pub with_iterator : Level → Level
-with_iterator l = record l { least = l.iterators; iterators = l.iterators + 1 }
+abbrev pub level_with_iterator : Level → Level
+level_with_iterator l = record l { least = l.iterators; iterators = l.iterators + 1 }
 
-abbrev pub without_iterator : Level → Level
-without_iterator l = record l { iterators = l.iterators - 1 }
+abbrev pub level_without_iterator : Level → Level
+level_without_iterator l = record l { iterators = l.iterators - 1 }
 
 -- a level with one more handler, which stands on this many operands and on what iterators there are
-abbrev pub with_handler : ℕ → Level → Level
-with_handler n l = record l { floor = n; least = l.iterators; bases = record { operands = n; iterators = l.iterators } ∷ l.bases }
+abbrev pub level_with_handler : ℕ → Level → Level
+level_with_handler n l = record l { floor = n; least = l.iterators; bases = record { operands = n; iterators = l.iterators } ∷ l.bases }
 
 -- a level all of whose operands have to stay, of which there are this many
 abbrev pub guarded : ℕ → Level → Level
@@ -77,8 +68,8 @@ abbrev pub based_on : List Base → Level → Level
 based_on bases l = record l { floor = (last_base bases).operands; least = (last_base bases).iterators; bases = bases }
 
 -- a level without this many handlers, the last first
-abbrev pub without_handlers : ℕ → Level → Level
-without_handlers n l = based_on (drop n l.bases) l
+abbrev pub level_without_handlers : ℕ → Level → Level
+level_without_handlers n l = based_on (drop n l.bases) l
 
 -- two levels that differ at most in what has to stay
 pub record IsSameButFloor (one other : Level) : Type 0 where
@@ -87,7 +78,7 @@ pub record IsSameButFloor (one other : Level) : Type 0 where
   pub home : one.home ≡ other.home
 
 -- all labels are as they were, those that are open too
-pub record SameLabels (old new : Written) : Type 0 where
+pub record SameLabels (old new : Unfinished) : Type 0 where
   pub labels : new.labels ≡ old.labels
   pub outers : new.outers ≡ old.outers
   pub pending : new.pending ≡ old.pending
