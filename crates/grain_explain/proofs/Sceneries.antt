@@ -9,14 +9,11 @@ use Rattle.std.proofs.lemmas.Bool.Decides.{nat_tests}
 use Rattle.std.proofs.lemmas.List.{get_or_default, get_or_past}
 use Rattle.std.proofs.lemmas.Option.{none-some, same_Some}
 use Rattle.grain_code.specs.InstructionTable.{width_of}
-use Rattle.grain_code.specs.Split.{Split}
 use Rattle.grain_code.specs.declared.op.Op.{Op}
-use Rattle.grain_code.proofs.Splits.{one_split}
 use Rattle.grain_rules.specs.Code.{coded}
 use Rattle.grain_rules.specs.Counts.{Counts}
 use Rattle.grain_rules.specs.Effects.{Edge}
 use Rattle.grain_rules.specs.FlowFields.{falls_for, targets_for}
-use Rattle.grain_rules.specs.Layout.{IsStart}
 use Rattle.grain_rules.specs.Typing.{IsInChunk, Reached, StandsIn, begin, onward}
 use Rattle.grain_rules.proofs.CountGrowth.{edge_small}
 use Rattle.grain_rules.proofs.Splits.{boundary_apart, next_start}
@@ -31,13 +28,6 @@ use Rattle.grain_explain.specs.declared.row.Row.{Row}
 use Rattle.grain_explain.specs.declared.walk.Departure.{Departure}
 use Rattle.grain_explain.proofs.EdgeMatches.{falling_known, jumping_known}
 use Rattle.grain_explain.proofs.StepsBack.{bounded_more, leads_more, stays_set, visit_more}
-
--- a start is one of the starts, and each of these is one
-pub start_listed : (code starts : List ℕ) (at : ℕ) → Split code starts → IsStart code at → Contains starts at
-start_listed code starts at split s = subst (λ (xs : List ℕ). Contains xs at) (one_split code s.starts starts s.split split) s.here
-
-pub listed_start : (code starts : List ℕ) (at : ℕ) → Split code starts → Contains starts at → IsStart code at
-listed_start code starts at split h = record { starts = starts; split = split; here = h }
 
 -- there is a place for each address of the chunk
 pub place_within : (s : Seen) (slots : List (Option Arrival)) (at entry : ℕ) → entry ≡ s.chunk.entry → length slots ≡ s.chunk.end - s.chunk.entry → IsInChunk (coded s.code) s.chunk at → at - entry < length slots

@@ -9,7 +9,7 @@ use Rattle.grain_rules.specs.Capabilities.{Allows}
 use Rattle.grain_rules.specs.Code.{Bytecode, coded}
 use Rattle.grain_rules.specs.Counts.{Counts, nothing}
 use Rattle.grain_rules.specs.Effects.{Edge, Meets, falls_through, handlers_needed, iterators_needed, targets}
-use Rattle.grain_rules.specs.Flaw.{ChunkFlaw, IsBadBound}
+use Rattle.grain_rules.specs.Flaw.{ChunkFlaw, IsFrameFlaw}
 use Rattle.grain_rules.specs.Layout.{IsStart}
 use Rattle.grain_rules.specs.Rows.{caps_of, needs}
 use Rattle.grain_rules.specs.Sinking.{Sinks}
@@ -90,12 +90,6 @@ Shows code chunk x (flaws.SinksBelowHandler at need have) =
     (at ≡ x.0) × ((op : Op) × StandsIn (coded code) chunk x.0 op × Allows code.setting.caps (caps_of code.setting op) × Meets code.setting op x.1 × Sinks code.setting op x.1 need have)
 Shows code chunk x (flaws.BadIndex at what index) = ⊥
 Shows code chunk x flaws.OutOfMemory = ⊥
-
--- what is wrong with the chunk's own frame, to which no way leads
-pub data IsFrameFlaw (code : Bytecode) (chunk : Span) : VerifyError → Type 0 where
-  outside : {entry end len : ℕ} → (length code.bytes < chunk.end) ⊎ (chunk.end < chunk.entry) → IsFrameFlaw code chunk (flaws.ChunkOutOfRange entry end len)
-  no_bound : {at target : ℕ} → IsBadBound code chunk target → IsFrameFlaw code chunk (flaws.JumpIntoAnInstruction at target)
-  is_empty : chunk.entry ≡ chunk.end → IsFrameFlaw code chunk flaws.FallsOffTheEnd
 
 -- The ways that a refusal has show its flaw: the frame's has none, a conflict has two to one address, with unlike counts, and
 -- each other has one, at whose end a state shows it.

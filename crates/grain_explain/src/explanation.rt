@@ -2,13 +2,12 @@
 ghost use Rattle.std.specs.Prelude.{◌≡◌, ◌≤◌, ◌⊎◌, ⊤, [], None, replicate};
 ghost use Rattle.std.specs.Prelude.{IfOk, IfSome, MatchOption};
 ghost use Rattle.std.specs.List.{All, AllZip};
-ghost use Rattle.grain_rules.specs.Flaw.{ChunkFlaw};
+ghost use Rattle.grain_rules.specs.Flaw.{ChunkFlaw, IsFrameFlaw};
 ghost use Rattle.grain_explain.specs.Explaining.{IsExplained, IsOrigin, IsReachedRow, IsTypedBy};
 ghost use Rattle.grain_explain.specs.Scenes.{AreHeld, IsReadyScene, first_arrival};
 ghost use Rattle.grain_explain.specs.Scenes.{IsSearching, IsStarted, seen};
 ghost use Rattle.grain_explain.specs.Pursuits.{ArePursued, HasRows, WasVisited, IsRefusalShown, IsNextArrival, IsRowIn};
 ghost use Rattle.grain_explain.specs.RowView.{AreAscending, AreLinked};
-ghost use Rattle.grain_explain.specs.Ways.{IsFrameFlaw};
 ghost use Rattle.grain_explain.specs.declared.arrival.Arrival.{Arrival};
 
 use crate::arrival::Arrival;

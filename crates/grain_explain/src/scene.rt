@@ -2,15 +2,14 @@
 ghost use Rattle.std.specs.Prelude.{◌<◌, ◌↔◌, IfErr, IsTrue, OnOk};
 ghost use Rattle.grain_rules.specs.Accepted.{IsFramed};
 ghost use Rattle.grain_rules.specs.Code.{coded};
-ghost use Rattle.grain_rules.specs.Flaw.{ChunkFlaw};
-ghost use Rattle.grain_rules.specs.Layout.{IsBoundary, IsStart};
+ghost use Rattle.grain_rules.specs.Flaw.{ChunkFlaw, IsFrameFlaw};
+ghost use Rattle.grain_rules.specs.Layout.{IsStart};
 ghost use Rattle.grain_rules.specs.Typing.{IsInChunk};
 ghost use Rattle.grain_explain.specs.Scenes.{IsStarted, MissesTarget, seen};
-ghost use Rattle.grain_explain.specs.Ways.{IsFrameFlaw};
 
 use grain_base::Caps;
 use grain_code::{Chunk, Starts};
-use grain_rules::{Read, VerifyError};
+use grain_rules::{Read, VerifyError, check_frame};
 use std::alloc::Global;
 
 /// A chunk in its code and its setting, with the starts of the code.
@@ -33,19 +32,11 @@ impl<P: Read> Scene<'_, P> {
         self.starts.contains(at)
     }
 
-    /// Whether an instruction begins at an address, or the code ends there.
-    fn is_boundary(&self, at: usize) -> bool
-        requires { IsStarted (seen P.facts P.leads self.now) }
-        ensures { IsTrue result ↔ IsBoundary self.now.code.now at }
-    {
-        at == self.code.len() || self.is_start(at)
-    }
-
-    /// Whether the chunk lies in the code and begins and ends where instructions do.
+    /// How many instructions are before the chunk's entry, where the chunk lies in the code as it has to.
     ///
     /// # Errors
-    /// `ChunkOutOfRange`; `FallsOffTheEnd` where it is empty; `JumpIntoAnInstruction` to its entry or its end.
-    pub(crate) fn check_frame(&self) -> Result<(), VerifyError>
+    /// Those of [`check_frame`].
+    pub(crate) fn check_frame(&self) -> Result<usize, VerifyError>
         requires { IsStarted (seen P.facts P.leads self.now) }
         ensures framed { OnOk result (IsFramed (seen P.facts P.leads self.now).code
             self.now.chunk.now) }
@@ -54,33 +45,7 @@ impl<P: Read> Scene<'_, P> {
             self.now.chunk.now e
             × IsFrameFlaw (seen P.facts P.leads self.now).code self.now.chunk.now e) }
     {
-        let chunk = self.chunk;
-        let entry = chunk.entry() as usize;
-        let end = chunk.end() as usize;
-        let len = self.code.len();
-        if end > len || entry > end {
-            return Err(VerifyError::ChunkOutOfRange {
-                entry: chunk.entry(),
-                end: chunk.end(),
-                len,
-            });
-        }
-        if entry == end {
-            return Err(VerifyError::FallsOffTheEnd);
-        }
-        if !self.is_start(entry) {
-            return Err(VerifyError::JumpIntoAnInstruction {
-                at: entry,
-                target: chunk.entry(),
-            });
-        }
-        if !self.is_boundary(end) {
-            return Err(VerifyError::JumpIntoAnInstruction {
-                at: entry,
-                target: chunk.end(),
-            });
-        }
-        Ok(())
+        check_frame(self.code, self.starts, self.chunk)
     }
 
     /// Tests that a target of the instruction at an address is a start of the chunk.

@@ -5,7 +5,7 @@ use Rattle.std.specs.List.{Contains}
 use Rattle.std.proofs.lemmas.List.{length-map}
 use Rattle.std.proofs.lemmas.List.Elements.{Contains-append_right}
 use Rattle.std.specs.Option.{unwrap_or}
-use Rattle.std.proofs.lemmas.Option.{none-some, slice_get-map, slice_get_within, unwrap_or-slice_get}
+use Rattle.std.proofs.lemmas.Option.{none-some, slice_get-map, slice_get_read, slice_get_within, unwrap_or-slice_get}
 use Rattle.grain_rules.specs.Capabilities.{name_caps}
 use Rattle.grain_pools.specs.Names.{first_flaw, names_in}
 use Rattle.grain_pools.proofs.Tables.{length-starts_of, table_of}
@@ -44,6 +44,11 @@ pub arms_begun : (p : CPools) (steps : List ℕ) (arms : List ArmsBegin) → Are
 arms_begun p steps arms t i row there =
     let inside = slice_get_within p.switches.now i row there in
     omega (arith, inside, length-map arms (λ (b : ArmsBegin). b.cases), ap length t.cases_are, begins_long cases_in 0 p.switches.now)
+
+-- what is read of the beginnings is that of the switch
+arms_at : (p : CPools) (steps : List ℕ) (arms : List ArmsBegin) → AreTables p steps arms → (i : ℕ) (row : CSwitch) (from : ArmsBegin) → slice_get p.switches.now i ≡ Some row → from ≡ get_or arms i from
+    → slice_get arms i ≡ Some from
+arms_at p steps arms t i row from there at = slice_get_read arms (length arms) i from refl (arms_begun p steps arms t i row there) at
 
 -- the steps of a chain
 pub steps_there : (p : CPools) (steps : List ℕ) (arms : List ArmsBegin) → AreTables p steps arms → (i : ℕ) (row : CChain) (from : ℕ) → slice_get p.chains.now i ≡ Some row → slice_get steps i ≡ Some from
@@ -84,21 +89,21 @@ chains_long rows steps =
     length-map (zip rows (parts steps_in rows steps)) (λ (c : CChain × List CStep). chain_by_rows c.0 c.1) ∙ pairs_long rows (parts steps_in rows steps) (parts_long steps_in rows steps)
 
 -- the cases and the ranges of a switch
-pub cases_there : (p : CPools) (steps : List ℕ) (arms : List ArmsBegin) → AreTables p steps arms → (i : ℕ) (row : CSwitch) (from : ArmsBegin) → slice_get p.switches.now i ≡ Some row → slice_get arms i ≡ Some from
+pub cases_there : (p : CPools) (steps : List ℕ) (arms : List ArmsBegin) → AreTables p steps arms → (i : ℕ) (row : CSwitch) (from : ArmsBegin) → slice_get p.switches.now i ≡ Some row → from ≡ get_or arms i from
     → IsPart p.cases.now (slice_get (parts cases_in p.switches.now p.cases.now) i) from.cases row.cases
 cases_there p steps arms t i row from there at =
     let begun : slice_get (part_begins cases_in 0 p.switches.now) i ≡ Some from.cases =
-    ap (λ ns. slice_get ns i) (sym t.cases_are) ∙ slice_get-map (λ (b : ArmsBegin). b.cases) arms i ∙ ap (option_map (λ (b : ArmsBegin). b.cases)) at
+    ap (λ ns. slice_get ns i) (sym t.cases_are) ∙ slice_get-map (λ (b : ArmsBegin). b.cases) arms i ∙ ap (option_map (λ (b : ArmsBegin). b.cases)) (arms_at p steps arms t i row from there at)
     in record {
       within = part_within cases_in p.cases.now p.switches.now 0 i row from.cases there begun (omega (arith, t.flat.case_counts));
       part_is = part_at cases_in p.cases.now p.switches.now 0 i row from.cases there begun;
     }
 
-pub ranges_there : (p : CPools) (steps : List ℕ) (arms : List ArmsBegin) → AreTables p steps arms → (i : ℕ) (row : CSwitch) (from : ArmsBegin) → slice_get p.switches.now i ≡ Some row → slice_get arms i ≡ Some from
+pub ranges_there : (p : CPools) (steps : List ℕ) (arms : List ArmsBegin) → AreTables p steps arms → (i : ℕ) (row : CSwitch) (from : ArmsBegin) → slice_get p.switches.now i ≡ Some row → from ≡ get_or arms i from
     → IsPart p.ranges.now (slice_get (parts ranges_in p.switches.now p.ranges.now) i) from.ranges row.ranges
 ranges_there p steps arms t i row from there at =
     let begun : slice_get (part_begins ranges_in 0 p.switches.now) i ≡ Some from.ranges =
-    ap (λ ns. slice_get ns i) (sym t.ranges_are) ∙ slice_get-map (λ (b : ArmsBegin). b.ranges) arms i ∙ ap (option_map (λ (b : ArmsBegin). b.ranges)) at
+    ap (λ ns. slice_get ns i) (sym t.ranges_are) ∙ slice_get-map (λ (b : ArmsBegin). b.ranges) arms i ∙ ap (option_map (λ (b : ArmsBegin). b.ranges)) (arms_at p steps arms t i row from there at)
     in record {
       within = part_within ranges_in p.ranges.now p.switches.now 0 i row from.ranges there begun (omega (arith, t.flat.range_counts));
       part_is = part_at ranges_in p.ranges.now p.switches.now 0 i row from.ranges there begun;

@@ -123,7 +123,7 @@ reached_few code chunk n passes h =
     let count = h.count in
     omega arith
 
-all_reached_few : (code : Bytecode) (chunks : List Span) (numbers : List ℕ) → All (ChunkPasses code) chunks → AllZip (IsReachedCount (coded code)) chunks numbers
+pub all_reached_few : (code : Bytecode) (chunks : List Span) (numbers : List ℕ) → All (ChunkPasses code) chunks → AllZip (IsReachedCount (coded code)) chunks numbers
     → sum_by (λ x. x) numbers ≤ work_of code.bytes chunks
 all_reached_few code [] [] passes counts = omega arith
 all_reached_few code [] (n ∷ ns) passes counts = absurd counts

@@ -29,7 +29,7 @@ judged caps bytes chunks p functions chains switches = record {
   chunks = chunks;
 }
 
--- why nothing is accepted, or want of memory
+-- why nothing is accepted, or that memory was refused
 abbrev pub IsStop : ℕ → List ℕ → List Span → CPools → Stop → Type 0
 IsStop caps bytes chunks p stops.OutOfMemory = ⊤
 IsStop caps bytes chunks p (stops.Refused r) = Refuses caps bytes chunks p r.place r.error

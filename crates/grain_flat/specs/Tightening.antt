@@ -10,7 +10,7 @@ use Rattle.grain_flat.specs.declared.records.CPools.{CPools}
 abbrev pub declared : List Span → List ℕ
 declared chunks = map (λ chunk. chunk.max_stack) chunks
 
--- these chunks are those, but for what they declare, which are these numbers
+-- these chunks are those, except that they declare these numbers
 pub record AreDeclaring (old new : List Span) (numbers : List ℕ) : Type 0 where
   pub numbers_are : declared new ≡ numbers
   pub rest : map undeclared_chunk new ≡ map undeclared_chunk old

@@ -3,10 +3,12 @@ pub mod IndexTests
 pub mod ByDepth
 pub mod ChainTests
 pub mod Exact
+pub mod FlowsAlong
 pub mod FourDigits
 pub mod CountGrowth
 pub mod IndexedCode
 pub mod Law
+pub mod ListedStarts
 pub mod Offsets
 pub mod OperationUniqueness
 pub mod PassedBits

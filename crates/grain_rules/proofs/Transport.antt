@@ -2,7 +2,6 @@
 use Rattle.std.proofs.Common.{◌≡◌, ℕ, ◌+◌, ◌-◌, ◌<◌, ◌≤◌, ◌⊎◌, true, false, inl, inr, suc, zero, List, [], ◌∷◌, length, map, get_or, Option, Some, None, refl, sym, ap, subst, ◌∙◌, arith}
 use Rattle.std.specs.Prelude.{slice_get, slice_index}
 use Rattle.std.specs.List.{All, Contains}
-use Rattle.std.proofs.Math.ListN.{get_or-map}
 use Rattle.std.proofs.lemmas.Bool.{cases_eq, cases_lt}
 use Rattle.std.proofs.lemmas.List.{get_or_past}
 use Rattle.std.proofs.lemmas.List.Elements.{All-contains, Contains-get_or}
@@ -18,135 +17,34 @@ use Rattle.grain_rules.specs.Accepted.{IsFramed}
 use Rattle.grain_rules.specs.ByIndex.{IsCut, LeadWithin, code_by_index, span_moved, placed}
 use Rattle.grain_rules.specs.Capabilities.{Allows}
 use Rattle.grain_rules.specs.Code.{Bytecode, Code}
-use Rattle.grain_rules.specs.Counts.{Counts, last_base, nothing}
-use Rattle.grain_rules.specs.Effects.{Edge, Meets, after_fall, after_jump, falls_through, handlers_needed, iterators_needed, operands_after, targets}
+use Rattle.grain_rules.specs.Counts.{Counts, nothing}
+use Rattle.grain_rules.specs.Effects.{Edge, targets}
 use Rattle.grain_rules.specs.Flow as flows
 use Rattle.grain_rules.specs.Flow.{Flow}
 use Rattle.grain_rules.specs.Layout.{Reads}
-use Rattle.grain_rules.specs.Setting.{Setting, unset}
-use Rattle.grain_rules.specs.Sinking.{ReachesUpTo, Stays, untouched}
-use Rattle.grain_rules.specs.Rows.{Row, caps_of, flow_of, is_quiet, needs, row, takes}
-use Rattle.grain_rules.specs.FlowFields.{fall_for, falls_for, handlers_for, iterators_for, jump_for, targets_for}
+use Rattle.grain_rules.specs.Setting.{Setting}
+use Rattle.grain_rules.specs.Rows.{flow_of, row}
+use Rattle.grain_rules.specs.FlowFields.{targets_for}
 use Rattle.grain_rules.specs.Typing.{HasTyping, IsDeepest, Passes, Reached, StandsIn, begin, onward}
+use Rattle.grain_rules.proofs.FlowsAlong.{IsAlong, caps_same, fall_same, falls_same, flow_along, jump_same, meets_here, meets_there, stays_here, stays_there, target_from, targets_same}
 use Rattle.grain_rules.proofs.Offsets.{apart, ascends, before, next_there, not_after, offset_end, op_here, rises_to, same_or_below, start_there}
 use Rattle.grain_rules.proofs.OperationUniqueness.{reads_once}
 use Rattle.grain_rules.proofs.Splits.{in_cons, in_head, in_nil, in_tail}
 
--- the same flow, its target mapped
-abbrev pub flow_along : (ℕ → ℕ) → Flow → Flow
-flow_along f flows.Falls = flows.Falls
-flow_along f flows.Ends = flows.Ends
-flow_along f (flows.Jumps t) = flows.Jumps (f t)
-flow_along f (flows.Branches t) = flows.Branches (f t)
-flow_along f (flows.Switches w) = flows.Switches w
-flow_along f flows.BeginsIterator = flows.BeginsIterator
-flow_along f (flows.AdvancesIterator t) = flows.AdvancesIterator (f t)
-flow_along f flows.EndsIterator = flows.EndsIterator
-flow_along f (flows.PushesHandler t) = flows.PushesHandler (f t)
-flow_along f flows.PopsHandler = flows.PopsHandler
-
 -- an assembled operation does the same, and its flow leads to offsets
-same_row : (s : Setting) (offsets : List ℕ) (op : Op) → row s (assembled offsets op) ≡ record (row s op) { flow = flow_along (slice_index offsets) (row s op).flow }
-same_row s offsets (ops.CallRef n a (receiver.Local slot) capture) = refl
-same_row s offsets (ops.CallRef n a (receiver.Named m) capture) = refl
-same_row s offsets (ops.CallRef n a receiver.This capture) = refl
-same_row s offsets (ops.CallFnPtr a is_method capture (Some from)) = refl
-same_row s offsets (ops.CallFnPtr a true capture None) = refl
-same_row s offsets (ops.CallFnPtr a false capture None) = refl
-same_row s offsets (ops.DeclareLocal n false is_global) = refl
-same_row s offsets (ops.DeclareLocal n true is_global) = refl
-same_row s offsets op = refl
+same_row : (offsets : List ℕ) (op : Op) (s : Setting) → row s (assembled offsets op) ≡ record (row s op) { flow = flow_along (slice_index offsets) (row s op).flow }
+same_row offsets (ops.CallRef n a (receiver.Local slot) capture) s = refl
+same_row offsets (ops.CallRef n a (receiver.Named m) capture) s = refl
+same_row offsets (ops.CallRef n a receiver.This capture) s = refl
+same_row offsets (ops.CallFnPtr a is_method capture (Some from)) s = refl
+same_row offsets (ops.CallFnPtr a true capture None) s = refl
+same_row offsets (ops.CallFnPtr a false capture None) s = refl
+same_row offsets (ops.DeclareLocal n false is_global) s = refl
+same_row offsets (ops.DeclareLocal n true is_global) s = refl
+same_row offsets op s = refl
 
-same_caps : (s : Setting) (offsets : List ℕ) (op : Op) → caps_of s (assembled offsets op) ≡ caps_of s op
-same_caps s offsets op = ap (λ (r : Row). r.asks) (same_row s offsets op)
-
-same_quiet : (offsets : List ℕ) (op : Op) → is_quiet (assembled offsets op) ≡ is_quiet op
-same_quiet offsets op = ap (λ (r : Row). r.quiet) (same_row unset offsets op)
-
-flow_assembled : (offsets : List ℕ) (op : Op) → flow_of (assembled offsets op) ≡ flow_along (slice_index offsets) (flow_of op)
-flow_assembled offsets op = ap (λ (r : Row). r.flow) (same_row unset offsets op)
-
-iterators_along : (f : ℕ → ℕ) (flow : Flow) → iterators_for (flow_along f flow) ≡ iterators_for flow
-iterators_along f (flows.AdvancesIterator t) = refl
-iterators_along f flow = refl
-
-handlers_along : (f : ℕ → ℕ) (flow : Flow) → handlers_for (flow_along f flow) ≡ handlers_for flow
-handlers_along f flows.PopsHandler = refl
-handlers_along f flow = refl
-
-falls_along : (f : ℕ → ℕ) (flow : Flow) → falls_for (flow_along f flow) ≡ falls_for flow
-falls_along f flows.Falls = refl
-falls_along f flow = refl
-
-jump_along : (f : ℕ → ℕ) (flow : Flow) (left : ℕ) (c : Counts) → jump_for (flow_along f flow) left c ≡ jump_for flow left c
-jump_along f flows.Falls left c = refl
-jump_along f flow left c = refl
-
-fall_along : (f : ℕ → ℕ) (flow : Flow) (left : ℕ) (c : Counts) → fall_for (flow_along f flow) left c ≡ fall_for flow left c
-fall_along f flows.Falls left c = refl
-fall_along f flow left c = refl
-
-targets_along : (f : ℕ → ℕ) (switches : List (List ℕ)) (flow : Flow) → targets_for (map (map f) switches) (flow_along f flow) ≡ map f (targets_for switches flow)
-targets_along f switches (flows.Switches w) = get_or-map (map f) switches w []
-targets_along f switches flow = refl
-
--- what meets its needs by index meets them by address, and sinks as far
-module _ (s : Setting) (offsets : List ℕ) (op : Op) where
-  needs_same : needs s (assembled offsets op) ≡ needs s op
-  needs_same = ap (λ (r : Row). r.needs) (same_row s offsets op)
-
-  after_same : (n : ℕ) → operands_after s (assembled offsets op) n ≡ operands_after s op n
-  after_same n = ap (λ (r : Row). n - r.takes + r.gives) (same_row s offsets op)
-
-  iterators_same : iterators_needed (assembled offsets op) ≡ iterators_needed op
-  iterators_same = ap iterators_for (flow_assembled offsets op) ∙ iterators_along (slice_index offsets) (flow_of op)
-
-  handlers_same : handlers_needed (assembled offsets op) ≡ handlers_needed op
-  handlers_same = ap handlers_for (flow_assembled offsets op) ∙ handlers_along (slice_index offsets) (flow_of op)
-
-  meets_there : (c : Counts) → Meets s op c → Meets s (assembled offsets op) c
-  meets_there c h = record {
-    operands = subst (λ n. n ≤ c.operands) (sym needs_same) h.operands;
-    iterators = subst (λ n. n ≤ c.iterators) (sym iterators_same) h.iterators;
-    handlers = subst (λ n. n ≤ length c.bases) (sym handlers_same) h.handlers;
-  }
-
-  meets_here : (c : Counts) → Meets s (assembled offsets op) c → Meets s op c
-  meets_here c h = record {
-    operands = subst (λ n. n ≤ c.operands) needs_same h.operands;
-    iterators = subst (λ n. n ≤ c.iterators) iterators_same h.iterators;
-    handlers = subst (λ n. n ≤ length c.bases) handlers_same h.handlers;
-  }
-
-  takes_same : takes s (assembled offsets op) ≡ takes s op
-  takes_same = ap (λ (r : Row). r.takes) (same_row s offsets op)
-
-  untouched_same : (c : Counts) → untouched s (assembled offsets op) c ≡ untouched s op c
-  untouched_same c = λ i. record { operands = c.operands - takes_same i; iterators = c.iterators - iterators_same i }
-
-  stays_there : (c : Counts) → Stays s op c → Stays s (assembled offsets op) c
-  stays_there c h = λ loud. subst (ReachesUpTo (last_base c.bases)) (sym (untouched_same c)) (h (sym (same_quiet offsets op) ∙ loud))
-
-  stays_here : (c : Counts) → Stays s (assembled offsets op) c → Stays s op c
-  stays_here c h = λ loud. subst (ReachesUpTo (last_base c.bases)) (untouched_same c) (h (same_quiet offsets op ∙ loud))
-
-  jump_same : (c : Counts) → after_jump s (assembled offsets op) c ≡ after_jump s op c
-  jump_same c =
-      ap (λ (g : Flow). jump_for g (operands_after s (assembled offsets op) c.operands) c) (flow_assembled offsets op)
-      ∙ (jump_along (slice_index offsets) (flow_of op) (operands_after s (assembled offsets op) c.operands) c
-      ∙ ap (λ n. jump_for (flow_of op) n c) (after_same c.operands))
-
-  fall_same : (c : Counts) → after_fall s (assembled offsets op) c ≡ after_fall s op c
-  fall_same c =
-      ap (λ (g : Flow). fall_for g (operands_after s (assembled offsets op) c.operands) c) (flow_assembled offsets op)
-      ∙ (fall_along (slice_index offsets) (flow_of op) (operands_after s (assembled offsets op) c.operands) c
-      ∙ ap (λ n. fall_for (flow_of op) n c) (after_same c.operands))
-
-  falls_same : falls_through (assembled offsets op) ≡ falls_through op
-  falls_same = ap falls_for (flow_assembled offsets op) ∙ falls_along (slice_index offsets) (flow_of op)
-
-  targets_same : (switches : List (List ℕ)) → targets (map (map (slice_index offsets)) switches) (assembled offsets op) ≡ map (slice_index offsets) (targets switches op)
-  targets_same switches = ap (targets_for (map (map (slice_index offsets)) switches)) (flow_assembled offsets op) ∙ targets_along (slice_index offsets) switches (flow_of op)
+along : (offsets : List ℕ) (op : Op) → IsAlong (slice_index offsets) op (assembled offsets op)
+along offsets op = record { row_is = same_row offsets op }
 
 in_mapped : (f : ℕ → ℕ) (xs : List ℕ) (t : ℕ) → Contains xs t → Contains (map f xs) (f t)
 in_mapped f [] t c = absurd (in_nil t c)
@@ -154,14 +52,6 @@ in_mapped f (x ∷ xs) t c =
     elim (in_cons x xs t c) [
       | inl e ↦ subst (λ (y : ℕ). Contains (map f (x ∷ xs)) (f y)) e (in_head (f x) (map f xs))
       | inr k ↦ in_tail (f x) (map f xs) (f t) (in_mapped f xs t k)
-    ]
-
-from_mapped : (f : ℕ → ℕ) (xs : List ℕ) (b : ℕ) → Contains (map f xs) b → (t : ℕ) × Contains xs t × (f t ≡ b)
-from_mapped f [] b c = absurd (in_nil b c)
-from_mapped f (x ∷ xs) b c =
-    elim (in_cons (f x) (map f xs) b c) [
-      | inl e ↦ (x, in_head x xs, e)
-      | inr k ↦ let h = from_mapped f xs b k in (h.0, in_tail x xs h.0 h.1, h.2)
     ]
 
 only_one : (x y : ℕ) → Contains (x ∷ []) y → y ≡ x
@@ -261,16 +151,16 @@ module _ (s : Setting) (all : List Op) (switches : List (List ℕ)) (code offset
 
   edge_there : (i : ℕ) (op : Op) (c : Counts) (j : ℕ) (d : Counts) → slice_get all i ≡ Some op → Edge here op i c j d → Edge there (assembled offsets op) (f i) c (f j) d
   edge_there i op c j d r (inl e) =
-      inl (subst (λ (xs : List ℕ). Contains xs (f j)) (sym (targets_same s offsets op switches)) (in_mapped f (targets switches op) j e.0), e.1 ∙ sym (jump_same s offsets op c))
+      inl (subst (λ (xs : List ℕ). Contains xs (f j)) (sym (targets_same (along offsets op) switches)) (in_mapped f (targets switches op) j e.0), e.1 ∙ sym (jump_same s (along offsets op) c))
   edge_there i op c j d r (inr e) =
-      inr (falls_same s offsets op ∙ e.0, ap f e.1 ∙ next_there all code offsets made i op r, e.2 ∙ sym (fall_same s offsets op c))
+      inr (falls_same (along offsets op) ∙ e.0, ap f e.1 ∙ next_there all code offsets made i op r, e.2 ∙ sym (fall_same s (along offsets op) c))
 
   edge_here : (i : ℕ) (op : Op) (c : Counts) (b : ℕ) (d : Counts) → slice_get all i ≡ Some op → Edge there (assembled offsets op) (f i) c b d → (j : ℕ) × (f j ≡ b) × Edge here op i c j d
   edge_here i op c b d r (inl e) =
-      let h = from_mapped f (targets switches op) b (subst (λ (xs : List ℕ). Contains xs b) (targets_same s offsets op switches) e.0) in
-      (h.0, h.2, inl (h.1, e.1 ∙ jump_same s offsets op c))
+      let h = target_from (along offsets op) switches b e.0 in
+      (h.0, h.2, inl (h.1, e.1 ∙ jump_same s (along offsets op) c))
   edge_here i op c b d r (inr e) =
-      (i + 1, next_there all code offsets made i op r ∙ sym e.1, inr (sym (falls_same s offsets op) ∙ e.0, refl, e.2 ∙ fall_same s offsets op c))
+      (i + 1, next_there all code offsets made i op r ∙ sym e.1, inr (sym (falls_same (along offsets op)) ∙ e.0, refl, e.2 ∙ fall_same s (along offsets op) c))
 
   listed_in : (i : ℕ) (op : Op) → slice_get all i ≡ Some op → Contains all op
   listed_in i op r =
@@ -296,9 +186,9 @@ module _ (s : Setting) (all : List Op) (switches : List (List ℕ)) (code offset
   passes_there : (cut : Span) (i : ℕ) (c : Counts) (op : Op) → cut.end ≤ length all → Passes here cut i c op → Passes there (span_moved f cut) (f i) c (assembled offsets op)
   passes_there cut i c op part p = record {
     stands = stands_in_there cut i op part p.stands;
-    meets = meets_there s offsets op c p.meets;
-    allowed = subst (Allows s.caps) (sym (same_caps s offsets op)) p.allowed;
-    stays = stays_there s offsets op c p.stays;
+    meets = meets_there s (along offsets op) c p.meets;
+    allowed = subst (Allows s.caps) (sym (caps_same s (along offsets op))) p.allowed;
+    stays = stays_there s (along offsets op) c p.stays;
   }
 
   -- what is in the chunk is the operation of an index of the cut
@@ -316,9 +206,9 @@ module _ (s : Setting) (all : List Op) (switches : List (List ℕ)) (code offset
             within = record { entry = not_after all code offsets made cut.entry i (let p = part.ordered in let q = part.inside in omega arith) w.entry l; end = end; place = k };
             is = o.1;
           };
-          meets = meets_here s offsets o.0 c p'.meets;
-          allowed = subst (Allows s.caps) (same_caps s offsets o.0) p'.allowed;
-          stays = stays_here s offsets o.0 c p'.stays;
+          meets = meets_here s (along offsets o.0) c p'.meets;
+          allowed = subst (Allows s.caps) (caps_same s (along offsets o.0)) p'.allowed;
+          stays = stays_here s (along offsets o.0) c p'.stays;
         },
         same,
       )

@@ -68,6 +68,12 @@ IsBadBound code chunk target =
     ((target ≡ chunk.entry) × (IsStart code.bytes chunk.entry → ⊥))
     ⊎ ((target ≡ chunk.end) × IsStart code.bytes chunk.entry × (IsBoundary code.bytes chunk.end → ⊥))
 
+-- what is wrong with the chunk's own frame, to which no run leads
+pub data IsFrameFlaw (code : Bytecode) (chunk : Span) : VerifyError → Type 0 where
+  outside : {entry end len : ℕ} → (length code.bytes < chunk.end) ⊎ (chunk.end < chunk.entry) → IsFrameFlaw code chunk (errors.ChunkOutOfRange entry end len)
+  no_bound : {at target : ℕ} → IsBadBound code chunk target → IsFrameFlaw code chunk (errors.JumpIntoAnInstruction at target)
+  is_empty : chunk.entry ≡ chunk.end → IsFrameFlaw code chunk errors.FallsOffTheEnd
+
 -- what a refusal of a chunk says of it; capabilities are those that the operation needs
 abbrev pub ChunkFlaw : Bytecode → Span → VerifyError → Type 0
 ChunkFlaw code chunk (errors.MissingCaps artifact absent at) =

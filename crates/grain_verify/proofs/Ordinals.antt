@@ -5,7 +5,7 @@ use Rattle.grain_code.specs.InstructionTable.{width_of}
 use Rattle.grain_code.specs.Split.{Split, StandsAt}
 use Rattle.grain_code.specs.declared.op.Op.{Op}
 use Rattle.grain_rules.proofs.OperationUniqueness.{stands_once}
-use Rattle.grain_verify.proofs.Places.{placed_contains}
+use Rattle.grain_rules.proofs.ListedStarts.{placed_contains}
 use Rattle.grain_rules.proofs.Splits.{SplitsFrom, split_above, split_splits, width_pos}
 
 -- what follows the instruction of an ordinal has the next

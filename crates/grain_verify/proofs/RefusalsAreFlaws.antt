@@ -1,10 +1,8 @@
 -- What the walk's parts refuse is a flaw.
 use Rattle.std.proofs.Common.{◌≡◌, ℕ, inr, List, IfErr, IfOk, OnOk, Ok, Err, Result, sym, subst}
-use Rattle.std.specs.List.{Contains}
 use Rattle.grain_code.specs.Span.{Span}
 use Rattle.grain_code.specs.Split.{Split}
 use Rattle.grain_code.specs.declared.op.Op.{Op}
-use Rattle.grain_code.proofs.Splits.{one_split}
 use Rattle.grain_rules.specs.Accepted.{IsFramed}
 use Rattle.grain_rules.specs.Code.{Bytecode, coded}
 use Rattle.grain_rules.specs.Capabilities.{Allows}
@@ -12,13 +10,13 @@ use Rattle.grain_rules.specs.Rows.{caps_of}
 use Rattle.grain_rules.specs.Counts.{Counts, last_base}
 use Rattle.grain_rules.specs.Effects.{Meets}
 use Rattle.grain_verify.specs.Arrivals.{IsStartIn, RefusesTarget, RefusesState}
-use Rattle.grain_rules.specs.Layout.{IsStart}
 use Rattle.grain_rules.specs.Flaw.{ChunkFlaw, Comes, Leads}
 use Rattle.grain_rules.specs.Sinking.{untouched}
 use Rattle.grain_verify.specs.SinkingView.{RefusesSinking}
 use Rattle.grain_rules.specs.Typing.{IsInChunk}
 use Rattle.grain_rules.specs.declared.error.VerifyError.{VerifyError}
 use Rattle.grain_rules.specs.declared.error.VerifyError.TheVariants as errors
+use Rattle.grain_rules.proofs.ListedStarts.{start_listed}
 
 -- what follows from each refusal follows from one
 pub err_so : {A : Type 0} {P Q : VerifyError → Type 0} (r : Result A VerifyError) → ((e : VerifyError) → P e → Q e) → IfErr r P → IfErr r Q
@@ -59,10 +57,6 @@ refused_sinking code chunk at op c e f comes allowed meets h = absurd h
 
 renamed : (code : Bytecode) (chunk : Span) (at a target t : ℕ) → Leads code chunk at target → a ≡ at → t ≡ target → Leads code chunk a t
 renamed code chunk at a target t n e f = subst (λ (x : ℕ). Leads code chunk x t) (sym e) (subst (λ (x : ℕ). Leads code chunk at x) (sym f) n)
-
--- a start is one of the starts
-pub start_listed : (bytes starts : List ℕ) (at : ℕ) → Split bytes starts → IsStart bytes at → Contains starts at
-start_listed bytes starts at split s = subst (λ (xs : List ℕ). Contains xs at) (one_split bytes s.starts starts s.split split) s.here
 
 pub refused_target : (code : Bytecode) (starts : List ℕ) (chunk : Span) (at target : ℕ) (e : VerifyError) → Split code.bytes starts → IsFramed code chunk
     → Leads code chunk at target → RefusesTarget starts chunk at target e → ChunkFlaw code chunk e

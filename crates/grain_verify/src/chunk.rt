@@ -1,8 +1,7 @@
 //! What is tested of one chunk: its frame, what its walk meets, and the operand count that it declares.
-ghost use Rattle.std.specs.Prelude.{◌≡◌, ◌≢◌, ◌<◌, Some, slice_get, IfErr, IfOk, OnOk};
-ghost use Rattle.grain_rules.specs.Accepted.{ChunkPasses, IsFramed};
+ghost use Rattle.std.specs.Prelude.{◌≡◌, ◌<◌, IfErr, IfOk, OnOk};
+ghost use Rattle.grain_rules.specs.Accepted.{ChunkPasses};
 ghost use Rattle.grain_rules.specs.Code.{coded};
-ghost use Rattle.grain_rules.specs.Flaw.{ChunkFlaw};
 ghost use Rattle.grain_rules.specs.Typing.{HasTyping, IsDeepest};
 ghost use Rattle.grain_verify.specs.Asked.{Knows};
 ghost use Rattle.grain_verify.specs.Progress.{Fits, IsMeteredChunk};
@@ -15,51 +14,6 @@ use crate::meter::Meter;
 use crate::walk::{Prepared, Traversal};
 use grain_code::Chunk;
 use grain_rules::{Read, VerifyError};
-
-/// How many instructions are before the chunk's entry, where the chunk lies in the code and begins and ends where
-/// instructions do.
-///
-/// A walk that began within an instruction would read bytes that no test of the code has read as one, with indices that
-/// lead nowhere; an end within an instruction would have its last one reach beyond the chunk.
-///
-/// # Errors
-/// `ChunkOutOfRange`; `FallsOffTheEnd` where it is empty; `JumpIntoAnInstruction` to its entry or its end.
-#[inline(never)]
-fn check_frame<P: Read>(prepared: &Prepared<'_, P>, chunk: &Chunk) -> Result<usize, VerifyError>
-    requires { IsReady prepared.now }
-    ensures framed { OnOk result (IsFramed prepared.now.code chunk.now) }
-    ensures holds { OnOk result (chunk.now.entry < chunk.now.end) }
-    ensures place { IfOk result (λ k. slice_get prepared.now.starts k ≡ Some chunk.now.entry) }
-    ensures err { IfErr result (λ e. ChunkFlaw prepared.now.code chunk.now e
-        × (e ≢ VerifyError.OutOfMemory)) }
-{
-    let entry = chunk.entry() as usize;
-    let end = chunk.end() as usize;
-    let len = prepared.len();
-    if end > len || entry > end {
-        return Err(VerifyError::ChunkOutOfRange {
-            entry: chunk.entry(),
-            end: chunk.end(),
-            len,
-        });
-    }
-    if entry == end {
-        return Err(VerifyError::FallsOffTheEnd);
-    }
-    let Some(ordinal) = prepared.ordinal(entry) else {
-        return Err(VerifyError::JumpIntoAnInstruction {
-            at: entry,
-            target: chunk.entry(),
-        });
-    };
-    if end < len && !prepared.is_start(end) {
-        return Err(VerifyError::JumpIntoAnInstruction {
-            at: entry,
-            target: chunk.end(),
-        });
-    }
-    Ok(ordinal)
-}
 
 /// The greatest operand count that any run of the chunk reaches. The meter takes what the walk visits, where it is refused
 /// too.
@@ -89,7 +43,7 @@ pub(crate) fn verify_chunk<P: Read>(
     ensures fits { OnOk result (Fits prepared.now traversal.new) }
     ensures knows { OnOk result (Knows prepared.now.code.setting.facts asked.new) }
 {
-    let ordinal = check_frame(prepared, chunk)?;
+    let ordinal = prepared.entry_ordinal(chunk)?;
     let mut visits = 0;
     let walked = prepared.walk(chunk, ordinal, lists, traversal, asked, &mut visits);
     meter.add(visits);

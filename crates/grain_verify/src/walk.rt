@@ -1,9 +1,8 @@
 //! The walk over one chunk: [`Prepared::walk`] takes arrivals from the worklist, [`Prepared::walk_from`] goes on from each,
 //! instruction after instruction, and [`Prepared::visit`] or [`Prepared::visit_by_tag`] does one of them.
-ghost use Rattle.std.specs.Prelude.{◌≡◌, ℕ, ◌+◌, ◌-◌, ◌≤◌, ◌<◌, ◌^◌, ◌++◌, ◌∷◌, ◌⊎◌, [], None, Some};
+ghost use Rattle.std.specs.Prelude.{◌≡◌, ◌≢◌, ℕ, ◌+◌, ◌-◌, ◌≤◌, ◌<◌, ◌^◌, ◌++◌, ◌∷◌, [], None, Some};
 ghost use Rattle.std.specs.Prelude.{get_or, length, replicate, slice_get, IfErr, IfNone, IfOk, IfSome, OnOk};
-ghost use Rattle.std.specs.Prelude.{◌↔◌, IsTrue, true};
-ghost use Rattle.std.specs.List.{Contains};
+ghost use Rattle.std.specs.Prelude.{true};
 ghost use Rattle.std.specs.Option.{option_to_list};
 ghost use Rattle.grain_code.specs.Flows.{is_fixed};
 ghost use Rattle.grain_code.specs.InstructionTable.{Instr};
@@ -13,6 +12,7 @@ ghost use Rattle.grain_rules.specs.Accepted.{IsFramed};
 ghost use Rattle.grain_verify.specs.Arrivals.{RefusesState, view};
 ghost use Rattle.grain_rules.specs.Capabilities.{Allows};
 ghost use Rattle.grain_rules.specs.Code.{bytecode_beside, coded};
+ghost use Rattle.grain_rules.specs.Flaw.{ChunkFlaw};
 ghost use Rattle.grain_verify.specs.Asked.{Knows};
 ghost use Rattle.grain_rules.specs.Rows.{caps_of, needs};
 ghost use Rattle.grain_verify.specs.FlowView.{IsFollowed, IsMetBy, RefusesFlow};
@@ -36,7 +36,7 @@ use crate::state::{Arrival, State, check_same};
 use crate::states::States;
 use grain_base::{Caps, Flags};
 use grain_code::{Chunk, Flow, Head, Instruction, Starts, TagRow};
-use grain_rules::{Effect, Read, VerifyError, missing};
+use grain_rules::{Effect, Read, VerifyError, check_frame, missing};
 use std::alloc::{AllocError, Global};
 use std::marker::Model;
 
@@ -242,25 +242,19 @@ impl<'a, P: Read> Prepared<'a, P> {
         }
     }
 
-    /// How many bytes the code has.
-    pub(crate) fn len(&self) -> usize
-        ensures { result ≡ length self.now.code.bytes }
+    /// How many instructions are before the chunk's entry, where the chunk lies in the code as it has to.
+    ///
+    /// # Errors
+    /// Those of [`check_frame`].
+    pub(crate) fn entry_ordinal(&self, chunk: &Chunk) -> Result<usize, VerifyError>
+        requires { IsReady self.now }
+        ensures framed { OnOk result (IsFramed self.now.code chunk.now) }
+        ensures holds { OnOk result (chunk.now.entry < chunk.now.end) }
+        ensures place { IfOk result (λ k. slice_get self.now.starts k ≡ Some chunk.now.entry) }
+        ensures err { IfErr result (λ e. ChunkFlaw self.now.code chunk.now e
+            × (e ≢ VerifyError.OutOfMemory)) }
     {
-        self.code.len()
-    }
-
-    /// Whether an instruction begins at an address.
-    pub(crate) fn is_start(&self, at: usize) -> bool
-        ensures { IsTrue result ↔ Contains self.now.starts at }
-    {
-        self.starts.contains(at)
-    }
-
-    /// How many instructions are before an address, where one begins there.
-    pub(crate) fn ordinal(&self, at: usize) -> Option<usize>
-        ensures { (k : ℕ) → (result ≡ Some k) ↔ (slice_get self.now.starts k ≡ Some at) }
-    {
-        self.starts.ordinal(at)
+        check_frame(self.code, &self.starts, chunk)
     }
 
     /// Makes room for walks over all chunks.

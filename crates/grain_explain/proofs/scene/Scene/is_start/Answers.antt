@@ -1,4 +1,4 @@
-use Rattle.grain_explain.proofs.Sceneries.{listed_start, start_listed}
+use Rattle.grain_rules.proofs.ListedStarts.{listed_start, start_listed}
 use Rattle.grain_explain.proofs.scene.Scene.is_start.Goals as goal
 
 pub returns : goal.returns
