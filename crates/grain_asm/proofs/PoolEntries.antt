@@ -1,13 +1,16 @@
 -- Entries that are found, and entries that are put behind the others.
-use Rattle.std.proofs.Common.{◌≡◌, ◌+◌, ◌<◌, ◌++◌, ◌∷◌, [], ℕ, List, Option, Some, None, Result, Ok, Err, IfOk, length, slice_get, sym, ap, ◌∙◌, subst, inl, inr, refl, arith, length-append, MatchOption}
+use Rattle.std.proofs.Common.{◌≡◌, ◌+◌, ◌<◌, ◌++◌, ◌∷◌, [], ℕ, List, Global, String, Option, Some, None, Result, Ok, Err, IfOk, length, slice_get, sym, ap, ◌∙◌, subst, inl, inr, refl, arith, length-append, string_bytes, MatchOption}
 use Rattle.std.specs.Option.{IfSome, IsSomeAnd}
 use Rattle.std.specs.List.{AllWithin, HoldsAt}
 use Rattle.std.proofs.lemmas.Option.{slice_get-get_or}
 use Rattle.std.proofs.Math.Seq.{get_or-append_seam}
-use Rattle.grain_asm.specs.Entries.{Enters, Leads}
+use Rattle.grain_asm.specs.Blanks.{unblanked}
+use Rattle.grain_asm.specs.Entries.{Enters, HasEntryAt, ReadsNameIndex}
+use Rattle.grain_asm.specs.Literals.{ReadsName}
+use Rattle.grain_asm.proofs.ReadNumbers.{name_again}
 
 -- what holds at a place is of the entry there
-leads_there : {A : Type 0} (P : A → Type 0) (entries : List A) (place : ℕ) → place < length entries → HoldsAt P entries place → Leads P entries place
+leads_there : {A : Type 0} (P : A → Type 0) (entries : List A) (place : ℕ) → place < length entries → HoldsAt P entries place → HasEntryAt P entries place
 leads_there P [] place inside holds = absurd (omega arith)
 leads_there P (entry ∷ entries) place inside holds =
     subst (λ o. IsSomeAnd o P) (sym (slice_get-get_or (entry ∷ entries) place entry inside)) (holds entry)
@@ -15,14 +18,14 @@ leads_there P (entry ∷ entries) place inside holds =
 -- what a search found is an entry with the property
 pub first_leads : {A : Type 0} (P No : A → Type 0) (entries : List A) (r : Option ℕ)
     → MatchOption r (AllWithin No entries 0 (length entries)) (λ i. (i < length entries) × HoldsAt P entries i × AllWithin No entries 0 i)
-    → IfSome r (Leads P entries)
+    → IfSome r (HasEntryAt P entries)
 first_leads P No entries None m = tt
 first_leads P No entries (Some place) m = leads_there P entries place m.0 m.1
 
 -- an entry that was there is entered as it is
-pub found : {A : Type 0} (P : A → Type 0) (entries : List A) (place index : ℕ) → Leads P entries place → index ≡ place → Enters P entries entries index
+pub found : {A : Type 0} (P : A → Type 0) (entries : List A) (place index : ℕ) → HasEntryAt P entries place → index ≡ place → Enters P entries entries index
 found P entries place index there same = record {
-  leads = subst (Leads P entries) (sym same) there;
+  leads = subst (HasEntryAt P entries) (sym same) there;
   stays = inl refl;
 }
 
@@ -48,3 +51,9 @@ pub put_last : {A E : Type 0} (P : A → Type 0) (old new : List A) (entry : A) 
     → P entry → new ≡ old ++ entry ∷ [] → IfOk r (λ last. last + 1 ≡ length new) → IfOk r (Enters P old new)
 put_last P old new entry (Ok index) has is last = put P old new entry index has is last
 put_last P old new entry (Err _) has is last = tt
+
+-- a name that was read behind blanks and is entered
+pub named : {E : Type 0} (line mid name left : List ℕ) (old new : List (String Global)) (r : Result ℕ E) → mid ≡ unblanked line → ReadsName mid name left
+    → IfOk r (Enters (λ entry. string_bytes entry ≡ name) old new) → IfOk r (λ index. ReadsNameIndex line old new index left)
+named line mid name left old new (Ok index) e read enters = inr (name, name_again line mid name left e read, enters)
+named line mid name left old new (Err _) e read enters = tt

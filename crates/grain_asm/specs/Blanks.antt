@@ -1,5 +1,5 @@
 -- What is read of a line, and the blanks before it.
-use Rattle.std.specs.Prelude.{◌≡◌, ℕ, Bool, not, ◌||◌, ◌==◌, List, ◌++◌, drop}
+use Rattle.std.specs.Prelude.{◌≡◌, ℕ, Bool, true, not, ◌||◌, ◌==◌, List, [], ◌∷◌, ◌++◌, drop}
 use Rattle.std.specs.List.{position_or_len}
 
 -- neither a space nor a tab
@@ -13,3 +13,8 @@ unblanked line = drop (position_or_len is_mark line) line
 -- behind the blanks comes a text, and then what is left
 abbrev pub ReadsText : List ℕ → List ℕ → List ℕ → Type 0
 ReadsText line text left = unblanked line ≡ text ++ left
+
+-- nothing is left, or a comment comes
+abbrev pub is_over : List ℕ → Bool
+is_over [] = true
+is_over (byte ∷ _) = byte == 59

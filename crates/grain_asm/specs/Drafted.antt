@@ -1,10 +1,19 @@
 -- What the program of a text has of what was read.
-use Rattle.std.specs.Prelude.{◌≡◌, ℕ, List, Option, map, option_map, string_bytes}
+use Rattle.std.specs.Prelude.{◌≡◌, ℕ, List, [], Option, map, option_map, string_bytes}
 use Rattle.grain.specs.Program.{Program, listed_positions}
 use Rattle.grain.specs.declared.program.Parts.{Parts}
 use Rattle.grain_base.specs.declared.position.Position.{Position}
 use Rattle.grain_asm.specs.declared.draft.Draft.{Draft}
 use Rattle.grain_asm.specs.declared.pools.Pools.{Pools}
+
+-- there are pools, and nothing in them
+pub record HasNoEntry (pools : Pools) : Type 0 where
+  pub names : pools.names.items ≡ []
+  pub consts : pools.consts.items ≡ []
+  pub tokens : pools.tokens.items ≡ []
+  pub assign_ops : pools.assign_ops.items ≡ []
+  pub chains : pools.chains.items ≡ []
+  pub switches : pools.switches.items ≡ []
 
 -- each entry is where it was read, so that an index leads to the same
 pub record HasEntries (pools : Pools) (parts : Parts) : Type 0 where

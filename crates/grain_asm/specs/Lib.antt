@@ -5,4 +5,5 @@ pub mod Entries
 pub mod Literals
 pub mod Numbers
 pub mod Placed
+pub mod Positions
 pub mod Widths

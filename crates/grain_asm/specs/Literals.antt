@@ -1,6 +1,7 @@
 -- Literals: what the bytes up to the quote that ends one stand for.
 use Rattle.std.specs.Prelude.{◌≡◌, ◌≢◌, ◌+◌, ◌*◌, ◌<◌, ◌⊎◌, ℕ, List, [], ◌∷◌}
 use Rattle.std.specs.Char.{digit_value}
+use Rattle.grain_asm.specs.Blanks.{ReadsText, unblanked}
 
 -- two hexadecimal digits write the ASCII character
 pub record IsOfDigits (high low b : ℕ) : Type 0 where
@@ -32,3 +33,11 @@ pub data IsLiteral (quote : ℕ) : List ℕ → List ℕ → List ℕ → Type 0
   ends : {more : List ℕ} → IsLiteral quote (quote ∷ more) [] more
   unit : {b : ℕ} {text left bytes more : List ℕ} → IsUnit quote text b left → IsLiteral quote left bytes more
       → IsLiteral quote text (b ∷ bytes) more
+
+-- behind the blanks comes a text in quotes, and then what is left
+abbrev pub ReadsQuoted : ℕ → List ℕ → List ℕ → List ℕ → Type 0
+ReadsQuoted quote line text left = (rest : List ℕ) × (unblanked line ≡ quote ∷ rest) × IsLiteral quote rest text left
+
+-- behind the blanks comes a text in quotes or as it is, and then what is left
+abbrev pub ReadsName : List ℕ → List ℕ → List ℕ → Type 0
+ReadsName line text left = ReadsQuoted 34 line text left ⊎ ReadsText line text left

@@ -2,7 +2,7 @@
 use Rattle.std.specs.Prelude.{◌≡◌, ℕ, ℤ, Bool, List, ◌∷◌, [], drop, nat_eq, if◌then◌else◌}
 use Rattle.std.specs.List.{starts_with}
 use Rattle.std.specs.Str.Parse.{IsNumeral, digits_value, signed_digits_value, without_leading_plus}
-use Rattle.grain_asm.specs.Blanks.{ReadsText}
+use Rattle.grain_asm.specs.Blanks.{ReadsText, unblanked}
 
 -- 0x stands before hexadecimal digits
 abbrev pub is_hexadecimal : List ℕ → Bool
@@ -20,9 +20,13 @@ pub record IsNumber (text : List ℕ) (n : ℕ) : Type 0 where
   pub value : n ≡ digits_value (radix_of text) (without_leading_plus (digits_of text))
 
 -- behind the blanks comes a text that writes the number, and then what is left
-abbrev pub ReadsNumber : List ℕ → ℕ → List ℕ → Type 0
-ReadsNumber line n left = (text : List ℕ) × ReadsText line text left × IsNumber text n
+abbrev pub ReadsNumeral : List ℕ → ℕ → List ℕ → Type 0
+ReadsNumeral line n left = (text : List ℕ) × ReadsText line text left × IsNumber text n
 
 -- the same of decimal digits, before which may be a sign
 abbrev pub ReadsInteger : List ℕ → ℤ → List ℕ → Type 0
 ReadsInteger line n left = (text : List ℕ) × ReadsText line text left × (n ≡ signed_digits_value 10 text)
+
+-- behind the blanks come # and a number, and then what is left
+abbrev pub ReadsIndex : List ℕ → ℕ → List ℕ → Type 0
+ReadsIndex line n left = (digits : List ℕ) × (unblanked line ≡ 35 ∷ digits) × ReadsNumeral digits n left

@@ -1,5 +1,7 @@
 //! The main chunk and the functions.
-ghost use Rattle.std.specs.Prelude.{◌≡◌, IfOk, MatchOption};
+ghost use Rattle.std.specs.Prelude.{◌≡◌, IfOk, MatchOption, [], map};
+ghost use Rattle.grain.specs.Tightened.{undeclared_function};
+ghost use Rattle.grain_code.specs.Span.{undeclared_chunk};
 
 use crate::cursor::Cursor;
 use crate::error::{Problem, Stop};
@@ -65,7 +67,11 @@ fn read_this_type(pools: &mut Pools, cursor: &mut Cursor<'_>) -> Result<Option<u
 
 impl Chunks {
     /// No chunks.
-    pub fn new(alloc: Global) -> Chunks {
+    pub fn new(alloc: Global) -> Chunks
+        ensures main { result.main ≡ None }
+        ensures functions { result.functions.items ≡ [] }
+        ensures automatic { result.automatic.items ≡ [] }
+    {
         Chunks {
             main: None,
             functions: Vec::new(alloc),
@@ -161,18 +167,21 @@ pub(crate) fn declare(
     functions: &mut [Function],
     automatic: &[usize],
     numbers: &[u16],
-) {
+)
+    ensures main { undeclared_chunk main.new ≡ undeclared_chunk main.old }
+    ensures functions { map undeclared_function functions.new
+        ≡ map undeclared_function functions.old }
+{
     for place in automatic {
         let Some(number) = numbers.get(*place) else {
             continue;
         };
         match place.checked_sub(1) {
             None => main.set_max_stack(*number),
-            Some(index) => {
-                if let Some(function) = functions.get_mut(index) {
-                    function.chunk.set_max_stack(*number);
-                }
+            Some(index) if index < functions.len() => {
+                functions[index].chunk.set_max_stack(*number);
             }
+            Some(_) => {}
         }
     }
 }

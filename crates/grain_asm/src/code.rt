@@ -1,5 +1,8 @@
 //! Instructions.
-ghost use Rattle.std.specs.Prelude.{◌<◌, OnOk, sum_by, ℕ};
+ghost use Rattle.std.specs.Prelude.{◌≡◌, ◌<◌, IfOk, OnOk, sum_by, ℕ};
+ghost use Rattle.std.specs.Bool.{OnFalse, OnTrue};
+ghost use Rattle.grain_asm.specs.Addresses.{ReadsLabel};
+ghost use Rattle.grain_asm.specs.Numbers.{ReadsIndex};
 ghost use Rattle.grain_asm.specs.Widths.{Appends, operand_width};
 
 use crate::cursor::Cursor;
@@ -9,7 +12,9 @@ use crate::pools::Pools;
 use grain_print::{Operand, form_named};
 
 /// Reads an index without a literal in place.
-fn read_index(cursor: &mut Cursor<'_>) -> Result<u32, Stop> {
+fn read_index(cursor: &mut Cursor<'_>) -> Result<u32, Stop>
+    ensures { IfOk result (λ index. ReadsIndex cursor.old.left.now index cursor.new.left.now) }
+{
     match cursor.index()? {
         Some(index) => Ok(index),
         None => Err(Stop::Fault(Problem::Missing)),
@@ -126,7 +131,10 @@ pub(crate) fn read_instruction(
 }
 
 /// Goes past a label, if the line is one.
-pub(crate) fn eat_label(cursor: &mut Cursor<'_>) -> bool {
+pub(crate) fn eat_label(cursor: &mut Cursor<'_>) -> bool
+    ensures eaten { OnTrue result (ReadsLabel cursor.old.left.now cursor.new.left.now) }
+    ensures left { OnFalse result (cursor.new.left.now ≡ cursor.old.left.now) }
+{
     let start = cursor.left;
     let is_label = cursor.word().is_ok() && cursor.eat(b':');
     if !is_label {

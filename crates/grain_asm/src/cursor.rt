@@ -1,9 +1,12 @@
 //! A cursor over a line. What reads a thing moves it past that; where something is wrong, it stays at what is wrong.
-ghost use Rattle.std.specs.Prelude.{◌≡◌, ◌<◌, ◌≤◌, ◌∷◌, ◌++◌, IfOk, IfSome, MatchResult, length, position};
+ghost use Rattle.std.specs.Prelude.{◌≡◌, ◌<◌, ◌≤◌, ◌∷◌, ◌++◌, IfOk, IfSome, MatchOption, MatchResult, false, length, position, true};
 ghost use Rattle.std.specs.Bool.{OnFalse, OnTrue};
 ghost use Rattle.std.specs.Str.Parse.{ParsesUnsigned};
-ghost use Rattle.grain_asm.specs.Blanks.{ReadsText, is_mark, unblanked};
-ghost use Rattle.grain_asm.specs.Numbers.{ReadsInteger, ReadsNumber, digits_of, radix_of};
+ghost use Rattle.grain_asm.specs.Blanks.{ReadsText, is_mark, is_over, unblanked};
+ghost use Rattle.grain_asm.specs.Numbers.{ReadsIndex, ReadsInteger, ReadsNumeral, digits_of, radix_of};
+ghost use Rattle.grain_asm.specs.Positions.{ReadsPosition, ReadsPositionOrNone};
+ghost use Rattle.grain_asm.specs.declared.error.Problem.{Problem};
+ghost use Rattle.grain_asm.specs.declared.error.Stop.{Stop};
 
 use crate::error::{Problem, Stop};
 use grain_base::Position;
@@ -102,13 +105,22 @@ impl<'a> Cursor<'a> {
     }
 
     /// Whether nothing but a comment is left.
-    pub fn is_done(&mut self) -> bool {
+    pub fn is_done(&mut self) -> bool
+        ensures done { result ≡ is_over (unblanked self.old.left.now) }
+        ensures left { self.new.left.now ≡ unblanked self.old.left.now }
+    {
         self.blanks();
         matches!(self.left, [] | [b';', ..])
     }
 
     /// Reads the end of the line.
-    pub fn end(&mut self) -> Result<(), Stop> {
+    pub fn end(&mut self) -> Result<(), Stop>
+        ensures over { MatchResult result
+            (λ _. is_over (unblanked self.old.left.now) ≡ true)
+            (λ e. (is_over (unblanked self.old.left.now) ≡ false)
+            × (e ≡ Stop.Fault Problem.Trailing)) }
+        ensures left { self.new.left.now ≡ unblanked self.old.left.now }
+    {
         if self.is_done() {
             Ok(())
         } else {
@@ -159,7 +171,11 @@ impl<'a> Cursor<'a> {
     }
 
     /// Goes past a word, if it is next.
-    pub fn eat_word(&mut self, wanted: &str) -> bool {
+    pub fn eat_word(&mut self, wanted: &str) -> bool
+        ensures eaten { OnTrue result
+            (ReadsText self.old.left.now wanted.now self.new.left.now) }
+        ensures left { OnFalse result (self.new.left.now ≡ self.old.left.now) }
+    {
         let start = self.left;
         match self.word() {
             Ok(word) if word == wanted => true,
@@ -171,7 +187,10 @@ impl<'a> Cursor<'a> {
     }
 
     /// Reads what ends at a blank or a comment.
-    pub fn spelling(&mut self) -> Result<&'a str, Stop> {
+    pub fn spelling(&mut self) -> Result<&'a str, Stop>
+        ensures { IfOk result (λ spelling.
+            ReadsText self.old.left.now spelling.now self.new.left.now) }
+    {
         self.blanks();
         let (spelling, rest) = split_spelling(self.left);
         let spelling = text_of(spelling)?;
@@ -182,7 +201,7 @@ impl<'a> Cursor<'a> {
     /// Reads a number.
     pub fn number(&mut self) -> Result<u64, Stop>
         ensures { IfOk result (λ number.
-            ReadsNumber self.old.left.now number self.new.left.now) }
+            ReadsNumeral self.old.left.now number self.new.left.now) }
     {
         self.blanks();
         let start = self.left;
@@ -198,7 +217,7 @@ impl<'a> Cursor<'a> {
     pub fn number_up_to(&mut self, limit: u64) -> Result<u64, Stop>
         ensures limit { IfOk result (λ number. number ≤ limit) }
         ensures reads { IfOk result (λ number.
-            ReadsNumber self.old.left.now number self.new.left.now) }
+            ReadsNumeral self.old.left.now number self.new.left.now) }
     {
         self.blanks();
         let start = self.left;
@@ -213,7 +232,7 @@ impl<'a> Cursor<'a> {
     /// Reads a number of 32 bits.
     pub fn number_32(&mut self) -> Result<u32, Stop>
         ensures { IfOk result (λ number.
-            ReadsNumber self.old.left.now number self.new.left.now) }
+            ReadsNumeral self.old.left.now number self.new.left.now) }
     {
         let number = self.number_up_to(u64::from(u32::MAX))?;
         u32::try_from(number).map_err(|_| Stop::Fault(Problem::TooWide))
@@ -222,7 +241,7 @@ impl<'a> Cursor<'a> {
     /// Reads a number of 16 bits.
     pub fn number_16(&mut self) -> Result<u16, Stop>
         ensures { IfOk result (λ number.
-            ReadsNumber self.old.left.now number self.new.left.now) }
+            ReadsNumeral self.old.left.now number self.new.left.now) }
     {
         let number = self.number_up_to(u64::from(u16::MAX))?;
         u16::try_from(number).map_err(|_| Stop::Fault(Problem::TooWide))
@@ -231,7 +250,7 @@ impl<'a> Cursor<'a> {
     /// Reads a number of 8 bits.
     pub fn number_8(&mut self) -> Result<u8, Stop>
         ensures { IfOk result (λ number.
-            ReadsNumber self.old.left.now number self.new.left.now) }
+            ReadsNumeral self.old.left.now number self.new.left.now) }
     {
         let number = self.number_up_to(u64::from(u8::MAX))?;
         u8::try_from(number).map_err(|_| Stop::Fault(Problem::TooWide))
@@ -255,7 +274,11 @@ impl<'a> Cursor<'a> {
     }
 
     /// Reads `#` and an index, if these are next.
-    pub fn index(&mut self) -> Result<Option<u32>, Stop> {
+    pub fn index(&mut self) -> Result<Option<u32>, Stop>
+        ensures { IfOk result (λ found. MatchOption found
+            (self.new.left.now ≡ unblanked self.old.left.now)
+            (λ index. ReadsIndex self.old.left.now index self.new.left.now)) }
+    {
         self.blanks();
         match self.left {
             [b'#', b'0'..=b'9', ..] => {
@@ -268,7 +291,11 @@ impl<'a> Cursor<'a> {
     }
 
     /// Reads a position, if one is next.
-    pub fn position(&mut self) -> Result<Option<Position>, Stop> {
+    pub fn position(&mut self) -> Result<Option<Position>, Stop>
+        ensures { IfOk result (λ found. MatchOption found
+            (self.new.left.now ≡ unblanked self.old.left.now)
+            (λ position. ReadsPosition self.old.left.now position self.new.left.now)) }
+    {
         if !self.eat(b'@') {
             return Ok(None);
         }
@@ -287,7 +314,10 @@ impl<'a> Cursor<'a> {
     }
 
     /// Reads a position, which is none where none is next.
-    pub fn position_or_none(&mut self) -> Result<Position, Stop> {
+    pub fn position_or_none(&mut self) -> Result<Position, Stop>
+        ensures { IfOk result (λ position.
+            ReadsPositionOrNone self.old.left.now position self.new.left.now) }
+    {
         let position = self.position()?;
         Ok(position.unwrap_or(Position::NONE))
     }

@@ -1,11 +1,10 @@
 //! Texts and characters.
-ghost use Rattle.std.specs.Prelude.{◌≡◌, ◌∷◌, IfOk, IfSome, List, MatchOption, ℕ, string_bytes};
+ghost use Rattle.std.specs.Prelude.{◌≡◌, ◌∷◌, IfOk, IfSome, MatchOption, string_bytes};
 ghost use Rattle.grain_asm.specs.Blanks.{unblanked};
-ghost use Rattle.grain_asm.specs.Literals.{IsEscape, IsLiteral, IsOfDigits, IsUnit, WritesByte};
+ghost use Rattle.grain_asm.specs.Literals.{IsEscape, IsLiteral, IsOfDigits, IsUnit, ReadsName, ReadsQuoted, WritesByte};
 
 use crate::cursor::Cursor;
 use crate::error::{Problem, Stop};
-use std::alloc::AllocError;
 
 /// The byte that two hexadecimal digits are, where it is ASCII.
 fn escaped_byte(high: u8, low: u8) -> Option<u8>
@@ -96,9 +95,8 @@ fn read_bytes(cursor: &mut Cursor<'_>, quote: u8) -> Result<Vec<u8>, Stop>
 
 /// Reads a literal between two quotes.
 fn read_quoted(cursor: &mut Cursor<'_>, quote: u8) -> Result<String, Stop>
-    ensures { IfOk result (λ text. (left : List ℕ)
-        × (unblanked cursor.old.left.now ≡ quote ∷ left)
-        × IsLiteral quote left (string_bytes text) cursor.new.left.now) }
+    ensures { IfOk result (λ text.
+        ReadsQuoted quote cursor.old.left.now (string_bytes text) cursor.new.left.now) }
 {
     cursor.expect(quote)?;
     let bytes = read_bytes(cursor, quote)?;
@@ -110,9 +108,8 @@ fn read_quoted(cursor: &mut Cursor<'_>, quote: u8) -> Result<String, Stop>
 
 /// Reads a text in quotes.
 pub(crate) fn read_text(cursor: &mut Cursor<'_>) -> Result<String, Stop>
-    ensures { IfOk result (λ text. (left : List ℕ)
-        × (unblanked cursor.old.left.now ≡ 34 ∷ left)
-        × IsLiteral 34 left (string_bytes text) cursor.new.left.now) }
+    ensures { IfOk result (λ text.
+        ReadsQuoted 34 cursor.old.left.now (string_bytes text) cursor.new.left.now) }
 {
     read_quoted(cursor, b'"')
 }
@@ -137,21 +134,22 @@ pub(crate) fn read_char(cursor: &mut Cursor<'_>) -> Result<char, Stop> {
 }
 
 /// Whether a text is next.
-pub(crate) fn is_text(cursor: &mut Cursor<'_>) -> bool {
+pub(crate) fn is_text(cursor: &mut Cursor<'_>) -> bool
+    ensures { cursor.new.left.now ≡ unblanked cursor.old.left.now }
+{
     cursor.blanks();
     matches!(cursor.left, [b'"', ..])
 }
 
-/// A text of the word, which lives on its own.
-fn owned(cursor: &Cursor<'_>, word: &str) -> Result<String, AllocError> {
-    String::from_str(cursor.alloc, word)
-}
-
 /// Reads a text in quotes, or a word.
-pub(crate) fn read_text_or_word(cursor: &mut Cursor<'_>) -> Result<String, Stop> {
+pub(crate) fn read_text_or_word(cursor: &mut Cursor<'_>) -> Result<String, Stop>
+    ensures { IfOk result (λ text.
+        ReadsName cursor.old.left.now (string_bytes text) cursor.new.left.now) }
+{
     if is_text(cursor) {
         return read_text(cursor);
     }
     let word = cursor.word()?;
-    Ok(owned(cursor, word)?)
+    let text = String::from_str(cursor.alloc, word)?;
+    Ok(text)
 }

@@ -1,15 +1,17 @@
 //! The pools of a program while its text is read. What is written in place gets an entry, unless there is the same already.
 ghost use Rattle.std.specs.Prelude.{◌≡◌, ◌+◌, IfOk, IfSome, string_bytes};
 ghost use Rattle.grain_base.specs.View.{content};
-ghost use Rattle.grain_asm.specs.Entries.{Enters, Leads};
+ghost use Rattle.grain_asm.specs.Entries.{Enters, HasEntryAt, ReadsNameIndex};
+ghost use Rattle.grain_asm.specs.Drafted.{HasNoEntry};
 
 use crate::cursor::Cursor;
 use crate::error::{Problem, Stop};
 use crate::literals::read_text_or_word;
-use crate::operators::{owned, plain_spelling, read_token, token_spelled};
+use crate::operators::{plain_spelling, read_token};
 use crate::values::{MAX_DEPTH, read_value};
 use grain_base::{Dynamic, Token};
 use grain_pools::{AssignOp, Chain, Switch};
+use grain_print::token_spelled;
 use std::alloc::Global;
 
 /// The pools that instructions point into.
@@ -58,14 +60,14 @@ fn is_plain(value: &Dynamic) -> bool {
 
 /// The place of this name.
 fn place_of_name(names: &[String], name: &str) -> Option<usize>
-    ensures { IfSome result (Leads (λ other. string_bytes other ≡ name.now) names.now) }
+    ensures { IfSome result (HasEntryAt (λ other. string_bytes other ≡ name.now) names.now) }
 {
     names.iter().position(|other| other.as_str() == name)
 }
 
 /// The place of a constant that is the same, neither under a mark that it is shared nor holding another value.
 fn place_of_constant(consts: &[Dynamic], value: &Dynamic) -> Option<usize>
-    ensures { IfSome result (Leads (λ other. content other ≡ content value.now) consts.now) }
+    ensures { IfSome result (HasEntryAt (λ other. content other ≡ content value.now) consts.now) }
 {
     consts
         .iter()
@@ -74,7 +76,9 @@ fn place_of_constant(consts: &[Dynamic], value: &Dynamic) -> Option<usize>
 
 impl Pools {
     /// Pools without entries.
-    pub fn new(alloc: Global) -> Pools {
+    pub fn new(alloc: Global) -> Pools
+        ensures { HasNoEntry result }
+    {
         Pools {
             alloc,
             names: Vec::new(alloc),
@@ -137,7 +141,10 @@ impl Pools {
     }
 
     /// Reads a name: its index, or the name itself.
-    pub fn read_name(&mut self, cursor: &mut Cursor<'_>) -> Result<u32, Stop> {
+    pub fn read_name(&mut self, cursor: &mut Cursor<'_>) -> Result<u32, Stop>
+        ensures { IfOk result (λ index. ReadsNameIndex cursor.old.left.now
+            self.old.names.items self.new.names.items index cursor.new.left.now) }
+    {
         if let Some(index) = cursor.index()? {
             return Ok(index);
         }
@@ -190,8 +197,8 @@ impl Pools {
         let Some(op) = token_spelled(plain) else {
             return Ok(None);
         };
-        let op_assign_name = self.name_index(owned(self.alloc, spelling)?)?;
-        let op_name = self.name_index(owned(self.alloc, plain)?)?;
+        let op_assign_name = self.name_index(String::from_str(self.alloc, spelling)?)?;
+        let op_name = self.name_index(String::from_str(self.alloc, plain)?)?;
         Ok(Some(AssignOp {
             op_assign,
             op_assign_name,

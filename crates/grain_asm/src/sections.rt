@@ -1,10 +1,12 @@
 //! Sections and directives.
+ghost use Rattle.std.specs.Prelude.{◌≡◌, IfOk, MatchOption};
+ghost use Rattle.grain_asm.specs.Blanks.{ReadsText, unblanked};
 
 use crate::cursor::Cursor;
 use crate::error::Stop;
 
 /// What the lines that follow are.
-#[derive(Clone, Copy, Debug, PartialEq, Eq)]
+#[derive(Clone, Copy, PartialEq, Eq)]
 pub(crate) enum Section {
     /// Names.
     Names,
@@ -43,7 +45,11 @@ pub(crate) fn section_named(directive: &str) -> Option<Section> {
 }
 
 /// Reads a directive, if the line begins with one: a dot and a letter.
-pub(crate) fn read_directive<'a>(cursor: &mut Cursor<'a>) -> Result<Option<&'a str>, Stop> {
+pub(crate) fn read_directive<'a>(cursor: &mut Cursor<'a>) -> Result<Option<&'a str>, Stop>
+    ensures { IfOk result (λ found. MatchOption found
+        (cursor.new.left.now ≡ unblanked cursor.old.left.now)
+        (λ directive. ReadsText cursor.old.left.now directive.now cursor.new.left.now)) }
+{
     cursor.blanks();
     match cursor.left {
         [b'.', b'a'..=b'z' | b'A'..=b'Z', ..] => Ok(Some(cursor.spelling()?)),

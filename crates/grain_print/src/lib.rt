@@ -15,7 +15,7 @@ mod values;
 pub use chains::write_chain;
 pub use forms::{Form, Operand, form_named, form_of};
 pub use marks::Marks;
-pub use operators::{spelling, write_assign_op, write_token};
+pub use operators::{spelling, token_spelled, write_assign_op, write_token};
 pub use program::{print, write_capabilities, write_chunk, write_function};
 pub use quote::write_text;
 pub use switches::write_switch;

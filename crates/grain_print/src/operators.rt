@@ -5,51 +5,25 @@ use grain_base::Token;
 use grain_pools::AssignOp;
 use std::alloc::AllocError;
 
+/// How the operators of the language are written, in the order of their numbers ([`Token::of_number`]).
+static SPELLINGS: [&str; 39] = [
+    "+", "unary+", "-", "unary-", "*", "/", "%", "**", "<<", ">>", "&", "|", "^", "&&", "||", "!",
+    "??", "==", "!=", "<", "<=", ">", ">=", "in", "!in", "..", "..=", "=", "+=", "-=", "*=", "/=",
+    "%=", "**=", "<<=", ">>=", "&=", "|=", "^=",
+];
+
 /// The spelling of an operator of the language.
 #[must_use]
 pub fn spelling(token: &Token) -> Option<&'static str> {
-    match token {
-        Token::Plus => Some("+"),
-        Token::UnaryPlus => Some("unary+"),
-        Token::Minus => Some("-"),
-        Token::UnaryMinus => Some("unary-"),
-        Token::Multiply => Some("*"),
-        Token::Divide => Some("/"),
-        Token::Modulo => Some("%"),
-        Token::PowerOf => Some("**"),
-        Token::LeftShift => Some("<<"),
-        Token::RightShift => Some(">>"),
-        Token::Ampersand => Some("&"),
-        Token::Pipe => Some("|"),
-        Token::XOr => Some("^"),
-        Token::And => Some("&&"),
-        Token::Or => Some("||"),
-        Token::Bang => Some("!"),
-        Token::DoubleQuestion => Some("??"),
-        Token::EqualsTo => Some("=="),
-        Token::NotEqualsTo => Some("!="),
-        Token::LessThan => Some("<"),
-        Token::LessThanEqualsTo => Some("<="),
-        Token::GreaterThan => Some(">"),
-        Token::GreaterThanEqualsTo => Some(">="),
-        Token::In => Some("in"),
-        Token::NotIn => Some("!in"),
-        Token::ExclusiveRange => Some(".."),
-        Token::InclusiveRange => Some("..="),
-        Token::Equals => Some("="),
-        Token::PlusAssign => Some("+="),
-        Token::MinusAssign => Some("-="),
-        Token::MultiplyAssign => Some("*="),
-        Token::DivideAssign => Some("/="),
-        Token::ModuloAssign => Some("%="),
-        Token::PowerOfAssign => Some("**="),
-        Token::LeftShiftAssign => Some("<<="),
-        Token::RightShiftAssign => Some(">>="),
-        Token::AndAssign => Some("&="),
-        Token::OrAssign => Some("|="),
-        Token::XOrAssign => Some("^="),
-        Token::Custom(_) => None,
-    }
+    let number = token.number().ok()?;
+    SPELLINGS.get(usize::from(number)).copied()
+}
+
+/// The operator of the language with this spelling.
+#[must_use]
+pub fn token_spelled(spelling: &str) -> Option<Token> {
+    let place = SPELLINGS.iter().position(|other| *other == spelling)?;
+    Token::of_number(u8::try_from(place).ok()?)
 }
 
 /// Appends an operator: its spelling, or in quotes the text of one that the host has added.
