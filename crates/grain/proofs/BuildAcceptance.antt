@@ -1,7 +1,7 @@
 -- What is handed over passes by index exactly where the program that it makes is accepted.
-use Rattle.std.proofs.Common.{flat_map, ◌≡◌, ℕ, ◌+◌, ◌<◌, ◌≤◌, suc, List, [], ◌∷◌, ◌++◌, length, map, Option, Some, None, refl, sym, ap, subst, ◌∙◌, arith}
+use Rattle.std.proofs.Common.{◌≡◌, ℕ, ◌+◌, ◌≤◌, suc, List, [], ◌∷◌, ◌++◌, length, map, Option, Some, None, refl, sym, ap, subst, ◌∙◌, arith}
 use Rattle.std.specs.Prelude.{option_map, slice_index}
-use Rattle.std.specs.List.{All, AllByRecursion, AllZip}
+use Rattle.std.specs.List.{All, AllZip}
 use Rattle.std.proofs.lemmas.List.{get_or_default, map-append}
 use Rattle.std.proofs.lemmas.List.Elements.{All-map, All-weaker}
 use Rattle.std.proofs.lemmas.Simd.{map-map}
@@ -10,66 +10,25 @@ use Rattle.grain_base.specs.declared.caps.Caps.{Caps}
 use Rattle.grain_code.specs.Assembly.{assembled}
 use Rattle.grain_pools.specs.Dispatch as dispatch
 use Rattle.grain_pools.specs.Dispatch.{Arms, Case, arms, offset_at, resolved, resolved_case, resolved_range, arm_targets}
-use Rattle.grain_code.specs.Fields as fields
-use Rattle.grain_code.specs.InstructionTable.{form}
 use Rattle.grain_code.specs.Span.{Span}
-use Rattle.grain_code.specs.declared.field.Field.{Field}
-use Rattle.grain_code.specs.declared.field.Field.TheVariants.{Index, Slot, Count, Target}
 use Rattle.grain_code.specs.declared.function.Function.{Function}
-use Rattle.grain_code.specs.declared.op.Op.{Op}
 use Rattle.grain_pools.specs.declared.switch.Switch.{Switch}
 use Rattle.grain_pools.specs.declared.switch.SwitchRange.{SwitchRange}
-use Rattle.grain_code.proofs.Canonical.{form_decoded}
-use Rattle.grain_code.proofs.Instructions.{begins_none_nil}
-use Rattle.grain_code.proofs.Splits.{one_front}
-use Rattle.grain_rules.specs.Accepted.{AreDeepest, ChunkPasses, ConstantPasses, IsAccepted}
+use Rattle.grain_rules.specs.Accepted.{AreDeepest, AreIndexed, ChunkPasses, ConstantPasses, IsAccepted}
 use Rattle.grain.specs.Build.{AreDeepestByIndex, CanBuild, CanLay, Draft, IsLaid, by_index, head_of, leads, setting_with}
 use Rattle.grain_rules.specs.ByIndex.{IsCut, LeadWithin, span_moved}
 use Rattle.grain_rules.specs.Capabilities.{Allows}
 use Rattle.grain_rules.specs.Code.{Bytecode, coded, switch_targets}
-use Rattle.grain_rules.specs.Indices.{Indexed, IsPassed, case_constants, cases_of, field_mentions, further, own_mentions, test_of, tests_of}
+use Rattle.grain_rules.specs.Indices.{Indexed}
 use Rattle.grain.specs.Program.{Program, chunks_of, input_of, setting_of}
-use Rattle.grain_rules.specs.Facts.{Mention, Entry, case_consts}
+use Rattle.grain_rules.specs.Facts.{case_consts}
 use Rattle.grain_rules.specs.Setting.{Setting, with_caps}
 use Rattle.grain_rules.specs.Typing.{HasTyping, IsDeepest}
 use Rattle.grain.specs.declared.builder.Head.{Head}
+use Rattle.grain.proofs.AssembledIndices.{indexed_assembled, indexed_ops}
 use Rattle.grain.proofs.AssembledParts.{All-before_map}
 use Rattle.grain_rules.proofs.Offsets.{offset_count}
 use Rattle.grain_rules.proofs.Transport.{deepest_here, deepest_there, framed_there, typed_here, typed_there}
-
--- mapped targets leave what fields name as it is
-mentions_moved : (g : ℕ → ℕ) (fs : List Field) → flat_map field_mentions (map (fields.moved g) fs) ≡ flat_map field_mentions fs
-mentions_moved g [] = refl
-mentions_moved g (Index pool x ∷ fs) = ap (λ (rest : List Mention). Entry pool x ∷ rest) (mentions_moved g fs)
-mentions_moved g (Slot x ∷ fs) = mentions_moved g fs
-mentions_moved g (Count x ∷ fs) = mentions_moved g fs
-mentions_moved g (Target t ∷ fs) = mentions_moved g fs
-
--- so an operation's indices pass exactly where they pass once it is assembled
-module _ (s : Setting) (offsets : List ℕ) (op : Op) where
-  abbrev g : ℕ → ℕ
-  g = slice_index offsets
-
-  mentions_same : own_mentions (assembled offsets op) ≡ own_mentions op
-  mentions_same = ap (λ (p : ℕ × List Field). flat_map field_mentions p.1) (form_decoded g op) ∙ mentions_moved g (form op).1
-
-  tests_same : tests_of s (assembled offsets op) ≡ tests_of s op
-  tests_same = ap (λ (own : List Mention). map (test_of s) (own ++ flat_map (further s) own)) mentions_same
-
-  cases_same : cases_of s (assembled offsets op) ≡ cases_of s op
-  cases_same = ap (flat_map (case_constants s)) mentions_same
-
-  indexed_there : Indexed s op → Indexed s (assembled offsets op)
-  indexed_there h = record {
-    tests = subst (AllByRecursion IsPassed) (sym tests_same) h.tests;
-    cases = subst (AllByRecursion (λ c. c < s.facts.consts)) (sym cases_same) h.cases;
-  }
-
-  indexed_here : Indexed s (assembled offsets op) → Indexed s op
-  indexed_here h = record {
-    tests = subst (AllByRecursion IsPassed) tests_same h.tests;
-    cases = subst (AllByRecursion (λ c. c < s.facts.consts)) cases_same h.cases;
-  }
 
 -- the constants of the cases don't change with the targets
 abbrev consts_in : Option (List Case) → List ℕ
@@ -192,7 +151,7 @@ module _ (d : Draft) (p : Program) (lays : CanLay d) (laid : IsLaid d p) where
       map (assembled laid.offsets) d.ops,
       laid.code.written,
       subst (λ (t : Setting). All (Indexed t) (map (assembled laid.offsets) d.ops)) (sym same_setting)
-          (All-map (Indexed s) (assembled laid.offsets) d.ops (All-weaker (Indexed s) (λ op. Indexed s (assembled laid.offsets op)) (indexed_there s laid.offsets) d.ops h.indexed)),
+          (All-map (Indexed s) (assembled laid.offsets) d.ops (All-weaker (Indexed s) (λ op. Indexed s (assembled laid.offsets op)) (indexed_assembled s laid.offsets) d.ops h.indexed)),
     );
     functions = λ some. subst (λ (c : Caps). Allows c.0 FUNCTION) (sym same_caps) (h.functions (λ none. some (no_functions p.functions (laid.heads ∙ none))));
     chunks =
@@ -206,12 +165,7 @@ module _ (d : Draft) (p : Program) (lays : CanLay d) (laid : IsLaid d p) where
   accepted_here h = record {
     lays = lays;
     constants = λ k v l. subst (λ (A : Type 0). A) constants_same h.constants k v l;
-    indexed = λ k op l.
-        let code = h.code in
-        let one = (one_front code.0 (map (assembled laid.offsets) d.ops) [] [] code.1.each laid.code.written.each begins_none_nil begins_none_nil
-        (ap (λ (b : List ℕ). b ++ []) (sym code.1.whole ∙ laid.code.written.whole))).0 in
-        let indexed : All (Indexed s) (map (assembled laid.offsets) d.ops) = subst (All (Indexed s)) one (subst (λ (t : Setting). All (Indexed t) code.0) same_setting code.2) in
-        indexed_here s laid.offsets _ (All-before_map (Indexed s) (assembled laid.offsets) d.ops indexed k op l);
+    indexed = indexed_ops s d.ops p.code laid.offsets laid.code (subst (λ (t : Setting). AreIndexed t p.code) same_setting h.code);
     functions = λ some. subst (λ (c : Caps). Allows c.0 FUNCTION) same_caps (h.functions (λ none. some (sym laid.heads ∙ ap (map head_of) none)));
     typed = λ k cut l.
         let chunks : All (ChunkPasses there) (map (span_moved f) d.cuts) = subst (All (ChunkPasses there)) laid.chunks (subst (λ (c : Bytecode). All (ChunkPasses c) (chunks_of p)) same_code h.chunks) in

@@ -1,3 +1,4 @@
+pub mod AssembledIndices
 pub mod AttachedPositions
 pub mod BuildAcceptance
 pub mod Declared

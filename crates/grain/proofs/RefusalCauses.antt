@@ -1,5 +1,5 @@
 -- What a refusal says of the tests before the chunks.
-use Rattle.std.proofs.Common.{◌≡◌, ◌≢◌, ℕ, [], Option, None, Some, Ok, Err, inl, inr, refl, subst, Vec}
+use Rattle.std.proofs.Common.{◌≡◌, ◌≢◌, ◌⊎◌, ℕ, [], Option, None, Some, Ok, Err, inl, inr, refl, subst, Vec}
 use Rattle.std.specs.List.{AllZip}
 use Rattle.std.specs.declared.alloc.Global.{Global}
 use Rattle.grain_explain.specs.declared.refusal.ExplainedChunk.{ExplainedChunk}
@@ -84,3 +84,13 @@ accepted_explained i numbers chunks verdict explained exact =
 pub only_memory : (e : ExplainError) → (e ≡ BadCode → ⊥) → e ≡ explain.OutOfMemory
 only_memory BadCode none = absurd (none refl)
 only_memory explain.OutOfMemory none = refl
+
+-- a flaw at a place is one
+pub flaw_at : (i : Input) (place : Option ℕ) (e : VerifyError) → FlawAt i place e → Flaw i e
+flaw_at i None e h = h.0
+flaw_at i (Some place) e h = of_chunk h.0
+
+-- a refusal with a place is a lack of memory, or one for a flaw
+pub placed_flaw : (i : Input) (r : Refusal) → IsPlacedRefusal i r → (r.error ≡ OutOfMemory) ⊎ Flaw i r.error
+placed_flaw i r (inl wants) = inl wants.error
+placed_flaw i r (inr flaw) = inr (flaw_at i r.place r.error flaw)

@@ -1,16 +1,18 @@
 //! Verifying a program, and declaring no more operands than it stacks.
-ghost use Rattle.std.specs.Prelude.{◌≡◌, ◌⊎◌, IfErr, IfOk, OnErr, OnOk, length, map};
+ghost use Rattle.std.specs.Prelude.{◌≡◌, ◌⊎◌, ℕ, IfErr, IfOk, OnErr, OnOk, length, map};
 ghost use Rattle.grain_rules.specs.Accepted.{IsAccepted};
 ghost use Rattle.grain_rules.specs.Flaw.{Flaw};
 ghost use Rattle.grain.specs.Lookups.{FindsIndices};
 ghost use Rattle.grain.specs.Program.{chunks_of, declared_by, input_of};
 ghost use Rattle.grain.specs.Tightened.{IsTightened, undeclared, undeclared_function};
 ghost use Rattle.grain_rules.specs.Verdict.{IsVerdict};
+ghost use Rattle.grain_verify.specs.Meter.{AreReached, HasCounted, IsMetered, IsWithinAll};
+ghost use Rattle.grain_verify.specs.Refusals.{IsPlacedRefusal, without_place};
 
 use crate::program::Program;
 use grain_code::{Chunk, Function};
 use grain_rules::VerifyError;
-use grain_verify::verify;
+use grain_verify::{Meter, Refusal, verify_placed};
 use std::alloc::AllocError;
 
 impl Program {
@@ -27,9 +29,25 @@ impl Program {
         // Each index of its instructions is found by its lookup.
         ensures found { OnOk result (FindsIndices self.now) }
     {
+        match self.verify_placed(&mut Meter::new()) {
+            Ok(numbers) => Ok(numbers),
+            Err(refusal) => Err(refusal.error),
+        }
+    }
+
+    /// Verifies as [`Program::verify`] does, counts as [`verify_metered`](grain_verify::verify_metered) does, and says of a
+    /// refusal which chunk is refused. It costs as much.
+    ///
+    /// # Errors
+    /// As [`Program::verify`], each with the place of its chunk.
+    pub fn verify_placed(&self, meter: &mut Meter) -> Result<Vec<u16>, Refusal>
+        ensures verdict { IsVerdict (input_of self.now) (without_place result) }
+        ensures placed { IfErr result (IsPlacedRefusal (input_of self.now)) }
+        ensures metered { IsMetered (input_of self.now) meter.old meter.new (without_place result) }
+    {
         let chunks = self.chunks()?;
         let pools = self.pools();
-        verify(
+        verify_placed(
             self.alloc,
             self.caps,
             &self.parts.consts,
@@ -37,6 +55,7 @@ impl Program {
             &self.functions,
             &chunks,
             &pools,
+            meter,
         )
     }
 
@@ -53,7 +72,29 @@ impl Program {
             (λ e. (e ≡ VerifyError.OutOfMemory) ⊎ Flaw (input_of self.old) e) }
         ensures unchanged { OnErr result (self.new ≡ self.old) }
     {
-        let numbers = self.verify()?;
+        match self.tighten_placed(&mut Meter::new()) {
+            Ok(()) => Ok(()),
+            Err(refusal) => Err(refusal.error),
+        }
+    }
+
+    /// Tightens as [`Program::tighten_stack`] does, and counts and places a refusal as [`Program::verify_placed`] does.
+    ///
+    /// # Errors
+    /// As [`Program::verify_placed`], the program being unchanged.
+    pub fn tighten_placed(&mut self, meter: &mut Meter) -> Result<(), Refusal>
+        ensures ok { OnOk result (IsTightened self.old self.new) }
+        ensures accepts { IsAccepted (input_of self.old)
+            → IfErr result (λ r. r.error ≡ VerifyError.OutOfMemory) }
+        ensures placed { IfErr result (IsPlacedRefusal (input_of self.old)) }
+        ensures reached { OnOk result ((n : ℕ)
+            × AreReached (input_of self.old).code (chunks_of self.old) n
+            × HasCounted meter.old meter.new n) }
+        ensures within { OnErr result ((n : ℕ)
+            × IsWithinAll (input_of self.old) n × HasCounted meter.old meter.new n) }
+        ensures unchanged { OnErr result (self.new ≡ self.old) }
+    {
+        let numbers = self.verify_placed(meter)?;
         self.declare(&numbers);
         Ok(())
     }

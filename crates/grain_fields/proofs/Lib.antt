@@ -15,3 +15,4 @@ pub mod CaseContents
 pub mod CopiedEntries
 pub mod GatheredCases
 pub mod CaseTests
+pub mod NoLonger

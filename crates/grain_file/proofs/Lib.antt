@@ -3,3 +3,4 @@ pub mod Writable
 pub mod AllBytes
 pub mod SidecarFiles
 pub mod Tiles
+pub mod ChangedFiles

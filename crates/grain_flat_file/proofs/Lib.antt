@@ -2,3 +2,7 @@ mod Fieldless
 pub mod FlatForm
 mod Placing
 mod ValueRows
+pub mod SpannedWork
+pub mod WideAddresses
+pub mod WrittenAgain
+mod RefusedFiles

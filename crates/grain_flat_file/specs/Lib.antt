@@ -1,3 +1,4 @@
+pub mod Changed
 pub mod Contents
 pub mod Errors
 pub mod Loading

@@ -1,6 +1,7 @@
 //! The chunks and the functions of a program as rows.
 ghost use Rattle.std.specs.Prelude.{◌≡◌, ◌∷◌, ◌++◌, [], IfOk, OnOk, map};
 ghost use Rattle.std.specs.List.{flat_map};
+ghost use Rattle.grain.specs.Program.{chunks_of};
 ghost use Rattle.grain_code.specs.declared.function.Function.{Function};
 ghost use Rattle.grain_flat_file.specs.Contents.{AreFunctionLists, function_row, parameters_of};
 
@@ -10,7 +11,7 @@ use grain::Program;
 use grain_base::FnAccess;
 use grain_code::{Chunk, Function};
 use grain_flat::CChunk;
-use std::alloc::Global;
+use std::alloc::{AllocError, Global};
 
 fn chunk_row(chunk: &Chunk) -> CChunk
     ensures { result ≡ chunk.now }
@@ -20,6 +21,18 @@ fn chunk_row(chunk: &Chunk) -> CChunk
         end: chunk.end(),
         max_stack: chunk.max_stack(),
     }
+}
+
+/// The chunks of a program as rows, the main one first.
+pub(crate) fn chunk_rows(alloc: Global, program: &Program) -> Result<Vec<CChunk>, AllocError>
+    ensures { IfOk result (λ rows. rows.items ≡ chunks_of program.now) }
+{
+    let mut rows = Vec::new(alloc);
+    rows.push(chunk_row(&program.main()))?;
+    for function in program.functions() {
+        rows.push(chunk_row(&function.chunk))?;
+    }
+    Ok(rows)
 }
 
 /// The row of a function, unless it has too many parameters.

@@ -1,10 +1,11 @@
 //! Program files in the flat form in which they are handed to programs in C and Rust.
 //!
-//! [`FlatFile`] is the flat form of a program, which takes its place. What stands in that form is said in the folder `specs/`. The
-//! exports of the static library stand in `grain_c`.
+//! [`FlatFile`] is the flat form of a program, which takes its place. [`tighten`] and [`strip`] write a file again. What stands in
+//! the form and in the files is said in the folder `specs/`. The exports of the static library stand in `grain_c`.
 #![tactic(auto)]
 
 pub mod causes;
+mod changed;
 mod contents;
 mod copies;
 mod errors;
@@ -19,6 +20,7 @@ pub mod tags;
 mod unflat;
 mod values;
 
+pub use changed::{Stripped, TightenStop, strip, tighten};
 pub use contents::FlatFile;
 pub use errors::{read_error_of, read_error_record};
 pub use loading::{FileStop, read_flat};

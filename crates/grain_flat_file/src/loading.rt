@@ -8,7 +8,7 @@ ghost use Rattle.grain_flat_file.specs.Loading.{IsFlatReadCause};
 use crate::contents::FlatFile;
 use crate::unflat::Unflat;
 use grain_file::{Limits, ReadError, read};
-use std::alloc::Global;
+use std::alloc::{AllocError, Global};
 
 /// Why a file isn't read.
 #[derive(Clone, Copy, Debug, PartialEq, Eq)]
@@ -17,6 +17,18 @@ pub enum FileStop {
     Read(ReadError),
     /// A list of the program has more entries than a row can count.
     TooLong,
+}
+
+impl From<AllocError> for FileStop {
+    ghost use Rattle.std.specs.Prelude.{◌≡◌};
+    ghost use Rattle.grain_file.specs.declared.file.ReadError.{ReadError};
+    ghost use Rattle.grain_flat_file.specs.declared.loading.FileStop.{FileStop};
+
+    ghost from_gives = { λ _ e. e ≡ FileStop.Read ReadError.OutOfMemory };
+
+    fn from(_: AllocError) -> FileStop {
+        FileStop::Read(ReadError::OutOfMemory)
+    }
 }
 
 /// The flat form of the program that the bytes are a file of. It costs one [`read`] and one [`FlatFile::new`].

@@ -11,6 +11,7 @@ use Rattle.grain_code.specs.Span.{Span}
 use Rattle.grain_base.specs.declared.pos.Site.{Site}
 use Rattle.grain_rules.specs.Texts.{verify_error_text}
 use Rattle.grain_rules.specs.declared.error.VerifyError.{VerifyError}
+use Rattle.grain_rules.specs.declared.error.VerifyError.TheVariants as errors
 use Rattle.grain_lines.specs.Case.{Asked, asked, code, site, verify}
 use Rattle.grain_lines.specs.Lines.{ended_lines}
 
@@ -22,7 +23,7 @@ pub record Adds (IsKind : List ℕ → Type 0) (old new : List ℕ) : Type 0 whe
 
 abbrev pub code_text : Result ℕ ℕ → List ℕ
 code_text (Ok count) = codes "whole " ++ decimal count
-code_text (Err at) = codes "undecodable at=" ++ decimal at
+code_text (Err at) = verify_error_text (errors.Undecodable at)
 
 -- the text is the verdict on code: how many instructions the whole code is, or the address of the
 -- first thing that is none

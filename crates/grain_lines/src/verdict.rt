@@ -22,7 +22,10 @@ fn write_count(text: &mut String, code: &[u8]) -> Result<(), AllocError>
 {
     match count_instructions(code) {
         Ok(count) => write!(text, "whole {count}")?,
-        Err(at) => write!(text, "undecodable at={at}")?,
+        Err(at) => {
+            let refusal = VerifyError::Undecodable { at };
+            write!(text, "{refusal}")?;
+        }
     }
     Ok(())
 }
