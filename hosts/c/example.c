@@ -138,6 +138,21 @@ static bool read_file(size_t length) {
     return status == GRAIN_ACCEPTED;
 }
 
+/* Writes the file again, first with chunks that declare their depths, then without positions, and these as a file of their own. */
+static bool write_file(void) {
+    uint8_t file[sizeof file_bytes], sidecar[2 * sizeof file_bytes];
+    size_t size, sidecar_size;
+    if (grain_file_tighten(file_bytes, sizeof file_bytes, NULL, GRAIN_NO_LIMIT, file, sizeof file, &size, NULL, NULL) !=
+        GRAIN_ACCEPTED)
+        return false;
+    printf("tightened file of %zu bytes\n", size);
+    if (grain_file_strip(file_bytes, sizeof file_bytes, NULL, file, sizeof file, &size, sidecar, sizeof sidecar, &sidecar_size,
+                         NULL) != GRAIN_ACCEPTED)
+        return false;
+    printf("stripped file of %zu bytes, sidecar of %zu\n", size, sidecar_size);
+    return true;
+}
+
 int main(void) {
     bool as_wanted = verify(GRAIN_CAP_ALL, &program) == GRAIN_ACCEPTED;
     as_wanted = tighten() && list_code() && list_places() && as_wanted;
@@ -157,6 +172,6 @@ int main(void) {
     uneven.pools.steps_len = 0;
     as_wanted = verify(GRAIN_CAP_ALL, &uneven) == GRAIN_NOT_FLAT && as_wanted;
 
-    as_wanted = read_file(sizeof file_bytes) && !read_file(22) && as_wanted;
+    as_wanted = read_file(sizeof file_bytes) && !read_file(22) && write_file() && as_wanted;
     return as_wanted ? 0 : 1;
 }

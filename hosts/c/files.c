@@ -1,5 +1,5 @@
 /* The calls on program files: what they return and write, that each changed byte and each prefix has an answer, that what is read
- * writes exactly these bytes again, and that each allocation may be refused. */
+ * writes exactly these bytes again, that files are tightened and stripped, and that each allocation may be refused. */
 #define _DEFAULT_SOURCE
 #include "rewrite.h"
 
@@ -140,6 +140,112 @@ static void files_are_verified(void) {
     grain_file_free(NULL);
 }
 
+/* Where the second chunk of the sample says what it declares. */
+enum { DECLARED_AT = 28 };
+
+/* A room whose bytes are all 77. */
+static void clear(uint8_t *room, size_t len) {
+    memset(room, 77, len);
+}
+
+static bool is_clear(const uint8_t *room, size_t len) {
+    while (len > 0 && *room == 77)
+        room++, len--;
+    return len == 0;
+}
+
+static void files_are_tightened(void) {
+    uint8_t room[sizeof sample + 1], wanted[sizeof sample], refused[sizeof sample];
+    size_t size = 77;
+    grain_read_error error = {77, 77, 77, 77, 77};
+    grain_report report = {{77, 77, 77, 77, 77}, 77};
+    memcpy(wanted, sample, sizeof sample);
+    memcpy(refused, sample, sizeof sample);
+    wanted[DECLARED_AT] = 1;
+    refused[DECLARED_AT] = 0;
+    clear(room, sizeof room);
+    CHECK(grain_file_tighten(sample, sizeof sample, NULL, 12, room, sizeof sample - 1, &size, &error, &report) == GRAIN_SHORT);
+    CHECK(size == sizeof sample && is_clear(room, sizeof room) && report.visited == 77 && error.cause == 77);
+    size = 77;
+    CHECK(grain_file_tighten(sample, sizeof sample, NULL, 11, room, sizeof room, &size, &error, &report) ==
+          GRAIN_TOO_MUCH_WORK);
+    CHECK(grain_file_tighten(sample, 20, NULL, 12, room, sizeof room, &size, NULL, &report) == GRAIN_NO_FILE);
+    CHECK(grain_file_tighten(sample, 20, NULL, 12, room, sizeof room, &size, &error, &report) == GRAIN_NO_FILE);
+    CHECK(error.cause == GRAIN_CAUSE_TRUNCATED && error.at == 20 && report.visited == 77);
+    CHECK(grain_file_tighten(refused, sizeof refused, NULL, 12, room, sizeof room, &size, NULL, NULL) == GRAIN_REFUSED);
+    CHECK(grain_file_tighten(refused, sizeof refused, NULL, 12, room, sizeof room, &size, NULL, &report) == GRAIN_REFUSED);
+    CHECK(report.refusal.flaw == GRAIN_FLAW_STACK_EXCEEDS_DECLARED && report.refusal.chunk == 1 && report.visited == 4);
+    CHECK(size == 77 && is_clear(room, sizeof room));
+    CHECK(grain_file_tighten(sample, sizeof sample, NULL, 12, room, sizeof room, &size, &error, &report) == GRAIN_ACCEPTED);
+    CHECK(size == sizeof sample && memcmp(room, wanted, size) == 0 && room[size] == 77 && report.visited == 6);
+    CHECK(report.refusal.chunk == 1);
+    CHECK(grain_file_tighten(wanted, sizeof wanted, NULL, 12, room, size, &size, NULL, NULL) == GRAIN_ACCEPTED);
+    CHECK(memcmp(room, wanted, size) == 0);
+    CHECK(grain_file_tighten(NULL, 0, NULL, 12, NULL, 0, &size, NULL, NULL) == GRAIN_NO_FILE);
+}
+
+/* The sidecar file of what a file has. */
+static rewritten sidecar_of(const grain_contents *all) {
+    static const uint8_t head[] = {0x00, 'g', 'r', 'n', 0x01, 0x01};
+    rewritten out = {NULL, 0, 0, false};
+    for (size_t i = 0; i < sizeof head; i++)
+        put_byte(&out, head[i]);
+    put_number(&out, all->id_low);
+    put_number(&out, all->id_high);
+    put_bytes(&out, all->table, all->table_len);
+    put_bytes(&out, all->stream, all->stream_len);
+    return out;
+}
+
+/* Whether a stripped file has no positions, and all else that the file has which was read. */
+static bool is_bare(const uint8_t *bytes, size_t len, const grain_contents *old) {
+    grain_file *file;
+    if (reads(bytes, len, &file) != GRAIN_ACCEPTED)
+        return false;
+    const grain_contents *bare = grain_file_contents(file);
+    grain_place place;
+    bool is = !bare->has_positions && bare->positions == 0 && writes_again(bare, bytes, len);
+    for (uint32_t slot = 0; slot < 5; slot++)
+        is = is && !grain_stream_site(bare->stream, bare->stream_len, slot, &place);
+    is = is && bare->id_low == old->id_low && bare->constants_len == old->constants_len && bare->source_len == old->source_len;
+    is = is && bare->program.code_len == old->program.code_len && bare->functions_len == old->functions_len;
+    is = is && bare->program.pools.steps_len == old->program.pools.steps_len && bare->stream_len == old->stream_len;
+    grain_file_free(file);
+    return is;
+}
+
+static void files_are_stripped(void) {
+    uint8_t room[sizeof sample + 1], sidecar[64];
+    size_t size = 77, sidecar_size = 77;
+    grain_file *file;
+    grain_read_error error = {77, 77, 77, 77, 77};
+    if (reads(sample, sizeof sample, &file) != GRAIN_ACCEPTED)
+        return;
+    rewritten wanted = sidecar_of(grain_file_contents(file));
+    clear(room, sizeof room), clear(sidecar, sizeof sidecar);
+    CHECK(!wanted.failed && wanted.len < sizeof sidecar);
+    CHECK(grain_file_strip(sample, sizeof sample, NULL, room, sizeof room, &size, sidecar, wanted.len - 1, &sidecar_size,
+                           &error) == GRAIN_SHORT);
+    CHECK(size < sizeof sample && sidecar_size == wanted.len);
+    size_t small = size;
+    size = sidecar_size = 77;
+    CHECK(grain_file_strip(sample, sizeof sample, NULL, room, small - 1, &size, sidecar, sizeof sidecar, &sidecar_size, NULL) ==
+          GRAIN_SHORT);
+    CHECK(size == small && sidecar_size == wanted.len && is_clear(room, sizeof room) && is_clear(sidecar, sizeof sidecar));
+    size = sidecar_size = 77;
+    CHECK(grain_file_strip(sample, 20, NULL, room, small, &size, sidecar, sizeof sidecar, &sidecar_size, &error) ==
+          GRAIN_NO_FILE);
+    CHECK(error.at == 20 && size == 77 && sidecar_size == 77);
+    CHECK(grain_file_strip(NULL, 0, NULL, NULL, 0, &size, NULL, 0, &sidecar_size, NULL) == GRAIN_NO_FILE);
+    CHECK(is_clear(room, sizeof room) && is_clear(sidecar, sizeof sidecar));
+    CHECK(grain_file_strip(sample, sizeof sample, NULL, room, sizeof room, &size, sidecar, sizeof sidecar, &sidecar_size,
+                           NULL) == GRAIN_ACCEPTED);
+    CHECK(size == small && is_bare(room, size, grain_file_contents(file)) && is_clear(room + size, sizeof room - size));
+    CHECK(sidecar_size == wanted.len && memcmp(sidecar, wanted.bytes, wanted.len) == 0 && sidecar[sidecar_size] == 77);
+    free(wanted.bytes);
+    grain_file_free(file);
+}
+
 static void refusals_are_named(void) {
     grain_file *file = (grain_file *)&wrong;
     grain_read_error error = {77, 77, 77, 77, 77};
@@ -215,16 +321,51 @@ static void memory_may_lack(void) {
     CHECK(false);
 }
 
+/* Each allocation is refused in turn, of tightening and of stripping. */
+static void memory_may_lack_for_changes(void) {
+    uint8_t room[sizeof sample], sidecar[64];
+    for (long n = 0; n < 1000; n++) {
+        size_t size = 77, sidecar_size = 77;
+        grain_report report = {{77, 77, 77, 77, 77}, 77};
+        clear(room, sizeof room), clear(sidecar, sizeof sidecar);
+        left = n;
+        grain_status tightened = grain_file_tighten(sample, sizeof sample, NULL, 12, room, sizeof room, &size, NULL, &report);
+        bool was_refused = left == 0;
+        left = -1;
+        CHECK(live == 0 && (tightened == GRAIN_ACCEPTED || (tightened == GRAIN_OUT_OF_MEMORY && was_refused)));
+        CHECK(tightened == GRAIN_ACCEPTED || (size == 77 && report.visited == 77 && is_clear(room, sizeof room)));
+        size = 77;
+        clear(room, sizeof room);
+        left = n;
+        grain_status stripped = grain_file_strip(sample, sizeof sample, NULL, room, sizeof room, &size, sidecar, sizeof sidecar,
+                                                 &sidecar_size, NULL);
+        was_refused = left == 0;
+        left = -1;
+        CHECK(live == 0 && (stripped == GRAIN_ACCEPTED || (stripped == GRAIN_OUT_OF_MEMORY && was_refused)));
+        CHECK(stripped == GRAIN_ACCEPTED || (size == 77 && sidecar_size == 77 && is_clear(room, sizeof room)));
+        CHECK(stripped == GRAIN_ACCEPTED || is_clear(sidecar, sizeof sidecar));
+        if (tightened == GRAIN_ACCEPTED && stripped == GRAIN_ACCEPTED) {
+            CHECK(n > 20);
+            printf("tightened and stripped: %ld allocations refused in turn\n", n);
+            return;
+        }
+    }
+    CHECK(false);
+}
+
 int main(void) {
     all_is_read();
     files_are_verified();
+    files_are_tightened();
+    files_are_stripped();
     refusals_are_named();
     near_misses_are_answered();
 #ifndef SHARED
     memory_may_lack();
+    memory_may_lack_for_changes();
     CHECK(live == 0);
 #else
-    (void)memory_may_lack, (void)is_refused, (void)live;
+    (void)memory_may_lack, (void)memory_may_lack_for_changes, (void)is_refused, (void)live;
 #endif
     printf("files: %d wrong\n", wrong);
     return wrong != 0;

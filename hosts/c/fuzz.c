@@ -62,6 +62,25 @@ static void explain_all(const grain_contents *all) {
     }
 }
 
+/* What is written again is a file, no longer, and the second time the same. */
+static void change_all(const uint8_t *bytes, size_t len) {
+    uint8_t *room = calloc(len, 1), *again = calloc(len, 1), *sidecar = calloc(2 * len, 1);
+    size_t size = 0, again_size = 0, sidecar_size = 0;
+    grain_status status = grain_file_tighten(bytes, len, NULL, GRAIN_NO_LIMIT, room, len, &size, NULL, NULL);
+    REQUIRE(status == GRAIN_ACCEPTED || status == GRAIN_REFUSED);
+    if (status == GRAIN_ACCEPTED) {
+        REQUIRE(grain_file_tighten(room, size, NULL, GRAIN_NO_LIMIT, again, len, &again_size, NULL, NULL) == GRAIN_ACCEPTED);
+        REQUIRE(size == again_size && memcmp(room, again, size) == 0);
+    }
+    REQUIRE(grain_file_strip(bytes, len, NULL, room, len, &size, sidecar, 2 * len, &sidecar_size, NULL) == GRAIN_ACCEPTED);
+    REQUIRE(grain_file_strip(room, size, NULL, again, len, &again_size, sidecar, 2 * len, &sidecar_size, NULL) ==
+            GRAIN_ACCEPTED);
+    REQUIRE(size == again_size && memcmp(room, again, size) == 0);
+    free(room);
+    free(again);
+    free(sidecar);
+}
+
 int LLVMFuzzerTestOneInput(const uint8_t *bytes, size_t len);
 
 int LLVMFuzzerTestOneInput(const uint8_t *bytes, size_t len) {
@@ -85,6 +104,7 @@ int LLVMFuzzerTestOneInput(const uint8_t *bytes, size_t len) {
     verify_all(file, all);
     explain_all(all);
     REQUIRE(writes_again(all, bytes, len));
+    change_all(bytes, len);
     grain_file_free(file);
     return 0;
 }

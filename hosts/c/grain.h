@@ -20,7 +20,7 @@
  *   them from a signal handler, nor in a child that a process with several threads has forked.
  *
  * No call waits, prints or ends the process. Nothing is kept between calls except in a scratch or a file. A call takes up to
- * 22 KiB of its thread's stack, except grain_file_read.
+ * 22 KiB of its thread's stack, except those that read a file.
  * The library is for x86-64 Linux, on processors with popcnt (x86-64-v2).
  *
  * FORMAT.md has the instructions, the tables and the rules of verification; EMBEDDING.md says what a host owes
@@ -596,6 +596,31 @@ GRAIN_NODISCARD grain_status grain_file_verify(grain_scratch *scratch, const gra
 
 /* Frees a file. NULL: nothing happens. */
 void grain_file_free(grain_file *file);
+
+/* Writes the file of the same program, whose chunks declare their depths: reads a file as grain_file_read does, and verifies its
+ * program under the capabilities that it declares, as grain_verify does.
+ *
+ * GRAIN_ACCEPTED: the file is written to `tightened`, *size is its length, and report->visited is written. The program of that file
+ * is accepted again. GRAIN_SHORT: *size is written, and there is less room. The file is never longer than the one that was read.
+ * GRAIN_REFUSED: *report is written. GRAIN_NO_FILE: *error is written. GRAIN_TOO_MUCH_WORK, GRAIN_OUT_OF_MEMORY: nothing is
+ * written. `limits`, `error` and `report` may be NULL.
+ *
+ * A call takes of the call stack what grain_file_read does. A program has exactly one file: what was read and isn't changed is
+ * written by the bytes that were read. */
+GRAIN_NODISCARD grain_status grain_file_tighten(const uint8_t *bytes, size_t bytes_len, const grain_limits *limits,
+                                                uint64_t limit, uint8_t *tightened, size_t tightened_len, size_t *size,
+                                                grain_read_error *error, grain_report *report);
+
+/* Writes the file of the same program without positions, and the positions as a sidecar file (FORMAT.md, "Sidecar files"), which
+ * the command `grain attach` gives back to it: reads a file as grain_file_read does.
+ *
+ * GRAIN_ACCEPTED: the files are written to `stripped` and `sidecar`, and *size and *sidecar_size are their lengths. GRAIN_SHORT:
+ * only these are written, and there is less room for one of them. The stripped file is never longer than the one that was read.
+ * GRAIN_NO_FILE: *error is written. GRAIN_TOO_LONG, where an address above 4294967295 has a position, and GRAIN_OUT_OF_MEMORY:
+ * nothing is written. `limits` and `error` may be NULL. */
+GRAIN_NODISCARD grain_status grain_file_strip(const uint8_t *bytes, size_t bytes_len, const grain_limits *limits,
+                                              uint8_t *stripped, size_t stripped_len, size_t *size, uint8_t *sidecar,
+                                              size_t sidecar_len, size_t *sidecar_size, grain_read_error *error);
 
 /* Room for the longest text of the next three calls, with the 0 that ends it. */
 #define GRAIN_TEXT_SIZE 129

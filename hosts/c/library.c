@@ -181,6 +181,28 @@ void grain_file_free(grain_file *file) {
     grain_dealloc(file);
 }
 
+grain_status grain_file_tighten(const uint8_t *bytes, size_t bytes_len, const grain_limits *limits, uint64_t limit,
+                                uint8_t *tightened, size_t tightened_len, size_t *size, grain_read_error *error,
+                                grain_report *report) {
+    const grain_limits usual = GRAIN_LIMITS_DEFAULT;
+    grain_read_error unread = {0, 0, 0, 0, 0};
+    grain_report unread_report = {{0, 0, 0, 0, 0}, 0};
+    return (grain_status)grain_proved_file_tighten(some(bytes), bytes_len, limits != NULL ? limits : &usual, limit,
+                                                   some_room(tightened), tightened_len, size,
+                                                   error != NULL ? error : &unread,
+                                                   report != NULL ? report : &unread_report);
+}
+
+grain_status grain_file_strip(const uint8_t *bytes, size_t bytes_len, const grain_limits *limits, uint8_t *stripped,
+                              size_t stripped_len, size_t *size, uint8_t *sidecar, size_t sidecar_len, size_t *sidecar_size,
+                              grain_read_error *error) {
+    const grain_limits usual = GRAIN_LIMITS_DEFAULT;
+    grain_read_error unread = {0, 0, 0, 0, 0};
+    return (grain_status)grain_proved_file_strip(some(bytes), bytes_len, limits != NULL ? limits : &usual,
+                                                 some_room(stripped), stripped_len, size, some_room(sidecar), sidecar_len,
+                                                 sidecar_size, error != NULL ? error : &unread);
+}
+
 size_t grain_read_error_text(const grain_read_error *error, char *text, size_t size) {
     return grain_proved_read_error_text(error, some_room(text), size);
 }

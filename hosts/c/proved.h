@@ -26,6 +26,12 @@ uint32_t grain_proved_file_read(grain_held_file *file, const uint8_t *bytes, siz
 void grain_proved_file_free(grain_held_file *file);
 uint32_t grain_proved_file_verify(grain_scratch *scratch, const grain_contents *contents, uint16_t host, uint64_t limit,
                                   uint16_t *depths, size_t depths_len, grain_report *report);
+uint32_t grain_proved_file_tighten(const uint8_t *bytes, size_t bytes_len, const grain_limits *limits, uint64_t limit,
+                                   uint8_t *tightened, size_t tightened_len, size_t *size, grain_read_error *error,
+                                   grain_report *report);
+uint32_t grain_proved_file_strip(const uint8_t *bytes, size_t bytes_len, const grain_limits *limits, uint8_t *stripped,
+                                 size_t stripped_len, size_t *size, uint8_t *sidecar, size_t sidecar_len,
+                                 size_t *sidecar_size, grain_read_error *error);
 size_t grain_proved_read_error_text(const grain_read_error *error, uint8_t *text, size_t text_len);
 size_t grain_proved_refusal_text(const grain_refusal *refusal, uint8_t *text, size_t text_len);
 size_t grain_proved_instruction_text(const uint8_t *code, size_t code_len, size_t at, uint8_t *text, size_t text_len);

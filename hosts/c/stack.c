@@ -171,6 +171,19 @@ static void free_file(void) {
     grain_file_free(file);
 }
 
+static void tighten_file(void) {
+    static uint8_t room[sizeof file_bytes];
+    size_t size;
+    status = grain_file_tighten(file_bytes, file_len, NULL, GRAIN_NO_LIMIT, room, sizeof room, &size, NULL, &report);
+}
+
+static void strip_file(void) {
+    static uint8_t room[sizeof file_bytes], sidecar[64];
+    size_t size, sidecar_size;
+    status = grain_file_strip(file_bytes, file_len, NULL, room, sizeof room, &size, sidecar, sizeof sidecar, &sidecar_size,
+                              NULL);
+}
+
 static void measure_files(void) {
     size_t taken = stack_taken_by(read_file);
     CHECK(status == GRAIN_ACCEPTED && taken <= ALLOWED_OF_FILES);
@@ -178,7 +191,12 @@ static void measure_files(void) {
     CHECK(status != GRAIN_OUT_OF_MEMORY && verifying <= ALLOWED);
     size_t freeing = stack_taken_by(free_file);
     CHECK(freeing <= ALLOWED);
-    printf("files: %zu to read, %zu to verify, %zu to free\n", taken, verifying, freeing);
+    size_t tightening = stack_taken_by(tighten_file);
+    CHECK((status == GRAIN_ACCEPTED || status == GRAIN_REFUSED) && tightening <= ALLOWED_OF_FILES);
+    size_t stripping = stack_taken_by(strip_file);
+    CHECK(status == GRAIN_ACCEPTED && stripping <= ALLOWED_OF_FILES);
+    printf("files: %zu to read, %zu to verify, %zu to free, %zu to tighten, %zu to strip\n", taken, verifying, freeing,
+           tightening, stripping);
 }
 
 int main(void) {

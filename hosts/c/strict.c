@@ -91,6 +91,18 @@ WRAP(uint32_t, file_verify,
       grain_report *report),
      (want(scratch, called), want_contents(contents, called), want(depths, called), want(report, called)),
      (scratch, contents, host, limit, depths, many, report))
+WRAP(uint32_t, file_tighten,
+     (const uint8_t *bytes, size_t bytes_len, const grain_limits *limits, uint64_t limit, uint8_t *tightened, size_t room,
+      size_t *size, grain_read_error *error, grain_report *report),
+     (want(bytes, called), want(limits, called), want(tightened, called), want(size, called), want(error, called),
+      want(report, called)),
+     (bytes, bytes_len, limits, limit, tightened, room, size, error, report))
+WRAP(uint32_t, file_strip,
+     (const uint8_t *bytes, size_t bytes_len, const grain_limits *limits, uint8_t *stripped, size_t room, size_t *size,
+      uint8_t *sidecar, size_t sidecar_room, size_t *sidecar_size, grain_read_error *error),
+     (want(bytes, called), want(limits, called), want(stripped, called), want(size, called), want(sidecar, called),
+      want(sidecar_size, called), want(error, called)),
+     (bytes, bytes_len, limits, stripped, room, size, sidecar, sidecar_room, sidecar_size, error))
 WRAP(size_t, read_error_text, (const grain_read_error *error, uint8_t *text, size_t size),
      (want(error, called), want(text, called)), (error, text, size))
 WRAP(size_t, refusal_text, (const grain_refusal *refusal, uint8_t *text, size_t size),

@@ -7,3 +7,4 @@ pub mod ScratchWords
 mod Streams
 mod Tags
 pub mod Words
+mod ChangedAnswers

@@ -7,3 +7,4 @@ pub mod Judging
 pub mod Keeps
 pub mod Holds
 pub mod Files
+pub mod Changed

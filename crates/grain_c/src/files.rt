@@ -23,7 +23,8 @@ use grain_rules::VerifyError;
 use std::alloc::Global;
 use std::fmt::Write;
 
-fn limits_of(limits: &CLimits) -> Limits
+/// The limits on files.
+pub(crate) fn limits_of(limits: &CLimits) -> Limits
     ensures { result ≡ limits_of limits.now }
 {
     Limits {
@@ -34,7 +35,7 @@ fn limits_of(limits: &CLimits) -> Limits
 }
 
 /// What is answered where a file isn't read. Why it is none is written.
-fn stopped(stop: &FileStop, error: &mut CReadError) -> u32
+pub(crate) fn stopped(stop: &FileStop, error: &mut CReadError) -> u32
     ensures { IsStopAnswer stop.now error.old error.new result }
 {
     match stop {

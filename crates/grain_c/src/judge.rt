@@ -12,7 +12,7 @@ use grain_verify::Meter;
 use std::alloc::Global;
 
 /// What a meter shows in 64 bits.
-fn shown(meter: &Meter) -> u64
+pub(crate) fn shown(meter: &Meter) -> u64
     ensures { result ≡ min meter.now (2 ^ 64 - 1) }
 {
     u64::try_from(meter.count()).unwrap_or(u64::MAX)

@@ -5,6 +5,7 @@
 //! `proved_`, and has pointers stand where a caller may pass NULL. What an export isn't said to write stays as it was.
 #![tactic(auto)]
 
+mod changed;
 mod code;
 mod explain;
 mod files;

@@ -26,6 +26,16 @@ pub struct Limits {
     pub cases: usize,
 }
 
+impl Limits {
+    pub(crate) fn record(&self) -> raw::Limits {
+        raw::Limits {
+            size: self.size,
+            cases: self.cases,
+            depth: self.depth,
+        }
+    }
+}
+
 impl Default for Limits {
     /// A file of 64 MiB, values nested 64 deep, and switches of 4096 cases.
     fn default() -> Limits {
@@ -223,7 +233,7 @@ pub enum FileError {
 }
 
 impl FileError {
-    fn of(status: u32, record: raw::ReadError) -> FileError {
+    pub(crate) fn of(status: u32, record: raw::ReadError) -> FileError {
         match status {
             raw::NO_FILE if record.cause == raw::CAUSE_TOO_LARGE => FileError::TooLarge {
                 size: record.at,
@@ -323,7 +333,8 @@ pub struct OpAssignment<'a> {
 /// A program file that was read (FORMAT.md, "Program files"): all that the program has.
 ///
 /// Nothing says that the program verifies until [`ProgramFile::verify`] does. A program has exactly one file, so that the bytes
-/// may be hashed, signed and compared in place of it. Threads may share one.
+/// may be hashed, signed and compared in place of it, and a host that writes it again writes these. [`ProgramFile::tighten`] and
+/// [`ProgramFile::strip`] write the file of a program that is changed. Threads may share one.
 ///
 /// ```
 /// use grain::{Caps, FileError, Limits, ProgramFile, Value};
@@ -411,11 +422,7 @@ impl ProgramFile {
     /// [`FileError::Malformed`] with the first thing that is wrong, or why nothing was read.
     pub fn read(bytes: &[u8], limits: &Limits) -> Result<ProgramFile, FileError> {
         let (mut file, mut error) = (ptr::null_mut(), raw::ReadError::default());
-        let limits = raw::Limits {
-            size: limits.size,
-            cases: limits.cases,
-            depth: limits.depth,
-        };
+        let limits = limits.record();
         // SAFETY: the bytes and the records live for the call, and nothing else reads what is written.
         let status = unsafe {
             raw::grain_file_read(&mut file, bytes.as_ptr(), bytes.len(), &limits, &mut error)

@@ -35,6 +35,7 @@
 //! | show why not | [`Program::explain`], [`Explained`] |
 //! | fill pools | [`Pools`], or [`FlatPools`] where the lists are the host's own |
 //! | read a program file | [`ProgramFile`], with [`Limits`] |
+//! | write one again | [`ProgramFile::tighten`], [`ProgramFile::strip`] |
 //! | run what is accepted | [`Verified`], [`Opcode`] |
 //! | find lines | [`Program::site`], [`site`], [`stream_site`] |
 //!
@@ -74,6 +75,7 @@
 struct Readme;
 
 mod capabilities;
+mod changed;
 mod code;
 mod error;
 mod explained;
@@ -95,6 +97,7 @@ mod verified;
 mod verifier;
 
 pub use capabilities::{Caps, CapsIter, UnknownCap};
+pub use changed::{Stripped, TightenError};
 pub use code::{
     count_instructions, instruction, instructions, Field, Instruction, Instructions, Kind,
 };

@@ -332,6 +332,29 @@ extern "C" {
         report: *mut Report,
     ) -> u32;
     pub(crate) fn grain_file_free(file: *mut File);
+    pub(crate) fn grain_file_tighten(
+        bytes: *const u8,
+        bytes_len: usize,
+        limits: *const Limits,
+        limit: u64,
+        tightened: *mut u8,
+        tightened_len: usize,
+        size: *mut usize,
+        error: *mut ReadError,
+        report: *mut Report,
+    ) -> u32;
+    pub(crate) fn grain_file_strip(
+        bytes: *const u8,
+        bytes_len: usize,
+        limits: *const Limits,
+        stripped: *mut u8,
+        stripped_len: usize,
+        size: *mut usize,
+        sidecar: *mut u8,
+        sidecar_len: usize,
+        sidecar_size: *mut usize,
+        error: *mut ReadError,
+    ) -> u32;
     pub(crate) fn grain_read_error_text(
         error: *const ReadError,
         text: *mut c_char,

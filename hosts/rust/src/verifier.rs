@@ -1,8 +1,9 @@
 //! Verification in memory that is kept.
 use crate::capabilities::Caps;
+use crate::changed::{self, TightenError};
 use crate::error::{ExplainError, VerifyError};
 use crate::explained::{self, Explained, Subject};
-use crate::file::ProgramFile;
+use crate::file::{Limits, ProgramFile};
 use crate::flat::FlatPools;
 use crate::program::Program;
 use crate::refusal::Refusal;
@@ -158,6 +159,15 @@ impl Verifier {
             .verify(caps, program.code(), program.chunks(), program.pools())
             .and_then(copied);
         Verified::new(program, caps, depths)
+    }
+
+    /// The file of the same program, whose chunks declare their depths, as [`ProgramFile::tighten`] makes it, within the limit on
+    /// work.
+    ///
+    /// # Errors
+    /// Those of [`ProgramFile::tighten`], and [`VerifyError::TooMuchWork`].
+    pub fn tighten_file(&self, bytes: &[u8], limits: &Limits) -> Result<Vec<u8>, TightenError> {
+        changed::tighten(bytes, limits, self.limit)
     }
 
     /// Explains a chunk of a program, or a refusal of it, as [`explain`](crate::explain) does.

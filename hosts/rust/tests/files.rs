@@ -1,8 +1,9 @@
 //! Program files: what is read of one, what refusals say, and that what was read is verified.
 use grain::{
     explain, Caps, FileError, FileFault, FilePart, FlatPools, Flaw, Limits, Operator, ProgramFile,
-    Range, Root, Site, Subject, Tail, Value, Verifier, VerifyError,
+    Range, Root, Site, Subject, Tail, TightenError, Value, Verifier, VerifyError,
 };
+use std::error::Error;
 
 /// A file with something in each list, the one of the tests in C.
 const SAMPLE: &str = "
@@ -229,6 +230,76 @@ fn refusals_are_named() {
     for len in 0..bytes.len() {
         assert!(ProgramFile::read(&bytes[..len], &Limits::default()).is_err());
     }
+}
+
+/// Where the second chunk of the sample says what it declares.
+const DECLARED_AT: usize = 28;
+
+#[test]
+fn files_are_tightened() {
+    let (bytes, limits) = (sample(), Limits::default());
+    let mut wanted = bytes.clone();
+    wanted[DECLARED_AT] = 1;
+    assert_eq!(ProgramFile::tighten(&bytes, &limits), Ok(wanted.clone()));
+    assert_eq!(ProgramFile::tighten(&wanted, &limits), Ok(wanted.clone()));
+    assert_eq!(
+        Verifier::new().limit(12).tighten_file(&bytes, &limits),
+        Ok(wanted)
+    );
+    assert_eq!(
+        Verifier::new().limit(11).tighten_file(&bytes, &limits),
+        Err(TightenError::Verify(VerifyError::TooMuchWork))
+    );
+
+    let mut refused = bytes.clone();
+    refused[DECLARED_AT] = 0;
+    let error = ProgramFile::tighten(&refused, &limits).unwrap_err();
+    assert_eq!(error.to_string(), "the program isn't accepted");
+    let TightenError::Verify(VerifyError::Refused(refusal)) = error else {
+        panic!()
+    };
+    assert_eq!(refusal.chunk(), Some(1));
+    assert!(matches!(refusal.flaw(), Flaw::StackExceedsDeclared { .. }));
+
+    let cut = ProgramFile::tighten(&bytes[..20], &limits).unwrap_err();
+    assert_eq!(
+        cut,
+        ProgramFile::read(&bytes[..20], &limits).unwrap_err().into()
+    );
+    assert!(cut.source().is_some());
+    let small = Limits { size: 9, ..limits };
+    assert!(matches!(
+        ProgramFile::tighten(&bytes, &small),
+        Err(TightenError::File(FileError::TooLarge { limit: 9, .. }))
+    ));
+}
+
+#[test]
+fn files_are_stripped() {
+    let (bytes, limits) = (sample(), Limits::default());
+    let file = ProgramFile::read(&bytes, &limits).unwrap();
+    let stripped = ProgramFile::strip(&bytes, &limits).unwrap();
+    assert!(stripped.program.len() < bytes.len());
+    let bare = ProgramFile::read(&stripped.program, &limits).unwrap();
+    assert_eq!((bare.table(), bare.chain_site(3)), (None, None));
+    assert_eq!((bare.id(), bare.code()), (file.id(), file.code()));
+    assert_eq!(bare.verify(Caps::ALL), file.verify(Caps::ALL));
+    let (table, stream) = (file.table().unwrap(), file.stream());
+    let parts: [&[u8]; 5] = [
+        b"\0grn\x01\x01\x07\x09",
+        &[table.len() as u8],
+        table,
+        &[stream.len() as u8],
+        stream,
+    ];
+    assert_eq!(stripped.sidecar, parts.concat());
+    let again = ProgramFile::strip(&stripped.program, &limits).unwrap();
+    assert_eq!(again.program, stripped.program);
+
+    assert_eq!(
+        ProgramFile::strip(&bytes[..20], &limits).unwrap_err(),
+        ProgramFile::read(&bytes[..20], &limits).unwrap_err()
+    );
 }
 
 #[test]
