@@ -6,7 +6,7 @@ use Rattle.std.proofs.lemmas.List.{length-map, map-append, map-set}
 use Rattle.std.proofs.lemmas.Option.{get_or_from_slice_get, slice_get-map, slice_get_read, slice_get_within}
 use Rattle.grain_assembly.specs.Assembled.{label_place, spot_at}
 use Rattle.grain_assembly.specs.Sound.{IsWellMade, Workings, nowhere}
-use Rattle.grain_assembly.specs.Unfinished.{Extends, Spot, spot}
+use Rattle.grain_assembly.specs.Unfinished.{StaysIn, Spot, spot}
 use Rattle.grain_assembly.specs.declared.assembler.Label.{Label}
 use Rattle.grain_assembly.proofs.Appended.{get_end, get_left, some_inj}
 use Rattle.grain_assembly.proofs.Marks.{one_bound, one_label}
@@ -42,7 +42,7 @@ rebound k ls l old new s here there is spot_is innermost few =
 pub pushed_here : {B : Type 0} (f : Label → B) (ls : List Label) (new : Label) (n : ℕ) → n ≡ length ls → slice_get (map f (ls ++ new ∷ [])) n ≡ Some (f new)
 pushed_here f ls new n is = mapped f (ls ++ new ∷ []) n new (subst (λ m. slice_get (ls ++ new ∷ []) m ≡ Some new) (sym is) (get_end ls new))
 
-pub pushed_keeps : {B : Type 0} (f : Label → B) (ls : List Label) (new : Label) → Extends (map f ls) (map f (ls ++ new ∷ []))
+pub pushed_keeps : {B : Type 0} (f : Label → B) (ls : List Label) (new : Label) → StaysIn (map f ls) (map f (ls ++ new ∷ []))
 pushed_keeps f ls new = λ i x e. subst (λ xs. slice_get xs i ≡ Some x) (sym (map-append f ls (new ∷ []))) (get_left (map f ls) (f new ∷ []) i x e)
 
 -- the same, from what was read of the list

@@ -10,7 +10,7 @@ use Rattle.grain_code.specs.declared.op.Op.{Op}
 use Rattle.grain_pools.specs.declared.chain.Chain.{Chain}
 use Rattle.grain_rules.specs.Counts.{nothing}
 use Rattle.grain_rules.specs.Effects.{after_fall, after_jump}
-use Rattle.grain_assembly.specs.Unfinished.{IsSameButFloor, Extends, Level, Spot, fresh, spot}
+use Rattle.grain_assembly.specs.Unfinished.{IsSameButFloor, StaysIn, Level, Spot, fresh, spot}
 use Rattle.grain_assembly.specs.Fitting.{AreFitting, FitsAt, spot_counts, spot_of}
 use Rattle.grain_assembly.specs.Sound.{IsBased, IsChunk, IsWellMade, Workings, nowhere}
 use Rattle.grain_assembly.proofs.Appended.{get_cases, get_end, get_left, some_inj}
@@ -25,7 +25,7 @@ set_cases (z ∷ xs) (suc l) y zero x e = inl (e, λ h. omega arith)
 set_cases (z ∷ xs) (suc l) y (suc j) x e = elim (set_cases xs l y j x e) [ inl h ↦ inl (h.0, λ same. h.1 (omega arith)) | inr h ↦ inr (ap suc h.0, h.1) ]
 
 -- what fits with these chains, switches and labels fits with more of them
-fits_longer : (cs ds : List Chain) (ts us : List (List ℕ)) (ls ms : List Spot) (op : Op) (p : Spot) → Extends cs ds → Extends ts us → Extends ls ms → FitsAt cs ts ls op p → FitsAt ds us ms op p
+fits_longer : (cs ds : List Chain) (ts us : List (List ℕ)) (ls ms : List Spot) (op : Op) (p : Spot) → StaysIn cs ds → StaysIn ts us → StaysIn ls ms → FitsAt cs ts ls op p → FitsAt ds us ms op p
 fits_longer cs ds ts us ls ms op p c t l f = record {
   shallow = f.shallow;
   meets = λ s h. f.meets s (λ i x e. h i x (c i x e));
@@ -33,20 +33,21 @@ fits_longer cs ds ts us ls ms op p c t l f = record {
   jumps = λ s all j h g k. l j (spot_of p.home (after_jump s op (spot_counts p))) (f.jumps s all j (λ i x e. h i x (c i x e)) (λ i x e. g i x (t i x e)) k);
 }
 
-fitting_longer : (cs ds : List Chain) (ts us : List (List ℕ)) (ls ms : List Spot) (ops : List Op) (spots : List Spot) → Extends cs ds → Extends ts us → Extends ls ms → AreFitting cs ts ls ops spots → AreFitting ds us ms ops spots
+fitting_longer : (cs ds : List Chain) (ts us : List (List ℕ)) (ls ms : List Spot) (ops : List Op) (spots : List Spot) → StaysIn cs ds → StaysIn ts us → StaysIn ls ms → AreFitting cs ts ls ops spots → AreFitting ds us ms ops spots
 fitting_longer cs ds ts us ls ms ops spots c t l f = record {
   fits = λ i op p a b. fits_longer cs ds ts us ls ms op p c t l (f.fits i op p a b);
   falls = λ i op p s a b h g. f.falls i op p s a b (λ j x e. h j x (c j x e)) g;
 }
 
-keeps_itself : {A : Type 0} (xs : List A) → Extends xs xs
+keeps_itself : {A : Type 0} (xs : List A) → StaysIn xs xs
 keeps_itself xs i x e = e
 
 module _ (k : Workings) (s : IsWellMade k) where
-  pub one_chain : (c : Chain) → IsWellMade (record k { chains = k.chains ++ c ∷ [] })
-  one_chain c = record {
+  -- more chains and switches, in which each that was there is where it was
+  with_more : (chains : List Chain) (tables : List (List ℕ)) → StaysIn k.chains chains → StaysIn k.tables tables → IsWellMade (record k { chains = chains; tables = tables })
+  with_more chains tables c t = record {
     spots = s.spots;
-    fitting = fitting_longer k.chains (k.chains ++ c ∷ []) k.tables k.tables k.labels k.labels k.ops s.spots (get_left k.chains (c ∷ [])) (keeps_itself k.tables) (keeps_itself k.labels) s.fitting;
+    fitting = fitting_longer k.chains chains k.tables tables k.labels k.labels k.ops s.spots c t (keeps_itself k.labels) s.fitting;
     count = s.count;
     last = s.last;
     lengths = s.lengths;
@@ -61,23 +62,11 @@ module _ (k : Workings) (s : IsWellMade k) where
     base = s.base;
   }
 
+  pub one_chain : (c : Chain) → IsWellMade (record k { chains = k.chains ++ c ∷ [] })
+  one_chain c = with_more (k.chains ++ c ∷ []) k.tables (get_left k.chains (c ∷ [])) (keeps_itself k.tables)
+
   pub one_table : (t : List ℕ) → IsWellMade (record k { tables = k.tables ++ t ∷ [] })
-  one_table t = record {
-    spots = s.spots;
-    fitting = fitting_longer k.chains k.chains k.tables (k.tables ++ t ∷ []) k.labels k.labels k.ops s.spots (keeps_itself k.chains) (get_left k.tables (t ∷ [])) (keeps_itself k.labels) s.fitting;
-    count = s.count;
-    last = s.last;
-    lengths = s.lengths;
-    landing = s.landing;
-    homes = s.homes;
-    home = s.home;
-    begun = s.begun;
-    bound = s.bound;
-    cuts = s.cuts;
-    ended = s.ended;
-    room = s.room;
-    base = s.base;
-  }
+  one_table t = with_more k.chains (k.tables ++ t ∷ []) (keeps_itself k.chains) (get_left k.tables (t ∷ []))
 
   -- where the run has left, another state may follow
   pub elsewhere : k.fixed ≡ false → (n : ℕ) (level : Level) → level.home ≡ k.level.home → n ≤ 65535 → IsBased level → IsWellMade (record k { operands = n; level = level })

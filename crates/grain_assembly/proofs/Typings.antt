@@ -21,12 +21,13 @@ use Rattle.grain_rules.specs.Rows.{caps_of, flow_of}
 use Rattle.grain_rules.specs.Setting.{Setting}
 use Rattle.grain_rules.specs.Sinking.{Stays}
 use Rattle.grain_rules.specs.Typing.{HasTyping, Passes}
+use Rattle.grain_rules.proofs.FlowsAlong.{fall_same, falls_same, jump_same, meets_there, stays_there, target_from}
 use Rattle.grain_assembly.specs.Unfinished.{Spot}
 use Rattle.grain_assembly.specs.Fitting.{HasChains, HasTables, spot_counts, spot_of}
-use Rattle.grain_assembly.specs.Resolved.{resolved, resolved_tables}
+use Rattle.grain_assembly.specs.Resolved.{resolved_op, resolved_tables}
 use Rattle.grain_assembly.specs.Sound.{IsChunk, IsWellMade, Workings}
 use Rattle.grain_assembly.specs.Finished.{LeadAmong}
-use Rattle.grain_assembly.proofs.ResolvedRows.{fall_same, falls_same, jump_same, meets_resolved, stays_resolved, target_label}
+use Rattle.grain_assembly.proofs.ResolvedRows.{along}
 
 some_inj : {A : Type 0} {x y : A} → Some x ≡ Some y → x ≡ y
 some_inj e = cc
@@ -100,7 +101,7 @@ module _ (k : Workings) (sound : IsWellMade k) (closed : k.pending ≡ 0) (s : S
   typing at = counts_within cut.entry (slice_get sound.spots at)
 
   abbrev listed : List Op
-  listed = map (resolved k.places) k.ops
+  listed = map (resolved_op k.places) k.ops
 
   abbrev tables : List (List ℕ)
   tables = resolved_tables k.places k.tables
@@ -118,8 +119,8 @@ module _ (k : Workings) (sound : IsWellMade k) (closed : k.pending ≡ 0) (s : S
   typed_at : (at : ℕ) (p : Spot) → slice_get sound.spots at ≡ Some p → p.home ≡ cut.entry → typing at ≡ Some (spot_counts p)
   typed_at at p e h = ap (counts_within cut.entry) e ∙ ap (λ (b : Bool). cond b (Some (spot_counts p)) None) (eq-eqb p.home cut.entry h)
 
-  read_resolved : (i : ℕ) (op : Op) → slice_get k.ops i ≡ Some op → slice_get listed i ≡ Some (resolved k.places op)
-  read_resolved i op e = slice_get-map (resolved k.places) k.ops i ∙ ap (option_map (resolved k.places)) e
+  read_resolved : (i : ℕ) (op : Op) → slice_get k.ops i ≡ Some op → slice_get listed i ≡ Some (resolved_op k.places op)
+  read_resolved i op e = slice_get-map (resolved_op k.places) k.ops i ∙ ap (option_map (resolved_op k.places)) e
 
   met : (at : ℕ) (c : Counts) → typing at ≡ Some c → (op : Op) × Passes (code_by_index s listed leads) cut at c op
   met at c e =
@@ -127,19 +128,19 @@ module _ (k : Workings) (sound : IsWellMade k) (closed : k.pending ≡ 0) (s : S
       let o = op_there at w.0 w.1 w.2 in
       let fits = sound.fitting.fits at o.0 w.0 o.1 w.1 in
       let read = read_resolved at o.0 o.1 in (
-        resolved k.places o.0,
+        resolved_op k.places o.0,
         record {
           stands = record {
             within = record {
               entry = let h = sound.homes at w.0 w.1 in let g : w.0.home ≡ cut.entry = w.2 in omega arith;
               end = elim (cases_lt at cut.end) [ inl l ↦ l | inr g ↦ absurd (chunk.behind at w.0 g w.1 w.2) ];
-              place = slice_get_within listed at (resolved k.places o.0) read;
+              place = slice_get_within listed at (resolved_op k.places o.0) read;
             };
             is = read;
           };
-          meets = subst (λ (x : Counts). Meets s (resolved k.places o.0) x) w.3 (meets_resolved s k.places o.0 (spot_counts w.0) (fits.meets s chains));
-          allowed = allowed (resolved k.places o.0);
-          stays = subst (λ (x : Counts). Stays s (resolved k.places o.0) x) w.3 (stays_resolved s k.places o.0 (spot_counts w.0) (fits.stays s chains));
+          meets = subst (λ (x : Counts). Meets s (resolved_op k.places o.0) x) w.3 (meets_there s (along k.places o.0) (spot_counts w.0) (fits.meets s chains));
+          allowed = allowed (resolved_op k.places o.0);
+          stays = subst (λ (x : Counts). Stays s (resolved_op k.places o.0) x) w.3 (stays_there s (along k.places o.0) (spot_counts w.0) (fits.stays s chains));
         },
       )
 
@@ -156,21 +157,21 @@ module _ (k : Workings) (sound : IsWellMade k) (closed : k.pending ≡ 0) (s : S
       let p = w.0 in
       let o = op_there at p w.1 w.2 in
       let fits = sound.fitting.fits at o.0 p o.1 w.1 in
-      let read : slice_get listed at ≡ Some (resolved k.places o.0) = read_resolved at o.0 o.1 in
-      let same : op ≡ resolved k.places o.0 = some_inj (sym r ∙ read) in
-      let there : Edge (code_by_index s listed leads) (resolved k.places o.0) at (spot_counts p) b d =
+      let read : slice_get listed at ≡ Some (resolved_op k.places o.0) = read_resolved at o.0 o.1 in
+      let same : op ≡ resolved_op k.places o.0 = some_inj (sym r ∙ read) in
+      let there : Edge (code_by_index s listed leads) (resolved_op k.places o.0) at (spot_counts p) b d =
       subst (λ (x : Op). Edge (code_by_index s listed leads) x at (spot_counts p) b d) same
       (subst (λ (x : Counts). Edge (code_by_index s listed leads) op at x b d) (sym w.3) edge) in
       elim there [
         | inl j ↦
-            let t = target_label k.places k.tables o.0 b (targets_among leads tables among (flow_of (resolved k.places o.0)) b j.0) in
+            let t = target_from (along k.places o.0) k.tables b (targets_among leads tables among (flow_of (resolved_op k.places o.0)) b j.0) in
             let found = label_there t.0 _ (fits.jumps s k.tables t.0 chains own_tables t.1) in
             typed_at b _ (subst (λ (n : ℕ). slice_get sound.spots n ≡ Some (spot_of p.home (after_jump s o.0 (spot_counts p)))) t.2 found) w.2
-            ∙ ap (λ (x : Counts). Some x) (sym (j.1 ∙ jump_same s k.places o.0 (spot_counts p)))
+            ∙ ap (λ (x : Counts). Some x) (sym (j.1 ∙ jump_same s (along k.places o.0) (spot_counts p)))
         | inr f ↦
-            let found = sound.fitting.falls at o.0 p s o.1 w.1 chains (sym (falls_same s k.places o.0) ∙ f.0) in
+            let found = sound.fitting.falls at o.0 p s o.1 w.1 chains (sym (falls_same (along k.places o.0)) ∙ f.0) in
             typed_at b _ (subst (λ (n : ℕ). slice_get sound.spots n ≡ Some (spot_of p.home (after_fall s o.0 (spot_counts p)))) (sym f.1) found) w.2
-            ∙ ap (λ (x : Counts). Some x) (sym (f.2 ∙ fall_same s k.places o.0 (spot_counts p)))
+            ∙ ap (λ (x : Counts). Some x) (sym (f.2 ∙ fall_same s (along k.places o.0) (spot_counts p)))
       ]
 
   shallow : (at : ℕ) (c : Counts) → typing at ≡ Some c → c.operands ≤ cut.max_stack

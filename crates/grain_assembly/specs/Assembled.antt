@@ -16,8 +16,8 @@ label_place l = l.at
 abbrev pub targets_of : Targets → List ℕ
 targets_of t = t.cases.items ++ t.default ∷ []
 
-abbrev pub kept : Inside → Workings
-kept a = record {
+abbrev pub workings_of : Inside → Workings
+workings_of a = record {
   ops = a.ops.items;
   chains = a.chains.items;
   tables = map targets_of a.tables.items;

@@ -33,8 +33,8 @@ abbrev pub spot : ℕ → Level → Spot
 spot n l = record { operands = n; iterators = l.iterators; bases = l.bases; home = l.home }
 
 -- each entry stays where it is
-abbrev pub Extends : {A : Type 0} → List A → List A → Type 0
-Extends {A} xs ys = (i : ℕ) (x : A) → slice_get xs i ≡ Some x → slice_get ys i ≡ Some x
+abbrev pub StaysIn : {A : Type 0} → List A → List A → Type 0
+StaysIn {A} xs ys = (i : ℕ) (x : A) → slice_get xs i ≡ Some x → slice_get ys i ≡ Some x
 
 -- this many operands, all else as it was
 pub record LeavesOperands (old new : Unfinished) (n : ℕ) : Type 0 where

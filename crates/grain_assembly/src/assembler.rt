@@ -50,12 +50,12 @@ impl Model for Assembler {
 
     ghost Value = { Unfinished };
 
-    ghost use Rattle.grain_assembly.specs.Assembled.{kept, written};
+    ghost use Rattle.grain_assembly.specs.Assembled.{workings_of, written};
     ghost use Rattle.grain_assembly.specs.Sound.{IsWellMade};
 
     ghost view = { written };
 
-    ghost invariant = { λ a. IsWellMade (kept a) };
+    ghost invariant = { λ a. IsWellMade (workings_of a) };
 }
 
 impl Assembler {

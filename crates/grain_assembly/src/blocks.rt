@@ -4,7 +4,7 @@ ghost use Rattle.std.specs.List.{Contains};
 ghost use Rattle.grain_pools.specs.Chain.{consumed};
 ghost use Rattle.grain_rules.specs.Counts.{without_last};
 ghost use Rattle.grain_assembly.specs.Assembled.{targets_of};
-ghost use Rattle.grain_assembly.specs.Unfinished.{Extends, LeavesOperands, SameLabels, spot, level_with_handler, level_with_iterator, level_without_iterator};
+ghost use Rattle.grain_assembly.specs.Unfinished.{StaysIn, LeavesOperands, SameLabels, spot, level_with_handler, level_with_iterator, level_without_iterator};
 
 use crate::assembler::{Assembler, Targets};
 use crate::frame::Frame;
@@ -86,8 +86,8 @@ impl Assembler {
             ≡ Some (spot self.old.operands (level_with_handler self.old.operands self.old.level))) }
         ensures outer { IfOk result (λ l. slice_get self.new.outers l ≡ Some self.old.pending) }
         ensures pending { IfOk result (λ l. self.new.pending ≡ l + 1) }
-        ensures labels { OnOk result (Extends self.old.labels self.new.labels) }
-        ensures outers { OnOk result (Extends self.old.outers self.new.outers) }
+        ensures labels { OnOk result (StaysIn self.old.labels self.new.labels) }
+        ensures outers { OnOk result (StaysIn self.old.outers self.new.outers) }
         ensures operands { OnOk result (self.new.operands ≡ self.old.operands) }
         ensures level { OnOk result (self.new.level ≡ self.old.level) }
     {

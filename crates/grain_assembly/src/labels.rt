@@ -1,6 +1,6 @@
 //! Labels.
 ghost use Rattle.std.specs.Prelude.{◌≡◌, ◌+◌, ◌≤◌, IfOk, OnOk, Some, false, length, slice_get};
-ghost use Rattle.grain_assembly.specs.Unfinished.{Extends, SameLabels, spot};
+ghost use Rattle.grain_assembly.specs.Unfinished.{StaysIn, SameLabels, spot};
 
 use crate::assembler::{Assembler, Label};
 use crate::frame::Frame;
@@ -21,8 +21,8 @@ impl Assembler {
         ensures last { IfOk result (λ l. l ≡ length self.old.labels) }
         ensures more { OnOk result (length self.new.labels ≡ length self.old.labels + 1) }
         ensures pending { IfOk result (λ l. self.new.pending ≡ l + 1) }
-        ensures labels { OnOk result (Extends self.old.labels self.new.labels) }
-        ensures outers { OnOk result (Extends self.old.outers self.new.outers) }
+        ensures labels { OnOk result (StaysIn self.old.labels self.new.labels) }
+        ensures outers { OnOk result (StaysIn self.old.outers self.new.outers) }
         ensures operands { OnOk result (self.new.operands ≡ self.old.operands) }
         ensures level { OnOk result (self.new.level ≡ self.old.level) }
     {
@@ -50,8 +50,8 @@ impl Assembler {
         ensures last { IfOk result (λ l. l ≡ length self.old.labels) }
         ensures more { OnOk result (length self.new.labels ≡ length self.old.labels + 1) }
         ensures pending { IfOk result (λ l. self.new.pending ≡ l + 1) }
-        ensures labels { OnOk result (Extends self.old.labels self.new.labels) }
-        ensures outers { OnOk result (Extends self.old.outers self.new.outers) }
+        ensures labels { OnOk result (StaysIn self.old.labels self.new.labels) }
+        ensures outers { OnOk result (StaysIn self.old.outers self.new.outers) }
         ensures operands { OnOk result (self.new.operands ≡ self.old.operands) }
         ensures level { OnOk result (self.new.level ≡ self.old.level) }
     {

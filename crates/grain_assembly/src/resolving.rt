@@ -2,7 +2,7 @@
 ghost use Rattle.std.specs.Prelude.{◌≡◌, ◌≤◌, IfOk, map, slice_index};
 ghost use Rattle.grain_assembly.specs.Assembled.{label_place, targets_of};
 ghost use Rattle.grain_assembly.specs.Finished.{IsComplete};
-ghost use Rattle.grain_assembly.specs.Resolved.{resolved, resolved_tables};
+ghost use Rattle.grain_assembly.specs.Resolved.{resolved_op, resolved_tables};
 
 use crate::assembler::{Assembler, Label, Targets};
 use grain_code::{Chunk, Op};
@@ -37,7 +37,7 @@ fn target(places: &[u32], label: u32) -> u32
 
 /// The operation with its label resolved.
 fn resolve(op: Op, places: &[u32]) -> Op
-    ensures { result ≡ resolved places.now op }
+    ensures { result ≡ resolved_op places.now op }
 {
     match op {
         Op::Jump(label) => Op::Jump(target(places, label)),
@@ -66,7 +66,7 @@ fn resolve(op: Op, places: &[u32]) -> Op
 }
 
 fn resolve_ops(alloc: Global, ops: &[Op], places: &[u32]) -> Result<Vec<Op>, AllocError>
-    ensures { IfOk result (λ v. v.items ≡ map (resolved places.now) ops.now) }
+    ensures { IfOk result (λ v. v.items ≡ map (resolved_op places.now) ops.now) }
 {
     let mut found = Vec::new(alloc);
     for op in ops {

@@ -1,5 +1,5 @@
 -- Every capability suffices for whatever operations, chains and names ask.
-use Rattle.std.proofs.Common.{◌≡◌, ℕ, zero, suc, List, [], ◌∷◌, map, get_or, Option, Some, None, bit_or, refl, ◌∙◌}
+use Rattle.std.proofs.Common.{ℕ, zero, suc, List, [], ◌∷◌, map, get_or, Option, Some, None, bit_or, refl, ◌∙◌}
 use Rattle.std.proofs.lemmas.Nat.{and_or_apart}
 use Rattle.grain_base.specs.CapBits.{THIS}
 use Rattle.grain_code.specs.declared.op.Op.{Op}

@@ -1,5 +1,5 @@
 -- What is made of a script can be built.
-use Rattle.std.proofs.Common.{◌≡◌, ◌≢◌, ℕ, ◌<◌, ◌≤◌, inl, inr, zero, suc, List, [], ◌∷◌, length, map, get_or, take, Some, refl, sym, ap, subst, ◌∙◌, arith}
+use Rattle.std.proofs.Common.{◌≡◌, ℕ, ◌≤◌, inl, inr, zero, suc, List, [], ◌∷◌, length, map, get_or, take, Some, refl, sym, ap, subst, arith}
 use Rattle.std.specs.Prelude.{slice_get}
 use Rattle.std.specs.List.{All, Contains}
 use Rattle.std.proofs.lemmas.List.{get_or_default, get_or_past}
@@ -21,7 +21,7 @@ use Rattle.grain_rules.specs.Indices.{Indexed}
 use Rattle.grain_rules.specs.Rows.{caps_of}
 use Rattle.grain_rules.specs.Setting.{Setting, with_caps}
 use Rattle.grain_rules.specs.Typing.{HasTyping}
-use Rattle.grain.specs.Build.{CanBuild, Draft, draft, setting_with, span_of}
+use Rattle.grain.specs.Build.{CanBuild, draft, setting_with, span_of}
 use Rattle.grain.specs.declared.builder.Cut.{Cut}
 use Rattle.grain.specs.declared.builder.Head.{Head}
 use Rattle.grain.specs.declared.program.Parts.{Parts}

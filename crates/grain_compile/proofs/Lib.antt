@@ -1,4 +1,4 @@
 pub mod AllAllowed
-pub mod AssembledIndices
 pub mod BuildPremises
+pub mod PlacedPositions
 pub mod SwitchParts

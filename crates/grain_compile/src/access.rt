@@ -96,8 +96,18 @@ impl<F: Fn(&mut Emitter, &Expr, usize, bool) -> Result<(), CompileError>> Coder<
         let (at, name) = method;
         if steps.is_empty()
             && !is_on_top
+            && !arguments.is_empty()
+            && emitter.is_called(name)
+            && let Some(receiver) = emitter.receiver_of(root)
+        {
+            self.all(emitter, arguments)?;
+            let argc = argc_of(at, arguments.len() - 1)?;
+            return emitter.call_pointer_on(at, receiver, argc);
+        }
+        if steps.is_empty()
+            && !is_on_top
             && !emitter.is_of_pointers(name)
-            && let Some(slot) = emitter.slot_of(root)
+            && let Some(slot) = emitter.changeable_slot_of(root)
         {
             self.all(emitter, arguments)?;
             let argc = argc_of(at, arguments.len().saturating_add(1))?;
@@ -260,7 +270,8 @@ impl<F: Fn(&mut Emitter, &Expr, usize, bool) -> Result<(), CompileError>> Coder<
         }
     }
 
-    /// Where a chain begins, whose value is given here if it is no variable.
+    /// Where a chain begins, whose value is given here if it is no variable. Of a constant it is a copy, so that no method
+    /// changes the constant.
     fn root(&self, emitter: &mut Emitter, root: &Expr) -> Result<Root, CompileError>
         requires may { (m : _) (e : _) (w : _) → Stands m.now → F.pre self.now.writes m e self.now.depth w }
         requires does { (m : _) (e : _) (w : _) (r : _) (n : _) → F.post self.now.writes m e self.now.depth w r n
@@ -268,6 +279,10 @@ impl<F: Fn(&mut Emitter, &Expr, usize, bool) -> Result<(), CompileError>> Coder<
         requires stands { Stands emitter.old }
         ensures { IfOk result (λ r. IsWritten emitter.old emitter.new (emitter.old.code.operands + cond (roots_on_stack r) 1 0)) }
     {
+        if emitter.is_constant(root) {
+            self.expr(emitter, root, true)?;
+            return Ok(Root::Temporary);
+        }
         let pos = position(root.place);
         match &root.form {
             Form::Name(name) => match emitter.find(root.place, *name)? {

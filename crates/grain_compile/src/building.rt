@@ -1,34 +1,38 @@
 //! From the code that was made to an accepted program.
-ghost use Rattle.std.specs.Prelude.{◌≡◌, ◌+◌, ◌≤◌, IfOk, OnOk, length, map, take};
+ghost use Rattle.std.specs.Prelude.{◌≡◌, ◌+◌, ◌≤◌, IfOk, IfSome, OnOk, length, map, take};
 ghost use Rattle.std.specs.List.{All};
 ghost use Rattle.grain_base.specs.declared.caps.Caps.{Caps};
 ghost use Rattle.grain_code.specs.Assembly.{CanAssemble, IsAssembly};
 ghost use Rattle.grain_rules.specs.Accepted.{AreDeepest, AreIndexed, IsAccepted};
 ghost use Rattle.grain_rules.specs.Indices.{Indexed};
 ghost use Rattle.grain.specs.Build.{CanBuild, draft, setting_with, span_of};
-ghost use Rattle.grain.specs.Program.{declared_by, input_of};
+ghost use Rattle.grain.specs.Program.{declared_by, input_of, listed_positions};
 ghost use Rattle.grain_assembly.specs.Finished.{IsComplete};
 ghost use Rattle.grain_compile.specs.Capabilities.{every_capability};
+ghost use Rattle.grain_compile.specs.Positions.{ArePositions, IsListedPosition};
 
 use crate::parts::parts;
+use crate::placing::{keep_in_chains, kept};
 use grain::{
     AssembleError, BuildError, Caps, Chunk, Cut, Flags, FnAccess, Head, Op, Parts, Position,
     Positions, Program, VerifyError, assemble, build,
 };
 use grain_assembly::Assembled;
 use grain_emit::{Emitter, Options, Signature, position};
-use grain_lexer::{CompileError, Place, Problem, Thing};
+use grain_lexer::{CompileError, Lines, Place, Problem, Thing};
 use grain_rules::{Pools, check_code};
 use std::alloc::{AllocError, Global};
 
-/// Builds the program of the code that was made. What lies behind the last line of the script has no places.
+/// Builds the program of the code that was made. Only what lies in these lines has positions.
 pub(crate) fn finish(
     emitter: Emitter,
     heads: Vec<Head>,
-    last_line: u32,
+    lines: &Lines,
 ) -> Result<(Program, Vec<u16>), CompileError>
     requires closed { emitter.code.pending ≡ 0 }
     requires ended { 1 ≤ emitter.code.level.home }
+    ensures positions { IfOk result
+        (λ built. ArePositions (IsListedPosition lines.now.lengths.items) built.0) }
     ensures accepted { IfOk result (λ built. IsAccepted (input_of built.0)) }
     ensures declared { IfOk result (λ built. declared_by built.0 ≡ built.1.items) }
     ensures deepest { IfOk result (λ built. AreDeepest (input_of built.0) built.1.items) }
@@ -41,7 +45,7 @@ pub(crate) fn finish(
         ..
     } = emitter;
     let made = code.finish()?;
-    complete(alloc, options, pools, (made, heads), last_line)
+    complete(alloc, options, pools, (made, heads), lines)
 }
 
 /// Builds the program of operations, and of what functions have except for their chunks.
@@ -50,9 +54,11 @@ fn complete(
     options: Options,
     pools: grain_emit::Pools,
     made: (Assembled, Vec<Head>),
-    last_line: u32,
+    lines: &Lines,
 ) -> Result<(Program, Vec<u16>), CompileError>
     requires { IsComplete made.0 }
+    ensures positions { IfOk result
+        (λ built. ArePositions (IsListedPosition lines.now.lengths.items) built.0) }
     ensures accepted { IfOk result (λ built. IsAccepted (input_of built.0)) }
     ensures declared { IfOk result (λ built. declared_by built.0 ≡ built.1.items) }
     ensures deepest { IfOk result (λ built. AreDeepest (input_of built.0) built.1.items) }
@@ -60,25 +66,16 @@ fn complete(
     let (assembled, heads) = made;
     let Assembled {
         ops,
-        mut places,
-        chains,
+        places,
+        mut chains,
         tables,
         cuts,
     } = assembled;
-    forget_places(&mut places, last_line);
+    keep_in_chains(&mut chains, lines);
     let parts = parts(pools, options, chains, &tables)?;
-    let parts = positioned(alloc, &ops, &places, parts)?;
+    let parts = positioned(alloc, &ops, &places, lines, parts)?;
     let (cuts, heads) = paired(alloc, &cuts, heads)?;
     built(alloc, &ops, &cuts, heads, parts)
-}
-
-/// Forgets the places behind a line.
-fn forget_places(places: &mut [Place], last_line: u32) {
-    for place in places {
-        if place.line > last_line {
-            *place = Place::NONE;
-        }
-    }
 }
 
 /// The chunks as cuts of the operations, and for each but the first what its function has besides.
@@ -127,30 +124,48 @@ fn coded(alloc: Global, ops: &[Op]) -> Result<(Vec<u8>, Vec<u32>), CompileError>
     }
 }
 
-/// The parts with the position of each byte of the code of the operations: none but where one begins.
+/// The parts with a position for each byte of the code. Only the first byte of an operation has one, and only if its place lies
+/// in one of the lines.
 fn positioned(
     alloc: Global,
     ops: &[Op],
     places: &[Place],
+    lines: &Lines,
     mut parts: Parts,
 ) -> Result<Parts, CompileError>
     ensures can { OnOk result (CanAssemble ops.now) }
     ensures indexed { IfOk result
         (λ p. (caps : Caps) → All (Indexed (setting_with caps p)) ops.now) }
+    ensures positions { IfOk result (λ p. IfSome (listed_positions p.positions)
+        (All (IsListedPosition lines.now.lengths.items))) }
     ensures constants { IfOk result (λ p. p.consts ≡ parts.consts) }
     ensures chains { IfOk result (λ p. p.chains ≡ parts.chains) }
     ensures switches { IfOk result (λ p. p.switches ≡ parts.switches) }
 {
     let (code, offsets) = coded(alloc, ops)?;
     check_indices(&parts, &code)?;
-    let mut positions = vec![in alloc; Position::NONE; code.len()]?;
+    parts.positions = dense(alloc, code.len(), &offsets, places, lines)?;
+    Ok(parts)
+}
+
+/// The positions of the bytes of the code: at each offset that of its place, if that lies in one of the lines.
+fn dense(
+    alloc: Global,
+    len: usize,
+    offsets: &[u32],
+    places: &[Place],
+    lines: &Lines,
+) -> Result<Positions, AllocError>
+    ensures { IfOk result (λ p. IfSome (listed_positions p)
+        (All (IsListedPosition lines.now.lengths.items))) }
+{
+    let mut positions = vec![in alloc; Position::NONE; len]?;
     for (offset, place) in offsets.iter().zip(places) {
         if let Some(found) = positions.get_mut(*offset as usize) {
-            *found = position(*place);
+            *found = kept(position(*place), lines);
         }
     }
-    parts.positions = Positions::dense(positions);
-    Ok(parts)
+    Ok(Positions::dense(positions))
 }
 
 /// Tests that each index of the code leads into its pool, as it does for each syntax tree that the parser makes.
@@ -183,6 +198,8 @@ fn built(
     requires count { length cuts.now ≡ length heads.items + 1 }
     requires can { (caps : Caps) → caps.0 ≡ every_capability
         → CanBuild (draft caps ops.now cuts.now heads.items parts) }
+    ensures positions { IfOk result (λ built. built.0.positions ≡ listed_positions parts.positions) }
+    ensures chains { IfOk result (λ built. built.0.chains ≡ parts.chains.items) }
     ensures accepted { IfOk result (λ built. IsAccepted (input_of built.0)) }
     ensures declared { IfOk result (λ built. declared_by built.0 ≡ built.1.items) }
     ensures deepest { IfOk result (λ built. AreDeepest (input_of built.0) built.1.items) }
@@ -204,6 +221,8 @@ fn all_capabilities() -> Caps
 /// Has each chunk declare the greatest operand count that it reaches, and returns these counts too.
 fn tightened(alloc: Global, mut program: Program) -> Result<(Program, Vec<u16>), CompileError>
     requires { IsAccepted (input_of program) }
+    ensures positions { IfOk result (λ built. built.0.positions ≡ program.positions) }
+    ensures chains { IfOk result (λ built. built.0.chains ≡ program.chains) }
     ensures accepted { IfOk result (λ built. IsAccepted (input_of built.0)) }
     ensures declared { IfOk result (λ built. declared_by built.0 ≡ built.1.items) }
     ensures deepest { IfOk result (λ built. AreDeepest (input_of built.0) built.1.items) }

@@ -35,7 +35,7 @@ impl<F: Fn(&mut Emitter, &Expr, usize, bool) -> Result<(), CompileError>> Coder<
             (Callee::Called, [pointer, others @ ..]) => {
                 self.expr(emitter, pointer, true)?;
                 self.all(emitter, others)?;
-                emitter.call_pointer(place, argc_of(place, others.len())?)
+                emitter.call_pointer(place, argc_of(place, others.len())?, false)
             }
             (Callee::Curried, [pointer, others @ ..]) => {
                 self.expr(emitter, pointer, true)?;
@@ -83,7 +83,7 @@ impl<F: Fn(&mut Emitter, &Expr, usize, bool) -> Result<(), CompileError>> Coder<
         let argc = argc_of(place, arguments.len())?;
         if !emitter.has_function(name, arguments.len())
             && let Some((first, others)) = arguments.split_first()
-            && let Some(slot) = emitter.slot_of(first)
+            && let Some(slot) = emitter.changeable_slot_of(first)
         {
             self.all(emitter, others)?;
             return emitter.call_on(place, name, slot, argc);
@@ -111,7 +111,7 @@ impl<F: Fn(&mut Emitter, &Expr, usize, bool) -> Result<(), CompileError>> Coder<
         let with_value = argc_of(place, arguments.len().saturating_add(1))?;
         let argc = with_value.saturating_sub(1);
         match callee_of(emitter.pools.names.get(name)) {
-            Callee::Called => emitter.call_pointer(place, argc),
+            Callee::Called => emitter.call_pointer(place, argc, argc > 0),
             Callee::Curried => emitter.curry(place, argc),
             _ => emitter.call(place, name, with_value),
         }

@@ -11,6 +11,7 @@ mod calls;
 mod coder;
 mod loops;
 mod parts;
+mod placing;
 mod prelude;
 mod programs;
 mod switches;

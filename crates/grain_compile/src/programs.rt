@@ -1,15 +1,17 @@
 //! Whole programs.
-ghost use Rattle.std.specs.Prelude.{◌≡◌, ◌≤◌, IfOk, None, OnOk};
+ghost use Rattle.std.specs.Prelude.{◌≡◌, ◌≤◌, IfErr, IfOk, None, OnOk};
 ghost use Rattle.grain_rules.specs.Accepted.{AreDeepest, IsAccepted};
 ghost use Rattle.grain.specs.Program.{declared_by, input_of};
 ghost use Rattle.grain_compile.specs.Chunks.{BeginsChunk};
+ghost use Rattle.grain_compile.specs.Positions.{ArePositions, IsListedPosition, IsPositionOf};
+ghost use Rattle.grain_lexer.specs.Places.{HasPlaces};
 
 use crate::building::{finish, head_of};
 use crate::coder::{Coder, expr};
 use crate::prelude::{needed, with_functions};
 use grain::{Head, Op, Program};
 use grain_emit::{Emitter, Options, Pools, global_constants, split_functions};
-use grain_lexer::{CompileError, Place};
+use grain_lexer::{CompileError, Lines, Place};
 use grain_syntax::{Expr, MAX_DEPTH, Syntax, parse};
 use std::alloc::Global;
 
@@ -17,8 +19,9 @@ use std::alloc::Global;
 const MAX_LEVELS: usize = 8 * MAX_DEPTH;
 
 /// Compiles a source text. The result is the program, which is accepted, and the greatest operand count that any run of each
-/// chunk reaches, the top level first. Each chunk declares that number. It takes time linear in the length of the text, except
-/// that each use of a variable is compared with the local variables there.
+/// chunk reaches, the top level first. Each chunk declares that number. Each place that an error names, and each position of the
+/// program, lies in the text, unless there is none. It takes time linear in the length of the text, except that each use of a
+/// variable is compared with the local variables there.
 ///
 /// # Errors
 /// The first thing that is wrong with the text, with its line and column. `OutOfMemory` has no place, nor has `TooMany` where it
@@ -28,27 +31,48 @@ pub fn compile(
     source: &str,
     options: &Options,
 ) -> Result<(Program, Vec<u16>), CompileError>
+    ensures placed { IfErr result (HasPlaces source.now) }
+    ensures positions { IfOk result (λ built. ArePositions (IsPositionOf source.now) built.0) }
+    ensures accepted { IfOk result (λ built. IsAccepted (input_of built.0)) }
+    ensures declared { IfOk result (λ built. declared_by built.0 ≡ built.1.items) }
+    ensures deepest { IfOk result (λ built. AreDeepest (input_of built.0) built.1.items) }
+{
+    match compiled_text(alloc, source, options) {
+        Ok(built) => Ok(built),
+        Err(error) => Err(error.within(source)),
+    }
+}
+
+/// Compiles a source text, with errors of whose places nothing is proved.
+fn compiled_text(
+    alloc: Global,
+    source: &str,
+    options: &Options,
+) -> Result<(Program, Vec<u16>), CompileError>
+    ensures positions { IfOk result (λ built. ArePositions (IsPositionOf source.now) built.0) }
     ensures accepted { IfOk result (λ built. IsAccepted (input_of built.0)) }
     ensures declared { IfOk result (λ built. declared_by built.0 ≡ built.1.items) }
     ensures deepest { IfOk result (λ built. AreDeepest (input_of built.0) built.1.items) }
 {
     let syntax = parse(alloc, source)?;
+    let lines = Lines::new(alloc, source)?;
     let functions = needed(alloc, &syntax)?;
     if functions.is_empty() {
-        return compiled(alloc, options, syntax, u32::MAX);
+        return compiled(alloc, options, syntax, &lines);
     }
     let text = with_functions(alloc, source, functions.as_str())?;
-    let last_line = u32::try_from(source.split('\n').count()).unwrap_or(u32::MAX);
-    compiled(alloc, options, parse(alloc, text.as_str())?, last_line)
+    compiled(alloc, options, parse(alloc, text.as_str())?, &lines)
 }
 
-/// Compiles a syntax tree. What lies behind the last line of the script has no places.
+/// Compiles a syntax tree. Only what lies in these lines has positions.
 fn compiled(
     alloc: Global,
     options: &Options,
     syntax: Syntax,
-    last_line: u32,
+    lines: &Lines,
 ) -> Result<(Program, Vec<u16>), CompileError>
+    ensures positions { IfOk result
+        (λ built. ArePositions (IsListedPosition lines.now.lengths.items) built.0) }
     ensures accepted { IfOk result (λ built. IsAccepted (input_of built.0)) }
     ensures declared { IfOk result (λ built. declared_by built.0 ≡ built.1.items) }
     ensures deepest { IfOk result (λ built. AreDeepest (input_of built.0) built.1.items) }
@@ -64,7 +88,7 @@ fn compiled(
     let constants = global_constants(alloc, &body)?;
     let mut emitter = Emitter::new(alloc, *options, pools, signatures, constants);
     let heads = chunks(&mut emitter, &body, &bodies)?;
-    finish(emitter, heads, last_line)
+    finish(emitter, heads, lines)
 }
 
 /// The code of the top level and of the functions, and what each function has except for its chunk. A closure comes after the

@@ -1,6 +1,6 @@
 //! The code of switches.
 ghost use Rattle.std.specs.Prelude.{◌≡◌, ◌+◌, ◌-◌, ◌<◌, ◌≤◌, OnOk, Some, slice_get};
-ghost use Rattle.grain_assembly.specs.Unfinished.{Extends, spot};
+ghost use Rattle.grain_assembly.specs.Unfinished.{StaysIn, spot};
 ghost use Rattle.grain_emit.specs.Loops.{count};
 ghost use Rattle.grain_emit.specs.Rules.{IsWritten, Stands};
 ghost use Rattle.grain_emit.specs.Switches.{AreArms};
@@ -60,8 +60,8 @@ impl<F: Fn(&mut Emitter, &Expr, usize, bool) -> Result<(), CompileError>> Coder<
             ≡ Some (spot (emitter.old.code.operands - 1 + count is_wanted) emitter.old.code.level) }
         ensures operands { OnOk result (emitter.new.code.operands ≡ emitter.old.code.operands) }
         ensures level { OnOk result (emitter.new.code.level ≡ emitter.old.code.level) }
-        ensures labels { OnOk result (Extends emitter.old.code.labels emitter.new.code.labels) }
-        ensures outers { OnOk result (Extends emitter.old.code.outers emitter.new.code.outers) }
+        ensures labels { OnOk result (StaysIn emitter.old.code.labels emitter.new.code.labels) }
+        ensures outers { OnOk result (StaysIn emitter.old.code.outers emitter.new.code.outers) }
         ensures pending { OnOk result (emitter.new.code.pending + which.entry.0 ≡ labels.now.first) }
         ensures around { OnOk result (emitter.new.scope.around ≡ emitter.old.scope.around) }
     {

@@ -4,21 +4,21 @@ use Rattle.std.specs.Prelude.{slice_get}
 use Rattle.std.specs.List.{Contains}
 use Rattle.std.proofs.lemmas.Bool.{cases_lt}
 use Rattle.std.proofs.lemmas.List.Elements.{All-contains, Contains-push_cases}
-use Rattle.grain_assembly.specs.Unfinished.{Extends, Level, Unfinished, spot}
+use Rattle.grain_assembly.specs.Unfinished.{StaysIn, Level, Unfinished, spot}
 use Rattle.grain_assembly.specs.Assembled.{targets_of}
 use Rattle.grain_assembly.specs.declared.assembler.Targets.{Targets}
 use Rattle.grain_emit.specs.Switches.{AreArms, IsArm, LeadToArms}
 use Rattle.grain_emit.specs.declared.dispatch.Labels.{Labels}
 
 -- what is found at some entries up to one, and at the next, is found at all of these
-pub one_more : {A : Type 0} (f : ℕ → A) (xs ys : List A) (low : ℕ → Type 0) (n m : ℕ) → Extends xs ys → ((k : ℕ) → low k → k ≤ n → slice_get xs k ≡ Some (f k)) → m ≡ n + 1 → slice_get ys m ≡ Some (f m) → (k : ℕ) → low k → k ≤ m → slice_get ys k ≡ Some (f k)
+pub one_more : {A : Type 0} (f : ℕ → A) (xs ys : List A) (low : ℕ → Type 0) (n m : ℕ) → StaysIn xs ys → ((k : ℕ) → low k → k ≤ n → slice_get xs k ≡ Some (f k)) → m ≡ n + 1 → slice_get ys m ≡ Some (f m) → (k : ℕ) → low k → k ≤ m → slice_get ys k ≡ Some (f k)
 one_more {A} f xs ys low n m keeps have is here k above below = elim (cases_lt k m) [
   | inl less ↦ keeps k (f k) (have k above (omega arith))
   | inr not ↦ let same : m ≡ k = omega arith in subst (λ (j : ℕ). slice_get ys j ≡ Some (f j)) same here
 ]
 
 -- they stay what they are while code is written
-pub arms_after : (l : Labels) (n : ℕ) (old new : Unfinished) → AreArms l n old → new.level ≡ old.level → Extends old.labels new.labels → Extends old.outers new.outers → AreArms l n new
+pub arms_after : (l : Labels) (n : ℕ) (old new : Unfinished) → AreArms l n old → new.level ≡ old.level → StaysIn old.labels new.labels → StaysIn old.outers new.outers → AreArms l n new
 arms_after l n old new arms level labels outers = record {
   ordered = arms.ordered;
   arms = λ label low high. labels label _ (arms.arms label low high) ∙ ap (λ (v : Level). Some (spot n v)) (sym level);

@@ -5,7 +5,7 @@ use Rattle.std.proofs.Math.Seq.{drop-append_seam}
 use Rattle.std.proofs.lemmas.List.{length-append}
 use Rattle.grain_rules.specs.Counts.{Base, last_base}
 use Rattle.grain_assembly.specs.Sound.{IsBased}
-use Rattle.grain_assembly.specs.Unfinished.{Extends, Level, SameLabels, Spot, spot, level_with_handler, level_without_handlers}
+use Rattle.grain_assembly.specs.Unfinished.{StaysIn, Level, SameLabels, Spot, spot, level_with_handler, level_without_handlers}
 use Rattle.grain_assembly.proofs.Bases.{last_least}
 use Rattle.grain_emit.specs.Loops.{CanLeave, IsBare, IsInside, count}
 use Rattle.grain_emit.specs.Rules.{IsWritten, Stands}
@@ -14,7 +14,7 @@ use Rattle.grain_emit.specs.declared.scope.Loop.{Loop}
 use Rattle.grain_emit.specs.declared.scope.Scope.{Scope}
 
 -- with more labels
-pub leave_kept : (around : Option Loop) (level : Level) (old new : List Spot) → Extends old new → CanLeave around level old → CanLeave around level new
+pub leave_kept : (around : Option Loop) (level : Level) (old new : List Spot) → StaysIn old new → CanLeave around level old → CanLeave around level new
 leave_kept None level old new keeps can = tt
 leave_kept (Some l) level old new keeps can = record {
   above = can.above;

@@ -1,6 +1,6 @@
 -- What rules that write code find, and what they leave.
 use Rattle.std.specs.Prelude.{◌≡◌, ℕ, ◌≤◌, false}
-use Rattle.grain_assembly.specs.Unfinished.{Extends}
+use Rattle.grain_assembly.specs.Unfinished.{StaysIn}
 use Rattle.grain_emit.specs.Loops.{CanLeave}
 use Rattle.grain_emit.specs.declared.emitter.Emitter.{Emitter}
 
@@ -14,16 +14,16 @@ pub record Stands (m : Emitter) : Type 0 where
 pub record IsWritten (old new : Emitter) (n : ℕ) : Type 0 where
   pub operands : new.code.operands ≡ n
   pub level : new.code.level ≡ old.code.level
-  pub labels : Extends old.code.labels new.code.labels
-  pub outers : Extends old.code.outers new.code.outers
+  pub labels : StaysIn old.code.labels new.code.labels
+  pub outers : StaysIn old.code.outers new.code.outers
   pub pending : new.code.pending ≡ old.code.pending
   pub loop : new.scope.around ≡ old.scope.around
 
 -- Code was written that leads away. What is found after it is open.
 pub record LeadsAway (old new : Emitter) : Type 0 where
   pub home : new.code.level.home ≡ old.code.level.home
-  pub labels : Extends old.code.labels new.code.labels
-  pub outers : Extends old.code.outers new.code.outers
+  pub labels : StaysIn old.code.labels new.code.labels
+  pub outers : StaysIn old.code.outers new.code.outers
   pub pending : new.code.pending ≡ old.code.pending
   pub loose : new.code.fixed ≡ false
   pub loop : new.scope.around ≡ old.scope.around

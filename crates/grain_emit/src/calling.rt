@@ -60,12 +60,33 @@ impl Emitter {
         }
     }
 
+    /// Whether an expression is a local constant. What changes it is given a copy.
+    pub fn is_constant(&self, from: &Expr) -> bool {
+        match &from.form {
+            Form::Name(name) => self.scope.find(*name).is_some_and(|found| found.is_const),
+            _ => false,
+        }
+    }
+
+    /// The slot of an expression that is a local variable and no constant, so that a call may change it.
+    pub fn changeable_slot_of(&self, from: &Expr) -> Option<u16> {
+        if self.is_constant(from) {
+            return None;
+        }
+        self.slot_of(from)
+    }
+
     /// Whether a method is one of function pointers.
     pub fn is_of_pointers(&self, name: u32) -> bool {
         match callee_of(self.pools.names.get(name)) {
             Callee::Called | Callee::Curried => true,
             _ => false,
         }
+    }
+
+    /// Whether a method calls a function pointer.
+    pub fn is_called(&self, name: u32) -> bool {
+        callee_of(self.pools.names.get(name)) == Callee::Called
     }
 
     /// Calls a function on a local variable, which is the first of this many arguments.
@@ -88,16 +109,53 @@ impl Emitter {
         self.put(place, call, usize::from(argc.saturating_sub(1)), 1)
     }
 
-    /// Calls the function pointer below this many arguments.
-    pub fn call_pointer(&mut self, place: Place, argc: u8) -> Result<(), CompileError>
+    /// The variable on which a method calls a function pointer, so that the function may change it: a local one that is no
+    /// constant, or `this`.
+    pub fn receiver_of(&self, from: &Expr) -> Option<Receiver> {
+        match &from.form {
+            Form::This => Some(Receiver::This),
+            _ => self
+                .changeable_slot_of(from)
+                .map(|slot| Receiver::Local(slot)),
+        }
+    }
+
+    /// Calls the function pointer below this many arguments. As a method it calls the pointer that is the first of them on the
+    /// value below, unless that is a function pointer itself.
+    pub fn call_pointer(
+        &mut self,
+        place: Place,
+        argc: u8,
+        is_method: bool,
+    ) -> Result<(), CompileError>
         requires { self.old.code.level.floor + argc + 1 ≤ self.old.code.operands }
         ensures { OnOk result (IsWritten self.old self.new (self.old.code.operands - argc)) }
     {
         let call = Op::CallFnPtr {
             argc,
-            is_method: false,
+            is_method,
             capture_parent_scope: false,
             receiver: None,
+        };
+        self.put(place, call, usize::from(argc) + 1, 1)
+    }
+
+    /// Calls the function pointer below this many arguments on a variable. Where the variable has a function pointer itself,
+    /// that one is called, with the value below the arguments as the first of them.
+    pub fn call_pointer_on(
+        &mut self,
+        place: Place,
+        receiver: Receiver,
+        argc: u8,
+    ) -> Result<(), CompileError>
+        requires { self.old.code.level.floor + argc + 1 ≤ self.old.code.operands }
+        ensures { OnOk result (IsWritten self.old self.new (self.old.code.operands - argc)) }
+    {
+        let call = Op::CallFnPtr {
+            argc,
+            is_method: true,
+            capture_parent_scope: false,
+            receiver: Some(receiver),
         };
         self.put(place, call, usize::from(argc) + 1, 1)
     }

@@ -22,7 +22,7 @@ impl Emitter {
         if self.has_function(name, argc) {
             return false;
         }
-        if from == 0 && is_variable(&root.form) {
+        if from == 0 && is_variable(&root.form) && !self.is_constant(root) {
             return index == 0 && self.slot_of(root).is_some();
         }
         !self.has_function(name, argc.saturating_add(1))

@@ -1,6 +1,6 @@
 //! Loops: how they begin, and what is dropped where they are left.
 ghost use Rattle.std.specs.Prelude.{◌≡◌, ◌+◌, ◌-◌, ◌≤◌, IfOk, OnOk, Some, false, slice_get, true};
-ghost use Rattle.grain_assembly.specs.Unfinished.{Extends, SameLabels, guarded, spot, level_without_iterator};
+ghost use Rattle.grain_assembly.specs.Unfinished.{StaysIn, SameLabels, guarded, spot, level_without_iterator};
 ghost use Rattle.grain_emit.specs.Loops.{IsBare, count};
 ghost use Rattle.grain_emit.specs.Rules.{LeadsAway, IsWritten, Stands};
 
@@ -29,8 +29,8 @@ impl Emitter {
         ensures operands { OnOk result (self.new.code.operands ≡ self.old.code.operands) }
         ensures level { OnOk result (self.new.code.level
             ≡ guarded self.old.code.operands self.old.code.level) }
-        ensures labels { OnOk result (Extends self.old.code.labels self.new.code.labels) }
-        ensures outers { OnOk result (Extends self.old.code.outers self.new.code.outers) }
+        ensures labels { OnOk result (StaysIn self.old.code.labels self.new.code.labels) }
+        ensures outers { OnOk result (StaysIn self.old.code.outers self.new.code.outers) }
         ensures next { IfOk result (λ l. slice_get self.new.code.labels l.next
             ≡ Some (spot self.old.code.operands self.old.code.level)) }
         ensures outer { IfOk result (λ l. slice_get self.new.code.outers l.next
@@ -81,8 +81,8 @@ impl Emitter {
         requires innermost { self.old.code.pending ≡ label + 1 }
         ensures stands { OnOk result (Stands self.new) }
         ensures pending { OnOk result (slice_get self.old.code.outers label ≡ Some self.new.code.pending) }
-        ensures labels { OnOk result (Extends self.old.code.labels self.new.code.labels) }
-        ensures outers { OnOk result (Extends self.old.code.outers self.new.code.outers) }
+        ensures labels { OnOk result (StaysIn self.old.code.labels self.new.code.labels) }
+        ensures outers { OnOk result (StaysIn self.old.code.outers self.new.code.outers) }
         ensures operands { OnOk result (self.new.code.operands ≡ self.old.code.operands) }
         ensures level { OnOk result (self.new.code.level ≡ self.old.code.level) }
         ensures around { OnOk result (self.new.scope.around ≡ self.old.scope.around) }

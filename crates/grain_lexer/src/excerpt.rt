@@ -37,7 +37,9 @@ pub fn report(
 /// Another place that explains the problem, with what is there.
 fn note_of(problem: Problem) -> Option<(Place, &'static str)> {
     match problem {
-        Problem::Unclosed(_, place) => Some((place, "the bracket is opened here")),
+        Problem::Unclosed(_, place) if place.is_some() => {
+            Some((place, "the bracket is opened here"))
+        }
         Problem::UnknownVariable(place) if place.is_some() => {
             Some((place, "a variable with a similar name is declared here"))
         }

@@ -7,12 +7,15 @@ mod error;
 mod excerpt;
 mod lexeme;
 mod lexer;
+mod lines;
 mod literal;
 mod names;
+mod places;
 mod scan;
 
 pub use error::{CompileError, Place, Problem, Thing};
 pub use excerpt::report;
 pub use lexeme::{Kind, Lexeme, Mark, Operator};
 pub use lexer::{Lexemes, split_into_lexemes};
+pub use lines::Lines;
 pub use names::Names;

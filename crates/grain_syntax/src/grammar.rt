@@ -1,6 +1,10 @@
 //! Expressions by the precedence of their operators. The rules take the function that reads an expression as a parameter, so that
 //! each is proved by itself and only `expr` calls itself.
 
+ghost use Rattle.std.specs.Prelude.{IfOk};
+ghost use Rattle.std.specs.List.{All};
+ghost use Rattle.grain_lexer.specs.Places.{HasPlaces};
+
 use crate::ast::{Binding, Expr, Form, Function, Operation, Syntax};
 use crate::cursor::Cursor;
 use grain_lexer::{CompileError, Kind, Mark, Operator, Place, Problem, Thing, split_into_lexemes};
@@ -50,11 +54,30 @@ pub fn parse(alloc: Global, source: &str) -> Result<Syntax, CompileError> {
 }
 
 /// What is wrong with the syntax of a source text, as reading finds it: nothing where [`parse`] reads the text. After an error it
-/// goes on with the next statement, and it stops after [`MAX_FLAWS`]. Where a lexeme is wrong, that is the only error.
+/// goes on with the next statement, and it stops after [`MAX_FLAWS`]. Where a lexeme is wrong, that is the only error. Each place
+/// that an error names lies in the text.
 ///
 /// # Errors
 /// The allocator refused.
-pub fn flaws(alloc: Global, source: &str) -> Result<Vec<CompileError>, AllocError> {
+pub fn flaws(alloc: Global, source: &str) -> Result<Vec<CompileError>, AllocError>
+    ensures { IfOk result (λ flaws. All (HasPlaces source.now) flaws.items) }
+{
+    let mut flaws = flaws_found(alloc, source)?;
+    place_flaws(&mut flaws, source);
+    Ok(flaws)
+}
+
+/// Each flaw, without places that don't lie in the text.
+fn place_flaws(flaws: &mut [CompileError], source: &str)
+    ensures { All (HasPlaces source.now) flaws.new }
+{
+    for flaw in flaws.iter_mut() {
+        *flaw = flaw.within(source);
+    }
+}
+
+/// What is wrong, with places that nothing is proved of.
+fn flaws_found(alloc: Global, source: &str) -> Result<Vec<CompileError>, AllocError> {
     let lexemes = match split_into_lexemes(alloc, source) {
         Ok(lexemes) => lexemes,
         Err(error) => return Ok(vec![in alloc; error]?),

@@ -1,8 +1,11 @@
-use Rattle.std.proofs.Common.{◌≡◌, ◌+◌, ℕ, List, length, map, take, sym, subst, ap, ◌∙◌, Vec, Global}
-use Rattle.std.specs.List.{All}
+use Rattle.std.proofs.Common.{◌≡◌, ◌+◌, ℕ, List, length, map, take, refl, sym, subst, ap, ◌∙◌, Vec, Global, arith}
+use Rattle.std.specs.List.{All, flat_map}
+use Rattle.std.proofs.lemmas.List.{with_items_is}
 use Rattle.grain_code.specs.Assembly.{CanAssemble}
 use Rattle.grain_code.specs.Span.{Span}
 use Rattle.grain_code.specs.declared.op.Op.{Op}
+use Rattle.grain_base.specs.declared.position.Position.{Position}
+use Rattle.grain_pools.specs.Chain.{positions, shape}
 use Rattle.grain_pools.specs.declared.chain.Chain.{Chain}
 use Rattle.grain_pools.specs.declared.switch.Switch.{Switch}
 use Rattle.grain_base.specs.declared.value.Dynamic.{Dynamic}
@@ -16,7 +19,9 @@ use Rattle.grain_assembly.specs.Assembled.{targets_of}
 use Rattle.grain_assembly.specs.Finished.{AreTypedCuts, LeadAmong}
 use Rattle.grain_assembly.specs.declared.assembler.Targets.{Targets}
 use Rattle.grain_compile.specs.Capabilities.{every_capability}
+use Rattle.grain_compile.specs.Positions.{IsListedPosition}
 use Rattle.grain_compile.proofs.BuildPremises.{can_build}
+use Rattle.grain_compile.proofs.PlacedPositions.{if_placed, typed_alike}
 use Rattle.grain_compile.proofs.building.complete.Goals as goal
 
 pub built-requires-clause-can : goal.built-requires-clause-can
@@ -25,8 +30,10 @@ built-requires-clause-can c = λ caps all.
     let parts : Parts = c.in_ok-parts-2.parts in
     let chunks : List Span = c.args.made.0.cuts.items in
     let tables : List (List ℕ) = map targets_of c.args.made.0.tables.items in
-    let chains : parts.chains.items ≡ c.args.made.0.chains.items = ap (λ (v : Vec Chain Global). v.items) c.in_ok-parts-2.ensures.chains ∙ c.in_ok-parts.ensures.chains in
-    let typed : AreTypedCuts ops parts.chains.items tables chunks = subst (λ (xs : List Chain). AreTypedCuts ops xs tables chunks) (sym chains) c.requires.typed in
+    let chains : parts.chains.items ≡ c.keep_in_chains.new.chains = ap (λ (v : Vec Chain Global). v.items) c.in_ok-parts-2.ensures.chains ∙ c.in_ok-parts.ensures.chains ∙ with_items_is c.args.made.0.chains c.keep_in_chains.new.chains (let h = c.keep_in_chains.auto.chains in let k = c.deref_mut.ensures.len in omega arith) in
+    let alike : (p : Position) → map (shape p) parts.chains.items ≡ map (shape p) c.args.made.0.chains.items = λ p. ap (map (shape p)) chains ∙ c.keep_in_chains.ensures.rest p ∙ ap (map (shape p)) c.deref_mut.ensures.value in
+    let none : Position = record { line = 0; column = 0; line_fits = omega arith; column_fits = omega arith; no_place = λ _. refl } in
+    let typed : AreTypedCuts ops parts.chains.items tables chunks = typed_alike none c.args.made.0.chains.items parts.chains.items (alike none) ops tables chunks c.requires.typed in
     let among : LeadAmong (map switch_targets parts.switches.items) tables =
     subst (λ (v : Vec Switch Global). LeadAmong (map switch_targets v.items) tables) (sym c.in_ok-parts-2.ensures.switches)
     (subst (λ (ts : List Targets). LeadAmong (map switch_targets c.in_ok-parts.parts.switches.items) (map targets_of ts)) c.deref.ensures.value c.in_ok-parts.ensures.switches) in
@@ -38,3 +45,10 @@ built-requires-clause-can c = λ caps all.
     subst (λ (xs : List Op). CanBuild (draft caps xs c.deref-6.result.now c.in_ok-cuts.heads.items parts)) (sym c.deref-5.ensures.value)
     (subst (λ (xs : List Cut). CanBuild (draft caps ops xs c.in_ok-cuts.heads.items parts)) (sym c.deref-6.ensures.value)
     (can_build caps ops c.in_ok-cuts.cuts.items c.in_ok-cuts.heads.items parts chunks tables (length c.in_ok-cuts.heads.items + 1) all typed c.requires.cuts c.requires.leads cuts can among constants indexed))
+
+pub returns-clause-positions : goal.returns-clause-positions
+returns-clause-positions c =
+    let P : Position → Type 0 = IsListedPosition c.args.lines.now.lengths.items in
+    let chains : c.in_ok-parts-2.parts.chains.items ≡ c.keep_in_chains.new.chains = ap (λ (v : Vec Chain Global). v.items) c.in_ok-parts-2.ensures.chains ∙ c.in_ok-parts.ensures.chains ∙ with_items_is c.args.made.0.chains c.keep_in_chains.new.chains (let h = c.keep_in_chains.auto.chains in let k = c.deref_mut.ensures.len in omega arith) in
+    if_placed c.built.result (λ b. b.0) P _ c.in_ok-parts-2.parts.chains.items c.built.ensures.positions c.built.ensures.chains c.in_ok-parts-2.ensures.positions
+    (subst (λ (xs : List Chain). All P (flat_map positions xs)) (sym chains) c.keep_in_chains.ensures.kept)

@@ -1,7 +1,7 @@
 use Rattle.std.proofs.Common.{subst}
 use Rattle.grain.specs.Build.{setting_with}
 use Rattle.grain_rules.specs.Accepted.{AreIndexed}
-use Rattle.grain_compile.proofs.AssembledIndices.{indexed_ops}
+use Rattle.grain.proofs.AssembledIndices.{indexed_ops}
 use Rattle.grain_compile.proofs.building.positioned.Goals as goal
 
 pub returns-clause-indexed : goal.returns-clause-indexed

@@ -1,5 +1,4 @@
 use Rattle.std.proofs.Common.{ℕ}
-use Rattle.std.specs.HashMap.{PutsEntry}
 use Rattle.std.specs.List.{Contains}
 use Rattle.std.proofs.lemmas.Map.Views.{All-values-PutsEntry}
 use Rattle.grain_base.specs.Content.{same}

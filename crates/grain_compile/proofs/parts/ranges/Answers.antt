@@ -1,4 +1,4 @@
-use Rattle.std.proofs.Common.{subst, sym, List, ◌≡◌}
+use Rattle.std.proofs.Common.{subst, sym, List}
 use Rattle.std.specs.List.{All, Contains}
 use Rattle.std.proofs.lemmas.List.Elements.{All-push}
 use Rattle.grain_pools.specs.declared.switch.SwitchRange.{SwitchRange}

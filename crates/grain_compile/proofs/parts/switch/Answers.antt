@@ -1,4 +1,3 @@
-use Rattle.std.proofs.Common.{◌++◌, [], ◌∷◌}
 use Rattle.std.proofs.lemmas.List.Elements.{Contains-push}
 use Rattle.grain_assembly.specs.Assembled.{targets_of}
 use Rattle.grain_compile.proofs.SwitchParts.{parts_lead}

@@ -1,4 +1,4 @@
-use Rattle.std.proofs.Common.{◌<◌, [], ◌∷◌, length, sym, arith, rules}
+use Rattle.std.proofs.Common.{◌<◌, [], ◌∷◌, length, sym, rules}
 use Rattle.std.proofs.lemmas.List.Elements.{Contains-append_left}
 use Rattle.grain_compile.proofs.parts.target_at.Goals as goal
 

@@ -1,6 +1,6 @@
 use Rattle.std.proofs.Common.{◌≡◌, ◌+◌, ◌≤◌, sym, subst, arith, Some}
 use Rattle.std.specs.Prelude.{slice_get}
-use Rattle.grain_assembly.specs.Assembled.{kept}
+use Rattle.grain_assembly.specs.Assembled.{workings_of}
 use Rattle.grain_assembly.specs.Sound.{Workings}
 use Rattle.grain_assembly.specs.Unfinished.{Unfinished, spot, level_without_iterator}
 use Rattle.grain_assembly.proofs.Frames.{advance}
@@ -8,7 +8,7 @@ use Rattle.grain_assembly.proofs.assembler.Assembler.advance.Goals as goal
 
 pub invariant_of-self-2 : goal.invariant_of-self-2
 invariant_of-self-2 c =
-    let k : Workings = kept c.self.inside in
+    let k : Workings = workings_of c.self.inside in
     let room : k.level.floor ≤ k.operands = subst (λ (w : Unfinished). w.level.floor ≤ w.operands) (sym c.self.view_is) c.requires.room in
     let one : k.level.least + 1 ≤ k.level.iterators = subst (λ (w : Unfinished). w.level.least + 1 ≤ w.level.iterators) (sym c.self.view_is) c.requires.one in
     let there : slice_get k.labels c.args.exit ≡ Some (spot k.operands (level_without_iterator k.level)) = subst (λ (w : Unfinished). slice_get w.labels c.args.exit ≡ Some (spot w.operands (level_without_iterator w.level))) (sym c.self.view_is) c.requires.there in

@@ -1,6 +1,6 @@
 use Rattle.std.proofs.Common.{◌≡◌, ◌+◌, Some, length, rules, sym, ap, subst, ◌∙◌}
 use Rattle.std.specs.Prelude.{slice_get}
-use Rattle.grain_assembly.specs.Assembled.{kept}
+use Rattle.grain_assembly.specs.Assembled.{workings_of}
 use Rattle.grain_assembly.specs.Sound.{Workings}
 use Rattle.grain_assembly.specs.Unfinished.{Unfinished, spot}
 use Rattle.grain_assembly.proofs.LabelLists.{bound_in, outer_there, same_outers, same_spots}
@@ -8,7 +8,7 @@ use Rattle.grain_assembly.proofs.assembler.Assembler.bind.Goals as goal
 
 pub invariant_of-self : goal.invariant_of-self
 invariant_of-self c =
-    let k : Workings = kept c.self.inside in
+    let k : Workings = workings_of c.self.inside in
     let here : slice_get k.labels c.args.label ≡ Some (spot k.operands k.level) = subst (λ (w : Unfinished). slice_get w.labels c.args.label ≡ Some (spot w.operands w.level)) (sym c.self.view_is) c.requires.here in
     let inner : k.pending ≡ c.args.label + 1 = subst (λ (w : Unfinished). w.pending ≡ c.args.label + 1) (sym c.self.view_is) c.requires.innermost in
     let many : c.in-Ok.at ≡ length c.self.inside.ops.items = search rules in
@@ -16,7 +16,7 @@ invariant_of-self c =
 
 pub returns-clause-pending : goal.returns-clause-pending
 returns-clause-pending c =
-    let k : Workings = kept c.self.inside in
+    let k : Workings = workings_of c.self.inside in
     let here : slice_get k.labels c.args.label ≡ Some (spot k.operands k.level) = subst (λ (w : Unfinished). slice_get w.labels c.args.label ≡ Some (spot w.operands w.level)) (sym c.self.view_is) c.requires.here in
     subst (λ (w : Unfinished). slice_get w.outers c.args.label ≡ Some c.index.result.now.outer) c.self.view_is
     (outer_there c.self.inside.labels.items c.args.label c.index.result.now (spot k.operands k.level) here c.index.ensures)

@@ -1,6 +1,6 @@
 use Rattle.std.proofs.Common.{◌≡◌, ◌+◌, ◌-◌, ◌≤◌, sym, subst, arith, Some}
 use Rattle.std.specs.Prelude.{slice_get}
-use Rattle.grain_assembly.specs.Assembled.{kept}
+use Rattle.grain_assembly.specs.Assembled.{workings_of}
 use Rattle.grain_assembly.specs.Fitting.{HasEffect}
 use Rattle.grain_assembly.specs.Sound.{Workings}
 use Rattle.grain_assembly.specs.Unfinished.{Unfinished, spot}
@@ -9,7 +9,7 @@ use Rattle.grain_assembly.proofs.assembler.Assembler.branch.Goals as goal
 
 pub invariant_of-self-2 : goal.invariant_of-self-2
 invariant_of-self-2 c =
-    let k : Workings = kept c.self.inside in
+    let k : Workings = workings_of c.self.inside in
     let does : HasEffect c.args.op k.operands c.args.takes 0 = subst (λ (w : Unfinished). HasEffect c.args.op w.operands c.args.takes 0) (sym c.self.view_is) c.requires.does in
     let room : k.level.floor + c.args.takes ≤ k.operands = subst (λ (w : Unfinished). w.level.floor + c.args.takes ≤ w.operands) (sym c.self.view_is) c.requires.room in
     let few : c.self.inside.operands ≤ 65535 = c.self.invariant.room in

@@ -1,6 +1,6 @@
 use Rattle.std.proofs.Common.{◌≡◌, ◌+◌, ◌-◌, ◌≤◌, length, sym, subst, arith, rules}
 use Rattle.grain_pools.specs.Chain.{consumed}
-use Rattle.grain_assembly.specs.Assembled.{kept}
+use Rattle.grain_assembly.specs.Assembled.{workings_of}
 use Rattle.grain_assembly.specs.Sound.{Workings}
 use Rattle.grain_assembly.specs.Unfinished.{Unfinished}
 use Rattle.grain_assembly.proofs.Marks.{one_chain}
@@ -10,11 +10,11 @@ use Rattle.grain_assembly.proofs.assembler.Assembler.chain.Goals as goal
 pub invariant_of-self-in_err-push-3 : goal.invariant_of-self-in_err-push-3
 invariant_of-self-in_err-push-3 c =
     let same : c.push-3.new.self.items ≡ c.self.inside.ops.items = search rules in
-    rw (same, c.in_ok-push-2.ensures.items) (one_chain (kept c.self.inside) c.self.invariant c.args.chain)
+    rw (same, c.in_ok-push-2.ensures.items) (one_chain (workings_of c.self.inside) c.self.invariant c.args.chain)
 
 pub invariant_of-self-2 : goal.invariant_of-self-2
 invariant_of-self-2 c =
-    let k : Workings = kept c.self.inside in
+    let k : Workings = workings_of c.self.inside in
     let room : k.level.floor + consumed c.args.chain ≤ k.operands = subst (λ (w : Unfinished). w.level.floor + consumed c.args.chain ≤ w.operands) (sym c.self.view_is) c.requires in
     let first : c.from-index.result ≡ length c.self.inside.chains.items = search rules in
     let few : k.operands - consumed c.args.chain + 1 ≤ 65535 = let e = c.consumes-takes.ensures.value in omega arith in

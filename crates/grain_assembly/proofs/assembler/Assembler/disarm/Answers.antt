@@ -1,6 +1,6 @@
 use Rattle.std.proofs.Common.{◌≡◌, ◌≤◌, length, sym, subst}
 use Rattle.grain_rules.specs.Counts.{without_last}
-use Rattle.grain_assembly.specs.Assembled.{kept}
+use Rattle.grain_assembly.specs.Assembled.{workings_of}
 use Rattle.grain_assembly.specs.Sound.{IsBased, Workings}
 use Rattle.grain_assembly.specs.Unfinished.{Level, Unfinished}
 use Rattle.grain_assembly.proofs.Frames.{disarm}
@@ -8,7 +8,7 @@ use Rattle.grain_assembly.proofs.assembler.Assembler.disarm.Goals as goal
 
 pub invariant_of-self-2 : goal.invariant_of-self-2
 invariant_of-self-2 c =
-    let k : Workings = kept c.self.inside in
+    let k : Workings = workings_of c.self.inside in
     let armed : 1 ≤ length k.level.bases = subst (λ (w : Unfinished). 1 ≤ length w.level.bases) (sym c.self.view_is) c.requires.armed in
     let bases : c.args.outer.bases ≡ without_last k.level.bases = subst (λ (w : Unfinished). c.args.outer.bases ≡ without_last w.level.bases) (sym c.self.view_is) c.requires.bases in
     let iterators : c.args.outer.iterators ≡ k.level.iterators = subst (λ (w : Unfinished). c.args.outer.iterators ≡ w.level.iterators) (sym c.self.view_is) c.requires.iterators in

@@ -1,5 +1,5 @@
 use Rattle.std.proofs.Common.{◌≡◌, false, length, sym, subst, rules, ◌∙◌}
-use Rattle.grain_assembly.specs.Assembled.{kept}
+use Rattle.grain_assembly.specs.Assembled.{workings_of}
 use Rattle.grain_assembly.specs.Sound.{Workings}
 use Rattle.grain_assembly.specs.Unfinished.{Unfinished}
 use Rattle.grain_assembly.proofs.Marks.{one_chunk}
@@ -7,7 +7,7 @@ use Rattle.grain_assembly.proofs.assembler.Assembler.end_chunk.Goals as goal
 
 pub invariant_of-self-2 : goal.invariant_of-self-2
 invariant_of-self-2 c =
-    let k : Workings = kept c.self.inside in
+    let k : Workings = workings_of c.self.inside in
     let loose : k.fixed ≡ false = subst (λ (w : Unfinished). w.fixed ≡ false) (sym c.self.view_is) c.requires.loose in
     let entry : c.in-Ok.entry ≡ k.level.home = search rules in
     let end : c.in-Ok-try_from.end ≡ length k.ops = search rules in

@@ -5,11 +5,11 @@ use Rattle.grain_rules.specs.ByIndex.{IsCut, LeadWithin, code_by_index}
 use Rattle.std.specs.List.{All}
 use Rattle.grain_code.specs.Span.{Span}
 use Rattle.grain_rules.specs.Typing.{HasTyping}
-use Rattle.grain_assembly.specs.Assembled.{kept, label_place, targets_of}
+use Rattle.grain_assembly.specs.Assembled.{workings_of, label_place, targets_of}
 use Rattle.grain_assembly.specs.Finished.{AreTypedCuts, LeadAmong}
 use Rattle.grain_assembly.specs.declared.assembler.Label.{Label}
 use Rattle.grain_assembly.specs.declared.assembler.Targets.{Targets}
-use Rattle.grain_assembly.specs.Resolved.{resolved, resolved_tables}
+use Rattle.grain_assembly.specs.Resolved.{resolved_op, resolved_tables}
 use Rattle.grain_assembly.specs.Sound.{Workings}
 use Rattle.grain_assembly.specs.Unfinished.{Unfinished}
 use Rattle.grain_assembly.proofs.Typings.{are_cuts, lead_within, typed}
@@ -17,7 +17,7 @@ use Rattle.grain_assembly.proofs.assembler.Assembler.finish.Goals as goal
 use Rattle.grain_assembly.proofs.assembler.Assembler.finish.Goals.{After-drop-self-inside-5}
 
 abbrev k : After-drop-self-inside-5 → Workings
-k c = kept c.self.inside
+k c = workings_of c.self.inside
 
 closed : (c : After-drop-self-inside-5) → (k c).pending ≡ 0
 closed c = subst (λ (w : Unfinished). w.pending ≡ 0) (sym c.self.view_is) c.requires.closed
@@ -25,14 +25,14 @@ closed c = subst (λ (w : Unfinished). w.pending ≡ 0) (sym c.self.view_is) c.r
 places : (c : After-drop-self-inside-5) → c.in_ok-targets.targets.items ≡ (k c).places
 places c = c.in_ok-targets.ensures ∙ ap (λ (ls : List Label). map label_place ls) c.deref.ensures.value
 
-listed : (c : After-drop-self-inside-5) → c.in_ok-ops.ops.items ≡ map (resolved (k c).places) (k c).ops
-listed c = c.in_ok-ops.ensures ∙ (ap (λ (ps : List ℕ). map (resolved ps) c.deref-4.result.now) (c.deref-5.ensures.value ∙ places c) ∙ ap (λ (xs : List Op). map (resolved (k c).places) xs) c.deref-4.ensures.value)
+listed : (c : After-drop-self-inside-5) → c.in_ok-ops.ops.items ≡ map (resolved_op (k c).places) (k c).ops
+listed c = c.in_ok-ops.ensures ∙ (ap (λ (ps : List ℕ). map (resolved_op ps) c.deref-4.result.now) (c.deref-5.ensures.value ∙ places c) ∙ ap (λ (xs : List Op). map (resolved_op (k c).places) xs) c.deref-4.ensures.value)
 
 tables : (c : After-drop-self-inside-5) → map targets_of c.in_ok-tables.tables.items ≡ resolved_tables (k c).places (k c).tables
 tables c = c.in_ok-tables.ensures ∙ (ap (λ (ps : List ℕ). resolved_tables ps (map targets_of c.deref-2.result.now)) (c.deref-3.ensures.value ∙ places c) ∙ ap (λ (ts : List Targets). resolved_tables (k c).places (map targets_of ts)) c.deref-2.ensures.value)
 
 many : (c : After-drop-self-inside-5) → length c.in_ok-ops.ops.items ≡ length (k c).ops
-many c = ap (λ (xs : List Op). length xs) (listed c) ∙ length-map (k c).ops (resolved (k c).places)
+many c = ap (λ (xs : List Op). length xs) (listed c) ∙ length-map (k c).ops (resolved_op (k c).places)
 
 pub returns : goal.returns
 returns c = record {

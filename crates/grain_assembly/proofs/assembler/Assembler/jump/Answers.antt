@@ -1,6 +1,6 @@
 use Rattle.std.proofs.Common.{◌≡◌, ◌+◌, ◌-◌, ◌≤◌, sym, refl, subst, arith, Some}
 use Rattle.std.specs.Prelude.{slice_get}
-use Rattle.grain_assembly.specs.Assembled.{kept}
+use Rattle.grain_assembly.specs.Assembled.{workings_of}
 use Rattle.grain_assembly.specs.Sound.{Workings}
 use Rattle.grain_assembly.specs.Unfinished.{Unfinished, spot}
 use Rattle.grain_code.specs.declared.op.Op.TheVariants as ops
@@ -9,7 +9,7 @@ use Rattle.grain_assembly.proofs.assembler.Assembler.jump.Goals as goal
 
 pub invariant_of-self-2 : goal.invariant_of-self-2
 invariant_of-self-2 c =
-    let k : Workings = kept c.self.inside in
+    let k : Workings = workings_of c.self.inside in
     let room : k.level.floor + 0 ≤ k.operands = let r : k.level.floor ≤ k.operands = subst (λ (w : Unfinished). w.level.floor ≤ w.operands) (sym c.self.view_is) c.requires.room in omega arith in
     let few : c.self.inside.operands ≤ 65535 = c.self.invariant.room in
     let zero : k.operands - 0 + 0 ≡ k.operands = omega arith in

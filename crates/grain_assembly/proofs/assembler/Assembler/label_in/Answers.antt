@@ -1,6 +1,6 @@
 use Rattle.std.proofs.Common.{◌≡◌, [], ◌∷◌, ◌++◌, map, Some, length, rules, refl, ap, subst, ◌∙◌}
-use Rattle.grain_assembly.specs.Assembled.{kept, spot_at}
-use Rattle.grain_assembly.specs.Unfinished.{Extends, Unfinished}
+use Rattle.grain_assembly.specs.Assembled.{workings_of, spot_at}
+use Rattle.grain_assembly.specs.Unfinished.{StaysIn, Unfinished}
 use Rattle.grain_assembly.specs.declared.assembler.Label.{Label}
 use Rattle.grain_assembly.proofs.LabelLists.{outer_of, pushed, pushed_here, pushed_keeps}
 use Rattle.grain_assembly.proofs.assembler.Assembler.label_in.Goals as goal
@@ -11,7 +11,7 @@ new c = record { at = 4294967295; outer = c.self.inside.pending; operands = c.ar
 pub invariant_of-self-2 : goal.invariant_of-self-2
 invariant_of-self-2 c =
     rw c.in_ok-push.ensures.items
-    (pushed (kept c.self.inside) c.self.inside.labels.items _ c.in-Ok.label c.self.invariant refl refl (search rules))
+    (pushed (workings_of c.self.inside) c.self.inside.labels.items _ c.in-Ok.label c.self.invariant refl refl (search rules))
 
 pub returns-clause-here : goal.returns-clause-here
 returns-clause-here c =
@@ -29,11 +29,11 @@ returns-clause-outer c =
 pub returns-clause-labels : goal.returns-clause-labels
 returns-clause-labels c =
     rw c.in_ok-push.ensures.items
-    (subst (λ (w : Unfinished). Extends w.labels (map spot_at (c.self.inside.labels.items ++ new c ∷ []))) c.self.view_is
+    (subst (λ (w : Unfinished). StaysIn w.labels (map spot_at (c.self.inside.labels.items ++ new c ∷ []))) c.self.view_is
     (pushed_keeps spot_at c.self.inside.labels.items (new c)))
 
 pub returns-clause-outers : goal.returns-clause-outers
 returns-clause-outers c =
     rw c.in_ok-push.ensures.items
-    (subst (λ (w : Unfinished). Extends w.outers (map outer_of (c.self.inside.labels.items ++ new c ∷ []))) c.self.view_is
+    (subst (λ (w : Unfinished). StaysIn w.outers (map outer_of (c.self.inside.labels.items ++ new c ∷ []))) c.self.view_is
     (pushed_keeps outer_of c.self.inside.labels.items (new c)))

@@ -1,5 +1,5 @@
 use Rattle.std.proofs.Common.{◌+◌, ◌≤◌, inl, sym, subst, arith}
-use Rattle.grain_assembly.specs.Assembled.{kept}
+use Rattle.grain_assembly.specs.Assembled.{workings_of}
 use Rattle.grain_assembly.specs.Fitting.{HasEffect}
 use Rattle.grain_assembly.specs.Sound.{Workings}
 use Rattle.grain_assembly.specs.Unfinished.{Unfinished}
@@ -8,7 +8,7 @@ use Rattle.grain_assembly.proofs.assembler.Assembler.put.Goals as goal
 
 pub invariant_of-self-2 : goal.invariant_of-self-2
 invariant_of-self-2 c =
-    let k : Workings = kept c.self.inside in
+    let k : Workings = workings_of c.self.inside in
     let does : HasEffect c.args.op k.operands c.args.takes c.args.gives = subst (λ (w : Unfinished). HasEffect c.args.op w.operands c.args.takes c.args.gives) (sym c.self.view_is) c.requires.does in
     let room : k.level.floor + c.args.takes ≤ k.operands = subst (λ (w : Unfinished). w.level.floor + c.args.takes ≤ w.operands) (sym c.self.view_is) c.requires.room in
     let few : c.self.inside.operands ≤ 65535 = c.self.invariant.room in

@@ -1,5 +1,5 @@
 use Rattle.std.proofs.Common.{sym, subst}
-use Rattle.grain_assembly.specs.Assembled.{kept}
+use Rattle.grain_assembly.specs.Assembled.{workings_of}
 use Rattle.grain_assembly.specs.Sound.{IsBased, Workings}
 use Rattle.grain_assembly.specs.Unfinished.{IsSameButFloor, Level, Unfinished}
 use Rattle.grain_assembly.proofs.Marks.{other_floor}
@@ -7,7 +7,7 @@ use Rattle.grain_assembly.proofs.assembler.Assembler.release.Goals as goal
 
 pub invariant_of-self : goal.invariant_of-self
 invariant_of-self c =
-    let k : Workings = kept c.self.inside in
+    let k : Workings = workings_of c.self.inside in
     let same : IsSameButFloor c.args.frame k.level = subst (λ (w : Unfinished). IsSameButFloor c.args.frame w.level) (sym c.self.view_is) c.requires in
     let based : IsBased c.args.frame = subst (λ (l : Level). IsBased l) c.frame.view_is c.frame.invariant in
     other_floor k c.self.invariant c.args.frame same based

@@ -1,5 +1,5 @@
 use Rattle.std.proofs.Common.{◌≡◌, sym, subst, arith}
-use Rattle.grain_assembly.specs.Assembled.{kept}
+use Rattle.grain_assembly.specs.Assembled.{workings_of}
 use Rattle.grain_assembly.specs.Sound.{IsBased, Workings}
 use Rattle.grain_assembly.specs.Unfinished.{Level, Unfinished}
 use Rattle.std.proofs.Common.{false}
@@ -8,7 +8,7 @@ use Rattle.grain_assembly.proofs.assembler.Assembler.resume_in.Goals as goal
 
 pub invariant_of-self : goal.invariant_of-self
 invariant_of-self c =
-    let k : Workings = kept c.self.inside in
+    let k : Workings = workings_of c.self.inside in
     let loose : k.fixed ≡ false = subst (λ (w : Unfinished). w.fixed ≡ false) (sym c.self.view_is) c.requires.loose in
     let home : c.args.frame.home ≡ k.level.home = subst (λ (w : Unfinished). c.args.frame.home ≡ w.level.home) (sym c.self.view_is) c.requires.home in
     let based : IsBased c.args.frame = subst (λ (l : Level). IsBased l) c.frame.view_is c.frame.invariant in

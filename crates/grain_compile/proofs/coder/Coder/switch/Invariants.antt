@@ -1,5 +1,5 @@
 use Rattle.std.proofs.Common.{◌≡◌, ◌+◌}
-use Rattle.grain_assembly.specs.Unfinished.{Extends}
+use Rattle.grain_assembly.specs.Unfinished.{StaysIn}
 use Rattle.grain_emit.specs.Switches.{AreArms}
 use Rattle.grain_compile.proofs.coder.Coder.switch.Given as goal
 
@@ -8,8 +8,8 @@ invariant-loop-index g l = record {
   pending : l.emitter.code.pending + l.index ≡ l.labels.first + 1;
   operands : l.emitter.code.operands ≡ l.initial.emitter.code.operands;
   level : l.emitter.code.level ≡ l.initial.emitter.code.level;
-  labels : Extends l.initial.emitter.code.labels l.emitter.code.labels;
-  outers : Extends l.initial.emitter.code.outers l.emitter.code.outers;
+  labels : StaysIn l.initial.emitter.code.labels l.emitter.code.labels;
+  outers : StaysIn l.initial.emitter.code.outers l.emitter.code.outers;
   around : l.emitter.scope.around ≡ l.initial.emitter.scope.around;
   arms : AreArms l.labels l.emitter.code.operands l.emitter.code;
 }

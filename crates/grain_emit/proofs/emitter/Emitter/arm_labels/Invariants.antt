@@ -1,6 +1,6 @@
 use Rattle.std.proofs.Common.{◌≡◌, ◌+◌, ◌≤◌, ◌<◌, ℕ, Some, length}
 use Rattle.std.specs.Prelude.{slice_get}
-use Rattle.grain_assembly.specs.Unfinished.{Extends, spot}
+use Rattle.grain_assembly.specs.Unfinished.{StaysIn, spot}
 use Rattle.grain_emit.proofs.emitter.Emitter.arm_labels.Given as goal
 
 abbrev pub invariant-loop-arm : goal.invariant-loop-arm
@@ -8,8 +8,8 @@ invariant-loop-arm l = record {
   first : l.first ≡ l.none + l._arm-index;
   many : length l.self.code.labels ≡ l.first + 1;
   pending : l.self.code.pending ≡ l.first + 1;
-  labels : Extends l.initial.self.code.labels l.self.code.labels;
-  outers : Extends l.initial.self.code.outers l.self.code.outers;
+  labels : StaysIn l.initial.self.code.labels l.self.code.labels;
+  outers : StaysIn l.initial.self.code.outers l.self.code.outers;
   operands : l.self.code.operands ≡ l.initial.self.code.operands;
   level : l.self.code.level ≡ l.initial.self.code.level;
   scope : l.self.scope ≡ l.initial.self.scope;
