@@ -13,6 +13,15 @@ import sys
 SIZE, DEPTH, CASES = 64 << 20, 64, 4096
 
 
+def number(value):
+    """The shortest spelling of a number."""
+    groups = []
+    while value >= 128:
+        groups.append(value % 128 | 128)
+        value //= 128
+    return bytes([*groups, value])
+
+
 class Fault(Exception):
     def __init__(self, at, cause):
         self.at, self.cause = at, cause

@@ -11,7 +11,7 @@ In the copy's folder of each crate that has such tests it runs `rt try --test --
 tests whose names end in _growth_fails. In such a run the Nth growth of each test is refused, and the test says which one that was:
 
 - one of what it prepares, by an error of which it makes nothing;
-- one of its call. Then the call answered want of memory by its own name, what it was lent was as before, and the same call
+- one of its call. Then the call answered by its own name that memory was refused, what it was lent was as before, and the same call
   made again answered as if nothing had been refused; or the call answered so at once;
 - the growth behind its call, which ends the count.
 
@@ -115,6 +115,8 @@ CALLS = {
     },
     "grain_flat_file": {
         "read_flat": "`read_flat`",
+        "tighten": "`grain_flat_file::tighten`",
+        "strip": "`grain_flat_file::strip`",
     },
     "grain_machine": {
         "accept": "`accept`",

@@ -4,7 +4,8 @@
     bench/host_files.py [--files N] [--seed S]
 
 bench/random_files.py makes the files, and bench/file_reader.py reads them by that page alone. The shared object that hosts/build has
-made reads them too: both say of each that it is a file, or name the byte and the cause of the first fault. It ends with 1 where
+made reads them too: both say of each that it is a file, or name the byte and the cause of the first fault. Of those that are files
+bench/file_changes.py says what they are when they are stripped and, where the program is accepted, tightened. It ends with 1 where
 the two differ.
 """
 import argparse
@@ -18,10 +19,12 @@ TOP = pathlib.Path(__file__).resolve().parent.parent
 
 sys.dont_write_bytecode = True
 sys.path.append(str(TOP / "bench"))
+import file_changes
 import file_reader
 import random_files
 
-ACCEPTED, NO_FILE = 0, 9
+ACCEPTED, REFUSED, NO_FILE = 0, 1, 9
+ALL_CAPS, NO_LIMIT = 0x7FFF, 2**64 - 1
 
 
 class ReadError(ctypes.Structure):
@@ -35,6 +38,60 @@ def causes():
     header = (TOP / "hosts" / "c" / "grain.h").read_text()
     found = re.findall(r"GRAIN_CAUSE_([A-Z_]+) = (\d+)", header)
     return {int(number): "".join(word.capitalize() for word in name.split("_")) for name, number in found}
+
+
+class Sound(random_files.Files):
+    """Makes files of programs that are accepted: each chunk returns unit."""
+
+    def caps(self):
+        return random_files.number(ALL_CAPS)
+
+    def code(self):
+        return b"\2\2\x13"
+
+    def chunk(self):
+        return b"\0\2" + random_files.number(self.chance.choice([1, 2, 127, 128, 300, 65535]))
+
+
+def depths_of(library, data):
+    """The depths of the chunks of a file, if its program is accepted."""
+    file, depths = ctypes.c_void_p(), (ctypes.c_uint16 * 64)()
+    if library.grain_file_read(ctypes.byref(file), data, ctypes.c_size_t(len(data)), None, None) != ACCEPTED:
+        return None
+    caps, limit, room = ctypes.c_uint16(ALL_CAPS), ctypes.c_uint64(NO_LIMIT), ctypes.c_size_t(64)
+    status = library.grain_file_verify(None, file, caps, limit, depths, room, None)
+    library.grain_file_free(file)
+    return list(depths) if status == ACCEPTED else None
+
+
+def tightened_of(library, data):
+    """The tightened file, or the status."""
+    room, size = ctypes.create_string_buffer(len(data)), ctypes.c_size_t()
+    long, limit = ctypes.c_size_t(len(data)), ctypes.c_uint64(NO_LIMIT)
+    status = library.grain_file_tighten(data, long, None, limit, room, long, ctypes.byref(size), None, None)
+    return room.raw[: size.value] if status == ACCEPTED else status
+
+
+def stripped_of(library, data):
+    """The stripped file and the sidecar file, or the status."""
+    rooms, sizes = [ctypes.create_string_buffer(2 * len(data)) for _ in range(2)], [ctypes.c_size_t() for _ in range(2)]
+    places = [x for room, size in zip(rooms, sizes) for x in (room, ctypes.c_size_t(2 * len(data)), ctypes.byref(size))]
+    status = library.grain_file_strip(data, ctypes.c_size_t(len(data)), None, *places, None)
+    return tuple(room.raw[: size.value] for room, size in zip(rooms, sizes)) if status == ACCEPTED else status
+
+
+def changes_differ(library, data):
+    """What is wrong with the changed files of a file, if anything."""
+    wrong, depths = [], depths_of(library, data)
+    wanted = REFUSED if depths is None else file_changes.tightened(data, depths)
+    if tightened_of(library, data) != wanted:
+        wrong.append("is tightened otherwise")
+    files = stripped_of(library, data)
+    if files != file_changes.stripped(data):
+        wrong.append("is stripped otherwise")
+    elif file_reader.verdict(files[1], file_reader.read_sidecar) != "file" or len(files[1]) > len(data):
+        wrong.append("has no sidecar file, or a longer one")
+    return wrong
 
 
 def verdict_of(library, names, data):
@@ -52,16 +109,21 @@ def main():
     arguments.add_argument("--seed", type=int, default=61)
     given = arguments.parse_args()
     library = ctypes.CDLL(str(next((TOP / "hosts" / "out").glob("libgrain.so.*"))))
-    names, files = causes(), random_files.Files(random.Random(given.seed))
-    accepted = differ = 0
-    for _ in range(given.files):
-        data = files.one()
+    names, chance = causes(), random.Random(given.seed)
+    files, sound = random_files.Files(chance), Sound(chance)
+    accepted = differ = tight = 0
+    for count in range(given.files):
+        data = files.one() if count % 4 else sound.file()
         wanted, found = file_reader.verdict(data), verdict_of(library, names, data)
         accepted += found == "file"
-        differ += wanted != found
-        if wanted != found:
-            print(f"{data.hex()}: {found}, not {wanted}")
-    print(f"{given.files} files, {accepted} read: {differ} differ")
+        wrong = [] if wanted == found else [f"{found}, not {wanted}"]
+        if wanted == found == "file":
+            wrong += changes_differ(library, data)
+            tight += depths_of(library, data) is not None
+        differ += bool(wrong)
+        for what in wrong:
+            print(f"{data.hex()}: {what}")
+    print(f"{given.files} files, {accepted} read, {tight} of accepted programs: {differ} differ")
     return 1 if differ else 0
 
 

@@ -24,6 +24,7 @@ sys.dont_write_bytecode = True
 sys.path.append(str(TOP / "bench"))
 import file_reader
 import scratch
+from file_reader import number
 
 CRATE = "file_verdicts"
 PROGRAM = """//! Says of each line of hexadecimal digits whether its bytes are a program file, and whether they are a sidecar file.
@@ -77,15 +78,6 @@ fn main(rt: HostRuntime) -> ExitCode {
 """
 
 
-def number(value):
-    """The shortest spelling of a number."""
-    groups = []
-    while value >= 128:
-        groups.append(value % 128 | 128)
-        value //= 128
-    return bytes([*groups, value])
-
-
 class Files:
     """Makes program files at random."""
 
@@ -115,6 +107,12 @@ class Files:
 
     def flag(self, limit):
         return bytes([self.chance.randrange(limit)])
+
+    def caps(self):
+        return self.below(16)
+
+    def code(self):
+        return self.bytes()
 
     def chunk(self):
         return self.below(32) + self.below(32) + self.below(16)
@@ -194,7 +192,7 @@ class Files:
         if self.chance.random() < 0.001:
             constants, switch = self.many_cases()
             switches = b"\1" + switch
-        head = b"\0grn\1\0" + self.below(16) + self.below(64) + self.below(64) + self.bytes() + self.chunk()
+        head = b"\0grn\1\0" + self.caps() + self.below(64) + self.below(64) + self.code() + self.chunk()
         pools = self.list(self.function) + self.list(self.text) + number(len(constants)) + b"".join(constants)
         code = self.list(self.operator) + self.list(self.op_assignment) + self.list(self.chain)
         tail = self.option(self.text) + self.option(lambda: self.list(self.position))

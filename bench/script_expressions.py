@@ -1,8 +1,8 @@
 """Makes random expressions of scripts, of the parts in script_model.py."""
 import dataclasses
 
-from script_model import GREATEST, OPEN, POSTFIX, PREFIX, Env, Leave, Node, checked, copied, early, literal, operation
-from script_model import place_of, short, shown, valued, variable
+from script_model import GREATEST, OPEN, POSTFIX, PREFIX, Env, Leave, Node, at, checked, copied, early, literal, new_mark
+from script_model import operation, place_of, short, shown, unmarked, valued, variable
 
 LETTERS = "abé "
 NAMES = ["a", "b", "c"]
@@ -100,8 +100,14 @@ class Expressions:
 
     def negated(self, depth):
         x = self.expr("int", depth)
-        text = x.inside(PREFIX - 1)
-        return Node(f"-({x.text})" if text.startswith("-") else f"-{text}", lambda env: checked(-x.run(env)), PREFIX)
+        text, (mark, sign) = x.inside(PREFIX - 1), new_mark()
+        text = f"({x.text})" if unmarked(text)[0].startswith("-") else text
+
+        def run(env):
+            value = x.run(env)
+            return at(mark, checked, -value)
+
+        return Node(f"{sign}-{text}", run, PREFIX)
 
     def length(self, depth):
         x = self.expr(self.chance.choice(["text", "list"]), depth)
@@ -115,12 +121,14 @@ class Expressions:
             added = [self.expr("int", depth - 1) for _ in range(3)]
             last = Node(f"[{', '.join(item.text for item in added)}]", lambda env: [item.run(env) for item in added])
             items, index = self.sum_of(items, last), literal(self.chance.randrange(-3, 3))
+        mark, sign = new_mark()
 
         def run(env):
             found = items.run(env)
-            return found[place_of(found, index.run(env))]
+            place = index.run(env)
+            return found[at(mark, place_of, found, place)]
 
-        return Node(f"{items.inside(POSTFIX - 1)}[{index.text}]", run, POSTFIX)
+        return Node(f"{items.inside(POSTFIX - 1)}{sign}[{index.text}]", run, POSTFIX)
 
     def property(self, depth):
         x, name = self.expr("map", depth), self.chance.choice(NAMES)

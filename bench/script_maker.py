@@ -3,8 +3,8 @@ import random
 import re
 
 from script_expressions import NAMES, Expressions, Function, Variable, act, invoke
-from script_model import CALCULATED, OPEN, Env, Fault, Leave, Node, Run, TooMuch, block, checked, ended, indented, place_of
-from script_model import sequence, short, shown
+from script_model import CALCULATED, OPEN, Env, Fault, Leave, Node, Run, TooMuch, at, block, checked, ended, indented
+from script_model import new_mark, place_of, sequence, short, shown, unmarked
 
 
 class Maker(Expressions):
@@ -39,20 +39,20 @@ class Maker(Expressions):
         known = self.pick("int", "bool", "text", "list", assigned=True)
         if not known:
             return self.declaration(depth)
-        value, name = self.expr(known.kind, 3), known.name
+        value, name, (mark, sign) = self.expr(known.kind, 3), known.name, new_mark()
         operators = {"int": "+-*/%&|^", "text": "+", "list": "+", "bool": "&|^"}[known.kind]
         if self.chance.random() < 0.5:
-            return Node(f"{name} = {value.text};", self.assigning(name, lambda old, new: new, value))
+            return Node(f"{name} = {value.text};", self.assigning(name, lambda old, new: new, value, mark))
         operator = self.chance.choice(operators)
         does = CALCULATED[operator] if known.kind in ("int", "bool") else (lambda old, new: short(old + new))
-        return Node(f"{name} {operator}= {value.text};", self.assigning(name, does, value))
+        return Node(f"{name} {sign}{operator}= {value.text};", self.assigning(name, does, value, mark))
 
     @staticmethod
-    def assigning(name, does, value):
+    def assigning(name, does, value, mark):
         def run(env):
             new = value.run(env)
             cell = env.cell_of(name)
-            cell.value = does(cell.value, new)
+            cell.value = at(mark, does, cell.value, new)
             return env
 
         return run
@@ -74,8 +74,9 @@ class Maker(Expressions):
         way = self.chance.choice(["push", "push", "pop", "set", "add", "insert", "reverse", "sort", "truncate"])
         # Most items are only assigned where they are there.
         is_guarded = way in ("set", "add") and self.chance.random() < 0.9
-        texts = {"push": f".push({value.text})", "set": f"[{index}] = {value.text}", "add": f"[{index}] += {value.text}"}
-        texts |= {"insert": f".insert(0, {value.text})", "truncate": ".truncate(3)"}
+        (item, at_item), (sum_, at_sum) = new_mark(), new_mark()
+        texts = {"push": f".push({value.text})", "set": f"{at_item}[{index}] = {value.text}"}
+        texts |= {"add": f"{at_item}[{index}] {at_sum}+= {value.text}", "insert": f".insert(0, {value.text})", "truncate": ".truncate(3)"}
 
         def run(env):
             items = env.cell_of(name).value
@@ -83,7 +84,7 @@ class Maker(Expressions):
                 return env
             new = value.run(env) if way in ("push", "set", "add", "insert") else None
             items = env.cell_of(name).value
-            change_items(items, way, index, new)
+            change_items(items, way, index, new, (item, sum_))
             short(items)
             return env
 
@@ -119,16 +120,16 @@ class Maker(Expressions):
         if not known:
             return self.declaration(depth)
         value, name, key = self.expr("int", 2), known.name, self.chance.choice(NAMES)
-        is_sum = self.chance.random() < 0.5
+        is_sum, (mark, sign) = self.chance.random() < 0.5, new_mark()
         place = self.chance.choice([f".{key}", f'["{key}"]'])
 
         def run(env):
             new = value.run(env)
             entries = env.cell_of(name).value
-            entries[key] = checked(entries[key] + new) if is_sum else new
+            entries[key] = at(mark, checked, entries[key] + new) if is_sum else new
             return env
 
-        return Node(f"{name}{place} {'+=' if is_sum else '='} {value.text};", run)
+        return Node(f"{name}{place} {sign + '+=' if is_sum else '='} {value.text};", run)
 
     def closure(self, depth):
         made, name = self.closure_of("int", 2), self.new_name("f")
@@ -142,16 +143,17 @@ class Maker(Expressions):
             return self.declaration(depth)
         changed, name, x = self.chance.choice(numbers).name, self.new_name("g"), self.new_name("x")
         self.variables.append(Variable(name, "counting", is_fixed=True))
+        mark, sign = new_mark()
 
         def made(env):
             def call(run, value):
                 cell = env.cell_of(changed)
-                cell.value = checked(cell.value + value)
+                cell.value = at(mark, checked, cell.value + value)
                 return cell.value
 
             return env.bind(name, call)
 
-        return Node(f"let {name} = |{x}| {{ {changed} += {x}; {changed} }};", made)
+        return Node(f"let {name} = |{x}| {{ {changed} {sign}+= {x}; {changed} }};", made)
 
     def effect(self, depth):
         return ended(self.applied(2, "counting")) if self.pick("counting") else self.printed(depth)
@@ -164,7 +166,8 @@ class Maker(Expressions):
             return self.assignment(depth)
         method, argument = self.chance.choice(self.methods), self.expr("int", 2)
         index, key = self.chance.randrange(2), self.chance.choice(NAMES)
-        part = {"int": "", "list": f"[{index}]", "map": f".{key}"}[known.kind]
+        mark, sign = new_mark()
+        part = {"int": "", "list": f"{sign}[{index}]", "map": f".{key}"}[known.kind]
 
         def run(env):
             value = argument.run(env)
@@ -172,7 +175,7 @@ class Maker(Expressions):
             if known.kind == "int":
                 cell.value = act(env, method, cell.value, value)
             elif known.kind == "list":
-                cell.value[index] = act(env, method, cell.value[place_of(cell.value, index)], value)
+                cell.value[index] = act(env, method, cell.value[at(mark, place_of, cell.value, index)], value)
             else:
                 cell.value[key] = act(env, method, cell.value[key], value)
             return env
@@ -307,20 +310,20 @@ class Maker(Expressions):
         return Node(f"if {condition.inside(OPEN)} {{ return {value.inside(OPEN)}; }}", run)
 
     def thrown(self, depth):
-        condition, value = self.expr("bool", 1), self.expr("int", 1)
+        condition, value, (mark, sign) = self.expr("bool", 1), self.expr("int", 1), new_mark()
 
         def run(env):
             if condition.run(env):
-                raise Fault("thrown", value.run(env))
+                raise Fault("thrown", value.run(env), mark)
             return env
 
-        return Node(f"if {condition.inside(OPEN)} {{ throw {value.inside(OPEN)}; }}", run)
+        return Node(f"if {condition.inside(OPEN)} {{ {sign}throw {value.inside(OPEN)}; }}", run)
 
     def caught(self, depth):
         tried, name, again = self.block(depth - 1), self.new_name("e"), self.chance.random() < 0.1
-        end = self.block(depth - 1)
+        end, (mark, sign) = self.block(depth - 1), new_mark()
         lines = [f'if type_of({name}) == "i64" {{ print({name}); }} else {{ print("fault"); }}']
-        lines += [f'if type_of({name}) == "i64" {{ throw {name}; }}'] * again
+        lines += [f'if type_of({name}) == "i64" {{ {sign}throw {name}; }}'] * again
 
         def run(env):
             try:
@@ -328,7 +331,7 @@ class Maker(Expressions):
             except Fault as fault:
                 env.run.lines.append(str(fault.value) if fault.kind == "thrown" else "fault")
                 if again and fault.kind == "thrown":
-                    raise
+                    raise Fault("thrown", fault.value, mark) from fault
                 end.run(env)
             return env
 
@@ -364,13 +367,14 @@ class Maker(Expressions):
         value = self.expr(function.kind, 2)
         if not function.name.startswith("r"):
             return [*statements, value]
-        first, rest = names[0], [self.expr(kind, 1) for kind in function.kinds[1:]]
+        first, rest, (mark, sign) = names[0], [self.expr(kind, 1) for kind in function.kinds[1:]], new_mark()
         call = f"{function.name}({', '.join([f'{first} - 1', *(each.text for each in rest)])})"
 
         def run(env):
             left = value.run(env)
             arguments = [env.cell_of(first).value - 1, *(each.run(env) for each in rest)]
-            return checked(left + invoke(env, function, arguments))
+            right = invoke(env, function, arguments)
+            return at(mark, checked, left + right)
 
         def stop(env):
             if env.cell_of(first).value <= 0:
@@ -379,7 +383,7 @@ class Maker(Expressions):
 
         # The sum may be more than 64 bits after some calls, which is a fault of the script's.
         ends = Node(f"if {first} <= 0 {{ return {base.inside(OPEN)}; }}", stop)
-        return [ends, *statements, Node(f"{value.inside(149)} + {call}", run, 150)]
+        return [ends, *statements, Node(f"{value.inside(149)} {sign}+ {call}", run, 150)]
 
     def make_method(self):
         """A method that changes an integer."""
@@ -408,11 +412,11 @@ class Maker(Expressions):
         return "\n".join(parts) + "\n", sequence(statements)
 
 
-def change_items(items, way, index, value):
-    """Changes an array in place."""
+def change_items(items, way, index, value, marks):
+    """Changes an array in place. The marks are those of the index and of the sum."""
     if way in ("set", "add"):
-        place = place_of(items, index)
-        items[place] = value if way == "set" else checked(items[place] + value)
+        place = at(marks[0], place_of, items, index)
+        items[place] = value if way == "set" else at(marks[1], checked, items[place] + value)
     elif way == "push":
         items.append(value)
     elif way == "insert":
@@ -438,15 +442,17 @@ def turned(body, env):
 
 
 def made(seed):
-    """A script that isn't too slow, its output, and its fault, if it ends with one."""
+    """A script that isn't too slow, its output, and its fault, if it ends with one, with its line and column."""
     chance = random.Random(seed)
     while True:
         text, does = Maker(chance).script()
+        text, places = unmarked(text)
         run = Run()
         try:
             does(Env(run))
             return text, [*run.lines, "end"], None
         except Fault as fault:
+            fault.place = places[fault.mark]
             return text, run.lines, fault
         except TooMuch:
             continue

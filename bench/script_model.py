@@ -2,9 +2,12 @@
 
 A script is made of `Node`s. A node has its source text and a Python function that does the same. So the expected output of a
 script is computed next to its text, and no parser is needed. Expressions have types, so that a script can only fault by an
-overflow, a division by zero, an index out of bounds, or `throw`.
+overflow, a division by zero, an index out of bounds, or `throw`. What can fault has a mark in the text, which `unmarked` takes
+away: so the place of a fault is known too.
 """
 import dataclasses
+import itertools
+import re
 import typing
 
 LEAST, GREATEST = -(1 << 63), (1 << 63) - 1
@@ -18,11 +21,11 @@ ATOM, POSTFIX, PREFIX, OPEN = 999, 900, 250, 0
 
 
 class Fault(Exception):
-    """An error of the run: `kind` is `overflow`, `zero`, `bounds` or `thrown`."""
+    """An error of the run: `kind` is `overflow`, `zero`, `bounds` or `thrown`, and `mark` says where it is."""
 
-    def __init__(self, kind, value=None):
+    def __init__(self, kind, value=None, mark=None):
         super().__init__(kind)
-        self.kind, self.value = kind, value
+        self.kind, self.value, self.mark = kind, value, mark
 
 
 class Leave(Exception):
@@ -35,6 +38,37 @@ class Leave(Exception):
 
 class TooMuch(Exception):
     """The script is too slow or its texts too long for a test."""
+
+
+MARK = re.compile("\x01(\\d+)\x02")
+numbers = itertools.count()
+
+
+def new_mark():
+    """A number, and the mark with this number, which stands before the sign or word that a fault is reported at."""
+    number = next(numbers)
+    return number, f"\x01{number}\x02"
+
+
+def unmarked(text):
+    """The text without marks, and for each mark its line and column."""
+    places, parts, line, column, done = {}, [], 1, 1, 0
+    for found in MARK.finditer(text):
+        part = text[done : found.start()]
+        line, column = line + part.count("\n"), len(part) - part.rfind("\n") if "\n" in part else column + len(part)
+        places[int(found[1])] = (line, column)
+        parts.append(part)
+        done = found.end()
+    return "".join(parts) + text[done:], places
+
+
+def at(mark, does, *given):
+    """What a function returns. Its fault is at the mark."""
+    try:
+        return does(*given)
+    except Fault as fault:
+        fault.mark = mark
+        raise
 
 
 @dataclasses.dataclass
@@ -173,13 +207,15 @@ def operation(operator, left, right):
     # Operators of one level are done from left to right, except `**`.
     is_to_right = operator == "**"
     first, second = left.inside(level if is_to_right else level - 1), right.inside(level - 1 if is_to_right else level)
+    mark, sign = new_mark()
 
     def run(env):
         env.run.step()
         x = left.run(env)
-        return CALCULATED[operator](x, right.run(env))
+        y = right.run(env)
+        return at(mark, CALCULATED[operator], x, y)
 
-    return Node(f"{first} {operator} {second}", run, level)
+    return Node(f"{first} {sign}{operator} {second}", run, level)
 
 
 def early(operator, left, right):

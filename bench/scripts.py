@@ -17,7 +17,7 @@ where an error is expected, otherwise with status 0.
 Each case that compiles is also compiled to a file (`compile`), printed as assembly (`print`) and parsed again (`parse`): the
 bytes must be the same. A program without one of these subcommands is only run, and a note says so.
 
-What docs/LANGUAGE.md shows of the language in code has to be in a case.
+What docs/LANGUAGE.md shows of the language in code has to be in a case, which .ci/documents checks.
 
 It ends with status 1 where anything differs, otherwise it prints `scripts: N well`.
 """
@@ -105,7 +105,7 @@ def names_place(message, place):
 
 
 def unshown():
-    """What docs/LANGUAGE.md shows of the language, and no case has."""
+    """What docs/LANGUAGE.md shows of the language, and no case has. `.ci/documents` calls it, before anything is proved."""
     page = PAGE.read_text()
     shown = page[page.index("## Lexemes"):page.index("## Limits")]
     text = "\n".join(path.read_text() for path in HERE.glob("*.rhai"))
@@ -113,7 +113,7 @@ def unshown():
         call = re.fullmatch(r"(\w+)\(.*\)", span)
         has_call = call and f"{call[1]}(" in text
         if not (span in text or has_call or span in PATTERNS or all(part in text for part in span.split())):
-            yield span
+            yield f"docs/LANGUAGE.md shows `{span}`, and no case has it"
 
 
 class Checker:
@@ -205,11 +205,6 @@ def main():
             failed += bool(found)
             for line in found:
                 print(f"{case.title}: {line}")
-    spans = [] if chosen.topics else list(unshown())
-    for span in spans:
-        print(f"docs/LANGUAGE.md shows `{span}`, and no case has it")
-    if spans:
-        return 1
     if failed:
         print(f"scripts: {failed} of {len(cases)} differ")
         return 1

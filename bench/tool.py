@@ -17,6 +17,7 @@ import sys
 import tempfile
 import xml.etree.ElementTree
 
+import file_changes
 import file_reader
 import refusals
 from random_programs import Random
@@ -129,6 +130,7 @@ def check_programs(tool):
     expect(tool.done("run", "add.grain") == b"42\n", "the sum isn't 42")
     expect(b"20" in tool.done("list", "add.grain") and b"@1:4" in tool.done("list", "add.grain"), "the listing lacks a value")
     tool.done("strip", "add.grain", "--sidecar", "add.pos", "-o", "small.grain")
+    expect((tool.read("small.grain"), tool.read("add.pos")) == file_changes.stripped(tool.read("add.grain")), "a file is stripped otherwise")
     tool.done("attach", "small.grain", "add.pos", "-o", "whole.grain")
     expect(tool.read("whole.grain") == tool.read("add.grain"), "positions don't come back")
     expect(tool.done("addr2line", "add.grain", "3", "9999") == b"main at 1:6\n? at address 9999\n", "addr2line of a program")

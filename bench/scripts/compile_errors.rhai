@@ -156,3 +156,12 @@ print(y)
 //@ 3:13
 //@ 4:10
 //@ 7:12
+//--- the text ends too soon
+let x =
+//! expression
+//@ 2:1
+//--- the text ends in an open call
+let a = [1];
+a.push(2
+//! `)`
+//@ 3:1

@@ -47,3 +47,37 @@ print(sum);
 const M = #{ a: [1, 2] };
 print(M.a[1]);
 //= 2
+//--- a method or a function gets a copy of a constant
+const LIST = [1];
+LIST.push(2);
+push(LIST, 3);
+print(LIST);
+print(LIST.len());
+//= [1]
+//= 1
+//--- a method gets a copy of a part of a constant
+const M = #{ a: [1], n: 1 };
+M.a.push(2);
+print(M.a);
+print(M.a.len());
+//= [1]
+//= 1
+//--- a function of the script gets a copy of a constant as this
+fn grow(by) { this += by; this }
+const X = 1;
+print(X.grow(2));
+print(X);
+//= 3
+//= 1
+//--- a constant in a block hides a variable
+let x = [1];
+x.push(2);
+{
+    const x = x;
+    x.push(3);
+    print(x);
+}
+x.push(4);
+print(x);
+//= [1, 2]
+//= [1, 2, 4]

@@ -60,3 +60,138 @@ print(type_of(f));
 let f = |a, b| a - b;
 print(f.curry(10).call(3));
 //= 7
+//--- `call` binds `this` to a variable
+fn grow(by) { this += by; this }
+let f = Fn("grow");
+let x = 40;
+print(x.call(f, 1));
+print(x.call(f, 1));
+print(x);
+//= 41
+//= 42
+//= 42
+//--- `call` binds `this` to an object map
+let obj = #{ a: 40 };
+print(obj.call(|x| this.a + x, 2));
+obj.call(|x| this.a += x, 3);
+print(obj.a);
+//= 42
+//= 43
+//--- `call` of a pointer that the object map has
+let obj = #{ a: 40, f: |x| this.a + x };
+print(obj.call(obj.f, 2));
+//= 42
+//--- `call` without arguments but the pointer
+fn push_one() { this.push(1); }
+let list = [];
+list.call(Fn("push_one"));
+list.call(|| this.push(2));
+print(list);
+//= [1, 2]
+//--- `call` on a value that lies in no variable
+print((20 + 1).call(|| this * 2));
+print("ab".call(|x| this + x, "c"));
+print([1, 2].call(|| this.len()));
+//= 42
+//= abc
+//= 2
+//--- `call` on `this`
+fn grow(by) { this += by; }
+fn grow_twice(f) { this.call(f, 1); this.call(f, 1); }
+let x = 40;
+x.grow_twice(Fn("grow"));
+print(x);
+//= 42
+//--- `call` on a constant leaves it as it is
+const LIST = [1];
+print(LIST.call(|x| { this.push(x); this.len() }, 2));
+print(LIST);
+//= 2
+//= [1]
+//--- `call` on a part binds a copy
+let x = #{ a: 40 };
+let f = || { this += 2; this };
+print(x.a.call(f));
+print(x.a);
+//= 42
+//= 40
+//--- `call` on a result
+fn number() { 40 }
+print(number().call(|x| this + x, 2));
+print([40, 1][0].call(|x| this + x, 2));
+print("abc".len().call(|x| this + x, 39));
+//= 42
+//= 42
+//= 42
+//--- `call` with bound arguments binds `this` too
+fn sum(a, b) { this + a * 10 + b }
+let x = 100;
+print(x.call(Fn("sum").curry(4), 2));
+//= 142
+//--- `call` of a closure that captures another variable
+let n = 0;
+let x = 40;
+x.call(|by| { n += 1; this += by + n; }, 1);
+print(x);
+print(n);
+//= 42
+//= 1
+//--- a pointer is called itself, with pointers as arguments
+let twice = |x| x * 2;
+let apply = |f, x| f.call(x);
+print(apply.call(twice, 21));
+const APPLY = apply;
+print(APPLY.call(twice, 4));
+//= 42
+//= 8
+//--- `call` in a function, on its parameter
+fn grown(x, f) { x.call(f); x }
+let x = 41;
+print(grown(x, || this += 1));
+print(x);
+//= 42
+//= 41
+//--- `call` in a loop
+let sum = 0;
+for i in 1..=3 { sum.call(|x| this += x, i); }
+print(sum);
+//= 6
+//--- `call` of a function of the library has no `this`
+let x = 1;
+print(x.call(Fn("len"), [1, 2, 3]));
+//= 3
+//--- `call` of a variable with no function pointer
+let x = 1;
+x.call(2);
+//! Fn
+//@ 2:2
+//--- `call` of a value with no function pointer
+print("before");
+1.call(2, 3);
+//= before
+//! Fn
+//@ 2:2
+//--- `call` without a pointer
+let x = 1;
+x.call();
+//! Fn
+//@ 2:2
+//--- `call` of a function with other parameters
+fn two(a, b) { this }
+let x = 1;
+x.call(Fn("two"), 1);
+//! two
+//@ 3:2
+//--- a fault in what is called leaves the variable
+let x = [1];
+try { x.call(|| { this.push(2); 1 / 0 }); } catch { }
+print(x);
+//= [1, 2]
+//--- `this` is bound in no plain call
+fn read() { this }
+let x = 1;
+print(x.call(Fn("read")));
+call(Fn("read"));
+//= 1
+//! this
+//@ 4:1
