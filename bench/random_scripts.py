@@ -6,8 +6,8 @@
 PROGRAM is the built command `grain`. bench/script_maker.py makes the scripts, with what they print and how they
 end: declarations, arithmetic, blocks, conditions, switches, loops, functions, methods, closures, arrays, maps, strings, `try`.
 
-- `check` accepts each script, and `run` prints what is expected. A fault is the expected one. An overflow or a division
-  by zero is at the line and column of its operator.
+- `check` accepts each script, and `run` prints what is expected. A fault is the expected one, at the line and column of its
+  operator, its index or its `throw`.
 - With little `--fuel` a run ends too, and has printed the beginning of that.
 - In a near miss one character of a script is deleted, replaced or inserted. `check` ends with status 0 or 1, and its error
   names a place inside the text. One that is accepted also runs to an end.
@@ -64,8 +64,7 @@ class Checker:
             yield f"the status is {status}, and the fault {fault and fault.kind}: {message.strip()}"
         elif fault and not re.search(MESSAGES.get(fault.kind, rf"Runtime error: {fault.value}\b"), message):
             yield f"the fault is `{message.strip()}`, and not {fault.kind} {fault.value}"
-        # What is thrown has the place of the operation before (`Fault` of grain_script), and an index that of its chain.
-        elif fault and fault.kind in ("overflow", "zero") and "(line {}, position {})".format(*fault.place) not in message.split("\n")[0]:
+        elif fault and "(line {}, position {})".format(*fault.place) not in message.split("\n")[0]:
             yield f"the fault is `{message.strip()}`, and not at {fault.place}"
         if chance.random() < 0.25:
             yield from self.stopped(text, lines, chance.randrange(1, 2000))

@@ -94,9 +94,9 @@ PLACES = [(1, 8), (3, 13), (4, 10), (7, 12)]
 FAULTS = [
     ("let x = 1;\nlet y = x / 0;", "Division by zero (line 2, position 11)"),
     ("foo(1)", "Function not found: foo (i64) (line 1, position 1)"),
-    ("let a = [1]; a[5]", "Index out of bounds: 5 (line 1, position 14)"),
+    ("let a = [1]; a[5]", "Index out of bounds: 5 (line 1, position 16)"),
     ('let a = 1;\nlet b = 2;\n\na +\n  (b - "x")', "Function not found: - (i64, string) (line 5, position 6)"),
-    ("fn f(x) {\n    x.foo()\n}\nf(1)", "Function not found: foo (i64) (line 2, position 6)"),
+    ("fn f(x) {\n    x.foo()\n}\nf(1)", "Function not found: foo (i64) (line 2, position 7)"),
     ("`a${1 / 0}`", "Division by zero (line 1, position 7)"),
     ('let x = 1; x += "a" - 1;', "Function not found: - (string, i64) (line 1, position 21)"),
     ("switch 1 { 1 if 1 / 0 == 1 => 2 }", "Division by zero (line 1, position 19)"),

@@ -128,7 +128,7 @@ class Expressions:
             place = index.run(env)
             return found[at(mark, place_of, found, place)]
 
-        return Node(f"{items.inside(POSTFIX - 1)}{sign}[{index.text}]", run, POSTFIX)
+        return Node(f"{items.inside(POSTFIX - 1)}[{sign}{index.text}]", run, POSTFIX)
 
     def property(self, depth):
         x, name = self.expr("map", depth), self.chance.choice(NAMES)

@@ -75,8 +75,8 @@ class Maker(Expressions):
         # Most items are only assigned where they are there.
         is_guarded = way in ("set", "add") and self.chance.random() < 0.9
         (item, at_item), (sum_, at_sum) = new_mark(), new_mark()
-        texts = {"push": f".push({value.text})", "set": f"{at_item}[{index}] = {value.text}"}
-        texts |= {"add": f"{at_item}[{index}] {at_sum}+= {value.text}", "insert": f".insert(0, {value.text})", "truncate": ".truncate(3)"}
+        texts = {"push": f".push({value.text})", "set": f"[{at_item}{index}] = {value.text}"}
+        texts |= {"add": f"[{at_item}{index}] {at_sum}+= {value.text}", "insert": f".insert(0, {value.text})", "truncate": ".truncate(3)"}
 
         def run(env):
             items = env.cell_of(name).value
@@ -167,7 +167,7 @@ class Maker(Expressions):
         method, argument = self.chance.choice(self.methods), self.expr("int", 2)
         index, key = self.chance.randrange(2), self.chance.choice(NAMES)
         mark, sign = new_mark()
-        part = {"int": "", "list": f"{sign}[{index}]", "map": f".{key}"}[known.kind]
+        part = {"int": "", "list": f"[{sign}{index}]", "map": f".{key}"}[known.kind]
 
         def run(env):
             value = argument.run(env)

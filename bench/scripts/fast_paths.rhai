@@ -20,7 +20,7 @@ while turns < 5 {
 //= 2
 //= 3
 //! overflow
-//@ 6
+//@ 6:7
 //--- a difference past the end, within an expression
 let x = -9223372036854775807;
 let y = 1 + (x - 2);
@@ -65,7 +65,7 @@ while true {
 }
 //= 1
 //! ero
-//@ 4
+//@ 4:10
 //--- comparisons of two types are false, and two differ
 let n = 1;
 let t = "1";
@@ -124,7 +124,7 @@ while go_on {
 //= 1
 //= 2
 //! bool
-//@ 3
+//@ 3:7
 //--- a shared variable in a loop
 let n = 0;
 let more = || n += 2;
@@ -142,7 +142,7 @@ while n > 0 {
     n += 1;
 }
 //! overflow
-//@ 2
+//@ 2:17
 //--- a shared array
 let list = [1, 2, 3];
 let first = || list[0];
@@ -205,13 +205,13 @@ while n < 5 {
 //= 1
 //= 3
 //! out of bounds
-//@ 5
+//@ 5:17
 //--- an item assigned past the end
 let list = [1, 2];
 list[0] = 5;
 list[2] = 5;
 //! out of bounds
-//@ 3
+//@ 3:6
 //--- an item of what is no array
 let n = 5;
 let list = [1];

@@ -35,47 +35,47 @@ print(x * 2);
 //--- a power that overflows
 print(2 ** 63);
 //! overflow
-//@ 1
+//@ 1:9
 //--- an assignment that overflows
 let x = 9223372036854775807;
 x += 1;
 //! overflow
-//@ 2
+//@ 2:3
 //--- the smallest integer negated
 let x = -9223372036854775807 - 1;
 print(-x);
 //! overflow
-//@ 2
+//@ 2:7
 //--- the absolute value of the smallest integer
 let x = -9223372036854775807 - 1;
 print(x.abs());
 //! overflow
-//@ 2
+//@ 2:9
 //--- an exponent below zero
 let x = -1;
 print(2 ** x);
-//@ 2
+//@ 2:9
 //--- an index after the end
 let a = [1, 2];
 print(a[2]);
 //! out of bounds
-//@ 2
+//@ 2:9
 //--- an index before the start
 let a = [1, 2];
 print(a[-3]);
 //! out of bounds
-//@ 2
+//@ 2:9
 //--- an item assigned after the end
 let a = [1];
 
 a[1] = 2;
 //! out of bounds
-//@ 3
+//@ 3:3
 //--- a character after the end
 let s = "abc";
 print(s[3]);
 //! out of bounds
-//@ 2
+//@ 2:9
 //--- an unknown function
 print("before");
 unknown(1);
@@ -86,7 +86,7 @@ unknown(1);
 let x = 1;
 x.unknown();
 //! Function not found: unknown
-//@ 2
+//@ 2:3
 //--- a wrong number of arguments
 fn f(a, b) { a + b }
 f(1);
@@ -110,11 +110,11 @@ print("before");
 throw "boom";
 //= before
 //! Runtime error: boom
-//@ 2
+//@ 2:1
 //--- a thrown integer
 throw 42;
 //! Runtime error: 42
-//@ 1
+//@ 1:1
 //--- thrown in a function
 fn check(n) {
     if n > 1 {
@@ -126,7 +126,7 @@ print(check(1));
 print(check(2));
 //= 1
 //! Runtime error: too large
-//@ 3
+//@ 3:9
 //--- a fault in a function
 fn divide(a, b) {
     a / b
@@ -152,11 +152,11 @@ print(`one ${1 / x}`);
 let x = 1;
 if x { print("never"); }
 //! Data type incorrect
-//@ 2
+//@ 2:4
 //--- an integer isn't iterated over
 let x = 5;
 for i in x { print(i); }
-//@ 2
+//@ 2:10
 //--- calls without end
 fn forever(n) { forever(n + 1) + 1 }
 forever(0)
@@ -169,20 +169,20 @@ try { forever(0); } catch { print("caught"); }
 //--- a property that isn't there
 let x = 5;
 print(x.no_such_property);
-//@ 2
+//@ 2:9
 //--- a method of unit
 let m = #{};
 m.missing.push(1);
-//@ 2
+//@ 2:11
 //--- a text that is no number
 let s = "12a";
 print(parse_int(s));
-//@ 2
+//@ 2:7
 //--- this in a plain call
 fn f() { this }
 f();
 //! 'this' not bound
-//@ 1
+//@ 1:10
 //--- a call of what is no function
 let f = 5;
 f.call(1);
@@ -213,7 +213,7 @@ try {
 }
 //= seen first
 //! Runtime error: first
-//@ 5
+//@ 5:5
 //--- a fault in a condition of a switch
 switch 1 { 1 if 1 / 0 == 1 => 2 }
 //! Division by zero
@@ -223,7 +223,7 @@ fn inc() { this += 1; }
 let s = true;
 s.inc();
 //! Function not found: +
-//@ 1
+//@ 1:17
 //--- a fault in a loop's later round
 let a = [3, 2, 1, 0];
 for x in a {
@@ -234,3 +234,44 @@ for x in a {
 //= 6
 //! Division by zero
 //@ 3:13
+//--- an index at the end of a chain
+let m = #{ rows: [[1, 2], [3]] };
+print(m.rows[1][7]);
+//! out of bounds
+//@ 2:17
+//--- an index on the way of a chain
+let m = #{ rows: [[1, 2], [3]] };
+m.rows[2][0] = 5;
+//! out of bounds
+//@ 2:8
+//--- an unknown method within a chain
+let m = #{ list: [1, 2] };
+m.list.unknown(1).len();
+//! Function not found: unknown
+//@ 2:8
+//--- an op-assignment at the end of a chain
+let m = #{ n: true };
+m.n += 1;
+//! Function not found: +
+//@ 2:5
+//--- an index of a method's receiver
+fn add(x) { this += x; }
+let list = [[1], [2]];
+list[1][3].add(2);
+//! out of bounds
+//@ 3:9
+//--- an index of a wrong type
+let list = [1, 2];
+let key = true;
+print(list[key]);
+//@ 3:12
+//--- thrown in a loop, after other operations
+let n = 0;
+while n < 3 {
+    n += 1;
+    if n == 2 {
+        throw n;
+    }
+}
+//! Runtime error: 2
+//@ 5:9

@@ -73,3 +73,10 @@ let x = 0;
 x.sum_up(4);
 print(x);
 //= 10
+//--- on a character of a text
+fn shown() { `<${this}>` }
+let text = "abc";
+print(text[1].shown());
+print(text);
+//= <b>
+//= abc

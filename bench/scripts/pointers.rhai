@@ -164,24 +164,24 @@ print(x.call(Fn("len"), [1, 2, 3]));
 let x = 1;
 x.call(2);
 //! Fn
-//@ 2:2
+//@ 2:3
 //--- `call` of a value with no function pointer
 print("before");
 1.call(2, 3);
 //= before
 //! Fn
-//@ 2:2
+//@ 2:3
 //--- `call` without a pointer
 let x = 1;
 x.call();
 //! Fn
-//@ 2:2
+//@ 2:3
 //--- `call` of a function with other parameters
 fn two(a, b) { this }
 let x = 1;
 x.call(Fn("two"), 1);
 //! two
-//@ 3:2
+//@ 3:3
 //--- a fault in what is called leaves the variable
 let x = [1];
 try { x.call(|| { this.push(2); 1 / 0 }); } catch { }

@@ -41,3 +41,7 @@ pub record IsAsked (p : Program) (chunk : Span) (at : ℕ) (op : Op) (n : ℕ) :
   pub allowed : Allows p.caps.0 (caps_of (setting_of p) op)
   pub found : AreFound p op
   pub operands : n ≡ needs (setting_of p) op
+
+-- a kept run of the accepted program meets the operation there, with all that it needs
+abbrev pub Meets : Program → Span → ℕ → Op → Type 0
+Meets p chunk at op = IsAsked p chunk at op (needs (setting_of p) op)

@@ -6,7 +6,7 @@ ghost use Rattle.grain_rules.specs.Counts.{without_last};
 ghost use Rattle.grain_rules.specs.Machine.{innermost};
 ghost use Rattle.grain_rules.specs.Rows.{gives};
 ghost use Rattle.grain.specs.Program.{setting_of};
-ghost use Rattle.grain_machine.specs.Asked.{IsAsked};
+ghost use Rattle.grain_machine.specs.Asked.{IsAsked, Meets};
 ghost use Rattle.grain_machine.specs.Reply.{IsGivenHere};
 ghost use Rattle.grain_machine.specs.State.{Advances, Replaces, frame_at, frame_with_handlers};
 ghost use Rattle.grain_machine.specs.State.{frame_with_iterators, frame_with_operands};
@@ -128,13 +128,19 @@ impl<V: Drop, I: Drop> Frame<V, I> {
 
     /// Pops an operand, and asks the host whether it holds.
     #[inline(always)]
-    pub(crate) fn condition<H: Host<Value = V>>(&mut self, host: &mut H) -> Result<bool, H::Fault>
-        requires { 0 < length self.old.machine.operands }
+    pub(crate) fn condition<H: Host<Value = V>>(
+        &mut self,
+        host: &mut H,
+        request: &Request<'_>,
+    ) -> Result<bool, H::Fault>
+        requires there { 0 < length self.old.machine.operands }
+        requires met { Meets request.now.program.now request.now.chunk request.now.at
+            request.now.op.now }
         ensures { self.new ≡ frame_with_operands
             (below 1 self.old.machine.operands) self.old }
     {
         let condition = self.pop();
-        host.is_true(&condition)
+        host.is_true(request, &condition)
     }
 
     /// Drops an operand.
@@ -369,13 +375,16 @@ impl<V: Drop, I: Drop> Frame<V, I> {
     pub(crate) fn advance<H: Host<Value = V, Iterator = I>>(
         &mut self,
         host: &mut H,
+        request: &Request<'_>,
         counter: Option<u16>,
     ) -> Result<Option<V>, H::Fault>
-        requires { 0 < length self.old.machine.iterators }
+        requires there { 0 < length self.old.machine.iterators }
+        requires met { Meets request.now.program.now request.now.chunk request.now.at
+            request.now.op.now }
         ensures { Advances self.old self.new }
     {
         let last = self.iterators.len() - 1;
-        host.advance(&mut self.iterators[last], counter)
+        host.advance(request, &mut self.iterators[last], counter)
     }
 
     /// The next item of the innermost iterator, where the host has it at once.

@@ -6,7 +6,7 @@ ghost use Rattle.grain_pools.specs.Dispatch.{arms, dispatched};
 ghost use Rattle.grain_rules.specs.Code.{switch_targets};
 ghost use Rattle.grain_rules.specs.Rows.{gives};
 ghost use Rattle.grain.specs.Program.{setting_of};
-ghost use Rattle.grain_machine.specs.Asked.{IsAsked};
+ghost use Rattle.grain_machine.specs.Asked.{IsAsked, Meets};
 ghost use Rattle.grain_machine.specs.Reply.{NamesFunction};
 
 use grain::Program;
@@ -48,9 +48,9 @@ pub enum CallError {
 
 /// It knows values, iterators and faults, and does what operations do with them.
 ///
-/// Each operation that `give` and `take` are asked for is one that a kept run of a chunk of the accepted program meets at its
-/// address. The program has its capabilities, and finds its indices; and the host is given just the operands that it needs,
-/// the topmost last.
+/// Each operation that a request has is one that a kept run of a chunk of the accepted program meets at its address. The
+/// program has its capabilities, and finds its indices. To `give` and `take` it lends just the operands that it needs, the
+/// topmost last.
 pub trait Host {
     /// A value of the script.
     type Value: Drop;
@@ -159,7 +159,8 @@ pub trait Host {
     ///
     /// # Errors
     /// Why it is none.
-    fn is_true(&mut self, value: &Self::Value) -> Result<bool, Self::Fault>;
+    fn is_true(&mut self, request: &Request<'_>, value: &Self::Value) -> Result<bool, Self::Fault>
+        requires met { Meets request.now.program.now request.now.chunk request.now.at request.now.op.now };
 
     /// Whether a value is unit.
     fn is_unit(&mut self, value: &Self::Value) -> bool;
@@ -168,14 +169,25 @@ pub trait Host {
     ///
     /// # Errors
     /// Why it leads nowhere.
-    fn dispatch(&mut self, switch: &Switch, subject: &Self::Value) -> Result<u32, Self::Fault>
+    fn dispatch(
+        &mut self,
+        request: &Request<'_>,
+        switch: &Switch,
+        subject: &Self::Value,
+    ) -> Result<u32, Self::Fault>
+        requires met { Meets request.now.program.now request.now.chunk request.now.at request.now.op.now }
         ensures { IfOk result (λ target. Contains (switch_targets switch.now) target) };
 
     /// Begins to go over a value.
     ///
     /// # Errors
     /// Why it can't be gone over.
-    fn begin(&mut self, value: Self::Value) -> Result<Self::Iterator, Self::Fault>;
+    fn begin(
+        &mut self,
+        request: &Request<'_>,
+        value: Self::Value,
+    ) -> Result<Self::Iterator, Self::Fault>
+        requires met { Meets request.now.program.now request.now.chunk request.now.at request.now.op.now };
 
     /// The next item, or `None` past the last. Where a slot counts the items, it is the host that counts there.
     ///
@@ -183,12 +195,15 @@ pub trait Host {
     /// Why there is none.
     fn advance(
         &mut self,
+        request: &Request<'_>,
         iterator: &mut Self::Iterator,
         counter: Option<u16>,
-    ) -> Result<Option<Self::Value>, Self::Fault>;
+    ) -> Result<Option<Self::Value>, Self::Fault>
+        requires met { Meets request.now.program.now request.now.chunk request.now.at request.now.op.now };
 
     /// The fault that a value is when it is thrown.
-    fn thrown(&mut self, value: Self::Value) -> Self::Fault;
+    fn thrown(&mut self, request: &Request<'_>, value: Self::Value) -> Self::Fault
+        requires met { Meets request.now.program.now request.now.chunk request.now.at request.now.op.now };
 
     /// Binds a fault that a handler caught to the name at the index, if it has one.
     ///

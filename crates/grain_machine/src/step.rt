@@ -365,7 +365,9 @@ impl<'a> Runnable<'a> {
         ensures goes { OnOk result (MakesMove self.now frame.old frame.new) }
         ensures ends { IfErr result (MayEnd (program_code self.now.program) frame.old.machine) }
     {
-        match frame.condition(host) {
+        let op = Op::JumpIfTrue { target };
+        let request = self.request(frame, &op);
+        match frame.condition(host, &request) {
             Ok(true) => {
                 frame.go(target as usize);
                 Ok(())
@@ -390,7 +392,9 @@ impl<'a> Runnable<'a> {
         ensures goes { OnOk result (MakesMove self.now frame.old frame.new) }
         ensures ends { IfErr result (MayEnd (program_code self.now.program) frame.old.machine) }
     {
-        match frame.condition(host) {
+        let op = Op::JumpIfFalse { target };
+        let request = self.request(frame, &op);
+        match frame.condition(host, &request) {
             Ok(false) => {
                 frame.go(target as usize);
                 Ok(())
@@ -434,7 +438,9 @@ impl<'a> Runnable<'a> {
         ensures ends { IfErr result (MayEnd (program_code self.now.program) frame.old.machine) }
     {
         let switch = &self.program.switches()[index as usize];
-        match host.dispatch(switch, frame.top()) {
+        let op = Op::Switch(index);
+        let request = self.request(frame, &op);
+        match host.dispatch(&request, switch, frame.top()) {
             Ok(target) => {
                 frame.go(target as usize);
                 Ok(())
@@ -454,8 +460,10 @@ impl<'a> Runnable<'a> {
         ensures goes { OnOk result (MakesMove self.now frame.old frame.new) }
         ensures ends { IfErr result (MayEnd (program_code self.now.program) frame.old.machine) }
     {
+        let op = Op::Throw;
+        let request = self.request(frame, &op);
         let value = frame.pop();
-        let fault = host.thrown(value);
+        let fault = host.thrown(&request, value);
         raise(frame, host, fault)
     }
 
@@ -470,8 +478,10 @@ impl<'a> Runnable<'a> {
         ensures goes { OnOk result (MakesMove self.now frame.old frame.new) }
         ensures ends { IfErr result (MayEnd (program_code self.now.program) frame.old.machine) }
     {
+        let op = Op::IterInit;
+        let request = self.request(frame, &op);
         let value = frame.pop();
-        match host.begin(value) {
+        match host.begin(&request, value) {
             Ok(iterator) => match frame.begin(iterator) {
                 Ok(()) => {
                     frame.go(next);
@@ -496,7 +506,12 @@ impl<'a> Runnable<'a> {
         ensures goes { OnOk result (MakesMove self.now frame.old frame.new) }
         ensures ends { IfErr result (MayEnd (program_code self.now.program) frame.old.machine) }
     {
-        match frame.advance(host, counter) {
+        let op = Op::IterNext {
+            exit,
+            counter_slot: counter,
+        };
+        let request = self.request(frame, &op);
+        match frame.advance(host, &request, counter) {
             Ok(Some(item)) => {
                 frame.push(item);
                 frame.go(next);

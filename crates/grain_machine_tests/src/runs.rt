@@ -222,7 +222,7 @@ impl Host for Script {
         !self.is_quick || !matches!(value, Dynamic::Int(_) | Dynamic::Bool(_))
     }
 
-    fn is_true(&mut self, value: &Dynamic) -> Result<bool, Fault> {
+    fn is_true(&mut self, _: &Request<'_>, value: &Dynamic) -> Result<bool, Fault> {
         match value {
             Dynamic::Bool(value) => Ok(*value),
             _ => Err(Fault::Wrong),
@@ -236,11 +236,16 @@ impl Host for Script {
         }
     }
 
-    fn dispatch(&mut self, switch: &Switch, subject: &Dynamic) -> Result<u32, Fault> {
+    fn dispatch(
+        &mut self,
+        _: &Request<'_>,
+        switch: &Switch,
+        subject: &Dynamic,
+    ) -> Result<u32, Fault> {
         Ok(dispatch(switch, subject))
     }
 
-    fn begin(&mut self, value: Dynamic) -> Result<Vec<i64>, Fault> {
+    fn begin(&mut self, _: &Request<'_>, value: Dynamic) -> Result<Vec<i64>, Fault> {
         let Dynamic::Array(items) = value else {
             return Err(Fault::Wrong);
         };
@@ -255,13 +260,14 @@ impl Host for Script {
 
     fn advance(
         &mut self,
+        _: &Request<'_>,
         iterator: &mut Vec<i64>,
         _: Option<u16>,
     ) -> Result<Option<Dynamic>, Fault> {
         Ok(iterator.pop().map(|x| Dynamic::Int(x)))
     }
 
-    fn thrown(&mut self, value: Dynamic) -> Fault {
+    fn thrown(&mut self, _: &Request<'_>, value: Dynamic) -> Fault {
         Fault::Thrown(value)
     }
 

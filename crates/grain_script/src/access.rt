@@ -2,7 +2,8 @@
 ghost use Rattle.std.specs.Prelude.{IfOk, IfSome, length, ◌<◌};
 ghost use Rattle.grain_machine.specs.Reply.{NamesFunction};
 
-use crate::chains::{Goal, entry_name, keys_of, read, walk};
+use crate::chains::{Goal, entry_name, keys_of, placed, read, walk};
+use crate::fault::Failure;
 use crate::script::Script;
 use crate::world::World;
 use grain::Program;
@@ -22,7 +23,7 @@ impl<W: World + Drop> Script<W> {
         program: &Program,
         chain: &Chain,
         operands: &mut [Value],
-    ) -> Result<Reply<Value>, Cause>
+    ) -> Result<Reply<Value>, Failure>
         ensures { IfOk result (NamesFunction program.now) }
     {
         let steps = chain.steps.as_slice();
@@ -33,7 +34,7 @@ impl<W: World + Drop> Script<W> {
                     op: *op,
                     value: value.take(),
                 },
-                None => return Err(Cause::Unsupported),
+                None => return Err(Failure::from(Cause::Unsupported)),
             },
         };
         if self.may_be_method(steps.last())
@@ -44,7 +45,7 @@ impl<W: World + Drop> Script<W> {
         let variable = match &chain.root {
             Root::Temporary => {
                 let Some(value) = operands.last_mut() else {
-                    return Err(Cause::Unsupported);
+                    return Err(Failure::from(Cause::Unsupported));
                 };
                 let mut value = value.take();
                 let context = self.context(program);
@@ -138,7 +139,7 @@ impl<W: World + Drop> Script<W> {
         steps: &[Step],
         operands: &mut [Value],
         goal: Goal,
-    ) -> Result<Value, Cause> {
+    ) -> Result<Value, Failure> {
         if let (Goal::Read, [step]) = (&goal, steps)
             && !matches!(step, Step::Method { .. })
         {
@@ -159,14 +160,14 @@ impl<W: World + Drop> Script<W> {
         variable: Variable,
         step: &Step,
         operands: &[Value],
-    ) -> Result<Value, Cause> {
+    ) -> Result<Value, Failure> {
         let context = self.context(program);
         let value = self.variable(program, variable)?;
         if matches!(value, Value::Unit) {
             let mut value = Value::Unit;
             return walk(&context, &mut value, &[step.clone()?], operands, Goal::Read);
         }
-        read(&context, value, step, operands)
+        placed(step, read(&context, value, step, operands))
     }
 
     /// Whether a function of the script may be what this step calls.
@@ -185,7 +186,7 @@ impl<W: World + Drop> Script<W> {
         program: &Program,
         chain: &Chain,
         operands: &mut [Value],
-    ) -> Result<Option<Reply<Value>>, Cause>
+    ) -> Result<Option<Reply<Value>>, Failure>
         ensures { IfOk result (λ given. IfSome given (NamesFunction program.now)) }
     {
         let Some(called) = method_at_end(chain) else {
@@ -202,7 +203,7 @@ impl<W: World + Drop> Script<W> {
         };
         let end = called.first.saturating_add(called.count);
         let Some(arguments) = operands.get_mut(called.first..end) else {
-            return Err(Cause::Unsupported);
+            return Err(Failure::from(Cause::Unsupported));
         };
         let this = This { value, lent };
         self.variables
@@ -210,17 +211,17 @@ impl<W: World + Drop> Script<W> {
         Ok(Some(Reply::Call { function }))
     }
 
-    /// The value on which a method is called, taken out of its variable where it lies in one.
+    /// The value on which a method is called, taken out of its variable where it is a part that goes back there.
     fn receiver(
         &mut self,
         program: &Program,
         root: &Root,
         path: &[Step],
         operands: &mut [Value],
-    ) -> Result<(Value, Option<Lent>), Cause> {
+    ) -> Result<(Value, Option<Lent>), Failure> {
         if let Root::Temporary = root {
             let Some(last) = operands.last() else {
-                return Err(Cause::Unsupported);
+                return Err(Failure::from(Cause::Unsupported));
             };
             let mut value = last.clone()?;
             let context = self.context(program);
@@ -230,17 +231,25 @@ impl<W: World + Drop> Script<W> {
             ));
         }
         let variable = variable_of(root)?;
-        match keys_of(&self.context(program), path, operands)? {
-            Some(path) => {
-                let place = self.variable_mut(program, variable)?;
-                let value = swapped(place, path.as_slice(), Value::Unit)?;
-                Ok((value, Some(Lent { variable, path })))
-            }
-            None => {
-                let value = self.chain_from(program, variable, path, operands, Goal::Read)?;
-                Ok((value, None))
+        if let Some(keys) = keys_of(&self.context(program), path, operands)? {
+            let place = self.variable_mut(program, variable)?;
+            match swapped(place, keys.as_slice(), Value::Unit) {
+                Ok(value) => {
+                    return Ok((
+                        value,
+                        Some(Lent {
+                            variable,
+                            path: keys,
+                        }),
+                    ));
+                }
+                Err(Cause::OutOfMemory) => return Err(Failure::from(Cause::OutOfMemory)),
+                // It is no part that goes back, as a character of a text; or a step fails, which is found by reading.
+                Err(_) => {}
             }
         }
+        let value = self.chain_from(program, variable, path, operands, Goal::Read)?;
+        Ok((value, None))
     }
 }
 

@@ -1,5 +1,6 @@
 //! Chains of accesses: parts of values by index, property and method.
 
+use crate::fault::Failure;
 use crate::table::Table;
 use grain::Program;
 use grain_library::{Callee, Function, call, item_of, item_place, operate, set_character};
@@ -35,22 +36,23 @@ struct Part {
     is_taken: bool,
 }
 
-/// Goes along the steps from a value, whose parts may be changed in place, and gives what is read at their end.
+/// Goes along the steps from a value, whose parts may be changed in place, and gives what is read at their end. A failure has the
+/// position of its step.
 pub(crate) fn walk(
     context: &Context<'_>,
     value: &mut Value,
     steps: &[Step],
     operands: &[Value],
     goal: Goal,
-) -> Result<Value, Cause> {
+) -> Result<Value, Failure> {
     let Some((step, rest)) = steps.split_first() else {
-        return finish(context, value, goal);
+        return Ok(finish(context, value, goal)?);
     };
     if ends_early(value, step) {
         return Ok(Value::Unit);
     }
     if let Step::Method { .. } = step {
-        let mut given = called(context, value, step, operands)?;
+        let mut given = placed(step, called(context, value, step, operands))?;
         return walk(context, &mut given, rest, operands, goal);
     }
     if rest.is_empty()
@@ -59,15 +61,23 @@ pub(crate) fn walk(
             value: assigned,
         } = goal
     {
-        assign(context, value, step, operands, assigned)?;
+        placed(step, assign(context, value, step, operands, assigned))?;
         return Ok(Value::Unit);
     }
-    let mut part = taken(context, value, step, operands)?;
+    let mut part = placed(step, taken(context, value, step, operands))?;
     let result = walk(context, &mut part.value, rest, operands, goal);
     if part.is_taken {
-        put_back(context, value, step, operands, part.value)?;
+        placed(step, put_back(context, value, step, operands, part.value))?;
     }
     result
+}
+
+/// What came of a step, whose failure has its position.
+pub(crate) fn placed<T: Drop>(step: &Step, answer: Result<T, Cause>) -> Result<T, Failure> {
+    match answer {
+        Ok(value) => Ok(value),
+        Err(cause) => Err(Failure::of_step(step, cause)),
+    }
 }
 
 /// Puts a part back where it was taken from.
@@ -339,7 +349,7 @@ pub(crate) fn keys_of(
     context: &Context<'_>,
     steps: &[Step],
     operands: &[Value],
-) -> Result<Option<Vec<Key>>, Cause> {
+) -> Result<Option<Vec<Key>>, Failure> {
     let mut keys = Vec::new(context.alloc);
     for step in steps {
         let key = match step {
@@ -347,11 +357,14 @@ pub(crate) fn keys_of(
             Step::Index { operand, .. } => match operands.get(*operand as usize) {
                 Some(Value::Int(index)) => Key::Index(*index),
                 Some(Value::Text(name)) => Key::Name(name.clone()?),
-                _ => return Err(Cause::WrongType("an integer or a string as index")),
+                _ => {
+                    let cause = Cause::WrongType("an integer or a string as index");
+                    return Err(Failure::of_step(step, cause));
+                }
             },
             Step::Property { name, .. } => match context.table.name(*name) {
                 Some(name) => Key::Name(name.clone()?),
-                None => return Err(Cause::Unsupported),
+                None => return Err(Failure::of_step(step, Cause::Unsupported)),
             },
         };
         keys.push(key)?;

@@ -1,30 +1,38 @@
 //! Why scripts fail, and where.
-ghost use Rattle.std.specs.Prelude.{◌≡◌};
-ghost use Rattle.grain_base.specs.Place.{place_of};
+ghost use Rattle.std.specs.Prelude.{◌≡◌, false, true};
+ghost use Rattle.grain_base.specs.Place.{is_none, place_of};
 ghost use Rattle.grain_bytecode.specs.Positions.{place_at};
 ghost use Rattle.grain.specs.Program.{places_of};
 
 use grain::Program;
 use grain_base::Position;
+use grain_pools::Step;
 use grain_value::Cause;
-use std::alloc::{AllocError, Global};
+use std::alloc::{AllocError, AllocFailed, Global};
 
 /// A fault of a script.
 #[derive(Drop)]
 pub struct Fault {
     /// Why it came.
     pub cause: Cause,
-    /// The address of the operation that the host did last in the chunk where the fault came. The machine names no address where a
-    /// value is no condition, can't be iterated over, or is thrown: there it is that of the operation before.
+    /// The address of the operation that failed, in the chunk where the fault came.
     pub at: usize,
+    /// Where the step of a chain that failed is in the source text. It is none where no step failed, or positions were stripped.
+    pub step: Position,
 }
 
 impl Fault {
-    /// The position of its address in the source text, by the table of the program that was run.
+    /// Where it is in the source text: its step, or else its address by the table of the program that was run.
     pub fn position(&self, program: &Program) -> Position
-        ensures { place_of result ≡ place_at (places_of program.now) self.now.at }
+        ensures step { is_none self.now.step ≡ false → result ≡ self.now.step }
+        ensures address { is_none self.now.step ≡ true
+            → place_of result ≡ place_at (places_of program.now) self.now.at }
     {
-        program.position(self.at)
+        if self.step.is_none() {
+            program.position(self.at)
+        } else {
+            self.step
+        }
     }
 
     /// The cause, followed by the line and the column where the program's positions have them.
@@ -41,5 +49,45 @@ impl Fault {
             (Some(line), None) => format!(in alloc; "{cause} (line {line})"),
             (None, _) => format!(in alloc; "{cause}"),
         }
+    }
+}
+
+/// Why an operation fails, and at which step where it is a chain.
+#[derive(Drop)]
+pub(crate) struct Failure {
+    pub(crate) cause: Cause,
+    /// Where the step is in the source text, or none.
+    pub(crate) step: Position,
+}
+
+impl Failure {
+    /// A step of a chain fails so.
+    #[cold]
+    pub(crate) fn of_step(step: &Step, cause: Cause) -> Failure {
+        let pos = match step {
+            Step::Index { pos, .. } | Step::Property { pos, .. } | Step::Method { pos, .. } => *pos,
+        };
+        Failure { cause, step: pos }
+    }
+}
+
+impl From<Cause> for Failure {
+    fn from(cause: Cause) -> Failure {
+        Failure {
+            cause,
+            step: Position::NONE,
+        }
+    }
+}
+
+impl From<AllocError> for Failure {
+    fn from(_: AllocError) -> Failure {
+        Failure::from(Cause::OutOfMemory)
+    }
+}
+
+impl<T: Drop> From<AllocFailed<T>> for Failure {
+    fn from(_: AllocFailed<T>) -> Failure {
+        Failure::from(Cause::OutOfMemory)
     }
 }

@@ -1,9 +1,11 @@
 //! The script as a host of the machine.
 ghost use Rattle.std.specs.Prelude.{◌≡◌, IfErr, IfOk, length};
-ghost use Rattle.grain_machine.specs.Asked.{IsAsked};
+ghost use Rattle.std.specs.List.{Contains};
+ghost use Rattle.grain_rules.specs.Code.{switch_targets};
+ghost use Rattle.grain_machine.specs.Asked.{IsAsked, Meets};
 ghost use Rattle.grain_machine.specs.Reply.{NamesFunction};
 
-use crate::fault::Fault;
+use crate::fault::{Failure, Fault};
 use crate::script::Script;
 use crate::world::World;
 use grain_machine::{CallError, Host, Reply, Request, dispatch};
@@ -11,9 +13,22 @@ use grain_pools::Switch;
 use grain_value::{Cause, Value, Walk, constant_of};
 
 impl<W: World + Drop> Script<W> {
-    fn fault(&mut self, cause: Cause) -> Fault {
+    /// The fault of an operation that fails for this cause.
+    fn fault(&mut self, request: &Request<'_>, cause: Cause) -> Fault
+        ensures { result.at ≡ request.now.at }
+    {
+        self.failed(request.at, Failure::from(cause))
+    }
+
+    /// The fault of the operation at an address, which fails so.
+    #[cold]
+    fn failed(&mut self, at: usize, failure: Failure) -> Fault
+        ensures { result.at ≡ at }
+    {
+        self.at = at;
         self.begin_fault();
-        Fault { cause, at: self.at }
+        let Failure { cause, step } = failure;
+        Fault { cause, at, step }
     }
 
     /// What an operation gives, where nothing went wrong before and the limits allow it.
@@ -22,7 +37,7 @@ impl<W: World + Drop> Script<W> {
         &mut self,
         request: &Request<'_>,
         operands: &mut [Value],
-    ) -> Result<Reply<Value>, Cause>
+    ) -> Result<Reply<Value>, Failure>
         ensures { IfOk result (NamesFunction request.now.program.now) }
     {
         self.raise_pending()?;
@@ -35,10 +50,17 @@ impl<W: World + Drop> Script<W> {
 
     /// The next item of a walk, and how many came before it in a slot.
     #[inline(never)]
-    fn next_item(&mut self, walk: &mut Walk, counter: Option<u16>) -> Result<Option<Value>, Fault> {
+    fn next_item(
+        &mut self,
+        request: &Request<'_>,
+        walk: &mut Walk,
+        counter: Option<u16>,
+    ) -> Result<Option<Value>, Fault>
+        ensures { IfErr result (λ fault. fault.at ≡ request.now.at) }
+    {
         let next = match walk.next_item() {
             Ok(next) => next,
-            Err(cause) => return Err(self.fault(cause)),
+            Err(cause) => return Err(self.fault(request, cause)),
         };
         let Some((item, count)) = next else {
             return Ok(None);
@@ -46,7 +68,7 @@ impl<W: World + Drop> Script<W> {
         if let Some(slot) = counter
             && let Err(cause) = self.variables.set_local(slot, Value::Int(count))
         {
-            return Err(self.fault(cause));
+            return Err(self.fault(request, cause));
         }
         Ok(Some(item))
     }
@@ -127,14 +149,10 @@ impl<W: World + Drop> Host for Script<W> {
         ensures names { IfOk result (NamesFunction request.now.program.now) }
         ensures at { IfErr result (λ fault. fault.at ≡ request.now.at) }
     {
-        let at = request.at;
-        self.at = at;
+        self.at = request.at;
         match self.reply(request, operands) {
             Ok(reply) => Ok(reply),
-            Err(cause) => {
-                self.begin_fault();
-                Err(Fault { cause, at })
-            }
+            Err(failure) => Err(self.failed(request.at, failure)),
         }
     }
 
@@ -150,10 +168,11 @@ impl<W: World + Drop> Host for Script<W> {
 
     fn refused(&mut self, _: usize, cause: CallError) -> Fault {
         self.ended();
-        match cause {
-            CallError::TooDeep => self.fault(Cause::TooDeep),
-            CallError::OutOfMemory => self.fault(Cause::OutOfMemory),
-        }
+        let cause = match cause {
+            CallError::TooDeep => Cause::TooDeep,
+            CallError::OutOfMemory => Cause::OutOfMemory,
+        };
+        self.failed(self.at, Failure::from(cause))
     }
 
     /// Its fault has the address of the operation.
@@ -161,21 +180,20 @@ impl<W: World + Drop> Host for Script<W> {
     fn take(&mut self, request: &Request<'_>, operands: &mut [Value]) -> Result<(), Fault>
         ensures { IfErr result (λ fault. fault.at ≡ request.now.at) }
     {
-        let at = request.at;
-        self.at = at;
+        self.at = request.at;
         match self.done(request, operands) {
             Ok(()) => Ok(()),
-            Err(cause) => {
-                self.begin_fault();
-                Err(Fault { cause, at })
-            }
+            Err(cause) => Err(self.fault(request, cause)),
         }
     }
 
-    fn is_true(&mut self, value: &Value) -> Result<bool, Fault> {
+    /// Its fault has the address of the operation.
+    fn is_true(&mut self, request: &Request<'_>, value: &Value) -> Result<bool, Fault>
+        ensures { IfErr result (λ fault. fault.at ≡ request.now.at) }
+    {
         match value {
             Value::Bool(value) => Ok(*value),
-            _ => Err(self.fault(Cause::WrongType("bool"))),
+            _ => Err(self.fault(request, Cause::WrongType("bool"))),
         }
     }
 
@@ -183,27 +201,50 @@ impl<W: World + Drop> Host for Script<W> {
         matches!(value, Value::Unit)
     }
 
-    fn dispatch(&mut self, switch: &Switch, subject: &Value) -> Result<u32, Fault> {
+    /// Its fault has the address of the operation.
+    fn dispatch(
+        &mut self,
+        request: &Request<'_>,
+        switch: &Switch,
+        subject: &Value,
+    ) -> Result<u32, Fault>
+        ensures among { IfOk result (λ target. Contains (switch_targets switch.now) target) }
+        ensures at { IfErr result (λ fault. fault.at ≡ request.now.at) }
+    {
         match constant_of(self.alloc, subject) {
             Ok(subject) => Ok(dispatch(switch, &subject)),
-            Err(_) => Err(self.fault(Cause::OutOfMemory)),
+            Err(_) => Err(self.fault(request, Cause::OutOfMemory)),
         }
     }
 
-    fn begin(&mut self, value: Value) -> Result<Walk, Fault> {
+    /// Its fault has the address of the operation.
+    fn begin(&mut self, request: &Request<'_>, value: Value) -> Result<Walk, Fault>
+        ensures { IfErr result (λ fault. fault.at ≡ request.now.at) }
+    {
         match Walk::over(self.alloc, value) {
             Ok(walk) => Ok(walk),
-            Err(cause) => Err(self.fault(cause)),
+            Err(cause) => Err(self.fault(request, cause)),
         }
     }
 
+    /// Its fault has the address of the operation.
     #[inline(always)]
-    fn advance(&mut self, walk: &mut Walk, counter: Option<u16>) -> Result<Option<Value>, Fault> {
-        self.next_item(walk, counter)
+    fn advance(
+        &mut self,
+        request: &Request<'_>,
+        walk: &mut Walk,
+        counter: Option<u16>,
+    ) -> Result<Option<Value>, Fault>
+        ensures { IfErr result (λ fault. fault.at ≡ request.now.at) }
+    {
+        self.next_item(request, walk, counter)
     }
 
-    fn thrown(&mut self, value: Value) -> Fault {
-        self.fault(Cause::Thrown(value))
+    /// It has the address of the operation.
+    fn thrown(&mut self, request: &Request<'_>, value: Value) -> Fault
+        ensures { result.at ≡ request.now.at }
+    {
+        self.fault(request, Cause::Thrown(value))
     }
 
     fn caught(&mut self, fault: Fault, name: Option<u32>) -> Result<(), Fault> {
@@ -211,7 +252,7 @@ impl<W: World + Drop> Host for Script<W> {
             return Err(fault);
         }
         self.end_fault();
-        let Fault { cause, at } = fault;
+        let Fault { cause, at, .. } = fault;
         let value = match cause {
             Cause::Thrown(value) => Ok(value),
             cause => match format!(in self.alloc; "{cause}") {
@@ -228,13 +269,7 @@ impl<W: World + Drop> Host for Script<W> {
         };
         match bound {
             Ok(()) => Ok(()),
-            Err(_) => {
-                self.begin_fault();
-                Err(Fault {
-                    cause: Cause::OutOfMemory,
-                    at,
-                })
-            }
+            Err(_) => Err(self.failed(at, Failure::from(Cause::OutOfMemory))),
         }
     }
 }

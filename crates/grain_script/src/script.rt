@@ -3,6 +3,7 @@ ghost use Rattle.std.specs.Prelude.{IfOk};
 ghost use Rattle.grain_machine.specs.Reply.{NamesFunction};
 
 use crate::chains::{Context, assign_to};
+use crate::fault::Failure;
 use crate::table::Table;
 use crate::world::World;
 use grain::Program;
@@ -226,7 +227,7 @@ impl<W: World + Drop> Script<W> {
         &mut self,
         request: &Request<'_>,
         operands: &mut [Value],
-    ) -> Result<Reply<Value>, Cause>
+    ) -> Result<Reply<Value>, Failure>
         ensures { IfOk result (NamesFunction request.now.program.now) }
     {
         let program = request.program;
@@ -234,25 +235,25 @@ impl<W: World + Drop> Script<W> {
             Op::LoadLocal(slot) => self.variables.local(*slot)?.clone()?,
             Op::Const(index) => match self.table.constant(*index) {
                 Some(value) => value.clone()?,
-                None => return Err(Cause::Unsupported),
+                None => return Err(Failure::from(Cause::Unsupported)),
             },
             Op::Call {
                 name,
                 op: Some(token),
                 ..
-            } => return self.operator(program, *name, *token, operands),
-            Op::Call { name, op: None, .. } => return self.call(program, *name, operands),
+            } => return Ok(self.operator(program, *name, *token, operands)?),
+            Op::Call { name, op: None, .. } => return Ok(self.call(program, *name, operands)?),
             Op::Chain(index) => match program.chains().get(*index as usize) {
                 Some(chain) => return self.chain(program, chain, operands),
-                None => return Err(Cause::Unsupported),
+                None => return Err(Failure::from(Cause::Unsupported)),
             },
             Op::CallFnPtr {
                 is_method,
                 receiver,
                 ..
-            } => return self.call_pointer(program, *is_method, receiver, operands),
+            } => return Ok(self.call_pointer(program, *is_method, receiver, operands)?),
             Op::CallRef { name, receiver, .. } => {
-                return self.call_on(program, *name, receiver, operands);
+                return Ok(self.call_on(program, *name, receiver, operands)?);
             }
             op => self.load_or_make(program, op, operands)?,
         };

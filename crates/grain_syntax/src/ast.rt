@@ -129,7 +129,7 @@ pub struct Operation {
 #[derive(Drop)]
 #[cycle(syntax)]
 pub struct Access {
-    /// Where its bracket or its point is.
+    /// Where its bracket or its name is.
     pub place: Place,
     /// Whether the steps end early where the value is unit.
     pub is_optional: bool,

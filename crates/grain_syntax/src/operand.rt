@@ -240,15 +240,23 @@ impl<F: Fn(&mut Cursor, usize, u8) -> Result<Expr, CompileError>> Grammar<F> {
     fn step(&self, cursor: &mut Cursor) -> Result<Option<Access>, CompileError>
         requires { (c : _) (least : _) → F.pre self.now.reads c self.now.depth least }
     {
-        let place = cursor.place();
         let mark = match cursor.peek().kind {
             Kind::Mark(mark) => mark,
             _ => return Ok(None),
         };
-        let part = match mark {
-            Mark::LeftBracket | Mark::QuestionBracket => self.index(cursor)?,
-            Mark::Dot | Mark::QuestionDot => self.member(cursor)?,
+        let is_index = match mark {
+            Mark::LeftBracket | Mark::QuestionBracket => true,
+            Mark::Dot | Mark::QuestionDot => false,
             _ => return Ok(None),
+        };
+        if !is_index {
+            cursor.go();
+        }
+        let place = cursor.place();
+        let part = if is_index {
+            self.index(cursor)?
+        } else {
+            self.member(cursor)?
         };
         let is_optional = mark == Mark::QuestionBracket || mark == Mark::QuestionDot;
         Ok(Some(Access {
@@ -268,10 +276,10 @@ impl<F: Fn(&mut Cursor, usize, u8) -> Result<Expr, CompileError>> Grammar<F> {
         Ok(Part::Index(index))
     }
 
+    /// A property or a method, after its point.
     fn member(&self, cursor: &mut Cursor) -> Result<Part, CompileError>
         requires { (c : _) (least : _) → F.pre self.now.reads c self.now.depth least }
     {
-        cursor.go();
         let name = cursor.name(Thing::MemberName)?;
         let opened = cursor.place();
         if cursor.eat(Mark::LeftParen) {
