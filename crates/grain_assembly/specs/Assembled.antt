@@ -39,4 +39,5 @@ written a = record {
   outers = map (λ (l : Label). l.outer) a.labels.items;
   pending = a.pending;
   fixed = a.is_fixed;
+  places = a.places.items;
 }

@@ -1,5 +1,7 @@
 -- What is assembled, as the rules that write code see it.
-use Rattle.std.specs.Prelude.{◌≡◌, ℕ, ◌+◌, ◌-◌, Bool, List, [], ◌∷◌, drop, slice_get, Some}
+use Rattle.std.specs.Prelude.{◌≡◌, ℕ, ◌+◌, ◌-◌, Bool, true, List, [], ◌∷◌, drop, slice_get, Some}
+use Rattle.std.specs.List.{list_all}
+use Rattle.grain_lexer.specs.declared.error.Place.{Place}
 use Rattle.grain_rules.specs.Counts.{Base, last_base}
 
 -- What surrounds the operations that are written: how many operands and iterators have to stay, how many iterators there
@@ -19,7 +21,8 @@ pub record Spot : Type 0 where
   pub home : ℕ
 
 -- The operands and what surrounds them; what is found at each label, and which labels were open when it was made; the
--- labels that are open, as one more than the last of them; and whether what the next operation finds is settled.
+-- labels that are open, as one more than the last of them; whether what the next operation finds is settled; and the place of
+-- each operation.
 pub record Unfinished : Type 0 where
   pub operands : ℕ
   pub level : Level
@@ -27,6 +30,7 @@ pub record Unfinished : Type 0 where
   pub outers : List ℕ
   pub pending : ℕ
   pub fixed : Bool
+  pub places : List Place
 
 -- this many operands at a level
 abbrev pub spot : ℕ → Level → Spot
@@ -43,6 +47,11 @@ pub record LeavesOperands (old new : Unfinished) (n : ℕ) : Type 0 where
   pub labels : new.labels ≡ old.labels
   pub outers : new.outers ≡ old.outers
   pub pending : new.pending ≡ old.pending
+
+-- Each operation that was added has this place. It is said by tests: what all old places and this one pass, all new ones do, so
+-- that what is written one after the other is put together without a list of it.
+abbrev pub AddsPlace : Unfinished → Unfinished → Place → Type 0
+AddsPlace old new place = (test : Place → Bool) → test place ≡ true → list_all test old.places ≡ true → list_all test new.places ≡ true
 
 -- what surrounds the first operation of a chunk that begins there
 abbrev pub fresh : ℕ → Level

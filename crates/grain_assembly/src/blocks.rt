@@ -4,7 +4,7 @@ ghost use Rattle.std.specs.List.{Contains};
 ghost use Rattle.grain_pools.specs.Chain.{consumed};
 ghost use Rattle.grain_rules.specs.Counts.{without_last};
 ghost use Rattle.grain_assembly.specs.Assembled.{targets_of};
-ghost use Rattle.grain_assembly.specs.Unfinished.{StaysIn, LeavesOperands, SameLabels, spot, level_with_handler, level_with_iterator, level_without_iterator};
+ghost use Rattle.grain_assembly.specs.Unfinished.{StaysIn, LeavesOperands, SameLabels, spot, level_with_handler, level_with_iterator, level_without_iterator, AddsPlace};
 
 use crate::assembler::{Assembler, Targets};
 use crate::frame::Frame;
@@ -23,6 +23,7 @@ impl Assembler {
         ensures operands { OnOk result (self.new.operands ≡ self.old.operands - 1) }
         ensures level { OnOk result (self.new.level ≡ level_with_iterator self.old.level) }
         ensures labels { OnOk result (SameLabels self.old self.new) }
+        ensures placed { OnOk result (AddsPlace self.old self.new place) }
     {
         let frame = self.frame.with_iterator(place)?;
         self.places.push(place)?;
@@ -47,7 +48,8 @@ impl Assembler {
         requires one { self.old.level.least + 1 ≤ self.old.level.iterators }
         requires there { slice_get self.old.labels exit
             ≡ Some (spot self.old.operands (level_without_iterator self.old.level)) }
-        ensures { OnOk result (LeavesOperands self.old self.new (self.old.operands + 1)) }
+        ensures leaves { OnOk result (LeavesOperands self.old self.new (self.old.operands + 1)) }
+        ensures placed { OnOk result (AddsPlace self.old self.new place) }
     {
         if self.operands >= MAX_OPERANDS {
             return Err(too_many(place));
@@ -68,6 +70,7 @@ impl Assembler {
         ensures operands { OnOk result (self.new.operands ≡ self.old.operands) }
         ensures level { OnOk result (self.new.level ≡ level_without_iterator self.old.level) }
         ensures labels { OnOk result (SameLabels self.old self.new) }
+        ensures placed { OnOk result (AddsPlace self.old self.new place) }
     {
         let frame = self.frame.without_iterator()?;
         self.places.push(place)?;
@@ -90,6 +93,7 @@ impl Assembler {
         ensures outers { OnOk result (StaysIn self.old.outers self.new.outers) }
         ensures operands { OnOk result (self.new.operands ≡ self.old.operands) }
         ensures level { OnOk result (self.new.level ≡ self.old.level) }
+        ensures places { OnOk result (self.new.places ≡ self.old.places) }
     {
         let operands = self.operands;
         let frame = self.frame.with_handler(operands)?;
@@ -107,6 +111,7 @@ impl Assembler {
         ensures operands { OnOk result (self.new.operands ≡ self.old.operands) }
         ensures level { OnOk result (self.new.level ≡ level_with_handler self.old.operands self.old.level) }
         ensures labels { OnOk result (SameLabels self.old self.new) }
+        ensures placed { OnOk result (AddsPlace self.old self.new place) }
     {
         let frame = self.frame.with_handler(self.operands)?;
         self.places.push(place)?;
@@ -131,6 +136,7 @@ impl Assembler {
         ensures operands { OnOk result (self.new.operands ≡ self.old.operands) }
         ensures level { OnOk result (self.new.level ≡ outer) }
         ensures labels { OnOk result (SameLabels self.old self.new) }
+        ensures placed { OnOk result (AddsPlace self.old self.new place) }
     {
         let _based = &outer.floor;
         self.places.push(place)?;
@@ -151,6 +157,7 @@ impl Assembler {
             → slice_get self.old.labels l ≡ Some (spot self.old.operands self.old.level) }
         ensures leaves { OnOk result (LeavesOperands self.old self.new self.old.operands) }
         ensures loose { OnOk result (self.new.fixed ≡ false) }
+        ensures placed { OnOk result (AddsPlace self.old self.new place) }
     {
         let Ok(index) = u16::try_from(self.tables.len()) else {
             return Err(CompileError::new(place, Problem::TooMany(Thing::Switches)));
@@ -169,7 +176,8 @@ impl Assembler {
     /// There are too many chains or operands, or the allocator refused.
     pub fn chain(&mut self, place: Place, chain: Chain) -> Result<(), CompileError>
         requires { self.old.level.floor + consumed chain ≤ self.old.operands }
-        ensures { OnOk result (LeavesOperands self.old self.new (self.old.operands - consumed chain + 1)) }
+        ensures leaves { OnOk result (LeavesOperands self.old self.new (self.old.operands - consumed chain + 1)) }
+        ensures placed { OnOk result (AddsPlace self.old self.new place) }
     {
         let Ok(index) = u16::try_from(self.chains.len()) else {
             return Err(CompileError::new(place, Problem::TooMany(Thing::Chains)));

@@ -17,7 +17,15 @@ impl Assembler {
     /// No operations yet: the first chunk begins.
     #[must_use]
     pub fn new(alloc: Global) -> Assembler
-        ensures { result ≡ record { operands = 0; level = fresh 0; labels = []; outers = []; pending = 0; fixed = true } }
+        ensures { result ≡ record {
+          operands = 0;
+          level = fresh 0;
+          labels = [];
+          outers = [];
+          pending = 0;
+          fixed = true;
+          places = [];
+        } }
     {
         Assembler {
             alloc,
@@ -45,6 +53,7 @@ impl Assembler {
         ensures level { OnOk result (self.new.level ≡ fresh self.new.level.home) }
         ensures labels { OnOk result (SameLabels self.old self.new) }
         ensures further { OnOk result (1 ≤ self.new.level.home) }
+        ensures places { OnOk result (self.new.places ≡ self.old.places) }
     {
         let Ok(entry) = u32::try_from(self.frame.home()) else {
             return Err(too_long());

@@ -25,6 +25,7 @@ impl Assembler {
         ensures outers { OnOk result (StaysIn self.old.outers self.new.outers) }
         ensures operands { OnOk result (self.new.operands ≡ self.old.operands) }
         ensures level { OnOk result (self.new.level ≡ self.old.level) }
+        ensures places { OnOk result (self.new.places ≡ self.old.places) }
     {
         let Ok(label) = u32::try_from(self.labels.len()) else {
             return Err(CompileError::new(Place::NONE, Problem::TooMany(Thing::Jumps)));
@@ -54,6 +55,7 @@ impl Assembler {
         ensures outers { OnOk result (StaysIn self.old.outers self.new.outers) }
         ensures operands { OnOk result (self.new.operands ≡ self.old.operands) }
         ensures level { OnOk result (self.new.level ≡ self.old.level) }
+        ensures places { OnOk result (self.new.places ≡ self.old.places) }
     {
         let frame = self.frame.copied()?;
         self.label_in(operands, frame)
@@ -71,6 +73,7 @@ impl Assembler {
         ensures outers { OnOk result (self.new.outers ≡ self.old.outers) }
         ensures operands { OnOk result (self.new.operands ≡ self.old.operands) }
         ensures level { OnOk result (self.new.level ≡ self.old.level) }
+        ensures places { OnOk result (self.new.places ≡ self.old.places) }
     {
         let at = match u32::try_from(self.ops.len()) {
             Ok(at) if at < NOWHERE => at,
@@ -115,6 +118,7 @@ impl Assembler {
         ensures operands { OnOk result (self.new.operands ≡ operands) }
         ensures level { OnOk result (self.new.level ≡ frame) }
         ensures labels { OnOk result (SameLabels self.old self.new) }
+        ensures places { OnOk result (self.new.places ≡ self.old.places) }
     {
         if operands > MAX_OPERANDS {
             return Err(too_many(place));

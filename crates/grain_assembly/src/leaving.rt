@@ -1,7 +1,7 @@
 //! What has to stay, and what a path that leads away drops first.
 ghost use Rattle.std.specs.Prelude.{◌≡◌, ◌+◌, ◌-◌, ◌≤◌, OnOk, length};
 ghost use Rattle.grain_assembly.specs.Sound.{IsBased};
-ghost use Rattle.grain_assembly.specs.Unfinished.{IsSameButFloor, LeavesOperands, SameLabels, guarded, level_without_handlers};
+ghost use Rattle.grain_assembly.specs.Unfinished.{IsSameButFloor, LeavesOperands, SameLabels, guarded, level_without_handlers, AddsPlace};
 
 use crate::assembler::Assembler;
 use crate::frame::Frame;
@@ -27,6 +27,7 @@ impl Assembler {
         ensures level { OnOk result (self.new.level ≡ guarded self.old.operands self.old.level) }
         ensures based { OnOk result (IsBased self.new.level) }
         ensures labels { OnOk result (SameLabels self.old self.new) }
+        ensures places { OnOk result (self.new.places ≡ self.old.places) }
     {
         let frame = self.frame.guarded(self.operands)?;
         self.release(frame);
@@ -39,6 +40,7 @@ impl Assembler {
         ensures operands { self.new.operands ≡ self.old.operands }
         ensures level { self.new.level ≡ frame }
         ensures labels { SameLabels self.old self.new }
+        ensures places { self.new.places ≡ self.old.places }
     {
         let _based = &frame.floor;
         self.frame = frame;
@@ -53,6 +55,7 @@ impl Assembler {
         ensures operands { OnOk result (self.new.operands ≡ self.old.operands) }
         ensures level { OnOk result (self.new.level ≡ level_without_handlers count self.old.level) }
         ensures labels { OnOk result (SameLabels self.old self.new) }
+        ensures placed { OnOk result (AddsPlace self.old self.new place) }
     {
         let frame = self.frame.without_handlers(self.alloc, 0)?;
         self.release(frame);
@@ -68,6 +71,7 @@ impl Assembler {
         ensures operands { OnOk result (self.new.operands ≡ self.old.operands) }
         ensures level { OnOk result (self.new.level ≡ level_without_handlers 1 self.old.level) }
         ensures labels { OnOk result (SameLabels self.old self.new) }
+        ensures placed { OnOk result (AddsPlace self.old self.new place) }
     {
         let frame = self.frame.without_handlers(self.alloc, 1)?;
         self.disarm(place, frame)
@@ -79,7 +83,8 @@ impl Assembler {
     /// The allocator refused.
     pub fn drop_operands(&mut self, place: Place, count: usize) -> Result<(), CompileError>
         requires { self.old.level.floor + count ≤ self.old.operands }
-        ensures { OnOk result (LeavesOperands self.old self.new (self.old.operands - count)) }
+        ensures leaves { OnOk result (LeavesOperands self.old self.new (self.old.operands - count)) }
+        ensures placed { OnOk result (AddsPlace self.old self.new place) }
     {
         'operands: for _turn in 0..count {
             self.put(place, Op::Pop, 1, 0)?;
@@ -93,7 +98,8 @@ impl Assembler {
     /// The allocator refused.
     pub fn drop_below(&mut self, place: Place, count: usize) -> Result<(), CompileError>
         requires { self.old.level.floor + count + 1 ≤ self.old.operands }
-        ensures { OnOk result (LeavesOperands self.old self.new (self.old.operands - count)) }
+        ensures leaves { OnOk result (LeavesOperands self.old self.new (self.old.operands - count)) }
+        ensures placed { OnOk result (AddsPlace self.old self.new place) }
     {
         'operands: for _turn in 0..count {
             self.put(place, Op::Rotate(1), 2, 2)?;

@@ -129,7 +129,8 @@ impl Assembler {
     pub fn finish(self) -> Result<Assembled, CompileError>
         requires closed { self.pending ≡ 0 }
         requires ended { 1 ≤ self.level.home }
-        ensures { IfOk result IsComplete }
+        ensures complete { IfOk result IsComplete }
+        ensures places { IfOk result (λ done. done.places.items ≡ self.places) }
     {
         let targets = places_of(self.alloc, &self.labels)?;
         let tables = resolve_tables(self.alloc, &self.tables, &targets)?;

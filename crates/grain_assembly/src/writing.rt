@@ -3,7 +3,7 @@ ghost use Rattle.std.specs.Prelude.{◌≡◌, ◌+◌, ◌-◌, ◌≤◌, OnOk
 ghost use Rattle.grain_rules.specs.Flow.{Falls, Ends, Jumps, Branches};
 ghost use Rattle.grain_rules.specs.Rows.{flow_of};
 ghost use Rattle.grain_assembly.specs.Fitting.{HasEffect};
-ghost use Rattle.grain_assembly.specs.Unfinished.{LeavesOperands, spot};
+ghost use Rattle.grain_assembly.specs.Unfinished.{LeavesOperands, spot, AddsPlace};
 
 use crate::assembler::Assembler;
 use grain_code::Op;
@@ -32,7 +32,8 @@ impl Assembler {
         requires falls { flow_of op ≡ Falls }
         requires does { HasEffect op self.old.operands takes gives }
         requires room { self.old.level.floor + takes ≤ self.old.operands }
-        ensures { OnOk result (LeavesOperands self.old self.new (self.old.operands - takes + gives)) }
+        ensures leaves { OnOk result (LeavesOperands self.old self.new (self.old.operands - takes + gives)) }
+        ensures placed { OnOk result (AddsPlace self.old self.new place) }
     {
         let kept = self.operands - takes;
         if gives > MAX_OPERANDS.saturating_sub(kept) {
@@ -61,6 +62,7 @@ impl Assembler {
         requires room { self.old.level.floor + takes ≤ self.old.operands }
         ensures leaves { OnOk result (LeavesOperands self.old self.new left) }
         ensures loose { OnOk result (self.new.fixed ≡ false) }
+        ensures placed { OnOk result (AddsPlace self.old self.new place) }
     {
         if left > MAX_OPERANDS {
             return Err(too_many(place));
@@ -81,6 +83,7 @@ impl Assembler {
         requires room { self.old.level.floor ≤ self.old.operands }
         ensures leaves { OnOk result (LeavesOperands self.old self.new left) }
         ensures loose { OnOk result (self.new.fixed ≡ false) }
+        ensures placed { OnOk result (AddsPlace self.old self.new place) }
     {
         if left > MAX_OPERANDS {
             return Err(too_many(place));
@@ -107,7 +110,8 @@ impl Assembler {
         requires does { HasEffect op self.old.operands takes 0 }
         requires room { self.old.level.floor + takes ≤ self.old.operands }
         requires there { slice_get self.old.labels label ≡ Some (spot (self.old.operands - takes) self.old.level) }
-        ensures { OnOk result (LeavesOperands self.old self.new (self.old.operands - takes)) }
+        ensures leaves { OnOk result (LeavesOperands self.old self.new (self.old.operands - takes)) }
+        ensures placed { OnOk result (AddsPlace self.old self.new place) }
     {
         let operands = self.operands - takes;
         self.places.push(place)?;

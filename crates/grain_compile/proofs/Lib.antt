@@ -1,4 +1,6 @@
 pub mod AllAllowed
 pub mod BuildPremises
+pub mod FormParts
 pub mod PlacedPositions
+pub mod StepParts
 pub mod SwitchParts

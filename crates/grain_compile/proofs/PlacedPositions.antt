@@ -1,7 +1,7 @@
 -- Positions in parts and in the whole, and what chains take off the stack whatever their positions.
-use Rattle.std.proofs.Common.{◌≡◌, ℕ, ◌+◌, ◌<◌, List, [], ◌∷◌, Bool, true, false, Option, Some, None, Result, Ok, Err, cond, length, get_or, map, ap, refl, subst, sym, ◌∙◌, arith}
-use Rattle.std.specs.Prelude.{IfOk, IfSome, option_map}
-use Rattle.std.specs.List.{All, flat_map}
+use Rattle.std.proofs.Common.{◌≡◌, ℕ, ◌+◌, ◌<◌, zero, suc, List, [], ◌∷◌, Bool, true, false, Option, Some, None, Result, Ok, Err, cond, length, get_or, map, ap, refl, subst, sym, ◌∙◌, arith}
+use Rattle.std.specs.Prelude.{◌&&◌, IfOk, IfSome, option_map}
+use Rattle.std.specs.List.{All, flat_map, list_all}
 use Rattle.std.proofs.Math.ListN.{get_or-map}
 use Rattle.std.proofs.lemmas.List.{length-map}
 use Rattle.std.proofs.lemmas.List.Elements.{All-append, All-head, All-map, All-nil, All-tail, All-weaker}
@@ -22,7 +22,11 @@ use Rattle.grain.specs.Program.{Program}
 use Rattle.grain_assembly.specs.Finished.{AreTypedCuts}
 use Rattle.grain_assembly.specs.Fitting.{HasChains}
 use Rattle.grain_lexer.specs.Places.{AreLengths, IsInLines, LiesIn}
-use Rattle.grain_compile.specs.Positions.{ArePositions, IsListedPosition, IsPositionOf}
+use Rattle.grain_compile.specs.Positions.{ArePositions, IsListedPosition, IsPositionAmong, IsPositionIn, IsPositionOf}
+use Rattle.grain_emit.proofs.OneOf.{one_of}
+use Rattle.grain_emit.proofs.PlaceTests.{and_left, and_right}
+use Rattle.grain_emit.specs.Places.{IsOneOf, Places, pass}
+use Rattle.grain_lexer.specs.declared.error.Place.{Place}
 
 pub all_flat_map : {X A : Type 0} (P : A → Type 0) (f : X → List A) (xs : List X) → All (λ x. All P (f x)) xs → All P (flat_map f xs)
 all_flat_map P f [] h = All-nil P
@@ -87,6 +91,11 @@ if_placed (Ok x) at P found chains e f code each = record {
 }
 if_placed (Err error) at P found chains e f code each = tt
 
+-- a program that has these positions of its code
+pub if_code : {X E : Type 0} (r : Result X E) (at : X → Program) (P : Position → Type 0) (found : Option (List Position)) → IfOk r (λ x. (at x).positions ≡ found) → IfSome found (All P) → IfOk r (λ x. IfSome (at x).positions (All P))
+if_code (Ok x) at P found e code = subst (λ (ps : Option (List Position)). IfSome ps (All P)) (sym e) code
+if_code (Err error) at P found e code = tt
+
 listed_some : (P : Position → Type 0) (Q : Option (ℕ × ℕ) → Type 0) (found : Option (List Position)) (xs : List (Option (ℕ × ℕ))) (b : Bool) → option_map (λ ps. map place_of ps) found ≡ cond b None (Some xs) → ((p : Position) → Q (place_of p) → P p) → All Q xs → IfSome found (All P)
 listed_some P Q None xs b e from all = tt
 listed_some P Q (Some ps) xs true e from all = absurd (cc)
@@ -99,3 +108,32 @@ pub listed_dense : (lengths : List ℕ) (found : Option (List Position)) (xs : L
 listed_dense lengths found xs b e all =
     let Q : Option (ℕ × ℕ) → Type 0 = λ q. IfSome q (λ p. IsInLines lengths (record { line = p.0; column = p.1 })) in
     listed_some (IsListedPosition lengths) Q found (map place_of xs) b e (λ p q. q) (All-map Q place_of xs all)
+
+-- the same of positions that are of these places
+pub placed_dense : (places : List Place) (found : Option (List Position)) (xs : List Position) (b : Bool) → option_map (λ ps. map place_of ps) found ≡ cond b None (Some (map place_of xs)) → All (IsPositionIn places) xs → IfSome found (All (IsPositionIn places))
+placed_dense places found xs b e all =
+    let Q : Option (ℕ × ℕ) → Type 0 = λ q. IfSome q (λ p. (test : Place → Bool) → list_all test places ≡ true → test (record { line = p.0; column = p.1 }) ≡ true) in
+    listed_some (IsPositionIn places) Q found (map place_of xs) b e (λ p q. q) (All-map Q place_of xs all)
+
+-- an entry of a list that passes passes
+pub entry_passes : (test : Place → Bool) (places : List Place) (i : ℕ) (place : Place) → i < length places → place ≡ get_or places i place → list_all test places ≡ true → test place ≡ true
+entry_passes test [] i place l e h = absurd (omega arith)
+entry_passes test (p ∷ ps) zero place l e h = ap test e ∙ and_left (test p) (list_all test ps) h
+entry_passes test (p ∷ ps) (suc i) place l e h = entry_passes test ps i place (omega arith) e (and_right (test p) (list_all test ps) h)
+
+-- a position of one of these places
+pub position_in : (places : List Place) (place : Place) (i : ℕ) (position : Position) → i < length places → place ≡ get_or places i place → IfSome (place_of position) (λ p. place ≡ record { line = p.0; column = p.1 }) → IsPositionIn places position
+position_in places place i position l e own = lies (place_of position) own where
+  lies : (found : Option (ℕ × ℕ)) → IfSome found (λ p. place ≡ record { line = p.0; column = p.1 }) → IfSome found (λ p. (test : Place → Bool) → list_all test places ≡ true → test (record { line = p.0; column = p.1 }) ≡ true)
+  lies None h = tt
+  lies (Some p) h = λ test all. ap test (sym h) ∙ entry_passes test places i place l e all
+
+-- where what all of these pass all in the list do, positions of the list's are among these
+pub positions_among : (these : Places) (places : List Place) → ((test : Place → Bool) → pass test these ≡ true → list_all test places ≡ true) → (found : Option (List Position)) → IfSome found (All (IsPositionIn places)) → IfSome found (All (IsPositionAmong these))
+positions_among these places are None h = tt
+positions_among these places are (Some found) h = All-weaker (IsPositionIn places) (IsPositionAmong these) among found h where
+  among : (position : Position) → IsPositionIn places position → IsPositionAmong these position
+  among position is = lies (place_of position) is where
+    lies : (found : Option (ℕ × ℕ)) → IfSome found (λ p. (test : Place → Bool) → list_all test places ≡ true → test (record { line = p.0; column = p.1 }) ≡ true) → IfSome found (λ p. IsOneOf these (record { line = p.0; column = p.1 }))
+    lies None h = tt
+    lies (Some p) h = one_of these (record { line = p.0; column = p.1 }) (λ test all. h test (are test all))

@@ -1,8 +1,9 @@
 //! The code of chains: parts of values, methods, and assignments.
-ghost use Rattle.std.specs.Prelude.{◌≡◌, ◌+◌, ◌-◌, ◌<◌, ◌≤◌, IfOk, OnOk, cond, length, nat_lt};
+ghost use Rattle.std.specs.Prelude.{◌≡◌, true, ◌+◌, ◌-◌, ◌<◌, ◌≤◌, IfOk, OnOk, cond, length, nat_lt};
 ghost use Rattle.grain_pools.specs.Chain.{consumed, roots_on_stack};
 ghost use Rattle.grain_emit.specs.Loops.{count};
-ghost use Rattle.grain_emit.specs.Rules.{IsWritten, Stands};
+ghost use Rattle.grain_emit.specs.Rules.{IsWritten, Stands, AddsPlaces};
+ghost use Rattle.grain_emit.specs.Places.{both, pass, here, list_places, places_of, step_places, steps_places};
 
 use crate::coder::Coder;
 use grain::{Chain, Flags, Op, Root, Step, StepFlags, Tail};
@@ -23,14 +24,18 @@ impl<F: Fn(&mut Emitter, &Expr, usize, bool) -> Result<(), CompileError>> Coder<
         requires may { (m : _) (e : _) (w : _) → Stands m.now → F.pre self.now.writes m e self.now.depth w }
         requires does { (m : _) (e : _) (w : _) (r : _) (n : _) → F.post self.now.writes m e self.now.depth w r n
             → OnOk r (IsWritten m.now n.now (m.now.code.operands + count w)) }
+        requires adds { (m : _) (e : _) (w : _) (r : _) (n : _) → F.post self.now.writes m e self.now.depth w r n
+            → OnOk r (AddsPlaces m.now n.now (places_of e.now)) }
         requires stands { Stands emitter.old }
-        ensures { OnOk result (IsWritten emitter.old emitter.new (emitter.old.code.operands + 1)) }
+        ensures written { OnOk result (IsWritten emitter.old emitter.new (emitter.old.code.operands + 1)) }
+        ensures placed { OnOk result (AddsPlaces emitter.old emitter.new
+            (both (here place) (both (places_of root.now) (steps_places steps.now)))) }
     {
         let mut from = 0;
         for index in 0..steps.len() {
             from = self.turn(emitter, place, root, steps, (from, index))?;
         }
-        let rest = steps.get(from..).unwrap_or_default();
+        let rest = part(steps, from, steps.len());
         self.read(emitter, place, root, rest, from > 0)
     }
 
@@ -47,15 +52,19 @@ impl<F: Fn(&mut Emitter, &Expr, usize, bool) -> Result<(), CompileError>> Coder<
         requires may { (m : _) (e : _) (w : _) → Stands m.now → F.pre self.now.writes m e self.now.depth w }
         requires does { (m : _) (e : _) (w : _) (r : _) (n : _) → F.post self.now.writes m e self.now.depth w r n
             → OnOk r (IsWritten m.now n.now (m.now.code.operands + count w)) }
+        requires adds { (m : _) (e : _) (w : _) (r : _) (n : _) → F.post self.now.writes m e self.now.depth w r n
+            → OnOk r (AddsPlaces m.now n.now (places_of e.now)) }
         requires stands { Stands emitter.old }
         requires room { emitter.old.code.level.floor + count (nat_lt 0 at.0) ≤ emitter.old.code.operands }
         requires within { at.1 < length steps.now }
-        ensures { IfOk result (λ done. IsWritten emitter.old emitter.new
+        ensures written { IfOk result (λ done. IsWritten emitter.old emitter.new
             (emitter.old.code.operands - count (nat_lt 0 at.0) + count (nat_lt 0 done))) }
+        ensures placed { OnOk result (AddsPlaces emitter.old emitter.new
+            (both (here place) (both (places_of root.now) (steps_places steps.now)))) }
     {
         let (from, index) = at;
-        let step = &steps[index];
-        let before = steps.get(from..index).unwrap_or_default();
+        let step = step_at(steps, index);
+        let before = part(steps, from, index);
         if has_optional(before) {
             return Ok(from);
         }
@@ -70,7 +79,7 @@ impl<F: Fn(&mut Emitter, &Expr, usize, bool) -> Result<(), CompileError>> Coder<
         if !ends_chain(emitter, step) {
             return Ok(from);
         }
-        let upto = steps.get(from..index + 1).unwrap_or_default();
+        let upto = part(steps, from, index + 1);
         self.read(emitter, place, root, upto, from > 0)?;
         Ok(index + 1)
     }
@@ -88,9 +97,13 @@ impl<F: Fn(&mut Emitter, &Expr, usize, bool) -> Result<(), CompileError>> Coder<
         requires may { (m : _) (e : _) (w : _) → Stands m.now → F.pre self.now.writes m e self.now.depth w }
         requires does { (m : _) (e : _) (w : _) (r : _) (n : _) → F.post self.now.writes m e self.now.depth w r n
             → OnOk r (IsWritten m.now n.now (m.now.code.operands + count w)) }
+        requires adds { (m : _) (e : _) (w : _) (r : _) (n : _) → F.post self.now.writes m e self.now.depth w r n
+            → OnOk r (AddsPlaces m.now n.now (places_of e.now)) }
         requires stands { Stands emitter.old }
         requires room { emitter.old.code.level.floor + count before.1 ≤ emitter.old.code.operands }
-        ensures { OnOk result (IsWritten emitter.old emitter.new (emitter.old.code.operands - count before.entry.1 + 1)) }
+        ensures written { OnOk result (IsWritten emitter.old emitter.new (emitter.old.code.operands - count before.entry.1 + 1)) }
+        ensures placed { OnOk result (AddsPlaces emitter.old emitter.new
+            (both (here place) (both (places_of root.now) (both (steps_places before.entry.0.now) (both (here method.0) (list_places arguments.now)))))) }
     {
         let (steps, is_on_top) = before;
         let (at, name) = method;
@@ -129,9 +142,13 @@ impl<F: Fn(&mut Emitter, &Expr, usize, bool) -> Result<(), CompileError>> Coder<
         requires may { (m : _) (e : _) (w : _) → Stands m.now → F.pre self.now.writes m e self.now.depth w }
         requires does { (m : _) (e : _) (w : _) (r : _) (n : _) → F.post self.now.writes m e self.now.depth w r n
             → OnOk r (IsWritten m.now n.now (m.now.code.operands + count w)) }
+        requires adds { (m : _) (e : _) (w : _) (r : _) (n : _) → F.post self.now.writes m e self.now.depth w r n
+            → OnOk r (AddsPlaces m.now n.now (places_of e.now)) }
         requires stands { Stands emitter.old }
         requires room { emitter.old.code.level.floor + count is_on_top ≤ emitter.old.code.operands }
-        ensures { OnOk result (IsWritten emitter.old emitter.new (emitter.old.code.operands - count is_on_top + 1)) }
+        ensures written { OnOk result (IsWritten emitter.old emitter.new (emitter.old.code.operands - count is_on_top + 1)) }
+        ensures placed { OnOk result (AddsPlaces emitter.old emitter.new
+            (both (here place) (both (places_of root.now) (steps_places steps.now)))) }
     {
         if steps.is_empty() {
             if is_on_top {
@@ -162,8 +179,12 @@ impl<F: Fn(&mut Emitter, &Expr, usize, bool) -> Result<(), CompileError>> Coder<
         requires may { (m : _) (e : _) (w : _) → Stands m.now → F.pre self.now.writes m e self.now.depth w }
         requires does { (m : _) (e : _) (w : _) (r : _) (n : _) → F.post self.now.writes m e self.now.depth w r n
             → OnOk r (IsWritten m.now n.now (m.now.code.operands + count w)) }
+        requires adds { (m : _) (e : _) (w : _) (r : _) (n : _) → F.post self.now.writes m e self.now.depth w r n
+            → OnOk r (AddsPlaces m.now n.now (places_of e.now)) }
         requires stands { Stands emitter.old }
-        ensures { OnOk result (IsWritten emitter.old emitter.new (emitter.old.code.operands)) }
+        ensures written { OnOk result (IsWritten emitter.old emitter.new (emitter.old.code.operands)) }
+        ensures placed { OnOk result (AddsPlaces emitter.old emitter.new
+            (both (here place) (both (places_of target.now) (places_of value.now)))) }
     {
         let op = emitter.op_assignment(operator)?;
         match &target.form {
@@ -195,8 +216,12 @@ impl<F: Fn(&mut Emitter, &Expr, usize, bool) -> Result<(), CompileError>> Coder<
         requires may { (m : _) (e : _) (w : _) → Stands m.now → F.pre self.now.writes m e self.now.depth w }
         requires does { (m : _) (e : _) (w : _) (r : _) (n : _) → F.post self.now.writes m e self.now.depth w r n
             → OnOk r (IsWritten m.now n.now (m.now.code.operands + count w)) }
+        requires adds { (m : _) (e : _) (w : _) (r : _) (n : _) → F.post self.now.writes m e self.now.depth w r n
+            → OnOk r (AddsPlaces m.now n.now (places_of e.now)) }
         requires stands { Stands emitter.old }
-        ensures { OnOk result (IsWritten emitter.old emitter.new (emitter.old.code.operands)) }
+        ensures written { OnOk result (IsWritten emitter.old emitter.new (emitter.old.code.operands)) }
+        ensures placed { OnOk result (AddsPlaces emitter.old emitter.new
+            (both (here place) (both (both (places_of root.now) (steps_places steps.now)) (places_of assigned.entry.1.now)))) }
     {
         let (op, value) = assigned;
         let height = emitter.code.operands();
@@ -219,9 +244,12 @@ impl<F: Fn(&mut Emitter, &Expr, usize, bool) -> Result<(), CompileError>> Coder<
         requires may { (m : _) (e : _) (w : _) → Stands m.now → F.pre self.now.writes m e self.now.depth w }
         requires does { (m : _) (e : _) (w : _) (r : _) (n : _) → F.post self.now.writes m e self.now.depth w r n
             → OnOk r (IsWritten m.now n.now (m.now.code.operands + count w)) }
+        requires adds { (m : _) (e : _) (w : _) (r : _) (n : _) → F.post self.now.writes m e self.now.depth w r n
+            → OnOk r (AddsPlaces m.now n.now (places_of e.now)) }
         requires stands { Stands emitter.old }
         ensures written { OnOk result (IsWritten emitter.old emitter.new emitter.new.code.operands) }
         ensures more { OnOk result (emitter.old.code.operands ≤ emitter.new.code.operands) }
+        ensures placed { OnOk result (AddsPlaces emitter.old emitter.new (steps_places steps.now)) }
     {
         let height = emitter.code.operands();
         let mut found = Vec::new(emitter.alloc);
@@ -237,9 +265,12 @@ impl<F: Fn(&mut Emitter, &Expr, usize, bool) -> Result<(), CompileError>> Coder<
         requires may { (m : _) (e : _) (w : _) → Stands m.now → F.pre self.now.writes m e self.now.depth w }
         requires does { (m : _) (e : _) (w : _) (r : _) (n : _) → F.post self.now.writes m e self.now.depth w r n
             → OnOk r (IsWritten m.now n.now (m.now.code.operands + count w)) }
+        requires adds { (m : _) (e : _) (w : _) (r : _) (n : _) → F.post self.now.writes m e self.now.depth w r n
+            → OnOk r (AddsPlaces m.now n.now (places_of e.now)) }
         requires stands { Stands emitter.old }
         ensures written { OnOk result (IsWritten emitter.old emitter.new emitter.new.code.operands) }
         ensures more { OnOk result (emitter.old.code.operands ≤ emitter.new.code.operands) }
+        ensures placed { OnOk result (AddsPlaces emitter.old emitter.new (step_places step.now)) }
     {
         let flags = if step.is_optional {
             StepFlags::SKIP_IF_UNIT
@@ -276,8 +307,11 @@ impl<F: Fn(&mut Emitter, &Expr, usize, bool) -> Result<(), CompileError>> Coder<
         requires may { (m : _) (e : _) (w : _) → Stands m.now → F.pre self.now.writes m e self.now.depth w }
         requires does { (m : _) (e : _) (w : _) (r : _) (n : _) → F.post self.now.writes m e self.now.depth w r n
             → OnOk r (IsWritten m.now n.now (m.now.code.operands + count w)) }
+        requires adds { (m : _) (e : _) (w : _) (r : _) (n : _) → F.post self.now.writes m e self.now.depth w r n
+            → OnOk r (AddsPlaces m.now n.now (places_of e.now)) }
         requires stands { Stands emitter.old }
-        ensures { IfOk result (λ r. IsWritten emitter.old emitter.new (emitter.old.code.operands + cond (roots_on_stack r) 1 0)) }
+        ensures written { IfOk result (λ r. IsWritten emitter.old emitter.new (emitter.old.code.operands + cond (roots_on_stack r) 1 0)) }
+        ensures placed { OnOk result (AddsPlaces emitter.old emitter.new (places_of root.now)) }
     {
         if emitter.is_constant(root) {
             self.expr(emitter, root, true)?;
@@ -299,6 +333,23 @@ impl<F: Fn(&mut Emitter, &Expr, usize, bool) -> Result<(), CompileError>> Coder<
             }
         }
     }
+}
+
+/// The step with this index.
+fn step_at(steps: &[Access], index: usize) -> &Access
+    requires { index < length steps.now }
+    ensures { (test : _) → pass test (steps_places steps.now) ≡ true
+        → pass test (step_places result.now) ≡ true }
+{
+    &steps[index]
+}
+
+/// The steps from one index to another, or none where there are fewer.
+fn part(steps: &[Access], from: usize, to: usize) -> &[Access]
+    ensures { (test : _) → pass test (steps_places steps.now) ≡ true
+        → pass test (steps_places result.now) ≡ true }
+{
+    steps.get(from..to).unwrap_or_default()
 }
 
 /// A chain that reads.

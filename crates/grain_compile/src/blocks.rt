@@ -2,7 +2,8 @@
 ghost use Rattle.std.specs.Prelude.{◌≡◌, ◌+◌, ◌-◌, ◌≤◌, OnOk, Some, slice_get};
 ghost use Rattle.grain_assembly.specs.Unfinished.{spot};
 ghost use Rattle.grain_emit.specs.Loops.{count};
-ghost use Rattle.grain_emit.specs.Rules.{IsWritten, Stands};
+ghost use Rattle.grain_emit.specs.Rules.{IsWritten, Stands, AddsPlaces};
+ghost use Rattle.grain_emit.specs.Places.{both, branch_places, branches_places, form_places, here, list_places, optional_places, places_of};
 
 use crate::coder::Coder;
 use grain::Op;
@@ -22,8 +23,12 @@ impl<F: Fn(&mut Emitter, &Expr, usize, bool) -> Result<(), CompileError>> Coder<
         requires may { (m : _) (e : _) (w : _) → Stands m.now → F.pre self.now.writes m e self.now.depth w }
         requires does { (m : _) (e : _) (w : _) (r : _) (n : _) → F.post self.now.writes m e self.now.depth w r n
             → OnOk r (IsWritten m.now n.now (m.now.code.operands + count w)) }
+        requires adds { (m : _) (e : _) (w : _) (r : _) (n : _) → F.post self.now.writes m e self.now.depth w r n
+            → OnOk r (AddsPlaces m.now n.now (places_of e.now)) }
         requires stands { Stands emitter.old }
-        ensures { OnOk result (IsWritten emitter.old emitter.new (emitter.old.code.operands + count is_wanted)) }
+        ensures written { OnOk result (IsWritten emitter.old emitter.new (emitter.old.code.operands + count is_wanted)) }
+        ensures placed { OnOk result (AddsPlaces emitter.old emitter.new
+            (both (here place) (form_places form.now))) }
     {
         match form {
             Form::Block(statements) => self.block(emitter, place, statements, is_wanted),
@@ -49,8 +54,12 @@ impl<F: Fn(&mut Emitter, &Expr, usize, bool) -> Result<(), CompileError>> Coder<
         requires may { (m : _) (e : _) (w : _) → Stands m.now → F.pre self.now.writes m e self.now.depth w }
         requires does { (m : _) (e : _) (w : _) (r : _) (n : _) → F.post self.now.writes m e self.now.depth w r n
             → OnOk r (IsWritten m.now n.now (m.now.code.operands + count w)) }
+        requires adds { (m : _) (e : _) (w : _) (r : _) (n : _) → F.post self.now.writes m e self.now.depth w r n
+            → OnOk r (AddsPlaces m.now n.now (places_of e.now)) }
         requires stands { Stands emitter.old }
-        ensures { OnOk result (IsWritten emitter.old emitter.new (emitter.old.code.operands)) }
+        ensures written { OnOk result (IsWritten emitter.old emitter.new (emitter.old.code.operands)) }
+        ensures placed { OnOk result (AddsPlaces emitter.old emitter.new
+            (both (here place) (form_places form.now))) }
     {
         match form {
             Form::Let(name, is_const, value) => {
@@ -82,8 +91,12 @@ impl<F: Fn(&mut Emitter, &Expr, usize, bool) -> Result<(), CompileError>> Coder<
         requires may { (m : _) (e : _) (w : _) → Stands m.now → F.pre self.now.writes m e self.now.depth w }
         requires does { (m : _) (e : _) (w : _) (r : _) (n : _) → F.post self.now.writes m e self.now.depth w r n
             → OnOk r (IsWritten m.now n.now (m.now.code.operands + count w)) }
+        requires adds { (m : _) (e : _) (w : _) (r : _) (n : _) → F.post self.now.writes m e self.now.depth w r n
+            → OnOk r (AddsPlaces m.now n.now (places_of e.now)) }
         requires stands { Stands emitter.old }
-        ensures { OnOk result (IsWritten emitter.old emitter.new (emitter.old.code.operands + count is_wanted)) }
+        ensures written { OnOk result (IsWritten emitter.old emitter.new (emitter.old.code.operands + count is_wanted)) }
+        ensures placed { OnOk result (AddsPlaces emitter.old emitter.new
+            (both (here place) (list_places statements.now))) }
     {
         let Some((last, others)) = statements.split_last() else {
             return emitter.nothing(place, is_wanted);
@@ -105,8 +118,12 @@ impl<F: Fn(&mut Emitter, &Expr, usize, bool) -> Result<(), CompileError>> Coder<
         requires may { (m : _) (e : _) (w : _) → Stands m.now → F.pre self.now.writes m e self.now.depth w }
         requires does { (m : _) (e : _) (w : _) (r : _) (n : _) → F.post self.now.writes m e self.now.depth w r n
             → OnOk r (IsWritten m.now n.now (m.now.code.operands + count w)) }
+        requires adds { (m : _) (e : _) (w : _) (r : _) (n : _) → F.post self.now.writes m e self.now.depth w r n
+            → OnOk r (AddsPlaces m.now n.now (places_of e.now)) }
         requires stands { Stands emitter.old }
-        ensures { OnOk result (IsWritten emitter.old emitter.new (emitter.old.code.operands + count is_wanted)) }
+        ensures written { OnOk result (IsWritten emitter.old emitter.new (emitter.old.code.operands + count is_wanted)) }
+        ensures placed { OnOk result (AddsPlaces emitter.old emitter.new
+            (both (here place) (list_places statements.now))) }
     {
         let locals = emitter.scope.len();
         self.statements(emitter, place, statements, is_wanted)?;
@@ -124,8 +141,12 @@ impl<F: Fn(&mut Emitter, &Expr, usize, bool) -> Result<(), CompileError>> Coder<
         requires may { (m : _) (e : _) (w : _) → Stands m.now → F.pre self.now.writes m e self.now.depth w }
         requires does { (m : _) (e : _) (w : _) (r : _) (n : _) → F.post self.now.writes m e self.now.depth w r n
             → OnOk r (IsWritten m.now n.now (m.now.code.operands + count w)) }
+        requires adds { (m : _) (e : _) (w : _) (r : _) (n : _) → F.post self.now.writes m e self.now.depth w r n
+            → OnOk r (AddsPlaces m.now n.now (places_of e.now)) }
         requires stands { Stands emitter.old }
-        ensures { OnOk result (IsWritten emitter.old emitter.new (emitter.old.code.operands + count is_wanted)) }
+        ensures written { OnOk result (IsWritten emitter.old emitter.new (emitter.old.code.operands + count is_wanted)) }
+        ensures placed { OnOk result (AddsPlaces emitter.old emitter.new
+            (both (here place) (both (branches_places branches.now) (list_places otherwise.now)))) }
     {
         let height = emitter.code.operands();
         let end = emitter.code.label(height_with(height, is_wanted))?;
@@ -147,10 +168,14 @@ impl<F: Fn(&mut Emitter, &Expr, usize, bool) -> Result<(), CompileError>> Coder<
         requires may { (m : _) (e : _) (w : _) → Stands m.now → F.pre self.now.writes m e self.now.depth w }
         requires does { (m : _) (e : _) (w : _) (r : _) (n : _) → F.post self.now.writes m e self.now.depth w r n
             → OnOk r (IsWritten m.now n.now (m.now.code.operands + count w)) }
+        requires adds { (m : _) (e : _) (w : _) (r : _) (n : _) → F.post self.now.writes m e self.now.depth w r n
+            → OnOk r (AddsPlaces m.now n.now (places_of e.now)) }
         requires stands { Stands emitter.old }
         requires there { slice_get emitter.old.code.labels end
             ≡ Some (spot (emitter.old.code.operands + count is_wanted) emitter.old.code.level) }
-        ensures { OnOk result (IsWritten emitter.old emitter.new (emitter.old.code.operands)) }
+        ensures written { OnOk result (IsWritten emitter.old emitter.new (emitter.old.code.operands)) }
+        ensures placed { OnOk result (AddsPlaces emitter.old emitter.new
+            (branch_places branch.now)) }
     {
         let place = branch.condition.place;
         let height = emitter.code.operands();
@@ -172,8 +197,12 @@ impl<F: Fn(&mut Emitter, &Expr, usize, bool) -> Result<(), CompileError>> Coder<
         requires may { (m : _) (e : _) (w : _) → Stands m.now → F.pre self.now.writes m e self.now.depth w }
         requires does { (m : _) (e : _) (w : _) (r : _) (n : _) → F.post self.now.writes m e self.now.depth w r n
             → OnOk r (IsWritten m.now n.now (m.now.code.operands + count w)) }
+        requires adds { (m : _) (e : _) (w : _) (r : _) (n : _) → F.post self.now.writes m e self.now.depth w r n
+            → OnOk r (AddsPlaces m.now n.now (places_of e.now)) }
         requires stands { Stands emitter.old }
-        ensures { OnOk result (IsWritten emitter.old emitter.new (emitter.old.code.operands + 1)) }
+        ensures written { OnOk result (IsWritten emitter.old emitter.new (emitter.old.code.operands + 1)) }
+        ensures placed { OnOk result (AddsPlaces emitter.old emitter.new
+            (both (here place) (optional_places value.now))) }
     {
         match value {
             Some(value) => self.expr(emitter, value, true),
@@ -192,8 +221,12 @@ impl<F: Fn(&mut Emitter, &Expr, usize, bool) -> Result<(), CompileError>> Coder<
         requires may { (m : _) (e : _) (w : _) → Stands m.now → F.pre self.now.writes m e self.now.depth w }
         requires does { (m : _) (e : _) (w : _) (r : _) (n : _) → F.post self.now.writes m e self.now.depth w r n
             → OnOk r (IsWritten m.now n.now (m.now.code.operands + count w)) }
+        requires adds { (m : _) (e : _) (w : _) (r : _) (n : _) → F.post self.now.writes m e self.now.depth w r n
+            → OnOk r (AddsPlaces m.now n.now (places_of e.now)) }
         requires stands { Stands emitter.old }
-        ensures { OnOk result (IsWritten emitter.old emitter.new (emitter.old.code.operands)) }
+        ensures written { OnOk result (IsWritten emitter.old emitter.new (emitter.old.code.operands)) }
+        ensures placed { OnOk result (AddsPlaces emitter.old emitter.new
+            (both (here place) (both (list_places body.now) (list_places catching.now)))) }
     {
         let height = emitter.code.operands();
         let end = emitter.code.label(height)?;
@@ -215,10 +248,14 @@ impl<F: Fn(&mut Emitter, &Expr, usize, bool) -> Result<(), CompileError>> Coder<
         requires may { (m : _) (e : _) (w : _) → Stands m.now → F.pre self.now.writes m e self.now.depth w }
         requires does { (m : _) (e : _) (w : _) (r : _) (n : _) → F.post self.now.writes m e self.now.depth w r n
             → OnOk r (IsWritten m.now n.now (m.now.code.operands + count w)) }
+        requires adds { (m : _) (e : _) (w : _) (r : _) (n : _) → F.post self.now.writes m e self.now.depth w r n
+            → OnOk r (AddsPlaces m.now n.now (places_of e.now)) }
         requires stands { Stands emitter.old }
         requires there { slice_get emitter.old.code.labels end
             ≡ Some (spot emitter.old.code.operands emitter.old.code.level) }
-        ensures { OnOk result (IsWritten emitter.old emitter.new emitter.old.code.operands) }
+        ensures written { OnOk result (IsWritten emitter.old emitter.new emitter.old.code.operands) }
+        ensures placed { OnOk result (AddsPlaces emitter.old emitter.new
+            (both (here place) (list_places body.now))) }
     {
         let height = emitter.code.operands();
         let outer = emitter.code.frame()?;
@@ -248,8 +285,12 @@ impl<F: Fn(&mut Emitter, &Expr, usize, bool) -> Result<(), CompileError>> Coder<
         requires may { (m : _) (e : _) (w : _) → Stands m.now → F.pre self.now.writes m e self.now.depth w }
         requires does { (m : _) (e : _) (w : _) (r : _) (n : _) → F.post self.now.writes m e self.now.depth w r n
             → OnOk r (IsWritten m.now n.now (m.now.code.operands + count w)) }
+        requires adds { (m : _) (e : _) (w : _) (r : _) (n : _) → F.post self.now.writes m e self.now.depth w r n
+            → OnOk r (AddsPlaces m.now n.now (places_of e.now)) }
         requires stands { Stands emitter.old }
-        ensures { OnOk result (IsWritten emitter.old emitter.new (emitter.old.code.operands)) }
+        ensures written { OnOk result (IsWritten emitter.old emitter.new (emitter.old.code.operands)) }
+        ensures placed { OnOk result (AddsPlaces emitter.old emitter.new
+            (both (here place) (list_places body.now))) }
     {
         let (catch, fault) = caught;
         let locals = emitter.scope.len();

@@ -9,16 +9,16 @@ ghost use Rattle.grain.specs.Build.{CanBuild, draft, setting_with, span_of};
 ghost use Rattle.grain.specs.Program.{declared_by, input_of, listed_positions};
 ghost use Rattle.grain_assembly.specs.Finished.{IsComplete};
 ghost use Rattle.grain_compile.specs.Capabilities.{every_capability};
-ghost use Rattle.grain_compile.specs.Positions.{ArePositions, IsListedPosition};
+ghost use Rattle.grain_compile.specs.Positions.{ArePositions, IsKeptPosition, IsListedPosition, IsPositionIn};
 
 use crate::parts::parts;
-use crate::placing::{keep_in_chains, kept};
+use crate::placing::{keep_in_chains, kept_place};
 use grain::{
     AssembleError, BuildError, Caps, Chunk, Cut, Flags, FnAccess, Head, Op, Parts, Position,
     Positions, Program, VerifyError, assemble, build,
 };
 use grain_assembly::Assembled;
-use grain_emit::{Emitter, Options, Signature, position};
+use grain_emit::{Emitter, Options, Signature};
 use grain_lexer::{CompileError, Lines, Place, Problem, Thing};
 use grain_rules::{Pools, check_code};
 use std::alloc::{AllocError, Global};
@@ -33,6 +33,8 @@ pub(crate) fn finish(
     requires ended { 1 ≤ emitter.code.level.home }
     ensures positions { IfOk result
         (λ built. ArePositions (IsListedPosition lines.now.lengths.items) built.0) }
+    ensures placed { IfOk result
+        (λ built. IfSome built.0.positions (All (IsPositionIn emitter.code.places))) }
     ensures accepted { IfOk result (λ built. IsAccepted (input_of built.0)) }
     ensures declared { IfOk result (λ built. declared_by built.0 ≡ built.1.items) }
     ensures deepest { IfOk result (λ built. AreDeepest (input_of built.0) built.1.items) }
@@ -59,6 +61,8 @@ fn complete(
     requires { IsComplete made.0 }
     ensures positions { IfOk result
         (λ built. ArePositions (IsListedPosition lines.now.lengths.items) built.0) }
+    ensures placed { IfOk result
+        (λ built. IfSome built.0.positions (All (IsPositionIn made.0.places.items))) }
     ensures accepted { IfOk result (λ built. IsAccepted (input_of built.0)) }
     ensures declared { IfOk result (λ built. declared_by built.0 ≡ built.1.items) }
     ensures deepest { IfOk result (λ built. AreDeepest (input_of built.0) built.1.items) }
@@ -138,6 +142,8 @@ fn positioned(
         (λ p. (caps : Caps) → All (Indexed (setting_with caps p)) ops.now) }
     ensures positions { IfOk result (λ p. IfSome (listed_positions p.positions)
         (All (IsListedPosition lines.now.lengths.items))) }
+    ensures placed { IfOk result (λ p. IfSome (listed_positions p.positions)
+        (All (IsPositionIn places.now))) }
     ensures constants { IfOk result (λ p. p.consts ≡ parts.consts) }
     ensures chains { IfOk result (λ p. p.chains ≡ parts.chains) }
     ensures switches { IfOk result (λ p. p.switches ≡ parts.switches) }
@@ -156,16 +162,27 @@ fn dense(
     places: &[Place],
     lines: &Lines,
 ) -> Result<Positions, AllocError>
-    ensures { IfOk result (λ p. IfSome (listed_positions p)
+    ensures listed { IfOk result (λ p. IfSome (listed_positions p)
         (All (IsListedPosition lines.now.lengths.items))) }
+    ensures placed { IfOk result (λ p. IfSome (listed_positions p) (All (IsPositionIn places.now))) }
 {
     let mut positions = vec![in alloc; Position::NONE; len]?;
-    for (offset, place) in offsets.iter().zip(places) {
+    for (index, offset) in offsets.iter().enumerate() {
         if let Some(found) = positions.get_mut(*offset as usize) {
-            *found = kept(position(*place), lines);
+            *found = position_at(places, index, lines);
         }
     }
     Ok(Positions::dense(positions))
+}
+
+/// The position of the operation with this index.
+fn position_at(places: &[Place], index: usize, lines: &Lines) -> Position
+    ensures { IsKeptPosition lines.now.lengths.items places.now result }
+{
+    let Some(place) = places.get(index) else {
+        return Position::NONE;
+    };
+    kept_place(*place, lines)
 }
 
 /// Tests that each index of the code leads into its pool, as it does for each syntax tree that the parser makes.

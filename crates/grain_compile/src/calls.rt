@@ -1,7 +1,8 @@
 //! The code of calls and closures.
 ghost use Rattle.std.specs.Prelude.{◌≡◌, ◌+◌, ◌-◌, ◌≤◌, OnOk};
 ghost use Rattle.grain_emit.specs.Loops.{count};
-ghost use Rattle.grain_emit.specs.Rules.{IsWritten, Stands};
+ghost use Rattle.grain_emit.specs.Rules.{IsWritten, Stands, AddsPlaces};
+ghost use Rattle.grain_emit.specs.Places.{both, here, list_places, places_of};
 
 use crate::coder::Coder;
 use grain::Op;
@@ -20,8 +21,12 @@ impl<F: Fn(&mut Emitter, &Expr, usize, bool) -> Result<(), CompileError>> Coder<
         requires may { (m : _) (e : _) (w : _) → Stands m.now → F.pre self.now.writes m e self.now.depth w }
         requires does { (m : _) (e : _) (w : _) (r : _) (n : _) → F.post self.now.writes m e self.now.depth w r n
             → OnOk r (IsWritten m.now n.now (m.now.code.operands + count w)) }
+        requires adds { (m : _) (e : _) (w : _) (r : _) (n : _) → F.post self.now.writes m e self.now.depth w r n
+            → OnOk r (AddsPlaces m.now n.now (places_of e.now)) }
         requires stands { Stands emitter.old }
-        ensures { OnOk result (IsWritten emitter.old emitter.new (emitter.old.code.operands + 1)) }
+        ensures written { OnOk result (IsWritten emitter.old emitter.new (emitter.old.code.operands + 1)) }
+        ensures placed { OnOk result (AddsPlaces emitter.old emitter.new
+            (both (here place) (list_places arguments.now))) }
     {
         match (callee_of(emitter.pools.names.get(name)), arguments) {
             (Callee::Evaluated, _) => {
@@ -56,8 +61,12 @@ impl<F: Fn(&mut Emitter, &Expr, usize, bool) -> Result<(), CompileError>> Coder<
         requires may { (m : _) (e : _) (w : _) → Stands m.now → F.pre self.now.writes m e self.now.depth w }
         requires does { (m : _) (e : _) (w : _) (r : _) (n : _) → F.post self.now.writes m e self.now.depth w r n
             → OnOk r (IsWritten m.now n.now (m.now.code.operands + count w)) }
+        requires adds { (m : _) (e : _) (w : _) (r : _) (n : _) → F.post self.now.writes m e self.now.depth w r n
+            → OnOk r (AddsPlaces m.now n.now (places_of e.now)) }
         requires stands { Stands emitter.old }
-        ensures { OnOk result (IsWritten emitter.old emitter.new (emitter.old.code.operands + 1)) }
+        ensures written { OnOk result (IsWritten emitter.old emitter.new (emitter.old.code.operands + 1)) }
+        ensures placed { OnOk result (AddsPlaces emitter.old emitter.new
+            (both (here place) (places_of argument.now))) }
     {
         match emitter.slot_of(argument) {
             Some(slot) => emitter.put(argument.place, Op::LoadShared(slot), 0, 1)?,
@@ -77,8 +86,12 @@ impl<F: Fn(&mut Emitter, &Expr, usize, bool) -> Result<(), CompileError>> Coder<
         requires may { (m : _) (e : _) (w : _) → Stands m.now → F.pre self.now.writes m e self.now.depth w }
         requires does { (m : _) (e : _) (w : _) (r : _) (n : _) → F.post self.now.writes m e self.now.depth w r n
             → OnOk r (IsWritten m.now n.now (m.now.code.operands + count w)) }
+        requires adds { (m : _) (e : _) (w : _) (r : _) (n : _) → F.post self.now.writes m e self.now.depth w r n
+            → OnOk r (AddsPlaces m.now n.now (places_of e.now)) }
         requires stands { Stands emitter.old }
-        ensures { OnOk result (IsWritten emitter.old emitter.new (emitter.old.code.operands + 1)) }
+        ensures written { OnOk result (IsWritten emitter.old emitter.new (emitter.old.code.operands + 1)) }
+        ensures placed { OnOk result (AddsPlaces emitter.old emitter.new
+            (both (here place) (list_places arguments.now))) }
     {
         let argc = argc_of(place, arguments.len())?;
         if !emitter.has_function(name, arguments.len())
@@ -103,9 +116,13 @@ impl<F: Fn(&mut Emitter, &Expr, usize, bool) -> Result<(), CompileError>> Coder<
         requires may { (m : _) (e : _) (w : _) → Stands m.now → F.pre self.now.writes m e self.now.depth w }
         requires does { (m : _) (e : _) (w : _) (r : _) (n : _) → F.post self.now.writes m e self.now.depth w r n
             → OnOk r (IsWritten m.now n.now (m.now.code.operands + count w)) }
+        requires adds { (m : _) (e : _) (w : _) (r : _) (n : _) → F.post self.now.writes m e self.now.depth w r n
+            → OnOk r (AddsPlaces m.now n.now (places_of e.now)) }
         requires stands { Stands emitter.old }
         requires room { emitter.old.code.level.floor + 1 ≤ emitter.old.code.operands }
-        ensures { OnOk result (IsWritten emitter.old emitter.new (emitter.old.code.operands)) }
+        ensures written { OnOk result (IsWritten emitter.old emitter.new (emitter.old.code.operands)) }
+        ensures placed { OnOk result (AddsPlaces emitter.old emitter.new
+            (both (here place) (list_places arguments.now))) }
     {
         self.all(emitter, arguments)?;
         let with_value = argc_of(place, arguments.len().saturating_add(1))?;

@@ -19,4 +19,4 @@ mod switches;
 pub use grain_emit::Options;
 pub use grain_lexer::{CompileError, Place, Problem, Thing, report};
 pub use grain_syntax::{MAX_FLAWS, flaws};
-pub use programs::compile;
+pub use programs::{compile, compile_syntax};

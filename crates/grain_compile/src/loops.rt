@@ -1,7 +1,8 @@
 //! The code of loops, and of what leads away.
 ghost use Rattle.std.specs.Prelude.{◌≡◌, ◌+◌, ◌-◌, ◌≤◌, OnOk};
 ghost use Rattle.grain_emit.specs.Loops.{count};
-ghost use Rattle.grain_emit.specs.Rules.{LeadsAway, IsWritten, Stands};
+ghost use Rattle.grain_emit.specs.Rules.{LeadsAway, IsWritten, Stands, AddsPlaces};
+ghost use Rattle.grain_emit.specs.Places.{both, form_places, here, list_places, optional_places, places_of};
 
 use crate::coder::Coder;
 use grain::Op;
@@ -21,8 +22,12 @@ impl<F: Fn(&mut Emitter, &Expr, usize, bool) -> Result<(), CompileError>> Coder<
         requires may { (m : _) (e : _) (w : _) → Stands m.now → F.pre self.now.writes m e self.now.depth w }
         requires does { (m : _) (e : _) (w : _) (r : _) (n : _) → F.post self.now.writes m e self.now.depth w r n
             → OnOk r (IsWritten m.now n.now (m.now.code.operands + count w)) }
+        requires adds { (m : _) (e : _) (w : _) (r : _) (n : _) → F.post self.now.writes m e self.now.depth w r n
+            → OnOk r (AddsPlaces m.now n.now (places_of e.now)) }
         requires stands { Stands emitter.old }
-        ensures { OnOk result (IsWritten emitter.old emitter.new (emitter.old.code.operands + count is_wanted)) }
+        ensures written { OnOk result (IsWritten emitter.old emitter.new (emitter.old.code.operands + count is_wanted)) }
+        ensures placed { OnOk result (AddsPlaces emitter.old emitter.new
+            (both (here place) (form_places form.now))) }
     {
         match form {
             Form::While(condition, body) => {
@@ -52,8 +57,12 @@ impl<F: Fn(&mut Emitter, &Expr, usize, bool) -> Result<(), CompileError>> Coder<
         requires may { (m : _) (e : _) (w : _) → Stands m.now → F.pre self.now.writes m e self.now.depth w }
         requires does { (m : _) (e : _) (w : _) (r : _) (n : _) → F.post self.now.writes m e self.now.depth w r n
             → OnOk r (IsWritten m.now n.now (m.now.code.operands + count w)) }
+        requires adds { (m : _) (e : _) (w : _) (r : _) (n : _) → F.post self.now.writes m e self.now.depth w r n
+            → OnOk r (AddsPlaces m.now n.now (places_of e.now)) }
         requires stands { Stands emitter.old }
-        ensures { OnOk result (IsWritten emitter.old emitter.new (emitter.old.code.operands + count is_wanted)) }
+        ensures written { OnOk result (IsWritten emitter.old emitter.new (emitter.old.code.operands + count is_wanted)) }
+        ensures placed { OnOk result (AddsPlaces emitter.old emitter.new
+            (both (here place) (both (places_of condition.now) (list_places body.now)))) }
     {
         let height = emitter.code.operands();
         let outer = emitter.code.frame()?;
@@ -83,8 +92,12 @@ impl<F: Fn(&mut Emitter, &Expr, usize, bool) -> Result<(), CompileError>> Coder<
         requires may { (m : _) (e : _) (w : _) → Stands m.now → F.pre self.now.writes m e self.now.depth w }
         requires does { (m : _) (e : _) (w : _) (r : _) (n : _) → F.post self.now.writes m e self.now.depth w r n
             → OnOk r (IsWritten m.now n.now (m.now.code.operands + count w)) }
+        requires adds { (m : _) (e : _) (w : _) (r : _) (n : _) → F.post self.now.writes m e self.now.depth w r n
+            → OnOk r (AddsPlaces m.now n.now (places_of e.now)) }
         requires stands { Stands emitter.old }
-        ensures { OnOk result (IsWritten emitter.old emitter.new (emitter.old.code.operands + count is_wanted)) }
+        ensures written { OnOk result (IsWritten emitter.old emitter.new (emitter.old.code.operands + count is_wanted)) }
+        ensures placed { OnOk result (AddsPlaces emitter.old emitter.new
+            (both (here place) (list_places body.now))) }
     {
         let height = emitter.code.operands();
         let outer = emitter.code.frame()?;
@@ -113,8 +126,12 @@ impl<F: Fn(&mut Emitter, &Expr, usize, bool) -> Result<(), CompileError>> Coder<
         requires may { (m : _) (e : _) (w : _) → Stands m.now → F.pre self.now.writes m e self.now.depth w }
         requires does { (m : _) (e : _) (w : _) (r : _) (n : _) → F.post self.now.writes m e self.now.depth w r n
             → OnOk r (IsWritten m.now n.now (m.now.code.operands + count w)) }
+        requires adds { (m : _) (e : _) (w : _) (r : _) (n : _) → F.post self.now.writes m e self.now.depth w r n
+            → OnOk r (AddsPlaces m.now n.now (places_of e.now)) }
         requires stands { Stands emitter.old }
-        ensures { OnOk result (IsWritten emitter.old emitter.new (emitter.old.code.operands + count is_wanted)) }
+        ensures written { OnOk result (IsWritten emitter.old emitter.new (emitter.old.code.operands + count is_wanted)) }
+        ensures placed { OnOk result (AddsPlaces emitter.old emitter.new
+            (both (here place) (both (list_places body.now) (places_of repeats.entry.0.now)))) }
     {
         let (condition, goes_on) = repeats;
         let height = emitter.code.operands();
@@ -147,8 +164,12 @@ impl<F: Fn(&mut Emitter, &Expr, usize, bool) -> Result<(), CompileError>> Coder<
         requires may { (m : _) (e : _) (w : _) → Stands m.now → F.pre self.now.writes m e self.now.depth w }
         requires does { (m : _) (e : _) (w : _) (r : _) (n : _) → F.post self.now.writes m e self.now.depth w r n
             → OnOk r (IsWritten m.now n.now (m.now.code.operands + count w)) }
+        requires adds { (m : _) (e : _) (w : _) (r : _) (n : _) → F.post self.now.writes m e self.now.depth w r n
+            → OnOk r (AddsPlaces m.now n.now (places_of e.now)) }
         requires stands { Stands emitter.old }
-        ensures { OnOk result (IsWritten emitter.old emitter.new (emitter.old.code.operands + count is_wanted)) }
+        ensures written { OnOk result (IsWritten emitter.old emitter.new (emitter.old.code.operands + count is_wanted)) }
+        ensures placed { OnOk result (AddsPlaces emitter.old emitter.new
+            (both (here place) (both (places_of parts.entry.0.now) (list_places parts.entry.1.now)))) }
     {
         let (name, counter) = names;
         let (items, body) = parts;
@@ -185,8 +206,12 @@ impl<F: Fn(&mut Emitter, &Expr, usize, bool) -> Result<(), CompileError>> Coder<
         requires may { (m : _) (e : _) (w : _) → Stands m.now → F.pre self.now.writes m e self.now.depth w }
         requires does { (m : _) (e : _) (w : _) (r : _) (n : _) → F.post self.now.writes m e self.now.depth w r n
             → OnOk r (IsWritten m.now n.now (m.now.code.operands + count w)) }
+        requires adds { (m : _) (e : _) (w : _) (r : _) (n : _) → F.post self.now.writes m e self.now.depth w r n
+            → OnOk r (AddsPlaces m.now n.now (places_of e.now)) }
         requires stands { Stands emitter.old }
-        ensures { OnOk result (IsWritten emitter.old emitter.new (emitter.old.code.operands + count is_wanted)) }
+        ensures written { OnOk result (IsWritten emitter.old emitter.new (emitter.old.code.operands + count is_wanted)) }
+        ensures placed { OnOk result (AddsPlaces emitter.old emitter.new
+            (both (here place) (form_places form.now))) }
     {
         let height = emitter.code.operands();
         let outer = emitter.code.frame()?;
@@ -200,8 +225,12 @@ impl<F: Fn(&mut Emitter, &Expr, usize, bool) -> Result<(), CompileError>> Coder<
         requires may { (m : _) (e : _) (w : _) → Stands m.now → F.pre self.now.writes m e self.now.depth w }
         requires does { (m : _) (e : _) (w : _) (r : _) (n : _) → F.post self.now.writes m e self.now.depth w r n
             → OnOk r (IsWritten m.now n.now (m.now.code.operands + count w)) }
+        requires adds { (m : _) (e : _) (w : _) (r : _) (n : _) → F.post self.now.writes m e self.now.depth w r n
+            → OnOk r (AddsPlaces m.now n.now (places_of e.now)) }
         requires stands { Stands emitter.old }
-        ensures { OnOk result (LeadsAway emitter.old emitter.new) }
+        ensures away { OnOk result (LeadsAway emitter.old emitter.new) }
+        ensures placed { OnOk result (AddsPlaces emitter.old emitter.new
+            (both (here place) (form_places form.now))) }
     {
         match form {
             Form::Return(value) => {
@@ -228,8 +257,12 @@ impl<F: Fn(&mut Emitter, &Expr, usize, bool) -> Result<(), CompileError>> Coder<
         requires may { (m : _) (e : _) (w : _) → Stands m.now → F.pre self.now.writes m e self.now.depth w }
         requires does { (m : _) (e : _) (w : _) (r : _) (n : _) → F.post self.now.writes m e self.now.depth w r n
             → OnOk r (IsWritten m.now n.now (m.now.code.operands + count w)) }
+        requires adds { (m : _) (e : _) (w : _) (r : _) (n : _) → F.post self.now.writes m e self.now.depth w r n
+            → OnOk r (AddsPlaces m.now n.now (places_of e.now)) }
         requires stands { Stands emitter.old }
-        ensures { OnOk result (LeadsAway emitter.old emitter.new) }
+        ensures away { OnOk result (LeadsAway emitter.old emitter.new) }
+        ensures placed { OnOk result (AddsPlaces emitter.old emitter.new
+            (both (here place) (optional_places value.now))) }
     {
         let around = emitter.innermost(place)?;
         if around.is_wanted {

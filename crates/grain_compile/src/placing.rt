@@ -1,16 +1,27 @@
 //! Positions that lie in the text of the script. What was added to the text has none.
-ghost use Rattle.std.specs.Prelude.{◌≡◌, map};
+ghost use Rattle.std.specs.Prelude.{◌≡◌, IfSome, Some, map};
+ghost use Rattle.grain_base.specs.Place.{place_of};
 ghost use Rattle.std.specs.List.{All, flat_map};
 ghost use Rattle.grain_base.specs.declared.position.Position.{Position};
 ghost use Rattle.grain_pools.specs.Chain.{positions, root_positions, root_shape, shape, step_positions, step_shape};
 ghost use Rattle.grain_compile.specs.Positions.{IsListedPosition};
 
 use grain::{Chain, Position, Root, Step};
+use grain_emit::position;
 use grain_lexer::{Lines, Place};
+
+/// The place as a position, or none where it lies in none of the lines.
+pub(crate) fn kept_place(place: Place, lines: &Lines) -> Position
+    ensures listed { IsListedPosition lines.now.lengths.items result }
+    ensures own { IfSome (place_of result) (λ p. place ≡ record { line = p.0; column = p.1 }) }
+{
+    kept(position(place), lines)
+}
 
 /// The position, or none where it lies in none of the lines.
 pub(crate) fn kept(position: Position, lines: &Lines) -> Position
-    ensures { IsListedPosition lines.now.lengths.items result }
+    ensures listed { IsListedPosition lines.now.lengths.items result }
+    ensures same { IfSome (place_of result) (λ p. place_of position ≡ Some p) }
 {
     let (Some(line), Some(column)) = (position.line(), position.position()) else {
         return Position::NONE;

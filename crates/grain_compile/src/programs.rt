@@ -1,16 +1,20 @@
 //! Whole programs.
-ghost use Rattle.std.specs.Prelude.{◌≡◌, ◌≤◌, IfErr, IfOk, None, OnOk};
+ghost use Rattle.std.specs.Prelude.{◌≡◌, ◌≤◌, [], IfErr, IfOk, IfSome, None, OnOk};
 ghost use Rattle.grain_rules.specs.Accepted.{AreDeepest, IsAccepted};
 ghost use Rattle.grain.specs.Program.{declared_by, input_of};
 ghost use Rattle.grain_compile.specs.Chunks.{BeginsChunk};
-ghost use Rattle.grain_compile.specs.Positions.{ArePositions, IsListedPosition, IsPositionOf};
+ghost use Rattle.grain_compile.specs.Positions.{ArePositions, IsListedPosition, IsPositionAmong, IsPositionOf};
+ghost use Rattle.grain_emit.specs.Bodies.{bodies_places, body_places};
+ghost use Rattle.grain_emit.specs.Places.{both, here, script_places, syntax_places};
+ghost use Rattle.grain_emit.specs.Rules.{AddsPlaces};
+ghost use Rattle.std.specs.List.{All};
 ghost use Rattle.grain_lexer.specs.Places.{HasPlaces};
 
 use crate::building::{finish, head_of};
 use crate::coder::{Coder, expr};
 use crate::prelude::{needed, with_functions};
 use grain::{Head, Op, Program};
-use grain_emit::{Emitter, Options, Pools, global_constants, split_functions};
+use grain_emit::{Body, Emitter, Options, Pools, global_constants, split_functions};
 use grain_lexer::{CompileError, Lines, Place};
 use grain_syntax::{Expr, MAX_DEPTH, Syntax, parse};
 use std::alloc::Global;
@@ -58,14 +62,18 @@ fn compiled_text(
     let lines = Lines::new(alloc, source)?;
     let functions = needed(alloc, &syntax)?;
     if functions.is_empty() {
-        return compiled(alloc, options, syntax, &lines);
+        return compile_syntax(alloc, options, syntax, &lines);
     }
     let text = with_functions(alloc, source, functions.as_str())?;
-    compiled(alloc, options, parse(alloc, text.as_str())?, &lines)
+    compile_syntax(alloc, options, parse(alloc, text.as_str())?, &lines)
 }
 
-/// Compiles a syntax tree. Only what lies in these lines has positions.
-fn compiled(
+/// Compiles a syntax tree, as [`compile`] does a source text. The position of each operation is the place of a form of the tree,
+/// if that lies in these lines, and none otherwise.
+///
+/// # Errors
+/// As [`compile`]. Nothing is proved of places that errors name.
+pub fn compile_syntax(
     alloc: Global,
     options: &Options,
     syntax: Syntax,
@@ -73,6 +81,8 @@ fn compiled(
 ) -> Result<(Program, Vec<u16>), CompileError>
     ensures positions { IfOk result
         (λ built. ArePositions (IsListedPosition lines.now.lengths.items) built.0) }
+    ensures placed { IfOk result
+        (λ built. IfSome built.0.positions (All (IsPositionAmong (syntax_places syntax)))) }
     ensures accepted { IfOk result (λ built. IsAccepted (input_of built.0)) }
     ensures declared { IfOk result (λ built. declared_by built.0 ≡ built.1.items) }
     ensures deepest { IfOk result (λ built. AreDeepest (input_of built.0) built.1.items) }
@@ -93,15 +103,13 @@ fn compiled(
 
 /// The code of the top level and of the functions, and what each function has except for its chunk. A closure comes after the
 /// code that makes it, which captures its variables.
-fn chunks(
-    emitter: &mut Emitter,
-    body: &[Expr],
-    bodies: &[Vec<Expr>],
-) -> Result<Vec<Head>, CompileError>
+fn chunks(emitter: &mut Emitter, body: &[Expr], bodies: &[Body]) -> Result<Vec<Head>, CompileError>
     requires around { emitter.old.scope.around ≡ None }
     requires begun { BeginsChunk emitter.old.code }
     ensures closed { OnOk result (emitter.new.code.pending ≡ 0) }
     ensures ended { OnOk result (1 ≤ emitter.new.code.level.home) }
+    ensures placed { OnOk result (AddsPlaces emitter.old emitter.new
+        (both (script_places body.now) (bodies_places bodies.now))) }
 {
     let mut heads = Vec::new(emitter.alloc);
     main_chunk(emitter, body)?;
@@ -119,6 +127,7 @@ fn main_chunk(emitter: &mut Emitter, body: &[Expr]) -> Result<(), CompileError>
     requires begun { BeginsChunk emitter.old.code }
     ensures begun { OnOk result (BeginsChunk emitter.new.code) }
     ensures ended { OnOk result (1 ≤ emitter.new.code.level.home) }
+    ensures placed { OnOk result (AddsPlaces emitter.old emitter.new (script_places body.now)) }
 {
     let Some((last, others)) = body.split_last() else {
         emitter.put(Place::START, Op::Unit, 0, 1)?;
@@ -133,17 +142,19 @@ fn main_chunk(emitter: &mut Emitter, body: &[Expr]) -> Result<(), CompileError>
     ended(emitter, last.place)
 }
 
-fn function_chunk(emitter: &mut Emitter, index: usize, body: &[Expr]) -> Result<(), CompileError>
+fn function_chunk(emitter: &mut Emitter, index: usize, body: &Body) -> Result<(), CompileError>
     requires { BeginsChunk emitter.old.code }
     ensures begun { OnOk result (BeginsChunk emitter.new.code) }
     ensures ended { OnOk result (1 ≤ emitter.new.code.level.home) }
+    ensures placed { OnOk result (AddsPlaces emitter.old emitter.new (body_places body.now)) }
 {
-    let place = emitter.begin_function(index)?;
+    emitter.begin_function(index)?;
+    let place = body.place;
     let coder = Coder {
         depth: MAX_LEVELS,
         writes: expr,
     };
-    coder.statements(emitter, place, body, true)?;
+    coder.statements(emitter, place, &body.statements, true)?;
     ended(emitter, place)
 }
 
@@ -153,6 +164,7 @@ fn ended(emitter: &mut Emitter, place: Place) -> Result<(), CompileError>
     requires closed { emitter.old.code.pending ≡ 0 }
     ensures begun { OnOk result (BeginsChunk emitter.new.code) }
     ensures ended { OnOk result (1 ≤ emitter.new.code.level.home) }
+    ensures placed { OnOk result (AddsPlaces emitter.old emitter.new (here place)) }
 {
     emitter.code.stop(place, Op::Return, 0, 0)?;
     emitter.code.end_chunk()

@@ -1,9 +1,10 @@
 //! The code of switches.
-ghost use Rattle.std.specs.Prelude.{◌≡◌, ◌+◌, ◌-◌, ◌<◌, ◌≤◌, OnOk, Some, slice_get};
+ghost use Rattle.std.specs.Prelude.{◌≡◌, IfSome, true, ◌+◌, ◌-◌, ◌<◌, ◌≤◌, OnOk, Some, slice_get};
 ghost use Rattle.grain_assembly.specs.Unfinished.{StaysIn, spot};
 ghost use Rattle.grain_emit.specs.Loops.{count};
-ghost use Rattle.grain_emit.specs.Rules.{IsWritten, Stands};
+ghost use Rattle.grain_emit.specs.Rules.{IsWritten, Stands, AddsPlaces};
 ghost use Rattle.grain_emit.specs.Switches.{AreArms};
+ghost use Rattle.grain_emit.specs.Places.{pass, arm_places, arms_places, both, here, places_of};
 
 use crate::coder::Coder;
 use grain::Op;
@@ -23,8 +24,12 @@ impl<F: Fn(&mut Emitter, &Expr, usize, bool) -> Result<(), CompileError>> Coder<
         requires may { (m : _) (e : _) (w : _) → Stands m.now → F.pre self.now.writes m e self.now.depth w }
         requires does { (m : _) (e : _) (w : _) (r : _) (n : _) → F.post self.now.writes m e self.now.depth w r n
             → OnOk r (IsWritten m.now n.now (m.now.code.operands + count w)) }
+        requires adds { (m : _) (e : _) (w : _) (r : _) (n : _) → F.post self.now.writes m e self.now.depth w r n
+            → OnOk r (AddsPlaces m.now n.now (places_of e.now)) }
         requires stands { Stands emitter.old }
-        ensures { OnOk result (IsWritten emitter.old emitter.new (emitter.old.code.operands + count is_wanted)) }
+        ensures written { OnOk result (IsWritten emitter.old emitter.new (emitter.old.code.operands + count is_wanted)) }
+        ensures placed { OnOk result (AddsPlaces emitter.old emitter.new
+            (both (here place) (both (places_of subject.now) (arms_places arms.now)))) }
     {
         check_arms(emitter.alloc, arms)?;
         self.expr(emitter, subject, true)?;
@@ -51,6 +56,8 @@ impl<F: Fn(&mut Emitter, &Expr, usize, bool) -> Result<(), CompileError>> Coder<
         requires may { (m : _) (e : _) (w : _) → Stands m.now → F.pre self.now.writes m e self.now.depth w }
         requires does { (m : _) (e : _) (w : _) (r : _) (n : _) → F.post self.now.writes m e self.now.depth w r n
             → OnOk r (IsWritten m.now n.now (m.now.code.operands + count w)) }
+        requires adds { (m : _) (e : _) (w : _) (r : _) (n : _) → F.post self.now.writes m e self.now.depth w r n
+            → OnOk r (AddsPlaces m.now n.now (places_of e.now)) }
         requires stands { Stands emitter.old }
         requires room { emitter.old.code.level.floor + 1 ≤ emitter.old.code.operands }
         requires arms { AreArms labels.now emitter.old.code.operands emitter.old.code }
@@ -64,6 +71,8 @@ impl<F: Fn(&mut Emitter, &Expr, usize, bool) -> Result<(), CompileError>> Coder<
         ensures outers { OnOk result (StaysIn emitter.old.code.outers emitter.new.code.outers) }
         ensures pending { OnOk result (emitter.new.code.pending + which.entry.0 ≡ labels.now.first) }
         ensures around { OnOk result (emitter.new.scope.around ≡ emitter.old.scope.around) }
+        ensures placed { OnOk result (AddsPlaces emitter.old emitter.new
+            (both (arms_places arms.now) (arm_places which.entry.1.now))) }
     {
         let (index, arm) = which;
         let operands = emitter.code.operands();
@@ -85,12 +94,15 @@ impl<F: Fn(&mut Emitter, &Expr, usize, bool) -> Result<(), CompileError>> Coder<
         requires may { (m : _) (e : _) (w : _) → Stands m.now → F.pre self.now.writes m e self.now.depth w }
         requires does { (m : _) (e : _) (w : _) (r : _) (n : _) → F.post self.now.writes m e self.now.depth w r n
             → OnOk r (IsWritten m.now n.now (m.now.code.operands + count w)) }
+        requires adds { (m : _) (e : _) (w : _) (r : _) (n : _) → F.post self.now.writes m e self.now.depth w r n
+            → OnOk r (AddsPlaces m.now n.now (places_of e.now)) }
         requires stands { Stands emitter.old }
         requires room { emitter.old.code.level.floor + 1 ≤ emitter.old.code.operands }
         requires arms { AreArms labels.now emitter.old.code.operands emitter.old.code }
-        ensures { OnOk result (IsWritten emitter.old emitter.new (emitter.old.code.operands)) }
+        ensures written { OnOk result (IsWritten emitter.old emitter.new (emitter.old.code.operands)) }
+        ensures placed { OnOk result (AddsPlaces emitter.old emitter.new (arms_places arms.now)) }
     {
-        let Some(arm) = arms.get(index) else {
+        let Some(arm) = arm_at(arms, index) else {
             return Ok(());
         };
         let Some(condition) = &arm.condition else {
@@ -103,4 +115,12 @@ impl<F: Fn(&mut Emitter, &Expr, usize, bool) -> Result<(), CompileError>> Coder<
         emitter.dispatch(condition.place, arms, labels, index.saturating_add(1))?;
         emitter.code.bind(body)
     }
+}
+
+/// The arm with this index, if there is one.
+fn arm_at(arms: &[Arm], index: usize) -> Option<&Arm>
+    ensures { IfSome result (λ a. (test : _) → pass test (arms_places arms.now) ≡ true
+        → pass test (arm_places a.now) ≡ true) }
+{
+    arms.get(index)
 }

@@ -1,2 +1,4 @@
 pub mod ArmLabels
 pub mod LoopFacts
+pub mod OneOf
+pub mod PlaceTests

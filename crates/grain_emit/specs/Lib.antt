@@ -1,3 +1,5 @@
+pub mod Bodies
 pub mod Loops
+pub mod Places
 pub mod Rules
 pub mod Switches

@@ -1,7 +1,10 @@
 -- What rules that write code find, and what they leave.
-use Rattle.std.specs.Prelude.{◌≡◌, ℕ, ◌≤◌, false}
+use Rattle.std.specs.Prelude.{◌≡◌, ℕ, ◌≤◌, Bool, true, false}
+use Rattle.std.specs.List.{list_all}
 use Rattle.grain_assembly.specs.Unfinished.{StaysIn}
 use Rattle.grain_emit.specs.Loops.{CanLeave}
+use Rattle.grain_emit.specs.Places.{Places, pass}
+use Rattle.grain_lexer.specs.declared.error.Place.{Place}
 use Rattle.grain_emit.specs.declared.emitter.Emitter.{Emitter}
 
 -- What is on the stacks stays, and the innermost loop can be left.
@@ -27,3 +30,7 @@ pub record LeadsAway (old new : Emitter) : Type 0 where
   pub pending : new.code.pending ≡ old.code.pending
   pub loose : new.code.fixed ≡ false
   pub loop : new.scope.around ≡ old.scope.around
+
+-- Each operation that was added has one of these places. It is said by tests: what all old places and these pass, all new ones do.
+abbrev pub AddsPlaces : Emitter → Emitter → Places → Type 0
+AddsPlaces old new these = (test : Place → Bool) → pass test these ≡ true → list_all test old.code.places ≡ true → list_all test new.code.places ≡ true

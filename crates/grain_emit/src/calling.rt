@@ -1,6 +1,7 @@
 //! Calls, function pointers and closures.
 ghost use Rattle.std.specs.Prelude.{◌≡◌, ◌+◌, ◌-◌, ◌≤◌, OnOk};
-ghost use Rattle.grain_emit.specs.Rules.{IsWritten};
+ghost use Rattle.grain_emit.specs.Rules.{IsWritten, AddsPlaces};
+ghost use Rattle.grain_emit.specs.Places.{here};
 
 use crate::emitter::Emitter;
 use crate::scope::Local;
@@ -98,7 +99,8 @@ impl Emitter {
         argc: u8,
     ) -> Result<(), CompileError>
         requires { self.old.code.level.floor + (argc - 1) ≤ self.old.code.operands }
-        ensures { OnOk result (IsWritten self.old self.new (self.old.code.operands - (argc - 1) + 1)) }
+        ensures written { OnOk result (IsWritten self.old self.new (self.old.code.operands - (argc - 1) + 1)) }
+        ensures placed { OnOk result (AddsPlaces self.old self.new (here place)) }
     {
         let call = Op::CallRef {
             name,
@@ -129,7 +131,8 @@ impl Emitter {
         is_method: bool,
     ) -> Result<(), CompileError>
         requires { self.old.code.level.floor + argc + 1 ≤ self.old.code.operands }
-        ensures { OnOk result (IsWritten self.old self.new (self.old.code.operands - argc)) }
+        ensures written { OnOk result (IsWritten self.old self.new (self.old.code.operands - argc)) }
+        ensures placed { OnOk result (AddsPlaces self.old self.new (here place)) }
     {
         let call = Op::CallFnPtr {
             argc,
@@ -149,7 +152,8 @@ impl Emitter {
         argc: u8,
     ) -> Result<(), CompileError>
         requires { self.old.code.level.floor + argc + 1 ≤ self.old.code.operands }
-        ensures { OnOk result (IsWritten self.old self.new (self.old.code.operands - argc)) }
+        ensures written { OnOk result (IsWritten self.old self.new (self.old.code.operands - argc)) }
+        ensures placed { OnOk result (AddsPlaces self.old self.new (here place)) }
     {
         let call = Op::CallFnPtr {
             argc,
@@ -163,7 +167,8 @@ impl Emitter {
     /// Binds this many arguments to the function pointer below them.
     pub fn curry(&mut self, place: Place, argc: u8) -> Result<(), CompileError>
         requires { self.old.code.level.floor + argc + 1 ≤ self.old.code.operands }
-        ensures { OnOk result (IsWritten self.old self.new (self.old.code.operands - argc)) }
+        ensures written { OnOk result (IsWritten self.old self.new (self.old.code.operands - argc)) }
+        ensures placed { OnOk result (AddsPlaces self.old self.new (here place)) }
     {
         self.put(place, Op::Curry(argc), usize::from(argc) + 1, 1)
     }
@@ -171,7 +176,8 @@ impl Emitter {
     /// A pointer to a closure. Each variable that it captures becomes a shared value, which is bound to the pointer.
     pub fn closure(&mut self, place: Place, index: usize) -> Result<(), CompileError>
         requires { self.old.code.level.floor ≤ self.old.code.operands }
-        ensures { OnOk result (IsWritten self.old self.new (self.old.code.operands + 1)) }
+        ensures written { OnOk result (IsWritten self.old self.new (self.old.code.operands + 1)) }
+        ensures placed { OnOk result (AddsPlaces self.old self.new (here place)) }
     {
         let Some(signature) = self.signatures.get(index) else {
             return self.put(place, Op::Unit, 0, 1);
@@ -189,7 +195,8 @@ impl Emitter {
     /// Shares the variables in these slots, and binds them to the pointer on top.
     fn bind_captured(&mut self, place: Place, slots: &[u16]) -> Result<(), CompileError>
         requires { self.old.code.level.floor + 1 ≤ self.old.code.operands }
-        ensures { OnOk result (IsWritten self.old self.new self.old.code.operands) }
+        ensures written { OnOk result (IsWritten self.old self.new self.old.code.operands) }
+        ensures placed { OnOk result (AddsPlaces self.old self.new (here place)) }
     {
         let argc = argc_of(place, slots.len())?;
         if argc == 0 {

@@ -1,7 +1,8 @@
 //! Chains.
 ghost use Rattle.std.specs.Prelude.{◌≡◌, ◌+◌, ◌-◌, ◌≤◌, OnOk};
 ghost use Rattle.grain_pools.specs.Chain.{consumed};
-ghost use Rattle.grain_emit.specs.Rules.{IsWritten};
+ghost use Rattle.grain_emit.specs.Rules.{IsWritten, AddsPlaces};
+ghost use Rattle.grain_emit.specs.Places.{here};
 
 use crate::emitter::Emitter;
 use crate::positions::position;
@@ -31,7 +32,8 @@ impl Emitter {
     /// Moves the value below this many operands above them.
     pub fn raise(&mut self, place: Place, operands: u16) -> Result<(), CompileError>
         requires { self.old.code.level.floor + operands + 1 ≤ self.old.code.operands }
-        ensures { OnOk result (IsWritten self.old self.new self.old.code.operands) }
+        ensures written { OnOk result (IsWritten self.old self.new self.old.code.operands) }
+        ensures placed { OnOk result (AddsPlaces self.old self.new (here place)) }
     {
         let depth = argc_of(place, usize::from(operands))?;
         let turned = usize::from(depth) + 1;
@@ -44,7 +46,8 @@ impl Emitter {
     /// A chain, which takes its operands, its root and what it assigns, and gives one.
     pub fn chain(&mut self, place: Place, chain: Chain) -> Result<(), CompileError>
         requires { self.old.code.level.floor + consumed chain ≤ self.old.code.operands }
-        ensures { OnOk result (IsWritten self.old self.new (self.old.code.operands - consumed chain + 1)) }
+        ensures written { OnOk result (IsWritten self.old self.new (self.old.code.operands - consumed chain + 1)) }
+        ensures placed { OnOk result (AddsPlaces self.old self.new (here place)) }
     {
         self.code.chain(place, chain)
     }

@@ -7,7 +7,7 @@ use crate::options::Options;
 use crate::pools::Pools;
 use crate::scope::{Local, Scope};
 use grain_assembly::Assembler;
-use grain_lexer::{CompileError, Place};
+use grain_lexer::CompileError;
 use grain_syntax::Literal;
 use std::alloc::Global;
 use std::collections::HashMap;
@@ -22,8 +22,15 @@ impl Emitter {
         constants: HashMap<u32, Literal>,
     ) -> Emitter
         ensures around { result.scope.around ≡ None }
-        ensures code { result.code
-            ≡ record { operands = 0; level = fresh 0; labels = []; outers = []; pending = 0; fixed = true } }
+        ensures code { result.code ≡ record {
+          operands = 0;
+          level = fresh 0;
+          labels = [];
+          outers = [];
+          pending = 0;
+          fixed = true;
+          places = [];
+        } }
     {
         Emitter {
             alloc,
@@ -37,17 +44,16 @@ impl Emitter {
     }
 
     /// The code of a function begins, whose variables are its parameters.
-    pub fn begin_function(&mut self, index: usize) -> Result<Place, CompileError>
+    pub fn begin_function(&mut self, index: usize) -> Result<(), CompileError>
         ensures code { OnOk result (self.new.code ≡ self.old.code) }
         ensures around { OnOk result (self.new.scope.around ≡ None) }
     {
         let Some(signature) = self.signatures.get(index) else {
             self.scope = Scope::new(self.alloc);
-            return Ok(Place::NONE);
+            return Ok(());
         };
-        let place = signature.place;
         self.scope = scope_of(self.alloc, signature)?;
-        Ok(place)
+        Ok(())
     }
 }
 

@@ -5,8 +5,9 @@
 ghost use Rattle.std.specs.Prelude.{◌≡◌, ◌+◌, ◌-◌, ◌≤◌, IfOk, OnOk, Some, false, length, slice_get};
 ghost use Rattle.grain_assembly.specs.Unfinished.{spot};
 ghost use Rattle.grain_emit.specs.Loops.{count};
-ghost use Rattle.grain_emit.specs.Rules.{IsWritten};
+ghost use Rattle.grain_emit.specs.Rules.{IsWritten, AddsPlaces};
 ghost use Rattle.grain_emit.specs.Switches.{AreArms, LeadToArms};
+ghost use Rattle.grain_emit.specs.Places.{here};
 
 use crate::emitter::Emitter;
 use crate::table::{Leading, Spanning, Table};
@@ -94,6 +95,7 @@ impl Emitter {
         ensures end { IfOk result (λ l. slice_get self.new.code.labels l.end
             ≡ Some (spot (self.old.code.operands - 1 + count is_wanted) self.old.code.level)) }
         ensures outer { IfOk result (λ l. slice_get self.new.code.outers l.end ≡ Some self.old.code.pending) }
+        ensures places { OnOk result (self.new.code.places ≡ self.old.code.places) }
     {
         let operands = self.code.operands();
         let end = self.code.label(height_with(operands - 1, is_wanted))?;
@@ -117,6 +119,7 @@ impl Emitter {
         requires arms { AreArms labels.now self.old.code.operands self.old.code }
         ensures written { OnOk result (IsWritten self.old self.new self.old.code.operands) }
         ensures loose { OnOk result (self.new.code.fixed ≡ false) }
+        ensures placed { OnOk result (AddsPlaces self.old self.new (here place)) }
     {
         let Draft { table, targets, .. } = self.drafted(arms, labels, from)?;
         let _index = self.code.switch(place, targets)?;

@@ -2,7 +2,8 @@
 ghost use Rattle.std.specs.Prelude.{◌≡◌, ◌+◌, ◌-◌, ◌≤◌, OnOk, Some, length, slice_get};
 ghost use Rattle.grain_rules.specs.Counts.{without_last};
 ghost use Rattle.grain_assembly.specs.Unfinished.{SameLabels, spot, level_with_handler};
-ghost use Rattle.grain_emit.specs.Rules.{LeadsAway, IsWritten, Stands};
+ghost use Rattle.grain_emit.specs.Rules.{LeadsAway, IsWritten, Stands, AddsPlaces};
+ghost use Rattle.grain_emit.specs.Places.{here};
 
 use crate::emitter::Emitter;
 use crate::scope::Local;
@@ -26,6 +27,7 @@ impl Emitter {
             ≡ level_with_handler self.old.code.operands self.old.code.level) }
         ensures labels { OnOk result (SameLabels self.old.code self.new.code) }
         ensures scope { OnOk result (self.new.scope ≡ self.old.scope) }
+        ensures placed { OnOk result (AddsPlaces self.old self.new (here place)) }
     {
         if let Some(name) = name {
             check_index(place, Pool::Names, name)?;
@@ -54,7 +56,8 @@ impl Emitter {
         fault: Option<u32>,
     ) -> Result<(), CompileError>
         requires { self.old.code.level.floor ≤ self.old.code.operands }
-        ensures { OnOk result (IsWritten self.old self.new self.old.code.operands) }
+        ensures written { OnOk result (IsWritten self.old self.new self.old.code.operands) }
+        ensures placed { OnOk result (AddsPlaces self.old self.new (here place)) }
     {
         let Some(fault) = fault else {
             return Ok(());
@@ -82,7 +85,8 @@ impl Emitter {
         binding: Binding,
     ) -> Result<u16, CompileError>
         requires { self.old.code.level.floor ≤ self.old.code.operands }
-        ensures { OnOk result (IsWritten self.old self.new self.old.code.operands) }
+        ensures written { OnOk result (IsWritten self.old self.new self.old.code.operands) }
+        ensures placed { OnOk result (AddsPlaces self.old self.new (here place)) }
     {
         self.put(place, Op::LoadNamed(fault), 0, 1)?;
         self.declare(place, Local::variable(binding))
@@ -91,7 +95,8 @@ impl Emitter {
     /// `throw` without a value: it raises the fault again that the innermost `catch` has, and else throws unit.
     pub fn throw_again(&mut self, place: Place) -> Result<(), CompileError>
         requires { self.old.code.level.floor ≤ self.old.code.operands }
-        ensures { OnOk result (LeadsAway self.old self.new) }
+        ensures away { OnOk result (LeadsAway self.old self.new) }
+        ensures placed { OnOk result (AddsPlaces self.old self.new (here place)) }
     {
         match self.scope.caught {
             Some(slot) => self.put(place, Op::LoadLocal(slot), 0, 1)?,
@@ -103,7 +108,8 @@ impl Emitter {
     /// Throws the value on top.
     pub fn throw(&mut self, place: Place) -> Result<(), CompileError>
         requires { self.old.code.level.floor + 1 ≤ self.old.code.operands }
-        ensures { OnOk result (LeadsAway self.old self.new) }
+        ensures away { OnOk result (LeadsAway self.old self.new) }
+        ensures placed { OnOk result (AddsPlaces self.old self.new (here place)) }
     {
         self.code.stop(place, Op::Throw, 1, 0)
     }

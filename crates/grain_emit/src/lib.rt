@@ -29,6 +29,6 @@ pub use options::Options;
 pub use pools::Pools;
 pub use positions::position;
 pub use scope::{Found, Local, Loop, Scope};
-pub use signatures::{global_constants, split_functions};
+pub use signatures::{Body, global_constants, split_functions};
 pub use table::{Leading, Spanning, Table};
 pub use writing::{argc_of, height_with, len_of};

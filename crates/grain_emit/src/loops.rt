@@ -2,7 +2,8 @@
 ghost use Rattle.std.specs.Prelude.{◌≡◌, ◌+◌, ◌-◌, ◌≤◌, IfOk, OnOk, Some, false, slice_get, true};
 ghost use Rattle.grain_assembly.specs.Unfinished.{StaysIn, SameLabels, guarded, spot, level_without_iterator};
 ghost use Rattle.grain_emit.specs.Loops.{IsBare, count};
-ghost use Rattle.grain_emit.specs.Rules.{LeadsAway, IsWritten, Stands};
+ghost use Rattle.grain_emit.specs.Rules.{LeadsAway, IsWritten, Stands, AddsPlaces};
+ghost use Rattle.grain_emit.specs.Places.{here};
 
 use crate::emitter::Emitter;
 use crate::scope::{Local, Loop};
@@ -37,6 +38,7 @@ impl Emitter {
             ≡ Some self.old.code.pending) }
         ensures pending { IfOk result (λ l. self.new.code.pending ≡ l.next + 1) }
         ensures stands { OnOk result (Stands self.new) }
+        ensures places { OnOk result (self.new.code.places ≡ self.old.code.places) }
     {
         let height = self.code.operands();
         let handlers = self.code.handlers();
@@ -68,6 +70,7 @@ impl Emitter {
         ensures operands { OnOk result (self.new.code.operands ≡ self.old.code.operands) }
         ensures level { OnOk result (self.new.code.level ≡ self.old.code.level) }
         ensures scope { OnOk result (self.new.scope ≡ self.old.scope) }
+        ensures places { OnOk result (self.new.code.places ≡ self.old.code.places) }
     {
         self.code.bind(label)?;
         Ok(())
@@ -86,6 +89,7 @@ impl Emitter {
         ensures operands { OnOk result (self.new.code.operands ≡ self.old.code.operands) }
         ensures level { OnOk result (self.new.code.level ≡ self.old.code.level) }
         ensures around { OnOk result (self.new.scope.around ≡ self.old.scope.around) }
+        ensures placed { OnOk result (AddsPlaces self.old self.new (here place)) }
     {
         self.bind(label)?;
         self.put(place, Op::Tick, 0, 0)
@@ -102,7 +106,8 @@ impl Emitter {
         requires one { self.old.code.level.least + 1 ≤ self.old.code.level.iterators }
         requires there { slice_get self.old.code.labels exit
             ≡ Some (spot self.old.code.operands (level_without_iterator self.old.code.level)) }
-        ensures { OnOk result (IsWritten self.old self.new self.old.code.operands) }
+        ensures written { OnOk result (IsWritten self.old self.new self.old.code.operands) }
+        ensures placed { OnOk result (AddsPlaces self.old self.new (here place)) }
     {
         let (slot, counter) = slots;
         self.code.advance(place, exit, counter)?;
@@ -122,7 +127,8 @@ impl Emitter {
     /// `continue`
     pub fn go_on(&mut self, place: Place) -> Result<(), CompileError>
         requires { Stands self.old }
-        ensures { OnOk result (LeadsAway self.old self.new) }
+        ensures away { OnOk result (LeadsAway self.old self.new) }
+        ensures placed { OnOk result (AddsPlaces self.old self.new (here place)) }
     {
         let around = self.innermost(place)?;
         self.disarm_down(place, around)?;
@@ -137,7 +143,8 @@ impl Emitter {
         requires stands { Stands self.old }
         requires is { self.old.scope.around ≡ Some around }
         requires unwanted { around.is_wanted ≡ false }
-        ensures { OnOk result (LeadsAway self.old self.new) }
+        ensures away { OnOk result (LeadsAway self.old self.new) }
+        ensures placed { OnOk result (AddsPlaces self.old self.new (here place)) }
     {
         self.disarm_down(place, around)?;
         self.drop_walk(place, around.walks)?;
@@ -153,7 +160,8 @@ impl Emitter {
         requires is { self.old.scope.around ≡ Some around }
         requires wanted { around.is_wanted ≡ true }
         requires room { self.old.code.level.floor + 1 ≤ self.old.code.operands }
-        ensures { OnOk result (LeadsAway self.old self.new) }
+        ensures away { OnOk result (LeadsAway self.old self.new) }
+        ensures placed { OnOk result (AddsPlaces self.old self.new (here place)) }
     {
         self.disarm_down(place, around)?;
         self.drop_walk(place, around.walks)?;
@@ -173,6 +181,7 @@ impl Emitter {
         ensures home { OnOk result (self.new.code.level.home ≡ self.old.code.level.home) }
         ensures labels { OnOk result (SameLabels self.old.code self.new.code) }
         ensures scope { OnOk result (self.new.scope ≡ self.old.scope) }
+        ensures placed { OnOk result (AddsPlaces self.old self.new (here place)) }
     {
         let handlers = self.code.handlers() - around.handlers;
         self.code.drop_handlers(place, handlers)
@@ -187,6 +196,7 @@ impl Emitter {
         }) }
         ensures labels { OnOk result (SameLabels self.old.code self.new.code) }
         ensures scope { OnOk result (self.new.scope ≡ self.old.scope) }
+        ensures placed { OnOk result (AddsPlaces self.old self.new (here place)) }
     {
         if walks {
             return self.code.drop_iterator(place);
@@ -201,7 +211,8 @@ impl Emitter {
         counter: Option<Binding>,
     ) -> Result<Option<u16>, CompileError>
         requires { self.old.code.level.floor ≤ self.old.code.operands }
-        ensures { OnOk result (IsWritten self.old self.new self.old.code.operands) }
+        ensures written { OnOk result (IsWritten self.old self.new self.old.code.operands) }
+        ensures placed { OnOk result (AddsPlaces self.old self.new (here place)) }
     {
         let Some(counter) = counter else {
             return Ok(None);

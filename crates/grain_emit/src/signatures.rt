@@ -1,16 +1,30 @@
 //! Functions apart from their bodies, and constants that all functions see.
+ghost use Rattle.std.specs.Prelude.{◌≡◌, IfOk};
+ghost use Rattle.grain_emit.specs.Bodies.{bodies_places};
+ghost use Rattle.grain_emit.specs.Places.{functions_places};
 
 use crate::emitter::Signature;
-use grain_lexer::{CompileError, Problem, Thing};
+use grain_lexer::{CompileError, Place, Problem, Thing};
 use grain_syntax::{Expr, Form, Function, Literal};
 use std::alloc::Global;
 use std::collections::{HashMap, HashSet};
+
+/// The statements of a function, and where it begins.
+#[derive(Drop)]
+pub struct Body {
+    /// Where it begins.
+    pub place: Place,
+    /// Its statements.
+    pub statements: Vec<Expr>,
+}
 
 /// The signatures of functions, apart from their bodies.
 pub fn split_functions(
     alloc: Global,
     functions: Vec<Function>,
-) -> Result<(Vec<Signature>, Vec<Vec<Expr>>), CompileError> {
+) -> Result<(Vec<Signature>, Vec<Body>), CompileError>
+    ensures { IfOk result (λ split. bodies_places split.1.items ≡ functions_places functions.items) }
+{
     let mut signatures = Vec::new(alloc);
     let mut bodies = Vec::new(alloc);
     for function in functions {
@@ -25,7 +39,10 @@ pub fn split_functions(
             uses: function.uses,
             captured: Vec::new(alloc),
         })?;
-        bodies.push(function.body)?;
+        bodies.push(Body {
+            place: function.place,
+            statements: function.body,
+        })?;
     }
     Ok((signatures, bodies))
 }

@@ -1,6 +1,7 @@
 //! Variables.
 ghost use Rattle.std.specs.Prelude.{◌≡◌, ◌+◌, ◌-◌, ◌≤◌, OnOk};
-ghost use Rattle.grain_emit.specs.Rules.{IsWritten};
+ghost use Rattle.grain_emit.specs.Rules.{IsWritten, AddsPlaces};
+ghost use Rattle.grain_emit.specs.Places.{here};
 
 use crate::emitter::Emitter;
 use crate::scope::{Found, Local, slot_of};
@@ -51,7 +52,8 @@ impl Emitter {
     /// The value of `global::NAME`.
     pub fn qualified(&mut self, place: Place, space: u32, name: u32) -> Result<(), CompileError>
         requires { self.old.code.level.floor ≤ self.old.code.operands }
-        ensures { OnOk result (IsWritten self.old self.new (self.old.code.operands + 1)) }
+        ensures written { OnOk result (IsWritten self.old self.new (self.old.code.operands + 1)) }
+        ensures placed { OnOk result (AddsPlaces self.old self.new (here place)) }
     {
         let is_global = self.pools.names.get(space) == "global";
         match self.constants.get(&name).copied() {
@@ -63,7 +65,8 @@ impl Emitter {
     /// The value of a variable.
     pub fn load(&mut self, place: Place, name: u32) -> Result<(), CompileError>
         requires { self.old.code.level.floor ≤ self.old.code.operands }
-        ensures { OnOk result (IsWritten self.old self.new (self.old.code.operands + 1)) }
+        ensures written { OnOk result (IsWritten self.old self.new (self.old.code.operands + 1)) }
+        ensures placed { OnOk result (AddsPlaces self.old self.new (here place)) }
     {
         match self.find(place, name)? {
             Some(found) => self.put(place, Op::LoadLocal(found.slot), 0, 1),
@@ -74,7 +77,8 @@ impl Emitter {
     /// The value that was given last becomes a variable.
     pub fn declare(&mut self, place: Place, local: Local) -> Result<u16, CompileError>
         requires { self.old.code.level.floor + 1 ≤ self.old.code.operands }
-        ensures { OnOk result (IsWritten self.old self.new (self.old.code.operands - 1)) }
+        ensures written { OnOk result (IsWritten self.old self.new (self.old.code.operands - 1)) }
+        ensures placed { OnOk result (AddsPlaces self.old self.new (here place)) }
     {
         let slot = self.scope.declare(local)?;
         let declare = Op::DeclareLocal {
@@ -95,7 +99,8 @@ impl Emitter {
         op: Option<u32>,
     ) -> Result<(), CompileError>
         requires { self.old.code.level.floor + 1 ≤ self.old.code.operands }
-        ensures { OnOk result (IsWritten self.old self.new (self.old.code.operands - 1)) }
+        ensures written { OnOk result (IsWritten self.old self.new (self.old.code.operands - 1)) }
+        ensures placed { OnOk result (AddsPlaces self.old self.new (here place)) }
     {
         match self.find(target, name)? {
             Some(found) if found.is_const => {
@@ -116,7 +121,8 @@ impl Emitter {
     /// The variables down to this many are dropped.
     pub fn leave(&mut self, place: Place, locals: usize) -> Result<(), CompileError>
         requires { self.old.code.level.floor ≤ self.old.code.operands }
-        ensures { OnOk result (IsWritten self.old self.new self.old.code.operands) }
+        ensures written { OnOk result (IsWritten self.old self.new self.old.code.operands) }
+        ensures placed { OnOk result (AddsPlaces self.old self.new (here place)) }
     {
         if self.scope.len() > locals {
             self.unwind(place, locals)?;
@@ -128,7 +134,8 @@ impl Emitter {
     /// Drops the variables down to this many on a path that leaves here.
     pub fn unwind(&mut self, place: Place, locals: usize) -> Result<(), CompileError>
         requires { self.old.code.level.floor ≤ self.old.code.operands }
-        ensures { OnOk result (IsWritten self.old self.new self.old.code.operands) }
+        ensures written { OnOk result (IsWritten self.old self.new self.old.code.operands) }
+        ensures placed { OnOk result (AddsPlaces self.old self.new (here place)) }
     {
         let depth = slot_of(locals)?;
         self.put(place, Op::UnwindTo(depth), 0, 0)

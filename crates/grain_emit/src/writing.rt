@@ -5,7 +5,8 @@ ghost use Rattle.grain_rules.specs.Rows.{flow_of};
 ghost use Rattle.grain_assembly.specs.Fitting.{HasEffect};
 ghost use Rattle.grain_assembly.specs.Unfinished.{spot};
 ghost use Rattle.grain_emit.specs.Loops.{count};
-ghost use Rattle.grain_emit.specs.Rules.{IsWritten};
+ghost use Rattle.grain_emit.specs.Rules.{IsWritten, AddsPlaces};
+ghost use Rattle.grain_emit.specs.Places.{here};
 
 use crate::emitter::Emitter;
 use crate::operators::spelling;
@@ -31,7 +32,8 @@ impl Emitter {
         requires falls { flow_of op ≡ Falls }
         requires does { HasEffect op self.old.code.operands takes gives }
         requires room { self.old.code.level.floor + takes ≤ self.old.code.operands }
-        ensures { OnOk result (IsWritten self.old self.new (self.old.code.operands - takes + gives)) }
+        ensures written { OnOk result (IsWritten self.old self.new (self.old.code.operands - takes + gives)) }
+        ensures placed { OnOk result (AddsPlaces self.old self.new (here place)) }
     {
         check_indices(place, &op)?;
         self.code.put(place, op, takes, gives)
@@ -42,7 +44,8 @@ impl Emitter {
         requires room { self.old.code.level.floor + 1 ≤ self.old.code.operands }
         requires there { slice_get self.old.code.labels target
             ≡ Some (spot (self.old.code.operands - 1) self.old.code.level) }
-        ensures { OnOk result (IsWritten self.old self.new (self.old.code.operands - 1)) }
+        ensures written { OnOk result (IsWritten self.old self.new (self.old.code.operands - 1)) }
+        ensures placed { OnOk result (AddsPlaces self.old self.new (here place)) }
     {
         if is_so {
             self.code
@@ -56,7 +59,8 @@ impl Emitter {
     /// The value that was given last is dropped where it isn't wanted.
     pub fn given(&mut self, place: Place, is_wanted: bool) -> Result<(), CompileError>
         requires { self.old.code.level.floor + 1 ≤ self.old.code.operands }
-        ensures { OnOk result (IsWritten self.old self.new (self.old.code.operands - 1 + count is_wanted)) }
+        ensures written { OnOk result (IsWritten self.old self.new (self.old.code.operands - 1 + count is_wanted)) }
+        ensures placed { OnOk result (AddsPlaces self.old self.new (here place)) }
     {
         if is_wanted {
             return Ok(());
@@ -67,7 +71,8 @@ impl Emitter {
     /// What gives nothing gives unit where a value is wanted.
     pub fn nothing(&mut self, place: Place, is_wanted: bool) -> Result<(), CompileError>
         requires { self.old.code.level.floor ≤ self.old.code.operands }
-        ensures { OnOk result (IsWritten self.old self.new (self.old.code.operands + count is_wanted)) }
+        ensures written { OnOk result (IsWritten self.old self.new (self.old.code.operands + count is_wanted)) }
+        ensures placed { OnOk result (AddsPlaces self.old self.new (here place)) }
     {
         if is_wanted {
             return self.put(place, Op::Unit, 0, 1);
@@ -78,7 +83,8 @@ impl Emitter {
     /// The value of a literal.
     pub fn literal(&mut self, place: Place, literal: Literal) -> Result<(), CompileError>
         requires { self.old.code.level.floor ≤ self.old.code.operands }
-        ensures { OnOk result (IsWritten self.old self.new (self.old.code.operands + 1)) }
+        ensures written { OnOk result (IsWritten self.old self.new (self.old.code.operands + 1)) }
+        ensures placed { OnOk result (AddsPlaces self.old self.new (here place)) }
     {
         match literal {
             Literal::Unit => self.put(place, Op::Unit, 0, 1),
@@ -98,7 +104,8 @@ impl Emitter {
         argc: u8,
     ) -> Result<(), CompileError>
         requires { self.old.code.level.floor + argc ≤ self.old.code.operands }
-        ensures { OnOk result (IsWritten self.old self.new (self.old.code.operands - argc + 1)) }
+        ensures written { OnOk result (IsWritten self.old self.new (self.old.code.operands - argc + 1)) }
+        ensures placed { OnOk result (AddsPlaces self.old self.new (here place)) }
     {
         let name = self.pools.name(spelling(operator))?;
         let token = self.pools.token(operator)?;
@@ -114,7 +121,8 @@ impl Emitter {
     /// Calls a function by its name.
     pub fn call(&mut self, place: Place, name: u32, argc: u8) -> Result<(), CompileError>
         requires { self.old.code.level.floor + argc ≤ self.old.code.operands }
-        ensures { OnOk result (IsWritten self.old self.new (self.old.code.operands - argc + 1)) }
+        ensures written { OnOk result (IsWritten self.old self.new (self.old.code.operands - argc + 1)) }
+        ensures placed { OnOk result (AddsPlaces self.old self.new (here place)) }
     {
         let call = Op::Call {
             name,

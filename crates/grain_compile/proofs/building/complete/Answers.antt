@@ -19,9 +19,12 @@ use Rattle.grain_assembly.specs.Assembled.{targets_of}
 use Rattle.grain_assembly.specs.Finished.{AreTypedCuts, LeadAmong}
 use Rattle.grain_assembly.specs.declared.assembler.Targets.{Targets}
 use Rattle.grain_compile.specs.Capabilities.{every_capability}
-use Rattle.grain_compile.specs.Positions.{IsListedPosition}
+use Rattle.grain_compile.specs.Positions.{IsListedPosition, IsPositionIn}
+use Rattle.grain_lexer.specs.declared.error.Place.{Place}
+use Rattle.grain.specs.Program.{listed_positions}
+use Rattle.std.specs.Prelude.{IfSome}
 use Rattle.grain_compile.proofs.BuildPremises.{can_build}
-use Rattle.grain_compile.proofs.PlacedPositions.{if_placed, typed_alike}
+use Rattle.grain_compile.proofs.PlacedPositions.{if_code, if_placed, typed_alike}
 use Rattle.grain_compile.proofs.building.complete.Goals as goal
 
 pub built-requires-clause-can : goal.built-requires-clause-can
@@ -52,3 +55,8 @@ returns-clause-positions c =
     let chains : c.in_ok-parts-2.parts.chains.items ≡ c.keep_in_chains.new.chains = ap (λ (v : Vec Chain Global). v.items) c.in_ok-parts-2.ensures.chains ∙ c.in_ok-parts.ensures.chains ∙ with_items_is c.args.made.0.chains c.keep_in_chains.new.chains (let h = c.keep_in_chains.auto.chains in let k = c.deref_mut.ensures.len in omega arith) in
     if_placed c.built.result (λ b. b.0) P _ c.in_ok-parts-2.parts.chains.items c.built.ensures.positions c.built.ensures.chains c.in_ok-parts-2.ensures.positions
     (subst (λ (xs : List Chain). All P (flat_map positions xs)) (sym chains) c.keep_in_chains.ensures.kept)
+
+pub returns-clause-placed : goal.returns-clause-placed
+returns-clause-placed c =
+    if_code c.built.result (λ b. b.0) (IsPositionIn c.args.made.0.places.items) _ c.built.ensures.positions
+    (subst (λ (ps : List Place). IfSome (listed_positions c.in_ok-parts-2.parts.positions) (All (IsPositionIn ps))) c.deref-3.ensures.value c.in_ok-parts-2.ensures.placed)

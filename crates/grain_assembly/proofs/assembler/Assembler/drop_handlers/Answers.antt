@@ -11,4 +11,5 @@ handlers-preserved c = record {
       ∙ ap (λ (l : Level). level_without_handlers 1 l) c.handlers.invariant.level
       ∙ without_one_more c.handlers._turn c.args.self.now.level;
   labels = search rules;
+  placed = search rules;
 }

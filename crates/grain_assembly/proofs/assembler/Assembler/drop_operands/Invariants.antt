@@ -1,6 +1,9 @@
 use Rattle.std.proofs.Common.{◌-◌}
-use Rattle.grain_assembly.specs.Unfinished.{LeavesOperands}
+use Rattle.grain_assembly.specs.Unfinished.{AddsPlace, LeavesOperands}
 use Rattle.grain_assembly.proofs.assembler.Assembler.drop_operands.Given as goal
 
 abbrev pub invariant-operands : goal.invariant-operands
-invariant-operands l = LeavesOperands l.initial.self l.self (l.initial.self.operands - l._turn)
+invariant-operands l = record {
+  leaves : LeavesOperands l.initial.self l.self (l.initial.self.operands - l._turn);
+  placed : AddsPlace l.initial.self l.self l.place;
+}

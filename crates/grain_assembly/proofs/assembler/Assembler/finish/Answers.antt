@@ -34,8 +34,8 @@ tables c = c.in_ok-tables.ensures ∙ (ap (λ (ps : List ℕ). resolved_tables p
 many : (c : After-drop-self-inside-5) → length c.in_ok-ops.ops.items ≡ length (k c).ops
 many c = ap (λ (xs : List Op). length xs) (listed c) ∙ length-map (k c).ops (resolved_op (k c).places)
 
-pub returns : goal.returns
-returns c = record {
+pub returns-clause-complete : goal.returns-clause-complete
+returns-clause-complete c = record {
   typed = λ s leads j cut chains allowed among e.
       subst (λ (xs : List Op). HasTyping (code_by_index s xs leads) cut cut.max_stack) (sym (listed c))
       (typed (k c) c.self.invariant (closed c) s leads chains allowed (subst (LeadAmong leads) (tables c) among) cut (c.self.invariant.cuts j cut e).0);

@@ -6,8 +6,8 @@ use Rattle.grain_compile.proofs.coder.Coder.condition.Goals as goal
 pub dispatch-requires-clause-arms : goal.dispatch-requires-clause-arms
 dispatch-requires-clause-arms g c =
     let made = c.in_ok-body.ensures in
-    let condition = c.in_ok-expr.ensures in
-    let jumped = c.in_ok-jump_where.ensures in
+    let condition = c.in_ok-expr.ensures.written in
+    let jumped = c.in_ok-jump_where.ensures.written in
     let same : c.jump_where.new.self.code.operands ≡ c.args.emitter.now.code.operands = search rules in
     subst (λ (n : ℕ). AreArms c.args.labels.now n c.jump_where.new.self.code) (sym same)
     (arms_after c.args.labels.now c.args.emitter.now.code.operands c.expr.new.emitter.code c.jump_where.new.self.code

@@ -1,8 +1,8 @@
 use Rattle.std.proofs.Common.{rules}
 use Rattle.grain_compile.proofs.coder.Coder.do_loop.Goals as goal
 
-pub returns : goal.returns
-returns g c = record {
+pub returns-clause-written : goal.returns-clause-written
+returns-clause-written g c = record {
   operands = search rules;
   level = search rules;
   labels = search rules;

@@ -1,5 +1,7 @@
 use Rattle.std.proofs.Common.{◌≡◌, ℕ, ◌+◌, ◌∙◌, refl, subst, sym, arith, rules}
+use Rattle.grain_emit.specs.Places.{arm_places, arms_places, pass}
 use Rattle.grain_emit.specs.Switches.{AreArms}
+use Rattle.grain_emit.proofs.PlaceTests.{and_both, each_pass}
 use Rattle.grain_emit.proofs.ArmLabels.{arms_after}
 use Rattle.grain_compile.proofs.coder.Coder.switch.Goals as goal
 
@@ -16,6 +18,7 @@ loop-index-init g c =
       labels = λ i x e. e;
       outers = λ i x e. e;
       around = refl;
+      placed = λ test these old. old;
       arms = subst (λ (n : ℕ). AreArms c.in_ok-labels.labels n c.dispatch.new.self.code) (sym same)
           (arms_after c.in_ok-labels.labels c.expr.new.emitter.code.operands c.arm_labels.new.self.code c.dispatch.new.self.code made.arms w.level w.labels w.outers);
     }
@@ -31,6 +34,9 @@ loop-index-preserved g c =
       labels = λ i x k. e.labels i x (h.labels i x k);
       outers = λ i x k. e.outers i x (h.outers i x k);
       around = e.around ∙ h.around;
+      placed = λ test these old.
+          e.placed test (and_both (pass test (arms_places c.args.arms.now)) (pass test (arm_places c.index-arms-index.result)) these (each_pass arm_places test c.args.arms.now c.loop-index.index c.index-arms-index.result (omega arith) c.index-arms-index.is these))
+          (h.placed test these old);
       arms = subst (λ (n : ℕ). AreArms c.in_ok-labels.labels n c.arm.new.emitter.code) (sym e.operands)
           (arms_after c.in_ok-labels.labels c.loop-index.emitter.code.operands c.loop-index.emitter.code c.arm.new.emitter.code h.arms e.level e.labels e.outers);
     }

@@ -1,5 +1,7 @@
 use Rattle.std.proofs.Common.{◌≡◌, ◌+◌}
 use Rattle.grain_assembly.specs.Unfinished.{StaysIn}
+use Rattle.grain_emit.specs.Places.{arms_places}
+use Rattle.grain_emit.specs.Rules.{AddsPlaces}
 use Rattle.grain_emit.specs.Switches.{AreArms}
 use Rattle.grain_compile.proofs.coder.Coder.switch.Given as goal
 
@@ -11,5 +13,6 @@ invariant-loop-index g l = record {
   labels : StaysIn l.initial.emitter.code.labels l.emitter.code.labels;
   outers : StaysIn l.initial.emitter.code.outers l.emitter.code.outers;
   around : l.emitter.scope.around ≡ l.initial.emitter.scope.around;
+  placed : AddsPlaces l.initial.emitter l.emitter (arms_places l.arms);
   arms : AreArms l.labels l.emitter.code.operands l.emitter.code;
 }

@@ -22,6 +22,7 @@ loop-arm-preserved c =
       operands = e.operands ∙ h.operands;
       level = e.level ∙ h.level;
       scope = h.scope;
+      places = e.places ∙ h.places;
       here = one_more found c.loop-arm.self.code.labels c.label-in-loop-arm.new.self.labels from c.loop-arm.first c.in_ok-first.first e.labels h.here next (e.here ∙ ap (λ (l : Level). Some (spot c.operands-operands.result l)) h.level);
       outer = one_more own c.loop-arm.self.code.outers c.label-in-loop-arm.new.self.outers above c.loop-arm.first c.in_ok-first.first e.outers h.outer next (e.outer ∙ ap (λ (k : ℕ). Some k) (h.pending ∙ sym next));
     }

@@ -13,6 +13,7 @@ invariant-loop-arm l = record {
   operands : l.self.code.operands ≡ l.initial.self.code.operands;
   level : l.self.code.level ≡ l.initial.self.code.level;
   scope : l.self.scope ≡ l.initial.self.scope;
+  places : l.self.code.places ≡ l.initial.self.code.places;
   here : (label : ℕ) → l.none ≤ label → label ≤ l.first → slice_get l.self.code.labels label ≡ Some (spot l.operands l.initial.self.code.level);
   outer : (label : ℕ) → l.none < label → label ≤ l.first → slice_get l.self.code.outers label ≡ Some label;
 }

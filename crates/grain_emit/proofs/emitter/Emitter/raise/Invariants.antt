@@ -1,5 +1,9 @@
-use Rattle.grain_emit.specs.Rules.{IsWritten}
+use Rattle.grain_emit.specs.Rules.{AddsPlaces, IsWritten}
+use Rattle.grain_emit.specs.Places.{here}
 use Rattle.grain_emit.proofs.emitter.Emitter.raise.Given as goal
 
 abbrev pub invariant-turns : goal.invariant-turns
-invariant-turns l = IsWritten l.initial.self l.self l.initial.self.code.operands
+invariant-turns l = record {
+  written : IsWritten l.initial.self l.self l.initial.self.code.operands;
+  placed : AddsPlaces l.initial.self l.self (here l.place);
+}

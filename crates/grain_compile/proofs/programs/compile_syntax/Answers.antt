@@ -1,0 +1,29 @@
+use Rattle.std.proofs.Common.{◌≡◌, [], Bool, List, true, ap, rules, subst, sym, ◌∙◌}
+use Rattle.std.proofs.lemmas.Result.{IfOk-weaker}
+use Rattle.std.specs.List.{All, list_all}
+use Rattle.std.specs.Prelude.{IfSome}
+use Rattle.grain_compile.specs.Positions.{IsPositionAmong, IsPositionIn}
+use Rattle.grain_compile.proofs.PlacedPositions.{positions_among}
+use Rattle.grain_emit.proofs.PlaceTests.{and_both, and_left, and_right}
+use Rattle.grain_emit.specs.Bodies.{bodies_places}
+use Rattle.grain_emit.specs.Places.{Places, functions_places, pass, script_places, syntax_places}
+use Rattle.grain_lexer.specs.declared.error.Place.{Place}
+use Rattle.grain_syntax.specs.declared.ast.Expr.{Expr}
+use Rattle.grain_compile.proofs.programs.compile_syntax.Goals as goal
+
+pub returns-clause-placed : goal.returns-clause-placed
+returns-clause-placed c =
+    let places : List Place = c.chunks.new.emitter.code.places in
+    let these : Places = syntax_places c.args.syntax in
+    let begun : c.new-emitter.result.code.places ≡ [] = search rules in
+    let body : c.deref-2.result.now ≡ c.args.syntax.body.items = search rules in
+    let bodies : bodies_places c.deref-3.result.now ≡ functions_places c.args.syntax.functions.items = ap bodies_places c.deref-3.ensures.value ∙ c.in_ok-signatures.ensures in
+    IfOk-weaker c.finish.result (λ b. IfSome b.0.positions (All (IsPositionIn places))) (λ b. IfSome b.0.positions (All (IsPositionAmong these)))
+    (λ b. positions_among these places
+    (λ test all. c.in_ok-heads.ensures.placed test
+    (and_both (pass test (script_places c.deref-2.result.now)) (pass test (bodies_places c.deref-3.result.now))
+    (subst (λ (xs : List Expr). pass test (script_places xs) ≡ true) (sym body) (and_left (pass test (script_places c.args.syntax.body.items)) (pass test (functions_places c.args.syntax.functions.items)) all))
+    (subst (λ (ps : Places). pass test ps ≡ true) (sym bodies) (and_right (pass test (script_places c.args.syntax.body.items)) (pass test (functions_places c.args.syntax.functions.items)) all)))
+    (ap (list_all test) begun))
+    b.0.positions)
+    c.finish.ensures.placed
