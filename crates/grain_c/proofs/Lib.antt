@@ -1,4 +1,5 @@
 mod FileAnswers
+pub mod DropGlue
 mod HeldData
 pub mod HeldWords
 mod Judged

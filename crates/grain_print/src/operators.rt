@@ -1,4 +1,8 @@
 //! Operators and op-assignments.
+ghost use Rattle.std.specs.Prelude.{◌≡◌, ◌≢◌, ℕ, IfNone, IfSome, map, option_map, slice_get};
+ghost use Rattle.grain_base.specs.Tokens.{token_parts};
+ghost use Rattle.grain_base.specs.declared.token.Token.{Token};
+ghost use Rattle.grain_print.specs.Spellings.{spelling_of, spellings};
 
 use crate::quote::write_text;
 use grain_base::Token;
@@ -12,18 +16,45 @@ static SPELLINGS: [&str; 39] = [
     "%=", "**=", "<<=", ">>=", "&=", "|=", "^=",
 ];
 
+/// The spellings.
+#[tactic(auto, unfolding(crate::specs::Spellings::spellings))]
+fn table() -> &'static [&'static str]
+    ensures { map (λ spelling. spelling.now) result.now ≡ spellings }
+{
+    &SPELLINGS
+}
+
 /// The spelling of an operator of the language.
 #[must_use]
-pub fn spelling(token: &Token) -> Option<&'static str> {
-    let number = token.number().ok()?;
-    SPELLINGS.get(usize::from(number)).copied()
+pub fn spelling(token: &Token) -> Option<&'static str>
+    ensures { option_map (λ spelling. spelling.now) result ≡ spelling_of token.now }
+{
+    match token.number() {
+        Ok(number) => table().get(usize::from(number)).copied(),
+        Err(_) => None,
+    }
+}
+
+/// Where a spelling is in the table.
+fn place_of(spelling: &str) -> Option<usize>
+    ensures some { IfSome result (λ place. slice_get spellings place ≡ Some spelling.now) }
+    ensures none { IfNone result
+        ((place : ℕ) → slice_get spellings place ≢ Some spelling.now) }
+{
+    table().iter().position(|other| *other == spelling)
 }
 
 /// The operator of the language with this spelling.
 #[must_use]
-pub fn token_spelled(spelling: &str) -> Option<Token> {
-    let place = SPELLINGS.iter().position(|other| *other == spelling)?;
-    Token::of_number(u8::try_from(place).ok()?)
+pub fn token_spelled(spelling: &str) -> Option<Token>
+    ensures found { IfSome result (λ token. spelling_of token ≡ Some spelling.now) }
+    ensures only { (token : Token) → spelling_of token ≡ Some spelling.now
+        → option_map token_parts result ≡ Some (token_parts token) }
+{
+    match u8::try_from(place_of(spelling)?) {
+        Ok(number) => Token::of_number(number),
+        Err(_) => None,
+    }
 }
 
 /// Appends an operator: its spelling, or in quotes the text of one that the host has added.

@@ -7,17 +7,17 @@ use Rattle.grain_c.proofs.Words.{by, done, move, drop, split, join, fsplit, fjoi
 use Rattle.grain_c.proofs.Words.{free_all, look_at, get, sets, lands_as, agg, unit, RawPtr, no, yes, layout, glues, owns, Ptr, rawptr_Lawful, types_at, plain, nothing, only, calls_at, alive, triple_of, Back, framed}
 use Rattle.grain_c.proofs.Words.{widened, run_framed, Stays, stay_dropped, walk_of, ghosts, dict, passed}
 use Rattle.grain_c.proofs.HeldWords.{Kept, Kept-laws, Boxed, Boxed-typed, makes_handle}
+use Rattle.grain_c.proofs.DropGlue.{drop_glue}
 use Rattle.std.proofs.ResultValues.{and_tt}
 use Rattle.std.specs.Box.Ownership.{box_owns}
 use Rattle.std.proofs.boxed.Box.into_raw.Met.{met}
 use Rattle.grain_c.proofs.grain_flat_file++contents++FlatFile+Destruct.drop.Met.{met as drop_met}
-use Rattle.grain_c.proofs.grain_flat_file++contents++FlatFile+Destruct.drop.Symbol.{code as drop_code, as_method}
+use Rattle.grain_c.proofs.grain_flat_file++contents++FlatFile+Destruct.drop.Symbol.{as_method}
 use Rattle.grain_c.specs.contracts.held.CHeldFile.of.{ended, clauses}
 use Rattle.grain_c.specs.contracts.held.CHeldFile.of.Key.{name}
 use Rattle.grain_c.proofs.held.CHeldFile.of.Statement.{statement}
-use prog.{Model.Model, Wired.Wired, Wp.WpFn}
-use denote.{Param.Steps.one_value, Triple.Clauses.Lasts, Triple.Clauses.lasts, Triple.End.lasts_of}
-use denote.Param.Glue as glue
+use prog.{Wp.WpFn}
+use denote.{Param.Steps.one_value, Triple.Clauses.Lasts, Triple.Clauses.lasts}
 use Rattle.std.specs.contracts.boxed.Box.into_raw as callee
 use Rattle.grain_flat_file.specs.contracts.contents.FlatFile as flat
 use Rattle.grain_c.specs.contracts.grain_flat_file++contents++FlatFile+Destruct.drop as dropped
@@ -26,20 +26,6 @@ use Rattle.grain_c.proofs.held.CHeldFile.of.Code as code
 -- the drop of a flat file
 abbrev drops : Dict
 drops = impl (dropped.Key.symbol ∷ []) tnil dnil
-
--- it meets what a call asks of the drop of a type argument
-drop_glue : {M : Type 1} (𝓤 : Ura M) (𝓛 : Logic 𝓤) (𝓜 : Model 𝓤 𝓛.H) (𝓡 : Running 𝓤 𝓛.H 𝓜) → Wired 𝓡.env drop_code → glue.Met 𝓛 𝓜 𝓡 𝓡.env Kept drops
-drop_glue 𝓤 𝓛 𝓜 𝓡 wired = λ y. let d = triple_of 𝓛 dropped.signature (dropped.spec 𝓛 𝓜.mem 𝓡.returns) in let g = triple_of 𝓛 (glue.signature Kept) (glue.spent 𝓛 Kept) in
-    let x : d.Ghost = ((tt, tt, tt, (y.0.3.0, tt), (y.0.4.0, tt)), tt) in let token = 𝓛.A.lft y.0.0.0 y.0.1.0 in let k = 𝓡.env (method drops 0 no_args) in
-    let met = widened 𝓤 𝓛.H d 𝓜 𝓡 𝓡.env (𝓡.env dropped.Key.name) k (as_method 𝓡.env wired (method drops 0 no_args) refl) (drop_met 𝓤 𝓛 𝓜 𝓡 wired) in
-    via 𝓤 (sep 𝓤 (d.pre x) token) (qed 𝓛 (((‵ (flft y.0.0.0 y.0.1.0) ⊛ ‵ ftrue) ⊛ ‵ (owns (Kept ∷ []) y.0.3 y.0.4)) ∷ (raw (fact 𝓤 (y.0.0.0 ⊑ Kept.lives)) ⊛ raw (emp 𝓤)) ∷ []) ∵
-    split ! $ split ! $ move ! (3 ∷ []) $ drop ! $ nothing ! $ move ! (2 ∷ 3 ∷ []) $ join ! $ move ! (0 ∷ 1 ∷ []) $ join ! $ join ! $ done !)
-    (via 𝓤 (sep 𝓤 (𝓡.run k (d.args x) (d.post x)) token) (mono_l 𝓤 token (met x)) (run_framed 𝓤 𝓛.H 𝓜 𝓡 k (d.args x) (d.post x) (g.post y) token (λ v.
-    qed 𝓛 (raw (d.post x v) ∷ ‵ (flft y.0.0.0 y.0.1.0) ∷ []) ∵
-    use1 𝓛 (later (some (λ (r : Unit {0}). (‵ ftrue ⊛ ‵ (unit.own_val r (v ∷ []))) ⊛ raw ((dropped.spec 𝓛 𝓜.mem 𝓡.returns tt (y.0.3.0, tt)).ensures tt r)))) (id⊢ 𝓤 _) $
-    updating ! $ await ! tt $ pick ! (λ r. split ! $ split ! $ drop ! $ move ! (1 ∷ []) $ drop ! $ now ! $ show ! (λ u. sep 𝓤 (Back 𝓛 (glue.signature Kept) y.0 v u) ((glue.spent 𝓛 Kept y.0.0 y.0.3).ensures y.1 u)) r $
-    nothing ! $ move ! (2 ∷ 0 ∷ []) $ join ! $ join ! $ frame ! $
-    show ! (λ ws. sep 𝓤 (sem 𝓛 (lasts_of y.0.0 (glue.signature Kept).params (no, tt) y.0.3 ws)) (emp 𝓤)) (tt, tt) $ nothing ! $ nothing ! $ fjoin ! $ nothing ! $ move ! (1 ∷ 0 ∷ []) $ join ! $ done !))))
 
 abbrev stayed : Stays ended.signature.params ended.kept
 stayed = (stay_dropped (plain (λ _. Boxed)) yes, tt)
@@ -51,7 +37,9 @@ of_spec {M = M} 𝓤 𝓛 𝓜 𝓡 wired =
     let allocates = passed γ (code.calls-std_heap::GlobalAllocator::allocate γ wired) (code.calls-std_heap::GlobalAllocator::deallocate γ wired)
     (code.calls-std_heap::GlobalAllocator::grow γ wired) (code.calls-std_heap::GlobalAllocator::shrink γ wired) M 𝓤 𝓛 𝓜 𝓡 in
     let heap_drops = glues γ (code.calls-grain_c::Destruct++none::drop γ wired) Heap Heap-laws M 𝓤 𝓛 𝓜 𝓡 in
-    let kept_drops = drop_glue 𝓤 𝓛 𝓜 𝓡 (code.calls-grain_c::grain_flat_file++contents++FlatFile+Destruct::drop γ wired) in
+    let drops_wired = code.calls-grain_c::grain_flat_file++contents++FlatFile+Destruct::drop γ wired in
+    let dropped_met = widened 𝓤 𝓛.H (triple_of 𝓛 dropped.signature (dropped.spec 𝓛 𝓜.mem 𝓡.returns)) 𝓜 𝓡 𝓡.env (𝓡.env dropped.Key.name) (𝓡.env (method drops 0 no_args)) (as_method 𝓡.env drops_wired (method drops 0 no_args) refl) (drop_met 𝓤 𝓛 𝓜 𝓡 drops_wired) in
+    let kept_drops = drop_glue 𝓛 flat.the_row 𝓜 𝓡 drops (λ x r. (dropped.spec 𝓛 𝓜.mem 𝓡.returns tt (x, tt)).ensures tt r) dropped_met in
     let calls = met 𝓤 𝓛 𝓜 𝓡 (code.calls-std_alloc::boxed::Box::into_raw γ wired) Kept Heap Kept-laws Heap-laws ghosts dict no_drop drops allocates heap_drops kept_drops in
     proved_at 𝓛 ended stayed c 𝓜 𝓡 (Goes-blank 𝓛 0 (plain (λ _. Boxed)) yes (λ κs x f. tt), tt)
     name code.function (code.unfolded 𝓤 𝓛.H 𝓜 𝓡 wired) (λ y are.
