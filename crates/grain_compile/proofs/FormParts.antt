@@ -2,22 +2,22 @@
 use Rattle.std.proofs.Common.{◌≡◌, Bool, true, List, [], ◌∷◌, ◌++◌, Result, Ok, Err, ap, ◌∙◌, sym}
 use Rattle.std.specs.Prelude.{OnOk}
 use Rattle.grain_emit.proofs.PlaceTests.{and_left}
-use Rattle.grain_emit.specs.Places.{Places, access_step, arm_step, both, branch_step, entry_places, entry_step, expr_step, form_places, form_step, here, list_places, operation_step, part_step, pass, places_of, script_places}
+use Rattle.grain_emit.specs.Places.{Places, access_joined, arm_joined, both, branch_joined, entry_places, entry_joined, expr_joined, form_places, form_joined, here, list_places, operation_joined, part_joined, pass, expr_places, script_places}
 use Rattle.grain_lexer.specs.declared.error.Place.{Place}
 use Rattle.grain_syntax.specs.declared.ast.Entry.{Entry, fold_out-Entry}
 use Rattle.grain_syntax.specs.declared.ast.Expr.{Expr, fold_out-Expr}
 
-pub expr_is : (e : Expr) → places_of e ≡ both (here e.place) (form_places e.form)
-expr_is e = fold_out-Expr Places Places Places Places Places Places Places Places form_step part_step access_step arm_step branch_step entry_step expr_step operation_step e
+pub expr_is : (e : Expr) → expr_places e ≡ both (here e.place) (form_places e.form)
+expr_is e = fold_out-Expr Places Places Places Places Places Places Places Places form_joined part_joined access_joined arm_joined branch_joined entry_joined expr_joined operation_joined e
 
-pub entry_is : (e : Entry) → entry_places e ≡ places_of e.value
-entry_is e = fold_out-Entry Places Places Places Places Places Places Places Places form_step part_step access_step arm_step branch_step entry_step expr_step operation_step e
+pub entry_is : (e : Entry) → entry_places e ≡ expr_places e.value
+entry_is e = fold_out-Entry Places Places Places Places Places Places Places Places form_joined part_joined access_joined arm_joined branch_joined entry_joined expr_joined operation_joined e
 
 -- where the places of the forms in an expression pass, its own does
-pub own_pass : (test : Place → Bool) (e : Expr) → pass test (places_of e) ≡ true → test e.place ≡ true
+pub own_pass : (test : Place → Bool) (e : Expr) → pass test (expr_places e) ≡ true → test e.place ≡ true
 own_pass test e h = and_left (test e.place) (pass test (form_places e.form)) (sym (ap (λ (ps : Places). pass test ps) (expr_is e)) ∙ h)
 
-pub value_pass : (test : Place → Bool) (e : Entry) → pass test (entry_places e) ≡ true → pass test (places_of e.value) ≡ true
+pub value_pass : (test : Place → Bool) (e : Entry) → pass test (entry_places e) ≡ true → pass test (expr_places e.value) ≡ true
 value_pass test e h = sym (ap (λ (ps : Places). pass test ps) (entry_is e)) ∙ h
 
 -- what follows from what holds on success

@@ -3,7 +3,7 @@ ghost use Rattle.std.specs.Prelude.{◌≡◌, true, ◌+◌, ◌-◌, ◌<◌, 
 ghost use Rattle.grain_pools.specs.Chain.{consumed, roots_on_stack};
 ghost use Rattle.grain_emit.specs.Loops.{count};
 ghost use Rattle.grain_emit.specs.Rules.{IsWritten, Stands, AddsPlaces};
-ghost use Rattle.grain_emit.specs.Places.{both, pass, here, list_places, places_of, step_places, steps_places};
+ghost use Rattle.grain_emit.specs.Places.{both, pass, here, list_places, expr_places, step_places, steps_places};
 
 use crate::coder::Coder;
 use grain::{Chain, Flags, Op, Root, Step, StepFlags, Tail};
@@ -25,11 +25,11 @@ impl<F: Fn(&mut Emitter, &Expr, usize, bool) -> Result<(), CompileError>> Coder<
         requires does { (m : _) (e : _) (w : _) (r : _) (n : _) → F.post self.now.writes m e self.now.depth w r n
             → OnOk r (IsWritten m.now n.now (m.now.code.operands + count w)) }
         requires adds { (m : _) (e : _) (w : _) (r : _) (n : _) → F.post self.now.writes m e self.now.depth w r n
-            → OnOk r (AddsPlaces m.now n.now (places_of e.now)) }
+            → OnOk r (AddsPlaces m.now n.now (expr_places e.now)) }
         requires stands { Stands emitter.old }
         ensures written { OnOk result (IsWritten emitter.old emitter.new (emitter.old.code.operands + 1)) }
         ensures placed { OnOk result (AddsPlaces emitter.old emitter.new
-            (both (here place) (both (places_of root.now) (steps_places steps.now)))) }
+            (both (here place) (both (expr_places root.now) (steps_places steps.now)))) }
     {
         let mut from = 0;
         for index in 0..steps.len() {
@@ -53,14 +53,14 @@ impl<F: Fn(&mut Emitter, &Expr, usize, bool) -> Result<(), CompileError>> Coder<
         requires does { (m : _) (e : _) (w : _) (r : _) (n : _) → F.post self.now.writes m e self.now.depth w r n
             → OnOk r (IsWritten m.now n.now (m.now.code.operands + count w)) }
         requires adds { (m : _) (e : _) (w : _) (r : _) (n : _) → F.post self.now.writes m e self.now.depth w r n
-            → OnOk r (AddsPlaces m.now n.now (places_of e.now)) }
+            → OnOk r (AddsPlaces m.now n.now (expr_places e.now)) }
         requires stands { Stands emitter.old }
         requires room { emitter.old.code.level.floor + count (nat_lt 0 at.0) ≤ emitter.old.code.operands }
         requires within { at.1 < length steps.now }
         ensures written { IfOk result (λ done. IsWritten emitter.old emitter.new
             (emitter.old.code.operands - count (nat_lt 0 at.0) + count (nat_lt 0 done))) }
         ensures placed { OnOk result (AddsPlaces emitter.old emitter.new
-            (both (here place) (both (places_of root.now) (steps_places steps.now)))) }
+            (both (here place) (both (expr_places root.now) (steps_places steps.now)))) }
     {
         let (from, index) = at;
         let step = step_at(steps, index);
@@ -98,12 +98,12 @@ impl<F: Fn(&mut Emitter, &Expr, usize, bool) -> Result<(), CompileError>> Coder<
         requires does { (m : _) (e : _) (w : _) (r : _) (n : _) → F.post self.now.writes m e self.now.depth w r n
             → OnOk r (IsWritten m.now n.now (m.now.code.operands + count w)) }
         requires adds { (m : _) (e : _) (w : _) (r : _) (n : _) → F.post self.now.writes m e self.now.depth w r n
-            → OnOk r (AddsPlaces m.now n.now (places_of e.now)) }
+            → OnOk r (AddsPlaces m.now n.now (expr_places e.now)) }
         requires stands { Stands emitter.old }
         requires room { emitter.old.code.level.floor + count before.1 ≤ emitter.old.code.operands }
         ensures written { OnOk result (IsWritten emitter.old emitter.new (emitter.old.code.operands - count before.entry.1 + 1)) }
         ensures placed { OnOk result (AddsPlaces emitter.old emitter.new
-            (both (here place) (both (places_of root.now) (both (steps_places before.entry.0.now) (both (here method.0) (list_places arguments.now)))))) }
+            (both (here place) (both (expr_places root.now) (both (steps_places before.entry.0.now) (both (here method.0) (list_places arguments.now)))))) }
     {
         let (steps, is_on_top) = before;
         let (at, name) = method;
@@ -143,12 +143,12 @@ impl<F: Fn(&mut Emitter, &Expr, usize, bool) -> Result<(), CompileError>> Coder<
         requires does { (m : _) (e : _) (w : _) (r : _) (n : _) → F.post self.now.writes m e self.now.depth w r n
             → OnOk r (IsWritten m.now n.now (m.now.code.operands + count w)) }
         requires adds { (m : _) (e : _) (w : _) (r : _) (n : _) → F.post self.now.writes m e self.now.depth w r n
-            → OnOk r (AddsPlaces m.now n.now (places_of e.now)) }
+            → OnOk r (AddsPlaces m.now n.now (expr_places e.now)) }
         requires stands { Stands emitter.old }
         requires room { emitter.old.code.level.floor + count is_on_top ≤ emitter.old.code.operands }
         ensures written { OnOk result (IsWritten emitter.old emitter.new (emitter.old.code.operands - count is_on_top + 1)) }
         ensures placed { OnOk result (AddsPlaces emitter.old emitter.new
-            (both (here place) (both (places_of root.now) (steps_places steps.now)))) }
+            (both (here place) (both (expr_places root.now) (steps_places steps.now)))) }
     {
         if steps.is_empty() {
             if is_on_top {
@@ -180,11 +180,11 @@ impl<F: Fn(&mut Emitter, &Expr, usize, bool) -> Result<(), CompileError>> Coder<
         requires does { (m : _) (e : _) (w : _) (r : _) (n : _) → F.post self.now.writes m e self.now.depth w r n
             → OnOk r (IsWritten m.now n.now (m.now.code.operands + count w)) }
         requires adds { (m : _) (e : _) (w : _) (r : _) (n : _) → F.post self.now.writes m e self.now.depth w r n
-            → OnOk r (AddsPlaces m.now n.now (places_of e.now)) }
+            → OnOk r (AddsPlaces m.now n.now (expr_places e.now)) }
         requires stands { Stands emitter.old }
         ensures written { OnOk result (IsWritten emitter.old emitter.new (emitter.old.code.operands)) }
         ensures placed { OnOk result (AddsPlaces emitter.old emitter.new
-            (both (here place) (both (places_of target.now) (places_of value.now)))) }
+            (both (here place) (both (expr_places target.now) (expr_places value.now)))) }
     {
         let op = emitter.op_assignment(operator)?;
         match &target.form {
@@ -217,11 +217,11 @@ impl<F: Fn(&mut Emitter, &Expr, usize, bool) -> Result<(), CompileError>> Coder<
         requires does { (m : _) (e : _) (w : _) (r : _) (n : _) → F.post self.now.writes m e self.now.depth w r n
             → OnOk r (IsWritten m.now n.now (m.now.code.operands + count w)) }
         requires adds { (m : _) (e : _) (w : _) (r : _) (n : _) → F.post self.now.writes m e self.now.depth w r n
-            → OnOk r (AddsPlaces m.now n.now (places_of e.now)) }
+            → OnOk r (AddsPlaces m.now n.now (expr_places e.now)) }
         requires stands { Stands emitter.old }
         ensures written { OnOk result (IsWritten emitter.old emitter.new (emitter.old.code.operands)) }
         ensures placed { OnOk result (AddsPlaces emitter.old emitter.new
-            (both (here place) (both (both (places_of root.now) (steps_places steps.now)) (places_of assigned.entry.1.now)))) }
+            (both (here place) (both (both (expr_places root.now) (steps_places steps.now)) (expr_places assigned.entry.1.now)))) }
     {
         let (op, value) = assigned;
         let height = emitter.code.operands();
@@ -245,7 +245,7 @@ impl<F: Fn(&mut Emitter, &Expr, usize, bool) -> Result<(), CompileError>> Coder<
         requires does { (m : _) (e : _) (w : _) (r : _) (n : _) → F.post self.now.writes m e self.now.depth w r n
             → OnOk r (IsWritten m.now n.now (m.now.code.operands + count w)) }
         requires adds { (m : _) (e : _) (w : _) (r : _) (n : _) → F.post self.now.writes m e self.now.depth w r n
-            → OnOk r (AddsPlaces m.now n.now (places_of e.now)) }
+            → OnOk r (AddsPlaces m.now n.now (expr_places e.now)) }
         requires stands { Stands emitter.old }
         ensures written { OnOk result (IsWritten emitter.old emitter.new emitter.new.code.operands) }
         ensures more { OnOk result (emitter.old.code.operands ≤ emitter.new.code.operands) }
@@ -266,7 +266,7 @@ impl<F: Fn(&mut Emitter, &Expr, usize, bool) -> Result<(), CompileError>> Coder<
         requires does { (m : _) (e : _) (w : _) (r : _) (n : _) → F.post self.now.writes m e self.now.depth w r n
             → OnOk r (IsWritten m.now n.now (m.now.code.operands + count w)) }
         requires adds { (m : _) (e : _) (w : _) (r : _) (n : _) → F.post self.now.writes m e self.now.depth w r n
-            → OnOk r (AddsPlaces m.now n.now (places_of e.now)) }
+            → OnOk r (AddsPlaces m.now n.now (expr_places e.now)) }
         requires stands { Stands emitter.old }
         ensures written { OnOk result (IsWritten emitter.old emitter.new emitter.new.code.operands) }
         ensures more { OnOk result (emitter.old.code.operands ≤ emitter.new.code.operands) }
@@ -308,10 +308,10 @@ impl<F: Fn(&mut Emitter, &Expr, usize, bool) -> Result<(), CompileError>> Coder<
         requires does { (m : _) (e : _) (w : _) (r : _) (n : _) → F.post self.now.writes m e self.now.depth w r n
             → OnOk r (IsWritten m.now n.now (m.now.code.operands + count w)) }
         requires adds { (m : _) (e : _) (w : _) (r : _) (n : _) → F.post self.now.writes m e self.now.depth w r n
-            → OnOk r (AddsPlaces m.now n.now (places_of e.now)) }
+            → OnOk r (AddsPlaces m.now n.now (expr_places e.now)) }
         requires stands { Stands emitter.old }
         ensures written { IfOk result (λ r. IsWritten emitter.old emitter.new (emitter.old.code.operands + cond (roots_on_stack r) 1 0)) }
-        ensures placed { OnOk result (AddsPlaces emitter.old emitter.new (places_of root.now)) }
+        ensures placed { OnOk result (AddsPlaces emitter.old emitter.new (expr_places root.now)) }
     {
         if emitter.is_constant(root) {
             self.expr(emitter, root, true)?;

@@ -3,7 +3,7 @@ ghost use Rattle.std.specs.Prelude.{◌≡◌, ◌+◌, ◌-◌, ◌≤◌, OnOk
 ghost use Rattle.grain_assembly.specs.Unfinished.{spot};
 ghost use Rattle.grain_emit.specs.Loops.{count};
 ghost use Rattle.grain_emit.specs.Rules.{IsWritten, Stands, AddsPlaces};
-ghost use Rattle.grain_emit.specs.Places.{both, branch_places, branches_places, form_places, here, list_places, optional_places, places_of};
+ghost use Rattle.grain_emit.specs.Places.{both, branch_places, branches_places, form_places, here, list_places, optional_places, expr_places};
 
 use crate::coder::Coder;
 use grain::Op;
@@ -24,7 +24,7 @@ impl<F: Fn(&mut Emitter, &Expr, usize, bool) -> Result<(), CompileError>> Coder<
         requires does { (m : _) (e : _) (w : _) (r : _) (n : _) → F.post self.now.writes m e self.now.depth w r n
             → OnOk r (IsWritten m.now n.now (m.now.code.operands + count w)) }
         requires adds { (m : _) (e : _) (w : _) (r : _) (n : _) → F.post self.now.writes m e self.now.depth w r n
-            → OnOk r (AddsPlaces m.now n.now (places_of e.now)) }
+            → OnOk r (AddsPlaces m.now n.now (expr_places e.now)) }
         requires stands { Stands emitter.old }
         ensures written { OnOk result (IsWritten emitter.old emitter.new (emitter.old.code.operands + count is_wanted)) }
         ensures placed { OnOk result (AddsPlaces emitter.old emitter.new
@@ -55,7 +55,7 @@ impl<F: Fn(&mut Emitter, &Expr, usize, bool) -> Result<(), CompileError>> Coder<
         requires does { (m : _) (e : _) (w : _) (r : _) (n : _) → F.post self.now.writes m e self.now.depth w r n
             → OnOk r (IsWritten m.now n.now (m.now.code.operands + count w)) }
         requires adds { (m : _) (e : _) (w : _) (r : _) (n : _) → F.post self.now.writes m e self.now.depth w r n
-            → OnOk r (AddsPlaces m.now n.now (places_of e.now)) }
+            → OnOk r (AddsPlaces m.now n.now (expr_places e.now)) }
         requires stands { Stands emitter.old }
         ensures written { OnOk result (IsWritten emitter.old emitter.new (emitter.old.code.operands)) }
         ensures placed { OnOk result (AddsPlaces emitter.old emitter.new
@@ -92,7 +92,7 @@ impl<F: Fn(&mut Emitter, &Expr, usize, bool) -> Result<(), CompileError>> Coder<
         requires does { (m : _) (e : _) (w : _) (r : _) (n : _) → F.post self.now.writes m e self.now.depth w r n
             → OnOk r (IsWritten m.now n.now (m.now.code.operands + count w)) }
         requires adds { (m : _) (e : _) (w : _) (r : _) (n : _) → F.post self.now.writes m e self.now.depth w r n
-            → OnOk r (AddsPlaces m.now n.now (places_of e.now)) }
+            → OnOk r (AddsPlaces m.now n.now (expr_places e.now)) }
         requires stands { Stands emitter.old }
         ensures written { OnOk result (IsWritten emitter.old emitter.new (emitter.old.code.operands + count is_wanted)) }
         ensures placed { OnOk result (AddsPlaces emitter.old emitter.new
@@ -119,7 +119,7 @@ impl<F: Fn(&mut Emitter, &Expr, usize, bool) -> Result<(), CompileError>> Coder<
         requires does { (m : _) (e : _) (w : _) (r : _) (n : _) → F.post self.now.writes m e self.now.depth w r n
             → OnOk r (IsWritten m.now n.now (m.now.code.operands + count w)) }
         requires adds { (m : _) (e : _) (w : _) (r : _) (n : _) → F.post self.now.writes m e self.now.depth w r n
-            → OnOk r (AddsPlaces m.now n.now (places_of e.now)) }
+            → OnOk r (AddsPlaces m.now n.now (expr_places e.now)) }
         requires stands { Stands emitter.old }
         ensures written { OnOk result (IsWritten emitter.old emitter.new (emitter.old.code.operands + count is_wanted)) }
         ensures placed { OnOk result (AddsPlaces emitter.old emitter.new
@@ -142,7 +142,7 @@ impl<F: Fn(&mut Emitter, &Expr, usize, bool) -> Result<(), CompileError>> Coder<
         requires does { (m : _) (e : _) (w : _) (r : _) (n : _) → F.post self.now.writes m e self.now.depth w r n
             → OnOk r (IsWritten m.now n.now (m.now.code.operands + count w)) }
         requires adds { (m : _) (e : _) (w : _) (r : _) (n : _) → F.post self.now.writes m e self.now.depth w r n
-            → OnOk r (AddsPlaces m.now n.now (places_of e.now)) }
+            → OnOk r (AddsPlaces m.now n.now (expr_places e.now)) }
         requires stands { Stands emitter.old }
         ensures written { OnOk result (IsWritten emitter.old emitter.new (emitter.old.code.operands + count is_wanted)) }
         ensures placed { OnOk result (AddsPlaces emitter.old emitter.new
@@ -169,7 +169,7 @@ impl<F: Fn(&mut Emitter, &Expr, usize, bool) -> Result<(), CompileError>> Coder<
         requires does { (m : _) (e : _) (w : _) (r : _) (n : _) → F.post self.now.writes m e self.now.depth w r n
             → OnOk r (IsWritten m.now n.now (m.now.code.operands + count w)) }
         requires adds { (m : _) (e : _) (w : _) (r : _) (n : _) → F.post self.now.writes m e self.now.depth w r n
-            → OnOk r (AddsPlaces m.now n.now (places_of e.now)) }
+            → OnOk r (AddsPlaces m.now n.now (expr_places e.now)) }
         requires stands { Stands emitter.old }
         requires there { slice_get emitter.old.code.labels end
             ≡ Some (spot (emitter.old.code.operands + count is_wanted) emitter.old.code.level) }
@@ -198,7 +198,7 @@ impl<F: Fn(&mut Emitter, &Expr, usize, bool) -> Result<(), CompileError>> Coder<
         requires does { (m : _) (e : _) (w : _) (r : _) (n : _) → F.post self.now.writes m e self.now.depth w r n
             → OnOk r (IsWritten m.now n.now (m.now.code.operands + count w)) }
         requires adds { (m : _) (e : _) (w : _) (r : _) (n : _) → F.post self.now.writes m e self.now.depth w r n
-            → OnOk r (AddsPlaces m.now n.now (places_of e.now)) }
+            → OnOk r (AddsPlaces m.now n.now (expr_places e.now)) }
         requires stands { Stands emitter.old }
         ensures written { OnOk result (IsWritten emitter.old emitter.new (emitter.old.code.operands + 1)) }
         ensures placed { OnOk result (AddsPlaces emitter.old emitter.new
@@ -222,7 +222,7 @@ impl<F: Fn(&mut Emitter, &Expr, usize, bool) -> Result<(), CompileError>> Coder<
         requires does { (m : _) (e : _) (w : _) (r : _) (n : _) → F.post self.now.writes m e self.now.depth w r n
             → OnOk r (IsWritten m.now n.now (m.now.code.operands + count w)) }
         requires adds { (m : _) (e : _) (w : _) (r : _) (n : _) → F.post self.now.writes m e self.now.depth w r n
-            → OnOk r (AddsPlaces m.now n.now (places_of e.now)) }
+            → OnOk r (AddsPlaces m.now n.now (expr_places e.now)) }
         requires stands { Stands emitter.old }
         ensures written { OnOk result (IsWritten emitter.old emitter.new (emitter.old.code.operands)) }
         ensures placed { OnOk result (AddsPlaces emitter.old emitter.new
@@ -249,7 +249,7 @@ impl<F: Fn(&mut Emitter, &Expr, usize, bool) -> Result<(), CompileError>> Coder<
         requires does { (m : _) (e : _) (w : _) (r : _) (n : _) → F.post self.now.writes m e self.now.depth w r n
             → OnOk r (IsWritten m.now n.now (m.now.code.operands + count w)) }
         requires adds { (m : _) (e : _) (w : _) (r : _) (n : _) → F.post self.now.writes m e self.now.depth w r n
-            → OnOk r (AddsPlaces m.now n.now (places_of e.now)) }
+            → OnOk r (AddsPlaces m.now n.now (expr_places e.now)) }
         requires stands { Stands emitter.old }
         requires there { slice_get emitter.old.code.labels end
             ≡ Some (spot emitter.old.code.operands emitter.old.code.level) }
@@ -286,7 +286,7 @@ impl<F: Fn(&mut Emitter, &Expr, usize, bool) -> Result<(), CompileError>> Coder<
         requires does { (m : _) (e : _) (w : _) (r : _) (n : _) → F.post self.now.writes m e self.now.depth w r n
             → OnOk r (IsWritten m.now n.now (m.now.code.operands + count w)) }
         requires adds { (m : _) (e : _) (w : _) (r : _) (n : _) → F.post self.now.writes m e self.now.depth w r n
-            → OnOk r (AddsPlaces m.now n.now (places_of e.now)) }
+            → OnOk r (AddsPlaces m.now n.now (expr_places e.now)) }
         requires stands { Stands emitter.old }
         ensures written { OnOk result (IsWritten emitter.old emitter.new (emitter.old.code.operands)) }
         ensures placed { OnOk result (AddsPlaces emitter.old emitter.new

@@ -2,7 +2,7 @@
 ghost use Rattle.std.specs.Prelude.{◌≡◌, ◌+◌, ◌-◌, ◌≤◌, OnOk};
 ghost use Rattle.grain_emit.specs.Loops.{count};
 ghost use Rattle.grain_emit.specs.Rules.{LeadsAway, IsWritten, Stands, AddsPlaces};
-ghost use Rattle.grain_emit.specs.Places.{both, form_places, here, list_places, optional_places, places_of};
+ghost use Rattle.grain_emit.specs.Places.{both, form_places, here, list_places, optional_places, expr_places};
 
 use crate::coder::Coder;
 use grain::Op;
@@ -23,7 +23,7 @@ impl<F: Fn(&mut Emitter, &Expr, usize, bool) -> Result<(), CompileError>> Coder<
         requires does { (m : _) (e : _) (w : _) (r : _) (n : _) → F.post self.now.writes m e self.now.depth w r n
             → OnOk r (IsWritten m.now n.now (m.now.code.operands + count w)) }
         requires adds { (m : _) (e : _) (w : _) (r : _) (n : _) → F.post self.now.writes m e self.now.depth w r n
-            → OnOk r (AddsPlaces m.now n.now (places_of e.now)) }
+            → OnOk r (AddsPlaces m.now n.now (expr_places e.now)) }
         requires stands { Stands emitter.old }
         ensures written { OnOk result (IsWritten emitter.old emitter.new (emitter.old.code.operands + count is_wanted)) }
         ensures placed { OnOk result (AddsPlaces emitter.old emitter.new
@@ -58,11 +58,11 @@ impl<F: Fn(&mut Emitter, &Expr, usize, bool) -> Result<(), CompileError>> Coder<
         requires does { (m : _) (e : _) (w : _) (r : _) (n : _) → F.post self.now.writes m e self.now.depth w r n
             → OnOk r (IsWritten m.now n.now (m.now.code.operands + count w)) }
         requires adds { (m : _) (e : _) (w : _) (r : _) (n : _) → F.post self.now.writes m e self.now.depth w r n
-            → OnOk r (AddsPlaces m.now n.now (places_of e.now)) }
+            → OnOk r (AddsPlaces m.now n.now (expr_places e.now)) }
         requires stands { Stands emitter.old }
         ensures written { OnOk result (IsWritten emitter.old emitter.new (emitter.old.code.operands + count is_wanted)) }
         ensures placed { OnOk result (AddsPlaces emitter.old emitter.new
-            (both (here place) (both (places_of condition.now) (list_places body.now)))) }
+            (both (here place) (both (expr_places condition.now) (list_places body.now)))) }
     {
         let height = emitter.code.operands();
         let outer = emitter.code.frame()?;
@@ -93,7 +93,7 @@ impl<F: Fn(&mut Emitter, &Expr, usize, bool) -> Result<(), CompileError>> Coder<
         requires does { (m : _) (e : _) (w : _) (r : _) (n : _) → F.post self.now.writes m e self.now.depth w r n
             → OnOk r (IsWritten m.now n.now (m.now.code.operands + count w)) }
         requires adds { (m : _) (e : _) (w : _) (r : _) (n : _) → F.post self.now.writes m e self.now.depth w r n
-            → OnOk r (AddsPlaces m.now n.now (places_of e.now)) }
+            → OnOk r (AddsPlaces m.now n.now (expr_places e.now)) }
         requires stands { Stands emitter.old }
         ensures written { OnOk result (IsWritten emitter.old emitter.new (emitter.old.code.operands + count is_wanted)) }
         ensures placed { OnOk result (AddsPlaces emitter.old emitter.new
@@ -127,11 +127,11 @@ impl<F: Fn(&mut Emitter, &Expr, usize, bool) -> Result<(), CompileError>> Coder<
         requires does { (m : _) (e : _) (w : _) (r : _) (n : _) → F.post self.now.writes m e self.now.depth w r n
             → OnOk r (IsWritten m.now n.now (m.now.code.operands + count w)) }
         requires adds { (m : _) (e : _) (w : _) (r : _) (n : _) → F.post self.now.writes m e self.now.depth w r n
-            → OnOk r (AddsPlaces m.now n.now (places_of e.now)) }
+            → OnOk r (AddsPlaces m.now n.now (expr_places e.now)) }
         requires stands { Stands emitter.old }
         ensures written { OnOk result (IsWritten emitter.old emitter.new (emitter.old.code.operands + count is_wanted)) }
         ensures placed { OnOk result (AddsPlaces emitter.old emitter.new
-            (both (here place) (both (list_places body.now) (places_of repeats.entry.0.now)))) }
+            (both (here place) (both (list_places body.now) (expr_places repeats.entry.0.now)))) }
     {
         let (condition, goes_on) = repeats;
         let height = emitter.code.operands();
@@ -165,11 +165,11 @@ impl<F: Fn(&mut Emitter, &Expr, usize, bool) -> Result<(), CompileError>> Coder<
         requires does { (m : _) (e : _) (w : _) (r : _) (n : _) → F.post self.now.writes m e self.now.depth w r n
             → OnOk r (IsWritten m.now n.now (m.now.code.operands + count w)) }
         requires adds { (m : _) (e : _) (w : _) (r : _) (n : _) → F.post self.now.writes m e self.now.depth w r n
-            → OnOk r (AddsPlaces m.now n.now (places_of e.now)) }
+            → OnOk r (AddsPlaces m.now n.now (expr_places e.now)) }
         requires stands { Stands emitter.old }
         ensures written { OnOk result (IsWritten emitter.old emitter.new (emitter.old.code.operands + count is_wanted)) }
         ensures placed { OnOk result (AddsPlaces emitter.old emitter.new
-            (both (here place) (both (places_of parts.entry.0.now) (list_places parts.entry.1.now)))) }
+            (both (here place) (both (expr_places parts.entry.0.now) (list_places parts.entry.1.now)))) }
     {
         let (name, counter) = names;
         let (items, body) = parts;
@@ -207,7 +207,7 @@ impl<F: Fn(&mut Emitter, &Expr, usize, bool) -> Result<(), CompileError>> Coder<
         requires does { (m : _) (e : _) (w : _) (r : _) (n : _) → F.post self.now.writes m e self.now.depth w r n
             → OnOk r (IsWritten m.now n.now (m.now.code.operands + count w)) }
         requires adds { (m : _) (e : _) (w : _) (r : _) (n : _) → F.post self.now.writes m e self.now.depth w r n
-            → OnOk r (AddsPlaces m.now n.now (places_of e.now)) }
+            → OnOk r (AddsPlaces m.now n.now (expr_places e.now)) }
         requires stands { Stands emitter.old }
         ensures written { OnOk result (IsWritten emitter.old emitter.new (emitter.old.code.operands + count is_wanted)) }
         ensures placed { OnOk result (AddsPlaces emitter.old emitter.new
@@ -226,7 +226,7 @@ impl<F: Fn(&mut Emitter, &Expr, usize, bool) -> Result<(), CompileError>> Coder<
         requires does { (m : _) (e : _) (w : _) (r : _) (n : _) → F.post self.now.writes m e self.now.depth w r n
             → OnOk r (IsWritten m.now n.now (m.now.code.operands + count w)) }
         requires adds { (m : _) (e : _) (w : _) (r : _) (n : _) → F.post self.now.writes m e self.now.depth w r n
-            → OnOk r (AddsPlaces m.now n.now (places_of e.now)) }
+            → OnOk r (AddsPlaces m.now n.now (expr_places e.now)) }
         requires stands { Stands emitter.old }
         ensures away { OnOk result (LeadsAway emitter.old emitter.new) }
         ensures placed { OnOk result (AddsPlaces emitter.old emitter.new
@@ -258,7 +258,7 @@ impl<F: Fn(&mut Emitter, &Expr, usize, bool) -> Result<(), CompileError>> Coder<
         requires does { (m : _) (e : _) (w : _) (r : _) (n : _) → F.post self.now.writes m e self.now.depth w r n
             → OnOk r (IsWritten m.now n.now (m.now.code.operands + count w)) }
         requires adds { (m : _) (e : _) (w : _) (r : _) (n : _) → F.post self.now.writes m e self.now.depth w r n
-            → OnOk r (AddsPlaces m.now n.now (places_of e.now)) }
+            → OnOk r (AddsPlaces m.now n.now (expr_places e.now)) }
         requires stands { Stands emitter.old }
         ensures away { OnOk result (LeadsAway emitter.old emitter.new) }
         ensures placed { OnOk result (AddsPlaces emitter.old emitter.new

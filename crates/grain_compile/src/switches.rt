@@ -4,7 +4,7 @@ ghost use Rattle.grain_assembly.specs.Unfinished.{StaysIn, spot};
 ghost use Rattle.grain_emit.specs.Loops.{count};
 ghost use Rattle.grain_emit.specs.Rules.{IsWritten, Stands, AddsPlaces};
 ghost use Rattle.grain_emit.specs.Switches.{AreArms};
-ghost use Rattle.grain_emit.specs.Places.{pass, arm_places, arms_places, both, here, places_of};
+ghost use Rattle.grain_emit.specs.Places.{pass, arm_places, arms_places, both, here, expr_places};
 
 use crate::coder::Coder;
 use grain::Op;
@@ -25,11 +25,11 @@ impl<F: Fn(&mut Emitter, &Expr, usize, bool) -> Result<(), CompileError>> Coder<
         requires does { (m : _) (e : _) (w : _) (r : _) (n : _) → F.post self.now.writes m e self.now.depth w r n
             → OnOk r (IsWritten m.now n.now (m.now.code.operands + count w)) }
         requires adds { (m : _) (e : _) (w : _) (r : _) (n : _) → F.post self.now.writes m e self.now.depth w r n
-            → OnOk r (AddsPlaces m.now n.now (places_of e.now)) }
+            → OnOk r (AddsPlaces m.now n.now (expr_places e.now)) }
         requires stands { Stands emitter.old }
         ensures written { OnOk result (IsWritten emitter.old emitter.new (emitter.old.code.operands + count is_wanted)) }
         ensures placed { OnOk result (AddsPlaces emitter.old emitter.new
-            (both (here place) (both (places_of subject.now) (arms_places arms.now)))) }
+            (both (here place) (both (expr_places subject.now) (arms_places arms.now)))) }
     {
         check_arms(emitter.alloc, arms)?;
         self.expr(emitter, subject, true)?;
@@ -57,7 +57,7 @@ impl<F: Fn(&mut Emitter, &Expr, usize, bool) -> Result<(), CompileError>> Coder<
         requires does { (m : _) (e : _) (w : _) (r : _) (n : _) → F.post self.now.writes m e self.now.depth w r n
             → OnOk r (IsWritten m.now n.now (m.now.code.operands + count w)) }
         requires adds { (m : _) (e : _) (w : _) (r : _) (n : _) → F.post self.now.writes m e self.now.depth w r n
-            → OnOk r (AddsPlaces m.now n.now (places_of e.now)) }
+            → OnOk r (AddsPlaces m.now n.now (expr_places e.now)) }
         requires stands { Stands emitter.old }
         requires room { emitter.old.code.level.floor + 1 ≤ emitter.old.code.operands }
         requires arms { AreArms labels.now emitter.old.code.operands emitter.old.code }
@@ -95,7 +95,7 @@ impl<F: Fn(&mut Emitter, &Expr, usize, bool) -> Result<(), CompileError>> Coder<
         requires does { (m : _) (e : _) (w : _) (r : _) (n : _) → F.post self.now.writes m e self.now.depth w r n
             → OnOk r (IsWritten m.now n.now (m.now.code.operands + count w)) }
         requires adds { (m : _) (e : _) (w : _) (r : _) (n : _) → F.post self.now.writes m e self.now.depth w r n
-            → OnOk r (AddsPlaces m.now n.now (places_of e.now)) }
+            → OnOk r (AddsPlaces m.now n.now (expr_places e.now)) }
         requires stands { Stands emitter.old }
         requires room { emitter.old.code.level.floor + 1 ≤ emitter.old.code.operands }
         requires arms { AreArms labels.now emitter.old.code.operands emitter.old.code }

@@ -42,92 +42,92 @@ abbrev pub boxed : Option (Box Places Global) → Places
 boxed None = nowhere
 boxed (Some some) = some.value
 
-abbrev pub form_step : Form-F Places Places Places Places Places Places Places Places → Places
-form_step (Form-F.Literal literal) = nowhere
-form_step (Form-F.Name name) = nowhere
-form_step (Form-F.Qualified space name) = nowhere
-form_step Form-F.This = nowhere
-form_step (Form-F.Interpolated pieces) = all_of pieces.items
-form_step (Form-F.Array items) = all_of items.items
-form_step (Form-F.Map entries) = all_of entries.items
-form_step (Form-F.Prefixed operator operand) = operand.value
-form_step (Form-F.Operations first rest) = both first.value (all_of rest.items)
-form_step (Form-F.Call name arguments) = all_of arguments.items
-form_step (Form-F.Access root steps) = both root.value (all_of steps.items)
-form_step (Form-F.Closure index) = nowhere
-form_step (Form-F.Block body) = all_of body.items
-form_step (Form-F.If branches otherwise) = both (all_of branches.items) (all_of otherwise.items)
-form_step (Form-F.Switch subject arms) = both subject.value (all_of arms.items)
-form_step (Form-F.While condition body) = both condition.value (all_of body.items)
-form_step (Form-F.Loop body) = all_of body.items
-form_step (Form-F.Do body condition goes_on) = both (all_of body.items) condition.value
-form_step (Form-F.For name counter items body) = both items.value (all_of body.items)
-form_step (Form-F.Let name is_const value) = boxed value
-form_step (Form-F.Assign target operator value) = both target.value value.value
-form_step (Form-F.Return value) = boxed value
-form_step (Form-F.Throw value) = boxed value
-form_step (Form-F.Break value) = boxed value
-form_step Form-F.Continue = nowhere
-form_step (Form-F.Try body catch catching) = both (all_of body.items) (all_of catching.items)
+abbrev pub form_joined : Form-F Places Places Places Places Places Places Places Places → Places
+form_joined (Form-F.Literal literal) = nowhere
+form_joined (Form-F.Name name) = nowhere
+form_joined (Form-F.Qualified space name) = nowhere
+form_joined Form-F.This = nowhere
+form_joined (Form-F.Interpolated pieces) = all_of pieces.items
+form_joined (Form-F.Array items) = all_of items.items
+form_joined (Form-F.Map entries) = all_of entries.items
+form_joined (Form-F.Prefixed operator operand) = operand.value
+form_joined (Form-F.Operations first rest) = both first.value (all_of rest.items)
+form_joined (Form-F.Call name arguments) = all_of arguments.items
+form_joined (Form-F.Access root steps) = both root.value (all_of steps.items)
+form_joined (Form-F.Closure index) = nowhere
+form_joined (Form-F.Block body) = all_of body.items
+form_joined (Form-F.If branches otherwise) = both (all_of branches.items) (all_of otherwise.items)
+form_joined (Form-F.Switch subject arms) = both subject.value (all_of arms.items)
+form_joined (Form-F.While condition body) = both condition.value (all_of body.items)
+form_joined (Form-F.Loop body) = all_of body.items
+form_joined (Form-F.Do body condition goes_on) = both (all_of body.items) condition.value
+form_joined (Form-F.For name counter items body) = both items.value (all_of body.items)
+form_joined (Form-F.Let name is_const value) = boxed value
+form_joined (Form-F.Assign target operator value) = both target.value value.value
+form_joined (Form-F.Return value) = boxed value
+form_joined (Form-F.Throw value) = boxed value
+form_joined (Form-F.Break value) = boxed value
+form_joined Form-F.Continue = nowhere
+form_joined (Form-F.Try body catch catching) = both (all_of body.items) (all_of catching.items)
 
-abbrev pub part_step : Part-F Places Places Places Places Places Places Places Places → Places
-part_step (Part-F.Index index) = index
-part_step (Part-F.Property name) = nowhere
-part_step (Part-F.Method name arguments) = all_of arguments.items
+abbrev pub part_joined : Part-F Places Places Places Places Places Places Places Places → Places
+part_joined (Part-F.Index index) = index
+part_joined (Part-F.Property name) = nowhere
+part_joined (Part-F.Method name arguments) = all_of arguments.items
 
-abbrev pub access_step : Access-F Places Places Places Places Places Places Places Places → Places
-access_step access = both (here access.place) access.part
+abbrev pub access_joined : Access-F Places Places Places Places Places Places Places Places → Places
+access_joined access = both (here access.place) access.part
 
-abbrev pub arm_step : Arm-F Places Places Places Places Places Places Places Places → Places
-arm_step arm = both (here arm.place) (both (if_any arm.condition) arm.body)
+abbrev pub arm_joined : Arm-F Places Places Places Places Places Places Places Places → Places
+arm_joined arm = both (here arm.place) (both (if_any arm.condition) arm.body)
 
-abbrev pub branch_step : Branch-F Places Places Places Places Places Places Places Places → Places
-branch_step branch = both branch.condition (all_of branch.body.items)
+abbrev pub branch_joined : Branch-F Places Places Places Places Places Places Places Places → Places
+branch_joined branch = both branch.condition (all_of branch.body.items)
 
-abbrev pub entry_step : Entry-F Places Places Places Places Places Places Places Places → Places
-entry_step entry = entry.value
+abbrev pub entry_joined : Entry-F Places Places Places Places Places Places Places Places → Places
+entry_joined entry = entry.value
 
-abbrev pub expr_step : Expr-F Places Places Places Places Places Places Places Places → Places
-expr_step expr = both (here expr.place) expr.form
+abbrev pub expr_joined : Expr-F Places Places Places Places Places Places Places Places → Places
+expr_joined expr = both (here expr.place) expr.form
 
-abbrev pub operation_step : Operation-F Places Places Places Places Places Places Places Places → Places
-operation_step operation = both (here operation.place) operation.right
+abbrev pub operation_joined : Operation-F Places Places Places Places Places Places Places Places → Places
+operation_joined operation = both (here operation.place) operation.right
 
 -- the places of the forms in an expression, its own among them
-abbrev pub places_of : Expr → Places
-places_of = fold-Expr Places Places Places Places Places Places Places Places form_step part_step access_step arm_step branch_step entry_step expr_step operation_step
+abbrev pub expr_places : Expr → Places
+expr_places = fold-Expr Places Places Places Places Places Places Places Places form_joined part_joined access_joined arm_joined branch_joined entry_joined expr_joined operation_joined
 
 -- those of the forms in it, its own apart
 abbrev pub form_places : Form → Places
-form_places = fold-Form Places Places Places Places Places Places Places Places form_step part_step access_step arm_step branch_step entry_step expr_step operation_step
+form_places = fold-Form Places Places Places Places Places Places Places Places form_joined part_joined access_joined arm_joined branch_joined entry_joined expr_joined operation_joined
 
 -- those of an operator and its right operand
 abbrev pub operation_places : Operation → Places
-operation_places = fold-Operation Places Places Places Places Places Places Places Places form_step part_step access_step arm_step branch_step entry_step expr_step operation_step
+operation_places = fold-Operation Places Places Places Places Places Places Places Places form_joined part_joined access_joined arm_joined branch_joined entry_joined expr_joined operation_joined
 
 -- those of a step and what is in it
 abbrev pub step_places : Access → Places
-step_places = fold-Access Places Places Places Places Places Places Places Places form_step part_step access_step arm_step branch_step entry_step expr_step operation_step
+step_places = fold-Access Places Places Places Places Places Places Places Places form_joined part_joined access_joined arm_joined branch_joined entry_joined expr_joined operation_joined
 
 -- those of an entry of an object map
 abbrev pub entry_places : Entry → Places
-entry_places = fold-Entry Places Places Places Places Places Places Places Places form_step part_step access_step arm_step branch_step entry_step expr_step operation_step
+entry_places = fold-Entry Places Places Places Places Places Places Places Places form_joined part_joined access_joined arm_joined branch_joined entry_joined expr_joined operation_joined
 
 -- those of a condition and its block
 abbrev pub branch_places : Branch → Places
-branch_places = fold-Branch Places Places Places Places Places Places Places Places form_step part_step access_step arm_step branch_step entry_step expr_step operation_step
+branch_places = fold-Branch Places Places Places Places Places Places Places Places form_joined part_joined access_joined arm_joined branch_joined entry_joined expr_joined operation_joined
 
 -- those of an arm
 abbrev pub arm_places : Arm → Places
-arm_places = fold-Arm Places Places Places Places Places Places Places Places form_step part_step access_step arm_step branch_step entry_step expr_step operation_step
+arm_places = fold-Arm Places Places Places Places Places Places Places Places form_joined part_joined access_joined arm_joined branch_joined entry_joined expr_joined operation_joined
 
 -- those of an expression that may be left out
 abbrev pub optional_places : Option (Box Expr Global) → Places
 optional_places None = nowhere
-optional_places (Some value) = places_of value.value
+optional_places (Some value) = expr_places value.value
 
 abbrev pub list_places : List Expr → Places
-list_places list = all_of (map places_of list)
+list_places list = all_of (map expr_places list)
 
 abbrev pub operations_places : List Operation → Places
 operations_places list = all_of (map operation_places list)

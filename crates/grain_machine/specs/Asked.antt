@@ -43,5 +43,5 @@ pub record IsAsked (p : Program) (chunk : Span) (at : ℕ) (op : Op) (n : ℕ) :
   pub operands : n ≡ needs (setting_of p) op
 
 -- a kept run of the accepted program meets the operation there, with all that it needs
-abbrev pub Meets : Program → Span → ℕ → Op → Type 0
-Meets p chunk at op = IsAsked p chunk at op (needs (setting_of p) op)
+abbrev pub IsRequested : Program → Span → ℕ → Op → Type 0
+IsRequested p chunk at op = IsAsked p chunk at op (needs (setting_of p) op)

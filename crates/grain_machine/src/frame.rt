@@ -6,7 +6,7 @@ ghost use Rattle.grain_rules.specs.Counts.{without_last};
 ghost use Rattle.grain_rules.specs.Machine.{innermost};
 ghost use Rattle.grain_rules.specs.Rows.{gives};
 ghost use Rattle.grain.specs.Program.{setting_of};
-ghost use Rattle.grain_machine.specs.Asked.{IsAsked, Meets};
+ghost use Rattle.grain_machine.specs.Asked.{IsAsked, IsRequested};
 ghost use Rattle.grain_machine.specs.Reply.{IsGivenHere};
 ghost use Rattle.grain_machine.specs.State.{Advances, Replaces, frame_at, frame_with_handlers};
 ghost use Rattle.grain_machine.specs.State.{frame_with_iterators, frame_with_operands};
@@ -134,7 +134,7 @@ impl<V: Drop, I: Drop> Frame<V, I> {
         request: &Request<'_>,
     ) -> Result<bool, H::Fault>
         requires there { 0 < length self.old.machine.operands }
-        requires met { Meets request.now.program.now request.now.chunk request.now.at
+        requires met { IsRequested request.now.program.now request.now.chunk request.now.at
             request.now.op.now }
         ensures { self.new ≡ frame_with_operands
             (below 1 self.old.machine.operands) self.old }
@@ -379,7 +379,7 @@ impl<V: Drop, I: Drop> Frame<V, I> {
         counter: Option<u16>,
     ) -> Result<Option<V>, H::Fault>
         requires there { 0 < length self.old.machine.iterators }
-        requires met { Meets request.now.program.now request.now.chunk request.now.at
+        requires met { IsRequested request.now.program.now request.now.chunk request.now.at
             request.now.op.now }
         ensures { Advances self.old self.new }
     {

@@ -6,7 +6,7 @@ ghost use Rattle.grain_pools.specs.Dispatch.{arms, dispatched};
 ghost use Rattle.grain_rules.specs.Code.{switch_targets};
 ghost use Rattle.grain_rules.specs.Rows.{gives};
 ghost use Rattle.grain.specs.Program.{setting_of};
-ghost use Rattle.grain_machine.specs.Asked.{IsAsked, Meets};
+ghost use Rattle.grain_machine.specs.Asked.{IsAsked, IsRequested};
 ghost use Rattle.grain_machine.specs.Reply.{NamesFunction};
 
 use grain::Program;
@@ -160,7 +160,7 @@ pub trait Host {
     /// # Errors
     /// Why it is none.
     fn is_true(&mut self, request: &Request<'_>, value: &Self::Value) -> Result<bool, Self::Fault>
-        requires met { Meets request.now.program.now request.now.chunk request.now.at request.now.op.now };
+        requires met { IsRequested request.now.program.now request.now.chunk request.now.at request.now.op.now };
 
     /// Whether a value is unit.
     fn is_unit(&mut self, value: &Self::Value) -> bool;
@@ -175,7 +175,7 @@ pub trait Host {
         switch: &Switch,
         subject: &Self::Value,
     ) -> Result<u32, Self::Fault>
-        requires met { Meets request.now.program.now request.now.chunk request.now.at request.now.op.now }
+        requires met { IsRequested request.now.program.now request.now.chunk request.now.at request.now.op.now }
         ensures { IfOk result (λ target. Contains (switch_targets switch.now) target) };
 
     /// Begins to go over a value.
@@ -187,7 +187,7 @@ pub trait Host {
         request: &Request<'_>,
         value: Self::Value,
     ) -> Result<Self::Iterator, Self::Fault>
-        requires met { Meets request.now.program.now request.now.chunk request.now.at request.now.op.now };
+        requires met { IsRequested request.now.program.now request.now.chunk request.now.at request.now.op.now };
 
     /// The next item, or `None` past the last. Where a slot counts the items, it is the host that counts there.
     ///
@@ -199,11 +199,11 @@ pub trait Host {
         iterator: &mut Self::Iterator,
         counter: Option<u16>,
     ) -> Result<Option<Self::Value>, Self::Fault>
-        requires met { Meets request.now.program.now request.now.chunk request.now.at request.now.op.now };
+        requires met { IsRequested request.now.program.now request.now.chunk request.now.at request.now.op.now };
 
     /// The fault that a value is when it is thrown.
     fn thrown(&mut self, request: &Request<'_>, value: Self::Value) -> Self::Fault
-        requires met { Meets request.now.program.now request.now.chunk request.now.at request.now.op.now };
+        requires met { IsRequested request.now.program.now request.now.chunk request.now.at request.now.op.now };
 
     /// Binds a fault that a handler caught to the name at the index, if it has one.
     ///

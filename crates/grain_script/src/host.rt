@@ -2,7 +2,7 @@
 ghost use Rattle.std.specs.Prelude.{◌≡◌, IfErr, IfOk, length};
 ghost use Rattle.std.specs.List.{Contains};
 ghost use Rattle.grain_rules.specs.Code.{switch_targets};
-ghost use Rattle.grain_machine.specs.Asked.{IsAsked, Meets};
+ghost use Rattle.grain_machine.specs.Asked.{IsAsked, IsRequested};
 ghost use Rattle.grain_machine.specs.Reply.{NamesFunction};
 
 use crate::fault::{Failure, Fault};

@@ -1,7 +1,7 @@
 use Rattle.std.proofs.Common.{◌≡◌, ◌++◌, ◌∷◌, [], List, true, arith, rules, subst}
 use Rattle.grain_compile.proofs.FormParts.{on_ok, own_pass, script_pass}
 use Rattle.grain_emit.proofs.PlaceTests.{each_pass, front_pass, last_pass}
-use Rattle.grain_emit.specs.Places.{list_places, pass, places_of, script_places}
+use Rattle.grain_emit.specs.Places.{list_places, pass, expr_places, script_places}
 use Rattle.grain_syntax.specs.declared.ast.Expr.{Expr}
 use Rattle.grain_compile.proofs.programs.main_chunk.Goals as goal
 
@@ -9,7 +9,7 @@ pub loop-statement-preserved : goal.loop-statement-preserved
 loop-statement-preserved c = record {
   written = search rules;
   placed = λ test these old.
-      let own : pass test (places_of c.statement-item.result) ≡ true = each_pass places_of test c.in-Some.others.now c.loop-statement.statement-index c.statement-item.result (omega arith) c.statement-item.is these in
+      let own : pass test (expr_places c.statement-item.result) ≡ true = each_pass expr_places test c.in-Some.others.now c.loop-statement.statement-index c.statement-item.result (omega arith) c.statement-item.is these in
       c.in_ok-expr.ensures.placed test own
       (c.in_ok-put-2.ensures.placed test (own_pass test c.statement-item.result own) (c.loop-statement.invariant.placed test these old));
 }
@@ -20,10 +20,10 @@ returns-clause-placed c =
     on_ok c.ended-2.result
     (λ given test these old.
     let all : pass test (list_places (c.in-Some.others.now ++ c.in-Some.last.now ∷ [])) ≡ true = script_pass test c.in-Some.others.now c.in-Some.last.now (subst (λ (xs : List Expr). pass test (script_places xs) ≡ true) split these) in
-    let mine : pass test (places_of c.in-Some.last.now) ≡ true = last_pass places_of test c.in-Some.others.now c.in-Some.last.now all in
+    let mine : pass test (expr_places c.in-Some.last.now) ≡ true = last_pass expr_places test c.in-Some.others.now c.in-Some.last.now all in
     let place : test c.in-Some.last.now.place ≡ true = own_pass test c.in-Some.last.now mine in
     given test place
     (c.in_ok-expr-2.ensures.placed test mine
     (c.in_ok-put-3.ensures.placed test place
-    (c.loop-statement.invariant.placed test (front_pass places_of test c.in-Some.others.now c.in-Some.last.now all) old))))
+    (c.loop-statement.invariant.placed test (front_pass expr_places test c.in-Some.others.now c.in-Some.last.now all) old))))
     c.ended-2.ensures.placed

@@ -1,5 +1,5 @@
 use Rattle.std.proofs.Common.{arith, rules}
-use Rattle.grain_emit.specs.Places.{places_of}
+use Rattle.grain_emit.specs.Places.{expr_places}
 use Rattle.grain_emit.proofs.PlaceTests.{each_pass}
 use Rattle.grain_compile.proofs.coder.Coder.all.Goals as goal
 
@@ -8,6 +8,6 @@ loop-item-preserved g c = record {
   written = search rules;
   placed = λ test these old.
       c.in_ok-expr.ensures.placed test
-      (each_pass places_of test c.args.list.now c.loop-item.item-index c.item-item.result (omega arith) c.item-item.is these)
+      (each_pass expr_places test c.args.list.now c.loop-item.item-index c.item-item.result (omega arith) c.item-item.is these)
       (c.loop-item.invariant.placed test these old);
 }

@@ -1,7 +1,7 @@
 use Rattle.std.proofs.Common.{◌≡◌, ◌++◌, ◌∷◌, [], List, true, arith, rules, subst}
 use Rattle.grain_compile.proofs.FormParts.{on_ok}
 use Rattle.grain_emit.proofs.PlaceTests.{and_right, each_pass, front_pass, last_pass}
-use Rattle.grain_emit.specs.Places.{list_places, pass, places_of}
+use Rattle.grain_emit.specs.Places.{list_places, pass, expr_places}
 use Rattle.grain_syntax.specs.declared.ast.Expr.{Expr}
 use Rattle.grain_compile.proofs.coder.Coder.statements.Goals as goal
 
@@ -10,7 +10,7 @@ loop-statement-preserved g c = record {
   written = search rules;
   placed = λ test these old.
       c.in_ok-expr.ensures.placed test
-      (each_pass places_of test c.in-Some.others.now c.loop-statement.statement-index c.statement-item.result (omega arith) c.statement-item.is these)
+      (each_pass expr_places test c.in-Some.others.now c.loop-statement.statement-index c.statement-item.result (omega arith) c.statement-item.is these)
       (c.loop-statement.invariant.placed test these old);
 }
 
@@ -20,5 +20,5 @@ returns-clause-placed g c =
     on_ok c.expr-2.result
     (λ given test these old.
     let all : pass test (list_places (c.in-Some.others.now ++ c.in-Some.last.now ∷ [])) ≡ true = subst (λ (xs : List Expr). pass test (list_places xs) ≡ true) split (and_right (test c.args.place) (pass test (list_places c.args.statements.now)) these) in
-    given test (last_pass places_of test c.in-Some.others.now c.in-Some.last.now all) (c.loop-statement.invariant.placed test (front_pass places_of test c.in-Some.others.now c.in-Some.last.now all) old))
+    given test (last_pass expr_places test c.in-Some.others.now c.in-Some.last.now all) (c.loop-statement.invariant.placed test (front_pass expr_places test c.in-Some.others.now c.in-Some.last.now all) old))
     c.expr-2.ensures.placed
