@@ -5,7 +5,6 @@ use Rattle.std.specs.List.{Contains}
 use Rattle.grain_code.specs.declared.op.Op.TheVariants as ops
 use Rattle.grain_rules.specs.Counts.{without_last}
 use Rattle.grain_rules.specs.Flow as flows
-use Rattle.grain_rules.specs.Flow.{Flow}
 use Rattle.grain_rules.proofs.Splits.{in_nil}
 use Rattle.grain_assembly.specs.Unfinished.{Level, spot, level_with_handler, level_with_iterator, level_without_iterator}
 use Rattle.grain_assembly.specs.Sound.{IsBased, IsWellMade, Workings}

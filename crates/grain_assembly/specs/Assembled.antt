@@ -1,13 +1,22 @@
 -- What the fields of an assembler say.
 use Rattle.std.specs.Prelude.{ℕ, List, [], ◌∷◌, ◌++◌, map}
+use Rattle.grain_code.specs.declared.op.Op.{Op}
+use Rattle.grain_lexer.specs.declared.error.Place.{Place}
 use Rattle.grain_assembly.specs.Sound.{Workings}
 use Rattle.grain_assembly.specs.Unfinished.{Spot, Unfinished, spot}
 use Rattle.grain_assembly.specs.declared.assembler.Assembler.TheInside.{Inside}
 use Rattle.grain_assembly.specs.declared.assembler.Label.{Label}
+use Rattle.grain_assembly.specs.declared.assembler.PlacedOp.{PlacedOp}
 use Rattle.grain_assembly.specs.declared.assembler.Targets.{Targets}
 
 abbrev pub spot_at : Label → Spot
 spot_at l = spot l.operands l.frame
+
+abbrev pub op_in : PlacedOp → Op
+op_in p = p.op
+
+abbrev pub place_in : PlacedOp → Place
+place_in p = p.place
 
 abbrev pub label_place : Label → ℕ
 label_place l = l.at
@@ -18,7 +27,7 @@ targets_of t = t.cases.items ++ t.default ∷ []
 
 abbrev pub workings_of : Inside → Workings
 workings_of a = record {
-  ops = a.ops.items;
+  ops = map op_in a.ops.items;
   chains = a.chains.items;
   tables = map targets_of a.tables.items;
   labels = map spot_at a.labels.items;
@@ -39,5 +48,5 @@ written a = record {
   outers = map (λ (l : Label). l.outer) a.labels.items;
   pending = a.pending;
   fixed = a.is_fixed;
-  places = a.places.items;
+  places = map place_in a.ops.items;
 }

@@ -23,9 +23,11 @@ abbrev pub AreTypedCuts : List Op → List Chain → List (List ℕ) → List Sp
 AreTypedCuts ops chains tables cuts =
     (s : Setting) (leads : List (List ℕ)) (j : ℕ) (cut : Span) → HasChains s chains → ((op : Op) → Allows s.caps (caps_of s op)) → LeadAmong leads tables → slice_get cuts j ≡ Some cut → HasTyping (code_by_index s ops leads) cut cut.max_stack
 
--- There is a chunk, each has a typing by index and lies among the operations, and switches lead to operations or behind the last.
+-- There is a chunk, each has a typing by index and lies among the operations, switches lead to operations or behind the last, and
+-- each operation has a place.
 pub record IsComplete (done : Assembled) : Type 0 where
   pub typed : AreTypedCuts done.ops.items done.chains.items (map targets_of done.tables.items) done.cuts.items
   pub cuts : All (IsCut (length done.ops.items)) done.cuts.items
   pub some : 1 ≤ length done.cuts.items
   pub leads : LeadWithin (length done.ops.items) (map targets_of done.tables.items)
+  pub placed : length done.places.items ≡ length done.ops.items

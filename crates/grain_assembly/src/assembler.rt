@@ -20,6 +20,15 @@ pub struct Label {
     pub frame: Frame,
 }
 
+/// An operation, whose targets are labels, and its place in the source text.
+#[derive(Clone, Copy)]
+pub struct PlacedOp {
+    /// The operation.
+    pub op: Op,
+    /// The place of the form that it is made from.
+    pub place: Place,
+}
+
 /// Where a switch leads.
 #[derive(Drop)]
 pub struct Targets {
@@ -33,8 +42,7 @@ pub struct Targets {
 #[derive(Drop)]
 pub struct Assembler {
     pub(crate) alloc: Global,
-    pub(crate) ops: Vec<Op>,
-    pub(crate) places: Vec<Place>,
+    pub(crate) ops: Vec<PlacedOp>,
     pub(crate) chains: Vec<Chain>,
     pub(crate) tables: Vec<Targets>,
     pub(crate) labels: Vec<Label>,

@@ -6,7 +6,7 @@ ghost use Rattle.grain_rules.specs.Counts.{without_last};
 ghost use Rattle.grain_assembly.specs.Assembled.{targets_of};
 ghost use Rattle.grain_assembly.specs.Unfinished.{StaysIn, LeavesOperands, SameLabels, spot, level_with_handler, level_with_iterator, level_without_iterator, AddsPlace};
 
-use crate::assembler::{Assembler, Targets};
+use crate::assembler::{Assembler, PlacedOp, Targets};
 use crate::frame::Frame;
 use crate::writing::{MAX_OPERANDS, too_many};
 use grain_code::Op;
@@ -26,8 +26,8 @@ impl Assembler {
         ensures placed { OnOk result (AddsPlace self.old self.new place) }
     {
         let frame = self.frame.with_iterator(place)?;
-        self.places.push(place)?;
-        self.ops.push(Op::IterInit)?;
+        let op = Op::IterInit;
+        self.ops.push(PlacedOp { op, place })?;
         self.operands -= 1;
         self.frame = frame;
         self.is_fixed = true;
@@ -54,8 +54,8 @@ impl Assembler {
         if self.operands >= MAX_OPERANDS {
             return Err(too_many(place));
         }
-        self.places.push(place)?;
-        self.ops.push(Op::IterNext { exit, counter_slot })?;
+        let op = Op::IterNext { exit, counter_slot };
+        self.ops.push(PlacedOp { op, place })?;
         self.operands += 1;
         self.is_fixed = true;
         Ok(())
@@ -73,8 +73,8 @@ impl Assembler {
         ensures placed { OnOk result (AddsPlace self.old self.new place) }
     {
         let frame = self.frame.without_iterator()?;
-        self.places.push(place)?;
-        self.ops.push(Op::IterDrop)?;
+        let op = Op::IterDrop;
+        self.ops.push(PlacedOp { op, place })?;
         self.frame = frame;
         self.is_fixed = true;
         Ok(())
@@ -114,11 +114,11 @@ impl Assembler {
         ensures placed { OnOk result (AddsPlace self.old self.new place) }
     {
         let frame = self.frame.with_handler(self.operands)?;
-        self.places.push(place)?;
-        self.ops.push(Op::PushHandler {
+        let op = Op::PushHandler {
             target: label,
             catch_var: name,
-        })?;
+        };
+        self.ops.push(PlacedOp { op, place })?;
         self.frame = frame;
         self.is_fixed = true;
         Ok(())
@@ -139,8 +139,8 @@ impl Assembler {
         ensures placed { OnOk result (AddsPlace self.old self.new place) }
     {
         let _based = &outer.floor;
-        self.places.push(place)?;
-        self.ops.push(Op::PopHandler)?;
+        let op = Op::PopHandler;
+        self.ops.push(PlacedOp { op, place })?;
         self.frame = outer;
         self.is_fixed = true;
         Ok(())
@@ -163,9 +163,9 @@ impl Assembler {
             return Err(CompileError::new(place, Problem::TooMany(Thing::Switches)));
         };
         let index = u32::from(index);
-        self.places.push(place)?;
         self.tables.push(targets)?;
-        self.ops.push(Op::Switch(index))?;
+        let op = Op::Switch(index);
+        self.ops.push(PlacedOp { op, place })?;
         self.is_fixed = false;
         Ok(index)
     }
@@ -188,9 +188,9 @@ impl Assembler {
         if kept >= MAX_OPERANDS {
             return Err(too_many(place));
         }
-        self.places.push(place)?;
         self.chains.push(chain)?;
-        self.ops.push(Op::Chain(index))?;
+        let op = Op::Chain(index);
+        self.ops.push(PlacedOp { op, place })?;
         self.operands = kept + 1;
         self.is_fixed = true;
         Ok(())

@@ -30,7 +30,6 @@ impl Assembler {
         Assembler {
             alloc,
             ops: Vec::new(alloc),
-            places: Vec::new(alloc),
             chains: Vec::new(alloc),
             tables: Vec::new(alloc),
             labels: Vec::new(alloc),

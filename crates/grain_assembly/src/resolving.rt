@@ -1,10 +1,10 @@
 //! Labels become indices of operations.
 ghost use Rattle.std.specs.Prelude.{◌≡◌, ◌≤◌, IfOk, map, slice_index};
-ghost use Rattle.grain_assembly.specs.Assembled.{label_place, targets_of};
+ghost use Rattle.grain_assembly.specs.Assembled.{label_place, op_in, place_in, targets_of};
 ghost use Rattle.grain_assembly.specs.Finished.{IsComplete};
 ghost use Rattle.grain_assembly.specs.Resolved.{resolved_op, resolved_tables};
 
-use crate::assembler::{Assembler, Label, Targets};
+use crate::assembler::{Assembler, Label, PlacedOp, Targets};
 use grain_code::{Chunk, Op};
 use grain_lexer::{CompileError, Place};
 use grain_pools::Chain;
@@ -65,12 +65,23 @@ fn resolve(op: Op, places: &[u32]) -> Op
     }
 }
 
-fn resolve_ops(alloc: Global, ops: &[Op], places: &[u32]) -> Result<Vec<Op>, AllocError>
-    ensures { IfOk result (λ v. v.items ≡ map (resolved_op places.now) ops.now) }
+fn resolve_ops(alloc: Global, ops: &[PlacedOp], places: &[u32]) -> Result<Vec<Op>, AllocError>
+    ensures { IfOk result (λ v. v.items ≡ map (resolved_op places.now) (map op_in ops.now)) }
 {
     let mut found = Vec::new(alloc);
-    for op in ops {
-        found.push(resolve(*op, places))?;
+    for placed in ops {
+        found.push(resolve(placed.op, places))?;
+    }
+    Ok(found)
+}
+
+/// The places of the operations in the source text.
+fn source_places(alloc: Global, ops: &[PlacedOp]) -> Result<Vec<Place>, AllocError>
+    ensures { IfOk result (λ v. v.items ≡ map place_in ops.now) }
+{
+    let mut found = Vec::new(alloc);
+    for placed in ops {
+        found.push(placed.place)?;
     }
     Ok(found)
 }
@@ -135,9 +146,10 @@ impl Assembler {
         let targets = places_of(self.alloc, &self.labels)?;
         let tables = resolve_tables(self.alloc, &self.tables, &targets)?;
         let ops = resolve_ops(self.alloc, &self.ops, &targets)?;
+        let places = source_places(self.alloc, &self.ops)?;
         Ok(Assembled {
             ops,
-            places: self.places,
+            places,
             chains: self.chains,
             tables,
             cuts: self.cuts,

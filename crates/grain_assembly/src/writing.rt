@@ -5,7 +5,7 @@ ghost use Rattle.grain_rules.specs.Rows.{flow_of};
 ghost use Rattle.grain_assembly.specs.Fitting.{HasEffect};
 ghost use Rattle.grain_assembly.specs.Unfinished.{LeavesOperands, spot, AddsPlace};
 
-use crate::assembler::Assembler;
+use crate::assembler::{Assembler, PlacedOp};
 use grain_code::Op;
 use grain_lexer::{CompileError, Place, Problem, Thing};
 
@@ -39,8 +39,7 @@ impl Assembler {
         if gives > MAX_OPERANDS.saturating_sub(kept) {
             return Err(too_many(place));
         }
-        self.places.push(place)?;
-        self.ops.push(op)?;
+        self.ops.push(PlacedOp { op, place })?;
         self.operands = kept + gives;
         self.is_fixed = true;
         Ok(())
@@ -67,8 +66,7 @@ impl Assembler {
         if left > MAX_OPERANDS {
             return Err(too_many(place));
         }
-        self.places.push(place)?;
-        self.ops.push(op)?;
+        self.ops.push(PlacedOp { op, place })?;
         self.operands = left;
         self.is_fixed = false;
         Ok(())
@@ -88,8 +86,8 @@ impl Assembler {
         if left > MAX_OPERANDS {
             return Err(too_many(place));
         }
-        self.places.push(place)?;
-        self.ops.push(Op::Jump(label))?;
+        let op = Op::Jump(label);
+        self.ops.push(PlacedOp { op, place })?;
         self.operands = left;
         self.is_fixed = false;
         Ok(())
@@ -114,8 +112,7 @@ impl Assembler {
         ensures placed { OnOk result (AddsPlace self.old self.new place) }
     {
         let operands = self.operands - takes;
-        self.places.push(place)?;
-        self.ops.push(op)?;
+        self.ops.push(PlacedOp { op, place })?;
         self.operands = operands;
         self.is_fixed = true;
         Ok(())

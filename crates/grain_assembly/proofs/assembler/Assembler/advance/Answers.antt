@@ -1,4 +1,5 @@
 use Rattle.std.proofs.Common.{◌≡◌, ◌+◌, ◌≤◌, sym, subst, arith, Some}
+use Rattle.std.proofs.lemmas.List.{map-append}
 use Rattle.std.specs.Prelude.{slice_get}
 use Rattle.grain_assembly.specs.Assembled.{workings_of}
 use Rattle.grain_assembly.specs.Sound.{Workings}
@@ -12,4 +13,4 @@ invariant_of-self-2 c =
     let room : k.level.floor ≤ k.operands = subst (λ (w : Unfinished). w.level.floor ≤ w.operands) (sym c.self.view_is) c.requires.room in
     let one : k.level.least + 1 ≤ k.level.iterators = subst (λ (w : Unfinished). w.level.least + 1 ≤ w.level.iterators) (sym c.self.view_is) c.requires.one in
     let there : slice_get k.labels c.args.exit ≡ Some (spot k.operands (level_without_iterator k.level)) = subst (λ (w : Unfinished). slice_get w.labels c.args.exit ≡ Some (spot w.operands (level_without_iterator w.level))) (sym c.self.view_is) c.requires.there in
-    rw c.in_ok-push-2.ensures.items (advance k c.self.invariant c.args.exit c.args.counter_slot room one there (omega arith))
+    rw (c.in_ok-push.ensures.items, map-append) (advance k c.self.invariant c.args.exit c.args.counter_slot room one there (omega arith))

@@ -1,6 +1,7 @@
 use Rattle.std.proofs.Common.{◌≡◌, ◌+◌, Some, length, rules, sym, ap, subst, ◌∙◌}
 use Rattle.std.specs.Prelude.{slice_get}
-use Rattle.grain_assembly.specs.Assembled.{workings_of}
+use Rattle.std.proofs.lemmas.List.{length-map}
+use Rattle.grain_assembly.specs.Assembled.{op_in, workings_of}
 use Rattle.grain_assembly.specs.Sound.{Workings}
 use Rattle.grain_assembly.specs.Unfinished.{Unfinished, spot}
 use Rattle.grain_assembly.proofs.LabelLists.{bound_in, outer_there, same_outers, same_spots}
@@ -11,7 +12,7 @@ invariant_of-self c =
     let k : Workings = workings_of c.self.inside in
     let here : slice_get k.labels c.args.label ≡ Some (spot k.operands k.level) = subst (λ (w : Unfinished). slice_get w.labels c.args.label ≡ Some (spot w.operands w.level)) (sym c.self.view_is) c.requires.here in
     let inner : k.pending ≡ c.args.label + 1 = subst (λ (w : Unfinished). w.pending ≡ c.args.label + 1) (sym c.self.view_is) c.requires.innermost in
-    let many : c.in-Ok.at ≡ length c.self.inside.ops.items = search rules in
+    let many : c.in-Ok.at ≡ length k.ops = (let h : c.in-Ok.at ≡ length c.self.inside.ops.items = search rules in h) ∙ sym (length-map c.self.inside.ops.items op_in) in
     bound_in k c.self.inside.labels.items c.args.label c.in-Ok.at c.index.result.now c.index_mut.result.now c.self.invariant here inner c.index.ensures c.index_mut.ensures.value many c.if-at-lt-NOWHERE.true
 
 pub returns-clause-pending : goal.returns-clause-pending

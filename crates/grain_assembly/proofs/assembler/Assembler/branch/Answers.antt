@@ -1,4 +1,5 @@
 use Rattle.std.proofs.Common.{◌≡◌, ◌+◌, ◌-◌, ◌≤◌, sym, subst, arith, Some}
+use Rattle.std.proofs.lemmas.List.{map-append}
 use Rattle.std.specs.Prelude.{slice_get}
 use Rattle.grain_assembly.specs.Assembled.{workings_of}
 use Rattle.grain_assembly.specs.Fitting.{HasEffect}
@@ -15,5 +16,5 @@ invariant_of-self-2 c =
     let few : c.self.inside.operands ≤ 65535 = c.self.invariant.room in
     let zero : k.operands - c.args.takes + 0 ≡ k.operands - c.args.takes = omega arith in
     let there : slice_get k.labels c.args.label ≡ Some (spot (k.operands - c.args.takes) k.level) = subst (λ (w : Unfinished). slice_get w.labels c.args.label ≡ Some (spot (w.operands - c.args.takes) w.level)) (sym c.self.view_is) c.requires.there in
-    rw c.in_ok-push-2.ensures.items
+    rw (c.in_ok-push.ensures.items, map-append)
     (rw (← zero) (put_branch k c.self.invariant c.args.op c.args.takes 0 (record { needs_some = λ s h. (does s).0; takes_some = λ s h. (does s).1; gives_some = λ s h. (does s).2 }) c.args.label c.requires.branches room (rw zero there) (omega arith)))

@@ -1,4 +1,5 @@
 use Rattle.std.proofs.Common.{◌≡◌, ◌≤◌, length, sym, subst}
+use Rattle.std.proofs.lemmas.List.{map-append}
 use Rattle.grain_rules.specs.Counts.{without_last}
 use Rattle.grain_assembly.specs.Assembled.{workings_of}
 use Rattle.grain_assembly.specs.Sound.{IsBased, Workings}
@@ -14,4 +15,4 @@ invariant_of-self-2 c =
     let iterators : c.args.outer.iterators ≡ k.level.iterators = subst (λ (w : Unfinished). c.args.outer.iterators ≡ w.level.iterators) (sym c.self.view_is) c.requires.iterators in
     let home : c.args.outer.home ≡ k.level.home = subst (λ (w : Unfinished). c.args.outer.home ≡ w.level.home) (sym c.self.view_is) c.requires.home in
     let based : IsBased c.args.outer = subst (λ (l : Level). IsBased l) c.outer.view_is c.outer.invariant in
-    rw c.in_ok-push-2.ensures.items (disarm k c.self.invariant c.args.outer armed bases iterators home based)
+    rw (c.in_ok-push.ensures.items, map-append) (disarm k c.self.invariant c.args.outer armed bases iterators home based)

@@ -1,4 +1,5 @@
 use Rattle.std.proofs.Common.{◌+◌, ◌≤◌, sym, subst}
+use Rattle.std.proofs.lemmas.List.{map-append}
 use Rattle.grain_assembly.specs.Assembled.{workings_of}
 use Rattle.grain_assembly.specs.Sound.{Workings}
 use Rattle.grain_assembly.specs.Unfinished.{Unfinished}
@@ -9,4 +10,4 @@ pub invariant_of-self-2 : goal.invariant_of-self-2
 invariant_of-self-2 c =
     let k : Workings = workings_of c.self.inside in
     let one : k.level.least + 1 ≤ k.level.iterators = subst (λ (w : Unfinished). w.level.least + 1 ≤ w.level.iterators) (sym c.self.view_is) c.requires in
-    rw (c.in_ok-push-2.ensures.items, c.in_ok-frame.ensures) (drop_iterator k c.self.invariant one)
+    rw (c.in_ok-push.ensures.items, map-append, c.in_ok-frame.ensures) (drop_iterator k c.self.invariant one)

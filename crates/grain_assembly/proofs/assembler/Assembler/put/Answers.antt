@@ -1,4 +1,5 @@
 use Rattle.std.proofs.Common.{◌+◌, ◌≤◌, inl, sym, subst, arith}
+use Rattle.std.proofs.lemmas.List.{map-append}
 use Rattle.grain_assembly.specs.Assembled.{workings_of}
 use Rattle.grain_assembly.specs.Fitting.{HasEffect}
 use Rattle.grain_assembly.specs.Sound.{Workings}
@@ -12,5 +13,5 @@ invariant_of-self-2 c =
     let does : HasEffect c.args.op k.operands c.args.takes c.args.gives = subst (λ (w : Unfinished). HasEffect c.args.op w.operands c.args.takes c.args.gives) (sym c.self.view_is) c.requires.does in
     let room : k.level.floor + c.args.takes ≤ k.operands = subst (λ (w : Unfinished). w.level.floor + c.args.takes ≤ w.operands) (sym c.self.view_is) c.requires.room in
     let few : c.self.inside.operands ≤ 65535 = c.self.invariant.room in
-    rw c.in_ok-push-2.ensures.items
+    rw (c.in_ok-push.ensures.items, map-append)
     (put_plain k c.self.invariant c.args.op c.args.takes c.args.gives (record { needs_some = λ s h. (does s).0; takes_some = λ s h. (does s).1; gives_some = λ s h. (does s).2 }) c.requires.falls (inl room) (omega arith))

@@ -9,10 +9,10 @@ use Rattle.grain_assembly.proofs.Marks.{one_table}
 use Rattle.grain_assembly.proofs.Frames.{switched_new}
 use Rattle.grain_assembly.proofs.assembler.Assembler.switch.Goals as goal
 
-pub invariant_of-self-in_err-push-3 : goal.invariant_of-self-in_err-push-3
-invariant_of-self-in_err-push-3 c =
-    let same : c.push-3.new.self.items ≡ c.self.inside.ops.items = search rules in
-    rw (same, c.in_ok-push-2.ensures.items, map-append) (one_table (workings_of c.self.inside) c.self.invariant (targets_of c.args.targets))
+pub invariant_of-self-in_err-push-2 : goal.invariant_of-self-in_err-push-2
+invariant_of-self-in_err-push-2 c =
+    let same : c.push-2.new.self.items ≡ c.self.inside.ops.items = search rules in
+    rw (same, c.in_ok-push.ensures.items, map-append) (one_table (workings_of c.self.inside) c.self.invariant (targets_of c.args.targets))
 
 pub invariant_of-self-2 : goal.invariant_of-self-2
 invariant_of-self-2 c =
@@ -21,4 +21,4 @@ invariant_of-self-2 c =
     let there : (l : ℕ) → Contains (targets_of c.args.targets) l → slice_get k.labels l ≡ Some (spot k.operands k.level) = subst (λ (w : Unfinished). (l : ℕ) → Contains (targets_of c.args.targets) l → slice_get w.labels l ≡ Some (spot w.operands w.level)) (sym c.self.view_is) c.requires.there in
     let many = length-map c.self.inside.tables.items targets_of in
     let first : c.from-index.result ≡ length c.self.inside.tables.items = search rules in
-    rw (c.in_ok-push-3.ensures.items, c.in_ok-push-2.ensures.items, map-append) (switched_new k c.self.invariant c.from-index.result (targets_of c.args.targets) (first ∙ sym many) room there)
+    rw (c.in_ok-push-2.ensures.items, c.in_ok-push.ensures.items, map-append, map-append) (switched_new k c.self.invariant c.from-index.result (targets_of c.args.targets) (first ∙ sym many) room there)
