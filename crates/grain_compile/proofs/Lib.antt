@@ -1,6 +1,7 @@
 pub mod AllAllowed
 pub mod BuildPremises
 pub mod FormParts
+pub mod LocatedPositions
 pub mod PlacedPositions
 pub mod StepParts
 pub mod SwitchParts

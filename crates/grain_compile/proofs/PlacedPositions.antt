@@ -1,6 +1,6 @@
 -- Positions in parts and in the whole, and what chains take off the stack whatever their positions.
 use Rattle.std.proofs.Common.{◌≡◌, ℕ, ◌+◌, ◌<◌, zero, suc, List, [], ◌∷◌, Bool, true, false, Option, Some, None, Result, Ok, Err, cond, length, get_or, map, ap, refl, subst, sym, ◌∙◌, arith}
-use Rattle.std.specs.Prelude.{◌&&◌, IfOk, IfSome, option_map}
+use Rattle.std.specs.Prelude.{IfOk, IfSome, option_map}
 use Rattle.std.specs.List.{All, flat_map, list_all}
 use Rattle.std.proofs.Math.ListN.{get_or-map}
 use Rattle.std.proofs.lemmas.List.{length-map}

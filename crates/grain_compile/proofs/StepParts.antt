@@ -1,5 +1,5 @@
 -- The places of some entries of a list.
-use Rattle.std.proofs.Common.{◌≡◌, ℕ, ◌-◌, Bool, true, List, [], drop, map, take, Option, Some, None, refl, ap, subst, sym, ◌∙◌}
+use Rattle.std.proofs.Common.{◌≡◌, ℕ, ◌-◌, Bool, true, List, [], drop, map, Option, Some, None, ap, ◌∙◌}
 use Rattle.std.specs.Option.{UnwrapsOrElse}
 use Rattle.std.specs.Prelude.{IfSome}
 use Rattle.std.specs.Slice.{IsGetRangeResult, IsItemAt}

@@ -1,10 +1,13 @@
 -- Where the positions of a program lie in its source text.
-use Rattle.std.specs.Prelude.{◌≡◌, ℕ, Bool, true, List, IfSome}
+use Rattle.std.specs.Prelude.{◌≡◌, ◌<◌, ◌≤◌, ℕ, Bool, true, List, IfSome, Option, Some, None, length, map, option_map, slice_get, slice_index}
 use Rattle.std.specs.List.{All, flat_map, list_all}
 use Rattle.grain_base.specs.Place.{place_of}
 use Rattle.grain_base.specs.declared.position.Position.{Position}
+use Rattle.grain_bytecode.specs.Positions.{place_at}
+use Rattle.grain_code.specs.Split.{Split}
 use Rattle.grain_pools.specs.Chain.{positions}
-use Rattle.grain.specs.Program.{Program}
+use Rattle.grain_rules.specs.Layout.{IsStart}
+use Rattle.grain.specs.Program.{Program, places_of}
 use Rattle.grain_emit.specs.Places.{IsOneOf, Places}
 use Rattle.grain_lexer.specs.declared.error.Place.{Place}
 use Rattle.grain_lexer.specs.Places.{IsInLines, LiesIn}
@@ -34,3 +37,36 @@ pub record IsKeptPosition (lengths : List ℕ) (places : List Place) (position :
 pub record ArePositions (P : Position → Type 0) (p : Program) : Type 0 where
   pub code : IfSome p.positions (All P)
   pub chains : All P (flat_map positions p.chains)
+
+-- the place lies in lines of these lengths, and a position has room for its numbers
+pub record FitsPosition (lengths : List ℕ) (place : Place) : Type 0 where
+  pub listed : IsInLines lengths place
+  pub line : place.line ≤ 65535
+  pub column : place.column ≤ 65535
+
+-- What is found is the place if it fits, and nothing otherwise.
+pub record IsPositionFor (lengths : List ℕ) (place : Place) (found : Option (ℕ × ℕ)) : Type 0 where
+  pub kept : FitsPosition lengths place → found ≡ Some (place.line, place.column)
+  pub lost : (FitsPosition lengths place → ⊥) → found ≡ None
+
+-- at the address of each index the place of that index is found
+abbrev pub ArePlacedAt : List ℕ → List Place → List ℕ → Option (List Position) → Type 0
+ArePlacedAt lengths places offsets found =
+    (i : ℕ) (place : Place) → slice_get places i ≡ Some place → IsPositionFor lengths place (place_at (option_map (λ positions. map place_of positions) found) (slice_index offsets i))
+
+-- the first offsets, so many of them, lie in code of this length, and no other offset is the same
+pub record AreApart (count len : ℕ) (offsets : List ℕ) : Type 0 where
+  pub some : count ≤ length offsets
+  pub inside : (i : ℕ) → i < count → slice_index offsets i < len
+  pub apart : (i j : ℕ) → i < count → j < length offsets → slice_index offsets i ≡ slice_index offsets j → i ≡ j
+
+-- The code is as many instructions as there are places, each of which has the place of its index.
+pub record IsLocated (lengths : List ℕ) (places : List Place) (p : Program) : Type 0 where
+  pub starts : List ℕ
+  pub split : Split p.code starts
+  pub count : length starts ≡ length places
+  pub placed : ArePlacedAt lengths places starts p.positions
+
+-- each instruction of the code is for one of these places, and has it as its position if it fits
+abbrev pub EachHasPlace : List ℕ → Places → Program → Type 0
+EachHasPlace lengths places p = (at : ℕ) → IsStart p.code at → (place : Place) × IsOneOf places place × IsPositionFor lengths place (place_at (places_of p) at)

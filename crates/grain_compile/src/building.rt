@@ -1,5 +1,5 @@
 //! From the code that was made to an accepted program.
-ghost use Rattle.std.specs.Prelude.{◌≡◌, ◌+◌, ◌≤◌, IfOk, IfSome, OnOk, length, map, take};
+ghost use Rattle.std.specs.Prelude.{◌≡◌, ◌+◌, ◌≤◌, ℕ, List, IfOk, IfSome, OnOk, Some, length, map, slice_get, take};
 ghost use Rattle.std.specs.List.{All};
 ghost use Rattle.grain_base.specs.declared.caps.Caps.{Caps};
 ghost use Rattle.grain_code.specs.Assembly.{CanAssemble, IsAssembly};
@@ -9,7 +9,10 @@ ghost use Rattle.grain.specs.Build.{CanBuild, draft, setting_with, span_of};
 ghost use Rattle.grain.specs.Program.{declared_by, input_of, listed_positions};
 ghost use Rattle.grain_assembly.specs.Finished.{IsComplete};
 ghost use Rattle.grain_compile.specs.Capabilities.{every_capability};
-ghost use Rattle.grain_compile.specs.Positions.{ArePositions, IsKeptPosition, IsListedPosition, IsPositionIn};
+ghost use Rattle.grain_compile.specs.Positions.{AreApart, ArePlacedAt, ArePositions, IsKeptPosition, IsListedPosition, IsLocated, IsPositionFor, IsPositionIn};
+ghost use Rattle.grain_base.specs.Place.{place_of};
+ghost use Rattle.grain_code.specs.Assembly.{offsets_from};
+ghost use Rattle.grain_lexer.specs.declared.error.Place.{Place};
 
 use crate::parts::parts;
 use crate::placing::{keep_in_chains, kept_place};
@@ -35,6 +38,8 @@ pub(crate) fn finish(
         (λ built. ArePositions (IsListedPosition lines.now.lengths.items) built.0) }
     ensures placed { IfOk result
         (λ built. IfSome built.0.positions (All (IsPositionIn emitter.code.places))) }
+    ensures located { IfOk result
+        (λ built. IsLocated lines.now.lengths.items emitter.code.places built.0) }
     ensures accepted { IfOk result (λ built. IsAccepted (input_of built.0)) }
     ensures declared { IfOk result (λ built. declared_by built.0 ≡ built.1.items) }
     ensures deepest { IfOk result (λ built. AreDeepest (input_of built.0) built.1.items) }
@@ -63,6 +68,8 @@ fn complete(
         (λ built. ArePositions (IsListedPosition lines.now.lengths.items) built.0) }
     ensures placed { IfOk result
         (λ built. IfSome built.0.positions (All (IsPositionIn made.0.places.items))) }
+    ensures located { IfOk result
+        (λ built. IsLocated lines.now.lengths.items made.0.places.items built.0) }
     ensures accepted { IfOk result (λ built. IsAccepted (input_of built.0)) }
     ensures declared { IfOk result (λ built. declared_by built.0 ≡ built.1.items) }
     ensures deepest { IfOk result (λ built. AreDeepest (input_of built.0) built.1.items) }
@@ -137,6 +144,7 @@ fn positioned(
     lines: &Lines,
     mut parts: Parts,
 ) -> Result<Parts, CompileError>
+    requires { length places.now ≡ length ops.now }
     ensures can { OnOk result (CanAssemble ops.now) }
     ensures indexed { IfOk result
         (λ p. (caps : Caps) → All (Indexed (setting_with caps p)) ops.now) }
@@ -144,6 +152,8 @@ fn positioned(
         (All (IsListedPosition lines.now.lengths.items))) }
     ensures placed { IfOk result (λ p. IfSome (listed_positions p.positions)
         (All (IsPositionIn places.now))) }
+    ensures located { IfOk result (λ p. ArePlacedAt lines.now.lengths.items places.now
+        (offsets_from 0 ops.now) (listed_positions p.positions)) }
     ensures constants { IfOk result (λ p. p.consts ≡ parts.consts) }
     ensures chains { IfOk result (λ p. p.chains ≡ parts.chains) }
     ensures switches { IfOk result (λ p. p.switches ≡ parts.switches) }
@@ -162,9 +172,12 @@ fn dense(
     places: &[Place],
     lines: &Lines,
 ) -> Result<Positions, AllocError>
+    requires { AreApart (length places.now) len offsets.now }
     ensures listed { IfOk result (λ p. IfSome (listed_positions p)
         (All (IsListedPosition lines.now.lengths.items))) }
     ensures placed { IfOk result (λ p. IfSome (listed_positions p) (All (IsPositionIn places.now))) }
+    ensures located { IfOk result (λ p. ArePlacedAt lines.now.lengths.items places.now offsets.now
+        (listed_positions p)) }
 {
     let mut positions = vec![in alloc; Position::NONE; len]?;
     for (index, offset) in offsets.iter().enumerate() {
@@ -177,7 +190,9 @@ fn dense(
 
 /// The position of the operation with this index.
 fn position_at(places: &[Place], index: usize, lines: &Lines) -> Position
-    ensures { IsKeptPosition lines.now.lengths.items places.now result }
+    ensures kept { IsKeptPosition lines.now.lengths.items places.now result }
+    ensures exact { (place : Place) → slice_get places.now index ≡ Some place
+        → IsPositionFor lines.now.lengths.items place (place_of result) }
 {
     let Some(place) = places.get(index) else {
         return Position::NONE;
@@ -217,6 +232,8 @@ fn built(
         → CanBuild (draft caps ops.now cuts.now heads.items parts) }
     ensures positions { IfOk result (λ built. built.0.positions ≡ listed_positions parts.positions) }
     ensures chains { IfOk result (λ built. built.0.chains ≡ parts.chains.items) }
+    ensures code { IfOk result (λ built. (offsets : List ℕ)
+        × IsAssembly ops.now built.0.code offsets) }
     ensures accepted { IfOk result (λ built. IsAccepted (input_of built.0)) }
     ensures declared { IfOk result (λ built. declared_by built.0 ≡ built.1.items) }
     ensures deepest { IfOk result (λ built. AreDeepest (input_of built.0) built.1.items) }
@@ -240,6 +257,7 @@ fn tightened(alloc: Global, mut program: Program) -> Result<(Program, Vec<u16>),
     requires { IsAccepted (input_of program) }
     ensures positions { IfOk result (λ built. built.0.positions ≡ program.positions) }
     ensures chains { IfOk result (λ built. built.0.chains ≡ program.chains) }
+    ensures code { IfOk result (λ built. built.0.code ≡ program.code) }
     ensures accepted { IfOk result (λ built. IsAccepted (input_of built.0)) }
     ensures declared { IfOk result (λ built. declared_by built.0 ≡ built.1.items) }
     ensures deepest { IfOk result (λ built. AreDeepest (input_of built.0) built.1.items) }

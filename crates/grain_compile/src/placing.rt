@@ -1,10 +1,11 @@
 //! Positions that lie in the text of the script. What was added to the text has none.
-ghost use Rattle.std.specs.Prelude.{◌≡◌, IfSome, Some, map};
+ghost use Rattle.std.specs.Prelude.{◌≡◌, ℕ, IfSome, Some, map};
 ghost use Rattle.grain_base.specs.Place.{place_of};
 ghost use Rattle.std.specs.List.{All, flat_map};
 ghost use Rattle.grain_base.specs.declared.position.Position.{Position};
 ghost use Rattle.grain_pools.specs.Chain.{positions, root_positions, root_shape, shape, step_positions, step_shape};
-ghost use Rattle.grain_compile.specs.Positions.{IsListedPosition};
+ghost use Rattle.grain_compile.specs.Positions.{IsListedPosition, IsPositionFor};
+ghost use Rattle.grain_lexer.specs.Places.{IsInLines};
 
 use grain::{Chain, Position, Root, Step};
 use grain_emit::position;
@@ -14,6 +15,7 @@ use grain_lexer::{Lines, Place};
 pub(crate) fn kept_place(place: Place, lines: &Lines) -> Position
     ensures listed { IsListedPosition lines.now.lengths.items result }
     ensures own { IfSome (place_of result) (λ p. place ≡ record { line = p.0; column = p.1 }) }
+    ensures exact { IsPositionFor lines.now.lengths.items place (place_of result) }
 {
     kept(position(place), lines)
 }
@@ -22,6 +24,9 @@ pub(crate) fn kept_place(place: Place, lines: &Lines) -> Position
 pub(crate) fn kept(position: Position, lines: &Lines) -> Position
     ensures listed { IsListedPosition lines.now.lengths.items result }
     ensures same { IfSome (place_of result) (λ p. place_of position ≡ Some p) }
+    ensures kept { (p : ℕ × ℕ) → place_of position ≡ Some p
+        → IsInLines lines.now.lengths.items (record { line = p.0; column = p.1 })
+        → place_of result ≡ Some p }
 {
     let (Some(line), Some(column)) = (position.line(), position.position()) else {
         return Position::NONE;

@@ -3,7 +3,7 @@ ghost use Rattle.std.specs.Prelude.{◌≡◌, ◌≤◌, [], IfErr, IfOk, IfSom
 ghost use Rattle.grain_rules.specs.Accepted.{AreDeepest, IsAccepted};
 ghost use Rattle.grain.specs.Program.{declared_by, input_of};
 ghost use Rattle.grain_compile.specs.Chunks.{BeginsChunk};
-ghost use Rattle.grain_compile.specs.Positions.{ArePositions, IsListedPosition, IsPositionAmong, IsPositionOf};
+ghost use Rattle.grain_compile.specs.Positions.{ArePositions, EachHasPlace, IsListedPosition, IsPositionAmong, IsPositionOf};
 ghost use Rattle.grain_emit.specs.Bodies.{bodies_places, body_places};
 ghost use Rattle.grain_emit.specs.Places.{both, here, script_places, syntax_places};
 ghost use Rattle.grain_emit.specs.Rules.{AddsPlaces};
@@ -69,7 +69,7 @@ fn compiled_text(
 }
 
 /// Compiles a syntax tree, as [`compile`] does a source text. The position of each operation is the place of a form of the tree,
-/// if that lies in these lines, and none otherwise.
+/// if that lies in these lines and its numbers are at most 65,535, and none otherwise.
 ///
 /// # Errors
 /// As [`compile`]. Nothing is proved of places that errors name.
@@ -83,6 +83,8 @@ pub fn compile_syntax(
         (λ built. ArePositions (IsListedPosition lines.now.lengths.items) built.0) }
     ensures placed { IfOk result
         (λ built. IfSome built.0.positions (All (IsPositionAmong (syntax_places syntax)))) }
+    ensures located { IfOk result
+        (λ built. EachHasPlace lines.now.lengths.items (syntax_places syntax) built.0) }
     ensures accepted { IfOk result (λ built. IsAccepted (input_of built.0)) }
     ensures declared { IfOk result (λ built. declared_by built.0 ≡ built.1.items) }
     ensures deepest { IfOk result (λ built. AreDeepest (input_of built.0) built.1.items) }

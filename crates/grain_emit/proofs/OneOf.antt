@@ -1,5 +1,5 @@
 -- A place that passes each test that some places pass is one of them.
-use Rattle.std.proofs.Common.{◌≡◌, ℕ, ◌⊎◌, inl, inr, Bool, true, false, eqb, eq-eqb, eqb-true, refl}
+use Rattle.std.proofs.Common.{◌≡◌, ◌⊎◌, inl, inr, Bool, true, false, eqb, eq-eqb, eqb-true, refl}
 use Rattle.std.specs.Prelude.{◌&&◌, ◌||◌}
 use Rattle.grain_emit.specs.Places.{IsOneOf, Places, both, here, nowhere, pass}
 use Rattle.grain_emit.proofs.PlaceTests.{and_both, and_left, and_right}

@@ -1,7 +1,7 @@
 use Rattle.std.proofs.Common.{◌≡◌, ◌+◌, ℕ, List, length, map, take, refl, sym, subst, ap, ◌∙◌, Vec, Global, arith}
 use Rattle.std.specs.List.{All, flat_map}
 use Rattle.std.proofs.lemmas.List.{with_items_is}
-use Rattle.grain_code.specs.Assembly.{CanAssemble}
+use Rattle.grain_code.specs.Assembly.{CanAssemble, IsAssembly, offsets_from}
 use Rattle.grain_code.specs.Span.{Span}
 use Rattle.grain_code.specs.declared.op.Op.{Op}
 use Rattle.grain_base.specs.declared.position.Position.{Position}
@@ -19,11 +19,12 @@ use Rattle.grain_assembly.specs.Assembled.{targets_of}
 use Rattle.grain_assembly.specs.Finished.{AreTypedCuts, LeadAmong}
 use Rattle.grain_assembly.specs.declared.assembler.Targets.{Targets}
 use Rattle.grain_compile.specs.Capabilities.{every_capability}
-use Rattle.grain_compile.specs.Positions.{IsListedPosition, IsPositionIn}
+use Rattle.grain_compile.specs.Positions.{ArePlacedAt, IsListedPosition, IsPositionIn}
 use Rattle.grain_lexer.specs.declared.error.Place.{Place}
 use Rattle.grain.specs.Program.{listed_positions}
-use Rattle.std.specs.Prelude.{IfSome}
+use Rattle.std.specs.Prelude.{IfOk, IfSome, Option}
 use Rattle.grain_compile.proofs.BuildPremises.{can_build}
+use Rattle.grain_compile.proofs.LocatedPositions.{if_located}
 use Rattle.grain_compile.proofs.PlacedPositions.{if_code, if_placed, typed_alike}
 use Rattle.grain_compile.proofs.building.complete.Goals as goal
 
@@ -60,3 +61,18 @@ pub returns-clause-placed : goal.returns-clause-placed
 returns-clause-placed c =
     if_code c.built.result (λ b. b.0) (IsPositionIn c.args.made.0.places.items) _ c.built.ensures.positions
     (subst (λ (ps : List Place). IfSome (listed_positions c.in_ok-parts-2.parts.positions) (All (IsPositionIn ps))) c.deref-3.ensures.value c.in_ok-parts-2.ensures.placed)
+
+pub positioned-requires : goal.positioned-requires
+positioned-requires c =
+    ap (λ (ps : List Place). length ps) c.deref-3.ensures.value ∙ c.requires.placed ∙ sym (ap (λ (xs : List Op). length xs) c.deref-2.ensures.value)
+
+pub returns-clause-located : goal.returns-clause-located
+returns-clause-located c =
+    let lengths : List ℕ = c.args.lines.now.lengths.items in
+    let found : Option (List Position) = listed_positions c.in_ok-parts-2.parts.positions in
+    let ops : List Op = c.args.made.0.ops.items in
+    if_located lengths c.args.made.0.places.items ops c.built.result (λ b. b.0) found
+    (subst (λ (xs : List Op). IfOk c.built.result (λ b. (offsets : List ℕ) × IsAssembly xs b.0.code offsets)) c.deref-5.ensures.value c.built.ensures.code)
+    c.built.ensures.positions c.requires.placed
+    (subst (λ (ps : List Place). ArePlacedAt lengths ps (offsets_from 0 ops) found) c.deref-3.ensures.value
+    (subst (λ (xs : List Op). ArePlacedAt lengths c.deref-3.result.now (offsets_from 0 xs) found) c.deref-2.ensures.value c.in_ok-parts-2.ensures.located))

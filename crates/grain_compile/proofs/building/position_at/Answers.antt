@@ -1,9 +1,8 @@
-use Rattle.std.proofs.Common.{◌≡◌, ◌<◌, get_or, length, rules}
 use Rattle.grain_compile.proofs.PlacedPositions.{position_in}
 use Rattle.grain_compile.proofs.building.position_at.Goals as goal
 
-pub returns : goal.returns
-returns c =
+pub returns-clause-kept : goal.returns-clause-kept
+returns-clause-kept c =
     let found = c.in-Some.ensures.lookup.3 in
     record {
       listed = c.kept_place.ensures.listed;
