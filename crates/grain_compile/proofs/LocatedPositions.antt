@@ -16,8 +16,8 @@ use Rattle.grain_code.proofs.Splits.{one_split}
 use Rattle.grain_rules.proofs.ListedStarts.{contains_place}
 use Rattle.grain_rules.proofs.Offsets.{apart, ascends, offset_count, offset_end}
 use Rattle.grain.specs.Program.{Program}
-use Rattle.grain_compile.specs.Positions.{AreApart, ArePlacedAt, EachHasPlace, FitsPosition, IsListedPosition, IsLocated, IsPositionFor}
-use Rattle.grain_compile.proofs.PlacedPositions.{entry_passes}
+use Rattle.grain_compile.specs.Positions.{AreApart, ArePlacedAt, EachHasPlace, FitsPosition, IsKeptPosition, IsListedPosition, IsLocated, IsPositionFor}
+use Rattle.grain_compile.proofs.PlacedPositions.{entry_passes, position_in}
 use Rattle.grain_emit.proofs.OneOf.{one_of}
 use Rattle.grain_emit.proofs.PlaceTests.{and_right}
 use Rattle.grain_emit.specs.Places.{IsOneOf, Places, pass}
@@ -48,6 +48,16 @@ exact_for lengths place result kept own listed = record {
   kept = kept;
   lost = lost_for lengths place result own listed;
 }
+
+-- the place of an index, as a position, is kept
+pub kept_here : (lengths : List ℕ) (places : List Place) (n : ℕ) (default : Place) (position : Position) → n < length places → IsListedPosition lengths position → IfSome (place_of position) (λ p. get_or places n default ≡ record { line = p.0; column = p.1 }) → IsKeptPosition lengths places position
+kept_here lengths places n default position within listed own =
+    let place : Place = get_or places n default in
+    let e : slice_get places n ≡ Some place = slice_get-get_or places n default within in
+    record {
+      listed = listed;
+      among = position_in places place n position within (sym (get_or_from_slice_get places n place place e)) own;
+    }
 
 none_there : (list : List (Option (ℕ × ℕ))) (at : ℕ) → list_all is_none list ≡ true → get_or list at None ≡ None
 none_there [] at e = refl
@@ -85,21 +95,12 @@ module _ (lengths : List ℕ) (places : List Place) (offsets : List ℕ) (len : 
             subst (IsPositionFor lengths place) (sym (get_or-set_other (map place_of xs) there (slice_index offsets i) (place_of p) None ne)) (before i place few e)
       ])
 
-  -- an offset behind the code has no place
-  pub found_same : (xs : List Position) (n : ℕ) → length xs ≡ len → len ≤ slice_index offsets n → AreFoundUpTo lengths places offsets n xs → AreFoundUpTo lengths places offsets (n + 1) xs
-  found_same xs n long past before i place below e = elim (cases_eq i n) [
-    | inl same ↦ absurd (let a : slice_index offsets i < len = apart_all.inside i (slice_get_within places i place e) in let b : slice_index offsets i ≡ slice_index offsets n = ap (slice_index offsets) same in omega arith)
-    | inr differ ↦ before i place (omega arith) e
-  ]
-
   -- in the end each place is found
-  pub found_all : (xs : List Position) (found : Option (List Position)) → option_map (λ positions. map place_of positions) found ≡ dense (map place_of xs) → AreFoundUpTo lengths places offsets (length offsets) xs → ArePlacedAt lengths places offsets found
+  pub found_all : (xs : List Position) (found : Option (List Position)) → option_map (λ positions. map place_of positions) found ≡ dense (map place_of xs) → AreFoundUpTo lengths places offsets (length places) xs → ArePlacedAt lengths places offsets found
   found_all xs found e all i place here =
-      let within : i < length places = slice_get_within places i place here in
-      let some = apart_all.some in
       let same : place_at (option_map (λ positions. map place_of positions) found) (slice_index offsets i) ≡ get_or (map place_of xs) (slice_index offsets i) None =
       ap (λ (f : Option (List (Option (ℕ × ℕ)))). place_at f (slice_index offsets i)) e ∙ dense_at (map place_of xs) (slice_index offsets i) in
-      subst (IsPositionFor lengths place) (sym same) (all i place (omega arith) here)
+      subst (IsPositionFor lengths place) (sym same) (all i place (slice_get_within places i place here) here)
 
 -- the offsets of assembled operations
 pub offsets_apart : (ops : List Op) (code offsets : List ℕ) → IsAssembly ops code offsets → AreApart (length ops) (length code) offsets

@@ -54,7 +54,7 @@ abbrev pub ArePlacedAt : List ℕ → List Place → List ℕ → Option (List P
 ArePlacedAt lengths places offsets found =
     (i : ℕ) (place : Place) → slice_get places i ≡ Some place → IsPositionFor lengths place (place_at (option_map (λ positions. map place_of positions) found) (slice_index offsets i))
 
--- the first offsets, so many of them, lie in code of this length, and no other offset is the same
+-- Each of the first `count` offsets lies in code of this length, and is the same as no other offset.
 pub record AreApart (count len : ℕ) (offsets : List ℕ) : Type 0 where
   pub some : count ≤ length offsets
   pub inside : (i : ℕ) → i < count → slice_index offsets i < len

@@ -1,18 +1,15 @@
 //! From the code that was made to an accepted program.
-ghost use Rattle.std.specs.Prelude.{◌≡◌, ◌+◌, ◌≤◌, ℕ, List, IfOk, IfSome, OnOk, Some, length, map, slice_get, take};
+ghost use Rattle.std.specs.Prelude.{◌≡◌, ◌+◌, ◌≤◌, ℕ, List, IfOk, IfSome, OnOk, length, map, take};
 ghost use Rattle.std.specs.List.{All};
 ghost use Rattle.grain_base.specs.declared.caps.Caps.{Caps};
-ghost use Rattle.grain_code.specs.Assembly.{CanAssemble, IsAssembly};
+ghost use Rattle.grain_code.specs.Assembly.{CanAssemble, IsAssembly, offsets_from};
 ghost use Rattle.grain_rules.specs.Accepted.{AreDeepest, AreIndexed, IsAccepted};
 ghost use Rattle.grain_rules.specs.Indices.{Indexed};
 ghost use Rattle.grain.specs.Build.{CanBuild, draft, setting_with, span_of};
 ghost use Rattle.grain.specs.Program.{declared_by, input_of, listed_positions};
 ghost use Rattle.grain_assembly.specs.Finished.{IsComplete};
 ghost use Rattle.grain_compile.specs.Capabilities.{every_capability};
-ghost use Rattle.grain_compile.specs.Positions.{AreApart, ArePlacedAt, ArePositions, IsKeptPosition, IsListedPosition, IsLocated, IsPositionFor, IsPositionIn};
-ghost use Rattle.grain_base.specs.Place.{place_of};
-ghost use Rattle.grain_code.specs.Assembly.{offsets_from};
-ghost use Rattle.grain_lexer.specs.declared.error.Place.{Place};
+ghost use Rattle.grain_compile.specs.Positions.{AreApart, ArePlacedAt, ArePositions, IsListedPosition, IsLocated, IsPositionIn};
 
 use crate::parts::parts;
 use crate::placing::{keep_in_chains, kept_place};
@@ -180,24 +177,10 @@ fn dense(
         (listed_positions p)) }
 {
     let mut positions = vec![in alloc; Position::NONE; len]?;
-    for (index, offset) in offsets.iter().enumerate() {
-        if let Some(found) = positions.get_mut(*offset as usize) {
-            *found = position_at(places, index, lines);
-        }
+    for (index, place) in places.iter().enumerate() {
+        positions[offsets[index] as usize] = kept_place(*place, lines);
     }
     Ok(Positions::dense(positions))
-}
-
-/// The position of the operation with this index.
-fn position_at(places: &[Place], index: usize, lines: &Lines) -> Position
-    ensures kept { IsKeptPosition lines.now.lengths.items places.now result }
-    ensures exact { (place : Place) → slice_get places.now index ≡ Some place
-        → IsPositionFor lines.now.lengths.items place (place_of result) }
-{
-    let Some(place) = places.get(index) else {
-        return Position::NONE;
-    };
-    kept_place(*place, lines)
 }
 
 /// Tests that each index of the code leads into its pool, as it does for each syntax tree that the parser makes.
