@@ -3,13 +3,13 @@
 //! Three passes over the operations: the first tests whether they can be assembled, before anything is allocated; the
 //! second finds where each is written, so that a jump can be written before its target is; and the third writes.
 
-ghost use Rattle.std.specs.Prelude.{◌≡◌, ◌+◌, ◌-◌, ◌^◌, ◌<◌, ◌≤◌, ◌⊎◌, ◌++◌, ◌∷◌, [], ℕ, List, Some, slice_get, IfSome, IfOk, IfErr, OnOk, IsOkUnless, MatchResult, length, map, slice_index};
+ghost use Rattle.std.specs.Prelude.{◌≡◌, ◌+◌, ◌-◌, ◌^◌, ◌<◌, ◌≤◌, ◌⊎◌, ◌++◌, ◌∷◌, [], ℕ, List, Some, slice_get, IfOk, IfErr, OnOk, IsOkUnless, MatchResult, length, map, slice_index};
 ghost use Rattle.std.specs.List.{flat_map, AllByRecursion};
 ghost use Rattle.grain_code.specs.InstructionTable.{form, bytes_of, spelling, FieldFits};
 ghost use Rattle.grain_code.specs.Fields.{moved};
 ghost use Rattle.grain_code.specs.Split.{AreInstructions, Split, StandsAt};
 ghost use Rattle.grain_code.specs.Assembly.{assembled, offsets_from, IsAssembly, CanAssemble, HasShortCode, IsWritable, AreWritable, EachWritable};
-ghost use Rattle.grain_bytecode.specs.AssemblyFlaws.{Accuses, AccusesFirst, AccusesFirstOf, IsAssemblyFlaw, named_receiver, tested};
+ghost use Rattle.grain_bytecode.specs.AssemblyFlaws.{Accuses, AccusesFirst, IsAssemblyFlaw, named_receiver, tested};
 ghost use Rattle.grain_code.specs.declared.op.Op.{Op};
 ghost use Rattle.grain_code.specs.declared.field.Field.TheVariants.{Index};
 ghost use Rattle.grain_bytecode.specs.declared.assemble_error.AssembleError.TheVariants.{ChunkTooLarge, OutOfMemory};

@@ -10,7 +10,6 @@
 ghost use Rattle.std.specs.Prelude.{◌≡◌, ◌<◌, ◌≤◌, ◌+◌, ◌^◌, ◌↔◌, ◌⊎◌, ℕ, List, [], ◌∷◌, ◌++◌, length, drop, map, Some, Err, IsOk, IfOk, IfErr, IfSome, IfNone, IsOkUnless, OnOk, Option};
 ghost use Rattle.std.specs.List.{flat_map};
 ghost use Rattle.grain_base.specs.declared.pos.Site.{Site};
-ghost use Rattle.grain_base.specs.declared.varint.Error.{Error as NumberError};
 ghost use Rattle.grain_base.specs.Varint.{BeginsNumbers, U32Flaw, AreShortest};
 ghost use Rattle.grain_bytecode.specs.declared.sites.StreamError.{StreamError};
 ghost use Rattle.grain_bytecode.specs.declared.sites.StreamError.TheVariants.{OutOfMemory};

@@ -1,13 +1,11 @@
 //! What verification reads of a flat form, where it stands: no pools are made of it.
 ghost use Rattle.std.specs.Prelude.{◌≡◌, ◌+◌, ◌≤◌, ◌<◌, ◌^◌, ◌++◌, ◌∷◌, [], IfNone, OnOk, Some, length, map, option_map, drop, slice_get, sum_by, take};
 ghost use Rattle.std.specs.List.{flat_map};
-ghost use Rattle.std.specs.Option.{option_to_list};
-ghost use Rattle.std.specs.Str.{IsUtf8};
 ghost use Rattle.grain_pools.specs.Dispatch.{first_past};
 ghost use Rattle.grain_rules.specs.Facts.{Entry};
 ghost use Rattle.grain_rules.specs.FirstOut.{alone, first_out, refused};
 ghost use Rattle.grain_rules.specs.Indices.{size, test_of};
-ghost use Rattle.grain_pools.specs.Names.{names_in, span};
+ghost use Rattle.grain_pools.specs.Names.{names_in};
 ghost use Rattle.grain_flat.specs.Flat.{IsFlat};
 ghost use Rattle.grain_flat.specs.RowFacts.{part_begins, chain_by_rows, chains_by_rows, facts_by_rows, leads_of, parts, root_asked, root_by_row};
 ghost use Rattle.grain_flat.specs.RowFacts.{step_asked, step_by_row, tail_by_row, taken};

@@ -1,5 +1,5 @@
 //! How much work a verification may take.
-ghost use Rattle.std.specs.Prelude.{◌≡◌, ◌≤◌, ◌↔◌, IsTrue, length};
+ghost use Rattle.std.specs.Prelude.{◌≡◌, ◌≤◌, ◌↔◌, IsTrue};
 ghost use Rattle.grain_flat.specs.Work.{spanned, work_of};
 
 use crate::records::CChunk;

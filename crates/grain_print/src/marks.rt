@@ -1,7 +1,7 @@
 //! Which addresses of code have a label.
 
-use grain::{Disassembly, Instruction, Program, disassemble};
-use grain_code::{Chunk, Field, Op};
+use grain::{Instruction, Program, disassemble};
+use grain_code::{Chunk, Field};
 use std::alloc::{AllocError, Global};
 
 /// What is at an address.

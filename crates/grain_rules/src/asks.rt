@@ -1,5 +1,5 @@
 //! What operations, names and chains require of the host.
-ghost use Rattle.std.specs.Prelude.{◌≡◌, ℕ, get_or, map};
+ghost use Rattle.std.specs.Prelude.{◌≡◌, ℕ};
 ghost use Rattle.grain_rules.specs.Capabilities.{chain_caps, name_caps, root_caps, step_caps};
 ghost use Rattle.grain_rules.specs.EffectView.{asked_in};
 ghost use Rattle.grain_rules.specs.Setting.{with_caps};

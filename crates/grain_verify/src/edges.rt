@@ -1,6 +1,6 @@
 //! Pushing where an instruction may lead.
 ghost use Rattle.std.specs.Prelude.{◌≡◌, ◌+◌, ◌-◌, ◌<◌, ◌≤◌, ◌^◌, ◌∷◌, ◌⊎◌, [], Some};
-ghost use Rattle.std.specs.Prelude.{get_or, length, map, slice_get, IfErr, IfNone, IfOk, IfSome, OnOk};
+ghost use Rattle.std.specs.Prelude.{get_or, length, map, slice_get, IfErr, IfOk, OnOk};
 ghost use Rattle.std.specs.List.{All};
 ghost use Rattle.grain_verify.specs.Arrivals.{IsAtOrdinal, IsStartIn, Pushes, RefusesSwitch, RefusesTarget};
 ghost use Rattle.grain_verify.specs.Arrivals.{RefusesTargetOf, Sends, underway, view};

@@ -1,10 +1,9 @@
 //! What every path to an instruction has to agree on, and states on their way.
-ghost use Rattle.std.specs.Prelude.{◌≡◌, ◌≢◌, ◌+◌, ◌-◌, ◌<◌, ◌≤◌, ◌^◌, IfErr, IfOk, IsTrue, OnOk};
+ghost use Rattle.std.specs.Prelude.{◌≡◌, ◌≢◌, ◌+◌, ◌-◌, ◌<◌, ◌≤◌, ◌^◌, IfErr, IfOk, OnOk};
 ghost use Rattle.grain_verify.specs.Arrivals.{view};
 ghost use Rattle.grain_rules.specs.Counts.{armed, last_base, without_last};
 ghost use Rattle.grain_verify.specs.Lists.{Grows, IsShared, list_of, list_count};
 ghost use Rattle.grain_verify.specs.Plain.{IsFloor};
-ghost use Rattle.grain_rules.specs.Sinking.{ReachesUpTo};
 
 use crate::lists::{Base, Lists};
 use grain_rules::{Effect, VerifyError};
