@@ -5,9 +5,12 @@ use Rattle.std.specs.List.{AllWithin, HoldsAt}
 use Rattle.std.proofs.lemmas.Option.{slice_get-get_or}
 use Rattle.std.proofs.Math.Seq.{get_or-append_seam}
 use Rattle.grain_asm.specs.Blanks.{unblanked}
-use Rattle.grain_asm.specs.Entries.{Enters, HasEntryAt, ReadsNameIndex}
+use Rattle.grain_base.specs.Tokens.{token_parts}
+use Rattle.grain_base.specs.declared.token.Token.{Token}
+use Rattle.grain_asm.specs.Entries.{Enters, HasEntryAt, ReadsNameIndex, ReadsOperatorIndex}
 use Rattle.grain_asm.specs.Literals.{ReadsName}
-use Rattle.grain_asm.proofs.ReadNumbers.{name_again}
+use Rattle.grain_asm.specs.Operators.{ReadsOperator}
+use Rattle.grain_asm.proofs.ReadNumbers.{name_again, operator_again}
 
 -- what holds at a place is of the entry there
 leads_there : {A : Type 0} (P : A → Type 0) (entries : List A) (place : ℕ) → place < length entries → HoldsAt P entries place → HasEntryAt P entries place
@@ -57,3 +60,9 @@ pub named : {E : Type 0} (line mid name left : List ℕ) (old new : List (String
     → IfOk r (Enters (λ entry. string_bytes entry ≡ name) old new) → IfOk r (λ index. ReadsNameIndex line old new index left)
 named line mid name left old new (Ok index) e read enters = inr (name, name_again line mid name left e read, enters)
 named line mid name left old new (Err _) e read enters = tt
+
+-- the same of an operator
+pub operator_entered : {E : Type 0} (line mid left : List ℕ) (token : Token) (old new : List Token) (r : Result ℕ E) → mid ≡ unblanked line → ReadsOperator mid token left
+    → IfOk r (Enters (λ entry. token_parts entry ≡ token_parts token) old new) → IfOk r (λ index. ReadsOperatorIndex line old new index left)
+operator_entered line mid left token old new (Ok index) e read enters = inr (token, operator_again line mid token left e read, enters)
+operator_entered line mid left token old new (Err _) e read enters = tt

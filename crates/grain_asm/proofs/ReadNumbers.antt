@@ -4,6 +4,8 @@ use Rattle.std.specs.Str.Parse.{ParsesUnsigned}
 use Rattle.grain_asm.specs.Blanks.{ReadsText, unblanked}
 use Rattle.grain_asm.specs.Literals.{ReadsName, ReadsQuoted}
 use Rattle.grain_asm.specs.Numbers.{ReadsNumeral, digits_of, radix_of}
+use Rattle.grain_asm.specs.Operators.{ReadsOperator}
+use Rattle.grain_base.specs.declared.token.Token.{Token}
 use Rattle.grain_asm.proofs.Unblanked.{unblanked-unblanked}
 
 pub text_again : (line mid text left : List ℕ) → mid ≡ unblanked line → ReadsText mid text left → ReadsText line text left
@@ -13,6 +15,11 @@ text_again line mid text left e reads = sym (unblanked-unblanked line) ∙ ap un
 pub name_again : (line mid name left : List ℕ) → mid ≡ unblanked line → ReadsName mid name left → ReadsName line name left
 name_again line mid name left e (inl read) = inl (read.0, text_again line mid (34 ∷ []) read.0 e read.1, read.2)
 name_again line mid name left e (inr read) = inr (text_again line mid name left e read)
+
+-- the same of an operator
+pub operator_again : (line mid : List ℕ) (token : Token) (left : List ℕ) → mid ≡ unblanked line → ReadsOperator mid token left → ReadsOperator line token left
+operator_again line mid token left e (inl read) = inl (read.0, text_again line mid read.0 left e read.1, read.2)
+operator_again line mid token left e (inr read) = inr (read.0, (read.1.0, text_again line mid (34 ∷ []) read.1.0 e read.1.1, read.1.2), read.2)
 
 pub quoted_again : {E : Type 0} (line mid left : List ℕ) (r : Result (String Global) E) → mid ≡ unblanked line → IfOk r (λ text. ReadsQuoted 34 mid (string_bytes text) left)
     → IfOk r (λ text. ReadsName line (string_bytes text) left)

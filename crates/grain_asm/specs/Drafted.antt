@@ -1,10 +1,14 @@
 -- What the program of a text has of what was read.
-use Rattle.std.specs.Prelude.{◌≡◌, ℕ, List, [], Option, map, option_map, string_bytes}
+use Rattle.std.specs.Option.{ForSome}
+use Rattle.std.specs.Prelude.{◌≡◌, ℕ, List, [], Option, None, Some, map, option_map, string_bytes}
 use Rattle.grain.specs.Program.{Program, listed_positions}
 use Rattle.grain.specs.declared.program.Parts.{Parts}
 use Rattle.grain_base.specs.declared.position.Position.{Position}
+use Rattle.grain_asm.specs.Entries.{Stays}
+use Rattle.grain_asm.specs.declared.chunks.Chunks.{Chunks}
 use Rattle.grain_asm.specs.declared.draft.Draft.{Draft}
 use Rattle.grain_asm.specs.declared.pools.Pools.{Pools}
+use Rattle.grain_asm.specs.declared.sections.Section.TheVariants as sections
 
 -- there are pools, and nothing in them
 pub record HasNoEntry (pools : Pools) : Type 0 where
@@ -14,6 +18,26 @@ pub record HasNoEntry (pools : Pools) : Type 0 where
   pub assign_ops : pools.assign_ops.items ≡ []
   pub chains : pools.chains.items ≡ []
   pub switches : pools.switches.items ≡ []
+
+-- the main chunk and the functions that were read stay, and more functions come behind them
+pub record KeepsChunks (old new : Chunks) : Type 0 where
+  pub main : ForSome old.main (λ chunk. new.main ≡ Some chunk)
+  pub functions : Stays old.functions.items new.functions.items
+
+-- nothing was read so far: all capabilities are allowed, and code comes next
+pub record HasReadNothing (draft : Draft) : Type 0 where
+  pub caps : draft.head.caps.0 ≡ 32767
+  pub debug_id : draft.head.debug_id ≡ 0
+  pub fragments : draft.head.fragments ≡ 0
+  pub source : draft.head.source ≡ None
+  pub positions : draft.head.positions ≡ None
+  pub pools : HasNoEntry draft.pools
+  pub main : draft.chunks.main ≡ None
+  pub functions : draft.chunks.functions.items ≡ []
+  pub automatic : draft.chunks.automatic.items ≡ []
+  pub code : draft.code.items ≡ []
+  pub places : draft.places.items ≡ []
+  pub section : draft.section ≡ sections.Code
 
 -- each entry is where it was read, so that an index leads to the same
 pub record HasEntries (pools : Pools) (parts : Parts) : Type 0 where

@@ -1,5 +1,6 @@
 //! The main chunk and the functions.
-ghost use Rattle.std.specs.Prelude.{◌≡◌, IfOk, MatchOption, [], map};
+ghost use Rattle.std.specs.Prelude.{◌≡◌, IfOk, MatchOption, OnOk, [], map};
+ghost use Rattle.grain_asm.specs.Drafted.{KeepsChunks};
 ghost use Rattle.grain.specs.Tightened.{undeclared_function};
 ghost use Rattle.grain_code.specs.Span.{undeclared_chunk};
 
@@ -85,7 +86,10 @@ impl Chunks {
         labels: &Labels,
         cursor: &mut Cursor<'_>,
         place: usize,
-    ) -> Result<Chunk, Stop> {
+    ) -> Result<Chunk, Stop>
+        ensures main { self.new.main ≡ self.old.main }
+        ensures functions { self.new.functions ≡ self.old.functions }
+    {
         let entry = labels.read_address(cursor)?;
         let end = labels.read_address(cursor)?;
         match read_stack(cursor)? {
@@ -102,7 +106,10 @@ impl Chunks {
         pools: &mut Pools,
         labels: &Labels,
         cursor: &mut Cursor<'_>,
-    ) -> Result<Function, Stop> {
+    ) -> Result<Function, Stop>
+        ensures main { self.new.main ≡ self.old.main }
+        ensures functions { self.new.functions ≡ self.old.functions }
+    {
         let name = pools.read_name(cursor)?;
         let params = read_params(pools, cursor)?;
         let access = read_access(cursor);
@@ -124,7 +131,9 @@ impl Chunks {
         pools: &mut Pools,
         labels: &Labels,
         cursor: &mut Cursor<'_>,
-    ) -> Result<(), Stop> {
+    ) -> Result<(), Stop>
+        ensures { OnOk result (KeepsChunks self.old self.new) }
+    {
         let start = cursor.left;
         match cursor.word()? {
             "main" if self.main.is_none() => {

@@ -4,7 +4,8 @@ ghost use Rattle.std.specs.Option.{ForSome};
 ghost use Rattle.grain.specs.Program.{listed_positions, made};
 ghost use Rattle.grain_code.specs.Span.{Span};
 ghost use Rattle.grain_code.specs.declared.function.Function.{Function};
-ghost use Rattle.grain_asm.specs.Drafted.{HasEntries, HasDirectives, IsProgramOf};
+ghost use Rattle.grain_asm.specs.Drafted.{HasDirectives, HasEntries, HasReadNothing, IsProgramOf};
+ghost use Rattle.grain_asm.specs.Entries.{Stays};
 
 use crate::chains::read_chain;
 use crate::chunks::{Chunks, declare};
@@ -95,7 +96,9 @@ impl Head {
 
 impl Draft {
     /// A program without anything.
-    pub fn new(alloc: Global) -> Draft {
+    pub fn new(alloc: Global) -> Draft
+        ensures { HasReadNothing result }
+    {
         Draft {
             head: Head {
                 caps: <Caps as grain_base::Flags>::all(),
@@ -114,7 +117,8 @@ impl Draft {
 
     /// Notes the position of an address.
     fn place(&mut self, at: usize, position: Position) -> Result<(), Stop>
-        ensures { OnOk result (ForSome self.old.head.positions (λ len. at < len)) }
+        ensures inside { OnOk result (ForSome self.old.head.positions (λ len. at < len)) }
+        ensures code { self.new.code ≡ self.old.code }
     {
         match self.head.positions {
             Some(len) if at >= len => Err(Stop::Fault(Problem::NoPosition)),
@@ -126,7 +130,9 @@ impl Draft {
     }
 
     /// Reads a line of code.
-    fn read_code_line(&mut self, labels: &Labels, cursor: &mut Cursor<'_>) -> Result<(), Stop> {
+    fn read_code_line(&mut self, labels: &Labels, cursor: &mut Cursor<'_>) -> Result<(), Stop>
+        ensures { OnOk result (Stays self.old.code.items self.new.code.items) }
+    {
         if eat_label(cursor) {
             return Ok(());
         }
@@ -145,7 +151,9 @@ impl Draft {
     }
 
     /// Reads a position by its address.
-    fn read_place(&mut self, cursor: &mut Cursor<'_>) -> Result<(), Stop> {
+    fn read_place(&mut self, cursor: &mut Cursor<'_>) -> Result<(), Stop>
+        ensures { self.new.code ≡ self.old.code }
+    {
         let start = cursor.left;
         let at = cursor.number_up_to(MAX_POSITIONS)? as usize;
         let position = cursor.position_or_none()?;
@@ -160,7 +168,9 @@ impl Draft {
     }
 
     /// Reads an entry of a pool.
-    fn read_entry(&mut self, labels: &Labels, cursor: &mut Cursor<'_>) -> Result<(), Stop> {
+    fn read_entry(&mut self, labels: &Labels, cursor: &mut Cursor<'_>) -> Result<(), Stop>
+        ensures { OnOk result (Stays self.old.code.items self.new.code.items) }
+    {
         match self.section {
             Section::Names => self.pools.names.push(read_text_or_word(cursor)?)?,
             Section::Constants => self.pools.consts.push(read_value(cursor, MAX_DEPTH)?)?,
@@ -181,30 +191,50 @@ impl Draft {
         Ok(())
     }
 
+    /// Begins the section of a directive, or reads what follows it.
+    fn follow<'a>(
+        &mut self,
+        cursor: &mut Cursor<'a>,
+        start: &'a [u8],
+        directive: &str,
+    ) -> Result<(), Stop>
+        ensures { self.new.code ≡ self.old.code }
+    {
+        if let Some(section) = section_named(directive) {
+            self.section = section;
+            return Ok(());
+        }
+        if directive == ".positions" && !self.places.is_empty() {
+            cursor.left = start;
+            return Err(Stop::Fault(Problem::NoPosition));
+        }
+        let read = self.head.read(cursor, directive);
+        if read == Err(Stop::Fault(Problem::Directive)) {
+            cursor.left = start;
+        }
+        read
+    }
+
+    /// Reads a directive or an entry.
+    fn read_item(&mut self, labels: &Labels, cursor: &mut Cursor<'_>) -> Result<(), Stop>
+        ensures { OnOk result (Stays self.old.code.items self.new.code.items) }
+    {
+        cursor.blanks();
+        let start = cursor.left;
+        match read_directive(cursor)? {
+            None => self.read_entry(labels, cursor),
+            Some(directive) => self.follow(cursor, start, directive),
+        }
+    }
+
     /// Reads a line.
-    pub fn read_line(&mut self, labels: &Labels, cursor: &mut Cursor<'_>) -> Result<(), Stop> {
+    pub fn read_line(&mut self, labels: &Labels, cursor: &mut Cursor<'_>) -> Result<(), Stop>
+        ensures { OnOk result (Stays self.old.code.items self.new.code.items) }
+    {
         if cursor.is_done() {
             return Ok(());
         }
-        let start = cursor.left;
-        match read_directive(cursor)? {
-            None => self.read_entry(labels, cursor)?,
-            Some(directive) => match section_named(directive) {
-                Some(section) => self.section = section,
-                None if directive == ".positions" && !self.places.is_empty() => {
-                    cursor.left = start;
-                    return Err(Stop::Fault(Problem::NoPosition));
-                }
-                None => {
-                    if let Err(stop) = self.head.read(cursor, directive) {
-                        if stop == Stop::Fault(Problem::Directive) {
-                            cursor.left = start;
-                        }
-                        return Err(stop);
-                    }
-                }
-            },
-        }
+        self.read_item(labels, cursor)?;
         cursor.end()
     }
 

@@ -1,5 +1,6 @@
 //! Texts and characters.
 ghost use Rattle.std.specs.Prelude.{◌≡◌, ◌∷◌, IfOk, IfSome, MatchOption, string_bytes};
+ghost use Rattle.std.specs.Char.{encode_utf8};
 ghost use Rattle.grain_asm.specs.Blanks.{unblanked};
 ghost use Rattle.grain_asm.specs.Literals.{IsEscape, IsLiteral, IsOfDigits, IsUnit, ReadsName, ReadsQuoted, WritesByte};
 
@@ -115,7 +116,9 @@ pub(crate) fn read_text(cursor: &mut Cursor<'_>) -> Result<String, Stop>
 }
 
 /// The only character of a text.
-fn only_char(text: &str) -> Option<char> {
+fn only_char(text: &str) -> Option<char>
+    ensures { IfSome result (λ c. text.now ≡ encode_utf8 c) }
+{
     let mut chars = text.chars();
     let only = chars.next()?;
     match chars.next() {
@@ -125,7 +128,10 @@ fn only_char(text: &str) -> Option<char> {
 }
 
 /// Reads a character in quotes.
-pub(crate) fn read_char(cursor: &mut Cursor<'_>) -> Result<char, Stop> {
+pub(crate) fn read_char(cursor: &mut Cursor<'_>) -> Result<char, Stop>
+    ensures { IfOk result (λ c.
+        ReadsQuoted 39 cursor.old.left.now (encode_utf8 c) cursor.new.left.now) }
+{
     let text = read_quoted(cursor, b'\'')?;
     match only_char(&text) {
         Some(c) => Ok(c),

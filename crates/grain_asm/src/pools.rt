@@ -1,13 +1,16 @@
 //! The pools of a program while its text is read. What is written in place gets an entry, unless there is the same already.
-ghost use Rattle.std.specs.Prelude.{◌≡◌, ◌+◌, IfOk, IfSome, string_bytes};
+ghost use Rattle.std.specs.Prelude.{◌≡◌, ◌+◌, ℕ, List, IfOk, IfSome, string_bytes};
+ghost use Rattle.std.specs.Bool.{OnTrue};
+ghost use Rattle.grain_base.specs.Tokens.{token_parts};
 ghost use Rattle.grain_base.specs.View.{content};
-ghost use Rattle.grain_asm.specs.Entries.{Enters, HasEntryAt, ReadsNameIndex};
 ghost use Rattle.grain_asm.specs.Drafted.{HasNoEntry};
+ghost use Rattle.grain_asm.specs.Entries.{AreSameAssignOps, Enters, HasEntryAt, IsMadeOf, ReadsAssignOpEntry, ReadsAssignOpIndex, ReadsConstantIndex, ReadsNameIndex, ReadsOperatorIndex};
+ghost use Rattle.grain_asm.specs.Operators.{IsAssignmentOf};
 
 use crate::cursor::Cursor;
 use crate::error::{Problem, Stop};
 use crate::literals::read_text_or_word;
-use crate::operators::{plain_spelling, read_token};
+use crate::operators::{is_same, plain_spelling, read_token};
 use crate::values::{MAX_DEPTH, read_value};
 use grain_base::{Dynamic, Token};
 use grain_pools::{AssignOp, Chain, Switch};
@@ -74,6 +77,34 @@ fn place_of_constant(consts: &[Dynamic], value: &Dynamic) -> Option<usize>
         .position(|constant| is_plain(constant) && *constant == *value)
 }
 
+/// The place of this operator.
+fn place_of_token(tokens: &[Token], token: &Token) -> Option<usize>
+    ensures { IfSome result (HasEntryAt
+        (λ other. token_parts other ≡ token_parts token.now) tokens.now) }
+{
+    tokens.iter().position(|other| is_same(other, token))
+}
+
+/// Whether two op-assignments are the same.
+fn is_same_assign_op(one: &AssignOp, other: &AssignOp) -> bool
+    ensures { OnTrue result (AreSameAssignOps one.now other.now) }
+{
+    is_same(&one.op_assign, &other.op_assign)
+        && one.op_assign_name == other.op_assign_name
+        && is_same(&one.op, &other.op)
+        && one.op_name == other.op_name
+}
+
+/// The place of this op-assignment.
+fn place_of_assign_op(assign_ops: &[AssignOp], assign_op: &AssignOp) -> Option<usize>
+    ensures { IfSome result (HasEntryAt
+        (λ other. AreSameAssignOps other assign_op.now) assign_ops.now) }
+{
+    assign_ops
+        .iter()
+        .position(|other| is_same_assign_op(other, assign_op))
+}
+
 impl Pools {
     /// Pools without entries.
     pub fn new(alloc: Global) -> Pools
@@ -92,8 +123,9 @@ impl Pools {
 
     /// The index of a name, which gets an entry where it has none.
     fn name_index(&mut self, name: String) -> Result<u32, Stop>
-        ensures { IfOk result (Enters (λ other. string_bytes other ≡ string_bytes name)
+        ensures entered { IfOk result (Enters (λ other. string_bytes other ≡ string_bytes name)
             self.old.names.items self.new.names.items) }
+        ensures assign_ops { self.new.assign_ops ≡ self.old.assign_ops }
     {
         match place_of_name(&self.names, name.as_str()) {
             Some(place) => index_of(place),
@@ -119,8 +151,11 @@ impl Pools {
     }
 
     /// The index of an operator, which gets an entry where it has none.
-    fn token_index(&mut self, token: Token) -> Result<u32, Stop> {
-        match self.tokens.iter().position(|other| *other == token) {
+    fn token_index(&mut self, token: Token) -> Result<u32, Stop>
+        ensures { IfOk result (Enters (λ other. token_parts other ≡ token_parts token)
+            self.old.tokens.items self.new.tokens.items) }
+    {
+        match place_of_token(&self.tokens, &token) {
             Some(place) => index_of(place),
             None => {
                 self.tokens.push(token)?;
@@ -130,8 +165,12 @@ impl Pools {
     }
 
     /// The index of an op-assignment, which gets an entry where it has none.
-    fn assign_op_index(&mut self, assign_op: AssignOp) -> Result<u32, Stop> {
-        match self.assign_ops.iter().position(|other| *other == assign_op) {
+    fn assign_op_index(&mut self, assign_op: AssignOp) -> Result<u32, Stop>
+        ensures entered { IfOk result (Enters (λ other. AreSameAssignOps other assign_op)
+            self.old.assign_ops.items self.new.assign_ops.items) }
+        ensures names { self.new.names ≡ self.old.names }
+    {
+        match place_of_assign_op(&self.assign_ops, &assign_op) {
             Some(place) => index_of(place),
             None => {
                 self.assign_ops.push(assign_op)?;
@@ -153,7 +192,10 @@ impl Pools {
     }
 
     /// Reads a constant: its index, or the value itself.
-    pub fn read_constant(&mut self, cursor: &mut Cursor<'_>) -> Result<u32, Stop> {
+    pub fn read_constant(&mut self, cursor: &mut Cursor<'_>) -> Result<u32, Stop>
+        ensures { IfOk result (λ index. ReadsConstantIndex cursor.old.left.now
+            self.old.consts.items self.new.consts.items index cursor.new.left.now) }
+    {
         if let Some(index) = cursor.index()? {
             return Ok(index);
         }
@@ -162,7 +204,10 @@ impl Pools {
     }
 
     /// Reads an operator: its index, or the operator itself.
-    pub fn read_operator(&mut self, cursor: &mut Cursor<'_>) -> Result<u32, Stop> {
+    pub fn read_operator(&mut self, cursor: &mut Cursor<'_>) -> Result<u32, Stop>
+        ensures { IfOk result (λ index. ReadsOperatorIndex cursor.old.left.now
+            self.old.tokens.items self.new.tokens.items index cursor.new.left.now) }
+    {
         if let Some(index) = cursor.index()? {
             return Ok(index);
         }
@@ -171,7 +216,10 @@ impl Pools {
     }
 
     /// Reads an op-assignment: its index, or its operator, as `+=`, which stands for the plain one under their own names.
-    pub fn read_assign_op(&mut self, cursor: &mut Cursor<'_>) -> Result<u32, Stop> {
+    pub fn read_assign_op(&mut self, cursor: &mut Cursor<'_>) -> Result<u32, Stop>
+        ensures { IfOk result (λ index. ReadsAssignOpIndex cursor.old.left.now self.new.names.items
+            self.old.assign_ops.items self.new.assign_ops.items index cursor.new.left.now) }
+    {
         if let Some(index) = cursor.index()? {
             return Ok(index);
         }
@@ -187,7 +235,12 @@ impl Pools {
     }
 
     /// The op-assignment of this spelling.
-    fn plain_assign_op(&mut self, spelling: &str) -> Result<Option<AssignOp>, Stop> {
+    fn plain_assign_op(&mut self, spelling: &str) -> Result<Option<AssignOp>, Stop>
+        ensures made { IfOk result (λ found. IfSome found (λ assign_op. (plain : List ℕ)
+            × IsAssignmentOf plain spelling.now
+            × IsMadeOf spelling.now plain self.new.names.items assign_op)) }
+        ensures assign_ops { self.new.assign_ops ≡ self.old.assign_ops }
+    {
         let Some(plain) = plain_spelling(spelling) else {
             return Ok(None);
         };
@@ -208,7 +261,10 @@ impl Pools {
     }
 
     /// Reads an entry of the op-assignments: the operator and its name, the operator that it stands for and the name of that.
-    pub fn read_assign_op_entry(&mut self, cursor: &mut Cursor<'_>) -> Result<AssignOp, Stop> {
+    pub fn read_assign_op_entry(&mut self, cursor: &mut Cursor<'_>) -> Result<AssignOp, Stop>
+        ensures { IfOk result (λ entry. ReadsAssignOpEntry cursor.old.left.now
+            self.old.names.items self.new.names.items entry cursor.new.left.now) }
+    {
         let op_assign = read_token(cursor)?;
         let op_assign_name = self.read_name(cursor)?;
         let op = read_token(cursor)?;

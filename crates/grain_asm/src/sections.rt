@@ -1,6 +1,8 @@
 //! Sections and directives.
-ghost use Rattle.std.specs.Prelude.{◌≡◌, IfOk, MatchOption};
+ghost use Rattle.std.specs.Prelude.{◌≡◌, ◌≢◌, IfOk, MatchOption};
 ghost use Rattle.grain_asm.specs.Blanks.{ReadsText, unblanked};
+ghost use Rattle.grain_asm.specs.Directives.{directive_of};
+ghost use Rattle.grain_asm.specs.declared.sections.Section.{Section};
 
 use crate::cursor::Cursor;
 use crate::error::Stop;
@@ -29,7 +31,11 @@ pub(crate) enum Section {
 }
 
 /// The section that a directive begins.
-pub(crate) fn section_named(directive: &str) -> Option<Section> {
+pub(crate) fn section_named(directive: &str) -> Option<Section>
+    ensures { MatchOption result
+        ((section : Section) → directive_of section ≢ directive.now)
+        (λ section. directive_of section ≡ directive.now) }
+{
     match directive {
         ".names" => Some(Section::Names),
         ".constants" => Some(Section::Constants),
