@@ -9,3 +9,5 @@ pub mod AssembledParts
 pub mod RefusalCauses
 pub mod StripRoundTrip
 pub mod RedeclaredPrograms
+pub mod RestoredPositions
+pub mod LeastRedeclared

@@ -5,6 +5,7 @@ pub mod Tightened
 pub mod Sidecars
 pub mod Build
 pub mod Explanations
+pub mod Needs
 -- what the parts of calls promise each other
 pub mod Slots
 -- definitions of the crates below, of every call that this crate re-exports
@@ -62,6 +63,8 @@ pub use Rattle.grain_rules.proofs.IndexTests
 pub use Rattle.grain_rules.specs.Texts
 pub use Rattle.grain_rules.specs.Typing
 pub use Rattle.grain_rules.specs.Verdict
+pub use Rattle.grain_needs.specs.Capabilities as NeededCapabilities
+pub use Rattle.grain_needs.specs.Slots as NamedSlots
 pub use Rattle.grain_explain.specs.Certificate
 pub use Rattle.grain_explain.specs.Explaining
 pub use Rattle.grain_explain.specs.Lacking

@@ -16,6 +16,7 @@ mod builder;
 mod explanation;
 pub mod laws;
 mod lookup;
+mod needs;
 mod program;
 mod sidecar;
 mod slots;
@@ -39,6 +40,7 @@ pub use grain_explain::{
     ExplainError, ExplainedChunk, LinkedBase, Refusal as ExplainedRefusal, Row, TypingError,
     check_typing, explain_chunks,
 };
+pub use grain_needs::{ChainSlots, chunk_slots, least_caps};
 pub use grain_pools::{
     AssignOp, BadTable, Chain, ChainPositions, DisassembleError, Lookups, Names, Root, Step,
     StepFlags, Strings, StringsError, Switch, SwitchRange, Tail, names,

@@ -1,8 +1,9 @@
 //! Positions apart from their program.
-ghost use Rattle.std.specs.Prelude.{◌≡◌, ◌≤◌, ◌<◌, ◌^◌, ◌⊎◌, ◌↔◌, List, Option, Err, IsOk, IfOk, IfErr, OnOk, OnErr, All, Any};
+ghost use Rattle.std.specs.Prelude.{◌≡◌, ◌≤◌, ◌<◌, ◌^◌, ◌⊎◌, ◌↔◌, List, Option, Err, IsOk, IsTrue, IfOk, IfErr, OnOk, OnErr, All, Any, map};
+ghost use Rattle.grain_base.specs.Place.{place_of};
 ghost use Rattle.grain_base.specs.declared.pos.Site.{Site};
 ghost use Rattle.grain_bytecode.specs.ChainStream.{Stream, StreamFlaw};
-ghost use Rattle.grain_bytecode.specs.Positions.{Place, entries_at_places};
+ghost use Rattle.grain_bytecode.specs.Positions.{IsRead, Place, entries_at_places, places};
 ghost use Rattle.grain_bytecode.specs.declared.positions.StripError.TheVariants as strip_error;
 ghost use Rattle.grain_bytecode.specs.declared.positions.TableError.TheVariants as table_error;
 ghost use Rattle.grain.specs.Program.{places_of};
@@ -10,10 +11,11 @@ ghost use Rattle.grain.specs.Sidecars.{Belongs, IsAttached, IsSidecar, IsStrippe
 
 use crate::program::Program;
 use crate::slots::{Slots, count_slots, draw_chains};
+use grain_base::Position;
 use grain_base::pos::Site;
 use grain_bytecode::sites::{self, StreamError};
 use grain_bytecode::{Positions, StripError, TableError};
-use std::alloc::Global;
+use std::alloc::{AllocError, Global};
 
 /// The positions of a program, apart from it: an address table for its code and a stream for its chains (docs/FORMAT.md,
 /// "Address table" and "Chain stream").
@@ -67,6 +69,26 @@ impl Program {
         Ok(sidecar)
     }
 
+    /// Whether the table of a sidecar, read with the code, gives just the positions that the program has: only then does it have them again
+    /// when they are stripped and this sidecar of it is attached.
+    ///
+    /// It doesn't where a position belongs to an address at which no instruction begins, where there are more positions or fewer than bytes of
+    /// code, and where there is a list of positions all of which are none. It goes over the table, the code and the positions once, and
+    /// takes memory for the positions that are read.
+    ///
+    /// # Errors
+    /// [`AllocError`] where there is no memory for them.
+    pub fn is_restored_by(&self, sidecar: &Sidecar) -> Result<bool, AllocError>
+        ensures { IfOk result (λ restores. IsTrue restores ↔ IsRead
+            sidecar.now.positions.items self.now.code (places_of self.now)) }
+    {
+        match Positions::from_table(self.alloc, &sidecar.positions, &self.code) {
+            Ok(positions) => Ok(same_places(&positions, &self.parts.positions)),
+            Err(TableError::OutOfMemory) => Err(AllocError),
+            Err(_) => Ok(false),
+        }
+    }
+
     /// Gives the program the positions of a sidecar. It goes over the sidecar, the code and the chains a few times, and takes
     /// memory for the positions and the sites.
     ///
@@ -101,6 +123,37 @@ impl Program {
         draw_chains(&mut self.parts.chains, &mut Slots { left: &sites });
         Ok(())
     }
+}
+
+/// Whether the same positions are known.
+fn same_places(some: &Positions, others: &Positions) -> bool
+    ensures { IsTrue result ↔ (places some.now ≡ places others.now) }
+{
+    match (some, others) {
+        (Positions::Stripped, Positions::Stripped) => true,
+        (Positions::Dense(some), Positions::Dense(others)) => same_positions(some, others),
+        _ => false,
+    }
+}
+
+fn same_positions(some: &[Position], others: &[Position]) -> bool
+    ensures { IsTrue result ↔ (map place_of some.now ≡ map place_of others.now) }
+{
+    if some.len() != others.len() {
+        return false;
+    }
+    for (index, position) in some.iter().enumerate() {
+        if !same_place(*position, others[index]) {
+            return false;
+        }
+    }
+    true
+}
+
+fn same_place(some: Position, other: Position) -> bool
+    ensures { IsTrue result ↔ (place_of some ≡ place_of other) }
+{
+    some == other
 }
 
 /// The sites of a stream of chain positions, slot by slot.

@@ -15,8 +15,10 @@ module _ (limits : Limits) (bytes : List ℕ) (old : LentPair) where
     accepted = λ e. (files, are, record { program = refl; sidecar = refl }, refl, refl);
     short = λ e. cc;
     too_long = λ e. cc;
-    no_file = λ e. cc;
-    only = λ p f a. inl refl;
+    not_restorable = λ e. cc;
+    malformed = λ e. cc;
+    bad_limit = λ e. cc;
+    only = λ p f a r. inl refl;
     answers = inl refl;
     rooms_kept = λ e. absurd (e refl);
     sizes_kept = λ e f. absurd (e refl);
@@ -29,8 +31,10 @@ module _ (limits : Limits) (bytes : List ℕ) (old : LentPair) where
     accepted = λ e. cc;
     short = λ e. (files, are, record { program = refl; sidecar = refl }, less);
     too_long = λ e. cc;
-    no_file = λ e. cc;
-    only = λ p f a. inr (inl refl);
+    not_restorable = λ e. cc;
+    malformed = λ e. cc;
+    bad_limit = λ e. cc;
+    only = λ p f a r. inr (inl refl);
     answers = inr (inl refl);
     rooms_kept = λ e. (refl, refl);
     sizes_kept = λ e f. absurd (f refl);

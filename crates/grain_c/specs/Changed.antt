@@ -1,14 +1,15 @@
 -- What calls answer that write a program file again.
 use Rattle.std.specs.Prelude.{◌≡◌, ◌≢◌, ◌⊎◌, ◌<◌, ◌≤◌, ◌++◌, ℕ, List, Option, Some, drop, length}
 use Rattle.grain.specs.Program.{Program, input_of}
-use Rattle.grain_c.specs.declared.status.TheConstants.{ACCEPTED, REFUSED, SHORT, OUT_OF_MEMORY, TOO_MUCH_WORK, NO_FILE, TOO_LONG}
+use Rattle.grain_c.specs.declared.status.TheConstants.{ACCEPTED, REFUSED, SHORT, OUT_OF_MEMORY, TOO_MUCH_WORK, MALFORMED, TOO_LONG, BAD_LIMIT, NOT_RESTORABLE}
 use Rattle.grain_file.specs.Causes.{IsReadCause}
 use Rattle.grain_file.specs.Loading.{IsFileOf}
 use Rattle.grain_file.specs.declared.file.Limits.{Limits}
 use Rattle.grain_file.specs.declared.file.ReadError.{ReadError}
+use Rattle.grain_file.specs.declared.file.TheConstants.{MAX_DEPTH}
 use Rattle.grain_flat.specs.Answers.{refusal_record}
 use Rattle.grain_flat.specs.declared.records.CReport.{CReport}
-use Rattle.grain_flat_file.specs.Changed.{AddressesFit, AreStrippedFiles, IsAcceptedAsKept, IsTightFile, program_work}
+use Rattle.grain_flat_file.specs.Changed.{AddressesFit, AreStrippedFiles, IsAcceptedAsKept, IsRestorable, IsTightFile, program_work}
 use Rattle.grain_flat_file.specs.Errors.{read_error_record}
 use Rattle.grain_flat_file.specs.declared.changed.Stripped.{Stripped}
 use Rattle.grain_flat_file.specs.declared.records.CReadError.{CReadError}
@@ -20,8 +21,8 @@ abbrev pub IsPut : List ℕ → List ℕ → List ℕ → Type 0
 IsPut file room written = written ≡ file ++ drop (length file) room
 
 -- why the bytes are no file within the limits
-abbrev pub IsNoFile : Limits → List ℕ → CReadError → Type 0
-IsNoFile limits bytes said = (e : ReadError) × IsReadCause limits bytes e × (read_error_record e ≡ Some said)
+abbrev pub IsMalformed : Limits → List ℕ → CReadError → Type 0
+IsMalformed limits bytes said = (e : ReadError) × IsReadCause limits bytes e × (read_error_record e ≡ Some said)
 
 -- a flaw of the program that the bytes are a file of
 pub record IsToldFlaw (limits : Limits) (bytes : List ℕ) (report : CReport) : Type 0 where
@@ -46,17 +47,18 @@ pub record IsTightenAnswer (limits : Limits) (bytes : List ℕ) (limit : ℕ) (o
   pub short : status ≡ SHORT → (file : List ℕ) × (visited : ℕ) × IsTightFile limits bytes file 0 visited × (new.size ≡ length file) × (length old.room < length file)
   pub refused : status ≡ REFUSED → IsToldFlaw limits bytes new.report
   pub limited : status ≡ TOO_MUCH_WORK → (p : Program) × IsFileOf limits bytes p × (limit < program_work p)
-  pub no_file : status ≡ NO_FILE → IsNoFile limits bytes new.error
+  pub bad_limit : status ≡ BAD_LIMIT → MAX_DEPTH < limits.depth
+  pub malformed : status ≡ MALFORMED → IsMalformed limits bytes new.error
   -- of whatever accepted program the bytes are a file, that is written, memory and room apart
   pub only : (p : Program) → IsFileOf limits bytes p → IsAcceptedAsKept p → program_work p ≤ limit → (status ≡ ACCEPTED) ⊎ (status ≡ SHORT) ⊎ (status ≡ OUT_OF_MEMORY)
-  pub answers : (status ≡ ACCEPTED) ⊎ (status ≡ SHORT) ⊎ (status ≡ REFUSED) ⊎ (status ≡ TOO_MUCH_WORK) ⊎ (status ≡ NO_FILE) ⊎ (status ≡ OUT_OF_MEMORY)
+  pub answers : (status ≡ ACCEPTED) ⊎ (status ≡ SHORT) ⊎ (status ≡ REFUSED) ⊎ (status ≡ TOO_MUCH_WORK) ⊎ (status ≡ MALFORMED) ⊎ (status ≡ OUT_OF_MEMORY) ⊎ (status ≡ BAD_LIMIT)
   pub bounded : (status ≡ ACCEPTED) ⊎ (status ≡ REFUSED) → new.report.visited ≤ limit
   -- room for as many bytes as were read is enough
   pub enough : length bytes ≤ length old.room → status ≢ SHORT
   -- what stays as it was
   pub room_kept : status ≢ ACCEPTED → new.room ≡ old.room
   pub size_kept : status ≢ ACCEPTED → status ≢ SHORT → new.size ≡ old.size
-  pub error_kept : status ≢ NO_FILE → new.error ≡ old.error
+  pub error_kept : status ≢ MALFORMED → new.error ≡ old.error
   pub refusal_kept : status ≢ REFUSED → new.report.refusal ≡ old.report.refusal
   pub visited_kept : status ≢ ACCEPTED → status ≢ REFUSED → new.report.visited ≡ old.report.visited
 
@@ -80,9 +82,11 @@ pub record IsStripAnswer (limits : Limits) (bytes : List ℕ) (old new : LentPai
   pub short : status ≡ SHORT → (files : Stripped) × AreStrippedFiles limits bytes files × AreSizes files new
       × ((length old.room < length files.program.items) ⊎ (length old.sidecar_room < length files.sidecar.items))
   pub too_long : status ≡ TOO_LONG → (p : Program) × IsFileOf limits bytes p × (AddressesFit p → ⊥)
-  pub no_file : status ≡ NO_FILE → IsNoFile limits bytes new.error
-  pub only : (p : Program) → IsFileOf limits bytes p → AddressesFit p → (status ≡ ACCEPTED) ⊎ (status ≡ SHORT) ⊎ (status ≡ OUT_OF_MEMORY)
-  pub answers : (status ≡ ACCEPTED) ⊎ (status ≡ SHORT) ⊎ (status ≡ TOO_LONG) ⊎ (status ≡ NO_FILE) ⊎ (status ≡ OUT_OF_MEMORY)
+  pub not_restorable : status ≡ NOT_RESTORABLE → (p : Program) × IsFileOf limits bytes p × (IsRestorable p → ⊥)
+  pub malformed : status ≡ MALFORMED → IsMalformed limits bytes new.error
+  pub bad_limit : status ≡ BAD_LIMIT → MAX_DEPTH < limits.depth
+  pub only : (p : Program) → IsFileOf limits bytes p → AddressesFit p → IsRestorable p → (status ≡ ACCEPTED) ⊎ (status ≡ SHORT) ⊎ (status ≡ OUT_OF_MEMORY)
+  pub answers : (status ≡ ACCEPTED) ⊎ (status ≡ SHORT) ⊎ (status ≡ TOO_LONG) ⊎ (status ≡ NOT_RESTORABLE) ⊎ (status ≡ MALFORMED) ⊎ (status ≡ OUT_OF_MEMORY) ⊎ (status ≡ BAD_LIMIT)
   pub rooms_kept : status ≢ ACCEPTED → (new.room ≡ old.room) × (new.sidecar_room ≡ old.sidecar_room)
   pub sizes_kept : status ≢ ACCEPTED → status ≢ SHORT → (new.size ≡ old.size) × (new.sidecar_size ≡ old.sidecar_size)
-  pub error_kept : status ≢ NO_FILE → new.error ≡ old.error
+  pub error_kept : status ≢ MALFORMED → new.error ≡ old.error

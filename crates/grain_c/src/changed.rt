@@ -5,9 +5,11 @@ ghost use Rattle.grain_c.specs.Files.{limits_of};
 
 use crate::files::{limits_of, stopped};
 use crate::judge::shown;
-use crate::status::{ACCEPTED, REFUSED, SHORT, TOO_MUCH_WORK};
+use crate::status::{ACCEPTED, NOT_RESTORABLE, REFUSED, SHORT, TOO_LONG, TOO_MUCH_WORK};
 use grain_flat::{CReport, refusal_record};
-use grain_flat_file::{CLimits, CReadError, FileStop, Stripped, TightenStop, strip, tighten};
+use grain_flat_file::{
+    CLimits, CReadError, FileStop, StripStop, Stripped, TightenStop, strip, tighten,
+};
 use grain_verify::Meter;
 use std::alloc::Global;
 
@@ -76,7 +78,8 @@ fn fit(program: &[u8], sidecar: &[u8], files: &Stripped) -> bool
 /// as many bytes as were read the room for the program is never too short.
 ///
 /// 0 where they are written, with their sizes. 2 where the room for one of them is too short: then only the sizes are written. 9
-/// where the bytes are no file within the limits: then why is written. 10 where the code has a position above 4294967295. 3 where
+/// where the bytes are no file within the limits: then why is written. 10 where the code has a position above 4294967295. 12 where
+/// attaching the positions wouldn't give the file back. 11 where the limit on nesting is above 256, which is tested first. 3 where
 /// the allocator refused.
 #[unsafe(no_mangle)]
 pub extern "C" fn grain_proved_file_strip(
@@ -117,6 +120,8 @@ pub extern "C" fn grain_proved_file_strip(
             put(sidecar, &files.sidecar);
             ACCEPTED
         }
-        Err(stop) => stopped(&stop, error),
+        Err(StripStop::Read(why)) => stopped(&FileStop::Read(why), error),
+        Err(StripStop::TooLong) => TOO_LONG,
+        Err(StripStop::NotRestorable) => NOT_RESTORABLE,
     }
 }

@@ -9,17 +9,16 @@ ghost use Rattle.grain_rules.specs.Capabilities.{Allows};
 
 use crate::handle::{CScratch, keep, take};
 use crate::held::CHeldFile;
-use crate::status::{ACCEPTED, NO_FILE, OUT_OF_MEMORY, REFUSED, TOO_LONG};
+use crate::status::{ACCEPTED, BAD_LIMIT, MALFORMED, OUT_OF_MEMORY, REFUSED, TOO_LONG};
 use crate::text::print;
 use crate::verify::verify_in;
 use arrayvec::ArrayString;
 use grain_base::{Caps, Flags};
-use grain_file::Limits;
-use grain_flat::{CReport, Scratch, refusal_record};
+use grain_file::{Limits, ReadError};
+use grain_flat::{CReport, Scratch, lack_record};
 use grain_flat_file::{
     CContents, CLimits, CReadError, FileStop, read_error_of, read_error_record, read_flat,
 };
-use grain_rules::VerifyError;
 use std::alloc::Global;
 use std::fmt::Write;
 
@@ -40,10 +39,11 @@ pub(crate) fn stopped(stop: &FileStop, error: &mut CReadError) -> u32
 {
     match stop {
         FileStop::TooLong => TOO_LONG,
+        FileStop::Read(ReadError::DepthLimit { .. }) => BAD_LIMIT,
         FileStop::Read(why) => match read_error_record(why) {
             Some(said) => {
                 *error = said;
-                NO_FILE
+                MALFORMED
             }
             None => OUT_OF_MEMORY,
         },
@@ -81,7 +81,8 @@ fn read_into(
 ///
 /// 0 where it is read: the handle keeps it, and what it has is written, which stays until the handle is freed or used again. What
 /// the handle kept before is freed. 9 where the bytes are no file within the limits: then why is written. 10 where a list of it
-/// has 4294967296 entries or more, or a text or a blob as many bytes. 3 where the allocator refused.
+/// has 4294967296 entries or more, or a text or a blob as many bytes. 11 where the limit on nesting is above 256, which is tested
+/// first. 3 where the allocator refused.
 #[unsafe(no_mangle)]
 pub extern "C" fn grain_proved_file_read<'a>(
     alloc: Global,
@@ -137,13 +138,8 @@ fn verify_file_in(
     let host = Caps::from_bits_retain(host);
     let missing = Caps::from_bits_retain(contents.caps).difference(host);
     if !missing.is_empty() {
-        let error = VerifyError::MissingCaps {
-            artifact: host,
-            missing,
-            at: 0,
-        };
         *report = CReport {
-            refusal: refusal_record(None, &error),
+            refusal: lack_record(missing, host),
             visited: 0,
         };
         return REFUSED;

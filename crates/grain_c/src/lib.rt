@@ -13,6 +13,7 @@ mod handle;
 mod held;
 mod judge;
 mod pools;
+mod slots;
 mod status;
 mod table_flaws;
 mod tables;

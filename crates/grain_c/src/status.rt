@@ -1,7 +1,7 @@
 //! What a call answers, by number: each number means one thing.
 
 /// The number of the C interface. It rises with each change that can break a program (CHANGELOG.md).
-pub const INTERFACE: u32 = 2;
+pub const INTERFACE: u32 = 3;
 
 /// The program is accepted, or the chunk passes.
 pub const ACCEPTED: u32 = 0;
@@ -31,7 +31,13 @@ pub const BAD_CODE: u32 = 7;
 pub const STOPPED: u32 = 8;
 
 /// The bytes are no file within the limits, and why is written.
-pub const NO_FILE: u32 = 9;
+pub const MALFORMED: u32 = 9;
 
 /// A list of the file has 4294967296 entries or more, or a text or a blob as many bytes.
 pub const TOO_LONG: u32 = 10;
+
+/// A limit is above its greatest value.
+pub const BAD_LIMIT: u32 = 11;
+
+/// The positions of the file couldn't be given back to it.
+pub const NOT_RESTORABLE: u32 = 12;

@@ -1,11 +1,12 @@
 //! Refusals and instructions as texts, without memory.
-ghost use Rattle.std.specs.Prelude.{◌≡◌, ◌≢◌, ◌≤◌, ◌↔◌, IfNone, IfSome, ℕ, List, length};
+ghost use Rattle.std.specs.Prelude.{◌≡◌, ◌≢◌, ◌<◌, ◌≤◌, ◌↔◌, IfNone, IfSome, ℕ, List, length};
 ghost use Rattle.grain_code.specs.Split.{NoneStandsAt, StandsAt};
 ghost use Rattle.grain_rules.specs.Texts.{verify_error_text};
 ghost use Rattle.grain_rules.specs.declared.error.VerifyError.{VerifyError};
 ghost use Rattle.grain_code.specs.declared.op.Op.{Op};
 ghost use Rattle.grain_c.specs.Written.{IsPrinted};
 ghost use Rattle.grain_flat.specs.Answers.{TellsRefusal, word_kind};
+ghost use Rattle.grain_flat.specs.Declared.{IsRefusalText};
 ghost use Rattle.grain_flat.specs.InstructionTexts.{instruction_text};
 ghost use Rattle.grain_flat.specs.declared.kinds.TheConstants.{NOTHING};
 
@@ -19,7 +20,7 @@ use grain_flat::flaws::{
 use grain_flat::kinds::{
     CHAIN, CONSTANT, FRAGMENT, NAME, OP_ASSIGNMENT, OPERAND, OPERATOR, SWITCH, SYNTAX_SITE,
 };
-use grain_flat::{CRefusal, instruction_text, refusal_text};
+use grain_flat::{CRefusal, Line, instruction_text, lack_of, lack_text, refusal_text};
 use grain_rules::VerifyError;
 
 /// What a refusal calls an index of this kind, if it is one that a refusal names.
@@ -116,21 +117,46 @@ pub(crate) fn print(room: &mut [u8], text: &[u8]) -> usize
     text.len()
 }
 
-/// Writes a refusal as the line program prints it, in ASCII, as far as there is room for it, and answers how long it is. 0: the
-/// record is no refusal, and nothing is written. No text is longer than 128 bytes. It takes no memory.
+/// The text of a refusal that a record tells, if it tells one.
+fn told_text(refusal: &CRefusal) -> Option<Line>
+    ensures some { IfSome result (λ line. (e : VerifyError) × TellsRefusal refusal.now e
+        × (line.items ≡ verify_error_text e)) }
+    ensures none { IfNone result ((e : VerifyError) → TellsRefusal refusal.now e → ⊥) }
+    ensures long { IfSome result (λ line. 0 < length line.items) }
+{
+    match error_of(refusal) {
+        Some(error) => Some(refusal_text(&error)),
+        None => None,
+    }
+}
+
+/// The text of a record, if it is a refusal.
+fn line_of(refusal: &CRefusal) -> Option<Line>
+    ensures some { IfSome result (λ line. IsRefusalText refusal.now line.items) }
+    ensures none { IfNone result ((line : List ℕ) → IsRefusalText refusal.now line → ⊥) }
+    ensures long { IfSome result (λ line. 0 < length line.items) }
+{
+    match lack_of(refusal) {
+        Some(missing) => Some(lack_text(missing)),
+        None => told_text(refusal),
+    }
+}
+
+/// Writes a refusal as the line program prints it, in ASCII, as far as there is room for it, and answers how long it is: of a program
+/// that declares capabilities which the host lacks, `declared-caps missing=` and four hexadecimal digits. 0: the record is no refusal,
+/// and nothing is written. No text is longer than 128 bytes. It takes no memory.
 #[unsafe(no_mangle)]
 pub extern "C" fn grain_proved_refusal_text(refusal: &CRefusal, text: &mut [u8]) -> usize
-    ensures text { result ≢ 0 → (e : VerifyError) × TellsRefusal refusal.now e
-        × (result ≡ length (verify_error_text e))
-        × IsPrinted (verify_error_text e) text.old text.new }
-    ensures no_refusal { (result ≡ 0) ↔ ((e : VerifyError) → TellsRefusal refusal.now e → ⊥) }
+    ensures text { result ≢ 0 → (line : List ℕ) × IsRefusalText refusal.now line
+        × (result ≡ length line) × IsPrinted line text.old text.new }
+    ensures no_refusal { (result ≡ 0) ↔ ((line : List ℕ) → IsRefusalText refusal.now line → ⊥) }
     ensures kept { result ≡ 0 → text.new ≡ text.old }
     ensures short { result ≤ 128 }
 {
-    let Some(error) = error_of(refusal) else {
-        return 0;
-    };
-    print(text, refusal_text(&error).as_slice())
+    match line_of(refusal) {
+        Some(line) => print(text, line.as_slice()),
+        None => 0,
+    }
 }
 
 /// Writes the instruction at an address, in ASCII: its name and its fields in order, such as `CALL 3 2`; as far as there is room

@@ -7,6 +7,8 @@ ghost use Rattle.grain_rules.specs.Accepted.{AreDeepest, AreIndexed, IsAccepted}
 ghost use Rattle.grain_rules.specs.Indices.{Indexed};
 ghost use Rattle.grain.specs.Build.{CanBuild, draft, setting_with, span_of};
 ghost use Rattle.grain.specs.Program.{declared_by, input_of, listed_positions};
+ghost use Rattle.grain.specs.Tightened.{undeclared};
+ghost use Rattle.grain_needs.specs.Capabilities.{AreLeast};
 ghost use Rattle.grain_assembly.specs.Finished.{IsComplete};
 ghost use Rattle.grain_compile.specs.Capabilities.{every_capability};
 ghost use Rattle.grain_compile.specs.Positions.{AreApart, ArePlacedAt, ArePositions, IsListedPosition, IsLocated, IsPositionIn};
@@ -40,6 +42,7 @@ pub(crate) fn finish(
     ensures accepted { IfOk result (λ built. IsAccepted (input_of built.0)) }
     ensures declared { IfOk result (λ built. declared_by built.0 ≡ built.1.items) }
     ensures deepest { IfOk result (λ built. AreDeepest (input_of built.0) built.1.items) }
+    ensures least { IfOk result (λ built. AreLeast (input_of built.0) built.0.caps.0) }
 {
     let Emitter {
         alloc,
@@ -70,6 +73,7 @@ fn complete(
     ensures accepted { IfOk result (λ built. IsAccepted (input_of built.0)) }
     ensures declared { IfOk result (λ built. declared_by built.0 ≡ built.1.items) }
     ensures deepest { IfOk result (λ built. AreDeepest (input_of built.0) built.1.items) }
+    ensures least { IfOk result (λ built. AreLeast (input_of built.0) built.0.caps.0) }
 {
     let (assembled, heads) = made;
     let Assembled {
@@ -220,19 +224,35 @@ fn built(
     ensures accepted { IfOk result (λ built. IsAccepted (input_of built.0)) }
     ensures declared { IfOk result (λ built. declared_by built.0 ≡ built.1.items) }
     ensures deepest { IfOk result (λ built. AreDeepest (input_of built.0) built.1.items) }
+    ensures least { IfOk result (λ built. AreLeast (input_of built.0) built.0.caps.0) }
 {
     match build(alloc, all_capabilities(), ops, cuts, heads, parts) {
-        Ok((program, _)) => tightened(alloc, program),
+        Ok((program, _)) => least(alloc, program),
         Err(BuildError::OutOfMemory) => Err(CompileError::new(Place::NONE, Problem::OutOfMemory)),
         Err(_) => unreachable!(),
     }
 }
 
-/// The capabilities of a program: all of them.
+/// The capabilities that a program is built with: all of them. It declares the least that suffice in the end.
 fn all_capabilities() -> Caps
     ensures { result.0 ≡ every_capability }
 {
     Caps::all()
+}
+
+/// Declares no more of the host than the program needs: the least capabilities, and of each chunk the operands that it reaches.
+fn least(alloc: Global, mut program: Program) -> Result<(Program, Vec<u16>), CompileError>
+    requires { IsAccepted (input_of program) }
+    ensures positions { IfOk result (λ built. built.0.positions ≡ program.positions) }
+    ensures chains { IfOk result (λ built. built.0.chains ≡ program.chains) }
+    ensures code { IfOk result (λ built. built.0.code ≡ program.code) }
+    ensures accepted { IfOk result (λ built. IsAccepted (input_of built.0)) }
+    ensures declared { IfOk result (λ built. declared_by built.0 ≡ built.1.items) }
+    ensures deepest { IfOk result (λ built. AreDeepest (input_of built.0) built.1.items) }
+    ensures least { IfOk result (λ built. AreLeast (input_of built.0) built.0.caps.0) }
+{
+    program.declare_least_caps();
+    tightened(alloc, program)
 }
 
 /// Has each chunk declare the greatest operand count that it reaches, and returns these counts too.
@@ -244,6 +264,7 @@ fn tightened(alloc: Global, mut program: Program) -> Result<(Program, Vec<u16>),
     ensures accepted { IfOk result (λ built. IsAccepted (input_of built.0)) }
     ensures declared { IfOk result (λ built. declared_by built.0 ≡ built.1.items) }
     ensures deepest { IfOk result (λ built. AreDeepest (input_of built.0) built.1.items) }
+    ensures rest { IfOk result (λ built. undeclared built.0 ≡ undeclared program) }
 {
     match program.tighten_stack() {
         Ok(()) => {}

@@ -2,6 +2,7 @@
 ghost use Rattle.std.specs.Prelude.{◌≡◌, ◌≤◌, [], IfErr, IfOk, IfSome, None, OnOk};
 ghost use Rattle.grain_rules.specs.Accepted.{AreDeepest, IsAccepted};
 ghost use Rattle.grain.specs.Program.{declared_by, input_of};
+ghost use Rattle.grain_needs.specs.Capabilities.{AreLeast};
 ghost use Rattle.grain_compile.specs.Chunks.{BeginsChunk};
 ghost use Rattle.grain_compile.specs.Positions.{ArePositions, EachHasPlace, IsListedPosition, IsPositionAmong, IsPositionOf};
 ghost use Rattle.grain_emit.specs.Bodies.{bodies_places, body_places};
@@ -23,7 +24,8 @@ use std::alloc::Global;
 const MAX_LEVELS: usize = 8 * MAX_DEPTH;
 
 /// Compiles a source text. The result is the program, which is accepted, and the greatest operand count that any run of each
-/// chunk reaches, the top level first. Each chunk declares that number. Each place that an error names, and each position of the
+/// chunk reaches, the top level first. Each chunk declares that number, and the program the least capabilities that suffice for it
+/// ([`Program::declare_least_caps`]). Each place that an error names, and each position of the
 /// program, lies in the text, unless there is none. It takes time linear in the length of the text, except that each use of a
 /// variable is compared with the local variables there.
 ///
@@ -40,6 +42,7 @@ pub fn compile(
     ensures accepted { IfOk result (λ built. IsAccepted (input_of built.0)) }
     ensures declared { IfOk result (λ built. declared_by built.0 ≡ built.1.items) }
     ensures deepest { IfOk result (λ built. AreDeepest (input_of built.0) built.1.items) }
+    ensures least { IfOk result (λ built. AreLeast (input_of built.0) built.0.caps.0) }
 {
     match compiled_text(alloc, source, options) {
         Ok(built) => Ok(built),
@@ -57,6 +60,7 @@ fn compiled_text(
     ensures accepted { IfOk result (λ built. IsAccepted (input_of built.0)) }
     ensures declared { IfOk result (λ built. declared_by built.0 ≡ built.1.items) }
     ensures deepest { IfOk result (λ built. AreDeepest (input_of built.0) built.1.items) }
+    ensures least { IfOk result (λ built. AreLeast (input_of built.0) built.0.caps.0) }
 {
     let syntax = parse(alloc, source)?;
     let lines = Lines::new(alloc, source)?;
@@ -88,6 +92,7 @@ pub fn compile_syntax(
     ensures accepted { IfOk result (λ built. IsAccepted (input_of built.0)) }
     ensures declared { IfOk result (λ built. declared_by built.0 ≡ built.1.items) }
     ensures deepest { IfOk result (λ built. AreDeepest (input_of built.0) built.1.items) }
+    ensures least { IfOk result (λ built. AreLeast (input_of built.0) built.0.caps.0) }
 {
     let Syntax {
         names,

@@ -55,6 +55,7 @@ file_no_longer limits bytes old new file h =
     let shorter : length (spelled_for limits new) ≤ length bytes = let short = h.short in let long = ap (λ (b : List ℕ). length b) file.file.spelled in omega arith in
     record {
       is = record {
+        shallow = file.shallow;
         short = (let before = file.short in omega arith);
         file = record { spelled = refl; fits = h.fits file.file.fits };
       };

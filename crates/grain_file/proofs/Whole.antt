@@ -8,6 +8,7 @@ use Rattle.grain_fields.specs.declared.error.WriteError.TheVariants as write_err
 use Rattle.grain_fields.specs.declared.error.WriteError.{WriteError}
 use Rattle.grain_file.specs.declared.file.Limits.{Limits}
 use Rattle.grain_file.specs.declared.file.ReadError.{ReadError}
+use Rattle.grain_file.specs.declared.file.TheConstants.{MAX_DEPTH}
 use Rattle.grain_file.specs.declared.file.ReadError.TheVariants as errors
 use Rattle.grain_fields.specs.Reading.{LocatedFault, AreBytes, Decides}
 use Rattle.grain_fields.specs.Laws.{chosen, ok_is}
@@ -36,9 +37,9 @@ abbrev Given : Bounds → List ℕ → Result Program ReadError → Type 0
 Given bounds bytes r = MatchResult r (λ p. whole_at bounds bytes ≡ Ok (kept p, [])) (IsReadFault bounds bytes)
 
 module _ (limits : Limits) (bytes : List ℕ) where
-  pub found : (r : Result Program ReadError) → length bytes ≤ limits.size → AreBytes bytes → Given (bounds_of limits) bytes r → IfOk r (λ p. IsFileWithin limits bytes (kept p))
-  found (Ok p) short are given = record { short = short; file = whole_found (bounds_of limits) bytes (kept p) [] are given }
-  found (Err e) short are given = tt
+  pub found : (r : Result Program ReadError) → limits.depth ≤ MAX_DEPTH → length bytes ≤ limits.size → AreBytes bytes → Given (bounds_of limits) bytes r → IfOk r (λ p. IsFileWithin limits bytes (kept p))
+  found (Ok p) shallow short are given = record { shallow = shallow; short = short; file = whole_found (bounds_of limits) bytes (kept p) [] are given }
+  found (Err e) shallow short are given = tt
 
   pub only : (r : Result Program ReadError) → Given (bounds_of limits) bytes r → (k : Kept) → IsFileWithin limits bytes k
       → MatchResult r (λ p. kept p ≡ k) (λ e. e ≡ errors.OutOfMemory)

@@ -5,6 +5,7 @@ use Rattle.grain_file.specs.declared.file.Code.{Code}
 use Rattle.grain_file.specs.declared.file.PoolFields.{PoolFields}
 use Rattle.grain_file.specs.declared.file.Limits.{Limits}
 use Rattle.grain_file.specs.declared.file.ReadError.{ReadError}
+use Rattle.grain_file.specs.declared.file.TheConstants.{MAX_DEPTH}
 use Rattle.grain_file.specs.declared.file.ReadError.TheVariants as errors
 use Rattle.grain_fields.specs.Form.{forms}
 use Rattle.grain_fields.specs.Functions.{function_parts}
@@ -24,12 +25,14 @@ pool_parts p = (p.names, (forms p.consts.items, (map token_parts p.tokens.items,
 abbrev pub IsFaultIn : {K : Type 0} → (List ℕ → Result (K × List ℕ) LocatedFault) → List ℕ → ReadError → Type 0
 IsFaultIn reading bytes errors.OutOfMemory = Unit {0}
 IsFaultIn reading bytes (errors.TooLarge size limit) = ⊥
+IsFaultIn reading bytes (errors.DepthLimit depth) = ⊥
 IsFaultIn reading bytes (errors.Malformed at part fault) = (left : List ℕ) × (reading bytes ≡ Err (fault, left)) × (at ≡ length bytes - length left)
 
--- The bytes are more than the limit, or else the fault is the one at which reading ends, with what follows from that byte on.
+-- The limit on nesting is above the greatest, or the bytes are more than the limit, or else the fault is the one at which reading ends, with what follows from that byte on.
 abbrev pub IsCauseIn : {K : Type 0} → (List ℕ → Result (K × List ℕ) LocatedFault) → Limits → List ℕ → ReadError → Type 0
 IsCauseIn reading limits bytes errors.OutOfMemory = Unit {0}
 IsCauseIn reading limits bytes (errors.TooLarge size limit) = (size ≡ length bytes) × (limit ≡ limits.size) × (limits.size < length bytes)
+IsCauseIn reading limits bytes (errors.DepthLimit depth) = (depth ≡ limits.depth) × (MAX_DEPTH < limits.depth)
 IsCauseIn reading limits bytes (errors.Malformed at part fault) = (at ≤ length bytes) × (reading bytes ≡ Err (fault, drop at bytes))
 
 abbrev pub IsReadFault : Bounds → List ℕ → ReadError → Type 0

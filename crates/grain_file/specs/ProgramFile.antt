@@ -3,6 +3,7 @@ use Rattle.std.specs.Prelude.{◌≡◌, ℕ, ◌/◌, ◌%◌, ◌^◌, ◌≤�
 use Rattle.grain_code.specs.Span.{Span}
 use Rattle.grain.specs.Program.{Program, places_of}
 use Rattle.grain_file.specs.declared.file.Limits.{Limits}
+use Rattle.grain_file.specs.declared.file.TheConstants.{MAX_DEPTH}
 use Rattle.grain_fields.specs.declared.error.Fault.TheVariants.{Magic, Version, Kind}
 use Rattle.grain_fields.specs.declared.error.Unkept.{Unkept}
 use Rattle.grain_fields.specs.declared.error.Unkept.TheVariants.{Residuals}
@@ -122,8 +123,9 @@ pub record IsWithin (bounds : Bounds) (k : Kept) : Type 0 where
 abbrev pub refusal_of : Kept → Option Unkept
 refusal_of k = (file_format no_bounds).refusal k
 
--- it is a file within the limits
+-- it is a file within the limits, of which that on nesting is one that a reader takes
 pub record IsFileWithin (limits : Limits) (bytes : List ℕ) (k : Kept) : Type 0 where
+  pub shallow : limits.depth ≤ MAX_DEPTH
   pub short : length bytes ≤ limits.size
   pub file : IsFile (bounds_of limits) bytes k
 

@@ -21,6 +21,10 @@ use grain_pools::{AssignOp, Chain, Strings, Switch};
 use std::alloc::Global;
 use thiserror::Error;
 
+/// The greatest limit on how deep values are nested, [`Limits::depth`]. A level takes some 1,000 bytes of the call stack where a value is
+/// read, and less where it is dropped, so that 256 KiB suffice for this many.
+pub const MAX_DEPTH: u32 = 256;
+
 /// What a host bounds of the files that it reads.
 ///
 /// Reading takes no more of the call stack than the nesting of values, and memory by a constant times the file.
@@ -28,7 +32,7 @@ use thiserror::Error;
 pub struct Limits {
     /// How many bytes a file has at most.
     pub size: usize,
-    /// How deep values are nested at most. One that holds no other counts 1.
+    /// How deep values are nested at most: no more than [`MAX_DEPTH`]. One that holds no other counts 1.
     pub depth: u32,
     /// How many cases a switch has at most. To read one takes time by its cases, and by the square of their number where the
     /// values were chosen so that their hashes are the same.
@@ -60,6 +64,12 @@ pub enum ReadError {
         /// How many it may have.
         limit: usize,
     },
+    /// The limit on how deep values are nested is above [`MAX_DEPTH`]. Nothing was read.
+    #[error("the limit of {depth} on the nesting of values is above {MAX_DEPTH}")]
+    DepthLimit {
+        /// The limit.
+        depth: u32,
+    },
     /// The first thing that is wrong.
     #[error("byte {at}, in {part}: {fault}")]
     Malformed {
@@ -78,7 +88,8 @@ pub enum ReadError {
 /// of bytes that are left.
 ///
 /// # Errors
-/// `TooLarge` where the bytes are more than the limit. Else `Malformed` with the first byte at which no file goes on so, the
+/// `DepthLimit` where the limit on the nesting of values is above [`MAX_DEPTH`]. `TooLarge` where the bytes are more than the limit.
+/// Else `Malformed` with the first byte at which no file goes on so, the
 /// part that it is in, and why. `OutOfMemory` where a growth was refused.
 pub fn read(alloc: Global, bytes: &[u8], limits: &Limits) -> Result<Program, ReadError>
     // What is read is what the bytes are a file of.
@@ -89,6 +100,11 @@ pub fn read(alloc: Global, bytes: &[u8], limits: &Limits) -> Result<Program, Rea
     // Which fault it is, and where.
     ensures exact { IfErr result (IsReadCause limits.now bytes.now) }
 {
+    if limits.depth > MAX_DEPTH {
+        return Err(ReadError::DepthLimit {
+            depth: limits.depth,
+        });
+    }
     if bytes.len() > limits.size {
         return Err(ReadError::TooLarge {
             size: bytes.len(),

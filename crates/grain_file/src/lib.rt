@@ -14,7 +14,7 @@ mod loading;
 mod sidecars;
 mod writing;
 
-pub use file::{Limits, ReadError, read};
+pub use file::{Limits, MAX_DEPTH, ReadError, read};
 pub use grain_fields::{Fault, Part, Unkept, WriteError};
 pub use items::{Item, outline, outline_sidecar};
 pub use loading::{LoadError, Loaded, load};

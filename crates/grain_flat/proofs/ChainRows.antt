@@ -33,7 +33,7 @@ flat_by_rows f row g by_row (a ∷ xs) =
 
 -- a row with this root, and one with this tail, whatever else is in it
 abbrev with_root : Root → CChain → CChain
-with_root r row = record row { root = (root_row r).0; root_name = (root_row r).1 }
+with_root r row = record row { root = (root_row r).0; root_name = (root_row r).1.0; slot = (root_row r).1.1 }
 
 abbrev with_tail : Tail → CChain → CChain
 with_tail t row = record row { tail = (tail_row t).0; op = (tail_row t).1 }

@@ -32,12 +32,12 @@ abbrev pub asked_row : Option ℕ → CConstant
 asked_row None = record { is_known = 0; caps = 0 }
 asked_row (Some caps) = record { is_known = 1; caps = caps }
 
--- a root as its kind and its name
-abbrev pub root_row : Root → ℕ × ℕ
-root_row (roots.Local slot name) = (LOCAL, name)
-root_row (roots.Named name pos) = (NAMED, name)
-root_row (roots.This pos) = (THIS, 0)
-root_row roots.Temporary = (TEMPORARY, 0)
+-- a root as its kind, its name and its slot
+abbrev pub root_row : Root → ℕ × ℕ × ℕ
+root_row (roots.Local slot name) = (LOCAL, name, slot)
+root_row (roots.Named name pos) = (NAMED, name, 0)
+root_row (roots.This pos) = (THIS, 0, 0)
+root_row roots.Temporary = (TEMPORARY, 0, 0)
 
 abbrev pub step_row : Step → CStep
 step_row (steps.Index operand flags pos bracket) = record { kind = INDEX; name = 0; getter = 0; setter = 0; operand = operand; argc = 0 }
@@ -56,11 +56,12 @@ step_rows c = map step_row c.steps.items
 abbrev pub chain_row : Chain → CChain
 chain_row c = record {
   root = (root_row c.root).0;
-  root_name = (root_row c.root).1;
+  root_name = (root_row c.root).1.0;
   steps = length c.steps.items;
   tail = (tail_row c.tail).0;
   op = (tail_row c.tail).1;
   operands = c.operands;
+  slot = (root_row c.root).1.1;
 }
 
 -- these rows, and these steps of all of them, are those of these chains
@@ -112,7 +113,7 @@ pub record IsAskedRow (row : CConstant) : Type 0 where
 pub record IsChainRow (row : CChain) : Type 0 where
   pub root : Root
   pub tail : Tail
-  pub root_is : root_row root ≡ (row.root, row.root_name)
+  pub root_is : root_row root ≡ (row.root, row.root_name, row.slot)
   pub tail_is : tail_row tail ≡ (row.tail, row.op)
 
 -- some step has this row

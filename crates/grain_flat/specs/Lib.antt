@@ -1,5 +1,6 @@
 pub mod Answers
 pub mod Asking
+pub mod Declared
 pub mod Explaining
 pub mod Flat
 pub mod Instruction
@@ -9,6 +10,7 @@ pub mod Listing
 pub mod PoolsFlaws
 pub mod RowFacts
 pub mod RowTables
+pub mod Slots
 pub mod TagNames
 pub mod Tightening
 pub mod Work

@@ -21,7 +21,7 @@ fn is_asked_row(row: &CConstant) -> bool
 fn is_chain_row(row: &CChain) -> bool
     ensures { IsTrue result ↔ IsChainRow row.now }
 {
-    root_of(row.root, row.root_name).is_some() && tail_of(row.tail, row.op).is_some()
+    root_of(row.root, row.root_name, row.slot).is_some() && tail_of(row.tail, row.op).is_some()
 }
 
 fn is_step_row(row: &CStep) -> bool

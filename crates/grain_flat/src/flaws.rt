@@ -45,3 +45,7 @@ pub const SINKS_BELOW_HANDLER: u32 = 13;
 
 /// The index `first` is out of bounds; `second` says what it names, by a number of [`crate::kinds`].
 pub const BAD_INDEX: u32 = 14;
+
+/// The host lacks capabilities that the program declares: `first` are those, `second` all that the host has. Only a file declares
+/// some.
+pub const DECLARED_CAPS: u32 = 15;

@@ -6,6 +6,7 @@
 #![tactic(auto)]
 
 mod asking;
+mod declared;
 mod explaining;
 mod fields;
 mod flat;
@@ -23,10 +24,12 @@ mod row_reads;
 mod rows;
 mod scratch;
 pub mod shapes;
+mod slots;
 mod tightening;
 mod verdicts;
 mod work;
 
+pub use declared::{lack_of, lack_record, lack_text};
 pub use explaining::{ExplanationRows, explain_chunk, rows_of};
 pub use fields::fields_of;
 pub use flat::{is_flat, pools_flaw};
@@ -40,6 +43,7 @@ pub use records::{
 };
 pub use refusals::refusal_record;
 pub use scratch::Scratch;
+pub use slots::write_slots;
 pub use tightening::tighten;
 pub use verdicts::verdict;
 pub use work::is_within;

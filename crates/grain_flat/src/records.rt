@@ -71,6 +71,8 @@ pub struct CChain {
     pub op: u32,
     /// How many operands its steps take.
     pub operands: u16,
+    /// The slot of the local variable at which it begins, else 0.
+    pub slot: u16,
 }
 
 /// A step of a chain.

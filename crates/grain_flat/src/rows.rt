@@ -24,17 +24,17 @@ pub(crate) fn asked_of(row: &CConstant) -> Option<Option<u16>>
     }
 }
 
-/// A root of this kind and name, if there is one.
-pub(crate) fn root_of(kind: u32, name: u32) -> Option<Root>
-    ensures some { IfSome result (λ r. root_row r ≡ (kind, name)) }
-    ensures none { IfNone result ((r : Root) → root_row r ≢ (kind, name)) }
+/// A root of this kind, name and slot, if there is one.
+pub(crate) fn root_of(kind: u32, name: u32, slot: u16) -> Option<Root>
+    ensures some { IfSome result (λ r. root_row r ≡ (kind, name, slot)) }
+    ensures none { IfNone result ((r : Root) → root_row r ≢ (kind, name, slot)) }
 {
     let pos = Position::NONE;
-    match (kind, name) {
-        (LOCAL, name) => Some(Root::Local { slot: 0, name }),
-        (NAMED, name) => Some(Root::Named { name, pos }),
-        (THIS, 0) => Some(Root::This { pos }),
-        (TEMPORARY, 0) => Some(Root::Temporary),
+    match (kind, name, slot) {
+        (LOCAL, name, slot) => Some(Root::Local { slot, name }),
+        (NAMED, name, 0) => Some(Root::Named { name, pos }),
+        (THIS, 0, 0) => Some(Root::This { pos }),
+        (TEMPORARY, 0, 0) => Some(Root::Temporary),
         _ => None,
     }
 }

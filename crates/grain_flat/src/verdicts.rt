@@ -19,7 +19,7 @@ use std::alloc::{AllocError, Global};
 use std::mem;
 
 /// A chunk as it is verified.
-fn chunk_of(chunk: &CChunk) -> Chunk
+pub(crate) fn chunk_of(chunk: &CChunk) -> Chunk
     ensures { result ≡ chunk.now }
 {
     Chunk::new(chunk.entry, chunk.end, chunk.max_stack)

@@ -1,6 +1,6 @@
 -- The file of a program that is tightened or stripped is what is said of it.
 use Rattle.std.proofs.Common.{◌≡◌, ℕ, ◌≤◌, List, length, sym, subst}
-use Rattle.grain.specs.Program.{Program, chunks_of, input_of}
+use Rattle.grain.specs.Program.{Program, chunks_of, input_of, places_of}
 use Rattle.grain.specs.Sidecars.{IsSidecar, IsStripped}
 use Rattle.grain.specs.Tightened.{IsTightened}
 use Rattle.grain.specs.declared.sidecar.Sidecar.{Sidecar}
@@ -11,6 +11,7 @@ use Rattle.grain_file.specs.declared.file.Limits.{Limits}
 use Rattle.grain_file.proofs.ChangedFiles.{HasShorterFile, bare_file, spelled_for, tight_file}
 use Rattle.grain_flat_file.specs.Changed.{AreStrippedFiles, HasFile, IsItsFile, IsTightFile}
 use Rattle.grain_flat_file.specs.declared.changed.Stripped.{Stripped}
+use Rattle.grain_bytecode.specs.Positions.{IsRead}
 use Rattle.grain_verify.specs.Meter.{AreReached, HasCounted}
 
 module _ (limits : Limits) (bytes : List ℕ) where
@@ -42,9 +43,9 @@ module _ (limits : Limits) (bytes : List ℕ) where
           reached = reached;
         }
 
-    pub bare_written : (positions : Sidecar) (files : Stripped) → IsStripped old new → IsSidecar old positions → IsItsFile new files.program.items → IsSidecarFile files.sidecar.items (sidecar_parts positions)
+    pub bare_written : (positions : Sidecar) (files : Stripped) → IsStripped old new → IsSidecar old positions → IsRead positions.positions.items old.code (places_of old) → IsItsFile new files.program.items → IsSidecarFile files.sidecar.items (sidecar_parts positions)
         → AreStrippedFiles limits bytes files
-    bare_written positions files bare sidecar its apart =
+    bare_written positions files bare sidecar restores its apart =
         let h = bare_file limits bytes old new file bare in
         let e = written new files.program.items h its in
         record {
@@ -54,6 +55,7 @@ module _ (limits : Limits) (bytes : List ℕ) where
           file = file;
           stripped = bare;
           sidecar = sidecar;
+          restores = restores;
           again = subst (λ (b : List ℕ). IsFileOf limits b new) (sym e) h.is;
           shorter = subst (λ (b : List ℕ). length b ≤ length bytes) (sym e) h.shorter;
           apart = apart;

@@ -4,18 +4,19 @@ use Rattle.grain.specs.Program.{Program, chunks_of, input_of, places_of}
 use Rattle.grain.specs.Sidecars.{IsSidecar, IsStripped}
 use Rattle.grain.specs.Tightened.{IsTightened}
 use Rattle.grain.specs.declared.sidecar.Sidecar.{Sidecar}
-use Rattle.grain_bytecode.specs.Positions.{entries_at_places}
+use Rattle.grain_bytecode.specs.Positions.{IsRead, entries_at_places}
 use Rattle.grain_file.specs.Causes.{IsReadCause}
 use Rattle.grain_file.specs.Loading.{IsFileOf}
 use Rattle.grain_file.specs.ProgramFile.{Bounds, IsFile, kept}
 use Rattle.grain_file.specs.SidecarFile.{IsSidecarFile, sidecar_parts}
 use Rattle.grain_file.specs.declared.file.Limits.{Limits}
+use Rattle.grain_file.specs.declared.file.ReadError.TheVariants as read_errors
 use Rattle.grain_flat.specs.Work.{work_of}
 use Rattle.grain_flat_file.specs.declared.changed.Stripped.{Stripped}
 use Rattle.grain_flat_file.specs.declared.changed.TightenStop.{TightenStop}
 use Rattle.grain_flat_file.specs.declared.changed.TightenStop.TheVariants as tighten_stops
-use Rattle.grain_flat_file.specs.declared.loading.FileStop.{FileStop}
-use Rattle.grain_flat_file.specs.declared.loading.FileStop.TheVariants as stops
+use Rattle.grain_flat_file.specs.declared.changed.StripStop.{StripStop}
+use Rattle.grain_flat_file.specs.declared.changed.StripStop.TheVariants as stops
 use Rattle.grain_rules.specs.Accepted.{IsAccepted}
 use Rattle.grain_rules.specs.Flaw.{FlawAt}
 use Rattle.grain_verify.specs.declared.refusal.Refusal.{Refusal}
@@ -71,8 +72,18 @@ IsTightenCause limits bytes limit old new (tighten_stops.Refused r) = IsRefusedF
 abbrev pub AddressesFit : Program → Type 0
 AddressesFit p = All (λ entry. entry.0 < 2 ^ 32) (entries_at_places (places_of p))
 
+-- the table of each sidecar of the program, read with its code, gives just the positions that it has
+abbrev pub IsRestorable : Program → Type 0
+IsRestorable p = (s : Sidecar) → IsSidecar p s → IsRead s.positions.items p.code (places_of p)
+
+-- the program has a position at an address that is too wide, or positions that can't be given back
+abbrev pub IsPositionCause : Program → StripStop → Type 0
+IsPositionCause p (stops.Read error) = error ≡ read_errors.OutOfMemory
+IsPositionCause p stops.TooLong = Any (λ entry. 2 ^ 32 ≤ entry.0) (entries_at_places (places_of p))
+IsPositionCause p stops.NotRestorable = IsRestorable p → ⊥
+
 -- The bytes are a file of a program. What is written is the file of the same program without positions, within the same limits
--- and no longer, and the file of its positions.
+-- and no longer, and the file of its positions, which can be given back.
 pub record AreStrippedFiles (limits : Limits) (bytes : List ℕ) (files : Stripped) : Type 0 where
   pub read : Program
   pub bare : Program
@@ -80,11 +91,13 @@ pub record AreStrippedFiles (limits : Limits) (bytes : List ℕ) (files : Stripp
   pub file : IsFileOf limits bytes read
   pub stripped : IsStripped read bare
   pub sidecar : IsSidecar read positions
+  pub restores : IsRead positions.positions.items read.code (places_of read)
   pub again : IsFileOf limits files.program.items bare
   pub shorter : length files.program.items ≤ length bytes
   pub apart : IsSidecarFile files.sidecar.items (sidecar_parts positions)
 
--- the bytes are no file, or one of a program with a position at an address that is too wide
-abbrev pub IsStripCause : Limits → List ℕ → FileStop → Type 0
+-- the bytes are no file, or one of a program with positions that aren't taken off
+abbrev pub IsStripCause : Limits → List ℕ → StripStop → Type 0
 IsStripCause limits bytes (stops.Read error) = IsReadCause limits bytes error
-IsStripCause limits bytes stops.TooLong = (p : Program) × IsFileOf limits bytes p × Any (λ entry. 2 ^ 32 ≤ entry.0) (entries_at_places (places_of p))
+IsStripCause limits bytes stops.TooLong = (p : Program) × IsFileOf limits bytes p × IsPositionCause p stops.TooLong
+IsStripCause limits bytes stops.NotRestorable = (p : Program) × IsFileOf limits bytes p × IsPositionCause p stops.NotRestorable

@@ -13,9 +13,13 @@ use Rattle.grain_code.specs.declared.function.Function.{Function}
 use Rattle.grain_fields.specs.Form.{forms}
 use Rattle.grain_file.specs.ProgramFile.{halves}
 use Rattle.grain_flat.specs.Flat.{asked_row, case_rows, arm_range_targets, chain_row, step_rows, switch_row}
+use Rattle.grain_flat.specs.RowFacts.{part_begins}
 use Rattle.grain_flat.specs.declared.records.CCase.{CCase}
+use Rattle.grain_flat.specs.declared.records.CChain.{CChain}
 use Rattle.grain_flat.specs.declared.records.CConstant.{CConstant}
+use Rattle.grain_flat.specs.declared.records.CSwitch.{CSwitch}
 use Rattle.grain_flat_file.specs.Values.{AreConstantLists, AreOperatorLists, assigned_names}
+use Rattle.grain_flat_file.specs.declared.begins.Begins.{Begins}
 use Rattle.grain_flat_file.specs.declared.copies.Copies.{Copies}
 use Rattle.grain_flat_file.specs.declared.copies.Numbers.{Numbers}
 use Rattle.grain_flat_file.specs.declared.functions.FunctionLists.{FunctionLists}
@@ -23,10 +27,9 @@ use Rattle.grain_flat_file.specs.declared.pools.ChainLists.{ChainLists}
 use Rattle.grain_flat_file.specs.declared.pools.SwitchLists.{SwitchLists}
 use Rattle.grain_flat_file.specs.declared.records.CFunction.{CFunction}
 use Rattle.grain_flat_file.specs.declared.records.CRange.{CRange}
+use Rattle.grain_flat_file.specs.declared.records.TheConstants.{CONTENTS_SIZE}
 use Rattle.grain_pools.specs.Dispatch.{arms}
 use Rattle.grain_pools.specs.declared.chain.Chain.{Chain}
-use Rattle.grain_pools.specs.declared.chain.Root.{Root}
-use Rattle.grain_pools.specs.declared.chain.Root.TheVariants as roots
 use Rattle.grain_pools.specs.declared.chain.Step.{Step}
 use Rattle.grain_pools.specs.declared.chain.Step.TheVariants as steps
 use Rattle.grain_pools.specs.declared.switch.Switch.{Switch}
@@ -88,16 +91,6 @@ pub record AreFunctionLists (p : Program) (lists : FunctionLists) : Type 0 where
 unfoldable pub constant_row : Dynamic → CConstant
 constant_row v = asked_row (const_caps v)
 
-abbrev pub slot_at : Root → ℕ
-slot_at (roots.Local slot name) = slot
-slot_at (roots.Named name pos) = 0
-slot_at (roots.This pos) = 0
-slot_at roots.Temporary = 0
-
--- the slot of the local variable at which a chain begins, else 0
-abbrev pub slot_of : Chain → ℕ
-slot_of c = slot_at c.root
-
 abbrev pub flags_of : Step → ℕ
 flags_of (steps.Index operand flags pos bracket) = flags.0
 flags_of (steps.Property name getter setter flags pos) = flags.0
@@ -108,7 +101,6 @@ step_flags c = map flags_of c.steps.items
 
 pub record AreChainLists (chains : List Chain) (lists : ChainLists) : Type 0 where
   pub rows_are : lists.rows.items ≡ map chain_row chains
-  pub slots_are : lists.slots.items ≡ map slot_of chains
   pub steps_are : lists.steps.items ≡ flat_map step_rows chains
   pub flags_are : lists.flags.items ≡ flat_map step_flags chains
 
@@ -130,6 +122,19 @@ pub record AreSwitchLists (switches : List Switch) (lists : SwitchLists) : Type 
   pub targets_are : lists.targets.items ≡ flat_map switch_targets_of switches
   pub ranges_are : lists.ranges.items ≡ flat_map switch_ranges switches
 
+-- ---- where the items of one begin among those of all
+
+-- of parts with these numbers of items
+abbrev pub begins : List ℕ → List ℕ
+begins counts = part_begins (λ (n : ℕ). n) 0 counts
+
+-- the steps of each chain, the cases and the ranges of each switch, and the parameters of each function, by the counts that their rows have
+pub record AreBegins (chains : List CChain) (switches : List CSwitch) (functions : List CFunction) (b : Begins) : Type 0 where
+  pub chain_steps_are : b.chain_steps.items ≡ begins (map (λ (c : CChain). c.steps) chains)
+  pub switch_cases_are : b.switch_cases.items ≡ begins (map (λ (s : CSwitch). s.cases) switches)
+  pub switch_ranges_are : b.switch_ranges.items ≡ begins (map (λ (s : CSwitch). s.ranges) switches)
+  pub function_parameters_are : b.function_parameters.items ≡ begins (map (λ (f : CFunction). f.parameters) functions)
+
 -- ---- all of it
 
 -- these numbers and lists are what the program has
@@ -144,6 +149,7 @@ pub record AreLists (p : Program) (lists : Lists) : Type 0 where
   pub operators : AreOperatorLists p.tokens p.assign_ops lists.operators
   pub assigned : lists.assigned.items ≡ map assigned_names p.assign_ops
   pub positions : IsSidecar p lists.positions
+  pub begins : AreBegins lists.chains.rows.items lists.switches.rows.items lists.functions.rows.items lists.begins
 
 -- the pools are the flat form of the program's
 pub record ArePools (p : Program) (pools : CPools) : Type 0 where
@@ -169,6 +175,7 @@ pub record IsFlatFormOf (p : Program) (c : CProgram) : Type 0 where
 
 -- this is all that the program has
 pub record AreContents (p : Program) (c : CContents) : Type 0 where
+  pub size_is : c.size ≡ CONTENTS_SIZE
   pub program : IsFlatFormOf p c.program
   pub caps_are : c.caps ≡ p.caps.0
   pub id_is : (c.id_low, c.id_high) ≡ halves p.debug_id
@@ -182,9 +189,12 @@ pub record AreContents (p : Program) (c : CContents) : Type 0 where
   pub operators_are : c.operators.now ≡ placed_rows 0 (flat_map (λ t. operator_rows (token_parts t)) p.tokens ++ flat_map assigned_rows p.assign_ops)
   pub operator_texts_are : c.operator_texts.now ≡ flat_map (λ t. operator_texts (token_parts t)) p.tokens ++ flat_map assigned_texts p.assign_ops
   pub op_assignments_are : c.op_assignments.now ≡ map assigned_names p.assign_ops
-  pub slots_are : c.slots.now ≡ map slot_of p.chains
   pub step_flags_are : c.step_flags.now ≡ flat_map step_flags p.chains
   pub dispatch_is : c.ranges.now ≡ flat_map switch_ranges p.switches
   pub positions_are : c.positions ≡ length (unwrap_or p.positions [])
   pub has_positions_is : c.has_positions ≡ is_some p.positions
   pub sites : (s : Sidecar) × IsSidecar p s × (c.table.now ≡ s.positions.items) × (c.stream.now ≡ s.chains.items)
+  pub chain_steps_are : c.chain_steps.now ≡ begins (map (λ (r : CChain). r.steps) c.program.pools.chains.now)
+  pub switch_cases_are : c.switch_cases.now ≡ begins (map (λ (r : CSwitch). r.cases) c.program.pools.switches.now)
+  pub switch_ranges_are : c.switch_ranges.now ≡ begins (map (λ (r : CSwitch). r.ranges) c.program.pools.switches.now)
+  pub function_parameters_are : c.function_parameters.now ≡ begins (map (λ (r : CFunction). r.parameters) c.functions.now)

@@ -88,5 +88,6 @@ index_in part.Rest = 0
 -- of a growth that was refused there is no record
 abbrev pub read_error_record : ReadError → Option CReadError
 read_error_record errors.OutOfMemory = None
+read_error_record (errors.DepthLimit depth) = None
 read_error_record (errors.TooLarge size limit) = Some (record { cause = causes.TOO_LARGE; part = parts.HEADER; index = 0; at = size; limit = limit })
 read_error_record (errors.Malformed at place fault) = Some (record { cause = cause_of fault; part = part_number place; index = index_in place; at = at; limit = 0 })

@@ -1,13 +1,14 @@
 //! Program files that are written again: with chunks that declare their depths, and without positions.
-ghost use Rattle.std.specs.Prelude.{◌≡◌, ◌≢◌, ◌+◌, ◌≤◌, ◌↔◌, IfErr, IfOk, IsTrue};
-ghost use Rattle.grain.specs.Program.{Program};
+ghost use Rattle.std.specs.Prelude.{◌≡◌, ◌≢◌, ◌+◌, ◌≤◌, ◌↔◌, IfErr, IfOk, IsOk, IsTrue};
+ghost use Rattle.grain.specs.Program.{Program, places_of};
+ghost use Rattle.grain.specs.Sidecars.{IsSidecar, IsStripped};
+ghost use Rattle.grain_bytecode.specs.Positions.{IsRead};
 ghost use Rattle.grain_file.specs.Loading.{IsFileOf};
 ghost use Rattle.grain_file.specs.declared.file.ReadError.{ReadError};
-ghost use Rattle.grain_flat_file.specs.Changed.{AddressesFit, AreStrippedFiles, HasFile, IsAcceptedAsKept, IsItsFile, IsStripCause, IsTightFile, IsTightenCause, program_work};
+ghost use Rattle.grain_flat_file.specs.Changed.{AddressesFit, AreStrippedFiles, HasFile, IsAcceptedAsKept, IsItsFile, IsPositionCause, IsRestorable, IsStripCause, IsTightFile, IsTightenCause, program_work};
 
 use crate::functions::chunk_rows;
-use crate::loading::FileStop;
-use grain::Program;
+use grain::{Program, Sidecar};
 use grain_bytecode::StripError;
 use grain_file::{Limits, ReadError, WriteError, read, write, write_sidecar};
 use grain_flat::is_within;
@@ -119,31 +120,89 @@ pub struct Stripped {
     pub sidecar: Vec<u8>,
 }
 
-/// Takes the positions of a file into a file of their own. It costs one [`read`], one [`Program::strip_positions`], one [`write`]
-/// and one [`write_sidecar`].
+/// Why a file isn't written without its positions.
+#[derive(Clone, Copy, Debug, PartialEq, Eq)]
+pub enum StripStop {
+    /// The bytes are no file within the limits, or a growth was refused.
+    Read(ReadError),
+    /// A position that has a line is above 4294967295.
+    TooLong,
+    /// The positions couldn't be given back ([`Program::is_restored_by`]).
+    NotRestorable,
+}
+
+impl From<AllocError> for StripStop {
+    ghost use Rattle.std.specs.Prelude.{◌≡◌};
+    ghost use Rattle.grain_file.specs.declared.file.ReadError.{ReadError};
+    ghost use Rattle.grain_flat_file.specs.declared.changed.StripStop.{StripStop};
+
+    ghost from_gives = { λ _ e. e ≡ StripStop.Read ReadError.OutOfMemory };
+
+    fn from(_: AllocError) -> StripStop {
+        StripStop::Read(ReadError::OutOfMemory)
+    }
+}
+
+/// The positions of a program, apart from it, if they can be given back to it.
+fn restorable_positions(program: &Program) -> Result<Sidecar, StripStop>
+    ensures sidecar { IfOk result (IsSidecar program.now) }
+    ensures restores { IfOk result (λ s. IsRead
+        s.positions.items program.now.code (places_of program.now)) }
+    ensures only { AddressesFit program.now → IsRestorable program.now
+        → IfErr result (λ e. e ≡ StripStop.Read ReadError.OutOfMemory) }
+    ensures fits { IsOk result → AddressesFit program.now }
+    ensures causes { IfErr result (IsPositionCause program.now) }
+{
+    let positions = match program.sidecar() {
+        Ok(positions) => positions,
+        Err(StripError::AddressTooWide { .. }) => return Err(StripStop::TooLong),
+        Err(StripError::OutOfMemory) => return Err(StripStop::Read(ReadError::OutOfMemory)),
+    };
+    if program.is_restored_by(&positions)? {
+        Ok(positions)
+    } else {
+        Err(StripStop::NotRestorable)
+    }
+}
+
+/// The file of a program without its positions.
+fn bare_file(alloc: Global, mut program: Program) -> Result<Vec<u8>, AllocError>
+    requires file { (bare : Program) → IsStripped program bare → HasFile bare }
+    requires fits { AddressesFit program }
+    ensures { IfOk result (λ file. (bare : Program) × IsStripped program bare × IsItsFile bare file.items) }
+{
+    match program.strip_positions() {
+        Ok(_) => file_of(alloc, &program),
+        Err(StripError::AddressTooWide { .. }) => unreachable!(),
+        Err(StripError::OutOfMemory) => Err(AllocError),
+    }
+}
+
+/// Takes the positions of a file into a file of their own. It costs one [`read`], two [`Program::sidecar`], one
+/// [`Program::is_restored_by`], one [`write`] and one [`write_sidecar`].
 ///
 /// # Errors
-/// `Read` as [`read`], and wherever a growth was refused; `TooLong` where a position that has a line is above 4294967295.
-pub fn strip(alloc: Global, bytes: &[u8], limits: &Limits) -> Result<Stripped, FileStop>
-    // What is written is the file of the program that was read, without positions, and these.
+/// Tested in this order: `Read` as [`read`], and wherever a growth was refused; `TooLong` where a position that has a line is above
+/// 4294967295; `NotRestorable` where attaching the sidecar to the file without positions wouldn't give the file back.
+pub fn strip(alloc: Global, bytes: &[u8], limits: &Limits) -> Result<Stripped, StripStop>
+    // What is written is the file of the program that was read, without positions, and these, which can be given back.
     ensures files { IfOk result (AreStrippedFiles limits.now bytes.now) }
     // Of whatever the bytes are a file within the limits, that is written, memory and addresses apart.
     ensures only { (p : Program) → IsFileOf limits.now bytes.now p → AddressesFit p
-        → IfErr result (λ e. e ≡ FileStop.Read ReadError.OutOfMemory) }
+        → IsRestorable p → IfErr result (λ e. e ≡ StripStop.Read ReadError.OutOfMemory) }
     // Which test failed, and of what.
     ensures causes { IfErr result (IsStripCause limits.now bytes.now) }
 {
-    let mut program = match read(alloc, bytes, limits) {
+    let program = match read(alloc, bytes, limits) {
         Ok(program) => program,
-        Err(error) => return Err(FileStop::Read(error)),
+        Err(error) => return Err(StripStop::Read(error)),
     };
-    let positions = match program.strip_positions() {
+    let positions = match restorable_positions(&program) {
         Ok(positions) => positions,
-        Err(StripError::AddressTooWide { .. }) => return Err(FileStop::TooLong),
-        Err(StripError::OutOfMemory) => return Err(FileStop::Read(ReadError::OutOfMemory)),
+        Err(stop) => return Err(stop),
     };
     Ok(Stripped {
-        program: file_of(alloc, &program)?,
+        program: bare_file(alloc, program)?,
         sidecar: write_sidecar(alloc, &positions)?,
     })
 }

@@ -3,11 +3,12 @@ ghost use Rattle.std.specs.Prelude.{◌≡◌, IfOk};
 ghost use Rattle.grain.specs.Sidecars.{IsSidecar};
 ghost use Rattle.grain_flat_file.specs.Contents.{AreContents, AreLists, ArePools, IsFlatFormOf};
 
+use crate::begins::{Begins, begins_by_rows};
 use crate::copies::{Copies, Numbers, copies_of, numbers_of};
 use crate::functions::{FunctionLists, function_lists};
 use crate::pools::{ChainLists, SwitchLists, chain_lists, constant_rows, switch_lists};
 use crate::recalled::Recalled;
-use crate::records::{CContents, COpAssignment};
+use crate::records::{CContents, CONTENTS_SIZE, COpAssignment};
 use crate::unflat::Unflat;
 use crate::values::{ConstantLists, ValueLists, assigned_names, constant_lists, operator_lists};
 use grain::{Program, Sidecar};
@@ -29,6 +30,7 @@ pub(crate) struct Lists {
     pub(crate) operators: ValueLists,
     pub(crate) assigned: Vec<COpAssignment>,
     pub(crate) positions: Sidecar,
+    pub(crate) begins: Begins,
 }
 
 /// The flat form of a program.
@@ -78,6 +80,7 @@ fn lists_of(alloc: Global, program: &Program) -> Result<Lists, Unflat>
     let operators = operator_lists(alloc, program.tokens(), program.assign_ops())?;
     let assigned = assigned_names(alloc, program.assign_ops())?;
     let positions = positions_of(program)?;
+    let begins = begins_by_rows(alloc, &chains.rows, &switches.rows, &functions.rows)?;
     Ok(Lists {
         numbers: numbers_of(program),
         copies,
@@ -89,6 +92,7 @@ fn lists_of(alloc: Global, program: &Program) -> Result<Lists, Unflat>
         operators,
         assigned,
         positions,
+        begins,
     })
 }
 
@@ -141,6 +145,7 @@ impl FlatFile {
         ensures { AreContents self.now result }
     {
         CContents {
+            size: CONTENTS_SIZE,
             program: self.flat_form(),
             caps: self.lists.numbers.caps,
             has_source: self.lists.numbers.has_source,
@@ -157,11 +162,14 @@ impl FlatFile {
             operator_texts: &self.lists.operators.texts,
             op_assignments: &self.lists.assigned,
             positions: self.lists.numbers.positions,
-            slots: &self.lists.chains.slots,
             step_flags: &self.lists.chains.flags,
             ranges: &self.lists.switches.ranges,
             table: &self.lists.positions.positions,
             stream: &self.lists.positions.chains,
+            chain_steps: &self.lists.begins.chain_steps,
+            switch_cases: &self.lists.begins.switch_cases,
+            switch_ranges: &self.lists.begins.switch_ranges,
+            function_parameters: &self.lists.begins.function_parameters,
         }
     }
 }

@@ -82,12 +82,12 @@ fn index_in(part: Part) -> u64
     }
 }
 
-/// Why bytes are no file, as a record. Of a growth that was refused there is none.
+/// Why bytes are no file, as a record. Of a growth that was refused, and of a limit that is too great, there is none.
 pub fn read_error_record(error: &ReadError) -> Option<CReadError>
     ensures { result ≡ read_error_record error.now }
 {
     match *error {
-        ReadError::OutOfMemory => None,
+        ReadError::OutOfMemory | ReadError::DepthLimit { .. } => None,
         ReadError::TooLarge { size, limit } => Some(CReadError {
             cause: causes::TOO_LARGE,
             part: parts::HEADER,

@@ -4,6 +4,7 @@
 //! the form and in the files is said in the folder `specs/`. The exports of the static library stand in `grain_c`.
 #![tactic(auto)]
 
+mod begins;
 pub mod causes;
 mod changed;
 mod contents;
@@ -20,9 +21,9 @@ pub mod tags;
 mod unflat;
 mod values;
 
-pub use changed::{Stripped, TightenStop, strip, tighten};
+pub use changed::{StripStop, Stripped, TightenStop, strip, tighten};
 pub use contents::FlatFile;
 pub use errors::{read_error_of, read_error_record};
 pub use loading::{FileStop, read_flat};
-pub use records::{CContents, CFunction, CLimits, COpAssignment, CRange, CReadError, CValue};
+pub use records::{CONTENTS_SIZE, CContents, CFunction, CLimits, COpAssignment, CRange, CReadError, CValue};
 pub use unflat::Unflat;

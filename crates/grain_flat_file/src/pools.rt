@@ -1,7 +1,7 @@
 //! The pools of a program as rows.
 ghost use Rattle.std.specs.Prelude.{◌≡◌, ◌∷◌, ◌++◌, [], IfOk, OnOk, length, map};
 ghost use Rattle.grain_flat.specs.Flat.{chain_row, root_row, step_row, step_rows, tail_row};
-ghost use Rattle.grain_flat_file.specs.Contents.{AreChainLists, AreSwitchLists, constant_row, flags_of, range_row, slot_of, step_flags, switch_cases, switch_ranges, switch_targets_of};
+ghost use Rattle.grain_flat_file.specs.Contents.{AreChainLists, AreSwitchLists, constant_row, flags_of, range_row, step_flags, switch_cases, switch_ranges, switch_targets_of};
 ghost use Rattle.grain_flat.specs.Flat.{case_row, switch_row};
 ghost use Rattle.grain_pools.specs.Dispatch.{arms};
 ghost use Rattle.grain_pools.specs.declared.switch.SwitchRange.{SwitchRange};
@@ -48,14 +48,14 @@ pub(crate) fn constant_rows(
     Ok(rows)
 }
 
-fn root_row(root: &Root) -> (u32, u32)
+fn root_row(root: &Root) -> (u32, u32, u16)
     ensures { result ≡ root_row root.now }
 {
     match root {
-        Root::Local { slot: _, name } => (LOCAL, *name),
-        Root::Named { name, pos: _ } => (NAMED, *name),
-        Root::This { pos: _ } => (THIS, 0),
-        Root::Temporary => (TEMPORARY, 0),
+        Root::Local { slot, name } => (LOCAL, *name, *slot),
+        Root::Named { name, pos: _ } => (NAMED, *name, 0),
+        Root::This { pos: _ } => (THIS, 0, 0),
+        Root::Temporary => (TEMPORARY, 0, 0),
     }
 }
 
@@ -120,22 +120,12 @@ fn flags_of(step: &Step) -> u8
     }
 }
 
-/// The slot of the local variable at which a chain begins, else 0.
-fn slot_of(chain: &Chain) -> u16
-    ensures { result ≡ slot_of chain.now }
-{
-    match &chain.root {
-        Root::Local { slot, name: _ } => *slot,
-        _ => 0,
-    }
-}
-
 /// The row of a chain, unless it has too many steps.
 fn chain_row(chain: &Chain) -> Result<CChain, Unflat>
     ensures { IfOk result (λ row. row ≡ chain_row chain.now) }
 {
     let steps = count_of(chain.steps.len())?;
-    let (root, root_name) = root_row(&chain.root);
+    let (root, root_name, slot) = root_row(&chain.root);
     let (tail, op) = tail_row(&chain.tail);
     Ok(CChain {
         root,
@@ -144,6 +134,7 @@ fn chain_row(chain: &Chain) -> Result<CChain, Unflat>
         tail,
         op,
         operands: chain.operands,
+        slot,
     })
 }
 
@@ -152,8 +143,6 @@ fn chain_row(chain: &Chain) -> Result<CChain, Unflat>
 pub(crate) struct ChainLists {
     /// The chains.
     pub(crate) rows: Vec<CChain>,
-    /// The slot at which each begins.
-    pub(crate) slots: Vec<u16>,
     /// The steps of all.
     pub(crate) steps: Vec<CStep>,
     /// The flags of these.
@@ -166,10 +155,8 @@ impl ChainLists {
         ensures { IfOk result (AreChainLists []) }
     {
         let rows = Vec::with_capacity(alloc, count)?;
-        let slots = Vec::with_capacity(alloc, count)?;
         Ok(ChainLists {
             rows,
-            slots,
             steps: Vec::new(alloc),
             flags: Vec::new(alloc),
         })
@@ -182,7 +169,6 @@ impl ChainLists {
         ensures flags { OnOk result
             (self.new.flags.items ≡ self.old.flags.items ++ map flags_of steps.now) }
         ensures rows { self.new.rows ≡ self.old.rows }
-        ensures slots { self.new.slots ≡ self.old.slots }
     {
         for step in steps {
             self.steps.push(step_row(step))?;
@@ -195,8 +181,6 @@ impl ChainLists {
     fn add(&mut self, chain: &Chain) -> Result<(), Unflat>
         ensures rows { OnOk result
             (self.new.rows.items ≡ self.old.rows.items ++ chain_row chain.now ∷ []) }
-        ensures slots { OnOk result
-            (self.new.slots.items ≡ self.old.slots.items ++ slot_of chain.now ∷ []) }
         ensures steps { OnOk result
             (self.new.steps.items ≡ self.old.steps.items ++ step_rows chain.now) }
         ensures flags { OnOk result
@@ -204,7 +188,6 @@ impl ChainLists {
     {
         let row = chain_row(chain)?;
         self.rows.push(row)?;
-        self.slots.push(slot_of(chain))?;
         self.add_steps(&chain.steps)?;
         Ok(())
     }

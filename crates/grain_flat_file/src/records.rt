@@ -60,6 +60,8 @@ pub struct CValue {
 #[repr(C)]
 #[derive(Clone, Copy)]
 pub struct CContents<'a> {
+    /// The size of this record in bytes. A later interface adds fields at its end alone.
+    pub size: usize,
     /// The code, the chunks, the main one first, and the pools.
     pub program: CProgram<'a>,
     /// The capabilities that the program declares.
@@ -92,8 +94,6 @@ pub struct CContents<'a> {
     pub op_assignments: &'a [COpAssignment],
     /// How many bytes of the code the file has positions of, from the first on.
     pub positions: usize,
-    /// The slot of the local variable at which each chain begins, else 0.
-    pub slots: &'a [u16],
     /// The flags of the steps of all chains.
     pub step_flags: &'a [u8],
     /// The ranges of all switches.
@@ -102,7 +102,18 @@ pub struct CContents<'a> {
     pub table: &'a [u8],
     /// The stream of the positions of the chains.
     pub stream: &'a [u8],
+    /// Where the steps of each chain begin among those of all.
+    pub chain_steps: &'a [u32],
+    /// Where the cases of each switch begin among those of all.
+    pub switch_cases: &'a [u32],
+    /// Where the ranges of each switch begin among those of all.
+    pub switch_ranges: &'a [u32],
+    /// Where the parameters of each function begin among those of all.
+    pub function_parameters: &'a [u32],
 }
+
+/// The size of [`CContents`] in bytes.
+pub const CONTENTS_SIZE: usize = size_of::<CContents<'static>>();
 
 /// What a host bounds of the files that it reads.
 #[repr(C)]

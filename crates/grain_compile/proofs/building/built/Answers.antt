@@ -5,14 +5,14 @@ use Rattle.grain.specs.Build.{CanBuild, draft}
 use Rattle.grain.proofs.BuildAcceptance.{accepted_there}
 use Rattle.grain_compile.proofs.building.built.Goals as goal
 
-pub tightened-requires : goal.tightened-requires
-tightened-requires c =
+pub least-requires : goal.least-requires
+least-requires c =
     let d = draft c.all_capabilities.result c.args.ops.now c.args.cuts.now c.args.heads.items c.args.parts in
     let can : CanBuild d = c.requires.can c.all_capabilities.result c.all_capabilities.ensures in
     accepted_there d c.in-Ok.program can.lays c.in-Ok.ensures.laid can
 
 pub returns-in-Ok-clause-code : goal.returns-in-Ok-clause-code
 returns-in-Ok-clause-code c =
-    IfOk-weaker c.tightened.result (λ b. b.0.code ≡ c.in-Ok.program.code) (λ b. (offsets : List ℕ) × IsAssembly c.args.ops.now b.0.code offsets)
+    IfOk-weaker c.least.result (λ b. b.0.code ≡ c.in-Ok.program.code) (λ b. (offsets : List ℕ) × IsAssembly c.args.ops.now b.0.code offsets)
     (λ b same. (c.in-Ok.ensures.laid.offsets, subst (λ (code : List ℕ). IsAssembly c.args.ops.now code c.in-Ok.ensures.laid.offsets) (sym same) c.in-Ok.ensures.laid.code))
-    c.tightened.ensures.code
+    c.least.ensures.code

@@ -8,5 +8,4 @@ invariant-loop-step l = record {
   steps : l.self.steps.items ++ map step_row (drop l.step-index l.steps) ≡ l.initial.self.steps.items ++ map step_row l.steps;
   flags : l.self.flags.items ++ map flags_of (drop l.step-index l.steps) ≡ l.initial.self.flags.items ++ map flags_of l.steps;
   rows : l.self.rows ≡ l.initial.self.rows;
-  slots : l.self.slots ≡ l.initial.self.slots;
 }

@@ -1,0 +1,45 @@
+//! What a program needs of its host: the capabilities that it declares, and slots for local variables.
+ghost use Rattle.std.specs.Prelude.{◌≡◌, IfOk};
+ghost use Rattle.grain_needs.specs.Capabilities.{AreLeast};
+ghost use Rattle.grain_rules.specs.Accepted.{IsAccepted};
+ghost use Rattle.grain.specs.Needs.{AreSlotCounts};
+ghost use Rattle.grain.specs.Program.{input_of};
+
+use crate::program::Program;
+use grain_needs::{chunk_slots, least_caps};
+use std::alloc::AllocError;
+
+impl Program {
+    /// Declares the least capabilities that suffice for the constants, the functions and the instructions of the program, and no
+    /// others ([`least_caps`]).
+    ///
+    /// A program that is accepted stays accepted. It reads constants and code once, and takes no memory but the call stack, by the depth
+    /// of the constants.
+    pub fn declare_least_caps(&mut self)
+        ensures least { AreLeast (input_of self.new) self.new.caps.0 }
+        ensures rest { self.new ≡ record self.old { caps = self.new.caps } }
+        ensures accepted { IsAccepted (input_of self.old) → IsAccepted (input_of self.new) }
+    {
+        self.caps = least_caps(&self.parts.consts, &self.code, &self.functions, &self.pools());
+    }
+
+    /// The number of slots that the instructions of each chunk name, the main chunk before those of the functions
+    /// ([`chunk_slots`]).
+    ///
+    /// A host that makes room for as many when it calls a chunk needs no test where an instruction names a slot. It reads the code of each
+    /// chunk once.
+    ///
+    /// # Errors
+    /// [`AllocError`] where the memory for the numbers was refused.
+    pub fn slots(&self) -> Result<Vec<u32>, AllocError>
+        ensures { IfOk result (λ slots. AreSlotCounts self.now slots.items) }
+    {
+        let pools = self.pools();
+        let mut slots = Vec::with_capacity(self.alloc, self.functions.len() + 1)?;
+        slots.push(chunk_slots(&self.code, &self.main, &pools))?;
+        for function in &self.functions {
+            slots.push(chunk_slots(&self.code, &function.chunk, &pools))?;
+        }
+        Ok(slots)
+    }
+}
