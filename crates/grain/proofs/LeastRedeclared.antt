@@ -16,9 +16,9 @@ pub least_again : (p q : Program) → undeclared q ≡ undeclared p → AreLeast
 least_again p q e h =
     let caps : p.caps.0 ≡ q.caps.0 = sym (ap (λ (r : Program). r.caps.0) e) in
     subst (AreLeast (input_of q)) caps (least_alike (input_of p) (input_of q) p.caps.0
-      (sym (ap (λ (r : Program). r.code) e))
-      (sym (ap (λ (r : Program). facts_with (length r.consts) r.names (length r.tokens) (length r.assign_ops) r.residuals r.chains r.switches) e))
-      (sym (ap (λ (r : Program). r.consts) e))
-      (some_too q.functions p.functions (ap (λ (r : Program). r.functions) e))
-      (some_too p.functions q.functions (sym (ap (λ (r : Program). r.functions) e)))
-      h)
+    (sym (ap (λ (r : Program). r.code) e))
+    (sym (ap (λ (r : Program). facts_with (length r.consts) r.names (length r.tokens) (length r.assign_ops) r.residuals r.chains r.switches) e))
+    (sym (ap (λ (r : Program). r.consts) e))
+    (some_too q.functions p.functions (ap (λ (r : Program). r.functions) e))
+    (some_too p.functions q.functions (sym (ap (λ (r : Program). r.functions) e)))
+    h)

@@ -1,8 +1,11 @@
 -- A table and code give one list of places.
-use Rattle.std.proofs.Common.{◌≡◌, ℕ, Bool, true, false, cond, List, [], ◌∷◌, map, nat_le, Option, Some, None, refl, sym, ap, ◌∙◌, inl, inr}
+use Rattle.std.proofs.Common.{◌≡◌, ℕ, Bool, true, false, cond, List, [], ◌∷◌, map, get_or, nat_le, ◌<◌, Option, Some, None, refl, sym, ap, ◌∙◌, inl, inr}
 use Rattle.std.specs.List.{list_all, list_any, range_with_len}
 use Rattle.std.specs.Prelude.{is_none, length, option_and_then, ◌==◌}
 use Rattle.grain_base.specs.AddressTable.{Entry, site_at}
+use Rattle.std.proofs.lemmas.List.{get_or-map}
+use Rattle.grain_base.specs.Place.{place_of}
+use Rattle.grain_base.specs.declared.position.Position.{Position}
 use Rattle.grain_bytecode.specs.Positions.{IsRead, Place, byte_place, code_site, dense, site_place, table_places}
 use Rattle.grain_bytecode.proofs.ReadAddresses.{one_arrival}
 use Rattle.grain.proofs.AttachedPositions.{one_table}
@@ -38,12 +41,17 @@ one_read table code a b first second =
     elim first.whole as (λ _. a ≡ b) [
       | inl none ↦ elim second.whole as (λ _. a ≡ b) [
         | inl other ↦ none.1 ∙ sym other.1
-        | inr all ↦ none.1 ∙ sym (all.1.2 ∙ ap (λ (list : List Entry). dense (table_places list all.0 code)) (sym same ∙ none.0) ∙ stripped_again all.0 code)
+        | inr all ↦ none.1 ∙ sym (all.3 ∙ ap (λ (list : List Entry). dense (table_places list all.0 code)) (sym same ∙ none.0) ∙ stripped_again all.0 code)
       ]
       | inr all ↦ elim second.whole as (λ _. a ≡ b) [
-        | inl none ↦ all.1.2 ∙ ap (λ (list : List Entry). dense (table_places list all.0 code)) (same ∙ none.0) ∙ stripped_again all.0 code ∙ sym none.1
+        | inl none ↦ all.3 ∙ ap (λ (list : List Entry). dense (table_places list all.0 code)) (same ∙ none.0) ∙ stripped_again all.0 code ∙ sym none.1
         | inr other ↦
-            let arrived = one_arrival code all.0 other.0 all.1.0 other.1.0 in
-            all.1.2 ∙ (λ i. dense (table_places (same i) (arrived i) code)) ∙ sym other.1.2
+            let arrived = one_arrival code all.0 other.0 all.1 other.1 in
+            all.3 ∙ (λ i. dense (table_places (same i) (arrived i) code)) ∙ sym other.3
       ]
     ]
+
+-- positions whose places are the same are so one by one
+pub placed_alike : (a b : List Position) (i : ℕ) (d e : Position) → i < length a → i < length b → map place_of a ≡ map place_of b → place_of (get_or a i d) ≡ place_of (get_or b i e)
+placed_alike a b i d e l m same =
+    sym (get_or-map place_of a i d (place_of d) l) ∙ ap (λ (ps : List Place). get_or ps i (place_of d)) same ∙ get_or-map place_of b i e (place_of d) m

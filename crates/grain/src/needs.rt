@@ -1,11 +1,14 @@
 //! What a program needs of its host: the capabilities that it declares, and slots for local variables.
 ghost use Rattle.std.specs.Prelude.{◌≡◌, IfOk};
 ghost use Rattle.grain_needs.specs.Capabilities.{AreLeast};
+ghost use Rattle.grain_needs.specs.Slots.{AreSlots, root_slots};
 ghost use Rattle.grain_rules.specs.Accepted.{IsAccepted};
 ghost use Rattle.grain.specs.Needs.{AreSlotCounts};
 ghost use Rattle.grain.specs.Program.{input_of};
 
 use crate::program::Program;
+use grain_base::Caps;
+use grain_code::Chunk;
 use grain_needs::{chunk_slots, least_caps};
 use std::alloc::AllocError;
 
@@ -20,7 +23,15 @@ impl Program {
         ensures rest { self.new ≡ record self.old { caps = self.new.caps } }
         ensures accepted { IsAccepted (input_of self.old) → IsAccepted (input_of self.new) }
     {
-        self.caps = least_caps(&self.parts.consts, &self.code, &self.functions, &self.pools());
+        self.caps = self.least_caps();
+    }
+
+    /// The least capabilities that suffice for the constants, the functions and the instructions of the program.
+    fn least_caps(&self) -> Caps
+        ensures { AreLeast (input_of self.now) result.0 }
+    {
+        let pools = self.pools();
+        least_caps(&self.parts.consts, &self.code, &self.functions, &pools)
     }
 
     /// The number of slots that the instructions of each chunk name, the main chunk before those of the functions
@@ -34,12 +45,19 @@ impl Program {
     pub fn slots(&self) -> Result<Vec<u32>, AllocError>
         ensures { IfOk result (λ slots. AreSlotCounts self.now slots.items) }
     {
-        let pools = self.pools();
-        let mut slots = Vec::with_capacity(self.alloc, self.functions.len() + 1)?;
-        slots.push(chunk_slots(&self.code, &self.main, &pools))?;
-        for function in &self.functions {
-            slots.push(chunk_slots(&self.code, &function.chunk, &pools))?;
+        let chunks = self.chunks()?;
+        let mut slots = Vec::with_capacity(self.alloc, chunks.len())?;
+        for chunk in &chunks {
+            slots.push(self.slots_of(chunk))?;
         }
         Ok(slots)
+    }
+
+    /// The number of slots that the instructions of a chunk name.
+    fn slots_of(&self, chunk: &Chunk) -> u32
+        ensures { AreSlots (root_slots self.now.chains) self.now.code chunk.now result }
+    {
+        let pools = self.pools();
+        chunk_slots(&self.code, chunk, &pools)
     }
 }

@@ -1,5 +1,5 @@
 //! Positions apart from their program.
-ghost use Rattle.std.specs.Prelude.{◌≡◌, ◌≤◌, ◌<◌, ◌^◌, ◌⊎◌, ◌↔◌, List, Option, Err, IsOk, IsTrue, IfOk, IfErr, OnOk, OnErr, All, Any, map};
+ghost use Rattle.std.specs.Prelude.{◌≡◌, ◌≢◌, ◌≤◌, ◌<◌, ◌^◌, ◌⊎◌, ◌↔◌, false, List, Option, Err, IsOk, IsTrue, IfOk, IfErr, OnOk, OnErr, All, Any, map};
 ghost use Rattle.grain_base.specs.Place.{place_of};
 ghost use Rattle.grain_base.specs.declared.pos.Site.{Site};
 ghost use Rattle.grain_bytecode.specs.ChainStream.{Stream, StreamFlaw};
@@ -84,8 +84,7 @@ impl Program {
     {
         match Positions::from_table(self.alloc, &sidecar.positions, &self.code) {
             Ok(positions) => Ok(same_places(&positions, &self.parts.positions)),
-            Err(TableError::OutOfMemory) => Err(AllocError),
-            Err(_) => Ok(false),
+            Err(error) => unread(&error),
         }
     }
 
@@ -122,6 +121,20 @@ impl Program {
         self.parts.positions = positions;
         draw_chains(&mut self.parts.chains, &mut Slots { left: &sites });
         Ok(())
+    }
+}
+
+/// Positions that can't be read aren't restored, unless it is memory that ran out.
+fn unread(error: &TableError) -> Result<bool, AllocError>
+    ensures { IfOk result (λ restores. (restores ≡ false) × (error.now ≢ table_error.OutOfMemory)) }
+{
+    match error {
+        TableError::OutOfMemory => Err(AllocError),
+        TableError::Malformed(_)
+        | TableError::PastTheEnd { .. }
+        | TableError::WrongProgram { .. }
+        | TableError::ChainStream(_)
+        | TableError::ChainCount { .. } => Ok(false),
     }
 }
 

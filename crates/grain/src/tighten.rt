@@ -100,7 +100,7 @@ impl Program {
     }
 
     /// The chunks, the main one first.
-    fn chunks(&self) -> Result<Vec<Chunk>, AllocError>
+    pub(crate) fn chunks(&self) -> Result<Vec<Chunk>, AllocError>
         ensures { IfOk result (λ v. v.items ≡ chunks_of self.now) }
     {
         let mut chunks = Vec::with_capacity(self.alloc, self.functions.len() + 1)?;
