@@ -10,7 +10,7 @@ use Rattle.grain_file.specs.declared.file.Limits.{Limits}
 use Rattle.grain_file.specs.declared.file.ReadError.{ReadError}
 use Rattle.grain_file.specs.declared.file.ReadError.TheVariants as errors
 use Rattle.grain_file.specs.declared.file.TheConstants.{MAX_DEPTH}
-use Rattle.grain_flat.specs.Declared.{lack_record}
+use Rattle.grain_flat.specs.Lacks.{lack_record}
 use Rattle.grain_flat.specs.declared.records.CReport.{CReport}
 use Rattle.grain_flat_file.specs.Errors.{read_error_record}
 use Rattle.grain_flat_file.specs.declared.loading.FileStop.{FileStop}

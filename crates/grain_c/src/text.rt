@@ -6,7 +6,7 @@ ghost use Rattle.grain_rules.specs.declared.error.VerifyError.{VerifyError};
 ghost use Rattle.grain_code.specs.declared.op.Op.{Op};
 ghost use Rattle.grain_c.specs.Written.{IsPrinted};
 ghost use Rattle.grain_flat.specs.Answers.{TellsRefusal, word_kind};
-ghost use Rattle.grain_flat.specs.Declared.{IsRefusalText};
+ghost use Rattle.grain_flat.specs.Lacks.{IsRefusalText};
 ghost use Rattle.grain_flat.specs.InstructionTexts.{instruction_text};
 ghost use Rattle.grain_flat.specs.declared.kinds.TheConstants.{NOTHING};
 

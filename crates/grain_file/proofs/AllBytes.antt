@@ -72,12 +72,14 @@ module _ {K P : Type 0} (F : Format K) (view : P → K) (limits : Limits) (bytes
   result_only (Ok p) given k file = ap (λ (y : K × List ℕ). y.0) (ok_is {E = LocatedFault} (view p, []) (k, []) (sym given ∙ all_again F bytes k file))
   result_only (Err errors.OutOfMemory) given k file = refl
   result_only (Err (errors.TooLarge size limit)) given k file = absurd given
+  result_only (Err (errors.DepthLimit depth)) given k file = absurd given
   result_only (Err (errors.Malformed at part fault)) given k file = absurd (let e = sym given.1 ∙ all_again F bytes k file in cc)
 
   pub result_exact : (r : Result P ReadError) → AreBytes bytes → Given r → IfErr r (IsCauseIn (whole F) limits bytes)
   result_exact (Ok p) are given = tt
   result_exact (Err errors.OutOfMemory) are given = tt
   result_exact (Err (errors.TooLarge size limit)) are given = absurd given
+  result_exact (Err (errors.DepthLimit depth)) are given = absurd given
   result_exact (Err (errors.Malformed at part fault)) are given =
       let end = all_ends F bytes fault given.0 are given.1 in
       let d = place_of_end bytes end.front given.0 at end.is given.2 in

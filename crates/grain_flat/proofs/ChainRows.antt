@@ -32,8 +32,8 @@ flat_by_rows f row g by_row (a ∷ xs) =
     flat_map-cons f a xs ∙ ap (λ ys. ys ++ flat_map f xs) (by_row a) ∙ ap (λ ys. g (row a) ++ ys) (flat_by_rows f row g by_row xs) ∙ sym (flat_map-cons g (row a) (map row xs))
 
 -- a row with this root, and one with this tail, whatever else is in it
-abbrev with_root : Root → CChain → CChain
-with_root r row = record row { root = (root_row r).0; root_name = (root_row r).1.0; slot = (root_row r).1.1 }
+abbrev pub with_root : Root → CChain → CChain
+with_root r row = record row { root = (root_row r).0; root_name = (root_row r).1; slot = (root_row r).2 }
 
 abbrev with_tail : Tail → CChain → CChain
 with_tail t row = record row { tail = (tail_row t).0; op = (tail_row t).1 }

@@ -118,12 +118,12 @@ chain_of row given known steps long small =
       chain = record { root = known.root; steps = vector found.0 (omega arith); tail = known.tail; operands = row.operands };
       row_is = sym (λ k. record {
         root = (known.root_is k).0;
-        root_name = (known.root_is k).1.0;
+        root_name = (known.root_is k).1;
         steps = (same ∙ long) k;
         tail = (known.tail_is k).0;
         op = (known.tail_is k).1;
         operands = row.operands;
-        slot = (known.root_is k).1.1;
+        slot = (known.root_is k).2;
       });
       steps_are = found.1;
     }

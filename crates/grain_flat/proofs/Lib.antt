@@ -25,3 +25,4 @@ mod Texts
 pub mod ExplainedRoom
 mod Wholes
 pub mod VisitBounds
+pub mod SlotRows

@@ -56,12 +56,12 @@ step_rows c = map step_row c.steps.items
 abbrev pub chain_row : Chain → CChain
 chain_row c = record {
   root = (root_row c.root).0;
-  root_name = (root_row c.root).1.0;
+  root_name = (root_row c.root).1;
   steps = length c.steps.items;
   tail = (tail_row c.tail).0;
   op = (tail_row c.tail).1;
   operands = c.operands;
-  slot = (root_row c.root).1.1;
+  slot = (root_row c.root).2;
 }
 
 -- these rows, and these steps of all of them, are those of these chains

@@ -1,6 +1,6 @@
 pub mod Answers
 pub mod Asking
-pub mod Declared
+pub mod Lacks
 pub mod Explaining
 pub mod Flat
 pub mod Instruction

@@ -6,13 +6,13 @@
 #![tactic(auto)]
 
 mod asking;
-mod declared;
 mod explaining;
 mod fields;
 mod flat;
 pub mod flaws;
 mod judge;
 pub mod kinds;
+mod lacks;
 mod line;
 mod listing;
 pub mod lists;
@@ -29,11 +29,11 @@ mod tightening;
 mod verdicts;
 mod work;
 
-pub use declared::{lack_of, lack_record, lack_text};
 pub use explaining::{ExplanationRows, explain_chunk, rows_of};
 pub use fields::fields_of;
 pub use flat::{is_flat, pools_flaw};
 pub use judge::Stop;
+pub use lacks::{lack_of, lack_record, lack_text};
 pub use line::Line;
 pub use listing::{fill, list_entries, list_sites};
 pub use printing::{instruction_text, refusal_text};

@@ -10,7 +10,7 @@ returns-in_default-clause-some c =
     let rows = c.args.rows.now in
     let i = c.loop-index.index in
     let so_far = c.loop-index.invariant in
-    let none : CChain = record { root = 0; root_name = 0; steps = 0; tail = 0; op = 0; operands = 0 } in
+    let none : CChain = record { root = 0; root_name = 0; steps = 0; tail = 0; op = 0; operands = 0; slot = 0 } in
     let more = sum_by_more (λ (r : CChain). r.steps) rows i none c.loop-index-test.true in
     let under = c.in_default.ensures in
     subst (StepsFlaw rows c.args.steps) (sym c.flaw_at.ensures) (chain_overruns {index = i} c.loop-index-test.true (omega (arith, so_far)) (omega (arith, so_far, more, under)))

@@ -1,6 +1,6 @@
 //! A program that declares capabilities which the host lacks, as a refusal that crosses to C.
 ghost use Rattle.std.specs.Prelude.{◌≡◌, ◌<◌, ℕ, IfNone, IfSome, codes, length};
-ghost use Rattle.grain_flat.specs.Declared.{TellsLack, lack_record, lack_text};
+ghost use Rattle.grain_flat.specs.Lacks.{TellsLack, lack_record, lack_text};
 
 use crate::flaws::{DECLARED_CAPS, WHOLE_PROGRAM};
 use crate::line::{Line, hex_digits, put};
