@@ -57,7 +57,10 @@ fn range_counts(alloc: Global, switches: &[CSwitch]) -> Result<Vec<u32>, AllocEr
 fn parameter_counts(alloc: Global, functions: &[CFunction]) -> Result<Vec<u32>, AllocError>
     ensures { IfOk result (λ v. v.items ≡ map (λ (f : CFunction). f.parameters) functions.now) }
 {
-    functions.iter().map(|function| function.parameters).collect(alloc)
+    functions
+        .iter()
+        .map(|function| function.parameters)
+        .collect(alloc)
 }
 
 /// Where each begins, by the counts that the rows have.

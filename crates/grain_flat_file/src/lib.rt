@@ -25,5 +25,7 @@ pub use changed::{StripStop, Stripped, TightenStop, strip, tighten};
 pub use contents::FlatFile;
 pub use errors::{read_error_of, read_error_record};
 pub use loading::{FileStop, read_flat};
-pub use records::{CONTENTS_SIZE, CContents, CFunction, CLimits, COpAssignment, CRange, CReadError, CValue};
+pub use records::{
+    CContents, CFunction, CLimits, CONTENTS_SIZE, COpAssignment, CRange, CReadError, CValue,
+};
 pub use unflat::Unflat;
