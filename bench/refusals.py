@@ -69,6 +69,7 @@ REPEATED = [
 ]
 # One item, and one name, more than code can number.
 MANY_ITEMS = "1 +\n [1" + ",1" * 65_534 + "].len()"
+MANY_PARAMS = "fn f(" + "".join(f"p{number:03}," for number in range(300)) + ") {}"
 MANY_NAMES = "".join(f"v{number}();\n" for number in range(65_537))
 # A call whose bracket is open, and its report.
 OPEN = "f(\n\tg(3 + x;\n)"
@@ -219,6 +220,7 @@ def wrong_scripts(tool):
         yield from of_script(tool, part * 100_000, wanted)
     yield from of_script(tool, MANY_ITEMS, "2:131071: there are too many items")
     yield from of_script(tool, MANY_NAMES, "65537:1: there are too many names")
+    yield from of_script(tool, MANY_PARAMS, "1:1281: there are too many arguments")
     said = tool.run("check", tool.write("a.rhai", OPEN.encode()))[2].decode()
     yield from unlike(said[:len(REPORT)], REPORT, OPEN)
     yield from unlike(errors_of(tool, SEVERAL), PLACES, SEVERAL)

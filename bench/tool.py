@@ -171,6 +171,8 @@ def check_scripts(tool):
     calls = "(line 2, position 5)\n  in inner at 2:5\n  called from outer at 4:15\n  called from main at 6:1\n"
     found = tool.refused("run", "-", given=deep)
     expect(found.endswith(calls), f"a fault in a function has the backtrace {found!r}")
+    found = tool.refused("run", "-", given=b"fn f(x) { throw 1 }\n[1].map(|x| f(x));\n")
+    expect("\n  called from map\n  called from main at 2:1\n" in found, f"a function of the library is shown otherwise: {found!r}")
     expect("\n  and 9984 more calls\n" in tool.refused("run", "-", given=b"fn f() { f() } f()\n"), "a long backtrace isn't cut")
     expect("out of fuel" in tool.refused("run", "--fuel", "1000", "-", given=b"loop { }\n"), "a script runs forever")
 

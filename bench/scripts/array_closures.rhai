@@ -65,3 +65,66 @@ try { [1, 2].map(|x| { if x == 2 { throw "two"; } x }); } catch (e) { print(e); 
 //--- nested
 print([[1, 2], [3]].map(|row| row.map(|x| x + 1)));
 //= [[2, 3], [4]]
+//--- a script's functions don't reach into these
+fn min(a, b) { 0 }
+fn len() { 0 }
+fn push(x) { throw "mine" }
+fn call(x) { throw "mine" }
+let x = [3, 1, 2];
+x.sort(|a, b| a - b);
+print(x);
+print([1, 2].map(|v| v + 1));
+print(x.filter(|v| v > 1));
+print(x.retain(|v| v > 1));
+print(x);
+print(x.find_index(|v| v == 3));
+//= [1, 2, 3]
+//= [2, 3]
+//= [2, 3]
+//= [1]
+//= [2, 3]
+//= 1
+//--- functions for a type don't either
+fn array.push(x) { throw "mine" }
+fn array.len() { 0 }
+fn int.min(x) { 0 }
+let x = [3, 1, 2];
+x.sort(|a, b| a - b);
+print(x);
+print(x.map(|v| v + 1));
+//= [1, 2, 3]
+//= [2, 3, 4]
+//--- a script's own map, filter and sort come first
+fn map(f) { "map of " + this.len() }
+fn filter(f) { "filter of " + this.len() }
+fn sort(f) { "sort of " + this.len() }
+let x = [3, 1, 2];
+print(x.map(|v| v));
+print(x.filter(|v| v));
+print(x.sort(|a, b| a - b));
+print(x);
+//= map of 3
+//= filter of 3
+//= sort of 3
+//= [3, 1, 2]
+//--- sort without a closure, as a function and as a method
+let a = [3, 1, 2];
+a.sort(|x, y| y - x);
+print(a);
+sort(a);
+print(a);
+a.sort(|x, y| y - x);
+a.sort();
+print(a);
+//= [3, 2, 1]
+//= [1, 2, 3]
+//= [1, 2, 3]
+//--- items that are arrays
+let a = [[2], [], [1, 1]];
+print(a.map(|x| x));
+print(a.filter(|x| x.len() > 0));
+a.sort(|x, y| x.len() - y.len());
+print(a);
+//= [[2], [], [1, 1]]
+//= [[2], [1, 1]]
+//= [[], [2], [1, 1]]

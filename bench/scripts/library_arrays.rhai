@@ -124,3 +124,11 @@ let a = [1];
 a.set(5, 2);
 print(a);
 //= [1]
+//--- join is as long as the host allows
+let a = [];
+a.pad(100000, 1);
+let s = "";
+s.pad(1000000, 'x');
+a.join(s)
+//! Size of data too large
+//@ 5:3

@@ -141,3 +141,30 @@ let s = "cat";
 s.set(7, 'x');
 print(s);
 //= cat
+//--- characters of one byte and of several
+let s = "abc";
+s += "é";
+print("" + s[0] + s[3] + s[-1] + s.len + s.bytes);
+s.pop();
+print("" + s[2] + s.len + s[-3]);
+s.append('€');
+s.pad(6, 'x');
+print(s + s[3] + s[5] + " " + s.sub_string(2, 3) + " " + s.sub_string(-3));
+s.set(3, 'd');
+print(s + s.len + s[4]);
+s[0] = 'ß';
+print(s + s[1] + s.index_of("x") + s.index_of("d") + s.get(-6));
+s.crop(1, 3);
+print(s);
+s.truncate(2);
+print(s + s.get(1) + s.len);
+//= aéé45
+//= c3a
+//= abc€xx€x c€x €xx
+//= abcdxx6x
+//= ßbcdxxb43ß
+//= bcd
+//= bcc2
+//--- an index behind the characters of several bytes
+"éé"[2]
+//! Index out of bounds: 2

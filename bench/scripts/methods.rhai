@@ -80,3 +80,26 @@ print(text[1].shown());
 print(text);
 //= <b>
 //= abc
+//--- a chain ends before a method of the script
+fn f() { "called on " + type_of(this) }
+let x = ();
+print(x?.f() == ());
+let m = #{ a: () };
+print(m.a?.f() == ());
+print(m?.a.f());
+print(x?.a.f() == ());
+print(x?.a?.f() == ());
+print(m?.f());
+//= true
+//= true
+//= called on ()
+//= true
+//= true
+//= called on map
+//--- a method for another type, behind one that changes
+fn int.len() { 0 }
+let x = #{ a: ["abc", "de"] };
+print(x.a.pop().len());
+print(x.a);
+//= 2
+//= ["abc"]

@@ -40,3 +40,11 @@ print(n.double());
 print(double(n));
 //= 20
 //= 21
+//--- a method for a type leaves the library's function of that name
+fn array.clear(x) { print(x); }
+let a = [1, 2];
+clear(a);
+print(a);
+a.clear(7);
+//= []
+//= 7

@@ -195,3 +195,21 @@ call(Fn("read"));
 //= 1
 //! this
 //@ 4:1
+//--- names of the compiler's own
+fn check(name) { try { Fn(name); print("a pointer"); } catch (e) { print(e); } }
+let f = |x| x + 1;
+check(f.name);
+check("len$");
+check("get$a");
+check("no_such_function");
+print(#{ "anon$1": 5 }["anon$1"] + "len$");
+print(f.call(1));
+//= Function not found: anon$1 ()
+//= Function not found: len$ ()
+//= Function not found: get$a ()
+//= a pointer
+//= 5len$
+//= 2
+//--- a text calls no function
+call("len$", [1]);
+//! Data type incorrect: expecting Fn

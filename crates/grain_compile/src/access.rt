@@ -7,13 +7,14 @@ ghost use Rattle.grain_emit.specs.Places.{both, pass, here, list_places, expr_pl
 
 use crate::coder::Coder;
 use grain::{Chain, Flags, Op, Root, Step, StepFlags, Tail};
-use grain_emit::{Emitter, argc_of, has_optional, len_of, position};
+use grain_emit::{Emitter, argc_of, before_optional, len_of, position};
 use grain_lexer::{CompileError, Operator, Place, Problem};
 use grain_syntax::{Access, Expr, Form, Part};
 
 impl<F: Fn(&mut Emitter, &Expr, usize, bool) -> Result<(), CompileError>> Coder<F> {
     /// A value and steps from it. They are one chain, except for methods that are calls by themselves: what comes before such a
-    /// method is computed first, and the steps after it begin at its result.
+    /// method is computed first, and the steps after it begin at its result. From a step on that may end the chain early they are
+    /// one chain to the end.
     pub(crate) fn access(
         &self,
         emitter: &mut Emitter,
@@ -32,7 +33,7 @@ impl<F: Fn(&mut Emitter, &Expr, usize, bool) -> Result<(), CompileError>> Coder<
             (both (here place) (both (expr_places root.now) (steps_places steps.now)))) }
     {
         let mut from = 0;
-        for index in 0..steps.len() {
+        for index in 0..before_optional(steps) {
             from = self.turn(emitter, place, root, steps, (from, index))?;
         }
         let rest = part(steps, from, steps.len());
@@ -65,9 +66,6 @@ impl<F: Fn(&mut Emitter, &Expr, usize, bool) -> Result<(), CompileError>> Coder<
         let (from, index) = at;
         let step = step_at(steps, index);
         let before = part(steps, from, index);
-        if has_optional(before) {
-            return Ok(from);
-        }
         if let Part::Method(name, arguments) = &step.part
             && !step.is_optional
             && emitter.is_call(root, (from, index), *name, arguments.len())

@@ -94,7 +94,7 @@ impl<F: Fn(&mut Emitter, &Expr, usize, bool) -> Result<(), CompileError>> Coder<
             (both (here place) (list_places arguments.now))) }
     {
         let argc = argc_of(place, arguments.len())?;
-        if !emitter.has_function(name, arguments.len())
+        if !emitter.has_plain_function(name, arguments.len())
             && let Some((first, others)) = arguments.split_first()
             && let Some(slot) = emitter.changeable_slot_of(first)
         {

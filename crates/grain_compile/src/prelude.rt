@@ -1,5 +1,8 @@
 //! Functions of arrays that call functions. A host's function can't call one of the script, so these are scripts themselves, added to
 //! each script that names them.
+//!
+//! They call no function by its name, since one of the script would be found first: they append by `+=`, and count by a loop. No
+//! script can declare an operator, nor what `f.call(x)` does.
 
 use grain_lexer::CompileError;
 use grain_syntax::Syntax;
@@ -21,7 +24,7 @@ const ENTRIES: &'static [Entry] = &[
     Entry {
         name: "filter",
         params: 1,
-        text: "fn array.filter(f) { let kept = []; for x in this { if f.call(x) { kept.push(x); } } kept }\n",
+        text: "fn array.filter(f) { let kept = []; for x in this { if f.call(x) { kept += [x]; } } kept }\n",
     },
     Entry {
         name: "find",
@@ -41,7 +44,7 @@ const ENTRIES: &'static [Entry] = &[
     Entry {
         name: "map",
         params: 1,
-        text: "fn array.map(f) { let made = []; for x in this { made.push(f.call(x)); } made }\n",
+        text: "fn array.map(f) { let made = []; for x in this { made += [f.call(x)]; } made }\n",
     },
     Entry {
         name: "reduce",
@@ -56,7 +59,7 @@ const ENTRIES: &'static [Entry] = &[
     Entry {
         name: "retain",
         params: 1,
-        text: "fn array.retain(f) { let kept = []; let dropped = []; for x in this { if f.call(x) { kept.push(x); } else { dropped.push(x); } } this = kept; dropped }\n",
+        text: "fn array.retain(f) { let kept = []; let dropped = []; for x in this { if f.call(x) { kept += [x]; } else { dropped += [x]; } } this = kept; dropped }\n",
     },
     Entry {
         name: "some",
@@ -66,7 +69,7 @@ const ENTRIES: &'static [Entry] = &[
     Entry {
         name: "sort",
         params: 1,
-        text: "fn array.sort(f) { let size = this.len(); let width = 1; while width < size { let merged = []; let start = 0; while start < size { let i = start; let middle = min(start + width, size); let j = middle; let end = min(start + 2 * width, size); while i < middle || j < end { if j >= end || (i < middle && f.call(this[i], this[j]) <= 0) { merged.push(this[i]); i += 1; } else { merged.push(this[j]); j += 1; } } start = end; } this = merged; width *= 2; } () }\n",
+        text: "fn array.sort(f) { let size = 0; for _ in this { size += 1; } let width = 1; while width < size { let merged = []; let start = 0; while start < size { let i = start; let middle = start + width; if middle > size { middle = size; } let j = middle; let end = middle + width; if end > size { end = size; } while i < middle || j < end { if j >= end || (i < middle && f.call(this[i], this[j]) <= 0) { merged += [this[i]]; i += 1; } else { merged += [this[j]]; j += 1; } } start = end; } this = merged; width *= 2; } () }\n",
     },
 ];
 

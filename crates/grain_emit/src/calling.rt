@@ -9,6 +9,7 @@ use crate::writing::argc_of;
 use grain_code::{Op, Receiver};
 use grain_lexer::{CompileError, Place};
 use grain_syntax::{Expr, Form};
+use std::collections::HashSet;
 
 /// What a call of a name is.
 #[derive(Clone, Copy, PartialEq, Eq)]
@@ -40,14 +41,14 @@ pub fn callee_of(name: &str) -> Callee {
 }
 
 impl Emitter {
-    /// Whether the script has a function of that name with this many parameters.
+    /// Whether the script has a function of that name with this many parameters, for any receiver.
     pub fn has_function(&self, name: u32, argc: usize) -> bool {
-        for signature in &self.signatures {
-            if signature.name == name && signature.params.len() == argc && !signature.is_closure {
-                return true;
-            }
-        }
-        false
+        self.declared.has(name, argc)
+    }
+
+    /// Whether the script has one that is declared for no receiver, as a call by name finds it.
+    pub fn has_plain_function(&self, name: u32, argc: usize) -> bool {
+        self.declared.has_plain(name, argc)
     }
 
     /// The slot of an expression that is a local variable.
@@ -216,8 +217,12 @@ impl Emitter {
         let Some(signature) = self.signatures.get(index) else {
             return Ok((captured, slots));
         };
+        let mut params = HashSet::new(self.alloc);
+        for param in &signature.params {
+            let _is_new = params.insert(param.name)?;
+        }
         for name in &signature.uses {
-            if !signature.has_param(*name)
+            if !params.contains(name)
                 && let Some(local) = self.local(*name)
                 && let Some(found) = self.scope.find(*name)
             {

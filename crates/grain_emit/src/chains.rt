@@ -1,5 +1,5 @@
 //! Chains.
-ghost use Rattle.std.specs.Prelude.{◌≡◌, ◌+◌, ◌-◌, ◌≤◌, OnOk};
+ghost use Rattle.std.specs.Prelude.{◌≡◌, ◌+◌, ◌-◌, ◌≤◌, OnOk, length};
 ghost use Rattle.grain_pools.specs.Chain.{consumed};
 ghost use Rattle.grain_emit.specs.Rules.{IsWritten, AddsPlaces};
 ghost use Rattle.grain_emit.specs.Places.{here};
@@ -26,7 +26,7 @@ impl Emitter {
         if from == 0 && is_variable(&root.form) && !self.is_constant(root) {
             return index == 0 && self.slot_of(root).is_some();
         }
-        !self.has_function(name, argc.saturating_add(1))
+        !self.has_plain_function(name, argc.saturating_add(1))
     }
 
     /// Moves the value below this many operands above them.
@@ -96,14 +96,16 @@ impl Emitter {
     }
 }
 
-/// Whether one of the steps ends early where its value is unit.
-pub fn has_optional(steps: &[Access]) -> bool {
-    for step in steps {
-        if step.is_optional {
-            return true;
+/// How many steps come before the first one that ends early where its value is unit, or all of them.
+pub fn before_optional(steps: &[Access]) -> usize
+    ensures { result ≤ length steps.now }
+{
+    for index in 0..steps.len() {
+        if steps[index].is_optional {
+            return index;
         }
     }
-    false
+    steps.len()
 }
 
 /// Whether it is a variable, to whose parts a chain writes back.

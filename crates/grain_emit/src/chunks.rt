@@ -6,6 +6,7 @@ use crate::emitter::{Emitter, Signature};
 use crate::options::Options;
 use crate::pools::Pools;
 use crate::scope::{Local, Scope};
+use crate::signatures::Signatures;
 use grain_assembly::Assembler;
 use grain_lexer::CompileError;
 use grain_syntax::Literal;
@@ -18,7 +19,7 @@ impl Emitter {
         alloc: Global,
         options: Options,
         pools: Pools,
-        signatures: Vec<Signature>,
+        signatures: Signatures,
         constants: HashMap<u32, Literal>,
     ) -> Emitter
         ensures around { result.scope.around ≡ None }
@@ -32,13 +33,15 @@ impl Emitter {
           places = [];
         } }
     {
+        let Signatures { list, declared } = signatures;
         Emitter {
             alloc,
             options,
             code: Assembler::new(alloc),
             pools,
             scope: Scope::new(alloc),
-            signatures,
+            signatures: list,
+            declared,
             constants,
         }
     }

@@ -1,5 +1,6 @@
 //! The state of rules that write code.
 
+use crate::declared::Declared;
 use crate::options::Options;
 use crate::pools::Pools;
 use crate::scope::{Local, Scope};
@@ -30,18 +31,6 @@ pub struct Signature {
     pub captured: Vec<Local>,
 }
 
-impl Signature {
-    /// Whether one of the parameters has this name.
-    pub fn has_param(&self, name: u32) -> bool {
-        for param in &self.params {
-            if param.name == name {
-                return true;
-            }
-        }
-        false
-    }
-}
-
 /// Code in the making, with the pools and the variables that it names.
 #[derive(Drop)]
 pub struct Emitter {
@@ -57,6 +46,8 @@ pub struct Emitter {
     pub scope: Scope,
     /// The functions.
     pub signatures: Vec<Signature>,
+    /// The functions, by their names.
+    pub(crate) declared: Declared,
     /// The constants that functions read as `global::NAME`.
     pub(crate) constants: HashMap<u32, Literal>,
 }

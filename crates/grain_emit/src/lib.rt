@@ -6,6 +6,7 @@
 mod calling;
 mod chains;
 mod chunks;
+mod declared;
 mod dispatch;
 mod emitter;
 mod handlers;
@@ -21,7 +22,7 @@ mod variables;
 mod writing;
 
 pub use calling::{Callee, callee_of};
-pub use chains::has_optional;
+pub use chains::before_optional;
 pub use dispatch::{Labels, check_arms};
 pub use emitter::{Emitter, Signature};
 pub use operators::{assigning, spelling, token};
@@ -29,6 +30,6 @@ pub use options::Options;
 pub use pools::Pools;
 pub use positions::position;
 pub use scope::{Found, Local, Loop, Scope};
-pub use signatures::{Body, global_constants, split_functions};
+pub use signatures::{Body, Signatures, global_constants, split_functions};
 pub use table::{Leading, Spanning, Table};
 pub use writing::{argc_of, height_with, len_of};

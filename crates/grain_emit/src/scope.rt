@@ -4,6 +4,7 @@ ghost use Rattle.std.specs.Prelude.{◌≡◌, None};
 use grain_lexer::{CompileError, Place, Problem, Thing};
 use grain_syntax::Binding;
 use std::alloc::Global;
+use std::collections::HashMap;
 
 /// A local variable. Its slot is its place among them.
 #[derive(Clone, Copy, Drop)]
@@ -59,7 +60,11 @@ pub struct Loop {
 #[derive(Drop)]
 pub struct Scope {
     /// The local variables, by their slots.
-    pub locals: Vec<Local>,
+    pub(crate) locals: Vec<Local>,
+    /// The slot of the variable that was declared last with a name.
+    latest: HashMap<u32, u16>,
+    /// By its slot, the variable of the same name that a variable hides.
+    hidden: Vec<Option<u16>>,
     /// The innermost loop around the code.
     pub around: Option<Loop>,
     /// The slot of the fault that the innermost `catch` of this chunk can raise again.
@@ -73,6 +78,8 @@ impl Scope {
     {
         Scope {
             locals: Vec::new(alloc),
+            latest: HashMap::new(alloc),
+            hidden: Vec::new(alloc),
             around: None,
             caught: None,
         }
@@ -88,32 +95,53 @@ impl Scope {
         ensures { self.new.around ≡ self.old.around }
     {
         let slot = slot_of(self.locals.len())?;
+        let hidden = self.latest.insert(local.name, slot)?;
+        self.hidden.push(hidden)?;
         self.locals.push(local)?;
         Ok(slot)
     }
 
-    /// The variables down to this many are dropped.
+    /// The variables down to this many are dropped. Each that one of them hid is the last of its name again.
     pub fn cut(&mut self, count: usize)
         ensures { self.new.around ≡ self.old.around }
     {
-        self.locals.truncate(count);
+        'variables: for _turn in count..self.locals.len() {
+            self.drop_last();
+        }
+    }
+
+    /// The variable that was declared last is dropped.
+    fn drop_last(&mut self)
+        ensures { self.new.around ≡ self.old.around }
+    {
+        let (Some(local), Some(hidden)) = (self.locals.pop(), self.hidden.pop()) else {
+            return;
+        };
+        match hidden {
+            Some(hidden) => self.show_again(local.name, hidden),
+            None => {
+                let _slot = self.latest.remove(&local.name);
+            }
+        }
+    }
+
+    /// The variable in a slot is the last of its name again.
+    fn show_again(&mut self, name: u32, slot: u16)
+        ensures { self.new.around ≡ self.old.around }
+    {
+        if let Some(latest) = self.latest.get_mut(&name) {
+            *latest = slot;
+        }
     }
 
     /// The variable that was declared last with this name.
     pub fn find(&self, name: u32) -> Option<Found> {
-        let count = self.locals.len();
-        for turn in 0..count {
-            let place = count - 1 - turn;
-            let local = self.locals[place];
-            if local.name == name {
-                let slot = u16::try_from(place).ok()?;
-                return Some(Found {
-                    slot,
-                    is_const: local.is_const,
-                });
-            }
-        }
-        None
+        let slot = *self.latest.get(&name)?;
+        let local = self.locals.get(usize::from(slot))?;
+        Some(Found {
+            slot,
+            is_const: local.is_const,
+        })
     }
 }
 

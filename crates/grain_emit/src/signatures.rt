@@ -3,8 +3,9 @@ ghost use Rattle.std.specs.Prelude.{◌≡◌, IfOk};
 ghost use Rattle.grain_emit.specs.Bodies.{bodies_places};
 ghost use Rattle.grain_emit.specs.Places.{functions_places};
 
+use crate::declared::Declared;
 use crate::emitter::Signature;
-use grain_lexer::{CompileError, Place, Problem, Thing};
+use grain_lexer::{CompileError, Place};
 use grain_syntax::{Expr, Form, Function, Literal};
 use std::alloc::Global;
 use std::collections::{HashMap, HashSet};
@@ -18,18 +19,29 @@ pub struct Body {
     pub statements: Vec<Expr>,
 }
 
+/// The signatures of functions, by their indices and by their names.
+#[derive(Drop)]
+pub struct Signatures {
+    pub(crate) list: Vec<Signature>,
+    pub(crate) declared: Declared,
+}
+
 /// The signatures of functions, apart from their bodies.
+///
+/// # Errors
+/// Two functions have the same name, the same number of parameters and the same type of `this`; or the allocator refused.
 pub fn split_functions(
     alloc: Global,
     functions: Vec<Function>,
-) -> Result<(Vec<Signature>, Vec<Body>), CompileError>
+) -> Result<(Signatures, Vec<Body>), CompileError>
     ensures { IfOk result (λ split. bodies_places split.1.items ≡ functions_places functions.items) }
 {
-    let mut signatures = Vec::new(alloc);
+    let mut list = Vec::new(alloc);
+    let mut declared = Declared::new(alloc);
     let mut bodies = Vec::new(alloc);
     for function in functions {
-        check_new(&signatures, &function)?;
-        signatures.push(Signature {
+        declared.add(&function)?;
+        list.push(Signature {
             place: function.place,
             name: function.name,
             params: function.params,
@@ -44,20 +56,7 @@ pub fn split_functions(
             statements: function.body,
         })?;
     }
-    Ok((signatures, bodies))
-}
-
-/// No two functions have the same name, the same number of parameters and the same type of `this`.
-fn check_new(signatures: &[Signature], function: &Function) -> Result<(), CompileError> {
-    for signature in signatures {
-        if signature.name == function.name
-            && signature.params.len() == function.params.len()
-            && signature.this_type == function.this_type
-        {
-            return Err(CompileError::new(function.place, Problem::Repeated(Thing::Function)));
-        }
-    }
-    Ok(())
+    Ok((Signatures { list, declared }, bodies))
 }
 
 /// The constants of the top level that are declared once and whose values are literals, by their names.

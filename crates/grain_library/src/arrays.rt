@@ -15,7 +15,7 @@ pub(crate) fn call(
 ) -> Result<Option<Value>, Cause> {
     match arguments {
         [] => alone(alloc, function, list),
-        [argument] => with_one(alloc, function, list, argument),
+        [argument] => with_one(alloc, limits, function, list, argument),
         [Value::Int(index), argument] => with_place(
             alloc, limits, function, list, *index, argument,
         ),
@@ -40,6 +40,7 @@ fn alone(alloc: Global, function: Function, list: &mut Rc<List>) -> Result<Optio
 
 fn with_one(
     alloc: Global,
+    limits: SizeLimits,
     function: Function,
     list: &mut Rc<List>,
     argument: &Value,
@@ -57,7 +58,9 @@ fn with_one(
             Rc::make_mut(list)?.extend(other.items())?;
             Ok(Some(Value::Unit))
         }
-        (Function::Join, Value::Text(separator)) => joined(alloc, list.items(), separator.as_str()),
+        (Function::Join, Value::Text(separator)) => {
+            Ok(Some(joined(alloc, limits, list.items(), separator.as_str())?))
+        }
         (function, Value::Int(number)) => with_number(alloc, function, list, *number),
         _ => Ok(None),
     }
@@ -174,18 +177,32 @@ fn padded(limits: SizeLimits, list: &mut Rc<List>, len: usize, value: &Value) ->
 }
 
 /// The texts of the items, with the separator between them.
-fn joined(alloc: Global, items: &[Value], separator: &str) -> Result<Option<Value>, Cause> {
+fn joined(
+    alloc: Global,
+    limits: SizeLimits,
+    items: &[Value],
+    separator: &str,
+) -> Result<Value, Cause> {
     let mut text = String::new(alloc);
     let mut is_first = true;
     for item in items {
         if !is_first {
-            text.push_str(separator)?;
+            add_within(limits, &mut text, separator)?;
         }
         is_first = false;
         let shown = format!(in alloc; "{item}")?;
-        text.push_str(shown.as_str())?;
+        add_within(limits, &mut text, shown.as_str())?;
     }
-    Ok(Some(Value::text(alloc, text)?))
+    Ok(Value::text(alloc, text)?)
+}
+
+/// Appends a part, where the limits allow a text as long.
+fn add_within(limits: SizeLimits, text: &mut String, part: &str) -> Result<(), Cause> {
+    if text.len().saturating_add(part.len()) > limits.size {
+        return Err(Cause::TooLarge);
+    }
+    text.push_str(part)?;
+    Ok(())
 }
 
 /// The items without those that are equal to the one before them.

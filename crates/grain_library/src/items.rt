@@ -2,7 +2,7 @@
 
 use crate::calls::call;
 use crate::function::Function;
-use grain_value::{Cause, SizeLimits, Value, place_of};
+use grain_value::{Cause, SizeLimits, Text, Value, place_of};
 use std::alloc::Global;
 
 /// The place of an item that has to be there, in an array of this length.
@@ -28,20 +28,21 @@ pub fn item_of(value: &Value, index: &Value) -> Result<Value, Cause> {
         return Err(Cause::WrongType("an integer as index"));
     };
     match value {
-        Value::Text(text) => {
-            let text = text.as_str();
-            let place = place_of(text.chars().count(), *index).unwrap_or(usize::MAX);
-            match text.chars().nth(place) {
-                Some(character) => Ok(Value::Char(character)),
-                None => Err(Cause::OutOfBounds(*index)),
-            }
-        }
+        Value::Text(text) => match character_at(text, *index) {
+            Some(character) => Ok(Value::Char(character)),
+            None => Err(Cause::OutOfBounds(*index)),
+        },
         Value::Int(bits) => match place_of(64, *index) {
             Some(place) => Ok(Value::Bool(bit_at(*bits, place))),
             None => Err(Cause::OutOfBounds(*index)),
         },
         _ => Err(Cause::WrongType("a value that has items")),
     }
+}
+
+/// The character of a text at an index, if there is one. It takes time by the characters before it, unless each is one byte.
+pub(crate) fn character_at(text: &Text, index: i64) -> Option<char> {
+    text.character(place_of(text.count(), index)?)
 }
 
 fn bit_at(bits: i64, place: usize) -> bool {

@@ -24,7 +24,7 @@ pub(crate) fn call(
         },
         [Value::Text(name), value] => match function {
             Function::Set | Function::Insert => {
-                let name = name.as_ref().clone()?;
+                let name = String::from_str(alloc, name.as_str())?;
                 let _ = Rc::make_mut(object)?.insert(name, value.clone()?)?;
                 Ok(Some(Value::Unit))
             }

@@ -1,7 +1,7 @@
 //! Operators by their tokens.
 
 use grain_base::Token;
-use grain_value::{Cause, Value, are_equal, order};
+use grain_value::{Cause, Text, Value, are_equal, order};
 use std::alloc::Global;
 use std::cmp::Ordering;
 use std::rc::Rc;
@@ -190,6 +190,7 @@ fn extended(
             Ok(Some(Value::Map(object)))
         }
         (first, Value::Text(text)) => {
+            let text = text.as_str();
             let joined = format!(in alloc; "{first}{text}")?;
             Ok(Some(Value::text(alloc, joined)?))
         }
@@ -205,7 +206,7 @@ fn extended(
 }
 
 /// Appends what a value shows to a text.
-fn push_shown(alloc: Global, text: &mut Rc<String>, value: &Value) -> Result<(), Cause> {
+fn push_shown(alloc: Global, text: &mut Rc<Text>, value: &Value) -> Result<(), Cause> {
     let text = Rc::make_mut(text)?;
     match value {
         Value::Text(other) => text.push_str(other.as_str())?,

@@ -1,9 +1,10 @@
 //! Functions of texts. Places in a text count characters.
 
 use crate::function::Function;
+use crate::items::character_at;
 use crate::places::{count_of, number_of, start_of};
 use crate::words;
-use grain_value::{Cause, SizeLimits, Value, place_of};
+use grain_value::{Cause, SizeLimits, Text, Value, place_of};
 use std::alloc::Global;
 use std::rc::Rc;
 
@@ -11,7 +12,7 @@ pub(crate) fn call(
     alloc: Global,
     limits: SizeLimits,
     function: Function,
-    text: &mut Rc<String>,
+    text: &mut Rc<Text>,
     arguments: &[Value],
 ) -> Result<Option<Value>, Cause> {
     match arguments {
@@ -36,9 +37,9 @@ pub(crate) fn call(
     }
 }
 
-fn alone(alloc: Global, function: Function, text: &mut Rc<String>) -> Result<Option<Value>, Cause> {
+fn alone(alloc: Global, function: Function, text: &mut Rc<Text>) -> Result<Option<Value>, Cause> {
     let value = match function {
-        Function::Len => Value::Int(number_of(text.as_str().chars().count())),
+        Function::Len => Value::Int(number_of(text.count())),
         Function::Bytes => Value::Int(number_of(text.len())),
         Function::IsEmpty => Value::Bool(text.is_empty()),
         Function::ToUpper => Value::text(alloc, words::upper(alloc, text.as_str())?)?,
@@ -59,11 +60,7 @@ fn alone(alloc: Global, function: Function, text: &mut Rc<String>) -> Result<Opt
 }
 
 /// The functions that change the text and give nothing.
-fn changed(
-    alloc: Global,
-    function: Function,
-    text: &mut Rc<String>,
-) -> Result<Option<Value>, Cause> {
+fn changed(alloc: Global, function: Function, text: &mut Rc<Text>) -> Result<Option<Value>, Cause> {
     let new = match function {
         Function::MakeUpper => words::upper(alloc, text.as_str())?,
         Function::MakeLower => words::lower(alloc, text.as_str())?,
@@ -71,28 +68,29 @@ fn changed(
         Function::Clear => String::new(alloc),
         _ => return Ok(None),
     };
-    *text = Rc::new(alloc, new)?;
+    *text = Rc::new(alloc, Text::of(new))?;
     Ok(Some(Value::Unit))
 }
 
 fn with_text(
     alloc: Global,
     function: Function,
-    text: &mut Rc<String>,
+    text: &mut Rc<Text>,
     other: &str,
 ) -> Result<Option<Value>, Cause> {
     let value = match function {
         Function::Contains => Value::Bool(text.as_str().find(other).is_some()),
         Function::StartsWith => Value::Bool(text.as_str().starts_with(other)),
         Function::EndsWith => Value::Bool(text.as_str().ends_with(other)),
-        Function::IndexOf => words::index_of(text.as_str(), other),
+        Function::IndexOf => words::index_of(text, other),
         Function::Split => words::split(alloc, text.as_str(), other)?,
         Function::Append => {
             Rc::make_mut(text)?.push_str(other)?;
             Value::Unit
         }
         Function::Remove => {
-            *text = Rc::new(alloc, words::replaced(alloc, text.as_str(), other, "")?)?;
+            let new = words::replaced(alloc, text.as_str(), other, "")?;
+            *text = Rc::new(alloc, Text::of(new))?;
             Value::Unit
         }
         _ => return Ok(None),
@@ -103,27 +101,25 @@ fn with_text(
 fn with_number(
     alloc: Global,
     function: Function,
-    text: &mut Rc<String>,
+    text: &mut Rc<Text>,
     number: i64,
 ) -> Result<Option<Value>, Cause> {
-    let len = text.as_str().chars().count();
+    let len = text.count();
     let value = match function {
-        Function::Get => match place_of(len, number) {
-            Some(place) => words::character_at(text.as_str(), place),
+        Function::Get => match character_at(text, number) {
+            Some(character) => Value::Char(character),
             None => Value::Unit,
         },
         Function::SubString => {
-            let part = words::part(alloc, text.as_str(), start_of(len, number), len)?;
-            Value::text(alloc, part)?
+            let part = text.part(start_of(len, number), len);
+            Value::text(alloc, String::from_str(alloc, part)?)?
         }
         Function::Crop => {
-            let part = words::part(alloc, text.as_str(), start_of(len, number), len)?;
-            *text = Rc::new(alloc, part)?;
+            *text = copied(alloc, text.part(start_of(len, number), len))?;
             Value::Unit
         }
         Function::Truncate => {
-            let part = words::part(alloc, text.as_str(), 0, count_of(number))?;
-            *text = Rc::new(alloc, part)?;
+            *text = copied(alloc, text.part(0, count_of(number)))?;
             Value::Unit
         }
         Function::ParseInt => return parsed(text.as_str(), number),
@@ -155,18 +151,17 @@ fn with_two(
     alloc: Global,
     limits: SizeLimits,
     function: Function,
-    text: &mut Rc<String>,
+    text: &mut Rc<Text>,
     first: &Value,
     second: &Value,
 ) -> Result<Option<Value>, Cause> {
     match (function, first, second) {
         (Function::SubString, Value::Int(start), Value::Int(count)) => {
-            let part = counted_part(alloc, text.as_str(), *start, *count)?;
-            Ok(Some(Value::text(alloc, part)?))
+            let part = counted_part(text, *start, *count);
+            Ok(Some(Value::text(alloc, String::from_str(alloc, part)?)?))
         }
         (Function::Crop, Value::Int(start), Value::Int(count)) => {
-            let part = counted_part(alloc, text.as_str(), *start, *count)?;
-            *text = Rc::new(alloc, part)?;
+            *text = copied(alloc, counted_part(text, *start, *count))?;
             Ok(Some(Value::Unit))
         }
         (Function::Replace, Value::Text(old), Value::Text(new)) => {
@@ -177,7 +172,7 @@ fn with_two(
                 return Err(Cause::TooLarge);
             }
             let replaced = words::replaced(alloc, text.as_str(), old.as_str(), new.as_str())?;
-            *text = Rc::new(alloc, replaced)?;
+            *text = Rc::new(alloc, Text::of(replaced))?;
             Ok(Some(Value::Unit))
         }
         (Function::Pad, Value::Int(len), Value::Char(character)) => {
@@ -185,11 +180,12 @@ fn with_two(
             Ok(Some(Value::Unit))
         }
         (Function::Set, Value::Int(index), Value::Char(character)) => {
-            let len = text.as_str().chars().count();
             // Behind the last character it changes nothing.
-            if let Some(place) = place_of(len, *index) {
-                let new = words::with_character(alloc, text.as_str(), place, *character)?;
-                *text = Rc::new(alloc, new)?;
+            if let Some(place) = place_of(text.count(), *index) {
+                *text = Rc::new(
+                    alloc,
+                    words::with_character(alloc, text, place, *character)?,
+                )?;
             }
             Ok(Some(Value::Unit))
         }
@@ -206,20 +202,24 @@ fn count_matches(text: &str, part: &str) -> usize {
 }
 
 /// A number of characters of the text, from an index on.
-fn counted_part(alloc: Global, text: &str, start: i64, count: i64) -> Result<String, Cause> {
-    let len = text.chars().count();
-    let first = start_of(len, start);
-    words::part(alloc, text, first, first.saturating_add(count_of(count)))
+fn counted_part(text: &Text, start: i64, count: i64) -> &str {
+    let first = start_of(text.count(), start);
+    text.part(first, first.saturating_add(count_of(count)))
+}
+
+/// A text of its own with these characters.
+fn copied(alloc: Global, text: &str) -> Result<Rc<Text>, Cause> {
+    Ok(Rc::new(alloc, Text::of(String::from_str(alloc, text)?))?)
 }
 
 /// Appends the character until the text has this many.
 fn padded(
     limits: SizeLimits,
-    text: &mut Rc<String>,
+    text: &mut Rc<Text>,
     len: usize,
     character: char,
 ) -> Result<(), Cause> {
-    let more = len.saturating_sub(text.as_str().chars().count());
+    let more = len.saturating_sub(text.count());
     if more > limits.size {
         return Err(Cause::TooLarge);
     }

@@ -1,7 +1,7 @@
 //! New texts out of old ones.
 
 use crate::places::number_of;
-use grain_value::{Cause, Value};
+use grain_value::{Cause, Text, Value};
 use std::alloc::Global;
 
 /// The text in capital letters.
@@ -26,46 +26,26 @@ pub(crate) fn lower(alloc: Global, text: &str) -> Result<String, Cause> {
     Ok(changed)
 }
 
-/// The character at a place, or unit where there is none.
-pub(crate) fn character_at(text: &str, place: usize) -> Value {
-    match text.chars().nth(place) {
-        Some(character) => Value::Char(character),
-        None => Value::Unit,
-    }
-}
-
-/// The characters from one place up to another.
-pub(crate) fn part(alloc: Global, text: &str, first: usize, end: usize) -> Result<String, Cause> {
-    let mut part = String::new(alloc);
-    let mut place = 0usize;
-    for character in text.chars() {
-        if first <= place && place < end {
-            part.push(character)?;
-        }
-        place = place.saturating_add(1);
-    }
-    Ok(part)
-}
-
-/// The text with another character at a place.
+/// The text with another character at a place. It looks at each character once.
 pub(crate) fn with_character(
     alloc: Global,
-    text: &str,
-    changed: usize,
+    text: &Text,
+    place: usize,
     character: char,
-) -> Result<String, Cause> {
-    let mut new = String::new(alloc);
-    let mut place = 0usize;
-    for old in text.chars() {
-        new.push(if place == changed { character } else { old })?;
-        place = place.saturating_add(1);
+) -> Result<Text, Cause> {
+    let (before, rest) = text.split_at(place);
+    let mut new = String::from_str(alloc, before)?;
+    new.push(character)?;
+    for old in rest.chars().skip(1) {
+        new.push(old)?;
     }
-    Ok(new)
+    Ok(Text::of(new))
 }
 
 /// How many characters are before the first place where the other text is found; -1 where it isn't.
-pub(crate) fn index_of(text: &str, other: &str) -> Value {
-    match text.split_once(other) {
+pub(crate) fn index_of(text: &Text, other: &str) -> Value {
+    match text.as_str().split_once(other) {
+        Some((before, _)) if text.is_ascii() => Value::Int(number_of(before.len())),
         Some((before, _)) => Value::Int(number_of(before.chars().count())),
         None => Value::Int(-1),
     }

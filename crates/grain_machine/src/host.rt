@@ -65,6 +65,9 @@ pub trait Host {
     /// A truth value.
     fn boolean(&mut self, value: bool) -> Self::Value;
 
+    /// Is told that a run begins: no frame of an earlier run is left, however that one ended.
+    fn began(&mut self) {}
+
     /// Keeps this number of local variables of the frame, and drops the later ones.
     fn unwind_to(&mut self, depth: u16);
 

@@ -49,6 +49,7 @@ impl<'a> Runnable<'a> {
         ensures unasked { OnErr result (host.new ≡ host.old) }
     {
         let mut frames = Frames::new(alloc, self)?;
+        host.began();
         'turns: for _turn in 0..limits.fuel {
             if frames.quick_turn(host) {
                 continue;

@@ -287,14 +287,14 @@ impl Host for Script {
 }
 
 /// Declares a local variable.
-const DECLARE: Op = Op::DeclareLocal {
+pub(crate) const DECLARE: Op = Op::DeclareLocal {
     name: 0,
     is_const: false,
     is_global: false,
 };
 
 /// Assigns to the first local variable.
-const ASSIGN: Op = Op::AssignLocal {
+pub(crate) const ASSIGN: Op = Op::AssignLocal {
     slot: 0,
     var_name: 0,
     op: None,

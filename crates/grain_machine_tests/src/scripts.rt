@@ -1,9 +1,9 @@
-//! A script that runs twice.
+//! A script that runs several times.
 
-use crate::runs::{INVOKE, with_function};
+use crate::runs::{ADD, ASSIGN, DECLARE, INVOKE, with_function};
 use crate::samples::{assert_same, made};
 use grain::{Op, Program};
-use grain_machine::{Accepted, Limits, accept};
+use grain_machine::{Accepted, Limits, Outcome, accept};
 use grain_script::{Recorder, Script};
 use std::alloc::{AllocError, Global};
 use std::test::Fail;
@@ -63,4 +63,109 @@ fn calls_of(alloc: Global, program: &Program) -> Result<[usize; 2], Fail> {
 fn each_run_has_a_backtrace_of_its_own(rt: HostRuntime) {
     let program = made(&rt, with_function(rt.alloc(), THROWING, 6));
     assert_same(&rt, made(&rt, calls_of(rt.alloc(), &program)), [1, 1]);
+}
+
+/// let x = 1; x = x + 1; f(x); x, where f(x) is x
+const COUNTING: &[Op] = &[
+    Op::Const(1),
+    DECLARE,
+    Op::LoadLocal(0),
+    Op::Const(1),
+    ADD,
+    ASSIGN,
+    Op::LoadLocal(0),
+    INVOKE,
+    Op::Pop,
+    Op::LoadLocal(0),
+    Op::Return,
+    Op::LoadLocal(0),
+    Op::Return,
+];
+
+/// let x = []; x = x + [1]; f(x); x, where f(x) is x
+const COLLECTING: &[Op] = &[
+    Op::MakeArray(0),
+    DECLARE,
+    Op::LoadLocal(0),
+    Op::Const(1),
+    Op::MakeArray(1),
+    ADD,
+    ASSIGN,
+    Op::LoadLocal(0),
+    INVOKE,
+    Op::Pop,
+    Op::LoadLocal(0),
+    Op::Return,
+    Op::LoadLocal(0),
+    Op::Return,
+];
+
+/// Enough for a whole run.
+const WHOLE: Limits = Limits {
+    fuel: 100,
+    depth: 5,
+};
+
+/// Ends with a fault where a function is called.
+const WITHOUT_CALLS: Limits = Limits {
+    fuel: 100,
+    depth: 0,
+};
+
+/// Ends inside the function.
+const WITHOUT_FUEL: Limits = Limits { fuel: 9, depth: 5 };
+
+/// What a run returns as text, or nothing.
+fn returned(
+    alloc: Global,
+    accepted: &Accepted<'_>,
+    script: &mut Script<Recorder>,
+    limits: Limits,
+) -> Result<String, AllocError> {
+    let ending = accepted.main().run(alloc, script, limits)?;
+    match ending.outcome {
+        Outcome::Returned(Some(value)) => format!(in alloc; "{value};"),
+        _ => String::from_str(alloc, ";"),
+    }
+}
+
+/// What several runs of one script return, one after the other.
+fn returned_by_all(
+    alloc: Global,
+    accepted: &Accepted<'_>,
+    script: &mut Script<Recorder>,
+) -> Result<String, AllocError> {
+    let mut text = String::new(alloc);
+    for limits in [
+        WHOLE,
+        WHOLE,
+        WHOLE,
+        WITHOUT_CALLS,
+        WHOLE,
+        WITHOUT_FUEL,
+        WHOLE,
+    ] {
+        let one = returned(alloc, accepted, script, limits)?;
+        text.push_str(one.as_str())?;
+    }
+    Ok(text)
+}
+
+/// The same of a script of these operations, of which those from one on are a function.
+fn runs_of(alloc: Global, ops: &[Op], end: usize) -> Result<String, Fail> {
+    let program = with_function(alloc, ops, end)?;
+    let accepted = accept(&program)?;
+    let limits = Script::<Recorder>::DEFAULT_LIMITS;
+    match Script::new(alloc, &program, Recorder::new(alloc), limits) {
+        Ok(mut script) => Ok(returned_by_all(alloc, &accepted, &mut script)?),
+        Err(_) => Err(Fail::new("there is no script")),
+    }
+}
+
+#[test]
+fn a_run_begins_with_no_variables(rt: HostRuntime) {
+    let numbers = made(&rt, runs_of(rt.alloc(), COUNTING, 11));
+    assert_same(&rt, numbers.as_str(), "2;2;2;;2;;2;");
+    let arrays = made(&rt, runs_of(rt.alloc(), COLLECTING, 12));
+    assert_same(&rt, arrays.as_str(), "[1];[1];[1];;[1];;[1];");
 }

@@ -2,7 +2,7 @@
 ghost use Rattle.std.specs.Prelude.{IfOk, IfSome, length, ◌<◌};
 ghost use Rattle.grain_machine.specs.Reply.{NamesFunction};
 
-use crate::chains::{Goal, entry_name, keys_of, placed, read, walk};
+use crate::chains::{Goal, ends_early, entry_name, keys_of, placed, read, walk};
 use crate::fault::Failure;
 use crate::script::Script;
 use crate::world::World;
@@ -49,11 +49,13 @@ impl<W: World + Drop> Script<W> {
                 };
                 let mut value = value.take();
                 let context = self.context(program);
-                return Ok(Reply::Value(walk(&context, &mut value, steps, operands, goal)?));
+                let given = walk(&context, &mut value, steps, operands, goal)?;
+                return Ok(Reply::Value(given.unwrap_or(Value::Unit)));
             }
             root => variable_of(root)?,
         };
-        Ok(Reply::Value(self.chain_from(program, variable, steps, operands, goal)?))
+        let given = self.chain_from(program, variable, steps, operands, goal)?;
+        Ok(Reply::Value(given.unwrap_or(Value::Unit)))
     }
 
     /// Reads a plain item of an array in a local variable, or assigns a plain value to one. `None` where the chain does something else,
@@ -131,7 +133,7 @@ impl<W: World + Drop> Script<W> {
         }
     }
 
-    /// Goes along the steps from a variable. Where only one item or entry is read, the variable isn't touched.
+    /// Goes along the steps from a variable, as [`walk`]. Where only one item or entry is read, the variable isn't touched.
     fn chain_from(
         &mut self,
         program: &Program,
@@ -139,7 +141,7 @@ impl<W: World + Drop> Script<W> {
         steps: &[Step],
         operands: &mut [Value],
         goal: Goal,
-    ) -> Result<Value, Failure> {
+    ) -> Result<Option<Value>, Failure> {
         if let (Goal::Read, [step]) = (&goal, steps)
             && !matches!(step, Step::Method { .. })
         {
@@ -160,14 +162,13 @@ impl<W: World + Drop> Script<W> {
         variable: Variable,
         step: &Step,
         operands: &[Value],
-    ) -> Result<Value, Failure> {
+    ) -> Result<Option<Value>, Failure> {
         let context = self.context(program);
         let value = self.variable(program, variable)?;
-        if matches!(value, Value::Unit) {
-            let mut value = Value::Unit;
-            return walk(&context, &mut value, &[step.clone()?], operands, Goal::Read);
+        if ends_early(value, step) {
+            return Ok(None);
         }
-        placed(step, read(&context, value, step, operands))
+        Ok(Some(placed(step, read(&context, value, step, operands))?))
     }
 
     /// Whether a function of the script may be what this step calls.
@@ -193,13 +194,12 @@ impl<W: World + Drop> Script<W> {
             return Ok(None);
         };
         let path = chain.steps.get(..called.path).unwrap_or_default();
-        let (value, lent) = self.receiver(program, &chain.root, path, operands)?;
-        let method = self
-            .table
-            .method(program, called.name, called.count, &value);
+        let Some((value, lent)) = self.receiver(program, &chain.root, path, operands)? else {
+            return Ok(Some(Reply::Value(Value::Unit)));
+        };
+        let method = self.method_of(program, chain, called, &value);
         let Some(function) = method else {
-            self.variables.give_back(value, lent)?;
-            return Ok(None);
+            return self.without_method(program, chain, called, (value, lent), operands);
         };
         let end = called.first.saturating_add(called.count);
         let Some(arguments) = operands.get_mut(called.first..end) else {
@@ -211,46 +211,85 @@ impl<W: World + Drop> Script<W> {
         Ok(Some(Reply::Call { function }))
     }
 
-    /// The value on which a method is called, taken out of its variable where it is a part that goes back there.
+    /// The function of the script that is called on this value, if there is one and the chain doesn't end before it.
+    fn method_of(
+        &self,
+        program: &Program,
+        chain: &Chain,
+        called: Called,
+        value: &Value,
+    ) -> Option<usize>
+        ensures { IfSome result (λ index. index < length program.now.functions) }
+    {
+        match chain.steps.get(called.path) {
+            Some(step) if ends_early(value, step) => None,
+            _ => self.table.method(program, called.name, called.count, value),
+        }
+    }
+
+    /// What the last step of a chain gives on a value for which the script has no such method. `None` where the value was lent:
+    /// then nothing has changed, and the whole chain is to be done.
+    fn without_method(
+        &mut self,
+        program: &Program,
+        chain: &Chain,
+        called: Called,
+        receiver: (Value, Option<Lent>),
+        operands: &[Value],
+    ) -> Result<Option<Reply<Value>>, Failure>
+        ensures { IfOk result (λ given. IfSome given (NamesFunction program.now)) }
+    {
+        let (mut value, lent) = receiver;
+        if lent.is_some() {
+            self.variables.give_back(value, lent)?;
+            return Ok(None);
+        }
+        let last = chain.steps.get(called.path..).unwrap_or_default();
+        let context = self.context(program);
+        let given = walk(&context, &mut value, last, operands, Goal::Read)?;
+        Ok(Some(Reply::Value(given.unwrap_or(Value::Unit))))
+    }
+
+    /// The value on which a method is called, taken out of its variable where it is a part that goes back there. `None` where a step
+    /// before it ends the chain early.
     fn receiver(
         &mut self,
         program: &Program,
         root: &Root,
         path: &[Step],
         operands: &mut [Value],
-    ) -> Result<(Value, Option<Lent>), Failure> {
+    ) -> Result<Option<(Value, Option<Lent>)>, Failure> {
         if let Root::Temporary = root {
             let Some(last) = operands.last() else {
                 return Err(Failure::from(Cause::Unsupported));
             };
             let mut value = last.clone()?;
             let context = self.context(program);
-            return Ok((
-                walk(&context, &mut value, path, operands, Goal::Read)?,
-                None,
-            ));
+            return Ok(unlent(walk(&context, &mut value, path, operands, Goal::Read)?));
         }
         let variable = variable_of(root)?;
         if let Some(keys) = keys_of(&self.context(program), path, operands)? {
             let place = self.variable_mut(program, variable)?;
             match swapped(place, keys.as_slice(), Value::Unit) {
                 Ok(value) => {
-                    return Ok((
-                        value,
-                        Some(Lent {
-                            variable,
-                            path: keys,
-                        }),
-                    ));
+                    let lent = Lent {
+                        variable,
+                        path: keys,
+                    };
+                    return Ok(Some((value, Some(lent))));
                 }
                 Err(Cause::OutOfMemory) => return Err(Failure::from(Cause::OutOfMemory)),
                 // It is no part that goes back, as a character of a text; or a step fails, which is found by reading.
                 Err(_) => {}
             }
         }
-        let value = self.chain_from(program, variable, path, operands, Goal::Read)?;
-        Ok((value, None))
+        Ok(unlent(self.chain_from(program, variable, path, operands, Goal::Read)?))
     }
+}
+
+/// A value that goes back nowhere, if there is one.
+fn unlent(value: Option<Value>) -> Option<(Value, Option<Lent>)> {
+    Some((value?, None))
 }
 
 /// A method that a chain calls at its end.

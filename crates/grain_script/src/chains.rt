@@ -36,20 +36,20 @@ struct Part {
     is_taken: bool,
 }
 
-/// Goes along the steps from a value, whose parts may be changed in place, and gives what is read at their end. A failure has the
-/// position of its step.
+/// Goes along the steps from a value, whose parts may be changed in place, and gives what is read at their end; `None` where a step
+/// ends the chain early. A failure has the position of its step.
 pub(crate) fn walk(
     context: &Context<'_>,
     value: &mut Value,
     steps: &[Step],
     operands: &[Value],
     goal: Goal,
-) -> Result<Value, Failure> {
+) -> Result<Option<Value>, Failure> {
     let Some((step, rest)) = steps.split_first() else {
-        return Ok(finish(context, value, goal)?);
+        return Ok(Some(finish(context, value, goal)?));
     };
     if ends_early(value, step) {
-        return Ok(Value::Unit);
+        return Ok(None);
     }
     if let Step::Method { .. } = step {
         let mut given = placed(step, called(context, value, step, operands))?;
@@ -62,7 +62,7 @@ pub(crate) fn walk(
         } = goal
     {
         placed(step, assign(context, value, step, operands, assigned))?;
-        return Ok(Value::Unit);
+        return Ok(Some(Value::Unit));
     }
     let mut part = placed(step, taken(context, value, step, operands))?;
     let result = walk(context, &mut part.value, rest, operands, goal);
@@ -138,7 +138,7 @@ fn no_operator(context: &Context<'_>, name: u32, left: &Value, right: &Value) ->
 }
 
 /// Whether the step ends the chain, since it is taken on unit and says so.
-fn ends_early(value: &Value, step: &Step) -> bool {
+pub(crate) fn ends_early(value: &Value, step: &Step) -> bool {
     let flags = match step {
         Step::Index { flags, .. } | Step::Property { flags, .. } | Step::Method { flags, .. } => {
             *flags

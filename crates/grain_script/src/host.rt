@@ -96,6 +96,10 @@ impl<W: World + Drop> Host for Script<W> {
         Value::Bool(value)
     }
 
+    fn began(&mut self) {
+        self.begin_run();
+    }
+
     #[inline(always)]
     fn unwind_to(&mut self, depth: u16) {
         self.variables.unwind_to(depth);

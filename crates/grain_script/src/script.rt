@@ -102,6 +102,14 @@ impl<W: World + Drop> Script<W> {
         self.is_failing
     }
 
+    /// A run begins: nothing of an earlier one is left but the named variables.
+    pub(crate) fn begin_run(&mut self) {
+        self.variables.begin_run();
+        self.pending = None;
+        self.is_settled = self.limits.allow(Value::Unit.measure());
+        self.end_fault();
+    }
+
     /// A fault comes: the calls that end until it is caught are its backtrace.
     #[cold]
     pub(crate) fn begin_fault(&mut self) {
@@ -424,13 +432,22 @@ fn made(alloc: Global, op: &Op, operands: &mut [Value]) -> Result<Value, Cause> 
         Op::MakeArray(_) => Value::array_from(alloc, operands),
         Op::MakeMap(_) => Value::map_from(alloc, operands),
         Op::MakeFnPtr => match only(operands)? {
-            Value::Text(name) => Value::pointer(alloc, name.as_str()),
+            Value::Text(name) => pointer_to(alloc, name.as_str()),
             _ => Err(Cause::WrongType("string")),
         },
         Op::IsShared => Ok(Value::Bool(matches!(only(operands)?, Value::Shared(_)))),
         Op::Curry(_) => Value::curried(alloc, operands),
         _ => Err(Cause::Unsupported),
     }
+}
+
+/// The pointer that a script makes of a name. A name with `$` is one of the compiler's own, such as that of a closure, and no
+/// function that a script finds.
+fn pointer_to(alloc: Global, name: &str) -> Result<Value, Cause> {
+    if name.find("$").is_some() {
+        return Err(Cause::no_function(alloc, name, None, &[]));
+    }
+    Value::pointer(alloc, name)
 }
 
 /// The first operand, taken from its place.

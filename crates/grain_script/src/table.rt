@@ -3,7 +3,7 @@ ghost use Rattle.std.specs.Prelude.{◌<◌, IfSome, length};
 
 use grain::Program;
 use grain_library::Callee;
-use grain_value::{Cause, Value, value_of};
+use grain_value::{Cause, Text, Value, value_of};
 use std::alloc::{AllocError, Global};
 use std::collections::BTreeMap;
 use std::rc::Rc;
@@ -21,7 +21,7 @@ struct Declared {
 #[derive(Drop)]
 struct Meaning {
     /// The name itself, to be shared.
-    name: Rc<String>,
+    name: Rc<Text>,
     callee: Option<Callee>,
     declared: Vec<Declared>,
 }
@@ -55,7 +55,7 @@ impl Table {
         let mut index = 0u32;
         for name in program.names().iter() {
             self.meanings.push(Meaning {
-                name: Rc::new(alloc, String::from_str(alloc, name)?)?,
+                name: Rc::new(alloc, Text::of(String::from_str(alloc, name)?))?,
                 callee: Callee::named(name),
                 declared: Vec::new(alloc),
             })?;
@@ -86,7 +86,7 @@ impl Table {
     }
 
     /// The name at an index.
-    pub(crate) fn name(&self, index: u32) -> Option<&Rc<String>> {
+    pub(crate) fn name(&self, index: u32) -> Option<&Rc<Text>> {
         match self.meanings.get(index as usize) {
             Some(meaning) => Some(&meaning.name),
             None => None,

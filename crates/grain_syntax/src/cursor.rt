@@ -5,6 +5,7 @@ use grain_lexer::{
     CompileError, Kind, Lexeme, Lexemes, Mark, Names, Operator, Place, Problem, Thing,
 };
 use std::alloc::Global;
+use std::collections::HashSet;
 
 /// A walk over lexemes.
 #[derive(Drop)]
@@ -269,13 +270,18 @@ impl Cursor {
         self.uses.len()
     }
 
-    /// The variables that were used since there were this many uses, each once.
-    pub(crate) fn used_since(&self, count: usize) -> Result<Vec<u32>, CompileError> {
+    /// The variables that were used since there were this many uses, each once. They count once each from now on.
+    pub(crate) fn used_since(&mut self, count: usize) -> Result<Vec<u32>, CompileError> {
         let mut used = Vec::new(self.alloc);
-        for name in self.uses.iter().skip(count) {
-            if !used.contains(name) {
+        let mut seen = HashSet::new(self.alloc);
+        for name in self.uses.get(count..).unwrap_or_default() {
+            if seen.insert(*name)? {
                 used.push(*name)?;
             }
+        }
+        self.uses.truncate(count);
+        for name in &used {
+            self.uses.push(*name)?;
         }
         Ok(used)
     }

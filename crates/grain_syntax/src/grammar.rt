@@ -13,6 +13,9 @@ use std::alloc::{AllocError, Global};
 /// How deep expressions may nest, which bounds the call stack.
 pub const MAX_DEPTH: usize = 100;
 
+/// How many parameters a function may have: no call has more arguments. So each is compared with few others.
+const MAX_PARAMS: usize = 255;
+
 /// A precedence above those of all operators between operands.
 pub(crate) const ALONE: u8 = 255;
 
@@ -268,6 +271,9 @@ pub(crate) fn add_param(
     params: &mut Vec<Binding>,
 ) -> Result<(), CompileError> {
     let param = cursor.binding(Thing::ParameterName)?;
+    if params.len() >= MAX_PARAMS {
+        return Err(CompileError::new(param.place, Problem::TooMany(Thing::Arguments)));
+    }
     if declares(params, param.name) {
         return Err(CompileError::new(param.place, Problem::Repeated(Thing::Parameter)));
     }

@@ -3,11 +3,12 @@
 use crate::arguments::{Argument, FILE, Subcommand};
 use crate::failure::Failure;
 use crate::files::shown;
-use crate::places::write_place;
+use crate::places::{chunk_at, write_place};
 use crate::scripts::program_in;
 use crate::terminal::Terminal;
 use clap::ArgMatches;
 use grain::{Program, VerifyError};
+use grain_listing::name_of;
 use grain_machine::{Ending, Limits, Outcome, accept};
 use grain_script::{Fault, Script, World};
 use grain_value::{Cause, SizeLimits, Value};
@@ -107,6 +108,17 @@ fn ending<W: World + Drop>(
     Ok(accepted.main().run(alloc, script, limits)?)
 }
 
+/// The function and the position of an address. A function of the library, which has no place in the script, has its name alone.
+fn write_call(alloc: Global, program: &Program, at: usize) -> Result<String, AllocError> {
+    let is_placed = !program.position(program.main().entry() as usize).is_none();
+    match chunk_at(program, at) {
+        Some(place) if is_placed && program.position(at).is_none() => {
+            String::from_str(alloc, name_of(program, place))
+        }
+        _ => write_place(alloc, program, at),
+    }
+}
+
 /// Why a script failed: the fault, and the calls that it ended, each on a line of its own.
 fn report(
     alloc: Global,
@@ -118,10 +130,10 @@ fn report(
     if calls.is_empty() {
         return Ok(text);
     }
-    let place = write_place(alloc, program, fault.at)?;
+    let place = write_call(alloc, program, fault.at)?;
     write!(text, "\n  in {place}")?;
     for call in calls.iter().take(SHOWN_CALLS) {
-        let place = write_place(alloc, program, *call)?;
+        let place = write_call(alloc, program, *call)?;
         write!(text, "\n  called from {place}")?;
     }
     let left_out = calls.len().saturating_sub(SHOWN_CALLS);

@@ -64,7 +64,7 @@ pub fn constant_of(alloc: Global, value: &Value) -> Result<Dynamic, AllocError> 
         Value::Bool(x) => Ok(Dynamic::Bool(*x)),
         Value::Int(x) => Ok(Dynamic::Int(*x)),
         Value::Char(x) => Ok(Dynamic::Char(*x)),
-        Value::Text(text) => Ok(Dynamic::Str(text.as_ref().clone()?)),
+        Value::Text(text) => Ok(Dynamic::Str(String::from_str(alloc, text.as_str())?)),
         Value::Range(range) => Ok(if range.inclusive {
             Dynamic::RangeInclusive(range.from, range.to)
         } else {

@@ -3,7 +3,8 @@
 //! Integers, characters and truth values lie in the value itself. Texts, arrays and maps are counted and shared: a copy costs
 //! one count, and the first change to a shared one copies one level of it.
 //!
-//! Each array and map knows how much is in it and how deep, so a limit on both costs no walk.
+//! Each array and map knows how much is in it and how deep, so a limit on both costs no walk. Each text knows how many characters
+//! it has.
 #![tactic(auto)]
 
 mod cause;
@@ -16,6 +17,7 @@ mod path;
 mod places;
 mod plain;
 mod show;
+mod text;
 mod value;
 mod walk;
 
@@ -27,5 +29,6 @@ pub use making::copies;
 pub use measure::{Measure, SizeLimits};
 pub use path::{Key, swapped};
 pub use places::place_of;
+pub use text::Text;
 pub use value::{List, Object, Pointer, Value};
 pub use walk::Walk;

@@ -49,7 +49,8 @@ impl Value {
             match (key.take(), place.take()) {
                 (None, Value::Text(name)) => key = Some(name),
                 (Some(name), value) => {
-                    let _ = object.insert(Rc::unwrap_or_clone(name)?, value)?;
+                    let name = Rc::unwrap_or_clone(name)?.into_string();
+                    let _ = object.insert(name, value)?;
                 }
                 (None, _) => return Err(Cause::WrongType("string")),
             }

@@ -2,6 +2,7 @@
 
 use crate::cause::Cause;
 use crate::places::place_of;
+use crate::text::Text;
 use crate::value::Value;
 use std::mem;
 use std::rc::Rc;
@@ -12,7 +13,7 @@ pub enum Key {
     /// The index of an item of an array. One below 0 counts from its end.
     Index(i64),
     /// The name of an entry of an object map.
-    Name(Rc<String>),
+    Name(Rc<Text>),
 }
 
 /// Puts a value in place of the part to which the keys lead, and gives that one back. Where an object map has no entry of the

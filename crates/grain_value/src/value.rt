@@ -2,6 +2,7 @@
 
 use crate::interval::Interval;
 use crate::measure::Measure;
+use crate::text::Text;
 use std::alloc::{AllocError, AllocFailed, Global};
 use std::collections::BTreeMap;
 use std::mem;
@@ -20,7 +21,7 @@ pub enum Value {
     /// A character.
     Char(char),
     /// A text.
-    Text(Rc<String>),
+    Text(Rc<Text>),
     /// Integers from one to another.
     Range(Rc<Interval>),
     /// Values in order.
@@ -37,12 +38,12 @@ pub enum Value {
 }
 
 impl Value {
-    /// A text.
+    /// A text. It looks at each character once.
     ///
     /// # Errors
     /// Out of memory.
     pub fn text(alloc: Global, text: String) -> Result<Value, AllocError> {
-        Ok(Value::Text(Rc::new(alloc, text)?))
+        Ok(Value::Text(Rc::new(alloc, Text::of(text))?))
     }
 
     /// The characters of a text, in order.

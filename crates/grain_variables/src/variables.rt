@@ -35,6 +35,14 @@ impl Variables {
         }
     }
 
+    /// A run begins: it has no local variables, and has called nothing. Named variables, and what closures share, are kept.
+    pub fn begin_run(&mut self) {
+        self.locals.clear();
+        self.base = 0;
+        self.calls.clear();
+        self.receivers.clear();
+    }
+
     #[inline(always)]
     fn place(&self, slot: u16) -> usize {
         self.base.saturating_add(slot as usize)
