@@ -3,6 +3,7 @@ use crate::capabilities::Caps;
 use crate::error::{ExplainError, VerifyError};
 use crate::flat::FlatPools;
 use crate::refusal::Refusal;
+use crate::verifier::zeroed;
 use crate::{raw, verifier, Chunk};
 use std::iter::FusedIterator;
 
@@ -288,15 +289,6 @@ fn refusal_outside(
         Err(VerifyError::Refused(refusal)) => Ok(Some(refusal)),
         Err(failure) => Err(failure.into()),
     }
-}
-
-/// A list of this many zeros.
-fn zeroed<T: Clone + Default>(length: usize) -> Result<Vec<T>, ExplainError> {
-    let mut list = Vec::new();
-    list.try_reserve_exact(length)
-        .map_err(|_| ExplainError::OutOfMemory)?;
-    list.resize(length, T::default());
-    Ok(list)
 }
 
 impl Explained<'_> {

@@ -80,7 +80,10 @@ mod code;
 mod error;
 mod explained;
 mod file;
+mod file_error;
 mod flat;
+mod items;
+mod limits;
 mod listing;
 mod mnemonics;
 mod opcode;
@@ -99,17 +102,17 @@ mod verifier;
 pub use capabilities::{Caps, CapsIter, UnknownCap};
 pub use changed::{Stripped, TightenError};
 pub use code::{
-    count_instructions, instruction, instructions, Field, Instruction, Instructions, Kind,
+    count_instructions, instruction, instructions, Field, InstructionRow, Instructions, Kind,
 };
 pub use error::{ExplainError, VerifyError};
 pub use explained::{explain, Base, Bases, Explained, Row, Subject};
-pub use file::{
-    FileChain, FileError, FileFault, FileFunction, FilePart, FileSwitch, Limits, Malformed,
-    OpAssignment, ProgramFile, Range,
-};
+pub use file::ProgramFile;
+pub use file_error::{FileError, FileFault, FilePart, Malformed};
 pub use flat::{FlatPools, PoolsFlaw, PoolsList};
+pub use items::{FileChain, FileFunction, FileStep, FileSteps, FileSwitch, OpAssignment, Range};
+pub use limits::Limits;
 pub use mnemonics::mnemonic;
-pub use opcode::{Flow, Opcode};
+pub use opcode::{Flow, Instruction, Opcode};
 pub use places::{ChainPart, ChainPlace};
 pub use pools::{PoolError, Pools};
 pub use program::{AttachError, Positions, Program};
@@ -120,8 +123,8 @@ pub use tables::{
     table_entries_into, Entry, ReadError, Site, TableFlaw,
 };
 pub use text::Text;
-pub use values::{Operator, Value, Values};
-pub use verified::{Rejected, Verified};
+pub use values::{Entries, Operator, Value, Values};
+pub use verified::{Rejected, RejectedFile, Source, Verified, VerifiedFile};
 pub use verifier::Verifier;
 
 /// A part of the code that is run by itself.
@@ -170,11 +173,7 @@ pub fn verify<'a>(
     chunks: &[Chunk],
     pools: impl Into<FlatPools<'a>>,
 ) -> Result<Vec<u16>, VerifyError> {
-    let mut depths = Vec::new();
-    depths
-        .try_reserve_exact(chunks.len())
-        .map_err(|_| VerifyError::OutOfMemory)?;
-    depths.resize(chunks.len(), 0);
+    let mut depths = verifier::zeroed(chunks.len())?;
     verify_into(caps, code, chunks, pools, &mut depths)?;
     Ok(depths)
 }

@@ -55,15 +55,15 @@ pub enum AttachError {
 impl fmt::Display for AttachError {
     fn fmt(&self, f: &mut fmt::Formatter<'_>) -> fmt::Result {
         match self {
-            AttachError::Table(_) => f.write_str("the address table is none"),
+            AttachError::Table(flaw) => write!(f, "the bytes are no address table: {flaw}"),
             AttachError::NoInstruction { at } => {
                 write!(
                     f,
-                    "no instruction begins at {at}, which the address table names"
+                    "the address table has an entry for {at}, where no instruction begins"
                 )
             }
             AttachError::NoLine { at } => write!(f, "the address table has line 0 for {at}"),
-            AttachError::Stream(_) => f.write_str("the stream of positions in chains is none"),
+            AttachError::Stream(flaw) => write!(f, "the bytes are no stream: {flaw}"),
             AttachError::ChainCount { slots, positions } => write!(
                 f,
                 "the stream has {slots} slots, and the chains have {positions} positions"
@@ -73,14 +73,7 @@ impl fmt::Display for AttachError {
     }
 }
 
-impl Error for AttachError {
-    fn source(&self) -> Option<&(dyn Error + 'static)> {
-        match self {
-            AttachError::Table(flaw) | AttachError::Stream(flaw) => Some(flaw),
-            _ => None,
-        }
-    }
-}
+impl Error for AttachError {}
 
 /// A program: its code, its chunks, its pools, and perhaps its positions.
 ///

@@ -2,7 +2,7 @@
 // The whole interface is declared, used here or not, so that it can be compared with the header.
 #![allow(dead_code)]
 use crate::explained::Row;
-use crate::file::Range;
+use crate::items::Range;
 use crate::rows::{Case, ChainRow, Constant, StepRow, SwitchRow};
 use crate::tables::{Entry, Site};
 use crate::Chunk;

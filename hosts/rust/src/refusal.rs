@@ -109,11 +109,11 @@ pub enum Flaw {
         /// The index.
         index: u32,
     },
-    /// Something that this package has no name for: the library is a newer one.
-    Other {
+    /// A number that this package doesn't know.
+    Unknown(
         /// Its number in `grain.h`.
-        flaw: u32,
-    },
+        u32,
+    ),
 }
 
 /// A number of the library's that fits: code has no more bytes than 32 bits can say.
@@ -152,7 +152,7 @@ impl Refusal {
     pub fn address(&self) -> Option<u32> {
         match self.flaw() {
             Flaw::MissingCaps { .. } if self.chunk().is_none() => None,
-            Flaw::FallsOffTheEnd | Flaw::StackExceedsDeclared { .. } | Flaw::Other { .. } => None,
+            Flaw::FallsOffTheEnd | Flaw::StackExceedsDeclared { .. } | Flaw::Unknown(_) => None,
             _ => Some(small(self.record.at)),
         }
     }
@@ -206,7 +206,7 @@ impl Refusal {
                 what: Kind::of(small(whole)),
                 index: first,
             },
-            flaw => Flaw::Other { flaw },
+            flaw => Flaw::Unknown(flaw),
         }
     }
 
@@ -305,8 +305,8 @@ impl Refusal {
             }
             Flaw::StackExceedsDeclared { needed, declared } => write!(
                 text,
-                "{needed} operand{} are needed, and {declared} declared",
-                plural(needed)
+                "{needed} operand{} needed, and {declared} declared",
+                if needed == 1 { " is" } else { "s are" }
             ),
             Flaw::IteratorUnderflow => {
                 write!(text, "the instruction at {at} needs an iterator, and there is none")
@@ -323,7 +323,7 @@ impl Refusal {
                 "the instruction at {at} has index {index} of {} {what}, which doesn't exist",
                 article(what)
             ),
-            Flaw::Other { flaw } => {
+            Flaw::Unknown(flaw) => {
                 write!(text, "the library names flaw {flaw}, which this package doesn't know")
             }
         }

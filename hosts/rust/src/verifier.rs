@@ -3,8 +3,9 @@ use crate::capabilities::Caps;
 use crate::changed::{self, TightenError};
 use crate::error::{ExplainError, VerifyError};
 use crate::explained::{self, Explained, Subject};
-use crate::file::{Limits, ProgramFile};
+use crate::file::ProgramFile;
 use crate::flat::FlatPools;
+use crate::limits::Limits;
 use crate::program::Program;
 use crate::refusal::Refusal;
 use crate::verified::{Rejected, Verified};
@@ -78,6 +79,16 @@ impl Verifier {
         self
     }
 
+    /// Makes as many places for depths as there are chunks.
+    fn make_room(&mut self, chunks: usize) -> Result<(), VerifyError> {
+        let lacking = chunks.saturating_sub(self.depths.len());
+        self.depths
+            .try_reserve(lacking)
+            .map_err(|_| VerifyError::OutOfMemory)?;
+        self.depths.resize(chunks, 0);
+        Ok(())
+    }
+
     /// Verifies a program, and returns the depth of each chunk, as [`verify`](crate::verify) does.
     ///
     /// # Errors
@@ -89,11 +100,7 @@ impl Verifier {
         chunks: &[Chunk],
         pools: impl Into<FlatPools<'a>>,
     ) -> Result<&[u16], VerifyError> {
-        let lacking = chunks.len().saturating_sub(self.depths.len());
-        self.depths
-            .try_reserve(lacking)
-            .map_err(|_| VerifyError::OutOfMemory)?;
-        self.depths.resize(chunks.len(), 0);
+        self.make_room(chunks.len())?;
         let (limit, depths) = (self.limit, &mut self.depths[..]);
         judge_in(
             Some(&mut self.scratch),
@@ -136,15 +143,8 @@ impl Verifier {
     /// # Errors
     /// Those of [`ProgramFile::verify`], and [`VerifyError::TooMuchWork`].
     pub fn verify_file(&mut self, caps: Caps, file: &ProgramFile) -> Result<&[u16], VerifyError> {
-        let chunks = file.chunks().len();
-        self.depths
-            .try_reserve(chunks.saturating_sub(self.depths.len()))
-            .map_err(|_| VerifyError::OutOfMemory)?;
-        self.depths.resize(chunks, 0);
-        let mut report = raw::Report::default();
-        let (limit, depths) = (self.limit, &mut self.depths[..]);
-        let status = file.judge(&mut self.scratch, caps, limit, depths, &mut report);
-        verdict(status, &report, &file.pools())?;
+        self.make_room(file.chunks().len())?;
+        file.judge(Some(&mut self.scratch), self.limit, caps, &mut self.depths)?;
         Ok(&self.depths)
     }
 
@@ -159,6 +159,19 @@ impl Verifier {
             .verify(caps, program.code(), program.chunks(), program.pools())
             .and_then(copied);
         Verified::new(program, caps, depths)
+    }
+
+    /// Verifies the program of a file, and returns the file as a [`Verified`], as [`ProgramFile::into_verified`] does.
+    ///
+    /// # Errors
+    /// The file and the error of [`Verifier::verify_file`].
+    pub fn verify_program_file(
+        &mut self,
+        caps: Caps,
+        file: ProgramFile,
+    ) -> Result<Verified<ProgramFile>, Rejected<ProgramFile>> {
+        let depths = self.verify_file(caps, &file).and_then(copied);
+        Verified::new(file, caps, depths)
     }
 
     /// The file of the same program, whose chunks declare their depths, as [`ProgramFile::tighten`] makes it, within the limit on
@@ -200,12 +213,22 @@ impl Drop for Verifier {
     }
 }
 
-fn copied(depths: &[u16]) -> Result<Vec<u16>, VerifyError> {
+/// A list of its own with these items.
+pub(crate) fn copied<T: Copy>(items: &[T]) -> Result<Vec<T>, VerifyError> {
     let mut own = Vec::new();
-    own.try_reserve_exact(depths.len())
+    own.try_reserve_exact(items.len())
         .map_err(|_| VerifyError::OutOfMemory)?;
-    own.extend_from_slice(depths);
+    own.extend_from_slice(items);
     Ok(own)
+}
+
+/// A list of this many items, all of them 0.
+pub(crate) fn zeroed<T: Copy + Default>(length: usize) -> Result<Vec<T>, VerifyError> {
+    let mut list = Vec::new();
+    list.try_reserve_exact(length)
+        .map_err(|_| VerifyError::OutOfMemory)?;
+    list.resize(length, T::default());
+    Ok(list)
 }
 
 /// A small program has at most this many bytes of code, and this many chunks and entries of each list of its pools. For such, a
@@ -277,11 +300,7 @@ pub(crate) fn tighten(
     pools: &FlatPools<'_>,
 ) -> Result<u64, VerifyError> {
     check_length(code)?;
-    let mut tightened = Vec::new();
-    tightened
-        .try_reserve_exact(chunks.len())
-        .map_err(|_| VerifyError::OutOfMemory)?;
-    tightened.extend_from_slice(chunks);
+    let mut tightened = copied(chunks)?;
     let (program, mut report) = (pools.program(code, chunks), raw::Report::default());
     // SAFETY: the record points to lists that are borrowed for the call; `tightened` is another list, without another reader.
     // There is no scratch.
@@ -311,7 +330,11 @@ pub(crate) fn check_length(code: &[u8]) -> Result<(), VerifyError> {
 }
 
 /// The result of a call of the library.
-fn verdict(status: u32, report: &raw::Report, pools: &FlatPools<'_>) -> Result<u64, VerifyError> {
+pub(crate) fn verdict(
+    status: u32,
+    report: &raw::Report,
+    pools: &FlatPools<'_>,
+) -> Result<u64, VerifyError> {
     match status {
         raw::ACCEPTED => Ok(report.visited),
         raw::REFUSED => Err(Refusal::new(report.refusal, report.visited).into()),
