@@ -27,7 +27,7 @@ class Verifier {
     // Bounds the work by the length of the code: the chunks must not overlap.
     Verdict verify(std::uint16_t caps, const grain_program &program) {
         Verdict found{GRAIN_ACCEPTED, std::vector<std::uint16_t>(program.chunks_len), grain_report()};
-        found.status = grain_verify(&scratch, caps, program.code_len, &program, found.depths.data(), found.depths.size(),
+        found.status = grain_verify(&scratch, caps, program.code_len, &program, found.depths.data(), found.depths.size(), nullptr,
                                     &found.report);
         if (found.status != GRAIN_ACCEPTED)
             found.depths.clear();

@@ -67,7 +67,7 @@ pub(crate) fn tighten(bytes: &[u8], limits: &Limits, limit: u64) -> Result<Vec<u
     let (mut error, mut report) = (raw::ReadError::default(), raw::Report::default());
     // No more is written than was read; of more bytes than the limit none is.
     let mut room = room_for(bytes.len().min(limits.size))?;
-    let mut size = 0;
+    let mut tightened = raw::Room::of(&mut room);
     // SAFETY: the bytes, the room and the records live for the call, and nothing else reads what is written.
     let status = unsafe {
         raw::grain_file_tighten(
@@ -75,13 +75,12 @@ pub(crate) fn tighten(bytes: &[u8], limits: &Limits, limit: u64) -> Result<Vec<u
             bytes.len(),
             &limits.record(),
             limit,
-            room.as_mut_ptr(),
-            room.len(),
-            &mut size,
+            &mut tightened,
             &mut error,
             &mut report,
         )
     };
+    let size = tightened.size;
     match status {
         raw::ACCEPTED => Ok(written(&room, size)?),
         raw::REFUSED => Err(VerifyError::from(Refusal::new(report.refusal, report.visited)).into()),
@@ -99,22 +98,19 @@ fn strip(
     let mut error = raw::ReadError::default();
     let mut program = room_for(bytes.len().min(limits.size))?;
     let mut sidecar = room_for(sidecar_room)?;
-    let (mut size, mut sidecar_size) = (0, 0);
+    let mut rooms = (raw::Room::of(&mut program), raw::Room::of(&mut sidecar));
     // SAFETY: the bytes, the rooms and the records live for the call, and nothing else reads what is written.
     let status = unsafe {
         raw::grain_file_strip(
             bytes.as_ptr(),
             bytes.len(),
             &limits.record(),
-            program.as_mut_ptr(),
-            program.len(),
-            &mut size,
-            sidecar.as_mut_ptr(),
-            sidecar.len(),
-            &mut sidecar_size,
+            &mut rooms.0,
+            &mut rooms.1,
             &mut error,
         )
     };
+    let (size, sidecar_size) = (rooms.0.size, rooms.1.size);
     match status {
         raw::ACCEPTED => Ok(Ok(Stripped {
             program: written(&program, size)?,
@@ -165,7 +161,8 @@ impl ProgramFile {
     /// ```
     ///
     /// # Errors
-    /// Those of [`ProgramFile::read`]; [`FileError::TooLong`] where an address above 4294967295 has a position.
+    /// Those of [`ProgramFile::read`]; [`FileError::NotRestorable`]; [`FileError::TooLong`] where an address above 4294967295 has a
+    /// position.
     pub fn strip(bytes: &[u8], limits: &Limits) -> Result<Stripped, FileError> {
         let size = match strip(bytes, limits, bytes.len().min(limits.size))? {
             Ok(stripped) => return Ok(stripped),

@@ -284,7 +284,8 @@ fn refusal_outside(
     code: &[u8],
     pools: &FlatPools<'_>,
 ) -> Result<Option<Refusal>, ExplainError> {
-    match verifier::judge_in(None, raw::NO_LIMIT, caps, code, &[], pools, &mut []) {
+    let mut none = verifier::Room::of_depths(&mut []);
+    match verifier::judge_in(None, raw::NO_LIMIT, caps, code, &[], pools, &mut none) {
         Ok(_) => Ok(None),
         Err(VerifyError::Refused(refusal)) => Ok(Some(refusal)),
         Err(failure) => Err(failure.into()),
@@ -349,6 +350,11 @@ impl Explained<'_> {
             )
         };
         Ok((status, found))
+    }
+
+    /// Has the program refused for something outside the chunks.
+    pub(crate) fn refuse_outside(&mut self, refusal: Refusal) {
+        self.outside = Some(refusal);
     }
 
     fn failure(&self, status: u32, index: usize) -> ExplainError {

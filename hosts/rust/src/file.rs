@@ -12,7 +12,7 @@ use crate::rows::{Case, ChainRow, StepRow, SwitchRow};
 use crate::tables::{site, stream_site, Site};
 use crate::values::{Operator, Value, Values};
 use crate::verified::{Rejected, Verified};
-use crate::verifier::{verdict, zeroed};
+use crate::verifier::{verdict, zeroed, Found, Room};
 use crate::Chunk;
 use std::fmt;
 use std::ptr::{self, NonNull};
@@ -219,20 +219,24 @@ impl ProgramFile {
 
     /// The functions.
     pub fn functions(&self) -> impl Iterator<Item = FileFunction<'_>> + '_ {
+        indices(self.contents().functions_len).filter_map(|index| self.function(index))
+    }
+
+    /// The function with an index. Its chunk has the next index.
+    #[must_use]
+    pub fn function(&self, index: u32) -> Option<FileFunction<'_>> {
         let contents = self.contents();
-        let functions: &[raw::Function] = contents!(contents, functions, functions_len);
-        let mut parameters: &[u32] = contents!(contents, parameters, parameters_len);
-        let chunks = self.chunks().iter().skip(1);
-        functions.iter().zip(chunks).map(move |(row, chunk)| {
-            let (own, rest) = split(parameters, row.parameters);
-            parameters = rest;
-            FileFunction {
-                name: row.name,
-                parameters: own,
-                is_private: row.is_private,
-                this_type: row.is_typed.then_some(row.this_type),
-                chunk: *chunk,
-            }
+        let rows: &[raw::Function] = contents!(contents, functions, functions_len);
+        let begins: &[u32] = contents!(contents, function_parameters, function_parameters_len);
+        let parameters: &[u32] = contents!(contents, parameters, parameters_len);
+        let index = index as usize;
+        let row = rows.get(index)?;
+        Some(FileFunction {
+            name: row.name,
+            parameters: part(parameters, *begins.get(index)?, row.parameters)?,
+            is_private: row.is_private,
+            this_type: row.is_typed.then_some(row.this_type),
+            chunk: *self.chunks().get(index + 1)?,
         })
     }
 
@@ -318,40 +322,52 @@ impl ProgramFile {
 
     /// The chains.
     pub fn chains(&self) -> impl Iterator<Item = FileChain<'_>> + '_ {
+        let chains = self.contents().program.pools.chains_len;
+        indices(chains).filter_map(|index| self.chain(index))
+    }
+
+    /// The chain with an index.
+    #[must_use]
+    pub fn chain(&self, index: u32) -> Option<FileChain<'_>> {
         let contents = self.contents();
         let pools = &contents.program.pools;
         let rows: &[ChainRow] = contents!(pools, chains, chains_len);
-        let slots: &[u16] = contents!(contents, slots, slots_len);
-        let mut steps: &[StepRow] = contents!(pools, steps, steps_len);
-        let mut flags: &[u8] = contents!(contents, step_flags, step_flags_len);
-        rows.iter().zip(slots).map(move |(row, slot)| {
-            let (own_steps, more_steps) = split(steps, row.steps());
-            let (own_flags, more_flags) = split(flags, row.steps());
-            (steps, flags) = (more_steps, more_flags);
-            FileChain {
-                row,
-                slot: *slot,
-                steps: FileSteps::new(own_steps, own_flags),
-            }
+        let begins: &[u32] = contents!(contents, chain_steps, chain_steps_len);
+        let steps: &[StepRow] = contents!(pools, steps, steps_len);
+        let flags: &[u8] = contents!(contents, step_flags, step_flags_len);
+        let index = index as usize;
+        let (row, begin) = (rows.get(index)?, *begins.get(index)?);
+        Some(FileChain {
+            row,
+            steps: FileSteps::new(
+                part(steps, begin, row.steps())?,
+                part(flags, begin, row.steps())?,
+            ),
         })
     }
 
     /// The switches.
     pub fn switches(&self) -> impl Iterator<Item = FileSwitch<'_>> + '_ {
+        let switches = self.contents().program.pools.switches_len;
+        indices(switches).filter_map(|index| self.switch(index))
+    }
+
+    /// The switch with an index.
+    #[must_use]
+    pub fn switch(&self, index: u32) -> Option<FileSwitch<'_>> {
         let contents = self.contents();
         let pools = &contents.program.pools;
         let rows: &[SwitchRow] = contents!(pools, switches, switches_len);
-        let mut cases: &[Case] = contents!(pools, cases, cases_len);
-        let mut ranges: &[Range] = contents!(contents, ranges, ranges_len);
-        rows.iter().map(move |row| {
-            let (own_cases, more_cases) = split(cases, row.cases);
-            let (own_ranges, more_ranges) = split(ranges, row.ranges);
-            (cases, ranges) = (more_cases, more_ranges);
-            FileSwitch {
-                cases: own_cases,
-                ranges: own_ranges,
-                otherwise: row.otherwise,
-            }
+        let case_begins: &[u32] = contents!(contents, switch_cases, switch_cases_len);
+        let range_begins: &[u32] = contents!(contents, switch_ranges, switch_ranges_len);
+        let cases: &[Case] = contents!(pools, cases, cases_len);
+        let ranges: &[Range] = contents!(contents, ranges, ranges_len);
+        let index = index as usize;
+        let row = rows.get(index)?;
+        Some(FileSwitch {
+            cases: part(cases, *case_begins.get(index)?, row.cases)?,
+            ranges: part(ranges, *range_begins.get(index)?, row.ranges)?,
+            otherwise: row.otherwise,
         })
     }
 
@@ -395,7 +411,7 @@ impl ProgramFile {
     /// Those of [`verify`](crate::verify).
     pub fn verify(&self, caps: Caps) -> Result<Vec<u16>, VerifyError> {
         let mut depths = zeroed(self.chunks().len())?;
-        self.judge(None, raw::NO_LIMIT, caps, &mut depths)?;
+        self.judge(None, raw::NO_LIMIT, caps, &mut Room::of_depths(&mut depths))?;
         Ok(depths)
     }
 
@@ -417,12 +433,15 @@ impl ProgramFile {
     /// # Errors
     /// The file, and the error of [`ProgramFile::verify`].
     pub fn into_verified(self, caps: Caps) -> Result<Verified<ProgramFile>, Rejected<ProgramFile>> {
-        let depths = self.verify(caps);
-        Verified::new(self, caps, depths)
+        let found = Found::by(self.chunks().len(), |room| {
+            self.judge(None, raw::NO_LIMIT, caps, room)
+        });
+        Verified::new(self, caps, found)
     }
 
     /// Explains a chunk of the program, by its index, or what a [`Refusal`] refuses, as [`explain`] does, for a host with these
-    /// capabilities: under those that the program declares, as [`ProgramFile::verify`] verifies it.
+    /// capabilities. As [`ProgramFile::verify`] does, it tests whether the host has those that the program declares, and the
+    /// program under these.
     ///
     /// # Errors
     /// Those of [`explain`].
@@ -431,8 +450,11 @@ impl ProgramFile {
         caps: Caps,
         subject: impl Into<Subject>,
     ) -> Result<Explained<'_>, ExplainError> {
-        let _ = caps;
-        explain(self.caps(), self.code(), self.chunks(), self, subject)
+        let mut explained = explain(self.caps(), self.code(), self.chunks(), self, subject)?;
+        if let Some(refusal) = Refusal::of_declared_caps(self.contents().caps, caps) {
+            explained.refuse_outside(refusal);
+        }
+        Ok(explained)
     }
 
     /// Verifies the program in a scratch, or in memory for this call alone, and returns how many instructions were visited.
@@ -441,7 +463,7 @@ impl ProgramFile {
         scratch: Option<&mut raw::Scratch>,
         limit: u64,
         caps: Caps,
-        depths: &mut [u16],
+        room: &mut Room<'_>,
     ) -> Result<u64, VerifyError> {
         let mut report = raw::Report::default();
         let scratch = scratch.map_or(ptr::null_mut(), |scratch| scratch as *mut _);
@@ -453,8 +475,9 @@ impl ProgramFile {
                 self.file.as_ptr(),
                 caps.bits(),
                 limit,
-                depths.as_mut_ptr(),
-                depths.len(),
+                room.depths.as_mut_ptr(),
+                room.depths.len(),
+                room.slots(),
                 &mut report,
             )
         };
@@ -468,7 +491,12 @@ fn name_between(names: &[u8], from: u32, to: u32) -> &str {
     str::from_utf8(name.unwrap_or_default()).unwrap_or_default()
 }
 
-/// The first items of a list, and the others.
-fn split<T>(items: &[T], count: u32) -> (&[T], &[T]) {
-    items.split_at(items.len().min(count as usize))
+/// As many items of a list, from one on.
+fn part<T>(items: &[T], begin: u32, count: u32) -> Option<&[T]> {
+    items.get(begin as usize..)?.get(..count as usize)
+}
+
+/// The indices of a list with this many items. No list of a file has more than 32 bits can say.
+fn indices(count: usize) -> std::ops::Range<u32> {
+    0..u32::try_from(count).unwrap_or(u32::MAX)
 }

@@ -191,6 +191,12 @@ pub enum FileError {
     },
     /// A list of it has 4294967296 entries or more, or a text or a blob as many bytes.
     TooLong,
+    /// A limit is above its greatest value: [`Limits::depth`](crate::Limits::depth) above
+    /// [`Limits::MAX_DEPTH`](crate::Limits::MAX_DEPTH).
+    BadLimit,
+    /// The sidecar wouldn't give the file back ([`ProgramFile::strip`](crate::ProgramFile::strip)): a position belongs to an
+    /// address at which no instruction begins, or the list of positions isn't as long as the code, or has no position at all.
+    NotRestorable,
     /// The allocator refused.
     OutOfMemory,
     /// The library returned a status that this package doesn't know.
@@ -203,12 +209,14 @@ pub enum FileError {
 impl FileError {
     pub(crate) fn of(status: u32, record: raw::ReadError) -> FileError {
         match status {
-            raw::NO_FILE if record.cause == raw::CAUSE_TOO_LARGE => FileError::TooLarge {
+            raw::MALFORMED if record.cause == raw::CAUSE_TOO_LARGE => FileError::TooLarge {
                 size: record.at,
                 limit: record.limit,
             },
-            raw::NO_FILE => FileError::Malformed(Malformed { record }),
+            raw::MALFORMED => FileError::Malformed(Malformed { record }),
             raw::TOO_LONG => FileError::TooLong,
+            raw::BAD_LIMIT => FileError::BadLimit,
+            raw::NOT_RESTORABLE => FileError::NotRestorable,
             raw::OUT_OF_MEMORY => FileError::OutOfMemory,
             status => FileError::Unknown(status),
         }
@@ -222,7 +230,9 @@ impl fmt::Display for FileError {
             FileError::TooLarge { size, limit } => {
                 write!(f, "file of {size} bytes, limit {limit}")
             }
-            FileError::TooLong => f.write_str("a list of the file is too long"),
+            FileError::TooLong => f.write_str("a list, a text or a blob of the file is too long"),
+            FileError::BadLimit => f.write_str("a limit is above its greatest value"),
+            FileError::NotRestorable => f.write_str("a sidecar wouldn't give the file back"),
             FileError::OutOfMemory => f.write_str("out of memory"),
             FileError::Unknown(status) => write!(f, "unknown status {status}"),
         }

@@ -37,7 +37,6 @@ pub struct FileFunction<'a> {
 #[derive(Clone, Copy, Debug)]
 pub struct FileChain<'a> {
     pub(crate) row: &'a ChainRow,
-    pub(crate) slot: u16,
     pub(crate) steps: FileSteps<'a>,
 }
 
@@ -47,13 +46,6 @@ impl<'a> FileChain<'a> {
     #[must_use]
     pub fn root(&self) -> Root {
         self.row.root()
-    }
-
-    /// The slot of the local variable at which it begins, else 0.
-    #[inline]
-    #[must_use]
-    pub fn slot(&self) -> u16 {
-        self.slot
     }
 
     /// Its steps, in order.

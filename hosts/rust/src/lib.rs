@@ -202,7 +202,8 @@ pub fn verify_into<'a>(
     pools: impl Into<FlatPools<'a>>,
     depths: &mut [u16],
 ) -> Result<u64, VerifyError> {
-    verifier::judge(caps, code, chunks, &pools.into(), depths)
+    let mut room = verifier::Room::of_depths(depths);
+    verifier::judge(caps, code, chunks, &pools.into(), &mut room)
 }
 
 /// Verifies as [`verify`] does, has each chunk declare its depth, and returns how many instructions were visited. With these

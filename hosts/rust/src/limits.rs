@@ -12,14 +12,18 @@ use crate::raw;
 pub struct Limits {
     /// How many bytes a file has at most.
     pub size: usize,
-    /// How deep values are nested at most; one that holds no other counts 1. Reading takes about 1,000 bytes of the call stack
-    /// for each level.
+    /// How deep values are nested at most, no more than [`Limits::MAX_DEPTH`]; one that holds no other counts 1. Reading takes
+    /// about 1,000 bytes of the call stack for each level: up to 80 KiB for the usual 64, up to 256 KiB for the greatest.
     pub depth: u32,
     /// How many cases a switch has at most. An attacker can choose equal hashes, and then time grows by the square of it.
     pub cases: usize,
 }
 
 impl Limits {
+    /// The greatest depth that a limit may have. With a greater one nothing is read:
+    /// [`FileError::BadLimit`](crate::FileError::BadLimit).
+    pub const MAX_DEPTH: u32 = raw::DEPTH_MAX;
+
     /// The usual limits: files of 64 MiB, values nested 64 deep, and switches of 4096 cases.
     #[must_use]
     pub const fn new() -> Limits {

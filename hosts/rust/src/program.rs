@@ -9,6 +9,7 @@ use crate::rows::{Root, Step};
 use crate::tables::{check_table, site, stream_site, stream_sites, stream_sites_into};
 use crate::tables::{table_entries, Entry, ReadError, Site, TableFlaw};
 use crate::verified::{Rejected, Verified};
+use crate::verifier::{judge, Found};
 use crate::{tighten, verify, Chunk};
 use std::error::Error;
 use std::fmt;
@@ -154,8 +155,10 @@ impl Program {
     // The error has the program in it; a box would take memory, which may be what is lacking.
     #[allow(clippy::result_large_err)]
     pub fn into_verified(self, caps: Caps) -> Result<Verified, Rejected> {
-        let depths = self.verify(caps);
-        Verified::new(self, caps, depths)
+        let found = Found::by(self.chunks.len(), |room| {
+            judge(caps, &self.code, &self.chunks, &self.pools.flat(), room)
+        });
+        Verified::new(self, caps, found)
     }
 
     /// Explains a chunk of the program, by its index, or what a [`Refusal`] refuses, as [`explain`] does.

@@ -140,7 +140,7 @@ fn flaw_of(flaw: u32, named: u64) -> Result<(), TableFlaw> {
 pub fn site(table: &[u8], address: u32) -> Option<Site> {
     let mut place = Site::default();
     // SAFETY: the table is one slice, and the place lives for the call.
-    let found = unsafe { raw::grain_site(table.as_ptr(), table.len(), address, &mut place) };
+    let found = unsafe { raw::grain_table_place(table.as_ptr(), table.len(), address, &mut place) };
     found.then_some(place)
 }
 
@@ -160,7 +160,7 @@ pub fn check_table(table: &[u8]) -> Result<(), TableFlaw> {
 pub fn stream_site(stream: &[u8], slot: u32) -> Option<Site> {
     let mut place = Site::default();
     // SAFETY: the stream is one slice, and the place lives for the call.
-    let found = unsafe { raw::grain_stream_site(stream.as_ptr(), stream.len(), slot, &mut place) };
+    let found = unsafe { raw::grain_stream_place(stream.as_ptr(), stream.len(), slot, &mut place) };
     found.then_some(place)
 }
 
@@ -214,7 +214,7 @@ pub fn stream_sites_into(stream: &[u8], sites: &mut [Site]) -> Result<usize, Tab
     let mut count = 0;
     // SAFETY: each pointer and length are those of one slice that is borrowed for the call, and `count` lives for it.
     let is_stream = unsafe {
-        raw::grain_stream_sites(
+        raw::grain_stream_places(
             stream.as_ptr(),
             stream.len(),
             sites.as_mut_ptr(),

@@ -6,6 +6,7 @@ use crate::flat::FlatPools;
 use crate::program::Program;
 use crate::refusal::Refusal;
 use crate::tables::Site;
+use crate::verifier::Found;
 use crate::Chunk;
 use std::error::Error;
 use std::fmt;
@@ -109,7 +110,7 @@ impl Source for ProgramFile {
 pub struct Verified<P = Program> {
     program: P,
     caps: Caps,
-    depths: Vec<u16>,
+    found: Found,
 }
 
 /// A program file that is accepted.
@@ -125,13 +126,13 @@ impl<P> Verified<P> {
     pub(crate) fn new(
         program: P,
         caps: Caps,
-        depths: Result<Vec<u16>, VerifyError>,
+        found: Result<Found, VerifyError>,
     ) -> Result<Verified<P>, Rejected<P>> {
-        match depths {
-            Ok(depths) => Ok(Verified {
+        match found {
+            Ok(found) => Ok(Verified {
                 program,
                 caps,
-                depths,
+                found,
             }),
             Err(error) => Err(Rejected { program, error }),
         }
@@ -154,14 +155,26 @@ impl<P> Verified<P> {
     #[inline]
     #[must_use]
     pub fn depths(&self) -> &[u16] {
-        &self.depths
+        &self.found.depths
     }
 
     /// The depth of one chunk.
     #[inline]
     #[must_use]
     pub fn depth(&self, chunk: usize) -> Option<u16> {
-        self.depths.get(chunk).copied()
+        self.found.depths.get(chunk).copied()
+    }
+
+    /// How many slots each chunk names: one more than the greatest slot of an instruction of the chunk or of the root of a chain
+    /// there, or 0.
+    ///
+    /// Verification tests no slot. A machine that has as many for a call, and as many as the function has parameters if these are
+    /// more, needs no test of a slot. `DECLARE_LOCAL` takes the next slot, which a hostile program can do without end: the
+    /// machine must bound it.
+    #[inline]
+    #[must_use]
+    pub fn slots(&self) -> &[u32] {
+        &self.found.slots
     }
 
     /// The program, which may be changed again.

@@ -37,8 +37,8 @@ fn all_is_read() {
     assert_eq!((assigned.op_assign_name, assigned.op_name), (0, 1));
     let chains: Vec<_> = file.chains().collect();
     assert_eq!(
-        (chains[0].root(), chains[0].slot(), chains[0].operands()),
-        (Root::Local { name: 1 }, 3, 1)
+        (chains[0].root(), chains[0].operands()),
+        (Root::Local { name: 1, slot: 3 }, 1)
     );
     let steps: Vec<_> = chains[0].steps().collect();
     assert_eq!(
@@ -130,11 +130,26 @@ fn constants_are_read() {
 fn files_are_verified() {
     let file = ProgramFile::read(&sample(), &Limits::default()).unwrap();
     assert_eq!(file.verify(Caps::ALL), Ok(vec![1, 1, 1]));
-    let refused = file.verify(Caps::FUNCTION).unwrap_err();
-    assert!(matches!(
-        refused.refusal().unwrap().flaw(),
-        Flaw::MissingCaps { .. }
-    ));
+    let host = Caps::ALL - (Caps::IMPORT | Caps::EXPORT);
+    let refused = *file.verify(host).unwrap_err().refusal().unwrap();
+    let missing = Caps::IMPORT | Caps::EXPORT;
+    assert_eq!(refused.flaw(), Flaw::DeclaredCaps { missing, host });
+    assert_eq!(
+        (refused.chunk(), refused.address(), refused.visited()),
+        (None, None, 0)
+    );
+    let sentence = "the program declares EXPORT and IMPORT, which the host doesn't have";
+    assert_eq!(refused.to_string(), sentence);
+    assert_eq!(refused.line(), "declared-caps missing=3000");
+    for explained in [file.explain(host, refused), file.explain(host, 0)] {
+        let explained = explained.unwrap();
+        assert_eq!(explained.refusal(), Some(&refused));
+        assert!(explained
+            .to_string()
+            .starts_with(&format!("refused: {sentence}\n")));
+    }
+    let passing = file.explain(Caps::ALL, 0).unwrap();
+    assert_eq!((passing.refusal(), passing.rows().len()), (None, 2));
     let mut verifier = Verifier::new().limit(11);
     assert_eq!(
         verifier.verify_file(Caps::ALL, &file),
@@ -188,6 +203,7 @@ fn what_is_verified_is_kept_with_the_file() {
         (Some(Site { line: 1, column: 5 }), 3)
     );
     assert_eq!(verified.constant(3), Some(Value::Integer(-42)));
+    assert_eq!(verified.slots(), [0, 0, 0]);
     assert_eq!(verified.flat().check(), Ok(()));
     let mut verifier = Verifier::new().limit(12);
     let file = verified.into_program();
@@ -214,6 +230,25 @@ fn items_are_found_by_their_index() {
     assert_eq!(file.op_assignment(0), file.op_assignments().next());
     assert_eq!(file.op_assignment(1), None);
     assert_eq!(file.op_assignment(u32::MAX), None);
+    let functions: Vec<_> = file.functions().map(Some).collect();
+    assert_eq!(
+        [0, 1, 2].map(|at| file.function(at)).to_vec(),
+        [functions, vec![None]].concat()
+    );
+    assert_eq!(file.function(1).unwrap().chunk, file.chunks()[2]);
+    let shape = |chain: grain::FileChain<'_>| (chain.root(), chain.tail(), chain.steps().last());
+    let chains: Vec<_> = file.chains().map(shape).collect();
+    assert_eq!(
+        [2, 1, 0].map(|at| file.chain(at).map(shape).unwrap()),
+        [chains[2], chains[1], chains[0]]
+    );
+    assert!(file.chain(3).is_none() && file.chain(u32::MAX).is_none());
+    let (switch, first) = (file.switch(0).unwrap(), file.switches().next().unwrap());
+    assert_eq!(
+        (switch.cases, switch.ranges, switch.otherwise),
+        (first.cases, first.ranges, first.otherwise)
+    );
+    assert!(file.switch(1).is_none());
 }
 
 #[test]
@@ -224,8 +259,11 @@ fn errors_print_what_they_know() {
         "Malformed(Malformed { at: 20, part: Function, index: 0, fault: Truncated })"
     );
     let file = ProgramFile::read(&sample(), &Limits::default()).unwrap();
-    let rejected = file.into_verified(Caps::FUNCTION).unwrap_err();
-    assert!(rejected.to_string().starts_with("refused: "), "{rejected}");
+    let rejected = file.into_verified(Caps::ALL - Caps::BLOB).unwrap_err();
+    assert_eq!(
+        rejected.to_string(),
+        "refused: the program declares BLOB, which the host doesn't have"
+    );
     assert!(format!("{rejected:?}").starts_with("Rejected { error: Refused(Refusal { chunk: None"));
 }
 
@@ -265,6 +303,14 @@ fn refusals_are_named() {
         (deep.part(), deep.index(), deep.fault()),
         (FilePart::Constant, 8, FileFault::TooDeep)
     );
+    let deepest = Limits::new().depth(Limits::MAX_DEPTH);
+    assert!(ProgramFile::read(&bytes, &deepest).is_ok());
+    let deep = deepest.depth(Limits::MAX_DEPTH + 1);
+    let error = ProgramFile::read(&bytes[..9], &deep).unwrap_err();
+    assert_eq!(error, FileError::BadLimit);
+    assert_eq!(error.to_string(), "a limit is above its greatest value");
+    assert_eq!(ProgramFile::strip(&bytes[..9], &deep), Err(error));
+    assert_eq!(ProgramFile::tighten(&bytes[..9], &deep), Err(error.into()));
     let few = Limits::new().cases(1);
     let Err(FileError::Malformed(many)) = ProgramFile::read(&bytes, &few) else {
         panic!()
@@ -341,6 +387,13 @@ fn files_are_stripped() {
         stream,
     ];
     assert_eq!(stripped.sidecar, parts.concat());
+    // A position in the middle of `LoadConst`.
+    let inside = b"\0grn\x01\0\0\x07\0\x04\x01\0\0\x13\0\x04\x01\0\0\x01\x03\x2a\0\0\0\0\0\x01\x04\0\x01\x01\x01\0\0";
+    assert!(ProgramFile::read(inside, &limits).is_ok());
+    assert_eq!(
+        ProgramFile::strip(inside, &limits),
+        Err(FileError::NotRestorable)
+    );
     let again = ProgramFile::strip(&stripped.program, &limits).unwrap();
     assert_eq!(again.program, stripped.program);
 

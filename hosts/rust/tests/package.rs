@@ -5,7 +5,7 @@ use common::{bytes, found, refusal, whole};
 use grain::{
     instruction, instructions, mnemonic, stream_sites, stream_sites_into, table_entries,
     table_entries_into, tighten, verify, verify_into, AttachError, Caps, Case, ChainPart, ChainRow,
-    Constant, Entry, FlatPools, Flaw, Instruction, Kind, Needs, Opcode, Pools, PoolsFlaw,
+    Chunk, Constant, Entry, FlatPools, Flaw, Instruction, Kind, Needs, Opcode, Pools, PoolsFlaw,
     PoolsList, Positions, Program, ReadError, Root, Site, Step, StepRow, SwitchRow, TableFlaw,
     Tail, Verifier, VerifyError,
 };
@@ -269,6 +269,29 @@ fn what_is_verified_is_kept_with_the_program() {
     );
     assert_eq!((verified.depth(0), verified.depth(1)), (Some(2), None));
     assert_eq!((verified.depths(), verified.site(0)), (&[2][..], None));
+}
+
+#[test]
+fn the_slots_of_each_chunk_are_counted() {
+    // StoreLocal(258); LoadLocal(65535); Chain(0) at slot 7 and LoadLocal(1); no slot.
+    let code = bytes("020602010213021305ffff1316000005010013120213");
+    let chunks = vec![
+        Chunk::new(0, 6, 1),
+        Chunk::new(6, 12, 1),
+        Chunk::new(12, 19, 2),
+        Chunk::new(19, 22, 1),
+    ];
+    let pools = Pools::new()
+        .name("x")
+        .chain(Root::Local { name: 0, slot: 7 }, &[], Tail::Read, 0);
+    let program = Program::new(code, chunks, pools);
+    let verified = program.into_verified(Caps::ALL).unwrap();
+    assert_eq!(verified.slots(), [259, 65536, 8, 0]);
+    let mut verifier = Verifier::new();
+    let verified = verifier
+        .verify_program(Caps::ALL, verified.into_program())
+        .unwrap();
+    assert_eq!(verified.slots(), [259, 65536, 8, 0]);
 }
 
 #[test]
