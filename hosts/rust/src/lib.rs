@@ -34,10 +34,13 @@
 //! | say why not | [`VerifyError`], [`Refusal`], [`Flaw`] |
 //! | show why not | [`Program::explain`], [`Explained`] |
 //! | fill pools | [`Pools`], or [`FlatPools`] where the lists are the host's own |
-//! | read a program file | [`ProgramFile`], with [`Limits`] |
+//! | read a program file | [`ProgramFile::read`], with [`Limits`] |
+//! | verify one | [`ProgramFile::into_verified`] |
 //! | write one again | [`ProgramFile::tighten`], [`ProgramFile::strip`] |
-//! | run what is accepted | [`Verified`], [`Opcode`] |
-//! | find lines | [`Program::site`], [`site`], [`stream_site`] |
+//! | run what is accepted | [`Verified`], [`VerifiedFile`], [`Instruction`] |
+//! | find lines | [`Verified::site`], [`site`], [`stream_site`] |
+//!
+//! From a program file to a run, `examples/script.rs` is a whole host.
 //!
 //! # What a host owes
 //!
@@ -51,17 +54,22 @@
 //!   `ITER_DROP`, `UNWIND_TO` and `RETURN` ([`Opcode::is_quiet`]). At these the machine must never fault, or only with at least
 //!   that much left.
 //!
-//! A yes says nothing of slots and scopes, of values and their types, or of what a call does. It doesn't say that a run ends.
+//! - It never reads or writes a slot that it hasn't allocated. A slot is any number of 16 bits, and verification tests none.
+//!   [`Verified::slots`] says how many slots each chunk names; a machine that has as many for a call needs no test of a slot.
+//!
+//! A yes says nothing of scopes, of values and their types, or of what a call does. It doesn't say that a run ends.
 //!
 //! # What to bound for hostile input
 //!
 //! - The length of the code, and of each list of the pools: time and memory grow with them.
 //! - The work: chunks may overlap, so that many short chunks cost as much as long code. [`Verifier::limit`] bounds it.
 //! - The depth of constants is the host's to bound, where it reads them: verification sees only what they need. [`Limits`] bounds
-//!   it for program files.
+//!   it for program files, which take about 1,000 bytes of the call stack for each level.
+//! - The variables of a call: `DECLARE_LOCAL` takes the next slot, which a hostile program can do without end. And the steps of a
+//!   run, and how deep calls are nested.
 //!
 //! No call waits or prints. No call ends the process where the allocator refuses, except the chained calls of [`Pools`] and
-//! clones, which take memory as a `Vec` does.
+//! clones, which take memory as a `Vec` does. That is tested of each public function.
 //!
 //! # Platform
 //!

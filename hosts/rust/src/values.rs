@@ -35,13 +35,37 @@ pub enum Value<'a> {
 /// An operator of a program file.
 #[derive(Clone, Copy, Debug, PartialEq, Eq, Hash)]
 pub enum Operator<'a> {
-    /// One of the language, by its number (FORMAT.md, "Program files").
+    /// One of the language, by its number (EMBEDDING.md, "Running scripts").
     Number(u8),
     /// One that the host has added, by its text.
     Custom(&'a str),
 }
 
+/// How the operators of the language are written, by their numbers (EMBEDDING.md, "Running scripts").
+const SYMBOLS: [&str; 39] = [
+    "+", "+", "-", "-", "*", "/", "%", "**", "<<", ">>", "&", "|", "^", "&&", "||", "!", "??",
+    "==", "!=", "<", "<=", ">", ">=", "in", "!in", "..", "..=", "=", "+=", "-=", "*=", "/=", "%=",
+    "**=", "<<=", ">>=", "&=", "|=", "^=",
+];
+
 impl<'a> Operator<'a> {
+    /// How it is written, such as `+`. The operators 1 and 3 are `+` and `-` before their only operand. It is empty for a number
+    /// that no operator has.
+    ///
+    /// ```
+    /// use grain::Operator;
+    ///
+    /// assert_eq!(Operator::Number(38).symbol(), "^=");
+    /// assert_eq!(Operator::Custom("<>").symbol(), "<>");
+    /// ```
+    #[must_use]
+    pub fn symbol(self) -> &'a str {
+        match self {
+            Operator::Number(number) => SYMBOLS.get(usize::from(number)).copied().unwrap_or(""),
+            Operator::Custom(text) => text,
+        }
+    }
+
     pub(crate) fn of(row: &raw::Value, texts: &'a [u8]) -> Operator<'a> {
         match row.tag {
             raw::VALUE_OPERATOR => Operator::Number(row.number as u8),

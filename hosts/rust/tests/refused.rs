@@ -120,7 +120,7 @@ const ENDING: [&str; 4] = [
 ];
 
 /// Calls that take no memory, by the type that they belong to; the first are of none.
-const FREE: [(&str, &[&str]); 25] = [
+const FREE: [(&str, &[&str]); 26] = [
     (
         "",
         &[
@@ -193,6 +193,7 @@ const FREE: [(&str, &[&str]); 25] = [
     ),
     ("Instructions", &["address", "is_whole"]),
     ("Limits", &["cases", "depth", "new", "size"]),
+    ("Operator", &["symbol"]),
     ("Malformed", &["at", "fault", "index", "part"]),
     (
         "Opcode",
