@@ -105,7 +105,7 @@ typedef GRAIN_ENUM(grain_status) {
     GRAIN_MALFORMED = 9,     /* the bytes are no program file within the limits, and why is written */
     GRAIN_TOO_LONG = 10,     /* a list of the file has 4294967296 entries or more, or a text or a blob as many bytes */
     GRAIN_BAD_LIMIT = 11,    /* a limit is above its greatest value: limits->depth above GRAIN_DEPTH_MAX */
-    GRAIN_NOT_RESTORABLE = 12 /* the positions can't be taken out so that a sidecar gives them back (grain_file_strip) */
+    GRAIN_NOT_RESTORABLE = 12 /* a sidecar wouldn't give the places back (grain_file_strip) */
 } grain_status;
 
 /* Why a program is refused. Next to each flaw is what `first` and `second` of its grain_refusal are; others are 0. */
@@ -200,12 +200,12 @@ typedef GRAIN_ENUM(grain_cause) {
     GRAIN_CAUSE_UNKNOWN_TAG = 10,    /* a byte is no tag */
     GRAIN_CAUSE_KEY_ORDER = 11,      /* a key doesn't come after the one before it */
     GRAIN_CAUSE_TOO_DEEP = 12,       /* values are nested deeper than the limit */
-    GRAIN_CAUSE_NAMES_TOO_LONG = 13, /* they have more than 4294967295 bytes */
+    GRAIN_CAUSE_NAMES_TOO_LONG = 13, /* the names have more than 4294967295 bytes */
     GRAIN_CAUSE_CASE_ORDER = 14,     /* the constants of the cases of a switch don't strictly ascend */
     GRAIN_CAUSE_NO_CONSTANT = 15,    /* a switch has a case whose constant isn't there */
     GRAIN_CAUSE_TOO_MANY_CASES = 16, /* a switch has more cases than the limit */
     GRAIN_CAUSE_SAME_CASE = 17,      /* two cases of a switch are of the same value */
-    GRAIN_CAUSE_NO_LINE = 18,        /* a position has line 0 */
+    GRAIN_CAUSE_NO_LINE = 18,        /* a place has line 0 */
     GRAIN_CAUSE_TRAILING = 19        /* bytes follow the last field */
 } grain_cause;
 
@@ -231,7 +231,7 @@ typedef GRAIN_ENUM(grain_part) {
     GRAIN_PART_SWITCHES = 17,
     GRAIN_PART_SWITCH = 18,
     GRAIN_PART_SOURCE_NAME = 19,
-    GRAIN_PART_POSITIONS = 20,
+    GRAIN_PART_POSITIONS = 20,      /* the places of the code */
     GRAIN_PART_POSITION = 21,
     GRAIN_PART_ADDRESS_TABLE = 22,  /* of a sidecar file, which no call reads */
     GRAIN_PART_CHAIN_STREAM = 23,   /* the same */

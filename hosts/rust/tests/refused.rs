@@ -120,190 +120,79 @@ const ENDING: [&str; 4] = [
 ];
 
 /// Calls that take no memory, by the type that they belong to; the first are of none.
-const FREE: [(&str, &[&str]); 26] = [
+const FREE: [(&str, &str); 26] = [
     (
         "",
-        &[
-            "check_stream",
-            "check_table",
-            "count_instructions",
-            "instruction",
-            "instructions",
-            "mnemonic",
-            "site",
-            "stream_site",
-            "stream_sites_into",
-            "table_entries_into",
-            "version",
-        ],
+        "check_stream check_table count_instructions instruction instructions mnemonic \
+         site stream_site stream_sites_into table_entries_into version",
     ),
     (
         "Caps",
-        &[
-            "bits",
-            "contains",
-            "difference",
-            "from_bits",
-            "from_bits_truncate",
-            "insert",
-            "intersects",
-            "is_empty",
-            "iter",
-            "name",
-            "remove",
-            "union",
-        ],
+        "bits contains difference from_bits from_bits_truncate insert intersects \
+         is_empty iter name remove union",
     ),
-    ("ChainRow", &["new", "operands", "root", "steps", "tail"]),
-    ("Chunk", &["new"]),
-    ("Constant", &["needs"]),
+    ("ChainRow", "new operands root steps tail"),
+    ("Chunk", "new"),
+    ("Constant", "needs"),
     (
         "Explained",
-        &[
-            "bases",
-            "chunk",
-            "other_path",
-            "path",
-            "refusal",
-            "refusal_of_chunk",
-            "refusal_outside",
-            "rows",
-        ],
+        "bases chunk other_path path refusal refusal_of_chunk refusal_outside rows",
     ),
-    ("FileChain", &["operands", "root", "steps", "tail"]),
+    ("FileChain", "operands root steps tail"),
     (
         "FlatPools",
-        &[
-            "chains",
-            "check",
-            "constants",
-            "fragments",
-            "functions",
-            "names",
-            "new",
-            "op_assignments",
-            "operators",
-            "switches",
-        ],
+        "chains check constants fragments functions names new op_assignments operators \
+         switches",
     ),
-    ("Instruction", &["decode", "opcode"]),
+    ("Instruction", "decode opcode"),
     (
         "InstructionRow",
-        &["bytes", "field", "fields", "is_quiet", "mnemonic", "opcode"],
+        "bytes field fields is_quiet mnemonic opcode",
     ),
-    ("Instructions", &["address", "is_whole"]),
-    ("Limits", &["cases", "depth", "new", "size"]),
-    ("Operator", &["symbol"]),
-    ("Malformed", &["at", "fault", "index", "part"]),
+    ("Instructions", "address is_whole"),
+    ("Limits", "cases depth new size"),
+    ("Operator", "symbol"),
+    ("Malformed", "at fault index part"),
     (
         "Opcode",
-        &[
-            "decode", "fields", "flow", "from_tag", "is_quiet", "name", "tag", "width",
-        ],
+        "decode fields flow from_tag is_quiet name tag width",
     ),
     (
         "Pools",
-        &[
-            "clear",
-            "flat",
-            "fragments",
-            "functions",
-            "new",
-            "op_assignments",
-            "operators",
-            "set_fragments",
-            "set_functions",
-            "set_op_assignments",
-            "set_operators",
-        ],
+        "clear flat fragments functions new op_assignments operators set_fragments \
+         set_functions set_op_assignments set_operators",
     ),
     (
         "Program",
-        &[
-            "chain_site",
-            "chunks",
-            "code",
-            "into_parts",
-            "new",
-            "pools",
-            "positions",
-            "site",
-            "site_of",
-            "strip_positions",
-        ],
+        "chain_site chunks code into_parts new pools positions site site_of \
+         strip_positions",
     ),
     (
         "ProgramFile",
-        &[
-            "caps",
-            "chain",
-            "chain_site",
-            "chains",
-            "chunks",
-            "code",
-            "constant",
-            "constants",
-            "function",
-            "functions",
-            "id",
-            "name",
-            "names",
-            "op_assignment",
-            "op_assignments",
-            "operator",
-            "operators",
-            "pools",
-            "site",
-            "site_of",
-            "source",
-            "stream",
-            "switch",
-            "switches",
-            "table",
-        ],
+        "caps chain chain_site chains chunks code constant constants function functions \
+         id name names op_assignment op_assignments operator operators pools site \
+         site_of source stream switch switches table",
     ),
-    ("Range", &["contains"]),
+    ("Range", "contains"),
     (
         "Refusal",
-        &[
-            "address",
-            "chain_place",
-            "chunk",
-            "constant",
-            "flaw",
-            "line",
-            "visited",
-        ],
+        "address chain_place chunk constant flaw line visited",
     ),
-    (
-        "Rejected",
-        &["error", "into_parts", "into_program", "program", "refusal"],
-    ),
-    ("Row", &["address", "iterators", "operands", "reached_from"]),
-    ("Site", &["known"]),
+    ("Rejected", "error into_parts into_program program refusal"),
+    ("Row", "address iterators operands reached_from"),
+    ("Site", "known"),
     (
         "Verified",
-        &[
-            "caps",
-            "chunks",
-            "code",
-            "depth",
-            "depths",
-            "flat",
-            "into_program",
-            "program",
-            "site",
-            "slots",
-        ],
+        "caps chunks code depth depths flat into_program program site slots",
     ),
-    ("Verifier", &["limit", "new", "release"]),
-    ("VerifyError", &["refusal"]),
+    ("Verifier", "limit new release"),
+    ("VerifyError", "refusal"),
 ];
 
 /// Whether a function is known to take no memory.
 fn is_free(function: &Function) -> bool {
     FREE.iter()
-        .any(|(of, names)| *of == function.of && names.contains(&&*function.name))
+        .any(|(of, names)| *of == function.of && names.split(' ').any(|name| name == function.name))
 }
 
 /// Each public function is one that this file tests, that takes no memory, or that is known to end the process. One that is new
@@ -312,7 +201,7 @@ fn is_free(function: &Function) -> bool {
 fn no_public_call_is_left_out() {
     let own: String = include_str!("refused.rs").split_whitespace().collect();
     let all = public_functions();
-    let known: usize = FREE.iter().map(|(_, names)| names.len()).sum();
+    let known: usize = FREE.iter().map(|(_, names)| names.split(' ').count()).sum();
     for function in &all {
         let name = function.full_name();
         let is_tested = own.contains(&format!("refuse_each(\"{name}\","));
