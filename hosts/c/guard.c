@@ -194,6 +194,28 @@ static bool is_same(const grain_report *one, const grain_report *other) {
            a->first == b->first && a->second == b->second;
 }
 
+/* One more than the greatest slot that an instruction of a chunk names, read by grain_instruction; 0 where none names one. */
+static uint32_t count_slots(const grain_program *program, const grain_chunk *chunk) {
+    grain_instruction_row found;
+    uint32_t slots = 0;
+    for (size_t at = chunk->entry; at < chunk->end; at += found.width) {
+        if (!grain_instruction(program->code, program->code_len, at, &found))
+            return UINT32_MAX;
+        /* These have a length or a depth in its place. */
+        bool has_none = found.tag == GRAIN_TAG_MAKE_ARRAY || found.tag == GRAIN_TAG_MAKE_MAP || found.tag == GRAIN_TAG_UNWIND_TO ||
+                        found.tag == GRAIN_TAG_CHECK_ARRAY_SIZE || found.tag == GRAIN_TAG_CHECK_MAP_SIZE ||
+                        found.tag == GRAIN_TAG_STATEMENT;
+        for (size_t i = 0; i < LENGTH(found.fields); i++) {
+            const grain_field *field = &found.fields[i];
+            uint32_t named = field->kind == GRAIN_KIND_SLOT && !has_none ? field->value + 1 : 0;
+            if (field->kind == GRAIN_KIND_CHAIN && program->pools.chains[field->value].root == GRAIN_ROOT_LOCAL)
+                named = program->pools.chains[field->value].slot + 1u;
+            slots = named > slots ? named : slots;
+        }
+    }
+    return slots;
+}
+
 /* Verifies, and holds all calls that verify against each other. */
 static grain_status verify(grain_scratch *scratch, uint16_t caps, const grain_program *program, grain_report *report) {
     size_t many = program->chunks_len;
@@ -203,7 +225,11 @@ static grain_status verify(grain_scratch *scratch, uint16_t caps, const grain_pr
     *report = other;
     grain_status status = grain_verify(NULL, caps, span_of(program), program, depths, many, NULL, report);
     uint16_t *guarded_depths = room(pages.out, many * sizeof *depths);
-    CHECK(grain_verify(scratch, caps, GRAIN_NO_LIMIT, program, guarded_depths, many, NULL, &other) == status);
+    uint32_t *slots = room(pages.more, many * sizeof *slots);
+    CHECK(grain_verify(scratch, caps, GRAIN_NO_LIMIT, program, guarded_depths, many, slots, &other) == status);
+    CHECK(is_filled(pages.more.page, PAGE - (status == GRAIN_ACCEPTED ? many : 0) * sizeof *slots, 0xa5));
+    for (size_t i = 0; status == GRAIN_ACCEPTED && i < many; i++)
+        CHECK(slots[i] == count_slots(program, &program->chunks[i]));
     if (status == GRAIN_ACCEPTED)
         CHECK(memcmp(depths, pages.out.page + PAGE - many * sizeof *depths, many * sizeof *depths) == 0);
     CHECK(is_filled(pages.out.page, PAGE - many * sizeof *depths, 0xa5));
