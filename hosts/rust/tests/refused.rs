@@ -431,7 +431,7 @@ fn reading_a_file_again_takes_no_memory() {
     let checked = verified.flat().check();
     LEFT.set(None);
     assert!(!IS_REFUSED.get() && decoded.is_some() && checked.is_ok() && place.is_some());
-    assert_eq!(counts, [2, 2, 13, 2, 1, 4, 1]);
+    assert_eq!(counts, [2, 2, 13, 2, 1, 3, 1]);
 }
 
 /// Whether an explanation ran out of memory. What it has is written, which takes none.
@@ -489,6 +489,21 @@ fn the_package_takes_memory_for_the_explained_chunk_alone() {
     assert!(LARGEST.get() < 100, "{}", LARGEST.get());
 }
 
+/// Calls without counting its requests: all of them are granted.
+fn uncounted<T>(call: impl FnOnce() -> T) -> T {
+    let counted = LEFT.replace(None);
+    let answer = call();
+    LEFT.set(counted);
+    answer
+}
+
+/// Takes the lists that pools of the thread have left, so that the next pools begin with none.
+fn take_spare_lists() {
+    let mut pools = Pools::new();
+    pools.add_constant(Caps::NONE).unwrap();
+    std::mem::forget(pools);
+}
+
 #[test]
 fn pools_answer_an_error_and_stay() {
     let steps = || {
@@ -501,8 +516,7 @@ fn pools_answer_an_error_and_stay() {
     };
     // Each call is made on new pools. What is refused adds nothing.
     let add = |call: &dyn Fn(&mut Pools) -> Result<usize, PoolError>| {
-        // Pools that are longer than what a thread keeps of those that are dropped.
-        drop(Pools::new().name(&"x".repeat(2000)));
+        uncounted(take_spare_lists);
         let mut pools = Pools::new();
         match call(&mut pools) {
             Ok(_) => {
@@ -550,11 +564,7 @@ fn tables_answer_an_error() {
     };
     let mut given = None;
     refuse_each("Program::attach_positions", || {
-        LEFT.with(|left| {
-            let counted = left.replace(None);
-            given = Some(positions.clone());
-            left.set(counted);
-        });
+        given = Some(uncounted(|| positions.clone()));
         program.attach_positions(given.take().unwrap()).is_err()
     });
     refuse_each("Program::entries", || program.entries().is_err());
