@@ -9,14 +9,14 @@
 #include <stdio.h>
 #include <stdlib.h>
 
-enum { CAPS = GRAIN_CAP_FUNCTION, CALLS = 200, VARIABLES = 100, FILE_SIZE = 1 << 20 };
+enum { CAPS = GRAIN_CAP_FUNCTION, FILE_SIZE = 1 << 20, CHUNKS = 1000, CALLS = 200, VARIABLES = 100, STEPS = 10000000 };
 
 /* A program that is accepted, and its run. Values are (), booleans and integers, as a file has them. */
 typedef struct {
     const grain_contents *file;
-    uint16_t *depths;
-    uint32_t *slots;
-    long steps;        /* how many are left */
+    uint16_t depths[CHUNKS];
+    uint32_t slots[CHUNKS];
+    int steps;         /* how many are left */
     const char *fault; /* why the run ended early */
     uint32_t at;       /* the address of the fault */
 } machine;
@@ -119,52 +119,49 @@ static int print_part(void *context, const char *text, size_t length) {
 }
 
 /* Verifies a file and runs it, or says why not. */
-static bool answer(const grain_file *file, machine *m) {
-    size_t chunks = m->file->program.chunks_len;
+static bool answer(const grain_file *file) {
+    static machine m;
+    char text[GRAIN_TEXT_SIZE];
     grain_report report;
     grain_value result;
     grain_place place = {0, 0};
-    char text[GRAIN_TEXT_SIZE];
-    grain_status status = grain_file_verify(NULL, file, CAPS, m->file->program.code_len, m->depths, chunks, m->slots, &report);
+    m.file = grain_file_contents(file);
+    m.steps = STEPS;
+    grain_status status =
+        grain_file_verify(NULL, file, CAPS, m.file->program.code_len, m.depths, CHUNKS, m.slots, &report);
     if (status == GRAIN_REFUSED) {
         grain_refusal_text(&report.refusal, text, sizeof text);
         printf("refused: %s\n", text);
         if (report.refusal.chunk != GRAIN_WHOLE_PROGRAM)
-            status = grain_listing(m->file->caps, &m->file->program, report.refusal.chunk, print_part, stdout);
+            status = grain_listing(m.file->caps, &m.file->program, report.refusal.chunk, print_part, stdout);
     } else if (status != GRAIN_ACCEPTED) {
-        printf("%s\n", grain_status_text(status));
-    } else if (run(m, 0, NULL, 0, CALLS, &result)) {
-        printf("result %lld\n", (long long)result.number);
+        puts(grain_status_text(status));
+    } else if (run(&m, 0, NULL, 0, CALLS, &result)) {
+        if (result.tag == GRAIN_VALUE_INTEGER)
+            printf("result %lld\n", (long long)result.number);
         return true;
     } else {
-        (void)grain_table_place(m->file->table, m->file->table_len, m->at, &place);
-        printf("%u:%u: %s\n", place.line, place.column, m->fault);
+        (void)grain_table_place(m.file->table, m.file->table_len, m.at, &place);
+        printf("%u:%u: %s\n", place.line, place.column, m.fault);
     }
     return false;
 }
 
 int main(int argc, char **argv) {
     static uint8_t bytes[FILE_SIZE];
+    char text[GRAIN_TEXT_SIZE];
     grain_file *file;
     grain_read_error error;
-    char text[GRAIN_TEXT_SIZE];
     FILE *stream = argc == 2 ? fopen(argv[1], "rb") : NULL;
     if (stream == NULL)
         return 2;
     grain_status status = grain_file_read(&file, bytes, fread(bytes, 1, sizeof bytes, stream), NULL, &error);
     fclose(stream);
-    if (status != GRAIN_ACCEPTED) {
-        if (status == GRAIN_MALFORMED)
-            grain_read_error_text(&error, text, sizeof text);
-        printf("%s\n", status == GRAIN_MALFORMED ? text : grain_status_text(status));
-        return 1;
-    }
-    machine m = {grain_file_contents(file), NULL, NULL, 10000000, NULL, 0};
-    m.depths = malloc(m.file->program.chunks_len * sizeof *m.depths);
-    m.slots = malloc(m.file->program.chunks_len * sizeof *m.slots);
-    bool is_done = m.depths != NULL && m.slots != NULL && answer(file, &m);
-    free(m.slots);
-    free(m.depths);
+    if (status == GRAIN_MALFORMED && grain_read_error_text(&error, text, sizeof text) != 0)
+        puts(text);
+    else if (status != GRAIN_ACCEPTED)
+        puts(grain_status_text(status));
+    bool is_done = file != NULL && answer(file);
     grain_file_free(file);
     return is_done ? 0 : 1;
 }
