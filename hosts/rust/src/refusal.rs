@@ -468,6 +468,10 @@ mod tests {
             (12, 0, 0, "the instruction at 3 needs a handler, and none is armed"),
             (13, 2, 1, "the instruction at 3 leaves 1 of the 2 operands or iterators that there were when the handler was armed"),
             (14, 9, 4, "the instruction at 3 has index 9 of an op-assignment, which doesn't exist"),
+            (15, 0x2000, 0, "the program declares IMPORT, which the host doesn't have"),
+            (15, 0x3000, 0, "the program declares EXPORT and IMPORT, which the host doesn't have"),
+            (15, 0x8000, 0, "the program declares the unknown capabilities 8000, which the host doesn't have"),
+            (15, 0xb002, 0, "the program declares ARRAY, EXPORT, IMPORT and the unknown capabilities 8000, which the host doesn't have"),
             (99, 0, 0, "the library names flaw 99, which this package doesn't know"),
         ] {
             assert_eq!(sentence(flaw, first, second), wanted);
@@ -497,6 +501,10 @@ mod tests {
             0,
         );
         assert!(long.to_string().ends_with("was armed"));
+        let declared = Refusal::of_declared_caps(u16::MAX, Caps::NONE).unwrap();
+        assert!(declared
+            .to_string()
+            .ends_with("8000, which the host doesn't have"));
     }
 
     #[test]
