@@ -17,6 +17,11 @@ class Noting(file_reader.Reader):
         self.options.append(self.at)
         return super().option(item)
 
+    def bytes(self):
+        found = super().bytes()
+        self.texts.append((self.at - len(found), self.at))
+        return found
+
     def number(self, bits=64):
         start = self.at
         value = super().number(bits)

@@ -12,7 +12,8 @@ tags (crates/grain_code/src/tag.rt), wherever it stands.
   with the table.
 - In crates/grain_code/src, what a tag says of its instructions is the list `TAG_ROWS` in tag_table.rt; encoding.rt (the tag and
   the fields of an operation) and decoder.rt (the operation of a tag and bytes) are written as a whole.
-- The table for machines in Rust is the list of hosts/rust/src/opcode.rs: names, tags, fields, flow and quiet instructions.
+- The table for machines in Rust is the list of hosts/rust/src/opcode.rs: names, tags, fields and their names, flow and quiet
+  instructions.
 
 .ci/documents asks whether all of it is as this writes it.
 """
@@ -46,12 +47,28 @@ RUST_FLOWS = {
 }
 
 
+# What the variants of `Instruction` in hosts/rust/src/opcode.rs call their fields: by letters, and where a field means something
+# else, by the name of the instruction and the place of the field.
+RUST_FIELDS = {
+    "c": "constant", "n": "name", "t": "operator", "o": "op_assignment", "f": "fragment", "h": "chain", "w": "switch",
+    "y": "site", "s": "slot", "a": "argc", "j": "target",
+}
+OTHER_RUST_FIELDS = {
+    ("MAKE_ARRAY", 0): "len", ("MAKE_MAP", 0): "len", ("CHECK_ARRAY_SIZE", 0): "index", ("CHECK_MAP_SIZE", 0): "index",
+    ("UNWIND_TO", 0): "len", ("STATEMENT", 0): "depth", ("ROTATE", 0): "count", ("PUSH_HANDLER_VAR", 1): "variable",
+    ("CALL_NAMED_REF", 2): "variable", ("CALL_FN_PTR_ON_NAMED", 1): "variable", ("EXPORT_LOCAL", 1): "alias",
+    ("EXPORT_NAMED", 1): "alias", ("IMPORT", 0): "alias",
+}
+
+
 def opcodes():
     """The instruction table as rows of the macro `opcodes` in Rust."""
     for tag, name, letters, _, _, _, _, flow, quiet in instruction_table.table():
         variant = "".join(word.capitalize() for word in name.split("_"))
-        kinds = ", ".join(RUST_KINDS[letter] for letter in letters.split())
-        yield f'    {variant} = 0x{tag}, "{name}", [{kinds}], {RUST_FLOWS[flow]}, {"true" if quiet else "false"};\n'
+        fields = ", ".join(f"{OTHER_RUST_FIELDS.get((name, place), RUST_FIELDS[letter])}: {RUST_KINDS[letter]}"
+                           for place, letter in enumerate(letters.split()))
+        fields = f"[{fields}], " if fields else ""
+        yield f'    {variant} = 0x{tag}, "{name}", {fields}{RUST_FLOWS[flow]}, {"true" if quiet else "false"};\n'
 
 
 def argument(text):
@@ -127,7 +144,7 @@ HEADER = """\
 
 /* The bytes with which instructions begin. */
 #define GRAIN_TAG_ENUMERATOR(tag, name, width, fields, quiet) GRAIN_TAG_##name = tag,
-enum grain_tag { GRAIN_INSTRUCTIONS(GRAIN_TAG_ENUMERATOR) };
+typedef enum grain_tag { GRAIN_INSTRUCTIONS(GRAIN_TAG_ENUMERATOR) } grain_tag;
 #undef GRAIN_TAG_ENUMERATOR
 
 #endif

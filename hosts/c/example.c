@@ -50,15 +50,15 @@ static void print_refusal(uint16_t caps, const grain_program *given, const grain
 }
 
 static void print_pools_flaw(const grain_pools *pools) {
-    grain_pools_flaw flaw = {0, 0};
+    grain_pools_flaw flaw = {GRAIN_LIST_CONSTANTS, 0};
     if (!grain_check_pools(pools, &flaw))
         printf("not flat: list %u, index %llu\n", flaw.list, (unsigned long long)flaw.index);
 }
 
 static grain_status verify(uint16_t caps, const grain_program *given) {
     uint16_t depths[LENGTH(chunks)] = {0};
-    grain_report report = {{0, 0, 0, 0, 0}, 0};
-    grain_status status = grain_verify(NULL, caps, sizeof code, given, depths, LENGTH(depths), &report);
+    grain_report report = {{GRAIN_FLAW_NONE, 0, 0, 0, 0}, 0};
+    grain_status status = grain_verify(NULL, caps, sizeof code, given, depths, LENGTH(depths), NULL, &report);
     switch (status) {
     case GRAIN_ACCEPTED:
         printf("accepted %u %u (visited %llu instructions)\n", depths[0], depths[1], (unsigned long long)report.visited);
@@ -70,7 +70,7 @@ static grain_status verify(uint16_t caps, const grain_program *given) {
         print_pools_flaw(&given->pools);
         break;
     default:
-        printf("status %u\n", (unsigned)status);
+        printf("%s\n", grain_status_text(status));
         break;
     }
     return status;
@@ -104,7 +104,7 @@ static bool list_places(void) {
     static const uint8_t stream[] = {2, 1, 7, 0, 0};
     grain_place places[LENGTH(stream) / 2] = {{0, 0}};
     size_t count = 0;
-    if (!grain_stream_sites(stream, sizeof stream, places, LENGTH(places), &count))
+    if (!grain_stream_places(stream, sizeof stream, places, LENGTH(places), &count))
         return false;
     for (size_t i = 0; i < count; i++)
         printf("slot %zu: %u:%u\n", i, places[i].line, places[i].column);
@@ -120,18 +120,18 @@ static const uint8_t file_bytes[] = {0x00, 0x67, 0x72, 0x6e, 0x01, 0x00, 0x00, 0
 static bool read_file(size_t length) {
     const grain_limits limits = GRAIN_LIMITS_DEFAULT;
     grain_file *file;
-    grain_read_error error = {0, 0, 0, 0, 0};
+    grain_read_error error = {GRAIN_CAUSE_TOO_LARGE, GRAIN_PART_HEADER, 0, 0, 0};
     char text[GRAIN_TEXT_SIZE];
     uint16_t depth = 0;
     grain_status status = grain_file_read(&file, file_bytes, length, &limits, &error);
     if (status != GRAIN_ACCEPTED) {
-        if (status == GRAIN_NO_FILE && grain_read_error_text(&error, text, sizeof text) != 0)
+        if (status == GRAIN_MALFORMED && grain_read_error_text(&error, text, sizeof text) != 0)
             printf("no file: %s\n", text);
         return false;
     }
     const grain_contents *contents = grain_file_contents(file);
     const grain_value *constant = &contents->values[contents->constants[0]];
-    status = grain_file_verify(NULL, file, GRAIN_CAP_NONE, contents->program.code_len, &depth, 1, NULL);
+    status = grain_file_verify(NULL, file, GRAIN_CAP_NONE, contents->program.code_len, &depth, 1, NULL, NULL);
     if (status == GRAIN_ACCEPTED && constant->tag == GRAIN_VALUE_INTEGER)
         printf("file of constant %lld, depth %u\n", (long long)constant->number, depth);
     grain_file_free(file);
@@ -140,16 +140,14 @@ static bool read_file(size_t length) {
 
 /* Writes the file again, first with chunks that declare their depths, then without positions, and these as a file of their own. */
 static bool write_file(void) {
-    uint8_t file[sizeof file_bytes], sidecar[2 * sizeof file_bytes];
-    size_t size, sidecar_size;
-    if (grain_file_tighten(file_bytes, sizeof file_bytes, NULL, GRAIN_NO_LIMIT, file, sizeof file, &size, NULL, NULL) !=
-        GRAIN_ACCEPTED)
+    uint8_t bytes[sizeof file_bytes], sidecar_bytes[2 * sizeof file_bytes];
+    grain_room room = {bytes, sizeof bytes, 0}, sidecar = {sidecar_bytes, sizeof sidecar_bytes, 0};
+    if (grain_file_tighten(file_bytes, sizeof file_bytes, NULL, GRAIN_NO_LIMIT, &room, NULL, NULL) != GRAIN_ACCEPTED)
         return false;
-    printf("tightened file of %zu bytes\n", size);
-    if (grain_file_strip(file_bytes, sizeof file_bytes, NULL, file, sizeof file, &size, sidecar, sizeof sidecar, &sidecar_size,
-                         NULL) != GRAIN_ACCEPTED)
+    printf("tightened file of %zu bytes\n", room.size);
+    if (grain_file_strip(file_bytes, sizeof file_bytes, NULL, &room, &sidecar, NULL) != GRAIN_ACCEPTED)
         return false;
-    printf("stripped file of %zu bytes, sidecar of %zu\n", size, sidecar_size);
+    printf("stripped file of %zu bytes, sidecar of %zu\n", room.size, sidecar.size);
     return true;
 }
 

@@ -70,21 +70,64 @@ static grain_program without_pools(const uint8_t *code, size_t code_len, const g
     return (grain_program){code, code_len, chunks, chunks_len, GRAIN_POOLS_NONE};
 }
 
+/* The slots that each chunk names: of instructions and of roots of chains, reached or not, and of no other chunk. */
+static void slots_are_counted(void) {
+    static const uint8_t code[] = {
+        0x02, 0x06, 0x02, 0x01, 0x02, 0x13,       /* Unit, StoreLocal(258), Unit, Return */
+        0x02, 0x13, 0x05, 0xff, 0xff, 0x13,       /* Unit, Return, LoadLocal(65535), Return */
+        0x16, 0x00, 0x00, 0x05, 0x01, 0x00, 0x13, /* Chain(0), LoadLocal(1), Return */
+        0x12, 0x02, 0x13,                         /* Tick, Unit, Return */
+    };
+    static const grain_chunk chunks[] = {{0, 6, 1}, {6, 12, 1}, {12, 19, 2}, {19, 22, 1}, {0, 6, 1}};
+    static const grain_chain roots[] = {{.root = GRAIN_ROOT_LOCAL, .tail = GRAIN_TAIL_READ, .slot = 7}};
+    grain_program program = without_pools(code, sizeof code, chunks, LENGTH(chunks));
+    grain_scratch scratch = GRAIN_SCRATCH_NONE;
+    uint16_t depths[LENGTH(chunks) + 1];
+    uint32_t slots[LENGTH(chunks) + 1] = {77, 77, 77, 77, 77, 77};
+    program.pools.names = names;
+    program.pools.names_len = LENGTH(names);
+    program.pools.starts = starts;
+    program.pools.starts_len = LENGTH(starts);
+    program.pools.chains = roots;
+    program.pools.chains_len = 1;
+    CHECK(grain_verify(NULL, GRAIN_CAP_ALL, 1, &program, depths, LENGTH(depths), slots, NULL) == GRAIN_TOO_MUCH_WORK);
+    CHECK(grain_verify(NULL, GRAIN_CAP_ALL, 99, &program, depths, 0, slots, NULL) == GRAIN_SHORT);
+    program.code_len--;
+    CHECK(grain_verify(NULL, GRAIN_CAP_ALL, 99, &program, depths, LENGTH(depths), slots, NULL) == GRAIN_REFUSED);
+    CHECK(slots[0] == 77 && slots[4] == 77);
+    program.code_len++;
+    for (int i = 0; i < 2; i++) {
+        grain_scratch *used = i == 0 ? NULL : &scratch;
+        CHECK(grain_verify(used, GRAIN_CAP_ALL, 99, &program, depths, LENGTH(depths), slots, NULL) == GRAIN_ACCEPTED);
+        CHECK(slots[0] == 259 && slots[1] == 65536 && slots[2] == 8 && slots[3] == 0 && slots[4] == 259 && slots[5] == 77);
+        slots[0] = slots[4] = 77;
+    }
+    grain_scratch_free(&scratch);
+}
+
+static void statuses_have_texts(void) {
+    CHECK(is_text(grain_status_text(GRAIN_ACCEPTED), "accepted"));
+    CHECK(is_text(grain_status_text(GRAIN_MALFORMED), "no program file within the limits"));
+    for (int status = GRAIN_ACCEPTED; status <= GRAIN_NOT_RESTORABLE; status++)
+        CHECK(!is_text(grain_status_text((grain_status)status), "no status of this interface"));
+    CHECK(is_text(grain_status_text((grain_status)(GRAIN_NOT_RESTORABLE + 1)), "no status of this interface"));
+}
+
 static void verifies(const grain_program *program, uint16_t depth, uint64_t visited) {
     grain_program odd = *program;
     odd.pools.ranges_len = 2;
     uint16_t depths[] = {77, 78};
     grain_report report = unwritten_report;
     size_t span = program->code_len;
-    CHECK(grain_verify(NULL, GRAIN_CAP_ALL, GRAIN_NO_LIMIT, program, depths, 0, &report) == GRAIN_SHORT);
-    CHECK(grain_verify(NULL, GRAIN_CAP_ALL, GRAIN_NO_LIMIT, &odd, depths, 2, &report) == GRAIN_NOT_FLAT);
-    CHECK(grain_verify(NULL, GRAIN_CAP_ALL, span - 1, program, depths, 2, &report) == GRAIN_TOO_MUCH_WORK);
-    CHECK(grain_verify(NULL, GRAIN_CAP_ALL, 0, program, depths, 0, &report) == GRAIN_SHORT);
-    CHECK(grain_verify(NULL, GRAIN_CAP_ALL, 0, &odd, depths, 0, &report) == GRAIN_NOT_FLAT);
+    CHECK(grain_verify(NULL, GRAIN_CAP_ALL, GRAIN_NO_LIMIT, program, depths, 0, NULL, &report) == GRAIN_SHORT);
+    CHECK(grain_verify(NULL, GRAIN_CAP_ALL, GRAIN_NO_LIMIT, &odd, depths, 2, NULL, &report) == GRAIN_NOT_FLAT);
+    CHECK(grain_verify(NULL, GRAIN_CAP_ALL, span - 1, program, depths, 2, NULL, &report) == GRAIN_TOO_MUCH_WORK);
+    CHECK(grain_verify(NULL, GRAIN_CAP_ALL, 0, program, depths, 0, NULL, &report) == GRAIN_SHORT);
+    CHECK(grain_verify(NULL, GRAIN_CAP_ALL, 0, &odd, depths, 0, NULL, &report) == GRAIN_NOT_FLAT);
     CHECK(depths[0] == 77 && report.visited == 77 && is_unwritten(&report.refusal));
-    CHECK(grain_verify(NULL, GRAIN_CAP_ALL, span, program, depths, 2, &report) == GRAIN_ACCEPTED);
+    CHECK(grain_verify(NULL, GRAIN_CAP_ALL, span, program, depths, 2, NULL, &report) == GRAIN_ACCEPTED);
     CHECK(depths[0] == depth && depths[1] == 78 && report.visited == visited && is_unwritten(&report.refusal));
-    CHECK(grain_verify(NULL, GRAIN_CAP_ALL, span, program, depths, 2, NULL) == GRAIN_ACCEPTED);
+    CHECK(grain_verify(NULL, GRAIN_CAP_ALL, span, program, depths, 2, NULL, NULL) == GRAIN_ACCEPTED);
 }
 
 /* The limit is compared with the sum over the chunks, cut to the code, before anything of the program is tested. */
@@ -93,9 +136,9 @@ static void work_is_limited(void) {
     grain_program program = without_pools(lacking_code, sizeof lacking_code, chunks, LENGTH(chunks));
     uint16_t depths[LENGTH(chunks)] = {77};
     grain_report report = unwritten_report;
-    CHECK(grain_verify(NULL, GRAIN_CAP_ALL, 4, &program, depths, LENGTH(depths), &report) == GRAIN_TOO_MUCH_WORK);
+    CHECK(grain_verify(NULL, GRAIN_CAP_ALL, 4, &program, depths, LENGTH(depths), NULL, &report) == GRAIN_TOO_MUCH_WORK);
     CHECK(report.visited == 77 && depths[0] == 77);
-    CHECK(grain_verify(NULL, GRAIN_CAP_ALL, 5, &program, depths, LENGTH(depths), &report) == GRAIN_REFUSED);
+    CHECK(grain_verify(NULL, GRAIN_CAP_ALL, 5, &program, depths, LENGTH(depths), NULL, &report) == GRAIN_REFUSED);
     CHECK(report.visited <= 5 && report.refusal.flaw == GRAIN_FLAW_UNDERFLOW);
     grain_chunk tightened[LENGTH(chunks)] = {{77, 77, 77}};
     CHECK(grain_tighten(NULL, GRAIN_CAP_ALL, 4, &program, tightened, LENGTH(tightened), &report) == GRAIN_TOO_MUCH_WORK);
@@ -120,7 +163,7 @@ static void programs_share_a_scratch(void) {
         uint16_t depths[] = {77, 78};
         grain_report report = unwritten_report;
         size_t k = i % LENGTH(rows);
-        CHECK(grain_verify(&scratch, GRAIN_CAP_ALL, 8, &rows[k].program, depths, 2, &report) == rows[k].status);
+        CHECK(grain_verify(&scratch, GRAIN_CAP_ALL, 8, &rows[k].program, depths, 2, NULL, &report) == rows[k].status);
         CHECK(depths[0] == rows[k].depth && depths[1] == 78 && report.visited == rows[k].visited);
         CHECK(rows[k].status == GRAIN_ACCEPTED ? is_unwritten(&report.refusal)
                                                : is_refusal(&report.refusal, GRAIN_FLAW_UNDERFLOW, 0, 0, 1, 0));
@@ -135,9 +178,9 @@ static void programs_share_a_scratch(void) {
 static grain_refusal refused(uint16_t caps, const grain_program *program, uint64_t visited) {
     uint16_t depths[] = {77, 78, 79};
     grain_report report = unwritten_report;
-    CHECK(grain_verify(NULL, caps, GRAIN_NO_LIMIT, program, depths, LENGTH(depths), &report) == GRAIN_REFUSED);
+    CHECK(grain_verify(NULL, caps, GRAIN_NO_LIMIT, program, depths, LENGTH(depths), NULL, &report) == GRAIN_REFUSED);
     CHECK(depths[0] == 77 && depths[1] == 78 && depths[2] == 79 && report.visited == visited);
-    CHECK(grain_verify(NULL, caps, GRAIN_NO_LIMIT, program, depths, LENGTH(depths), NULL) == GRAIN_REFUSED);
+    CHECK(grain_verify(NULL, caps, GRAIN_NO_LIMIT, program, depths, LENGTH(depths), NULL, NULL) == GRAIN_REFUSED);
     return report.refusal;
 }
 
@@ -187,7 +230,7 @@ static void tightens(grain_scratch *scratch, uint16_t declared) {
         CHECK(tightened[0].entry == 0 && tightened[0].end == 8 && tightened[0].max_stack == 2);
         uint16_t depth = 77;
         program.chunks = tightened;
-        CHECK(grain_verify(scratch, GRAIN_CAP_ALL, 8, &program, &depth, 1, NULL) == GRAIN_ACCEPTED && depth == 2);
+        CHECK(grain_verify(scratch, GRAIN_CAP_ALL, 8, &program, &depth, 1, NULL, NULL) == GRAIN_ACCEPTED && depth == 2);
     } else {
         CHECK(status == GRAIN_REFUSED && tightened[0].entry == 77);
         CHECK(report.refusal.flaw == GRAIN_FLAW_STACK_EXCEEDS_DECLARED && report.refusal.first == 2);
@@ -370,6 +413,8 @@ static void texts_are_written(void) {
     CHECK(grain_refusal_text(&refusal, small, 4) == 32 && is_text(small, "bad") && small[4] == 'M');
     CHECK(grain_refusal_text(&refusal, small, 0) == 32 && grain_refusal_text(&refusal, NULL, 0) == 32 && small[0] == 'b');
     CHECK(grain_refusal_text(&unwritten, text, sizeof text) == 0 && text[0] == 'b');
+    refusal = (grain_refusal){GRAIN_FLAW_DECLARED_CAPS, GRAIN_WHOLE_PROGRAM, 0, GRAIN_CAP_IMPORT | GRAIN_CAP_BLOB, 0};
+    CHECK(grain_refusal_text(&refusal, text, sizeof text) == 26 && is_text(text, "declared-caps missing=2004"));
     CHECK(grain_instruction_text(code, sizeof code, 1, text, sizeof text) == 20 && is_text(text, "CALL_NAMED_REF 1 2 3"));
     CHECK(grain_instruction_text(code, sizeof code, 0, text, 5) == 4 && is_text(text, "UNIT"));
     CHECK(grain_instruction_text(code, sizeof code, 7, small, 1) == 16 && small[0] == 0 && small[1] == 'a');
@@ -380,12 +425,12 @@ static const uint8_t table[] = {0x04, 0x00, 0x01, 0x05, 0x03, 0x01, 0x0b, 0x25, 
 
 static void tables_are_read(void) {
     grain_place place = {77, 78};
-    uint64_t named = 77;
-    CHECK(!grain_site(table, sizeof table, 1, &place) && place.line == 77 && place.column == 78);
-    CHECK(grain_site(table, sizeof table, 41, &place) && place.line == 9 && place.column == 0);
-    CHECK(grain_check_table(table, sizeof table, &named) == GRAIN_TABLE_SOUND && named == 77);
+    uint64_t detail = 77;
+    CHECK(!grain_table_place(table, sizeof table, 1, &place) && place.line == 77 && place.column == 78);
+    CHECK(grain_table_place(table, sizeof table, 41, &place) && place.line == 9 && place.column == 0);
+    CHECK(grain_check_table(table, sizeof table, &detail) == GRAIN_TABLE_SOUND && detail == 77);
     static const uint8_t twice[] = {0x02, 0x05, 0x01, 0x01, 0x00, 0x01, 0x01};
-    CHECK(grain_check_table(twice, sizeof twice, &named) == GRAIN_TABLE_OUT_OF_ORDER && named == 5);
+    CHECK(grain_check_table(twice, sizeof twice, &detail) == GRAIN_TABLE_OUT_OF_ORDER && detail == 5);
     grain_entry entries[5] = {{77, 77, 77}, {77, 77, 77}, {77, 77, 77}, {77, 77, 77}, {77, 77, 77}};
     CHECK(grain_table_entries(table, sizeof table, entries, 1) == 4 && entries[0].column == 5 && entries[1].column == 77);
     CHECK(grain_table_entries(table, sizeof table, entries, 5) == 4);
@@ -398,18 +443,18 @@ static void streams_are_read(void) {
     static const uint8_t stream[] = {0x04, 0x01, 0x01, 0x00, 0x03, 0x01, 0x02, 0x01, 0x06};
     static const uint8_t longer[] = {0x01, 0x01, 0x01, 0xff};
     grain_place place = {77, 78};
-    uint64_t named = 77;
-    CHECK(!grain_stream_site(stream, sizeof stream, 4, &place) && place.line == 77 && place.column == 78);
-    CHECK(!grain_stream_site(stream, sizeof stream, 1, &place) && place.line == 77);
-    CHECK(grain_stream_site(stream, sizeof stream, 3, &place) && place.line == 1 && place.column == 6);
-    CHECK(grain_check_stream(stream, sizeof stream, &named) == GRAIN_TABLE_SOUND && named == 77);
-    CHECK(grain_check_stream(longer, sizeof longer, &named) == GRAIN_TABLE_TRAILING_BYTES && named == 1);
-    CHECK(grain_check_stream(stream, 8, &named) == GRAIN_TABLE_TRUNCATED && named == 0);
+    uint64_t detail = 77;
+    CHECK(!grain_stream_place(stream, sizeof stream, 4, &place) && place.line == 77 && place.column == 78);
+    CHECK(!grain_stream_place(stream, sizeof stream, 1, &place) && place.line == 77);
+    CHECK(grain_stream_place(stream, sizeof stream, 3, &place) && place.line == 1 && place.column == 6);
+    CHECK(grain_check_stream(stream, sizeof stream, &detail) == GRAIN_TABLE_SOUND && detail == 77);
+    CHECK(grain_check_stream(longer, sizeof longer, &detail) == GRAIN_TABLE_TRAILING_BYTES && detail == 1);
+    CHECK(grain_check_stream(stream, 8, &detail) == GRAIN_TABLE_TRUNCATED && detail == 0);
     grain_place sites[5] = {{77, 77}, {77, 77}, {77, 77}, {77, 77}, {77, 77}};
     size_t count = 77;
-    CHECK(!grain_stream_sites(stream, 8, sites, 5, &count) && count == 77 && sites[0].line == 77);
-    CHECK(grain_stream_sites(stream, sizeof stream, sites, 1, &count) && count == 4 && sites[0].line == 1);
-    CHECK(sites[1].line == 77 && grain_stream_sites(stream, sizeof stream, sites, 5, &count) && count == 4);
+    CHECK(!grain_stream_places(stream, 8, sites, 5, &count) && count == 77 && sites[0].line == 77);
+    CHECK(grain_stream_places(stream, sizeof stream, sites, 1, &count) && count == 4 && sites[0].line == 1);
+    CHECK(sites[1].line == 77 && grain_stream_places(stream, sizeof stream, sites, 5, &count) && count == 4);
     CHECK(sites[1].line == 0 && sites[3].line == 1 && sites[3].column == 6 && sites[4].line == 77);
 }
 
@@ -423,11 +468,11 @@ static void programs_of_null_are_taken(void) {
     grain_scratch scratch = GRAIN_SCRATCH_NONE;
     uint16_t depth = 77;
     grain_chunk chunk = {77, 77, 77};
-    CHECK(grain_verify(NULL, GRAIN_CAP_NONE, 0, &nothing, NULL, 0, NULL) == GRAIN_ACCEPTED);
-    CHECK(grain_verify(&scratch, GRAIN_CAP_NONE, 0, &nothing, NULL, 0, &report) == GRAIN_ACCEPTED && report.visited == 0);
-    CHECK(grain_verify(NULL, GRAIN_CAP_NONE, 0, &no_chunks, NULL, 0, NULL) == GRAIN_ACCEPTED);
-    CHECK(grain_verify(NULL, GRAIN_CAP_NONE, 1, &unit, NULL, 0, NULL) == GRAIN_SHORT);
-    CHECK(grain_verify(NULL, GRAIN_CAP_NONE, 1, &unit, &depth, 1, NULL) == GRAIN_ACCEPTED && depth == 0);
+    CHECK(grain_verify(NULL, GRAIN_CAP_NONE, 0, &nothing, NULL, 0, NULL, NULL) == GRAIN_ACCEPTED);
+    CHECK(grain_verify(&scratch, GRAIN_CAP_NONE, 0, &nothing, NULL, 0, NULL, &report) == GRAIN_ACCEPTED && report.visited == 0);
+    CHECK(grain_verify(NULL, GRAIN_CAP_NONE, 0, &no_chunks, NULL, 0, NULL, NULL) == GRAIN_ACCEPTED);
+    CHECK(grain_verify(NULL, GRAIN_CAP_NONE, 1, &unit, NULL, 0, NULL, NULL) == GRAIN_SHORT);
+    CHECK(grain_verify(NULL, GRAIN_CAP_NONE, 1, &unit, &depth, 1, NULL, NULL) == GRAIN_ACCEPTED && depth == 0);
     CHECK(grain_tighten(NULL, GRAIN_CAP_NONE, 0, &nothing, NULL, 0, NULL) == GRAIN_ACCEPTED);
     CHECK(grain_tighten(&scratch, GRAIN_CAP_NONE, 0, &nothing, NULL, 0, NULL) == GRAIN_ACCEPTED);
     CHECK(grain_tighten(NULL, GRAIN_CAP_NONE, 1, &unit, NULL, 0, NULL) == GRAIN_SHORT);
@@ -459,25 +504,25 @@ static void lists_of_null_are_taken(void) {
         program.pools = pools[i];
         grain_status wanted = i == 0 ? GRAIN_ACCEPTED : i <= 2 ? GRAIN_REFUSED : GRAIN_NOT_FLAT;
         CHECK(grain_check_pools(&pools[i], NULL) == (i <= 2));
-        CHECK(grain_verify(NULL, GRAIN_CAP_ALL, 5, &program, &depth, 1, NULL) == wanted);
+        CHECK(grain_verify(NULL, GRAIN_CAP_ALL, 5, &program, &depth, 1, NULL, NULL) == wanted);
     }
 }
 
 static void bytes_of_null_are_taken(void) {
     size_t count = 77, damage = 78;
-    uint64_t named = 77;
+    uint64_t detail = 77;
     char text[1] = {'M'};
     grain_instruction_row instruction;
     grain_place place = {77, 78};
     CHECK(grain_count_instructions(NULL, 0, &count, &damage) && count == 0 && damage == 78);
     CHECK(!grain_instruction(NULL, 0, 0, &instruction) && grain_instruction_text(NULL, 0, 0, NULL, 0) == 0);
     CHECK(grain_instruction_text(NULL, 0, 0, text, 1) == 0 && text[0] == 'M');
-    CHECK(!grain_site(NULL, 0, 0, &place) && !grain_stream_site(NULL, 0, 0, &place) && place.line == 77);
-    CHECK(grain_check_table(NULL, 0, &named) == GRAIN_TABLE_TRUNCATED && named == 0);
-    CHECK(grain_check_stream(NULL, 0, &named) == GRAIN_TABLE_TRUNCATED && named == 0);
+    CHECK(!grain_table_place(NULL, 0, 0, &place) && !grain_stream_place(NULL, 0, 0, &place) && place.line == 77);
+    CHECK(grain_check_table(NULL, 0, &detail) == GRAIN_TABLE_TRUNCATED && detail == 0);
+    CHECK(grain_check_stream(NULL, 0, &detail) == GRAIN_TABLE_TRUNCATED && detail == 0);
     CHECK(grain_table_entries(NULL, 0, NULL, 0) == 0 && grain_table_entries(table, sizeof table, NULL, 0) == 4);
-    CHECK(!grain_stream_sites(NULL, 0, NULL, 0, &count) && count == 0);
-    CHECK(grain_stream_sites((const uint8_t[]){1, 2, 3}, 3, NULL, 0, &count) && count == 1);
+    CHECK(!grain_stream_places(NULL, 0, NULL, 0, &count) && count == 0);
+    CHECK(grain_stream_places((const uint8_t[]){1, 2, 3}, 3, NULL, 0, &count) && count == 1);
     grain_scratch_free(NULL);
 }
 
@@ -509,7 +554,9 @@ int main(void) {
     programs_of_null_are_taken();
     lists_of_null_are_taken();
     bytes_of_null_are_taken();
-    CHECK(grain_interface() == GRAIN_INTERFACE && grain_interface_2 == GRAIN_INTERFACE && is_text(grain_version(), "0.2.0"));
+    slots_are_counted();
+    statuses_have_texts();
+    CHECK(grain_interface() == GRAIN_INTERFACE && grain_interface_3 == GRAIN_INTERFACE && is_text(grain_version(), "0.2.0"));
     printf("exports: %d wrong\n", wrong);
     return wrong != 0;
 }

@@ -129,7 +129,7 @@ static long verify_in(grain_scratch *scratch, const grain_chunk *chunks, size_t 
     uint16_t depths[4] = {777, 777, 777, 777};
     grain_report report = unwritten;
     grain_status status =
-        grain_verify(scratch, GRAIN_CAP_ALL, GRAIN_NO_LIMIT, &program, depths, LENGTH(depths), &report);
+        grain_verify(scratch, GRAIN_CAP_ALL, GRAIN_NO_LIMIT, &program, depths, LENGTH(depths), NULL, &report);
     for (size_t i = status == GRAIN_ACCEPTED ? many : 0; i < LENGTH(depths); i++)
         if (depths[i] != 777)
             return -1;
@@ -157,7 +157,7 @@ static bool has_room(const grain_chunk *good, const grain_chunk *bad, size_t man
         left = round < 2 ? -1 : 0;
         const grain_program program = program_of(round % 2 == 0 ? bad : good, many);
         grain_status status =
-            grain_verify(&scratch, GRAIN_CAP_ALL, GRAIN_NO_LIMIT, &program, depths, LENGTH(depths), NULL);
+            grain_verify(&scratch, GRAIN_CAP_ALL, GRAIN_NO_LIMIT, &program, depths, LENGTH(depths), NULL, NULL);
         well = status == (round % 2 == 0 ? GRAIN_REFUSED : GRAIN_ACCEPTED) && well;
     }
     left = -1;
@@ -276,7 +276,7 @@ static bool needs_none(void) {
     bool well = grain_refusal_text(&refusal, text, sizeof text) > 0;
     well = grain_instruction_text(code, sizeof code, 1, text, sizeof text) > 0 && well;
     well = grain_table_entries(table, sizeof table, &entry, 1) == 1 && well;
-    well = grain_stream_sites(stream, sizeof stream, &place, 1, &count) && well;
+    well = grain_stream_places(stream, sizeof stream, &place, 1, &count) && well;
     well = grain_check_pools(&program.pools, NULL) && well;
     left = -1;
     printf("texts, lists and pools: no memory%s\n", well ? "" : ": WRONG");

@@ -159,13 +159,13 @@ static void measure(const char *what) {
             exit(1);
         double read = now();
         kept = held - before, peak = most - before;
-        if (grain_file_verify(&scratch, file, GRAIN_CAP_ALL, GRAIN_NO_LIMIT, depths, 1, NULL) != GRAIN_ACCEPTED)
+        if (grain_file_verify(&scratch, file, GRAIN_CAP_ALL, GRAIN_NO_LIMIT, depths, 1, NULL, NULL) != GRAIN_ACCEPTED)
             exit(2);
         double verified = now();
         grain_scratch_free(&scratch);
         double again = now();
         grain_status status = grain_verify(&scratch, GRAIN_CAP_ALL, GRAIN_NO_LIMIT, &grain_file_contents(file)->program,
-                                           depths, 1, NULL);
+                                           depths, 1, NULL, NULL);
         verifies = least(verifies, now() - again);
         grain_scratch_free(&scratch);
         if (status != GRAIN_ACCEPTED)

@@ -70,9 +70,9 @@ static grain_status reads(const uint8_t *bytes, size_t len, grain_file **file) {
     char text[GRAIN_TEXT_SIZE];
     grain_status status = grain_file_read(file, bytes, len, NULL, &error);
     CHECK((status == GRAIN_ACCEPTED) == (*file != NULL));
-    CHECK((status == GRAIN_NO_FILE) == (error.cause != 77));
-    CHECK((status == GRAIN_NO_FILE) == (grain_read_error_text(&error, text, sizeof text) != 0));
-    CHECK(status != GRAIN_NO_FILE || error.at <= len);
+    CHECK((status == GRAIN_MALFORMED) == (error.cause != 77));
+    CHECK((status == GRAIN_MALFORMED) == (grain_read_error_text(&error, text, sizeof text) != 0));
+    CHECK(status != GRAIN_MALFORMED || error.at <= len);
     return status;
 }
 
@@ -81,7 +81,7 @@ static void all_is_read(void) {
     if (reads(sample, sizeof sample, &file) != GRAIN_ACCEPTED) {
         grain_read_error error;
         char text[GRAIN_TEXT_SIZE] = "";
-        CHECK(grain_file_read(&file, sample, sizeof sample, NULL, &error) == GRAIN_NO_FILE);
+        CHECK(grain_file_read(&file, sample, sizeof sample, NULL, &error) == GRAIN_MALFORMED);
         grain_read_error_text(&error, text, sizeof text);
         printf("the sample: %s\n", text);
         wrong++;
@@ -89,7 +89,11 @@ static void all_is_read(void) {
     }
     const grain_contents *all = grain_file_contents(file);
     const grain_pools *pools = &all->program.pools;
-    CHECK(all->caps == GRAIN_CAP_ALL && all->id_low == 7 && all->id_high == 9);
+    CHECK(all->size == sizeof *all && all->caps == GRAIN_CAP_ALL && all->id_low == 7 && all->id_high == 9);
+    CHECK(all->chain_steps_len == 3 && all->chain_steps[0] == 0 && all->chain_steps[1] == 1 && all->chain_steps[2] == 2);
+    CHECK(all->switch_cases_len == 1 && all->switch_cases[0] == 0);
+    CHECK(all->switch_ranges_len == 1 && all->switch_ranges[0] == 0);
+    CHECK(all->function_parameters_len == 2 && all->function_parameters[0] == 0 && all->function_parameters[1] == 2);
     CHECK(all->program.code_len == 4 && all->program.code[3] == 0x13);
     CHECK(all->program.chunks_len == 3 && all->program.chunks[1].max_stack == 2 && all->program.chunks[2].max_stack == 1);
     CHECK(all->functions_len == 2 && all->functions[0].parameters == 2 && !all->functions[0].is_private);
@@ -103,15 +107,15 @@ static void all_is_read(void) {
     CHECK(pools->constants_len == 13 && pools->constants[12].is_known == 0 && pools->constants[8].caps == GRAIN_CAP_ARRAY);
     CHECK(pools->operators == 2 && all->operators_len == 4 && all->operators[1].tag == GRAIN_VALUE_TEXT);
     CHECK(all->operator_texts_len == 2 && all->operators[2].number == 28 && all->op_assignments[0].op_name == 1);
-    CHECK(pools->chains_len == 3 && all->slots[0] == 3 && all->slots[2] == 0 && all->step_flags[0] == 1);
+    CHECK(pools->chains_len == 3 && pools->chains[0].slot == 3 && pools->chains[2].slot == 0 && all->step_flags[0] == 1);
     CHECK(pools->steps[2].argc == 2 && pools->chains[1].tail == GRAIN_TAIL_ASSIGN_THROUGH);
     CHECK(pools->switches_len == 1 && pools->cases_len == 2 && all->ranges_len == 1 && all->ranges[0].is_inclusive);
     CHECK(all->ranges[0].from == 1 && all->ranges[0].to == 4 && all->ranges[0].target == 3 && pools->ranges[0] == 3);
     CHECK(all->has_source && all->source_len == 1 && all->source[0] == 's' && all->has_positions && all->positions == 4);
     grain_place place = {77, 77};
-    CHECK(grain_site(all->table, all->table_len, 0, &place) && place.line == 1 && place.column == 5);
-    CHECK(!grain_site(all->table, all->table_len, 1, &place));
-    CHECK(grain_stream_site(all->stream, all->stream_len, 3, &place) && place.line == 2 && place.column == 3);
+    CHECK(grain_table_place(all->table, all->table_len, 0, &place) && place.line == 1 && place.column == 5);
+    CHECK(!grain_table_place(all->table, all->table_len, 1, &place));
+    CHECK(grain_stream_place(all->stream, all->stream_len, 3, &place) && place.line == 2 && place.column == 3);
     CHECK(writes_again(all, sample, sizeof sample));
     grain_file_free(file);
 }
@@ -120,21 +124,25 @@ static void files_are_verified(void) {
     grain_file *file;
     grain_scratch scratch = GRAIN_SCRATCH_NONE;
     uint16_t depths[] = {77, 77, 77, 78};
+    uint32_t slots[] = {77, 77, 77, 78};
+    char text[GRAIN_TEXT_SIZE];
     grain_report report = {{77, 77, 77, 77, 77}, 77};
     if (reads(sample, sizeof sample, &file) != GRAIN_ACCEPTED)
         return;
-    CHECK(grain_file_verify(&scratch, file, GRAIN_CAP_FUNCTION, 12, depths, 3, &report) == GRAIN_REFUSED);
-    CHECK(report.refusal.flaw == GRAIN_FLAW_MISSING_CAPS && report.refusal.second == GRAIN_CAP_FUNCTION);
+    CHECK(grain_file_verify(&scratch, file, GRAIN_CAP_FUNCTION, 12, depths, 3, NULL, &report) == GRAIN_REFUSED);
+    CHECK(report.refusal.flaw == GRAIN_FLAW_DECLARED_CAPS && report.refusal.second == GRAIN_CAP_FUNCTION);
+    CHECK(grain_refusal_text(&report.refusal, text, sizeof text) != 0 && strcmp(text, "declared-caps missing=7ffe") == 0);
     CHECK(report.refusal.first == (GRAIN_CAP_ALL & ~GRAIN_CAP_FUNCTION) && report.refusal.chunk == GRAIN_WHOLE_PROGRAM);
     CHECK(report.visited == 0 && depths[0] == 77);
-    CHECK(grain_file_verify(&scratch, file, GRAIN_CAP_ALL, 11, depths, 3, &report) == GRAIN_TOO_MUCH_WORK);
-    CHECK(grain_file_verify(&scratch, file, GRAIN_CAP_ALL, 12, depths, 2, &report) == GRAIN_SHORT);
-    CHECK(grain_file_verify(&scratch, file, GRAIN_CAP_ALL, 12, depths, 3, &report) == GRAIN_ACCEPTED);
+    CHECK(grain_file_verify(&scratch, file, GRAIN_CAP_ALL, 11, depths, 3, NULL, &report) == GRAIN_TOO_MUCH_WORK);
+    CHECK(grain_file_verify(&scratch, file, GRAIN_CAP_ALL, 12, depths, 2, NULL, &report) == GRAIN_SHORT);
+    CHECK(grain_file_verify(&scratch, file, GRAIN_CAP_ALL, 12, depths, 3, NULL, &report) == GRAIN_ACCEPTED);
     CHECK(depths[0] == 1 && depths[1] == 1 && depths[2] == 1 && depths[3] == 78 && report.visited == 6);
-    CHECK(grain_file_verify(NULL, file, GRAIN_CAP_ALL, 12, depths, 3, NULL) == GRAIN_ACCEPTED);
+    CHECK(grain_file_verify(NULL, file, GRAIN_CAP_ALL, 12, depths, 3, slots, NULL) == GRAIN_ACCEPTED);
+    CHECK(slots[0] == 0 && slots[1] == 0 && slots[2] == 0 && slots[3] == 78);
     const grain_program *program = &grain_file_contents(file)->program;
     CHECK(grain_check_pools(&program->pools, NULL));
-    CHECK(grain_verify(&scratch, GRAIN_CAP_ALL, 12, program, depths, 3, NULL) == GRAIN_ACCEPTED);
+    CHECK(grain_verify(&scratch, GRAIN_CAP_ALL, 12, program, depths, 3, NULL, NULL) == GRAIN_ACCEPTED);
     grain_scratch_free(&scratch);
     grain_file_free(file);
     grain_file_free(NULL);
@@ -155,33 +163,33 @@ static bool is_clear(const uint8_t *room, size_t len) {
 }
 
 static void files_are_tightened(void) {
-    uint8_t room[sizeof sample + 1], wanted[sizeof sample], refused[sizeof sample];
-    size_t size = 77;
+    uint8_t bytes[sizeof sample + 1], wanted[sizeof sample], refused[sizeof sample];
+    grain_room room = {bytes, sizeof bytes, 77}, small = {bytes, sizeof sample - 1, 77}, none = {NULL, 0, 77};
     grain_read_error error = {77, 77, 77, 77, 77};
     grain_report report = {{77, 77, 77, 77, 77}, 77};
+    const grain_limits deep = {1000, 4096, GRAIN_DEPTH_MAX + 1};
     memcpy(wanted, sample, sizeof sample);
     memcpy(refused, sample, sizeof sample);
     wanted[DECLARED_AT] = 1;
     refused[DECLARED_AT] = 0;
-    clear(room, sizeof room);
-    CHECK(grain_file_tighten(sample, sizeof sample, NULL, 12, room, sizeof sample - 1, &size, &error, &report) == GRAIN_SHORT);
-    CHECK(size == sizeof sample && is_clear(room, sizeof room) && report.visited == 77 && error.cause == 77);
-    size = 77;
-    CHECK(grain_file_tighten(sample, sizeof sample, NULL, 11, room, sizeof room, &size, &error, &report) ==
-          GRAIN_TOO_MUCH_WORK);
-    CHECK(grain_file_tighten(sample, 20, NULL, 12, room, sizeof room, &size, NULL, &report) == GRAIN_NO_FILE);
-    CHECK(grain_file_tighten(sample, 20, NULL, 12, room, sizeof room, &size, &error, &report) == GRAIN_NO_FILE);
+    clear(bytes, sizeof bytes);
+    CHECK(grain_file_tighten(sample, sizeof sample, NULL, 12, &small, &error, &report) == GRAIN_SHORT);
+    CHECK(small.size == sizeof sample && is_clear(bytes, sizeof bytes) && report.visited == 77 && error.cause == 77);
+    CHECK(grain_file_tighten(sample, 20, &deep, 11, &room, &error, &report) == GRAIN_BAD_LIMIT && error.cause == 77);
+    CHECK(grain_file_tighten(sample, sizeof sample, NULL, 11, &room, &error, &report) == GRAIN_TOO_MUCH_WORK);
+    CHECK(grain_file_tighten(sample, 20, NULL, 12, &room, NULL, &report) == GRAIN_MALFORMED);
+    CHECK(grain_file_tighten(sample, 20, NULL, 12, &room, &error, &report) == GRAIN_MALFORMED);
     CHECK(error.cause == GRAIN_CAUSE_TRUNCATED && error.at == 20 && report.visited == 77);
-    CHECK(grain_file_tighten(refused, sizeof refused, NULL, 12, room, sizeof room, &size, NULL, NULL) == GRAIN_REFUSED);
-    CHECK(grain_file_tighten(refused, sizeof refused, NULL, 12, room, sizeof room, &size, NULL, &report) == GRAIN_REFUSED);
+    CHECK(grain_file_tighten(refused, sizeof refused, NULL, 12, &room, NULL, NULL) == GRAIN_REFUSED);
+    CHECK(grain_file_tighten(refused, sizeof refused, NULL, 12, &room, NULL, &report) == GRAIN_REFUSED);
     CHECK(report.refusal.flaw == GRAIN_FLAW_STACK_EXCEEDS_DECLARED && report.refusal.chunk == 1 && report.visited == 4);
-    CHECK(size == 77 && is_clear(room, sizeof room));
-    CHECK(grain_file_tighten(sample, sizeof sample, NULL, 12, room, sizeof room, &size, &error, &report) == GRAIN_ACCEPTED);
-    CHECK(size == sizeof sample && memcmp(room, wanted, size) == 0 && room[size] == 77 && report.visited == 6);
-    CHECK(report.refusal.chunk == 1);
-    CHECK(grain_file_tighten(wanted, sizeof wanted, NULL, 12, room, size, &size, NULL, NULL) == GRAIN_ACCEPTED);
-    CHECK(memcmp(room, wanted, size) == 0);
-    CHECK(grain_file_tighten(NULL, 0, NULL, 12, NULL, 0, &size, NULL, NULL) == GRAIN_NO_FILE);
+    CHECK(room.size == 77 && is_clear(bytes, sizeof bytes));
+    CHECK(grain_file_tighten(sample, sizeof sample, NULL, 12, &room, &error, &report) == GRAIN_ACCEPTED);
+    CHECK(room.size == sizeof sample && memcmp(bytes, wanted, room.size) == 0 && bytes[room.size] == 77);
+    CHECK(report.visited == 6 && report.refusal.chunk == 1);
+    CHECK(grain_file_tighten(wanted, sizeof wanted, NULL, 12, &room, NULL, NULL) == GRAIN_ACCEPTED);
+    CHECK(memcmp(bytes, wanted, room.size) == 0);
+    CHECK(grain_file_tighten(NULL, 0, NULL, 12, &none, NULL, NULL) == GRAIN_MALFORMED && none.size == 77);
 }
 
 /* The sidecar file of what a file has. */
@@ -206,7 +214,7 @@ static bool is_bare(const uint8_t *bytes, size_t len, const grain_contents *old)
     grain_place place;
     bool is = !bare->has_positions && bare->positions == 0 && writes_again(bare, bytes, len);
     for (uint32_t slot = 0; slot < 5; slot++)
-        is = is && !grain_stream_site(bare->stream, bare->stream_len, slot, &place);
+        is = is && !grain_stream_place(bare->stream, bare->stream_len, slot, &place);
     is = is && bare->id_low == old->id_low && bare->constants_len == old->constants_len && bare->source_len == old->source_len;
     is = is && bare->program.code_len == old->program.code_len && bare->functions_len == old->functions_len;
     is = is && bare->program.pools.steps_len == old->program.pools.steps_len && bare->stream_len == old->stream_len;
@@ -215,54 +223,86 @@ static bool is_bare(const uint8_t *bytes, size_t len, const grain_contents *old)
 }
 
 static void files_are_stripped(void) {
-    uint8_t room[sizeof sample + 1], sidecar[64];
-    size_t size = 77, sidecar_size = 77;
+    uint8_t bytes[sizeof sample + 1], sidecar_bytes[64];
+    grain_room room = {bytes, sizeof bytes, 77}, sidecar = {sidecar_bytes, sizeof sidecar_bytes, 77}, none = {NULL, 0, 77};
     grain_file *file;
     grain_read_error error = {77, 77, 77, 77, 77};
+    const grain_limits deep = {1000, 4096, GRAIN_DEPTH_MAX + 1};
     if (reads(sample, sizeof sample, &file) != GRAIN_ACCEPTED)
         return;
     rewritten wanted = sidecar_of(grain_file_contents(file));
-    clear(room, sizeof room), clear(sidecar, sizeof sidecar);
-    CHECK(!wanted.failed && wanted.len < sizeof sidecar);
-    CHECK(grain_file_strip(sample, sizeof sample, NULL, room, sizeof room, &size, sidecar, wanted.len - 1, &sidecar_size,
-                           &error) == GRAIN_SHORT);
-    CHECK(size < sizeof sample && sidecar_size == wanted.len);
-    size_t small = size;
-    size = sidecar_size = 77;
-    CHECK(grain_file_strip(sample, sizeof sample, NULL, room, small - 1, &size, sidecar, sizeof sidecar, &sidecar_size, NULL) ==
-          GRAIN_SHORT);
-    CHECK(size == small && sidecar_size == wanted.len && is_clear(room, sizeof room) && is_clear(sidecar, sizeof sidecar));
-    size = sidecar_size = 77;
-    CHECK(grain_file_strip(sample, 20, NULL, room, small, &size, sidecar, sizeof sidecar, &sidecar_size, &error) ==
-          GRAIN_NO_FILE);
-    CHECK(error.at == 20 && size == 77 && sidecar_size == 77);
-    CHECK(grain_file_strip(NULL, 0, NULL, NULL, 0, &size, NULL, 0, &sidecar_size, NULL) == GRAIN_NO_FILE);
-    CHECK(is_clear(room, sizeof room) && is_clear(sidecar, sizeof sidecar));
-    CHECK(grain_file_strip(sample, sizeof sample, NULL, room, sizeof room, &size, sidecar, sizeof sidecar, &sidecar_size,
-                           NULL) == GRAIN_ACCEPTED);
-    CHECK(size == small && is_bare(room, size, grain_file_contents(file)) && is_clear(room + size, sizeof room - size));
-    CHECK(sidecar_size == wanted.len && memcmp(sidecar, wanted.bytes, wanted.len) == 0 && sidecar[sidecar_size] == 77);
+    clear(bytes, sizeof bytes), clear(sidecar_bytes, sizeof sidecar_bytes);
+    CHECK(!wanted.failed && wanted.len < sizeof sidecar_bytes);
+    grain_room short_sidecar = {sidecar_bytes, wanted.len - 1, 77};
+    CHECK(grain_file_strip(sample, sizeof sample, NULL, &room, &short_sidecar, &error) == GRAIN_SHORT);
+    CHECK(room.size < sizeof sample && short_sidecar.size == wanted.len);
+    size_t least = room.size;
+    grain_room small = {bytes, least - 1, 77};
+    CHECK(grain_file_strip(sample, sizeof sample, NULL, &small, &sidecar, NULL) == GRAIN_SHORT);
+    CHECK(small.size == least && sidecar.size == wanted.len);
+    CHECK(is_clear(bytes, sizeof bytes) && is_clear(sidecar_bytes, sizeof sidecar_bytes));
+    room.size = sidecar.size = 77;
+    CHECK(grain_file_strip(sample, sizeof sample, &deep, &room, &sidecar, &error) == GRAIN_BAD_LIMIT && error.cause == 77);
+    CHECK(grain_file_strip(sample, 20, NULL, &room, &sidecar, &error) == GRAIN_MALFORMED);
+    CHECK(error.at == 20 && room.size == 77 && sidecar.size == 77);
+    CHECK(grain_file_strip(NULL, 0, NULL, &none, &none, NULL) == GRAIN_MALFORMED && none.size == 77);
+    CHECK(is_clear(bytes, sizeof bytes) && is_clear(sidecar_bytes, sizeof sidecar_bytes));
+    CHECK(grain_file_strip(sample, sizeof sample, NULL, &room, &sidecar, NULL) == GRAIN_ACCEPTED);
+    CHECK(room.size == least && is_bare(bytes, room.size, grain_file_contents(file)));
+    CHECK(is_clear(bytes + room.size, sizeof bytes - room.size));
+    CHECK(sidecar.size == wanted.len && memcmp(sidecar_bytes, wanted.bytes, wanted.len) == 0);
+    CHECK(sidecar_bytes[sidecar.size] == 77);
     free(wanted.bytes);
     grain_file_free(file);
+}
+
+/* Lists of places that no sidecar gives back: stripping refuses them. */
+static void places_that_no_sidecar_gives_back_stay(void) {
+    static const uint8_t files[][40] = {
+        /* LoadConst(0), Return: a place inside of the first instruction; too few places; too many; none at all */
+        {4, 0x00, 0x01, 0x01, 0x01, 0x00, 0x00},
+        {3, 0x01, 0x01, 0x01, 0x00, 0x00},
+        {5, 0x01, 0x01, 0x01, 0x00, 0x00, 0x00, 0x00},
+        {4, 0x00, 0x00, 0x00, 0x00},
+    };
+    static const size_t lengths[] = {7, 6, 8, 5};
+    static const uint8_t program[] = {0x00, 'g', 'r', 'n', 0x01, 0x00, 0x00, 0x07, 0x00, 0x04, 0x01, 0x00, 0x00, 0x13, 0x00, 0x04,
+                                      0x01, 0x00, 0x00, 0x01, 0x03, 0x2a, 0x00, 0x00, 0x00, 0x00, 0x00, 0x01};
+    for (size_t i = 0; i < LENGTH(files); i++) {
+        uint8_t given[64], bytes[64], sidecar_bytes[64];
+        grain_room room = {bytes, sizeof bytes, 77}, sidecar = {sidecar_bytes, sizeof sidecar_bytes, 77};
+        grain_file *file;
+        memcpy(given, program, sizeof program);
+        memcpy(given + sizeof program, files[i], lengths[i]);
+        clear(bytes, sizeof bytes), clear(sidecar_bytes, sizeof sidecar_bytes);
+        CHECK(reads(given, sizeof program + lengths[i], &file) == GRAIN_ACCEPTED);
+        CHECK(grain_file_strip(given, sizeof program + lengths[i], NULL, &room, &sidecar, NULL) == GRAIN_NOT_RESTORABLE);
+        CHECK(room.size == 77 && sidecar.size == 77);
+        CHECK(is_clear(bytes, sizeof bytes) && is_clear(sidecar_bytes, sizeof sidecar_bytes));
+        grain_file_free(file);
+    }
 }
 
 static void refusals_are_named(void) {
     grain_file *file = (grain_file *)&wrong;
     grain_read_error error = {77, 77, 77, 77, 77};
     const grain_limits small = {10, 4096, 64}, flat = {1000, 4096, 1}, no_cases = {1000, 1, 64};
+    const grain_limits deepest = {1000, 4096, GRAIN_DEPTH_MAX}, deep = {1000, 4096, GRAIN_DEPTH_MAX + 1};
     char text[GRAIN_TEXT_SIZE];
-    CHECK(grain_file_read(&file, sample, 20, NULL, &error) == GRAIN_NO_FILE && file == NULL);
+    CHECK(grain_file_read(&file, sample, 20, &deep, &error) == GRAIN_BAD_LIMIT && file == NULL && error.cause == 77);
+    CHECK(grain_file_read(&file, sample, 20, &deepest, &error) == GRAIN_MALFORMED && file == NULL);
+    CHECK(grain_file_read(&file, sample, 20, NULL, &error) == GRAIN_MALFORMED && file == NULL);
     CHECK(error.cause == GRAIN_CAUSE_TRUNCATED && error.part == GRAIN_PART_FUNCTION && error.at == 20 && error.index == 0);
     CHECK(grain_read_error_text(&error, text, sizeof text) != 0);
     CHECK(strcmp(text, "byte 20, in function 0: the file ends within a field") == 0);
     CHECK(grain_read_error_text(&error, text, 5) > 5 && strcmp(text, "byte") == 0);
-    CHECK(grain_file_read(&file, sample, sizeof sample, &small, &error) == GRAIN_NO_FILE);
+    CHECK(grain_file_read(&file, sample, sizeof sample, &small, &error) == GRAIN_MALFORMED);
     CHECK(error.cause == GRAIN_CAUSE_TOO_LARGE && error.at == sizeof sample && error.limit == 10);
-    CHECK(grain_file_read(&file, sample, sizeof sample, &flat, &error) == GRAIN_NO_FILE);
+    CHECK(grain_file_read(&file, sample, sizeof sample, &flat, &error) == GRAIN_MALFORMED);
     CHECK(error.cause == GRAIN_CAUSE_TOO_DEEP && error.part == GRAIN_PART_CONSTANT && error.index == 8);
-    CHECK(grain_file_read(&file, sample, sizeof sample, &no_cases, &error) == GRAIN_NO_FILE);
+    CHECK(grain_file_read(&file, sample, sizeof sample, &no_cases, &error) == GRAIN_MALFORMED);
     CHECK(error.cause == GRAIN_CAUSE_TOO_MANY_CASES && error.part == GRAIN_PART_SWITCH);
-    CHECK(grain_file_read(&file, NULL, 0, NULL, NULL) == GRAIN_NO_FILE && file == NULL);
+    CHECK(grain_file_read(&file, NULL, 0, NULL, NULL) == GRAIN_MALFORMED && file == NULL);
     error.part = 25;
     CHECK(grain_read_error_text(&error, text, sizeof text) == 0);
 }
@@ -291,7 +331,7 @@ static void near_misses_are_answered(void) {
     for (size_t len = 0; len < sizeof sample; len++) {
         grain_file *file;
         memcpy(pages + page - len, sample, len);
-        CHECK(reads(pages + page - len, len, &file) == GRAIN_NO_FILE);
+        CHECK(reads(pages + page - len, len, &file) == GRAIN_MALFORMED);
     }
     CHECK(files > 100 && files < sizeof sample * LENGTH(changes));
     munmap(pages, 2 * page);
@@ -306,7 +346,7 @@ static void memory_may_lack(void) {
         grain_status status = grain_file_read(&file, sample, sizeof sample, NULL, NULL);
         CHECK(status == GRAIN_OUT_OF_MEMORY || status == GRAIN_ACCEPTED);
         if (status == GRAIN_ACCEPTED)
-            status = grain_file_verify(NULL, file, GRAIN_CAP_ALL, 12, depths, 3, NULL);
+            status = grain_file_verify(NULL, file, GRAIN_CAP_ALL, 12, depths, 3, NULL, NULL);
         bool was_refused = left == 0;
         left = -1;
         grain_file_free(file);
@@ -323,27 +363,26 @@ static void memory_may_lack(void) {
 
 /* Each allocation is refused in turn, of tightening and of stripping. */
 static void memory_may_lack_for_changes(void) {
-    uint8_t room[sizeof sample], sidecar[64];
+    uint8_t bytes[sizeof sample], sidecar_bytes[64];
     for (long n = 0; n < 1000; n++) {
-        size_t size = 77, sidecar_size = 77;
+        grain_room room = {bytes, sizeof bytes, 77}, sidecar = {sidecar_bytes, sizeof sidecar_bytes, 77};
         grain_report report = {{77, 77, 77, 77, 77}, 77};
-        clear(room, sizeof room), clear(sidecar, sizeof sidecar);
+        clear(bytes, sizeof bytes), clear(sidecar_bytes, sizeof sidecar_bytes);
         left = n;
-        grain_status tightened = grain_file_tighten(sample, sizeof sample, NULL, 12, room, sizeof room, &size, NULL, &report);
+        grain_status tightened = grain_file_tighten(sample, sizeof sample, NULL, 12, &room, NULL, &report);
         bool was_refused = left == 0;
         left = -1;
         CHECK(live == 0 && (tightened == GRAIN_ACCEPTED || (tightened == GRAIN_OUT_OF_MEMORY && was_refused)));
-        CHECK(tightened == GRAIN_ACCEPTED || (size == 77 && report.visited == 77 && is_clear(room, sizeof room)));
-        size = 77;
-        clear(room, sizeof room);
+        CHECK(tightened == GRAIN_ACCEPTED || (room.size == 77 && report.visited == 77 && is_clear(bytes, sizeof bytes)));
+        room.size = 77;
+        clear(bytes, sizeof bytes);
         left = n;
-        grain_status stripped = grain_file_strip(sample, sizeof sample, NULL, room, sizeof room, &size, sidecar, sizeof sidecar,
-                                                 &sidecar_size, NULL);
+        grain_status stripped = grain_file_strip(sample, sizeof sample, NULL, &room, &sidecar, NULL);
         was_refused = left == 0;
         left = -1;
         CHECK(live == 0 && (stripped == GRAIN_ACCEPTED || (stripped == GRAIN_OUT_OF_MEMORY && was_refused)));
-        CHECK(stripped == GRAIN_ACCEPTED || (size == 77 && sidecar_size == 77 && is_clear(room, sizeof room)));
-        CHECK(stripped == GRAIN_ACCEPTED || is_clear(sidecar, sizeof sidecar));
+        CHECK(stripped == GRAIN_ACCEPTED || (room.size == 77 && sidecar.size == 77 && is_clear(bytes, sizeof bytes)));
+        CHECK(stripped == GRAIN_ACCEPTED || is_clear(sidecar_bytes, sizeof sidecar_bytes));
         if (tightened == GRAIN_ACCEPTED && stripped == GRAIN_ACCEPTED) {
             CHECK(n > 20);
             printf("tightened and stripped: %ld allocations refused in turn\n", n);
@@ -358,6 +397,7 @@ int main(void) {
     files_are_verified();
     files_are_tightened();
     files_are_stripped();
+    places_that_no_sidecar_gives_back_stay();
     refusals_are_named();
     near_misses_are_answered();
 #ifndef SHARED

@@ -99,7 +99,7 @@
 
 /* The bytes with which instructions begin. */
 #define GRAIN_TAG_ENUMERATOR(tag, name, width, fields, quiet) GRAIN_TAG_##name = tag,
-enum grain_tag { GRAIN_INSTRUCTIONS(GRAIN_TAG_ENUMERATOR) };
+typedef enum grain_tag { GRAIN_INSTRUCTIONS(GRAIN_TAG_ENUMERATOR) } grain_tag;
 #undef GRAIN_TAG_ENUMERATOR
 
 #endif

@@ -103,7 +103,8 @@ static void random_chains(grain_pools *pools) {
     size_t many = below(MOST), all = 0;
     for (size_t i = 0; i < many; i++) {
         uint32_t root = below(one_in(60) ? 6 : 4), tail = below(one_in(60) ? 5 : 3);
-        chains[i] = (grain_chain){root, root < 2 ? number() : 0, below(4), tail, tail == 2 ? number() : 0, (uint16_t)below(5)};
+        chains[i] = (grain_chain){root,     root < 2 ? number() : 0, below(4), tail, tail == 2 ? number() : 0,
+                                  (uint16_t)below(5), (uint16_t)(root == 0 ? number() : 0)};
         for (uint32_t left = chains[i].steps; left > 0; left--) {
             uint32_t kind = below(one_in(60) ? 5 : 3);
             steps[all++] = (grain_step){kind, kind != 0 ? number() : 0, kind == 1 ? number() : 0, kind == 1 ? number() : 0,
@@ -193,6 +194,28 @@ static bool is_same(const grain_report *one, const grain_report *other) {
            a->first == b->first && a->second == b->second;
 }
 
+/* One more than the greatest slot that an instruction of a chunk names, read by grain_instruction; 0 where none names one. */
+static uint32_t count_slots(const grain_program *program, const grain_chunk *chunk) {
+    grain_instruction_row found;
+    uint32_t slots = 0;
+    for (size_t at = chunk->entry; at < chunk->end; at += found.width) {
+        if (!grain_instruction(program->code, program->code_len, at, &found))
+            return UINT32_MAX;
+        /* These have a length or a depth in its place. */
+        bool has_none = found.tag == GRAIN_TAG_MAKE_ARRAY || found.tag == GRAIN_TAG_MAKE_MAP || found.tag == GRAIN_TAG_UNWIND_TO ||
+                        found.tag == GRAIN_TAG_CHECK_ARRAY_SIZE || found.tag == GRAIN_TAG_CHECK_MAP_SIZE ||
+                        found.tag == GRAIN_TAG_STATEMENT;
+        for (size_t i = 0; i < LENGTH(found.fields); i++) {
+            const grain_field *field = &found.fields[i];
+            uint32_t named = field->kind == GRAIN_KIND_SLOT && !has_none ? field->value + 1 : 0;
+            if (field->kind == GRAIN_KIND_CHAIN && program->pools.chains[field->value].root == GRAIN_ROOT_LOCAL)
+                named = program->pools.chains[field->value].slot + 1u;
+            slots = named > slots ? named : slots;
+        }
+    }
+    return slots;
+}
+
 /* Verifies, and holds all calls that verify against each other. */
 static grain_status verify(grain_scratch *scratch, uint16_t caps, const grain_program *program, grain_report *report) {
     size_t many = program->chunks_len;
@@ -200,9 +223,13 @@ static grain_status verify(grain_scratch *scratch, uint16_t caps, const grain_pr
     uint16_t depths[MOST];
     memset(depths, 0x5a, sizeof depths);
     *report = other;
-    grain_status status = grain_verify(NULL, caps, span_of(program), program, depths, many, report);
+    grain_status status = grain_verify(NULL, caps, span_of(program), program, depths, many, NULL, report);
     uint16_t *guarded_depths = room(pages.out, many * sizeof *depths);
-    CHECK(grain_verify(scratch, caps, GRAIN_NO_LIMIT, program, guarded_depths, many, &other) == status);
+    uint32_t *slots = room(pages.more, many * sizeof *slots);
+    CHECK(grain_verify(scratch, caps, GRAIN_NO_LIMIT, program, guarded_depths, many, slots, &other) == status);
+    CHECK(is_filled(pages.more.page, PAGE - (status == GRAIN_ACCEPTED ? many : 0) * sizeof *slots, 0xa5));
+    for (size_t i = 0; status == GRAIN_ACCEPTED && i < many; i++)
+        CHECK(slots[i] == count_slots(program, &program->chunks[i]));
     if (status == GRAIN_ACCEPTED)
         CHECK(memcmp(depths, pages.out.page + PAGE - many * sizeof *depths, many * sizeof *depths) == 0);
     CHECK(is_filled(pages.out.page, PAGE - many * sizeof *depths, 0xa5));
@@ -217,12 +244,12 @@ static grain_status verify(grain_scratch *scratch, uint16_t caps, const grain_pr
     if (status == GRAIN_ACCEPTED) {
         grain_program again = *program;
         again.chunks = tightened;
-        CHECK(grain_verify(scratch, caps, GRAIN_NO_LIMIT, &again, depths, many, NULL) == GRAIN_ACCEPTED);
+        CHECK(grain_verify(scratch, caps, GRAIN_NO_LIMIT, &again, depths, many, NULL, NULL) == GRAIN_ACCEPTED);
         for (size_t i = 0; i < many; i++)
             CHECK(tightened[i].max_stack == depths[i] && depths[i] <= program->chunks[i].max_stack);
     }
     if (span_of(program) > 0 && status != GRAIN_NOT_FLAT)
-        CHECK(grain_verify(scratch, caps, span_of(program) - 1, program, depths, many, NULL) == GRAIN_TOO_MUCH_WORK);
+        CHECK(grain_verify(scratch, caps, span_of(program) - 1, program, depths, many, NULL, NULL) == GRAIN_TOO_MUCH_WORK);
     return status;
 }
 
@@ -275,13 +302,13 @@ static void read_bytes(const uint8_t *list, size_t length) {
     size_t size = below(GRAIN_TEXT_SIZE + 1);
     size_t written = grain_instruction_text(bytes, length, at, room(pages.out, size), size);
     CHECK((written != 0) == is_there && written < GRAIN_TEXT_SIZE);
-    grain_site(bytes, length, number(), &place);
-    grain_stream_site(bytes, length, number(), &place);
+    grain_table_place(bytes, length, number(), &place);
+    grain_stream_place(bytes, length, number(), &place);
     grain_entry *entries = room(pages.out, places * sizeof *entries);
     CHECK(grain_table_entries(bytes, length, entries, places) <= length / 3);
     CHECK(grain_check_table(bytes, length, &named) <= GRAIN_TABLE_TRAILING_BYTES);
     grain_place *sites = room(pages.more, places * sizeof *sites);
-    bool is_stream = grain_stream_sites(bytes, length, sites, places, &count);
+    bool is_stream = grain_stream_places(bytes, length, sites, places, &count);
     CHECK(is_stream == (grain_check_stream(bytes, length, &named) == GRAIN_TABLE_SOUND));
 }
 

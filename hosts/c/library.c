@@ -2,7 +2,7 @@
 #include "layout.h"
 #include "proved.h"
 
-const uint32_t grain_interface_2 = GRAIN_INTERFACE;
+const uint32_t grain_interface_3 = GRAIN_INTERFACE;
 
 /* What an empty list points to. It is aligned to each type of items, and nothing is read or written there. */
 static uint64_t nothing;
@@ -54,22 +54,32 @@ static const grain_program *whole_program(const grain_program *program, grain_pr
     return copy;
 }
 
+/* Writes the slots of each chunk of a program that is accepted, where they are wanted. */
+static grain_status with_slots(uint32_t status, const grain_program *program, uint32_t *slots, size_t slots_len) {
+    if (status == GRAIN_ACCEPTED && slots != NULL)
+        grain_proved_slots(program, slots, slots_len);
+    return (grain_status)status;
+}
+
 grain_status grain_verify(grain_scratch *scratch, uint16_t caps, uint64_t limit, const grain_program *program,
-                          uint16_t *depths, size_t depths_len, grain_report *report) {
+                          uint16_t *depths, size_t depths_len, uint32_t *slots, grain_report *report) {
     grain_program copy;
-    grain_report unread = {{0, 0, 0, 0, 0}, 0};
+    grain_report unread = {{GRAIN_FLAW_NONE, 0, 0, 0, 0}, 0};
+    uint32_t status;
     program = whole_program(program, &copy);
     depths = some_room(depths);
     report = report != NULL ? report : &unread;
     if (scratch == NULL)
-        return (grain_status)grain_proved_verify(caps, limit, program, depths, depths_len, report);
-    return (grain_status)grain_proved_verify_with(scratch, caps, limit, program, depths, depths_len, report);
+        status = grain_proved_verify(caps, limit, program, depths, depths_len, report);
+    else
+        status = grain_proved_verify_with(scratch, caps, limit, program, depths, depths_len, report);
+    return with_slots(status, program, slots, depths_len);
 }
 
 grain_status grain_tighten(grain_scratch *scratch, uint16_t caps, uint64_t limit, const grain_program *program,
                            grain_chunk *tightened, size_t tightened_len, grain_report *report) {
     grain_program copy;
-    grain_report unread = {{0, 0, 0, 0, 0}, 0};
+    grain_report unread = {{GRAIN_FLAW_NONE, 0, 0, 0, 0}, 0};
     grain_scratch own = GRAIN_SCRATCH_NONE;
     program = whole_program(program, &copy);
     tightened = some_room(tightened);
@@ -87,7 +97,7 @@ void grain_scratch_free(grain_scratch *scratch) {
 }
 
 bool grain_check_pools(const grain_pools *pools, grain_pools_flaw *flaw) {
-    grain_pools_flaw unread = {0, 0};
+    grain_pools_flaw unread = {GRAIN_LIST_CONSTANTS, 0};
     grain_pools copy;
     if (!is_whole(pools)) {
         copy = whole(pools);
@@ -131,26 +141,36 @@ static void fill_contents(grain_contents *contents) {
     contents->operators = some(NULL);
     contents->operator_texts = some(NULL);
     contents->op_assignments = some(NULL);
-    contents->slots = some(NULL);
     contents->step_flags = some(NULL);
     contents->ranges = some(NULL);
     contents->table = some(NULL);
     contents->stream = some(NULL);
+    contents->chain_steps = some(NULL);
+    contents->switch_cases = some(NULL);
+    contents->switch_ranges = some(NULL);
+    contents->function_parameters = some(NULL);
 }
+
+static const grain_limits usual_limits = GRAIN_LIMITS_DEFAULT;
+static const grain_read_error no_error = {GRAIN_CAUSE_TOO_LARGE, GRAIN_PART_HEADER, 0, 0, 0};
 
 grain_status grain_file_read(grain_file **file, const uint8_t *bytes, size_t bytes_len, const grain_limits *limits,
                              grain_read_error *error) {
-    const grain_limits usual = GRAIN_LIMITS_DEFAULT;
-    grain_read_error unread = {0, 0, 0, 0, 0};
-    grain_file *made = grain_alloc(sizeof *made, 8);
+    grain_read_error unread = no_error;
     *file = NULL;
+    limits = limits != NULL ? limits : &usual_limits;
+    /* The proved function tests this too; it is tested before there is memory for the file. */
+    if (limits->depth > GRAIN_DEPTH_MAX)
+        return GRAIN_BAD_LIMIT;
+    grain_file *made = grain_alloc(sizeof *made, 8);
     if (made == NULL)
         return GRAIN_OUT_OF_MEMORY;
     fill_contents(&made->contents);
     made->held.made = false;
     made->held.block = NULL;
-    uint32_t status = grain_proved_file_read(&made->held, some(bytes), bytes_len, limits != NULL ? limits : &usual,
-                                             &made->contents, error != NULL ? error : &unread);
+    uint32_t status = grain_proved_file_read(&made->held, some(bytes), bytes_len, limits, &made->contents,
+                                             error != NULL ? error : &unread);
+    made->contents.size = sizeof made->contents;
     if (status == GRAIN_ACCEPTED)
         *file = made;
     else
@@ -163,15 +183,15 @@ const grain_contents *grain_file_contents(const grain_file *file) {
 }
 
 grain_status grain_file_verify(grain_scratch *scratch, const grain_file *file, uint16_t caps, uint64_t limit, uint16_t *depths,
-                               size_t depths_len, grain_report *report) {
-    grain_report unread = {{0, 0, 0, 0, 0}, 0};
+                               size_t depths_len, uint32_t *slots, grain_report *report) {
+    grain_report unread = {{GRAIN_FLAW_NONE, 0, 0, 0, 0}, 0};
     grain_scratch own = GRAIN_SCRATCH_NONE;
     depths = some_room(depths);
     report = report != NULL ? report : &unread;
     uint32_t status = grain_proved_file_verify(scratch != NULL ? scratch : &own, &file->contents, caps, limit, depths,
                                                depths_len, report);
     grain_proved_scratch_free(&own);
-    return (grain_status)status;
+    return with_slots(status, &file->contents.program, slots, depths_len);
 }
 
 void grain_file_free(grain_file *file) {
@@ -182,25 +202,22 @@ void grain_file_free(grain_file *file) {
 }
 
 grain_status grain_file_tighten(const uint8_t *bytes, size_t bytes_len, const grain_limits *limits, uint64_t limit,
-                                uint8_t *tightened, size_t tightened_len, size_t *size, grain_read_error *error,
-                                grain_report *report) {
-    const grain_limits usual = GRAIN_LIMITS_DEFAULT;
-    grain_read_error unread = {0, 0, 0, 0, 0};
-    grain_report unread_report = {{0, 0, 0, 0, 0}, 0};
-    return (grain_status)grain_proved_file_tighten(some(bytes), bytes_len, limits != NULL ? limits : &usual, limit,
-                                                   some_room(tightened), tightened_len, size,
+                                grain_room *tightened, grain_read_error *error, grain_report *report) {
+    grain_read_error unread = no_error;
+    grain_report unread_report = {{GRAIN_FLAW_NONE, 0, 0, 0, 0}, 0};
+    return (grain_status)grain_proved_file_tighten(some(bytes), bytes_len, limits != NULL ? limits : &usual_limits, limit,
+                                                   some_room(tightened->bytes), tightened->len, &tightened->size,
                                                    error != NULL ? error : &unread,
                                                    report != NULL ? report : &unread_report);
 }
 
-grain_status grain_file_strip(const uint8_t *bytes, size_t bytes_len, const grain_limits *limits, uint8_t *stripped,
-                              size_t stripped_len, size_t *size, uint8_t *sidecar, size_t sidecar_len, size_t *sidecar_size,
-                              grain_read_error *error) {
-    const grain_limits usual = GRAIN_LIMITS_DEFAULT;
-    grain_read_error unread = {0, 0, 0, 0, 0};
-    return (grain_status)grain_proved_file_strip(some(bytes), bytes_len, limits != NULL ? limits : &usual,
-                                                 some_room(stripped), stripped_len, size, some_room(sidecar), sidecar_len,
-                                                 sidecar_size, error != NULL ? error : &unread);
+grain_status grain_file_strip(const uint8_t *bytes, size_t bytes_len, const grain_limits *limits, grain_room *stripped,
+                              grain_room *sidecar, grain_read_error *error) {
+    grain_read_error unread = no_error;
+    return (grain_status)grain_proved_file_strip(some(bytes), bytes_len, limits != NULL ? limits : &usual_limits,
+                                                 some_room(stripped->bytes), stripped->len, &stripped->size,
+                                                 some_room(sidecar->bytes), sidecar->len, &sidecar->size,
+                                                 error != NULL ? error : &unread);
 }
 
 size_t grain_read_error_text(const grain_read_error *error, char *text, size_t size) {
@@ -227,28 +244,47 @@ bool grain_is_quiet(uint8_t tag) {
     return grain_proved_is_quiet(tag);
 }
 
-bool grain_site(const uint8_t *table, size_t table_len, uint32_t address, grain_place *place) {
+bool grain_table_place(const uint8_t *table, size_t table_len, uint32_t address, grain_place *place) {
     return grain_proved_site(some(table), table_len, address, place);
 }
 
-grain_table_flaw grain_check_table(const uint8_t *table, size_t table_len, uint64_t *named) {
-    return (grain_table_flaw)grain_proved_check_table(some(table), table_len, named);
+grain_table_flaw grain_check_table(const uint8_t *table, size_t table_len, uint64_t *detail) {
+    return (grain_table_flaw)grain_proved_check_table(some(table), table_len, detail);
 }
 
 size_t grain_table_entries(const uint8_t *table, size_t table_len, grain_entry *entries, size_t entries_len) {
     return grain_proved_table_entries(some(table), table_len, some_room(entries), entries_len);
 }
 
-bool grain_stream_site(const uint8_t *stream, size_t stream_len, uint32_t slot, grain_place *place) {
-    return grain_proved_stream_site(some(stream), stream_len, slot, place);
+bool grain_stream_place(const uint8_t *stream, size_t stream_len, uint32_t index, grain_place *place) {
+    return grain_proved_stream_site(some(stream), stream_len, index, place);
 }
 
-grain_table_flaw grain_check_stream(const uint8_t *stream, size_t stream_len, uint64_t *named) {
-    return (grain_table_flaw)grain_proved_check_stream(some(stream), stream_len, named);
+grain_table_flaw grain_check_stream(const uint8_t *stream, size_t stream_len, uint64_t *detail) {
+    return (grain_table_flaw)grain_proved_check_stream(some(stream), stream_len, detail);
 }
 
-bool grain_stream_sites(const uint8_t *stream, size_t stream_len, grain_place *sites, size_t sites_len, size_t *count) {
-    return grain_proved_stream_sites(some(stream), stream_len, some_room(sites), sites_len, count);
+bool grain_stream_places(const uint8_t *stream, size_t stream_len, grain_place *places, size_t places_len, size_t *count) {
+    return grain_proved_stream_sites(some(stream), stream_len, some_room(places), places_len, count);
+}
+
+const char *grain_status_text(grain_status status) {
+    switch (status) {
+    case GRAIN_ACCEPTED: return "accepted";
+    case GRAIN_REFUSED: return "refused";
+    case GRAIN_SHORT: return "a list of the caller's is too short";
+    case GRAIN_OUT_OF_MEMORY: return "out of memory";
+    case GRAIN_NOT_FLAT: return "no pools have this flat form";
+    case GRAIN_TOO_MUCH_WORK: return "the chunks span more of the code than the limit allows";
+    case GRAIN_NO_CHUNK: return "the program has no chunk with this index";
+    case GRAIN_BAD_CODE: return "the code isn't whole instructions whose indices are in bounds";
+    case GRAIN_STOPPED: return "stopped by the caller";
+    case GRAIN_MALFORMED: return "no program file within the limits";
+    case GRAIN_TOO_LONG: return "a list, a text or a blob of the file is too long";
+    case GRAIN_BAD_LIMIT: return "a limit is above its greatest value";
+    case GRAIN_NOT_RESTORABLE: return "a sidecar wouldn't give the file back";
+    }
+    return "no status of this interface";
 }
 
 uint32_t grain_interface(void) {

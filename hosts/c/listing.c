@@ -290,10 +290,10 @@ static bool make_room(listing *l, size_t room) {
 /* Writes where the program is refused for something else than its chunks. */
 static grain_status write_program(listing *l, uint16_t caps) {
     grain_program without_chunks = *l->program;
-    grain_report report = {{0, 0, 0, 0, 0}, 0};
+    grain_report report = {{GRAIN_FLAW_NONE, 0, 0, 0, 0}, 0};
     without_chunks.chunks = NULL;
     without_chunks.chunks_len = 0;
-    grain_status status = grain_verify(NULL, caps, GRAIN_NO_LIMIT, &without_chunks, NULL, 0, &report);
+    grain_status status = grain_verify(NULL, caps, GRAIN_NO_LIMIT, &without_chunks, NULL, 0, NULL, &report);
     if (status == GRAIN_REFUSED)
         write_refusal(&l->out, "the program is refused: ", &report.refusal);
     return status;

@@ -17,6 +17,7 @@ uint32_t grain_proved_verify_with(grain_scratch *scratch, uint16_t caps, uint64_
                                   uint16_t *depths, size_t depths_len, grain_report *report);
 uint32_t grain_proved_tighten(grain_scratch *scratch, uint16_t caps, uint64_t limit, const grain_program *program,
                               grain_chunk *tightened, size_t tightened_len, grain_report *report);
+void grain_proved_slots(const grain_program *program, uint32_t *slots, size_t slots_len);
 void grain_proved_scratch_free(grain_scratch *scratch);
 bool grain_proved_check_pools(const grain_pools *pools, grain_pools_flaw *flaw);
 uint32_t grain_proved_explain(uint16_t caps, const grain_program *program, size_t chunk, grain_row *rows, size_t rows_len,

@@ -184,10 +184,10 @@ static void put_step(rewritten *out, const grain_step *step, uint8_t flags, cons
         put_place(out, (*place)++);
 }
 
-static void put_root(rewritten *out, const grain_chain *chain, uint16_t slot, const grain_place **place) {
+static void put_root(rewritten *out, const grain_chain *chain, const grain_place **place) {
     put_byte(out, (uint8_t)chain->root);
     if (chain->root == GRAIN_ROOT_LOCAL)
-        put_number(out, slot);
+        put_number(out, chain->slot);
     if (chain->root == GRAIN_ROOT_LOCAL || chain->root == GRAIN_ROOT_NAMED)
         put_number(out, chain->root_name);
     if (chain->root == GRAIN_ROOT_NAMED || chain->root == GRAIN_ROOT_THIS)
@@ -197,17 +197,17 @@ static void put_root(rewritten *out, const grain_chain *chain, uint16_t slot, co
 static void put_chains(rewritten *out, const grain_contents *contents) {
     const grain_pools *pools = &contents->program.pools;
     size_t count = 0, step = 0;
-    grain_stream_sites(contents->stream, contents->stream_len, NULL, 0, &count);
+    grain_stream_places(contents->stream, contents->stream_len, NULL, 0, &count);
     grain_place *places = malloc((count + 1) * sizeof *places);
     const grain_place *place = places;
     out->failed = out->failed || places == NULL;
     if (places == NULL)
         return;
-    grain_stream_sites(contents->stream, contents->stream_len, places, count, &count);
+    grain_stream_places(contents->stream, contents->stream_len, places, count, &count);
     put_number(out, pools->chains_len);
     for (size_t i = 0; i < pools->chains_len; i++) {
         const grain_chain *chain = &pools->chains[i];
-        put_root(out, chain, contents->slots[i], &place);
+        put_root(out, chain, &place);
         put_number(out, chain->steps);
         for (uint32_t n = 0; n < chain->steps; n++, step++)
             put_step(out, &pools->steps[step], contents->step_flags[step], &place);

@@ -7,7 +7,7 @@
 
 #include "checks.h"
 
-enum { STACK_SIZE = 1 << 18, ALLOWED = 22 * 1024, ALLOWED_OF_FILES = 80 * 1024, PAINT = 0xa5, HANDLERS = 1000 };
+enum { STACK_SIZE = 1 << 19, ALLOWED = 22 * 1024, PAINT = 0xa5, HANDLERS = 1000 };
 
 static unsigned char stack[STACK_SIZE];
 static ucontext_t caller, callee;
@@ -31,7 +31,7 @@ static size_t stack_taken_by(void (*call)(void)) {
 static const grain_constant constants[] = {{1, GRAIN_CAP_NONE}, {0, 0}};
 static const uint8_t names[] = "len";
 static const uint32_t starts[] = {0, 3};
-static const grain_chain chains[] = {{GRAIN_ROOT_TEMPORARY, 0, 1, GRAIN_TAIL_READ, 0, 0}};
+static const grain_chain chains[] = {{GRAIN_ROOT_TEMPORARY, 0, 1, GRAIN_TAIL_READ, 0, 0, 0}};
 static const grain_step steps[] = {{GRAIN_STEP_PROPERTY, 0, 0, 0, 0, 0}};
 static const grain_switch switches[] = {{1, 1, 6}};
 static const grain_case cases[] = {{4, 0}};
@@ -72,11 +72,11 @@ static grain_status status;
 static size_t number;
 
 static void verify(void) {
-    status = grain_verify(NULL, caps, GRAIN_NO_LIMIT, program, depths, 2, &report);
+    status = grain_verify(NULL, caps, GRAIN_NO_LIMIT, program, depths, 2, NULL, &report);
 }
 
 static void verify_again(void) {
-    status = grain_verify(&scratch, caps, GRAIN_NO_LIMIT, program, depths, 2, &report);
+    status = grain_verify(&scratch, caps, GRAIN_NO_LIMIT, program, depths, 2, NULL, &report);
 }
 
 static void tighten(void) {
@@ -115,9 +115,9 @@ static void read_tables(void) {
     uint64_t named;
     number = grain_check_table(table, sizeof table, &named) + grain_check_stream(stream, sizeof stream, &named);
     number += grain_table_entries(table, sizeof table, entries, 2);
-    (void)grain_site(table, sizeof table, 4, places);
-    (void)grain_stream_site(stream, sizeof stream, 1, places);
-    (void)grain_stream_sites(stream, sizeof stream, places, 2, &number);
+    (void)grain_table_place(table, sizeof table, 4, places);
+    (void)grain_stream_place(stream, sizeof stream, 1, places);
+    (void)grain_stream_places(stream, sizeof stream, places, 2, &number);
 }
 
 static void count(void) {
@@ -138,33 +138,34 @@ static void measure(const grain_program *measured, uint16_t host_caps) {
     }
 }
 
-/* A file of a value in 63 arrays, object maps and function pointers, which is as deep as the usual limits allow. */
-static uint8_t file_bytes[512];
+/* A file of a value in arrays, object maps and function pointers, as deep as the limits allow. */
+static uint8_t file_bytes[2048];
 static size_t file_len;
 static grain_file *file;
+static const grain_limits *limits;
 
 static void put_bytes(const char *bytes, size_t len) {
     memcpy(file_bytes + file_len, bytes, len);
     file_len += len;
 }
 
-static void write_file(void) {
+static void write_file(uint32_t depth) {
+    file_len = 0;
     put_bytes("\0grn\1\0\0\0\0\2\2\x13\0\2\1\0\0\1", 18);
-    for (int i = 0; i < 21; i++) {
-        put_bytes("\x08\1", 2);
-        put_bytes("\x0a\1\1a", 4);
-        put_bytes("\x0b\1f\1", 4);
+    for (uint32_t i = 1; i < depth; i++) {
+        static const char *const opened[] = {"\x08\1", "\x0a\1\1a", "\x0b\1f\1"};
+        put_bytes(opened[i % 3], strlen(opened[i % 3]));
     }
     put_bytes("\0\0\0\0\0\0\0", 7);
 }
 
 static void read_file(void) {
     grain_read_error error;
-    status = grain_file_read(&file, file_bytes, file_len, NULL, &error);
+    status = grain_file_read(&file, file_bytes, file_len, limits, &error);
 }
 
 static void verify_file(void) {
-    status = grain_file_verify(NULL, file, GRAIN_CAP_ALL, GRAIN_NO_LIMIT, depths, 2, &report);
+    status = grain_file_verify(NULL, file, GRAIN_CAP_ALL, GRAIN_NO_LIMIT, depths, 2, NULL, &report);
 }
 
 static void free_file(void) {
@@ -172,37 +173,41 @@ static void free_file(void) {
 }
 
 static void tighten_file(void) {
-    static uint8_t room[sizeof file_bytes];
-    size_t size;
-    status = grain_file_tighten(file_bytes, file_len, NULL, GRAIN_NO_LIMIT, room, sizeof room, &size, NULL, &report);
+    static uint8_t bytes[sizeof file_bytes];
+    grain_room room = {bytes, sizeof bytes, 0};
+    status = grain_file_tighten(file_bytes, file_len, limits, GRAIN_NO_LIMIT, &room, NULL, &report);
 }
 
 static void strip_file(void) {
-    static uint8_t room[sizeof file_bytes], sidecar[64];
-    size_t size, sidecar_size;
-    status = grain_file_strip(file_bytes, file_len, NULL, room, sizeof room, &size, sidecar, sizeof sidecar, &sidecar_size,
-                              NULL);
+    static uint8_t bytes[sizeof file_bytes], sidecar_bytes[64];
+    grain_room stripped = {bytes, sizeof bytes, 0}, sidecar = {sidecar_bytes, sizeof sidecar_bytes, 0};
+    status = grain_file_strip(file_bytes, file_len, limits, &stripped, &sidecar, NULL);
 }
 
-static void measure_files(void) {
+/* At this depth, where grain.h allows as much stack. */
+static void measure_files(uint32_t depth, size_t allowed) {
+    grain_limits own = GRAIN_LIMITS_DEFAULT;
+    own.depth = depth;
+    limits = &own;
+    write_file(depth);
     size_t taken = stack_taken_by(read_file);
-    CHECK(status == GRAIN_ACCEPTED && taken <= ALLOWED_OF_FILES);
+    CHECK(status == GRAIN_ACCEPTED && taken <= allowed);
     size_t verifying = stack_taken_by(verify_file);
     CHECK(status != GRAIN_OUT_OF_MEMORY && verifying <= ALLOWED);
     size_t freeing = stack_taken_by(free_file);
     CHECK(freeing <= ALLOWED);
     size_t tightening = stack_taken_by(tighten_file);
-    CHECK((status == GRAIN_ACCEPTED || status == GRAIN_REFUSED) && tightening <= ALLOWED_OF_FILES);
+    CHECK((status == GRAIN_ACCEPTED || status == GRAIN_REFUSED) && tightening <= allowed);
     size_t stripping = stack_taken_by(strip_file);
-    CHECK(status == GRAIN_ACCEPTED && stripping <= ALLOWED_OF_FILES);
-    printf("files: %zu to read, %zu to verify, %zu to free, %zu to tighten, %zu to strip\n", taken, verifying, freeing,
+    CHECK(status == GRAIN_ACCEPTED && stripping <= allowed);
+    printf("%u deep: %zu to read, %zu to verify, %zu to free, %zu to tighten, %zu to strip\n", depth, taken, verifying, freeing,
            tightening, stripping);
 }
 
 int main(void) {
     write_nested();
-    write_file();
-    measure_files();
+    measure_files(64, 80 * 1024);
+    measure_files(GRAIN_DEPTH_MAX, 256 * 1024);
     measure(&with_pools, GRAIN_CAP_ALL);
     measure(&with_pools, GRAIN_CAP_ALL & ~GRAIN_CAP_PROPERTY);
     measure(&nested, GRAIN_CAP_ALL);

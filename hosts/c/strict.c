@@ -43,11 +43,14 @@ static void want_contents(const grain_contents *contents, const char *name) {
     want(contents->operators, name);
     want(contents->operator_texts, name);
     want(contents->op_assignments, name);
-    want(contents->slots, name);
     want(contents->step_flags, name);
     want(contents->ranges, name);
     want(contents->table, name);
     want(contents->stream, name);
+    want(contents->chain_steps, name);
+    want(contents->switch_cases, name);
+    want(contents->switch_ranges, name);
+    want(contents->function_parameters, name);
 }
 
 /* WRAP(answer, name, parameters, what is wanted, arguments) */
@@ -58,6 +61,16 @@ static void want_contents(const grain_contents *contents, const char *name) {
         static const char called[] = #name; \
         wanted; \
         return __real_grain_proved_##name arguments; \
+    }
+
+/* The same of a function that returns nothing. */
+#define WRAP_VOID(name, parameters, wanted, arguments) \
+    void __real_grain_proved_##name parameters; \
+    void __wrap_grain_proved_##name parameters; \
+    void __wrap_grain_proved_##name parameters { \
+        static const char called[] = #name; \
+        wanted; \
+        __real_grain_proved_##name arguments; \
     }
 
 WRAP(uint32_t, verify,
@@ -74,6 +87,8 @@ WRAP(uint32_t, tighten,
       grain_report *report),
      (want(scratch, called), want_program(program, called), want(chunks, called), want(report, called)),
      (scratch, caps, limit, program, chunks, many, report))
+WRAP_VOID(slots, (const grain_program *program, uint32_t *slots, size_t many),
+          (want_program(program, called), want(slots, called)), (program, slots, many))
 WRAP(bool, check_pools, (const grain_pools *pools, grain_pools_flaw *flaw),
      (want_pools(pools, called), want(flaw, called)), (pools, flaw))
 WRAP(uint32_t, explain,

@@ -210,7 +210,7 @@ static void explain(const script *of, const grain_refusal *refusal) {
     char text[GRAIN_TEXT_SIZE];
     grain_place place;
     grain_program program = program_of(of);
-    if (refusal->at <= UINT32_MAX && grain_site(of->table.items, of->table.count, (uint32_t)refusal->at, &place))
+    if (refusal->at <= UINT32_MAX && grain_table_place(of->table.items, of->table.count, (uint32_t)refusal->at, &place))
         printf("line %u: ", place.line);
     grain_refusal_text(refusal, text, sizeof text);
     printf("%s\n", text);
@@ -227,7 +227,7 @@ static bool answer(grain_scratch *scratch, const script *of) {
     grain_report report;
     grain_program program = program_of(of);
     /* The chunks don't overlap, so the length of the code bounds the work. */
-    grain_status status = grain_verify(scratch, GRAIN_CAP_ALL, program.code_len, &program, &depth, 1, &report);
+    grain_status status = grain_verify(scratch, GRAIN_CAP_ALL, program.code_len, &program, &depth, 1, NULL, &report);
     if (status == GRAIN_REFUSED)
         explain(of, &report.refusal);
     if (status != GRAIN_ACCEPTED)

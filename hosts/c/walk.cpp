@@ -175,7 +175,7 @@ int print_part(void *, const char *text, std::size_t length) {
 void explain(const Script &script, const grain_program &program, const grain_refusal &refusal) {
     grain_place place;
     if (refusal.at <= UINT32_MAX &&
-        grain_site(script.table.data(), script.table.size(), static_cast<std::uint32_t>(refusal.at), &place))
+        grain_table_place(script.table.data(), script.table.size(), static_cast<std::uint32_t>(refusal.at), &place))
         std::printf("line %u: ", place.line);
     std::printf("%s\n", grain::text_of(refusal).c_str());
     if (refusal.chunk != GRAIN_WHOLE_PROGRAM &&

@@ -1,8 +1,11 @@
 //! Program files that are written again.
 use crate::error::VerifyError;
-use crate::file::{FileError, Limits, ProgramFile};
+use crate::file::ProgramFile;
+use crate::file_error::FileError;
+use crate::limits::Limits;
 use crate::raw;
 use crate::refusal::Refusal;
+use crate::verifier::{copied, zeroed};
 use std::error::Error;
 use std::fmt;
 
@@ -16,23 +19,17 @@ pub enum TightenError {
     Verify(VerifyError),
 }
 
+/// It prints as the error that it has.
 impl fmt::Display for TightenError {
     fn fmt(&self, f: &mut fmt::Formatter<'_>) -> fmt::Result {
-        f.pad(match self {
-            TightenError::File(_) => "the file isn't read",
-            TightenError::Verify(_) => "the program isn't accepted",
-        })
+        match self {
+            TightenError::File(error) => error.fmt(f),
+            TightenError::Verify(error) => error.fmt(f),
+        }
     }
 }
 
-impl Error for TightenError {
-    fn source(&self) -> Option<&(dyn Error + 'static)> {
-        Some(match self {
-            TightenError::File(error) => error,
-            TightenError::Verify(error) => error,
-        })
-    }
-}
+impl Error for TightenError {}
 
 impl From<FileError> for TightenError {
     fn from(error: FileError) -> TightenError {
@@ -57,25 +54,20 @@ pub struct Stripped {
 
 /// Room for this many bytes.
 fn room_for(size: usize) -> Result<Vec<u8>, FileError> {
-    let mut room = Vec::new();
-    room.try_reserve_exact(size)
-        .map_err(|_| FileError::OutOfMemory)?;
-    room.resize(size, 0);
-    Ok(room)
+    zeroed(size).map_err(|_| FileError::OutOfMemory)
 }
 
-/// The first bytes of room, which are those that were written.
-fn written(mut room: Vec<u8>, size: usize) -> Vec<u8> {
-    room.truncate(size);
-    room.shrink_to_fit();
-    room
+/// The first bytes of room, which are those that were written, in memory that is no larger. They are copied: where the allocator
+/// refuses to shrink a list, the process ends.
+fn written(room: &[u8], size: usize) -> Result<Vec<u8>, FileError> {
+    copied(&room[..size.min(room.len())]).map_err(|_| FileError::OutOfMemory)
 }
 
 pub(crate) fn tighten(bytes: &[u8], limits: &Limits, limit: u64) -> Result<Vec<u8>, TightenError> {
     let (mut error, mut report) = (raw::ReadError::default(), raw::Report::default());
     // No more is written than was read; of more bytes than the limit none is.
     let mut room = room_for(bytes.len().min(limits.size))?;
-    let mut size = 0;
+    let mut tightened = raw::Room::of(&mut room);
     // SAFETY: the bytes, the room and the records live for the call, and nothing else reads what is written.
     let status = unsafe {
         raw::grain_file_tighten(
@@ -83,15 +75,14 @@ pub(crate) fn tighten(bytes: &[u8], limits: &Limits, limit: u64) -> Result<Vec<u
             bytes.len(),
             &limits.record(),
             limit,
-            room.as_mut_ptr(),
-            room.len(),
-            &mut size,
+            &mut tightened,
             &mut error,
             &mut report,
         )
     };
+    let size = tightened.size;
     match status {
-        raw::ACCEPTED => Ok(written(room, size)),
+        raw::ACCEPTED => Ok(written(&room, size)?),
         raw::REFUSED => Err(VerifyError::from(Refusal::new(report.refusal, report.visited)).into()),
         raw::TOO_MUCH_WORK => Err(VerifyError::TooMuchWork.into()),
         status => Err(FileError::of(status, error).into()),
@@ -107,26 +98,23 @@ fn strip(
     let mut error = raw::ReadError::default();
     let mut program = room_for(bytes.len().min(limits.size))?;
     let mut sidecar = room_for(sidecar_room)?;
-    let (mut size, mut sidecar_size) = (0, 0);
+    let mut rooms = (raw::Room::of(&mut program), raw::Room::of(&mut sidecar));
     // SAFETY: the bytes, the rooms and the records live for the call, and nothing else reads what is written.
     let status = unsafe {
         raw::grain_file_strip(
             bytes.as_ptr(),
             bytes.len(),
             &limits.record(),
-            program.as_mut_ptr(),
-            program.len(),
-            &mut size,
-            sidecar.as_mut_ptr(),
-            sidecar.len(),
-            &mut sidecar_size,
+            &mut rooms.0,
+            &mut rooms.1,
             &mut error,
         )
     };
+    let (size, sidecar_size) = (rooms.0.size, rooms.1.size);
     match status {
         raw::ACCEPTED => Ok(Ok(Stripped {
-            program: written(program, size),
-            sidecar: written(sidecar, sidecar_size),
+            program: written(&program, size)?,
+            sidecar: written(&sidecar, sidecar_size)?,
         })),
         raw::SHORT => Ok(Err(sidecar_size)),
         status => Err(FileError::of(status, error)),
@@ -173,7 +161,8 @@ impl ProgramFile {
     /// ```
     ///
     /// # Errors
-    /// Those of [`ProgramFile::read`]; [`FileError::TooLong`] where an address above 4294967295 has a position.
+    /// Those of [`ProgramFile::read`]; [`FileError::NotRestorable`]; [`FileError::TooLong`] where an address above 4294967295 has a
+    /// position.
     pub fn strip(bytes: &[u8], limits: &Limits) -> Result<Stripped, FileError> {
         let size = match strip(bytes, limits, bytes.len().min(limits.size))? {
             Ok(stripped) => return Ok(stripped),

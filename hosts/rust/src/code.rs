@@ -34,8 +34,8 @@ pub enum Kind {
     Count,
     /// A jump target: an address in the code.
     Target,
-    /// Something that this package has no name for: the library is a newer one.
-    Other(
+    /// A number that this package doesn't know.
+    Unknown(
         /// Its number in `grain.h`.
         u32,
     ),
@@ -56,7 +56,7 @@ impl Kind {
             10 => Kind::Slot,
             11 => Kind::Count,
             12 => Kind::Target,
-            other => Kind::Other(other),
+            unknown => Kind::Unknown(unknown),
         }
     }
 }
@@ -77,7 +77,7 @@ impl fmt::Display for Kind {
             Kind::Slot => "slot",
             Kind::Count => "count",
             Kind::Target => "target",
-            Kind::Other(_) => "something newer than this package",
+            Kind::Unknown(_) => "something unknown",
         })
     }
 }
@@ -91,9 +91,12 @@ pub struct Field {
     pub value: u32,
 }
 
-/// An instruction. It prints as its name and its fields in order, such as `CALL 3 2`.
+/// An instruction as tools print it: its tag, its bytes, and its fields with their kinds. It prints as its name and its fields in
+/// order, such as `CALL 3 2`.
+///
+/// The proved library decodes it. A machine matches on [`Instruction`](crate::Instruction).
 #[derive(Clone, Copy, Debug, PartialEq, Eq, Hash)]
-pub struct Instruction {
+pub struct InstructionRow {
     /// The byte with which it begins.
     pub tag: u8,
     /// How many bytes it takes, with its tag.
@@ -105,8 +108,8 @@ pub struct Instruction {
 /// No instruction takes more bytes.
 const MOST_BYTES: usize = 7;
 
-impl Instruction {
-    /// Its row of the instruction table; `None` where the library is a newer one and this package doesn't know the tag.
+impl InstructionRow {
+    /// Its row of the instruction table; `None` where this package doesn't know the tag.
     #[must_use]
     pub fn opcode(&self) -> Option<Opcode> {
         Opcode::from_tag(self.tag)
@@ -139,14 +142,14 @@ impl Instruction {
         &self.bytes[..usize::from(self.width).min(MOST_BYTES)]
     }
 
-    /// Its name in FORMAT.md ("Instructions"); `?` where the library is a newer one and this package has no name for it.
+    /// Its name in FORMAT.md ("Instructions"); `?` where this package doesn't know the tag.
     #[must_use]
     pub fn mnemonic(&self) -> &'static str {
         mnemonic(self.tag).unwrap_or("?")
     }
 }
 
-impl fmt::Display for Instruction {
+impl fmt::Display for InstructionRow {
     fn fmt(&self, f: &mut fmt::Formatter<'_>) -> fmt::Result {
         let code = self.bytes();
         // SAFETY: the code is one slice, and the room is as large as is said.
@@ -205,9 +208,9 @@ impl<'a> Instructions<'a> {
 }
 
 impl Iterator for Instructions<'_> {
-    type Item = (u32, Instruction);
+    type Item = (u32, InstructionRow);
 
-    fn next(&mut self) -> Option<(u32, Instruction)> {
+    fn next(&mut self) -> Option<(u32, InstructionRow)> {
         let (address, found) = (self.address, instruction(self.code, self.address)?);
         // Code that is longer than an address can say is read no further.
         self.address = address.checked_add(u32::from(found.width))?;
@@ -246,9 +249,9 @@ pub fn count_instructions(code: &[u8]) -> Result<usize, usize> {
 
 /// The instruction at an address, or `None` where there is none.
 ///
-/// The proved library decodes it. A machine decodes faster by [`Opcode::decode`].
+/// The proved library decodes it. A machine decodes faster by [`Instruction::decode`](crate::Instruction::decode).
 #[must_use]
-pub fn instruction(code: &[u8], address: u32) -> Option<Instruction> {
+pub fn instruction(code: &[u8], address: u32) -> Option<InstructionRow> {
     let at = address as usize;
     let mut found = raw::Instruction::default();
     // SAFETY: the code is one slice, and `found` lives for the call.
@@ -266,7 +269,7 @@ pub fn instruction(code: &[u8], address: u32) -> Option<Instruction> {
     for (byte, own) in bytes.iter_mut().zip(spelled) {
         *byte = *own;
     }
-    Some(Instruction {
+    Some(InstructionRow {
         tag: found.tag,
         width: found.width,
         fields,

@@ -2,8 +2,9 @@
 use crate::flat::PoolsFlaw;
 use crate::pools::PoolError;
 use crate::refusal::Refusal;
+use crate::text::Buffer;
 use std::error::Error;
-use std::fmt;
+use std::fmt::{self, Write};
 
 /// Why a program isn't accepted: it is refused, or the host failed to verify it.
 ///
@@ -52,30 +53,29 @@ impl VerifyError {
     }
 }
 
-/// What is wrong, in a few words. The [source](Error::source) says more: a [`Refusal`] or a [`PoolsFlaw`].
+/// It prints all that is known, as in `refused: chunk 0: the instruction at 0 needs 1 operand, and there are 0`.
 impl fmt::Display for VerifyError {
     fn fmt(&self, f: &mut fmt::Formatter<'_>) -> fmt::Result {
-        f.pad(match self {
-            VerifyError::Refused(_) => "the program is refused",
-            VerifyError::OutOfMemory => "out of memory",
-            VerifyError::TooMuchWork => "the chunks span more code than the limit allows",
-            VerifyError::TooLarge => "the code or a list of the pools is too long",
-            VerifyError::NotFlat(_) => "no pools have this flat form",
-            VerifyError::TooFewDepths => "there are fewer places for depths than chunks",
-            VerifyError::Unknown(_) => "the library returned a status that is unknown here",
-        })
+        let mut text = Buffer::<LONGEST>::new();
+        match self {
+            VerifyError::Refused(refusal) => write!(text, "refused: {refusal}")?,
+            VerifyError::OutOfMemory => text.push("out of memory"),
+            VerifyError::TooMuchWork => {
+                text.push("the chunks span more of the code than the limit allows");
+            }
+            VerifyError::TooLarge => text.push("the code or a list of the pools is too long"),
+            VerifyError::NotFlat(flaw) => write!(text, "{flaw}")?,
+            VerifyError::TooFewDepths => text.push("there are fewer places for depths than chunks"),
+            VerifyError::Unknown(status) => write!(text, "unknown status {status}")?,
+        }
+        f.pad(&text)
     }
 }
 
-impl Error for VerifyError {
-    fn source(&self) -> Option<&(dyn Error + 'static)> {
-        match self {
-            VerifyError::Refused(refusal) => Some(refusal),
-            VerifyError::NotFlat(flaw) => Some(flaw),
-            _ => None,
-        }
-    }
-}
+impl Error for VerifyError {}
+
+/// No text of an error is longer.
+const LONGEST: usize = 400;
 
 impl From<Refusal> for VerifyError {
     fn from(refusal: Refusal) -> VerifyError {
@@ -121,27 +121,25 @@ pub enum ExplainError {
 
 impl fmt::Display for ExplainError {
     fn fmt(&self, f: &mut fmt::Formatter<'_>) -> fmt::Result {
-        f.pad(match self {
-            ExplainError::NoChunk(_) => "the program has no chunk with this index",
-            ExplainError::BadCode(_) => "no chunk of bad code can be explained",
-            ExplainError::OutOfMemory => "out of memory",
-            ExplainError::TooMuchWork => "the chunk spans more code than the limit allows",
-            ExplainError::TooLarge => "the code or a list of the pools is too long",
-            ExplainError::NotFlat(_) => "no pools have this flat form",
-            ExplainError::Unknown(_) => "the library returned a status that is unknown here",
-        })
+        let mut text = Buffer::<LONGEST>::new();
+        match self {
+            ExplainError::NoChunk(index) => write!(text, "the program has no chunk {index}")?,
+            ExplainError::BadCode(refusal) => {
+                write!(text, "no chunk of this code can be explained: {refusal}")?;
+            }
+            ExplainError::OutOfMemory => text.push("out of memory"),
+            ExplainError::TooMuchWork => {
+                text.push("the chunk spans more of the code than the limit allows");
+            }
+            ExplainError::TooLarge => text.push("the code or a list of the pools is too long"),
+            ExplainError::NotFlat(flaw) => write!(text, "{flaw}")?,
+            ExplainError::Unknown(status) => write!(text, "unknown status {status}")?,
+        }
+        f.pad(&text)
     }
 }
 
-impl Error for ExplainError {
-    fn source(&self) -> Option<&(dyn Error + 'static)> {
-        match self {
-            ExplainError::BadCode(refusal) => Some(refusal),
-            ExplainError::NotFlat(flaw) => Some(flaw),
-            _ => None,
-        }
-    }
-}
+impl Error for ExplainError {}
 
 /// What hinders a verification hinders an explanation too. A refusal here is that of bad code.
 impl From<VerifyError> for ExplainError {

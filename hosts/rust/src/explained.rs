@@ -3,6 +3,7 @@ use crate::capabilities::Caps;
 use crate::error::{ExplainError, VerifyError};
 use crate::flat::FlatPools;
 use crate::refusal::Refusal;
+use crate::verifier::zeroed;
 use crate::{raw, verifier, Chunk};
 use std::iter::FusedIterator;
 
@@ -283,20 +284,12 @@ fn refusal_outside(
     code: &[u8],
     pools: &FlatPools<'_>,
 ) -> Result<Option<Refusal>, ExplainError> {
-    match verifier::judge_in(None, raw::NO_LIMIT, caps, code, &[], pools, &mut []) {
+    let mut none = verifier::Room::of_depths(&mut []);
+    match verifier::judge_in(None, raw::NO_LIMIT, caps, code, &[], pools, &mut none) {
         Ok(_) => Ok(None),
         Err(VerifyError::Refused(refusal)) => Ok(Some(refusal)),
         Err(failure) => Err(failure.into()),
     }
-}
-
-/// A list of this many zeros.
-fn zeroed<T: Clone + Default>(length: usize) -> Result<Vec<T>, ExplainError> {
-    let mut list = Vec::new();
-    list.try_reserve_exact(length)
-        .map_err(|_| ExplainError::OutOfMemory)?;
-    list.resize(length, T::default());
-    Ok(list)
 }
 
 impl Explained<'_> {
@@ -357,6 +350,11 @@ impl Explained<'_> {
             )
         };
         Ok((status, found))
+    }
+
+    /// Has the program refused for something outside the chunks.
+    pub(crate) fn refuse_outside(&mut self, refusal: Refusal) {
+        self.outside = Some(refusal);
     }
 
     fn failure(&self, status: u32, index: usize) -> ExplainError {

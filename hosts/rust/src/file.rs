@@ -1,334 +1,23 @@
 //! Program files.
 use crate::capabilities::Caps;
-use crate::error::VerifyError;
+use crate::error::{ExplainError, VerifyError};
+use crate::explained::{explain, Explained, Subject};
+use crate::file_error::FileError;
 use crate::flat::FlatPools;
+use crate::items::{FileChain, FileFunction, FileSteps, FileSwitch, OpAssignment, Range};
+use crate::limits::Limits;
 use crate::raw;
-use crate::rows::{Case, ChainRow, StepRow};
+use crate::refusal::Refusal;
+use crate::rows::{Case, ChainRow, StepRow, SwitchRow};
 use crate::tables::{site, stream_site, Site};
-use crate::text::Text;
 use crate::values::{Operator, Value, Values};
-use crate::verifier::Verifier;
+use crate::verified::{Rejected, Verified};
+use crate::verifier::{verdict, zeroed, Found, Room};
 use crate::Chunk;
-use std::error::Error;
 use std::fmt;
 use std::ptr::{self, NonNull};
 use std::slice;
 use std::str;
-
-/// What a host bounds of the files that it reads.
-#[derive(Clone, Copy, Debug, PartialEq, Eq, Hash)]
-pub struct Limits {
-    /// How many bytes a file has at most.
-    pub size: usize,
-    /// How deep values are nested at most. One that holds no other counts 1. A call takes call stack by it.
-    pub depth: u32,
-    /// How many cases a switch has at most. A stranger can choose equal hashes, and then time grows by the square of it.
-    pub cases: usize,
-}
-
-impl Limits {
-    pub(crate) fn record(&self) -> raw::Limits {
-        raw::Limits {
-            size: self.size,
-            cases: self.cases,
-            depth: self.depth,
-        }
-    }
-}
-
-impl Default for Limits {
-    /// A file of 64 MiB, values nested 64 deep, and switches of 4096 cases.
-    fn default() -> Limits {
-        Limits {
-            size: 64 * 1024 * 1024,
-            depth: 64,
-            cases: 4096,
-        }
-    }
-}
-
-/// An enum whose variants have the numbers that the library gives them.
-macro_rules! numbered {
-    ($(#[$about:meta])* $name:ident, $($(#[$doc:meta])* $variant:ident = $number:literal,)*) => {
-        $(#[$about])*
-        #[derive(Clone, Copy, Debug, PartialEq, Eq, Hash)]
-        #[non_exhaustive]
-        pub enum $name {
-            $($(#[$doc])* $variant,)*
-            /// One that this package doesn't know.
-            Unknown(
-                /// Its number.
-                u32,
-            ),
-        }
-
-        impl $name {
-            fn of_number(number: u32) -> $name {
-                match number {
-                    $($number => $name::$variant,)*
-                    number => $name::Unknown(number),
-                }
-            }
-        }
-    };
-}
-
-numbered! {
-    /// What is wrong with the bytes of a file.
-    FileFault,
-    /// They don't begin as a file does.
-    Magic = 2,
-    /// The file is of a version that the library doesn't know.
-    Version = 3,
-    /// The file is of another kind.
-    Kind = 4,
-    /// They end within a field.
-    Truncated = 5,
-    /// A number doesn't fit.
-    TooWide = 6,
-    /// A number has a shorter spelling.
-    NotShortest = 7,
-    /// A text isn't UTF-8.
-    NotText = 8,
-    /// A number is no character.
-    NotCharacter = 9,
-    /// A byte is no tag.
-    UnknownTag = 10,
-    /// A key doesn't come after the one before it.
-    KeyOrder = 11,
-    /// Values are nested deeper than the limit.
-    TooDeep = 12,
-    /// The names have more than 4294967295 bytes.
-    NamesTooLong = 13,
-    /// The constants of the cases of a switch don't strictly ascend.
-    CaseOrder = 14,
-    /// A switch has a case whose constant isn't there.
-    NoConstant = 15,
-    /// A switch has more cases than the limit.
-    TooManyCases = 16,
-    /// Two cases of a switch are of the same value.
-    SameCase = 17,
-    /// A position has line 0.
-    NoLine = 18,
-    /// Bytes follow the last field.
-    Trailing = 19,
-}
-
-numbered! {
-    /// A part of a program file. Of a list it is how many items there are; each item is a part of its own.
-    FilePart,
-    /// The magic, the version and the kind.
-    Header = 0,
-    /// The capabilities.
-    Capabilities = 1,
-    /// The number of the program.
-    Id = 2,
-    /// The code.
-    Code = 3,
-    /// The main chunk.
-    MainChunk = 4,
-    /// The functions.
-    Functions = 5,
-    /// A function.
-    Function = 6,
-    /// The names.
-    Names = 7,
-    /// A name.
-    Name = 8,
-    /// The constants.
-    Constants = 9,
-    /// A constant.
-    Constant = 10,
-    /// The operators.
-    Operators = 11,
-    /// An operator.
-    Operator = 12,
-    /// The op-assignments.
-    OpAssignments = 13,
-    /// An op-assignment.
-    OpAssignment = 14,
-    /// The chains.
-    Chains = 15,
-    /// A chain.
-    Chain = 16,
-    /// The switches.
-    Switches = 17,
-    /// A switch.
-    Switch = 18,
-    /// The name of the source.
-    SourceName = 19,
-    /// The positions.
-    Positions = 20,
-    /// A position.
-    Position = 21,
-    /// What follows the last part.
-    Rest = 24,
-}
-
-/// Why bytes are no file: the first wrong byte, the part that it is in, and what is wrong there.
-#[derive(Clone, Copy, Debug, PartialEq, Eq, Hash)]
-pub struct Malformed {
-    record: raw::ReadError,
-}
-
-impl Malformed {
-    /// The place of the byte.
-    #[must_use]
-    pub fn at(&self) -> u64 {
-        self.record.at
-    }
-
-    /// The part that the byte is in.
-    #[must_use]
-    pub fn part(&self) -> FilePart {
-        FilePart::of_number(self.record.part)
-    }
-
-    /// The index of the part, where it is an item of a list; otherwise 0.
-    #[must_use]
-    pub fn index(&self) -> u64 {
-        self.record.index
-    }
-
-    /// What is wrong.
-    #[must_use]
-    pub fn fault(&self) -> FileFault {
-        FileFault::of_number(self.record.cause)
-    }
-}
-
-/// As in "byte 7, in name 3: text is not UTF-8".
-impl fmt::Display for Malformed {
-    fn fmt(&self, f: &mut fmt::Formatter<'_>) -> fmt::Result {
-        // SAFETY: the record lives for the call, and the room has the size that the library is given.
-        let text = Text::written_by(|room, size| unsafe {
-            raw::grain_read_error_text(&self.record, room, size)
-        });
-        f.pad(&text)
-    }
-}
-
-/// Why a file isn't read.
-#[derive(Clone, Copy, Debug, PartialEq, Eq, Hash)]
-#[non_exhaustive]
-pub enum FileError {
-    /// The bytes are no file within the limits.
-    Malformed(Malformed),
-    /// The file has more bytes than the limit.
-    TooLarge {
-        /// How many it has.
-        size: u64,
-        /// How many it may have.
-        limit: u64,
-    },
-    /// A list of it has 4294967296 entries or more, or a text or a blob as many bytes.
-    TooLong,
-    /// The allocator refused.
-    OutOfMemory,
-    /// The library returned a status that this package doesn't know.
-    Unknown(
-        /// The status.
-        u32,
-    ),
-}
-
-impl FileError {
-    pub(crate) fn of(status: u32, record: raw::ReadError) -> FileError {
-        match status {
-            raw::NO_FILE if record.cause == raw::CAUSE_TOO_LARGE => FileError::TooLarge {
-                size: record.at,
-                limit: record.limit,
-            },
-            raw::NO_FILE => FileError::Malformed(Malformed { record }),
-            raw::TOO_LONG => FileError::TooLong,
-            raw::OUT_OF_MEMORY => FileError::OutOfMemory,
-            status => FileError::Unknown(status),
-        }
-    }
-}
-
-impl fmt::Display for FileError {
-    fn fmt(&self, f: &mut fmt::Formatter<'_>) -> fmt::Result {
-        match self {
-            FileError::Malformed(malformed) => malformed.fmt(f),
-            FileError::TooLarge { size, limit } => {
-                write!(f, "file of {size} bytes, limit {limit}")
-            }
-            FileError::TooLong => f.write_str("a list of the file is too long"),
-            FileError::OutOfMemory => f.write_str("out of memory"),
-            FileError::Unknown(status) => write!(f, "unknown status {status}"),
-        }
-    }
-}
-
-impl Error for FileError {}
-
-/// A function of a program file.
-#[derive(Clone, Copy, Debug, PartialEq, Eq, Hash)]
-pub struct FileFunction<'a> {
-    /// The index of its name.
-    pub name: u32,
-    /// The indices of the names of its parameters.
-    pub parameters: &'a [u32],
-    /// Whether only its own script may call it.
-    pub is_private: bool,
-    /// The index of the name of the type of receiver that it is declared for, if it is.
-    pub this_type: Option<u32>,
-    /// Its chunk.
-    pub chunk: Chunk,
-}
-
-/// A chain of a program file.
-#[derive(Clone, Copy, Debug)]
-pub struct FileChain<'a> {
-    /// Where it begins, what it does at its end, and how many operands its steps take.
-    pub row: &'a ChainRow,
-    /// The slot of the local variable at which it begins, else 0.
-    pub slot: u16,
-    /// Its steps.
-    pub steps: &'a [StepRow],
-    /// The flags of each step: 1 ends the chain early at `()`.
-    pub flags: &'a [u8],
-}
-
-/// A range of a switch.
-#[repr(C)]
-#[derive(Clone, Copy, Debug, PartialEq, Eq, Hash)]
-pub struct Range {
-    /// The first integer.
-    pub from: i64,
-    /// The last integer where the range is inclusive, else the first one past it.
-    pub to: i64,
-    /// Whether the range has that last integer.
-    pub is_inclusive: bool,
-    /// Where it leads.
-    pub target: u32,
-}
-
-/// A switch of a program file. A subject that equals the constant of a case leads to that case; otherwise the first range that
-/// has it counts.
-#[derive(Clone, Copy, Debug)]
-pub struct FileSwitch<'a> {
-    /// The cases, in no order.
-    pub cases: &'a [Case],
-    /// The ranges.
-    pub ranges: &'a [Range],
-    /// Where all other subjects lead.
-    pub otherwise: u32,
-}
-
-/// An op-assignment of a program file.
-#[derive(Clone, Copy, Debug, PartialEq, Eq, Hash)]
-pub struct OpAssignment<'a> {
-    /// Its operator, as `+=`.
-    pub op_assign: Operator<'a>,
-    /// The index of the name of that.
-    pub op_assign_name: u32,
-    /// The operator that it stands for, as `+`.
-    pub op: Operator<'a>,
-    /// The index of the name of that.
-    pub op_name: u32,
-}
 
 /// A program file that was read (FORMAT.md, "Program files"): all that the program has.
 ///
@@ -352,6 +41,7 @@ pub struct OpAssignment<'a> {
 /// ```
 pub struct ProgramFile {
     file: NonNull<raw::File>,
+    contents: NonNull<raw::Contents>,
 }
 
 // SAFETY: the file is this value's alone, and that it may be handed to another thread is proved of the library's handle.
@@ -428,14 +118,18 @@ impl ProgramFile {
             raw::grain_file_read(&mut file, bytes.as_ptr(), bytes.len(), &limits, &mut error)
         };
         match NonNull::new(file) {
-            Some(file) if status == raw::ACCEPTED => Ok(ProgramFile { file }),
+            Some(file) if status == raw::ACCEPTED => {
+                // SAFETY: the library made the file. Its contents are a record of the file, which stays where it is.
+                let contents = unsafe { NonNull::from(&*raw::grain_file_contents(file.as_ptr())) };
+                Ok(ProgramFile { file, contents })
+            }
             _ => Err(FileError::of(status, error)),
         }
     }
 
     fn contents(&self) -> &raw::Contents {
-        // SAFETY: the file was made by the library, which returns a pointer to a record of it.
-        unsafe { &*raw::grain_file_contents(self.file.as_ptr()) }
+        // SAFETY: the record belongs to the file, and nothing writes it before the file is freed.
+        unsafe { self.contents.as_ref() }
     }
 
     /// The capabilities that the program declares, as far as there are such: it is refused where it declares others.
@@ -498,35 +192,55 @@ impl ProgramFile {
 
     /// The names.
     pub fn names(&self) -> impl ExactSizeIterator<Item = &str> + '_ {
-        let pools = &self.contents().program.pools;
-        let names = contents!(pools, names, names_len);
-        let starts: &[u32] = contents!(pools, starts, starts_len);
-        starts.windows(2).map(move |span| {
-            let name = names.get(span[0] as usize..span[1] as usize);
-            str::from_utf8(name.unwrap_or_default()).unwrap_or_default()
-        })
+        let names = self.name_bytes();
+        self.name_starts()
+            .windows(2)
+            .map(move |span| name_between(names, span[0], span[1]))
+    }
+
+    /// The name with an index.
+    #[must_use]
+    pub fn name(&self, index: u32) -> Option<&str> {
+        let span = self.name_starts().get(index as usize..)?;
+        Some(name_between(
+            self.name_bytes(),
+            *span.first()?,
+            *span.get(1)?,
+        ))
+    }
+
+    fn name_bytes(&self) -> &[u8] {
+        contents!(&self.contents().program.pools, names, names_len)
+    }
+
+    fn name_starts(&self) -> &[u32] {
+        contents!(&self.contents().program.pools, starts, starts_len)
     }
 
     /// The functions.
     pub fn functions(&self) -> impl Iterator<Item = FileFunction<'_>> + '_ {
+        indices(self.contents().functions_len).filter_map(|index| self.function(index))
+    }
+
+    /// The function with an index. Its chunk has the next index.
+    #[must_use]
+    pub fn function(&self, index: u32) -> Option<FileFunction<'_>> {
         let contents = self.contents();
-        let functions: &[raw::Function] = contents!(contents, functions, functions_len);
-        let mut parameters: &[u32] = contents!(contents, parameters, parameters_len);
-        let chunks = self.chunks().iter().skip(1);
-        functions.iter().zip(chunks).map(move |(row, chunk)| {
-            let (own, rest) = split(parameters, row.parameters);
-            parameters = rest;
-            FileFunction {
-                name: row.name,
-                parameters: own,
-                is_private: row.is_private,
-                this_type: row.is_typed.then_some(row.this_type),
-                chunk: *chunk,
-            }
+        let rows: &[raw::Function] = contents!(contents, functions, functions_len);
+        let begins: &[u32] = contents!(contents, function_parameters, function_parameters_len);
+        let parameters: &[u32] = contents!(contents, parameters, parameters_len);
+        let index = index as usize;
+        let row = rows.get(index)?;
+        Some(FileFunction {
+            name: row.name,
+            parameters: part(parameters, *begins.get(index)?, row.parameters)?,
+            is_private: row.is_private,
+            this_type: row.is_typed.then_some(row.this_type),
+            chunk: *self.chunks().get(index + 1)?,
         })
     }
 
-    /// The constants. Where only some are wanted, [`ProgramFile::constant`] finds one at once.
+    /// The constants, in order.
     pub fn constants(&self) -> Values<'_> {
         let contents = self.contents();
         Values::new(
@@ -536,82 +250,124 @@ impl ProgramFile {
         )
     }
 
-    /// The constant with an index.
+    /// The constant with an index. What it holds isn't gone through, except for the bytes of a text.
     #[must_use]
-    pub fn constant(&self, index: usize) -> Option<Value<'_>> {
+    pub fn constant(&self, index: u32) -> Option<Value<'_>> {
         let contents = self.contents();
         let begins: &[u32] = contents!(contents, constants, constants_len);
         let values: &[raw::Value] = contents!(contents, values, values_len);
         let texts = contents!(contents, texts, texts_len);
-        let begin = *begins.get(index)? as usize;
-        Values::new(values.get(begin..)?, texts, 1).next()
+        let begin = *begins.get(index as usize)? as usize;
+        Values::new(values.get(begin..)?, texts, 1).first()
     }
 
-    fn all_operators(&self) -> impl Iterator<Item = Operator<'_>> + '_ {
+    /// The operators, and then for each op-assignment its own and the one that it stands for.
+    fn all_operators(&self) -> &[raw::Value] {
+        contents!(self.contents(), operators, operators_len)
+    }
+
+    fn operator_of(&self, row: &raw::Value) -> Operator<'_> {
         let contents = self.contents();
-        let texts = contents!(contents, operator_texts, operator_texts_len);
-        let rows: &[raw::Value] = contents!(contents, operators, operators_len);
-        rows.iter().map(move |row| Operator::of(row, texts))
+        Operator::of(row, contents!(contents, operator_texts, operator_texts_len))
     }
 
     /// The operators.
-    pub fn operators(&self) -> impl Iterator<Item = Operator<'_>> + '_ {
-        self.all_operators()
-            .take(self.contents().program.pools.operators)
+    pub fn operators(&self) -> impl ExactSizeIterator<Item = Operator<'_>> + '_ {
+        let (own, _) = self.operator_rows();
+        own.iter().map(|row| self.operator_of(row))
+    }
+
+    /// The operator with an index.
+    #[must_use]
+    pub fn operator(&self, index: u32) -> Option<Operator<'_>> {
+        let (own, _) = self.operator_rows();
+        Some(self.operator_of(own.get(index as usize)?))
+    }
+
+    /// The operators, and those of the op-assignments.
+    fn operator_rows(&self) -> (&[raw::Value], &[raw::Value]) {
+        let all = self.all_operators();
+        all.split_at(all.len().min(self.contents().program.pools.operators))
     }
 
     /// The op-assignments.
-    pub fn op_assignments(&self) -> impl Iterator<Item = OpAssignment<'_>> + '_ {
-        let contents = self.contents();
-        let mut operators = self.all_operators().skip(contents.program.pools.operators);
-        let names: &[raw::OpAssignment] = contents!(contents, op_assignments, op_assignments_len);
-        names.iter().filter_map(move |names| {
-            Some(OpAssignment {
-                op_assign: operators.next()?,
-                op_assign_name: names.op_assign_name,
-                op: operators.next()?,
-                op_name: names.op_name,
-            })
-        })
+    pub fn op_assignments(&self) -> impl ExactSizeIterator<Item = OpAssignment<'_>> + '_ {
+        let (_, operators) = self.operator_rows();
+        let pairs = operators.chunks_exact(2);
+        let names: &[raw::OpAssignment] =
+            contents!(self.contents(), op_assignments, op_assignments_len);
+        let all = names.iter().zip(pairs);
+        all.map(|(names, pair)| self.op_assignment_of(names, pair))
+    }
+
+    /// The op-assignment with an index.
+    #[must_use]
+    pub fn op_assignment(&self, index: u32) -> Option<OpAssignment<'_>> {
+        let (_, operators) = self.operator_rows();
+        let names: &[raw::OpAssignment] =
+            contents!(self.contents(), op_assignments, op_assignments_len);
+        let index = index as usize;
+        let pair = operators.get(index.checked_mul(2)?..)?.get(..2)?;
+        Some(self.op_assignment_of(names.get(index)?, pair))
+    }
+
+    fn op_assignment_of(&self, names: &raw::OpAssignment, pair: &[raw::Value]) -> OpAssignment<'_> {
+        OpAssignment {
+            op_assign: self.operator_of(&pair[0]),
+            op_assign_name: names.op_assign_name,
+            op: self.operator_of(&pair[1]),
+            op_name: names.op_name,
+        }
     }
 
     /// The chains.
     pub fn chains(&self) -> impl Iterator<Item = FileChain<'_>> + '_ {
+        let chains = self.contents().program.pools.chains_len;
+        indices(chains).filter_map(|index| self.chain(index))
+    }
+
+    /// The chain with an index.
+    #[must_use]
+    pub fn chain(&self, index: u32) -> Option<FileChain<'_>> {
         let contents = self.contents();
         let pools = &contents.program.pools;
         let rows: &[ChainRow] = contents!(pools, chains, chains_len);
-        let slots: &[u16] = contents!(contents, slots, slots_len);
-        let mut steps: &[StepRow] = contents!(pools, steps, steps_len);
-        let mut flags: &[u8] = contents!(contents, step_flags, step_flags_len);
-        rows.iter().zip(slots).map(move |(row, slot)| {
-            let (own_steps, more_steps) = split(steps, row.steps());
-            let (own_flags, more_flags) = split(flags, row.steps());
-            (steps, flags) = (more_steps, more_flags);
-            FileChain {
-                row,
-                slot: *slot,
-                steps: own_steps,
-                flags: own_flags,
-            }
+        let begins: &[u32] = contents!(contents, chain_steps, chain_steps_len);
+        let steps: &[StepRow] = contents!(pools, steps, steps_len);
+        let flags: &[u8] = contents!(contents, step_flags, step_flags_len);
+        let index = index as usize;
+        let (row, begin) = (rows.get(index)?, *begins.get(index)?);
+        Some(FileChain {
+            row,
+            steps: FileSteps::new(
+                part(steps, begin, row.steps())?,
+                part(flags, begin, row.steps())?,
+            ),
         })
     }
 
     /// The switches.
     pub fn switches(&self) -> impl Iterator<Item = FileSwitch<'_>> + '_ {
+        let switches = self.contents().program.pools.switches_len;
+        indices(switches).filter_map(|index| self.switch(index))
+    }
+
+    /// The switch with an index.
+    #[must_use]
+    pub fn switch(&self, index: u32) -> Option<FileSwitch<'_>> {
         let contents = self.contents();
         let pools = &contents.program.pools;
-        let rows: &[crate::SwitchRow] = contents!(pools, switches, switches_len);
-        let mut cases: &[Case] = contents!(pools, cases, cases_len);
-        let mut ranges: &[Range] = contents!(contents, ranges, ranges_len);
-        rows.iter().map(move |row| {
-            let (own_cases, more_cases) = split(cases, row.cases);
-            let (own_ranges, more_ranges) = split(ranges, row.ranges);
-            (cases, ranges) = (more_cases, more_ranges);
-            FileSwitch {
-                cases: own_cases,
-                ranges: own_ranges,
-                otherwise: row.otherwise,
-            }
+        let rows: &[SwitchRow] = contents!(pools, switches, switches_len);
+        let case_begins: &[u32] = contents!(contents, switch_cases, switch_cases_len);
+        let range_begins: &[u32] = contents!(contents, switch_ranges, switch_ranges_len);
+        let cases: &[Case] = contents!(pools, cases, cases_len);
+        let ranges: &[Range] = contents!(contents, ranges, ranges_len);
+        let index = index as usize;
+        let row = rows.get(index)?;
+        Some(FileSwitch {
+            cases: part(cases, *case_begins.get(index)?, row.cases)?,
+            ranges: part(ranges, *range_begins.get(index)?, row.ranges)?,
+            otherwise: row.otherwise,
         })
     }
 
@@ -640,43 +396,107 @@ impl ProgramFile {
         stream_site(self.stream(), slot)
     }
 
+    /// The line and the column that are recorded for the address of a refusal.
+    #[must_use]
+    pub fn site_of(&self, refusal: &Refusal) -> Option<Site> {
+        self.site(refusal.address()?)
+    }
+
     /// Verifies the program for a host with these capabilities, and returns the depth of each chunk.
     ///
-    /// The host needs those that the program declares ([`Flaw::MissingCaps`](crate::Flaw::MissingCaps)), and it is verified under
-    /// these.
+    /// The host needs the capabilities that the program declares, and the program is verified under these. Where the program is to
+    /// be run, [`ProgramFile::into_verified`] keeps the file and the depths together.
     ///
     /// # Errors
     /// Those of [`verify`](crate::verify).
     pub fn verify(&self, caps: Caps) -> Result<Vec<u16>, VerifyError> {
-        Verifier::new().verify_file(caps, self).map(<[u16]>::to_vec)
+        let mut depths = zeroed(self.chunks().len())?;
+        self.judge(None, raw::NO_LIMIT, caps, &mut Room::of_depths(&mut depths))?;
+        Ok(depths)
     }
 
-    /// Verifies the program in a scratch.
+    /// Verifies the program as [`ProgramFile::verify`] does, and turns the file into one that may be run.
+    /// [`Verifier::verify_program_file`](crate::Verifier::verify_program_file) does the same within a limit on work.
+    ///
+    /// ```
+    /// use grain::{Caps, Instruction, ProgramFile, Value};
+    ///
+    /// // `LoadConst(0)`, `Return`, and the constant 42.
+    /// let bytes = b"\0grn\x01\0\0\0\0\x04\x01\0\0\x13\0\x04\x01\0\0\x01\x03\x54\0\0\0\0\0\0";
+    /// let verified = ProgramFile::try_from(&bytes[..])?.into_verified(Caps::NONE)?;
+    /// let (first, next) = Instruction::decode(verified.code(), 0).unwrap();
+    /// assert_eq!((first, next), (Instruction::LoadConst { constant: 0 }, 3));
+    /// assert_eq!(verified.constant(0), Some(Value::Integer(42)));
+    /// # Ok::<(), Box<dyn std::error::Error>>(())
+    /// ```
+    ///
+    /// # Errors
+    /// The file, and the error of [`ProgramFile::verify`].
+    pub fn into_verified(self, caps: Caps) -> Result<Verified<ProgramFile>, Rejected<ProgramFile>> {
+        let found = Found::by(self.chunks().len(), |room| {
+            self.judge(None, raw::NO_LIMIT, caps, room)
+        });
+        Verified::new(self, caps, found)
+    }
+
+    /// Explains a chunk of the program, by its index, or what a [`Refusal`] refuses, as [`explain`] does, for a host with these
+    /// capabilities. As [`ProgramFile::verify`] does, it tests whether the host has those that the program declares, and the
+    /// program under these.
+    ///
+    /// # Errors
+    /// Those of [`explain`].
+    pub fn explain(
+        &self,
+        caps: Caps,
+        subject: impl Into<Subject>,
+    ) -> Result<Explained<'_>, ExplainError> {
+        let mut explained = explain(self.caps(), self.code(), self.chunks(), self, subject)?;
+        if let Some(refusal) = Refusal::of_declared_caps(self.contents().caps, caps) {
+            explained.refuse_outside(refusal);
+        }
+        Ok(explained)
+    }
+
+    /// Verifies the program in a scratch, or in memory for this call alone, and returns how many instructions were visited.
     pub(crate) fn judge(
         &self,
-        scratch: &mut raw::Scratch,
-        caps: Caps,
+        scratch: Option<&mut raw::Scratch>,
         limit: u64,
-        depths: &mut [u16],
-        report: &mut raw::Report,
-    ) -> u32 {
-        // SAFETY: the file lives for the call, and what is written is borrowed for it alone. The scratch was made by the library or
-        // keeps nothing.
-        unsafe {
+        caps: Caps,
+        room: &mut Room<'_>,
+    ) -> Result<u64, VerifyError> {
+        let mut report = raw::Report::default();
+        let scratch = scratch.map_or(ptr::null_mut(), |scratch| scratch as *mut _);
+        // SAFETY: the file lives for the call, and what is written is borrowed for it alone. The scratch, if any, was made by the
+        // library or keeps nothing.
+        let status = unsafe {
             raw::grain_file_verify(
                 scratch,
                 self.file.as_ptr(),
                 caps.bits(),
                 limit,
-                depths.as_mut_ptr(),
-                depths.len(),
-                report,
+                room.depths.as_mut_ptr(),
+                room.depths.len(),
+                room.slots(),
+                &mut report,
             )
-        }
+        };
+        verdict(status, &report, &self.pools())
     }
 }
 
-/// The first items of a list, and the others.
-fn split<T>(items: &[T], count: u32) -> (&[T], &[T]) {
-    items.split_at(items.len().min(count as usize))
+/// The name that has these bytes. The library has tested that it is UTF-8.
+fn name_between(names: &[u8], from: u32, to: u32) -> &str {
+    let name = names.get(from as usize..to as usize);
+    str::from_utf8(name.unwrap_or_default()).unwrap_or_default()
+}
+
+/// As many items of a list, from one on.
+fn part<T>(items: &[T], begin: u32, count: u32) -> Option<&[T]> {
+    items.get(begin as usize..)?.get(..count as usize)
+}
+
+/// The indices of a list with this many items. No list of a file has more than 32 bits can say.
+fn indices(count: usize) -> std::ops::Range<u32> {
+    0..u32::try_from(count).unwrap_or(u32::MAX)
 }

@@ -246,8 +246,8 @@ pub enum PoolsList {
     Cases,
     /// The ranges of all switches.
     Ranges,
-    /// Something that this package has no name for: the library is a newer one.
-    Other(
+    /// A number that this package doesn't know.
+    Unknown(
         /// Its number in `grain.h`.
         u32,
     ),
@@ -272,7 +272,7 @@ impl PoolsFlaw {
             5 => PoolsList::Switches,
             6 => PoolsList::Cases,
             7 => PoolsList::Ranges,
-            other => PoolsList::Other(other),
+            unknown => PoolsList::Unknown(unknown),
         };
         PoolsFlaw {
             list,
@@ -291,7 +291,7 @@ impl fmt::Display for PoolsFlaw {
             PoolsList::Switches => "the list of switches",
             PoolsList::Cases => "the list of cases",
             PoolsList::Ranges => "the list of ranges",
-            PoolsList::Other(_) => "a list that is unknown here",
+            PoolsList::Unknown(_) => "a list that is unknown here",
         };
         let mut text = Buffer::<80>::new();
         write!(text, "{list} isn't flat at index {}", self.index)?;

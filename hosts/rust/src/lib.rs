@@ -34,10 +34,13 @@
 //! | say why not | [`VerifyError`], [`Refusal`], [`Flaw`] |
 //! | show why not | [`Program::explain`], [`Explained`] |
 //! | fill pools | [`Pools`], or [`FlatPools`] where the lists are the host's own |
-//! | read a program file | [`ProgramFile`], with [`Limits`] |
+//! | read a program file | [`ProgramFile::read`], with [`Limits`] |
+//! | verify one | [`ProgramFile::into_verified`] |
 //! | write one again | [`ProgramFile::tighten`], [`ProgramFile::strip`] |
-//! | run what is accepted | [`Verified`], [`Opcode`] |
-//! | find lines | [`Program::site`], [`site`], [`stream_site`] |
+//! | run what is accepted | [`Verified`], [`VerifiedFile`], [`Instruction`] |
+//! | find lines | [`Verified::site`], [`site`], [`stream_site`] |
+//!
+//! From a program file to a run, `examples/script.rs` is a whole host.
 //!
 //! # What a host owes
 //!
@@ -51,17 +54,22 @@
 //!   `ITER_DROP`, `UNWIND_TO` and `RETURN` ([`Opcode::is_quiet`]). At these the machine must never fault, or only with at least
 //!   that much left.
 //!
-//! A yes says nothing of slots and scopes, of values and their types, or of what a call does. It doesn't say that a run ends.
+//! - It never reads or writes a slot that it hasn't allocated. A slot is any number of 16 bits, and verification tests none.
+//!   [`Verified::slots`] says how many slots each chunk names; a machine that has as many for a call needs no test of a slot.
+//!
+//! A yes says nothing of scopes, of values and their types, or of what a call does. It doesn't say that a run ends.
 //!
 //! # What to bound for hostile input
 //!
 //! - The length of the code, and of each list of the pools: time and memory grow with them.
 //! - The work: chunks may overlap, so that many short chunks cost as much as long code. [`Verifier::limit`] bounds it.
 //! - The depth of constants is the host's to bound, where it reads them: verification sees only what they need. [`Limits`] bounds
-//!   it for program files.
+//!   it for program files, which take about 1,000 bytes of the call stack for each level.
+//! - The variables of a call: `DECLARE_LOCAL` takes the next slot, which a hostile program can do without end. And the steps of a
+//!   run, and how deep calls are nested.
 //!
 //! No call waits or prints. No call ends the process where the allocator refuses, except the chained calls of [`Pools`] and
-//! clones, which take memory as a `Vec` does.
+//! clones, which take memory as a `Vec` does. That is tested of each public function.
 //!
 //! # Platform
 //!
@@ -80,7 +88,10 @@ mod code;
 mod error;
 mod explained;
 mod file;
+mod file_error;
 mod flat;
+mod items;
+mod limits;
 mod listing;
 mod mnemonics;
 mod opcode;
@@ -99,17 +110,17 @@ mod verifier;
 pub use capabilities::{Caps, CapsIter, UnknownCap};
 pub use changed::{Stripped, TightenError};
 pub use code::{
-    count_instructions, instruction, instructions, Field, Instruction, Instructions, Kind,
+    count_instructions, instruction, instructions, Field, InstructionRow, Instructions, Kind,
 };
 pub use error::{ExplainError, VerifyError};
 pub use explained::{explain, Base, Bases, Explained, Row, Subject};
-pub use file::{
-    FileChain, FileError, FileFault, FileFunction, FilePart, FileSwitch, Limits, Malformed,
-    OpAssignment, ProgramFile, Range,
-};
+pub use file::ProgramFile;
+pub use file_error::{FileError, FileFault, FilePart, Malformed};
 pub use flat::{FlatPools, PoolsFlaw, PoolsList};
+pub use items::{FileChain, FileFunction, FileStep, FileSteps, FileSwitch, OpAssignment, Range};
+pub use limits::Limits;
 pub use mnemonics::mnemonic;
-pub use opcode::{Flow, Opcode};
+pub use opcode::{Flow, Instruction, Opcode};
 pub use places::{ChainPart, ChainPlace};
 pub use pools::{PoolError, Pools};
 pub use program::{AttachError, Positions, Program};
@@ -120,8 +131,8 @@ pub use tables::{
     table_entries_into, Entry, ReadError, Site, TableFlaw,
 };
 pub use text::Text;
-pub use values::{Operator, Value, Values};
-pub use verified::{Rejected, Verified};
+pub use values::{Entries, Operator, Value, Values};
+pub use verified::{Rejected, RejectedFile, Source, Verified, VerifiedFile};
 pub use verifier::Verifier;
 
 /// A part of the code that is run by itself.
@@ -170,11 +181,7 @@ pub fn verify<'a>(
     chunks: &[Chunk],
     pools: impl Into<FlatPools<'a>>,
 ) -> Result<Vec<u16>, VerifyError> {
-    let mut depths = Vec::new();
-    depths
-        .try_reserve_exact(chunks.len())
-        .map_err(|_| VerifyError::OutOfMemory)?;
-    depths.resize(chunks.len(), 0);
+    let mut depths = verifier::zeroed(chunks.len())?;
     verify_into(caps, code, chunks, pools, &mut depths)?;
     Ok(depths)
 }
@@ -203,7 +210,8 @@ pub fn verify_into<'a>(
     pools: impl Into<FlatPools<'a>>,
     depths: &mut [u16],
 ) -> Result<u64, VerifyError> {
-    verifier::judge(caps, code, chunks, &pools.into(), depths)
+    let mut room = verifier::Room::of_depths(depths);
+    verifier::judge(caps, code, chunks, &pools.into(), &mut room)
 }
 
 /// Verifies as [`verify`] does, has each chunk declare its depth, and returns how many instructions were visited. With these

@@ -1,5 +1,5 @@
 //! An explanation as a listing.
-use crate::code::{Instruction, Instructions, Kind};
+use crate::code::{InstructionRow, Instructions, Kind};
 use crate::explained::{Explained, Row};
 use crate::flat::FlatPools;
 use crate::places::{ChainPart, ChainPlace};
@@ -109,7 +109,7 @@ impl Explained<'_> {
         f: &mut fmt::Formatter<'_>,
         address: u32,
         row: Option<&Row>,
-        found: Option<&Instruction>,
+        found: Option<&InstructionRow>,
         is_here: bool,
     ) -> fmt::Result {
         write!(f, "{address:>9}  {} ", Bytes::at(self.code, address, found))?;
@@ -157,7 +157,7 @@ impl Explained<'_> {
     fn write_instruction(
         &self,
         f: &mut fmt::Formatter<'_>,
-        found: Option<&Instruction>,
+        found: Option<&InstructionRow>,
     ) -> fmt::Result {
         let Some(found) = found else {
             return f.write_str("no instruction");
@@ -187,7 +187,7 @@ struct Bytes<'a>(&'a [u8]);
 
 impl<'a> Bytes<'a> {
     /// Those of an instruction, or one byte where there is none.
-    fn at(code: &'a [u8], address: u32, found: Option<&Instruction>) -> Bytes<'a> {
+    fn at(code: &'a [u8], address: u32, found: Option<&InstructionRow>) -> Bytes<'a> {
         let width = found.map_or(1, |found| usize::from(found.width));
         let rest = code.get(address as usize..).unwrap_or_default();
         Bytes(&rest[..rest.len().min(width)])

@@ -59,7 +59,7 @@ pub(crate) fn chain_place(
 fn out_of_bounds(row: ChainRow, steps: &[StepRow], pools: &FlatPools<'_>) -> Option<ChainPart> {
     let is_name = |name: u32| (name as usize) < pools.count_names();
     let is_root_sound = match row.root() {
-        Root::Local { name } | Root::Named { name } => is_name(name),
+        Root::Local { name, .. } | Root::Named { name } => is_name(name),
         Root::This | Root::Temporary => true,
     };
     if !is_root_sound {

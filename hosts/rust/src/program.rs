@@ -9,6 +9,7 @@ use crate::rows::{Root, Step};
 use crate::tables::{check_table, site, stream_site, stream_sites, stream_sites_into};
 use crate::tables::{table_entries, Entry, ReadError, Site, TableFlaw};
 use crate::verified::{Rejected, Verified};
+use crate::verifier::{judge, Found};
 use crate::{tighten, verify, Chunk};
 use std::error::Error;
 use std::fmt;
@@ -55,15 +56,15 @@ pub enum AttachError {
 impl fmt::Display for AttachError {
     fn fmt(&self, f: &mut fmt::Formatter<'_>) -> fmt::Result {
         match self {
-            AttachError::Table(_) => f.write_str("the address table is none"),
+            AttachError::Table(flaw) => write!(f, "the bytes are no address table: {flaw}"),
             AttachError::NoInstruction { at } => {
                 write!(
                     f,
-                    "no instruction begins at {at}, which the address table names"
+                    "the address table has an entry for {at}, where no instruction begins"
                 )
             }
             AttachError::NoLine { at } => write!(f, "the address table has line 0 for {at}"),
-            AttachError::Stream(_) => f.write_str("the stream of positions in chains is none"),
+            AttachError::Stream(flaw) => write!(f, "the bytes are no stream: {flaw}"),
             AttachError::ChainCount { slots, positions } => write!(
                 f,
                 "the stream has {slots} slots, and the chains have {positions} positions"
@@ -73,14 +74,7 @@ impl fmt::Display for AttachError {
     }
 }
 
-impl Error for AttachError {
-    fn source(&self) -> Option<&(dyn Error + 'static)> {
-        match self {
-            AttachError::Table(flaw) | AttachError::Stream(flaw) => Some(flaw),
-            _ => None,
-        }
-    }
-}
+impl Error for AttachError {}
 
 /// A program: its code, its chunks, its pools, and perhaps its positions.
 ///
@@ -161,8 +155,10 @@ impl Program {
     // The error has the program in it; a box would take memory, which may be what is lacking.
     #[allow(clippy::result_large_err)]
     pub fn into_verified(self, caps: Caps) -> Result<Verified, Rejected> {
-        let depths = self.verify(caps);
-        Verified::new(self, caps, depths)
+        let found = Found::by(self.chunks.len(), |room| {
+            judge(caps, &self.code, &self.chunks, &self.pools.flat(), room)
+        });
+        Verified::new(self, caps, found)
     }
 
     /// Explains a chunk of the program, by its index, or what a [`Refusal`] refuses, as [`explain`] does.

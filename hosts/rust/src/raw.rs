@@ -2,7 +2,7 @@
 // The whole interface is declared, used here or not, so that it can be compared with the header.
 #![allow(dead_code)]
 use crate::explained::Row;
-use crate::file::Range;
+use crate::items::Range;
 use crate::rows::{Case, ChainRow, Constant, StepRow, SwitchRow};
 use crate::tables::{Entry, Site};
 use crate::Chunk;
@@ -18,10 +18,14 @@ pub(crate) const TOO_MUCH_WORK: u32 = 5;
 pub(crate) const NO_CHUNK: u32 = 6;
 pub(crate) const BAD_CODE: u32 = 7;
 pub(crate) const STOPPED: u32 = 8;
-pub(crate) const NO_FILE: u32 = 9;
+pub(crate) const MALFORMED: u32 = 9;
 pub(crate) const TOO_LONG: u32 = 10;
+pub(crate) const BAD_LIMIT: u32 = 11;
+pub(crate) const NOT_RESTORABLE: u32 = 12;
 
 pub(crate) const CAUSE_TOO_LARGE: u32 = 1;
+pub(crate) const DECLARED_CAPS: u32 = 15;
+pub(crate) const DEPTH_MAX: u32 = 256;
 pub(crate) const VALUE_FALSE: u32 = 1;
 pub(crate) const VALUE_TRUE: u32 = 2;
 pub(crate) const VALUE_INTEGER: u32 = 3;
@@ -36,7 +40,7 @@ pub(crate) const VALUE_FN_PTR: u32 = 11;
 pub(crate) const VALUE_SHARED: u32 = 12;
 pub(crate) const VALUE_OPERATOR: u32 = 14;
 
-pub(crate) const INTERFACE: u32 = 2;
+pub(crate) const INTERFACE: u32 = 3;
 pub(crate) const WHOLE_PROGRAM: u64 = u64::MAX;
 pub(crate) const NO_ADDRESS: u32 = u32::MAX;
 pub(crate) const NO_BASE: u32 = u32::MAX;
@@ -126,6 +130,7 @@ pub(crate) struct Value {
 
 #[repr(C)]
 pub(crate) struct Contents {
+    pub(crate) size: usize,
     pub(crate) program: Program,
     pub(crate) caps: u16,
     pub(crate) has_source: bool,
@@ -151,8 +156,6 @@ pub(crate) struct Contents {
     pub(crate) op_assignments: *const OpAssignment,
     pub(crate) op_assignments_len: usize,
     pub(crate) positions: usize,
-    pub(crate) slots: *const u16,
-    pub(crate) slots_len: usize,
     pub(crate) step_flags: *const u8,
     pub(crate) step_flags_len: usize,
     pub(crate) ranges: *const Range,
@@ -161,6 +164,33 @@ pub(crate) struct Contents {
     pub(crate) table_len: usize,
     pub(crate) stream: *const u8,
     pub(crate) stream_len: usize,
+    pub(crate) chain_steps: *const u32,
+    pub(crate) chain_steps_len: usize,
+    pub(crate) switch_cases: *const u32,
+    pub(crate) switch_cases_len: usize,
+    pub(crate) switch_ranges: *const u32,
+    pub(crate) switch_ranges_len: usize,
+    pub(crate) function_parameters: *const u32,
+    pub(crate) function_parameters_len: usize,
+}
+
+/// Room for a file that a call writes, and how long the file is.
+#[repr(C)]
+pub(crate) struct Room {
+    pub(crate) bytes: *mut u8,
+    pub(crate) len: usize,
+    pub(crate) size: usize,
+}
+
+impl Room {
+    /// A list as room, which must be borrowed until the call.
+    pub(crate) fn of(list: &mut [u8]) -> Room {
+        Room {
+            bytes: list.as_mut_ptr(),
+            len: list.len(),
+            size: 0,
+        }
+    }
 }
 
 #[repr(C)]
@@ -260,9 +290,10 @@ const _: () = assert!(size_of::<Function>() == 16);
 const _: () = assert!(size_of::<OpAssignment>() == 8);
 const _: () = assert!(size_of::<Range>() == 24);
 const _: () = assert!(size_of::<Value>() == 16);
-const _: () = assert!(size_of::<Contents>() == 448);
+const _: () = assert!(size_of::<Contents>() == 504);
 const _: () = assert!(size_of::<Limits>() == 24);
 const _: () = assert!(size_of::<ReadError>() == 32);
+const _: () = assert!(size_of::<Room>() == 24);
 
 /// Takes a piece of a listing. It returns other than 0 to end the listing.
 pub(crate) type Put =
@@ -272,10 +303,10 @@ pub(crate) type Put =
 #[used]
 static INTERFACE_OF_PACKAGE: &u32 =
     // SAFETY: the symbol is a constant of the library, which nothing writes.
-    unsafe { &grain_interface_2 };
+    unsafe { &grain_interface_3 };
 
 extern "C" {
-    static grain_interface_2: u32;
+    static grain_interface_3: u32;
 
     pub(crate) fn grain_verify(
         scratch: *mut Scratch,
@@ -284,6 +315,7 @@ extern "C" {
         program: *const Program,
         depths: *mut u16,
         depths_len: usize,
+        slots: *mut u32,
         report: *mut Report,
     ) -> u32;
     pub(crate) fn grain_tighten(
@@ -329,6 +361,7 @@ extern "C" {
         limit: u64,
         depths: *mut u16,
         depths_len: usize,
+        slots: *mut u32,
         report: *mut Report,
     ) -> u32;
     pub(crate) fn grain_file_free(file: *mut File);
@@ -337,9 +370,7 @@ extern "C" {
         bytes_len: usize,
         limits: *const Limits,
         limit: u64,
-        tightened: *mut u8,
-        tightened_len: usize,
-        size: *mut usize,
+        tightened: *mut Room,
         error: *mut ReadError,
         report: *mut Report,
     ) -> u32;
@@ -347,12 +378,8 @@ extern "C" {
         bytes: *const u8,
         bytes_len: usize,
         limits: *const Limits,
-        stripped: *mut u8,
-        stripped_len: usize,
-        size: *mut usize,
-        sidecar: *mut u8,
-        sidecar_len: usize,
-        sidecar_size: *mut usize,
+        stripped: *mut Room,
+        sidecar: *mut Room,
         error: *mut ReadError,
     ) -> u32;
     pub(crate) fn grain_read_error_text(
@@ -385,33 +412,35 @@ extern "C" {
         instruction: *mut Instruction,
     ) -> bool;
     pub(crate) fn grain_is_quiet(tag: u8) -> bool;
-    pub(crate) fn grain_site(
+    pub(crate) fn grain_table_place(
         table: *const u8,
         table_len: usize,
         address: u32,
         place: *mut Site,
     ) -> bool;
-    pub(crate) fn grain_check_table(table: *const u8, table_len: usize, named: *mut u64) -> u32;
+    pub(crate) fn grain_check_table(table: *const u8, table_len: usize, detail: *mut u64) -> u32;
     pub(crate) fn grain_table_entries(
         table: *const u8,
         table_len: usize,
         entries: *mut Entry,
         entries_len: usize,
     ) -> usize;
-    pub(crate) fn grain_stream_site(
+    pub(crate) fn grain_stream_place(
         stream: *const u8,
         stream_len: usize,
-        slot: u32,
+        index: u32,
         place: *mut Site,
     ) -> bool;
-    pub(crate) fn grain_check_stream(stream: *const u8, stream_len: usize, named: *mut u64) -> u32;
-    pub(crate) fn grain_stream_sites(
+    pub(crate) fn grain_check_stream(stream: *const u8, stream_len: usize, detail: *mut u64)
+        -> u32;
+    pub(crate) fn grain_stream_places(
         stream: *const u8,
         stream_len: usize,
-        sites: *mut Site,
-        sites_len: usize,
+        places: *mut Site,
+        places_len: usize,
         count: *mut usize,
     ) -> bool;
+    pub(crate) fn grain_status_text(status: u32) -> *const c_char;
     pub(crate) fn grain_interface() -> u32;
     pub(crate) fn grain_version() -> *const c_char;
 }

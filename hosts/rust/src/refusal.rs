@@ -109,11 +109,19 @@ pub enum Flaw {
         /// The index.
         index: u32,
     },
-    /// Something that this package has no name for: the library is a newer one.
-    Other {
-        /// Its number in `grain.h`.
-        flaw: u32,
+    /// A program file declares capabilities that the host lacks ([`ProgramFile::caps`](crate::ProgramFile::caps)). Those
+    /// without a name are left out here; [`Refusal::line`] has them.
+    DeclaredCaps {
+        /// The capabilities that the host lacks.
+        missing: Caps,
+        /// Those of the host.
+        host: Caps,
     },
+    /// A number that this package doesn't know.
+    Unknown(
+        /// Its number in `grain.h`.
+        u32,
+    ),
 }
 
 /// A number of the library's that fits: code has no more bytes than 32 bits can say.
@@ -124,6 +132,19 @@ fn small(number: u64) -> u32 {
 impl Refusal {
     pub(crate) fn new(record: raw::Refusal, visited: u64) -> Refusal {
         Refusal { record, visited }
+    }
+
+    /// The refusal of a program file that declares these capabilities, by number, where the host lacks some of them.
+    pub(crate) fn of_declared_caps(declared: u16, host: Caps) -> Option<Refusal> {
+        let missing = declared & !host.bits();
+        let record = raw::Refusal {
+            flaw: raw::DECLARED_CAPS,
+            chunk: raw::WHOLE_PROGRAM,
+            at: 0,
+            first: u64::from(missing),
+            second: u64::from(host.bits()),
+        };
+        (missing != 0).then_some(Refusal { record, visited: 0 })
     }
 
     /// The same of the chunk with this index.
@@ -152,7 +173,10 @@ impl Refusal {
     pub fn address(&self) -> Option<u32> {
         match self.flaw() {
             Flaw::MissingCaps { .. } if self.chunk().is_none() => None,
-            Flaw::FallsOffTheEnd | Flaw::StackExceedsDeclared { .. } | Flaw::Other { .. } => None,
+            Flaw::FallsOffTheEnd
+            | Flaw::StackExceedsDeclared { .. }
+            | Flaw::DeclaredCaps { .. }
+            | Flaw::Unknown(_) => None,
             _ => Some(small(self.record.at)),
         }
     }
@@ -206,7 +230,11 @@ impl Refusal {
                 what: Kind::of(small(whole)),
                 index: first,
             },
-            flaw => Flaw::Other { flaw },
+            raw::DECLARED_CAPS => Flaw::DeclaredCaps {
+                missing: Caps::from_bits_truncate(caps.0),
+                host: Caps::from_bits_truncate(caps.1),
+            },
+            flaw => Flaw::Unknown(flaw),
         }
     }
 
@@ -305,8 +333,8 @@ impl Refusal {
             }
             Flaw::StackExceedsDeclared { needed, declared } => write!(
                 text,
-                "{needed} operand{} are needed, and {declared} declared",
-                plural(needed)
+                "{needed} operand{} needed, and {declared} declared",
+                if needed == 1 { " is" } else { "s are" }
             ),
             Flaw::IteratorUnderflow => {
                 write!(text, "the instruction at {at} needs an iterator, and there is none")
@@ -323,10 +351,27 @@ impl Refusal {
                 "the instruction at {at} has index {index} of {} {what}, which doesn't exist",
                 article(what)
             ),
-            Flaw::Other { flaw } => {
+            Flaw::DeclaredCaps { missing, .. } => self.write_declared(text, missing),
+            Flaw::Unknown(flaw) => {
                 write!(text, "the library names flaw {flaw}, which this package doesn't know")
             }
         }
+    }
+
+    /// As in "the program declares EXPORT and IMPORT, which the host doesn't have".
+    fn write_declared(&self, text: &mut impl Write, missing: Caps) -> fmt::Result {
+        let unknown = self.record.first as u16 & !Caps::ALL.bits();
+        let mut left = missing.iter().count() + usize::from(unknown != 0);
+        text.write_str("the program declares ")?;
+        for cap in missing.iter() {
+            left -= 1;
+            let between = ["", " and ", ", "][left.min(2)];
+            write!(text, "{cap}{between}")?;
+        }
+        if unknown != 0 {
+            write!(text, "the unknown capabilities {unknown:04x}")?;
+        }
+        text.write_str(", which the host doesn't have")
     }
 
     fn write_missing(&self, text: &mut impl Write, lacking: Caps) -> fmt::Result {
@@ -423,6 +468,10 @@ mod tests {
             (12, 0, 0, "the instruction at 3 needs a handler, and none is armed"),
             (13, 2, 1, "the instruction at 3 leaves 1 of the 2 operands or iterators that there were when the handler was armed"),
             (14, 9, 4, "the instruction at 3 has index 9 of an op-assignment, which doesn't exist"),
+            (15, 0x2000, 0, "the program declares IMPORT, which the host doesn't have"),
+            (15, 0x3000, 0, "the program declares EXPORT and IMPORT, which the host doesn't have"),
+            (15, 0x8000, 0, "the program declares the unknown capabilities 8000, which the host doesn't have"),
+            (15, 0xb002, 0, "the program declares ARRAY, EXPORT, IMPORT and the unknown capabilities 8000, which the host doesn't have"),
             (99, 0, 0, "the library names flaw 99, which this package doesn't know"),
         ] {
             assert_eq!(sentence(flaw, first, second), wanted);
@@ -452,6 +501,10 @@ mod tests {
             0,
         );
         assert!(long.to_string().ends_with("was armed"));
+        let declared = Refusal::of_declared_caps(u16::MAX, Caps::NONE).unwrap();
+        assert!(declared
+            .to_string()
+            .ends_with("8000, which the host doesn't have"));
     }
 
     #[test]

@@ -8,6 +8,8 @@ pub enum Root {
     Local {
         /// The index of its name.
         name: u32,
+        /// Its slot.
+        slot: u16,
     },
     /// At a variable that is found by its name.
     Named {
@@ -146,6 +148,7 @@ pub struct ChainRow {
     tail: u32,
     op: u32,
     operands: u16,
+    slot: u16,
 }
 
 impl ChainRow {
@@ -153,11 +156,11 @@ impl ChainRow {
     #[inline]
     #[must_use]
     pub fn new(root: Root, steps: u32, tail: Tail, operands: u16) -> ChainRow {
-        let (root, root_name) = match root {
-            Root::Local { name } => (0, name),
-            Root::Named { name } => (1, name),
-            Root::This => (2, 0),
-            Root::Temporary => (3, 0),
+        let (root, root_name, slot) = match root {
+            Root::Local { name, slot } => (0, name, slot),
+            Root::Named { name } => (1, name, 0),
+            Root::This => (2, 0, 0),
+            Root::Temporary => (3, 0, 0),
         };
         let (tail, op) = match tail {
             Tail::Read => (0, 0),
@@ -171,15 +174,16 @@ impl ChainRow {
             tail,
             op,
             operands,
+            slot,
         }
     }
 
     /// Where it begins.
     #[must_use]
     pub fn root(&self) -> Root {
-        let name = self.root_name;
+        let (name, slot) = (self.root_name, self.slot);
         match self.root {
-            0 => Root::Local { name },
+            0 => Root::Local { name, slot },
             1 => Root::Named { name },
             2 => Root::This,
             _ => Root::Temporary,

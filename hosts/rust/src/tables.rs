@@ -59,11 +59,11 @@ pub enum TableFlaw {
         /// How many they are.
         count: u64,
     },
-    /// Something that this package has no name for: the library is a newer one.
-    Other {
+    /// A number that this package doesn't know.
+    Unknown(
         /// Its number in `grain.h`.
-        flaw: u32,
-    },
+        u32,
+    ),
 }
 
 impl fmt::Display for TableFlaw {
@@ -74,7 +74,7 @@ impl fmt::Display for TableFlaw {
             TableFlaw::Overflow => text.push("a number is above 4294967295"),
             TableFlaw::OutOfOrder { at } => write!(text, "the address {at} is repeated")?,
             TableFlaw::TrailingBytes { count } => write!(text, "{count} bytes too many")?,
-            TableFlaw::Other { flaw } => write!(text, "flaw {flaw}, which is unknown here")?,
+            TableFlaw::Unknown(flaw) => write!(text, "flaw {flaw}, which is unknown here")?,
         }
         f.pad(&text)
     }
@@ -94,21 +94,14 @@ pub enum ReadError {
 
 impl fmt::Display for ReadError {
     fn fmt(&self, f: &mut fmt::Formatter<'_>) -> fmt::Result {
-        f.pad(match self {
-            ReadError::Flaw(_) => "the bytes are no stream",
-            ReadError::OutOfMemory => "out of memory",
-        })
-    }
-}
-
-impl std::error::Error for ReadError {
-    fn source(&self) -> Option<&(dyn std::error::Error + 'static)> {
         match self {
-            ReadError::Flaw(flaw) => Some(flaw),
-            ReadError::OutOfMemory => None,
+            ReadError::Flaw(flaw) => write!(f, "the bytes are no stream: {flaw}"),
+            ReadError::OutOfMemory => f.write_str("out of memory"),
         }
     }
 }
+
+impl std::error::Error for ReadError {}
 
 impl From<TableFlaw> for ReadError {
     fn from(flaw: TableFlaw) -> ReadError {
@@ -129,7 +122,7 @@ fn flaw_of(flaw: u32, named: u64) -> Result<(), TableFlaw> {
         2 => Err(TableFlaw::Overflow),
         3 => Err(TableFlaw::OutOfOrder { at: named }),
         4 => Err(TableFlaw::TrailingBytes { count: named }),
-        flaw => Err(TableFlaw::Other { flaw }),
+        flaw => Err(TableFlaw::Unknown(flaw)),
     }
 }
 
@@ -147,7 +140,7 @@ fn flaw_of(flaw: u32, named: u64) -> Result<(), TableFlaw> {
 pub fn site(table: &[u8], address: u32) -> Option<Site> {
     let mut place = Site::default();
     // SAFETY: the table is one slice, and the place lives for the call.
-    let found = unsafe { raw::grain_site(table.as_ptr(), table.len(), address, &mut place) };
+    let found = unsafe { raw::grain_table_place(table.as_ptr(), table.len(), address, &mut place) };
     found.then_some(place)
 }
 
@@ -167,7 +160,7 @@ pub fn check_table(table: &[u8]) -> Result<(), TableFlaw> {
 pub fn stream_site(stream: &[u8], slot: u32) -> Option<Site> {
     let mut place = Site::default();
     // SAFETY: the stream is one slice, and the place lives for the call.
-    let found = unsafe { raw::grain_stream_site(stream.as_ptr(), stream.len(), slot, &mut place) };
+    let found = unsafe { raw::grain_stream_place(stream.as_ptr(), stream.len(), slot, &mut place) };
     found.then_some(place)
 }
 
@@ -221,7 +214,7 @@ pub fn stream_sites_into(stream: &[u8], sites: &mut [Site]) -> Result<usize, Tab
     let mut count = 0;
     // SAFETY: each pointer and length are those of one slice that is borrowed for the call, and `count` lives for it.
     let is_stream = unsafe {
-        raw::grain_stream_sites(
+        raw::grain_stream_places(
             stream.as_ptr(),
             stream.len(),
             sites.as_mut_ptr(),

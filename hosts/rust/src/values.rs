@@ -24,8 +24,8 @@ pub enum Value<'a> {
     Array(Values<'a>),
     /// Bytes in order.
     Blob(&'a [u8]),
-    /// An object map: a text and then a value, entry by entry, in the order of the texts.
-    Map(Values<'a>),
+    /// An object map: its texts and their values, in the order of the texts.
+    Map(Entries<'a>),
     /// A function by its name, with the first arguments of its calls.
     FnPtr(&'a str, Values<'a>),
     /// A value that several variables hold.
@@ -35,13 +35,37 @@ pub enum Value<'a> {
 /// An operator of a program file.
 #[derive(Clone, Copy, Debug, PartialEq, Eq, Hash)]
 pub enum Operator<'a> {
-    /// One of the language, by its number (FORMAT.md, "Program files").
+    /// One of the language, by its number (RUNNING.md, "Operators").
     Number(u8),
     /// One that the host has added, by its text.
     Custom(&'a str),
 }
 
+/// How the operators of the language are written, by their numbers (RUNNING.md, "Operators").
+const SYMBOLS: [&str; 39] = [
+    "+", "+", "-", "-", "*", "/", "%", "**", "<<", ">>", "&", "|", "^", "&&", "||", "!", "??",
+    "==", "!=", "<", "<=", ">", ">=", "in", "!in", "..", "..=", "=", "+=", "-=", "*=", "/=", "%=",
+    "**=", "<<=", ">>=", "&=", "|=", "^=",
+];
+
 impl<'a> Operator<'a> {
+    /// How it is written, such as `+`. The operators 1 and 3 are `+` and `-` before their only operand. It is empty for a number
+    /// that no operator has.
+    ///
+    /// ```
+    /// use grain::Operator;
+    ///
+    /// assert_eq!(Operator::Number(38).symbol(), "^=");
+    /// assert_eq!(Operator::Custom("<>").symbol(), "<>");
+    /// ```
+    #[must_use]
+    pub fn symbol(self) -> &'a str {
+        match self {
+            Operator::Number(number) => SYMBOLS.get(usize::from(number)).copied().unwrap_or(""),
+            Operator::Custom(text) => text,
+        }
+    }
+
     pub(crate) fn of(row: &raw::Value, texts: &'a [u8]) -> Operator<'a> {
         match row.tag {
             raw::VALUE_OPERATOR => Operator::Number(row.number as u8),
@@ -76,7 +100,8 @@ impl<'a> Values<'a> {
         (number(1), number(2))
     }
 
-    fn first(&self) -> Option<Value<'a>> {
+    /// The first value, where there are rows.
+    pub(crate) fn first(&self) -> Option<Value<'a>> {
         let row = self.rows.first()?;
         Some(match row.tag {
             raw::VALUE_FALSE => Value::Bool(false),
@@ -91,7 +116,9 @@ impl<'a> Values<'a> {
             raw::VALUE_RANGE_INCLUSIVE => Value::RangeInclusive(self.pair().0, self.pair().1),
             raw::VALUE_ARRAY => Value::Array(self.inside(count_of(row))),
             raw::VALUE_BLOB => Value::Blob(bytes_of(row, self.texts)),
-            raw::VALUE_MAP => Value::Map(self.inside(count_of(row).saturating_mul(2))),
+            raw::VALUE_MAP => Value::Map(Entries {
+                values: self.inside(count_of(row).saturating_mul(2)),
+            }),
             raw::VALUE_FN_PTR => {
                 let name = self.rows.get(1).map_or("", |row| text_of(row, self.texts));
                 let bound = Values::new(
@@ -125,6 +152,44 @@ impl<'a> Iterator for Values<'a> {
 }
 
 impl ExactSizeIterator for Values<'_> {}
+
+/// The entries of an object map: each text with its value, in the order of the texts.
+///
+/// ```
+/// use grain::{ProgramFile, Value};
+///
+/// // The constant `#{a: 1}`.
+/// let bytes = b"\0grn\x01\0\0\0\0\x02\x02\x13\0\x02\x01\0\0\x01\x0a\x01\x01a\x03\x02\0\0\0\0\0\0";
+/// let file = ProgramFile::try_from(&bytes[..])?;
+/// let Some(Value::Map(entries)) = file.constant(0) else { panic!() };
+/// assert_eq!(entries.collect::<Vec<_>>(), [("a", Value::Integer(1))]);
+/// # Ok::<(), grain::FileError>(())
+/// ```
+#[derive(Clone, Copy, Debug, PartialEq)]
+pub struct Entries<'a> {
+    /// A text and then a value, entry by entry.
+    values: Values<'a>,
+}
+
+impl<'a> Iterator for Entries<'a> {
+    type Item = (&'a str, Value<'a>);
+
+    /// It takes time by the rows of the value.
+    fn next(&mut self) -> Option<(&'a str, Value<'a>)> {
+        let text = match self.values.next()? {
+            Value::Text(text) => text,
+            _ => "",
+        };
+        Some((text, self.values.next()?))
+    }
+
+    fn size_hint(&self) -> (usize, Option<usize>) {
+        let left = self.values.left / 2;
+        (left, Some(left))
+    }
+}
+
+impl ExactSizeIterator for Entries<'_> {}
 
 /// How many bytes, values or entries a row counts.
 fn count_of(row: &raw::Value) -> usize {

@@ -1,19 +1,95 @@
 //! A yes as a value.
 use crate::capabilities::Caps;
 use crate::error::VerifyError;
-use crate::pools::Pools;
-use crate::program::{Positions, Program};
+use crate::file::ProgramFile;
+use crate::flat::FlatPools;
+use crate::program::Program;
 use crate::refusal::Refusal;
 use crate::tables::Site;
+use crate::verifier::Found;
 use crate::Chunk;
 use std::error::Error;
 use std::fmt;
+use std::ops::Deref;
 
-/// A program that is accepted, with the capabilities that it was verified for and the depths of its chunks.
+mod sealed {
+    pub trait Sealed {}
+    impl Sealed for crate::Program {}
+    impl Sealed for crate::ProgramFile {}
+}
+
+/// What a [`Verified`] has been made of: a [`Program`] or a [`ProgramFile`]. A machine that takes a `Verified<P>` for any
+/// `P: Source` runs both.
 ///
-/// It can't be changed, and only [`Program::into_verified`] and [`Verifier::verify_program`](crate::Verifier::verify_program)
-/// make one. So a machine that takes a `Verified` never runs what nobody has verified. What is required of such a machine is
-/// listed at [what a host owes](crate#what-a-host-owes).
+/// ```
+/// use grain::{Instruction, Source, Verified};
+///
+/// /// How many instructions a chunk has.
+/// fn count<P: Source>(verified: &Verified<P>, chunk: usize) -> usize {
+///     let chunk = verified.chunks()[chunk];
+///     let (mut address, mut count) = (chunk.entry, 0);
+///     while address < chunk.end {
+///         let Some((_, next)) = Instruction::decode(verified.code(), address) else { break };
+///         (address, count) = (next, count + 1);
+///     }
+///     count
+/// }
+/// ```
+pub trait Source: sealed::Sealed {
+    /// The code.
+    fn code(&self) -> &[u8];
+    /// The chunks.
+    fn chunks(&self) -> &[Chunk];
+    /// The pools in their flat form.
+    fn flat(&self) -> FlatPools<'_>;
+    /// The line and the column that are recorded for an address of the code.
+    fn site(&self, address: u32) -> Option<Site>;
+}
+
+impl Source for Program {
+    fn code(&self) -> &[u8] {
+        self.code()
+    }
+
+    fn chunks(&self) -> &[Chunk] {
+        self.chunks()
+    }
+
+    fn flat(&self) -> FlatPools<'_> {
+        self.pools().flat()
+    }
+
+    fn site(&self, address: u32) -> Option<Site> {
+        self.site(address)
+    }
+}
+
+impl Source for ProgramFile {
+    fn code(&self) -> &[u8] {
+        self.code()
+    }
+
+    fn chunks(&self) -> &[Chunk] {
+        self.chunks()
+    }
+
+    fn flat(&self) -> FlatPools<'_> {
+        self.pools()
+    }
+
+    fn site(&self, address: u32) -> Option<Site> {
+        self.site(address)
+    }
+}
+
+/// A program that is accepted, with the capabilities of the host that it was verified for and the depths of its chunks. The program
+/// is a [`Program`], or a [`ProgramFile`] ([`VerifiedFile`]).
+///
+/// It can't be changed, and only [`Program::into_verified`], [`ProgramFile::into_verified`] and two calls of a
+/// [`Verifier`](crate::Verifier) make one. So a machine that takes a `Verified` never runs what nobody has verified. What is
+/// required of such a machine is listed at [what a host owes](crate#what-a-host-owes).
+///
+/// It dereferences to the program, which may be read and not changed.
 ///
 /// ```
 /// use grain::{Caps, Chunk, Pools, Program};
@@ -22,6 +98,7 @@ use std::fmt;
 /// let verified = program.into_verified(Caps::NONE)?;
 /// assert_eq!((verified.depth(0), verified.depths()), (Some(2), &[2][..]));
 /// assert_eq!(verified.code(), [0x02, 0x02, 0x0b, 0x13]);
+/// assert_eq!(verified.pools(), &Pools::new());
 ///
 /// let program = Program::new(vec![0x0b, 0x13], vec![Chunk::new(0, 2, 8)], Pools::new());
 /// let rejected = program.into_verified(Caps::NONE).unwrap_err();
@@ -30,77 +107,102 @@ use std::fmt;
 /// # Ok::<(), grain::Rejected>(())
 /// ```
 #[derive(Clone, Debug, PartialEq, Eq, Hash)]
-pub struct Verified {
-    program: Program,
+pub struct Verified<P = Program> {
+    program: P,
     caps: Caps,
-    depths: Vec<u16>,
+    found: Found,
 }
 
-impl Verified {
+/// A program file that is accepted.
+pub type VerifiedFile = Verified<ProgramFile>;
+
+/// A program file that isn't accepted, and why.
+pub type RejectedFile = Rejected<ProgramFile>;
+
+impl<P> Verified<P> {
     /// The program with the result of its verification.
     // The error has the program in it; a box would take memory, which may be what is lacking.
     #[allow(clippy::result_large_err)]
     pub(crate) fn new(
-        program: Program,
+        program: P,
         caps: Caps,
-        depths: Result<Vec<u16>, VerifyError>,
-    ) -> Result<Verified, Rejected> {
-        match depths {
-            Ok(depths) => Ok(Verified {
+        found: Result<Found, VerifyError>,
+    ) -> Result<Verified<P>, Rejected<P>> {
+        match found {
+            Ok(found) => Ok(Verified {
                 program,
                 caps,
-                depths,
+                found,
             }),
             Err(error) => Err(Rejected { program, error }),
         }
     }
 
     /// The program.
+    #[inline]
     #[must_use]
-    pub fn program(&self) -> &Program {
+    pub fn program(&self) -> &P {
         &self.program
     }
 
-    /// Its code.
-    #[must_use]
-    pub fn code(&self) -> &[u8] {
-        self.program.code()
-    }
-
-    /// Its chunks.
-    #[must_use]
-    pub fn chunks(&self) -> &[Chunk] {
-        self.program.chunks()
-    }
-
-    /// Its pools.
-    #[must_use]
-    pub fn pools(&self) -> &Pools {
-        self.program.pools()
-    }
-
-    /// Its positions, where it has them.
-    #[must_use]
-    pub fn positions(&self) -> Option<&Positions> {
-        self.program.positions()
-    }
-
-    /// The capabilities that it was verified for: a host that runs it must have them.
+    /// The capabilities of the host that it was verified for: a host that runs it must have them.
     #[must_use]
     pub fn caps(&self) -> Caps {
         self.caps
     }
 
     /// The depth of each chunk: the greatest number of operands that any run of it reaches.
+    #[inline]
     #[must_use]
     pub fn depths(&self) -> &[u16] {
-        &self.depths
+        &self.found.depths
     }
 
     /// The depth of one chunk.
+    #[inline]
     #[must_use]
     pub fn depth(&self, chunk: usize) -> Option<u16> {
-        self.depths.get(chunk).copied()
+        self.found.depths.get(chunk).copied()
+    }
+
+    /// How many slots each chunk names: one more than the greatest slot of an instruction of the chunk or of the root of a chain
+    /// there, or 0.
+    ///
+    /// Verification tests no slot. A machine that has as many for a call, and as many as the function has parameters if these are
+    /// more, needs no test of a slot. `DECLARE_LOCAL` takes the next slot, which a hostile program can do without end: the
+    /// machine must bound it.
+    #[inline]
+    #[must_use]
+    pub fn slots(&self) -> &[u32] {
+        &self.found.slots
+    }
+
+    /// The program, which may be changed again.
+    #[must_use]
+    pub fn into_program(self) -> P {
+        self.program
+    }
+}
+
+impl<P: Source> Verified<P> {
+    /// Its code.
+    #[inline]
+    #[must_use]
+    pub fn code(&self) -> &[u8] {
+        self.program.code()
+    }
+
+    /// Its chunks. Those of a file are that of the top level, and then those of the functions.
+    #[inline]
+    #[must_use]
+    pub fn chunks(&self) -> &[Chunk] {
+        self.program.chunks()
+    }
+
+    /// Its pools in their flat form.
+    #[must_use]
+    pub fn flat(&self) -> FlatPools<'_> {
+        self.program.flat()
     }
 
     /// The line and the column that are recorded for an address of the code.
@@ -108,11 +210,14 @@ impl Verified {
     pub fn site(&self, address: u32) -> Option<Site> {
         self.program.site(address)
     }
+}
 
-    /// The program, which may be changed again.
-    #[must_use]
-    pub fn into_program(self) -> Program {
-        self.program
+impl<P> Deref for Verified<P> {
+    type Target = P;
+
+    #[inline]
+    fn deref(&self) -> &P {
+        &self.program
     }
 }
 
@@ -122,16 +227,22 @@ impl From<Verified> for Program {
     }
 }
 
-/// A program that isn't accepted, and why.
+impl From<VerifiedFile> for ProgramFile {
+    fn from(verified: VerifiedFile) -> ProgramFile {
+        verified.into_program()
+    }
+}
+
+/// A program that isn't accepted, and why. The program is a [`Program`], or a [`ProgramFile`] ([`RejectedFile`]).
 ///
-/// It prints as its [`VerifyError`] does, and has the same source.
+/// It prints as its [`VerifyError`] does.
 #[derive(Clone, PartialEq, Eq)]
-pub struct Rejected {
-    program: Program,
+pub struct Rejected<P = Program> {
+    program: P,
     error: VerifyError,
 }
 
-impl Rejected {
+impl<P> Rejected<P> {
     /// Why it isn't accepted.
     #[must_use]
     pub fn error(&self) -> &VerifyError {
@@ -146,31 +257,31 @@ impl Rejected {
 
     /// The program.
     #[must_use]
-    pub fn program(&self) -> &Program {
+    pub fn program(&self) -> &P {
         &self.program
     }
 
     /// The program.
     #[must_use]
-    pub fn into_program(self) -> Program {
+    pub fn into_program(self) -> P {
         self.program
     }
 
     /// The program and the error.
     #[must_use]
-    pub fn into_parts(self) -> (Program, VerifyError) {
+    pub fn into_parts(self) -> (P, VerifyError) {
         (self.program, self.error)
     }
 }
 
-impl fmt::Display for Rejected {
+impl<P> fmt::Display for Rejected<P> {
     fn fmt(&self, f: &mut fmt::Formatter<'_>) -> fmt::Result {
         self.error.fmt(f)
     }
 }
 
 /// Without the program, which may be long.
-impl fmt::Debug for Rejected {
+impl<P> fmt::Debug for Rejected<P> {
     fn fmt(&self, f: &mut fmt::Formatter<'_>) -> fmt::Result {
         f.debug_struct("Rejected")
             .field("error", &self.error)
@@ -178,14 +289,10 @@ impl fmt::Debug for Rejected {
     }
 }
 
-impl Error for Rejected {
-    fn source(&self) -> Option<&(dyn Error + 'static)> {
-        self.error.source()
-    }
-}
+impl<P> Error for Rejected<P> {}
 
-impl From<Rejected> for VerifyError {
-    fn from(rejected: Rejected) -> VerifyError {
+impl<P> From<Rejected<P>> for VerifyError {
+    fn from(rejected: Rejected<P>) -> VerifyError {
         rejected.error
     }
 }

@@ -3,8 +3,9 @@ use crate::capabilities::Caps;
 use crate::changed::{self, TightenError};
 use crate::error::{ExplainError, VerifyError};
 use crate::explained::{self, Explained, Subject};
-use crate::file::{Limits, ProgramFile};
+use crate::file::ProgramFile;
 use crate::flat::FlatPools;
+use crate::limits::Limits;
 use crate::program::Program;
 use crate::refusal::Refusal;
 use crate::verified::{Rejected, Verified};
@@ -78,6 +79,16 @@ impl Verifier {
         self
     }
 
+    /// Makes as many places for depths as there are chunks.
+    fn make_room(&mut self, chunks: usize) -> Result<(), VerifyError> {
+        let lacking = chunks.saturating_sub(self.depths.len());
+        self.depths
+            .try_reserve(lacking)
+            .map_err(|_| VerifyError::OutOfMemory)?;
+        self.depths.resize(chunks, 0);
+        Ok(())
+    }
+
     /// Verifies a program, and returns the depth of each chunk, as [`verify`](crate::verify) does.
     ///
     /// # Errors
@@ -89,20 +100,17 @@ impl Verifier {
         chunks: &[Chunk],
         pools: impl Into<FlatPools<'a>>,
     ) -> Result<&[u16], VerifyError> {
-        let lacking = chunks.len().saturating_sub(self.depths.len());
-        self.depths
-            .try_reserve(lacking)
-            .map_err(|_| VerifyError::OutOfMemory)?;
-        self.depths.resize(chunks.len(), 0);
-        let (limit, depths) = (self.limit, &mut self.depths[..]);
+        self.make_room(chunks.len())?;
+        let mut room = Room::of_depths(&mut self.depths);
+        let scratch = Some(&mut self.scratch);
         judge_in(
-            Some(&mut self.scratch),
-            limit,
+            scratch,
+            self.limit,
             caps,
             code,
             chunks,
             &pools.into(),
-            depths,
+            &mut room,
         )?;
         Ok(&self.depths)
     }
@@ -120,14 +128,16 @@ impl Verifier {
         pools: impl Into<FlatPools<'a>>,
         depths: &mut [u16],
     ) -> Result<u64, VerifyError> {
+        let mut room = Room::of_depths(depths);
+        let scratch = Some(&mut self.scratch);
         judge_in(
-            Some(&mut self.scratch),
+            scratch,
             self.limit,
             caps,
             code,
             chunks,
             &pools.into(),
-            depths,
+            &mut room,
         )
     }
 
@@ -136,15 +146,9 @@ impl Verifier {
     /// # Errors
     /// Those of [`ProgramFile::verify`], and [`VerifyError::TooMuchWork`].
     pub fn verify_file(&mut self, caps: Caps, file: &ProgramFile) -> Result<&[u16], VerifyError> {
-        let chunks = file.chunks().len();
-        self.depths
-            .try_reserve(chunks.saturating_sub(self.depths.len()))
-            .map_err(|_| VerifyError::OutOfMemory)?;
-        self.depths.resize(chunks, 0);
-        let mut report = raw::Report::default();
-        let (limit, depths) = (self.limit, &mut self.depths[..]);
-        let status = file.judge(&mut self.scratch, caps, limit, depths, &mut report);
-        verdict(status, &report, &file.pools())?;
+        self.make_room(file.chunks().len())?;
+        let mut room = Room::of_depths(&mut self.depths);
+        file.judge(Some(&mut self.scratch), self.limit, caps, &mut room)?;
         Ok(&self.depths)
     }
 
@@ -155,10 +159,36 @@ impl Verifier {
     // The error has the program in it; a box would take memory, which may be what is lacking.
     #[allow(clippy::result_large_err)]
     pub fn verify_program(&mut self, caps: Caps, program: Program) -> Result<Verified, Rejected> {
-        let depths = self
-            .verify(caps, program.code(), program.chunks(), program.pools())
-            .and_then(copied);
-        Verified::new(program, caps, depths)
+        let (scratch, limit) = (Some(&mut self.scratch), self.limit);
+        let found = Found::by(program.chunks().len(), |room| {
+            let (code, chunks) = (program.code(), program.chunks());
+            judge_in(
+                scratch,
+                limit,
+                caps,
+                code,
+                chunks,
+                &program.pools().flat(),
+                room,
+            )
+        });
+        Verified::new(program, caps, found)
+    }
+
+    /// Verifies the program of a file, and returns the file as a [`Verified`], as [`ProgramFile::into_verified`] does.
+    ///
+    /// # Errors
+    /// The file and the error of [`Verifier::verify_file`].
+    pub fn verify_program_file(
+        &mut self,
+        caps: Caps,
+        file: ProgramFile,
+    ) -> Result<Verified<ProgramFile>, Rejected<ProgramFile>> {
+        let (scratch, limit) = (Some(&mut self.scratch), self.limit);
+        let found = Found::by(file.chunks().len(), |room| {
+            file.judge(scratch, limit, caps, room)
+        });
+        Verified::new(file, caps, found)
     }
 
     /// The file of the same program, whose chunks declare their depths, as [`ProgramFile::tighten`] makes it, within the limit on
@@ -200,12 +230,72 @@ impl Drop for Verifier {
     }
 }
 
-fn copied(depths: &[u16]) -> Result<Vec<u16>, VerifyError> {
+/// Room for what is returned of each chunk.
+#[derive(Debug)]
+pub(crate) struct Room<'a> {
+    pub(crate) depths: &'a mut [u16],
+    slots: Option<&'a mut [u32]>,
+}
+
+impl<'a> Room<'a> {
+    /// Room for depths alone.
+    pub(crate) fn of_depths(depths: &'a mut [u16]) -> Room<'a> {
+        Room {
+            depths,
+            slots: None,
+        }
+    }
+
+    /// Where as many numbers of slots are written as there are depths; NULL where there is no such room.
+    pub(crate) fn slots(&mut self) -> *mut u32 {
+        match &mut self.slots {
+            Some(slots) if slots.len() >= self.depths.len() => slots.as_mut_ptr(),
+            _ => std::ptr::null_mut(),
+        }
+    }
+}
+
+/// What verification returns of each chunk of a program that it accepts.
+#[derive(Clone, Debug, PartialEq, Eq, Hash)]
+pub(crate) struct Found {
+    pub(crate) depths: Vec<u16>,
+    pub(crate) slots: Vec<u32>,
+}
+
+impl Found {
+    /// What a verification finds of this many chunks.
+    pub(crate) fn by(
+        chunks: usize,
+        verify: impl FnOnce(&mut Room<'_>) -> Result<u64, VerifyError>,
+    ) -> Result<Found, VerifyError> {
+        let mut found = Found {
+            depths: zeroed(chunks)?,
+            slots: zeroed(chunks)?,
+        };
+        verify(&mut Room {
+            depths: &mut found.depths,
+            slots: Some(&mut found.slots),
+        })?;
+        Ok(found)
+    }
+}
+
+/// A list of its own with these items.
+pub(crate) fn copied<T: Copy>(items: &[T]) -> Result<Vec<T>, VerifyError> {
     let mut own = Vec::new();
-    own.try_reserve_exact(depths.len())
+    own.try_reserve_exact(items.len())
         .map_err(|_| VerifyError::OutOfMemory)?;
-    own.extend_from_slice(depths);
+    own.extend_from_slice(items);
     Ok(own)
+}
+
+/// A list of this many items, all of them 0.
+pub(crate) fn zeroed<T: Copy + Default>(length: usize) -> Result<Vec<T>, VerifyError> {
+    let mut list = Vec::new();
+    list.try_reserve_exact(length)
+        .map_err(|_| VerifyError::OutOfMemory)?;
+    list.resize(length, T::default());
+    Ok(list)
 }
 
 /// A small program has at most this many bytes of code, and this many chunks and entries of each list of its pools. For such, a
@@ -224,20 +314,20 @@ pub(crate) fn judge(
     code: &[u8],
     chunks: &[Chunk],
     pools: &FlatPools<'_>,
-    depths: &mut [u16],
+    room: &mut Room<'_>,
 ) -> Result<u64, VerifyError> {
     if code.len() <= SMALL_CODE && chunks.len() <= SMALL_LIST && pools.are_within(SMALL_LIST) {
-        // None where the thread is about to end.
+        // An error where the thread is about to end.
         let judged = SMALL.try_with(|small| {
             let mut small = small.try_borrow_mut().ok();
             let scratch = small.as_mut().map(|small| &mut small.scratch);
-            judge_in(scratch, raw::NO_LIMIT, caps, code, chunks, pools, depths)
+            judge_in(scratch, raw::NO_LIMIT, caps, code, chunks, pools, room)
         });
         if let Ok(judged) = judged {
             return judged;
         }
     }
-    judge_in(None, raw::NO_LIMIT, caps, code, chunks, pools, depths)
+    judge_in(None, raw::NO_LIMIT, caps, code, chunks, pools, room)
 }
 
 /// The verdict on a program, in the memory of a scratch, or in memory for this call alone.
@@ -248,12 +338,12 @@ pub(crate) fn judge_in(
     code: &[u8],
     chunks: &[Chunk],
     pools: &FlatPools<'_>,
-    depths: &mut [u16],
+    room: &mut Room<'_>,
 ) -> Result<u64, VerifyError> {
     check_length(code)?;
     let (program, mut report) = (pools.program(code, chunks), raw::Report::default());
     let scratch = scratch.map_or(std::ptr::null_mut(), |scratch| scratch as *mut _);
-    // SAFETY: the record points to lists that are borrowed for the call, and `depths` is one list without another reader. The
+    // SAFETY: the record points to lists that are borrowed for the call, and what is written is borrowed for it alone. The
     // scratch, if any, is borrowed for the call, and was made by the library or keeps nothing.
     let status = unsafe {
         raw::grain_verify(
@@ -261,8 +351,9 @@ pub(crate) fn judge_in(
             caps.bits(),
             limit,
             &program,
-            depths.as_mut_ptr(),
-            depths.len(),
+            room.depths.as_mut_ptr(),
+            room.depths.len(),
+            room.slots(),
             &mut report,
         )
     };
@@ -277,11 +368,7 @@ pub(crate) fn tighten(
     pools: &FlatPools<'_>,
 ) -> Result<u64, VerifyError> {
     check_length(code)?;
-    let mut tightened = Vec::new();
-    tightened
-        .try_reserve_exact(chunks.len())
-        .map_err(|_| VerifyError::OutOfMemory)?;
-    tightened.extend_from_slice(chunks);
+    let mut tightened = copied(chunks)?;
     let (program, mut report) = (pools.program(code, chunks), raw::Report::default());
     // SAFETY: the record points to lists that are borrowed for the call; `tightened` is another list, without another reader.
     // There is no scratch.
@@ -311,7 +398,11 @@ pub(crate) fn check_length(code: &[u8]) -> Result<(), VerifyError> {
 }
 
 /// The result of a call of the library.
-fn verdict(status: u32, report: &raw::Report, pools: &FlatPools<'_>) -> Result<u64, VerifyError> {
+pub(crate) fn verdict(
+    status: u32,
+    report: &raw::Report,
+    pools: &FlatPools<'_>,
+) -> Result<u64, VerifyError> {
     match status {
         raw::ACCEPTED => Ok(report.visited),
         raw::REFUSED => Err(Refusal::new(report.refusal, report.visited).into()),

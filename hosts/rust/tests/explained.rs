@@ -141,7 +141,8 @@ fn bad_code_is_shown_by_its_refusal() {
     let (code, pools) = (bytes("0216000013"), Pools::new().functions(1));
     let refused = refusal(verify(Caps::ALL, &code, &whole(&code), &pools));
     let explained = explain(Caps::ALL, &code, &whole(&code), &pools, refused).unwrap();
-    let text = "refused: the instruction at 1 has index 0 of a chain, which doesn't exist\n        \
+    let text =
+        "refused: the instruction at 1 has index 0 of a chain, which doesn't exist\n        \
                 1  160000         CHAIN 0  <== here\n";
     assert_eq!(explained.to_string(), text);
     // Whatever the host has, a chunk isn't explained for the bad code.

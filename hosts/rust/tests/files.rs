@@ -1,27 +1,12 @@
 //! Program files: what is read of one, what refusals say, and that what was read is verified.
+mod common;
+
+use common::sample_file as sample;
 use grain::{
     explain, Caps, FileError, FileFault, FilePart, FlatPools, Flaw, Limits, Operator, ProgramFile,
-    Range, Root, Site, Subject, Tail, TightenError, Value, Verifier, VerifyError,
+    Range, Root, Site, Source, Step, Subject, Tail, TightenError, Value, Verified, Verifier,
+    VerifyError,
 };
-use std::error::Error;
-
-/// A file with something in each list, the one of the tests in C.
-const SAMPLE: &str = "
-    0067726e0100ffff010709040100001300040102000201000000000402010001010100040102036c656e02c3
-    a90d000102035304e901050268690602040702040802030208000902ff000a0201610001620501630b016601
-    03080c030a020027023c3e011c00000103000301010000010000000101000001010001000001020301010000
-    0301020002000000000201020300050401020801030001017301040101050000010200
-";
-
-fn sample() -> Vec<u8> {
-    let digits: Vec<u8> = SAMPLE.bytes().filter(u8::is_ascii_hexdigit).collect();
-    let pairs = digits
-        .chunks(2)
-        .map(|pair| std::str::from_utf8(pair).unwrap());
-    pairs
-        .map(|pair| u8::from_str_radix(pair, 16).unwrap())
-        .collect()
-}
 
 #[test]
 fn all_is_read() {
@@ -52,11 +37,16 @@ fn all_is_read() {
     assert_eq!((assigned.op_assign_name, assigned.op_name), (0, 1));
     let chains: Vec<_> = file.chains().collect();
     assert_eq!(
-        (chains[0].row.root(), chains[0].slot, chains[0].flags),
-        (Root::Local { name: 1 }, 3, &[1][..])
+        (chains[0].root(), chains[0].operands()),
+        (Root::Local { name: 1, slot: 3 }, 1)
+    );
+    let steps: Vec<_> = chains[0].steps().collect();
+    assert_eq!(
+        (steps.len(), steps[0].step, steps[0].is_optional),
+        (1, Step::Index { operand: 0 }, true)
     );
     assert_eq!(
-        (chains[1].row.tail(), chains[1].steps.len()),
+        (chains[1].tail(), chains[1].steps().len()),
         (Tail::AssignThrough { op: 0 }, 1)
     );
     let switch = file.switches().next().unwrap();
@@ -76,6 +66,8 @@ fn all_is_read() {
             target: 3
         }]
     );
+    let is_in = |subject| switch.ranges[0].contains(subject);
+    assert_eq!([0, 1, 4, 5].map(is_in), [false, true, true, false]);
     assert_eq!(file.site(0), Some(Site { line: 1, column: 5 }));
     assert_eq!(file.site(1), None);
     assert_eq!(file.chain_site(3), Some(Site { line: 2, column: 3 }));
@@ -114,16 +106,9 @@ fn constants_are_read() {
     let Value::Map(entries) = all[10] else {
         panic!()
     };
+    assert_eq!(entries.len(), 2);
     let entries: Vec<_> = entries.collect();
-    assert_eq!(
-        entries,
-        [
-            Value::Text("a"),
-            Value::Unit,
-            Value::Text("b"),
-            Value::Text("c")
-        ]
-    );
+    assert_eq!(entries, [("a", Value::Unit), ("b", Value::Text("c"))]);
     let Value::FnPtr("f", mut bound) = all[11] else {
         panic!()
     };
@@ -136,7 +121,7 @@ fn constants_are_read() {
     };
     assert_eq!(inner.next(), Some(Value::Integer(5)));
     for (index, value) in all.iter().enumerate() {
-        assert_eq!(file.constant(index).as_ref(), Some(value));
+        assert_eq!(file.constant(index as u32).as_ref(), Some(value));
     }
     assert_eq!(file.constant(13), None);
 }
@@ -145,11 +130,26 @@ fn constants_are_read() {
 fn files_are_verified() {
     let file = ProgramFile::read(&sample(), &Limits::default()).unwrap();
     assert_eq!(file.verify(Caps::ALL), Ok(vec![1, 1, 1]));
-    let refused = file.verify(Caps::FUNCTION).unwrap_err();
-    assert!(matches!(
-        refused.refusal().unwrap().flaw(),
-        Flaw::MissingCaps { .. }
-    ));
+    let host = Caps::ALL - (Caps::IMPORT | Caps::EXPORT);
+    let refused = *file.verify(host).unwrap_err().refusal().unwrap();
+    let missing = Caps::IMPORT | Caps::EXPORT;
+    assert_eq!(refused.flaw(), Flaw::DeclaredCaps { missing, host });
+    assert_eq!(
+        (refused.chunk(), refused.address(), refused.visited()),
+        (None, None, 0)
+    );
+    let sentence = "the program declares EXPORT and IMPORT, which the host doesn't have";
+    assert_eq!(refused.to_string(), sentence);
+    assert_eq!(refused.line(), "declared-caps missing=3000");
+    for explained in [file.explain(host, refused), file.explain(host, 0)] {
+        let explained = explained.unwrap();
+        assert_eq!(explained.refusal(), Some(&refused));
+        assert!(explained
+            .to_string()
+            .starts_with(&format!("refused: {sentence}\n")));
+    }
+    let passing = file.explain(Caps::ALL, 0).unwrap();
+    assert_eq!((passing.refusal(), passing.rows().len()), (None, 2));
     let mut verifier = Verifier::new().limit(11);
     assert_eq!(
         verifier.verify_file(Caps::ALL, &file),
@@ -174,6 +174,99 @@ fn files_are_verified() {
     assert_eq!(explained.rows().len(), 2);
 }
 
+/// How many operands a machine has room for, whatever the program was read from.
+fn room<P: Source>(verified: &Verified<P>) -> usize {
+    verified
+        .depths()
+        .iter()
+        .map(|depth| usize::from(*depth))
+        .sum()
+}
+
+#[test]
+fn what_is_verified_is_kept_with_the_file() {
+    let file = ProgramFile::read(&sample(), &Limits::default()).unwrap();
+    let rejected = file.into_verified(Caps::FUNCTION).unwrap_err();
+    assert!(rejected.refusal().is_some());
+    assert_eq!(rejected.program().source(), Some("s"));
+    let verified = rejected.into_program().into_verified(Caps::ALL).unwrap();
+    assert_eq!(
+        (verified.depths(), verified.depth(3)),
+        (&[1, 1, 1][..], None)
+    );
+    assert_eq!(
+        (verified.caps(), verified.code().len()),
+        (Caps::ALL, verified.program().code().len())
+    );
+    assert_eq!(
+        (verified.site(0), room(&verified)),
+        (Some(Site { line: 1, column: 5 }), 3)
+    );
+    assert_eq!(verified.constant(3), Some(Value::Integer(-42)));
+    assert_eq!(verified.slots(), [0, 0, 0]);
+    assert_eq!(verified.flat().check(), Ok(()));
+    let mut verifier = Verifier::new().limit(12);
+    let file = verified.into_program();
+    let verified = verifier.verify_program_file(Caps::ALL, file).unwrap();
+    assert_eq!(verified.depths(), [1, 1, 1]);
+    let mut verifier = Verifier::new().limit(11);
+    let file = ProgramFile::from(verified);
+    let rejected = verifier.verify_program_file(Caps::ALL, file).unwrap_err();
+    assert_eq!(rejected.error(), &VerifyError::TooMuchWork);
+}
+
+#[test]
+fn items_are_found_by_their_index() {
+    let file = ProgramFile::read(&sample(), &Limits::default()).unwrap();
+    let names: Vec<_> = file.names().map(Some).collect();
+    assert_eq!(
+        [0, 1, 2].map(|name| file.name(name)).to_vec(),
+        [names, vec![None]].concat()
+    );
+    assert_eq!(file.name(u32::MAX), None);
+    let operators: Vec<_> = file.operators().collect();
+    assert_eq!((file.operators().len(), file.operator(2)), (2, None));
+    assert_eq!(file.operator(1), Some(operators[1]));
+    assert_eq!(file.op_assignment(0), file.op_assignments().next());
+    assert_eq!(file.op_assignment(1), None);
+    assert_eq!(file.op_assignment(u32::MAX), None);
+    let functions: Vec<_> = file.functions().map(Some).collect();
+    assert_eq!(
+        [0, 1, 2].map(|at| file.function(at)).to_vec(),
+        [functions, vec![None]].concat()
+    );
+    assert_eq!(file.function(1).unwrap().chunk, file.chunks()[2]);
+    let shape = |chain: grain::FileChain<'_>| (chain.root(), chain.tail(), chain.steps().last());
+    let chains: Vec<_> = file.chains().map(shape).collect();
+    assert_eq!(
+        [2, 1, 0].map(|at| file.chain(at).map(shape).unwrap()),
+        [chains[2], chains[1], chains[0]]
+    );
+    assert!(file.chain(3).is_none() && file.chain(u32::MAX).is_none());
+    let (switch, first) = (file.switch(0).unwrap(), file.switches().next().unwrap());
+    assert_eq!(
+        (switch.cases, switch.ranges, switch.otherwise),
+        (first.cases, first.ranges, first.otherwise)
+    );
+    assert!(file.switch(1).is_none());
+}
+
+#[test]
+fn errors_print_what_they_know() {
+    let cut = ProgramFile::read(&sample()[..20], &Limits::default()).unwrap_err();
+    assert_eq!(
+        format!("{cut:?}"),
+        "Malformed(Malformed { at: 20, part: Function, index: 0, fault: Truncated })"
+    );
+    let file = ProgramFile::read(&sample(), &Limits::default()).unwrap();
+    let rejected = file.into_verified(Caps::ALL - Caps::BLOB).unwrap_err();
+    assert_eq!(
+        rejected.to_string(),
+        "refused: the program declares BLOB, which the host doesn't have"
+    );
+    assert!(format!("{rejected:?}").starts_with("Rejected { error: Refused(Refusal { chunk: None"));
+}
+
 #[test]
 fn refusals_are_named() {
     let bytes = sample();
@@ -189,10 +282,7 @@ fn refusals_are_named() {
         cut.to_string(),
         "byte 20, in function 0: the file ends within a field"
     );
-    let small = Limits {
-        size: 9,
-        ..Limits::default()
-    };
+    let small = Limits::new().size(9);
     let error = ProgramFile::read(&bytes, &small).unwrap_err();
     assert_eq!(
         error,
@@ -205,10 +295,7 @@ fn refusals_are_named() {
         error.to_string(),
         format!("file of {} bytes, limit 9", bytes.len())
     );
-    let flat = Limits {
-        depth: 1,
-        ..Limits::default()
-    };
+    let flat = Limits::new().depth(1);
     let Err(FileError::Malformed(deep)) = ProgramFile::read(&bytes, &flat) else {
         panic!()
     };
@@ -216,10 +303,15 @@ fn refusals_are_named() {
         (deep.part(), deep.index(), deep.fault()),
         (FilePart::Constant, 8, FileFault::TooDeep)
     );
-    let few = Limits {
-        cases: 1,
-        ..Limits::default()
-    };
+    let deepest = Limits::new().depth(Limits::MAX_DEPTH);
+    assert!(ProgramFile::read(&bytes, &deepest).is_ok());
+    let deep = deepest.depth(Limits::MAX_DEPTH + 1);
+    let error = ProgramFile::read(&bytes[..9], &deep).unwrap_err();
+    assert_eq!(error, FileError::BadLimit);
+    assert_eq!(error.to_string(), "a limit is above its greatest value");
+    assert_eq!(ProgramFile::strip(&bytes[..9], &deep), Err(error));
+    assert_eq!(ProgramFile::tighten(&bytes[..9], &deep), Err(error.into()));
+    let few = Limits::new().cases(1);
     let Err(FileError::Malformed(many)) = ProgramFile::read(&bytes, &few) else {
         panic!()
     };
@@ -254,7 +346,10 @@ fn files_are_tightened() {
     let mut refused = bytes.clone();
     refused[DECLARED_AT] = 0;
     let error = ProgramFile::tighten(&refused, &limits).unwrap_err();
-    assert_eq!(error.to_string(), "the program isn't accepted");
+    assert_eq!(
+        error.to_string(),
+        "refused: chunk 1: 1 operand is needed, and 0 declared"
+    );
     let TightenError::Verify(VerifyError::Refused(refusal)) = error else {
         panic!()
     };
@@ -266,8 +361,7 @@ fn files_are_tightened() {
         cut,
         ProgramFile::read(&bytes[..20], &limits).unwrap_err().into()
     );
-    assert!(cut.source().is_some());
-    let small = Limits { size: 9, ..limits };
+    let small = limits.size(9);
     assert!(matches!(
         ProgramFile::tighten(&bytes, &small),
         Err(TightenError::File(FileError::TooLarge { limit: 9, .. }))
@@ -293,6 +387,13 @@ fn files_are_stripped() {
         stream,
     ];
     assert_eq!(stripped.sidecar, parts.concat());
+    // A position in the middle of `LoadConst`.
+    let inside = b"\0grn\x01\0\0\x07\0\x04\x01\0\0\x13\0\x04\x01\0\0\x01\x03\x2a\0\0\0\0\0\x01\x04\0\x01\x01\x01\0\0";
+    assert!(ProgramFile::read(inside, &limits).is_ok());
+    assert_eq!(
+        ProgramFile::strip(inside, &limits),
+        Err(FileError::NotRestorable)
+    );
     let again = ProgramFile::strip(&stripped.program, &limits).unwrap();
     assert_eq!(again.program, stripped.program);
 

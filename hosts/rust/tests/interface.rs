@@ -69,12 +69,12 @@ fn build(room: &Path, interface: u32) -> Output {
 #[ignore = "compiles the package twice"]
 fn a_library_of_another_interface_does_not_link() {
     let room = Path::new(env!("CARGO_TARGET_TMPDIR")).join("interface");
-    let own = build(&room, 2);
+    let own = build(&room, 3);
     assert!(own.status.success(), "{own:?}");
-    for other in [1, 3] {
+    for other in [2, 4] {
         let built = build(&room, other);
         let said = String::from_utf8_lossy(&built.stderr);
         assert!(!built.status.success());
-        assert!(said.contains("grain_interface_2"), "{said}");
+        assert!(said.contains("grain_interface_3"), "{said}");
     }
 }

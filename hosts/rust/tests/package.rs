@@ -5,9 +5,9 @@ use common::{bytes, found, refusal, whole};
 use grain::{
     instruction, instructions, mnemonic, stream_sites, stream_sites_into, table_entries,
     table_entries_into, tighten, verify, verify_into, AttachError, Caps, Case, ChainPart, ChainRow,
-    Constant, Entry, FlatPools, Flaw, Kind, Needs, Opcode, Pools, PoolsFlaw, PoolsList, Positions,
-    Program, ReadError, Root, Site, Step, StepRow, SwitchRow, TableFlaw, Tail, Verifier,
-    VerifyError,
+    Chunk, Constant, Entry, FlatPools, Flaw, Instruction, Kind, Needs, Opcode, Pools, PoolsFlaw,
+    PoolsList, Positions, Program, ReadError, Root, Site, Step, StepRow, SwitchRow, TableFlaw,
+    Tail, Verifier, VerifyError,
 };
 
 const NAMES: &[u8] = b"lenage";
@@ -74,8 +74,10 @@ fn lists_of_the_caller_are_verified_as_built_pools() {
     let flaw = PoolsFlaw { list, index };
     assert_eq!(error, VerifyError::NotFlat(flaw));
     assert_eq!((uneven.check(), lent.check()), (Err(flaw), Ok(())));
-    assert_eq!(error.to_string(), "no pools have this flat form");
-    assert_eq!(flaw.to_string(), "the list of chains isn't flat at index 0");
+    assert_eq!(
+        error.to_string(),
+        "the list of chains isn't flat at index 0"
+    );
     let cut = lent.names(NAMES, &[0, 3]);
     let error = verify(Caps::ALL, &code, &whole(&code), cut).unwrap_err();
     assert!(matches!(error, VerifyError::NotFlat(flaw) if flaw.list == PoolsList::Names));
@@ -270,7 +272,30 @@ fn what_is_verified_is_kept_with_the_program() {
 }
 
 #[test]
-fn errors_are_errors_and_have_sources() {
+fn the_slots_of_each_chunk_are_counted() {
+    // StoreLocal(258); LoadLocal(65535); Chain(0) at slot 7 and LoadLocal(1); no slot.
+    let code = bytes("020602010213021305ffff1316000005010013120213");
+    let chunks = vec![
+        Chunk::new(0, 6, 1),
+        Chunk::new(6, 12, 1),
+        Chunk::new(12, 19, 2),
+        Chunk::new(19, 22, 1),
+    ];
+    let pools = Pools::new()
+        .name("x")
+        .chain(Root::Local { name: 0, slot: 7 }, &[], Tail::Read, 0);
+    let program = Program::new(code, chunks, pools);
+    let verified = program.into_verified(Caps::ALL).unwrap();
+    assert_eq!(verified.slots(), [259, 65536, 8, 0]);
+    let mut verifier = Verifier::new();
+    let verified = verifier
+        .verify_program(Caps::ALL, verified.into_program())
+        .unwrap();
+    assert_eq!(verified.slots(), [259, 65536, 8, 0]);
+}
+
+#[test]
+fn errors_are_errors_and_say_all() {
     fn is_error<E: std::error::Error + Send + Sync + 'static>() {}
     fn is_shared<T: Send + Sync + Unpin + 'static>() {}
     is_error::<VerifyError>();
@@ -284,15 +309,16 @@ fn errors_are_errors_and_have_sources() {
     is_error::<grain::PoolError>();
     is_error::<grain::UnknownCap>();
     is_shared::<Verifier>();
+    is_error::<grain::RejectedFile>();
+    is_error::<grain::FileError>();
+    is_error::<grain::TightenError>();
     is_shared::<grain::Verified>();
+    is_shared::<grain::VerifiedFile>();
     is_shared::<grain::Explained<'static>>();
     let error = verify(Caps::ALL, &[0x0b], &whole(&[0x0b]), &Pools::new()).unwrap_err();
-    let source = std::error::Error::source(&error).unwrap();
     let sentence = "chunk 0: the instruction at 0 needs 1 operand, and there are 0";
-    assert_eq!(
-        (error.to_string().as_str(), source.to_string().as_str()),
-        ("the program is refused", sentence)
-    );
+    assert_eq!(error.to_string(), format!("refused: {sentence}"));
+    assert!(std::error::Error::source(&error).is_none());
     let refused = refusal::<()>(Err(error));
     assert_eq!(
         format!("{refused:>70}|{refused:.7}"),
@@ -314,6 +340,12 @@ fn a_short_list_is_an_error() {
     let code = bytes("0213");
     let said = verify_into(Caps::ALL, &code, &whole(&code), &Pools::new(), &mut []);
     assert_eq!(said, Err(VerifyError::TooFewDepths));
+}
+
+/// The numbers of a text, in order.
+fn numbers(text: &str) -> Vec<u32> {
+    let digits = text.split(|each: char| !each.is_ascii_digit());
+    digits.filter_map(|number| number.parse().ok()).collect()
 }
 
 #[test]
@@ -346,8 +378,18 @@ fn each_instruction_prints_as_its_name_and_its_fields() {
             .fields()
             .zip(values)
             .all(|(field, value)| field.value == value));
+        let (instruction, next) = Instruction::decode(&code, 0).unwrap();
+        assert_eq!(
+            (instruction.opcode(), next),
+            (opcode, u32::from(found.width))
+        );
+        assert_eq!(numbers(&format!("{instruction:?}")), {
+            let fields = found.fields().map(|field| field.value);
+            fields.collect::<Vec<_>>()
+        });
         for end in 0..usize::from(found.width) {
             assert_eq!(Opcode::decode(&code[..end], 0), None);
+            assert_eq!(Instruction::decode(&code[..end], 0), None);
         }
         let fields: String = found
             .fields()
@@ -357,6 +399,10 @@ fn each_instruction_prints_as_its_name_and_its_fields() {
         named += 1;
     }
     assert_eq!((named, Opcode::ALL.len()), (74, 74));
+    let code = bytes("23070000005511");
+    let decoded = Instruction::PushHandler { target: 7 };
+    assert_eq!(Instruction::decode(&code, 0), Some((decoded, 5)));
+    assert_eq!(Instruction::decode(&code, u32::MAX), None);
     let code = bytes("2107000000ffff");
     assert_eq!(
         instruction(&code, 0).unwrap().to_string(),

@@ -137,7 +137,7 @@ fn chains_need_operands_names_and_capabilities() {
         name(3)
     );
     assert_eq!(
-        cause(one(Root::Local { name: 4 }, &[], Tail::Read, 0)),
+        cause(one(Root::Local { name: 4, slot: 0 }, &[], Tail::Read, 0)),
         name(4)
     );
     let method = Step::Method {
@@ -209,7 +209,13 @@ fn indices_inside_chains_are_bounded() {
     let temporary = Root::Temporary;
     let chains: [(Root, &[Step], Tail, Kind, u32); 5] = [
         (Root::Named { name: 3 }, &[], Tail::Read, Kind::Name, 3),
-        (Root::Local { name: 3 }, &[], Tail::Read, Kind::Name, 3),
+        (
+            Root::Local { name: 3, slot: 0 },
+            &[],
+            Tail::Read,
+            Kind::Name,
+            3,
+        ),
         (temporary, &[property(3)], Tail::Read, Kind::Name, 3),
         (temporary, &[method(3, 0, 0)], Tail::Read, Kind::Name, 3),
         (

@@ -1,12 +1,14 @@
 //! Each request for memory is refused in turn, those of the package and those of the library: every call answers an error, and
-//! none ends the process.
+//! none ends the process. That no public call is left out is tested too.
 mod common;
 
-use common::{bytes, whole};
+use common::api::{public_functions, Function};
+use common::{bytes, sample_file, whole};
 use grain::{
     explain, stream_sites, table_entries, tighten, verify, verify_into, Caps, Case, Chunk,
-    ExplainError, Explained, Needs, PoolError, Pools, Positions, Program, Root, Step, Tail,
-    Verifier, VerifyError,
+    ExplainError, Explained, FileError, Limits, Needs, PoolError, Pools, Positions, Program,
+    ProgramFile, Refusal, Rejected, Root, Step, Tail, TightenError, Verified, Verifier,
+    VerifyError,
 };
 use std::alloc::{GlobalAlloc, Layout, System};
 use std::cell::Cell;
@@ -109,6 +111,116 @@ unsafe extern "C" fn grain_dealloc(block: *mut c_void) {
     unsafe { free(block) }
 }
 
+/// Calls that take memory as a `Vec` does: the process ends where the allocator refuses. Clones do too.
+const ENDING: [&str; 4] = [
+    "Pools::chain",
+    "Pools::constant",
+    "Pools::name",
+    "Pools::switch",
+];
+
+/// Calls that take no memory, by the type that they belong to; the first are of none.
+const FREE: [(&str, &str); 26] = [
+    (
+        "",
+        "check_stream check_table count_instructions instruction instructions mnemonic \
+         site stream_site stream_sites_into table_entries_into version",
+    ),
+    (
+        "Caps",
+        "bits contains difference from_bits from_bits_truncate insert intersects \
+         is_empty iter name remove union",
+    ),
+    ("ChainRow", "new operands root steps tail"),
+    ("Chunk", "new"),
+    ("Constant", "needs"),
+    (
+        "Explained",
+        "bases chunk other_path path refusal refusal_of_chunk refusal_outside rows",
+    ),
+    ("FileChain", "operands root steps tail"),
+    (
+        "FlatPools",
+        "chains check constants fragments functions names new op_assignments operators \
+         switches",
+    ),
+    ("Instruction", "decode opcode"),
+    (
+        "InstructionRow",
+        "bytes field fields is_quiet mnemonic opcode",
+    ),
+    ("Instructions", "address is_whole"),
+    ("Limits", "cases depth new size"),
+    ("Operator", "symbol"),
+    ("Malformed", "at fault index part"),
+    (
+        "Opcode",
+        "decode fields flow from_tag is_quiet name tag width",
+    ),
+    (
+        "Pools",
+        "clear flat fragments functions new op_assignments operators set_fragments \
+         set_functions set_op_assignments set_operators",
+    ),
+    (
+        "Program",
+        "chain_site chunks code into_parts new pools positions site site_of \
+         strip_positions",
+    ),
+    (
+        "ProgramFile",
+        "caps chain chain_site chains chunks code constant constants function functions \
+         id name names op_assignment op_assignments operator operators pools site \
+         site_of source stream switch switches table",
+    ),
+    ("Range", "contains"),
+    (
+        "Refusal",
+        "address chain_place chunk constant flaw line visited",
+    ),
+    ("Rejected", "error into_parts into_program program refusal"),
+    ("Row", "address iterators operands reached_from"),
+    ("Site", "known"),
+    (
+        "Verified",
+        "caps chunks code depth depths flat into_program program site slots",
+    ),
+    ("Verifier", "limit new release"),
+    ("VerifyError", "refusal"),
+];
+
+/// Whether a function is known to take no memory.
+fn is_free(function: &Function) -> bool {
+    FREE.iter()
+        .any(|(of, names)| *of == function.of && names.split(' ').any(|name| name == function.name))
+}
+
+/// Each public function is one that this file tests, that takes no memory, or that is known to end the process. One that is new
+/// has to be tested here, or named above.
+#[test]
+fn no_public_call_is_left_out() {
+    let own: String = include_str!("refused.rs").split_whitespace().collect();
+    let all = public_functions();
+    let known: usize = FREE.iter().map(|(_, names)| names.split(' ').count()).sum();
+    for function in &all {
+        let name = function.full_name();
+        let is_tested = own.contains(&format!("refuse_each(\"{name}\","));
+        let is_ending = ENDING.contains(&&*name);
+        let kinds = [is_tested, is_free(function), is_ending];
+        assert_eq!(
+            kinds.iter().filter(|is| **is).count(),
+            1,
+            "{name}: is it tested, free, ending? {kinds:?}"
+        );
+        assert!(
+            is_tested || !function.can_lack_memory(),
+            "{name} can lack memory, and isn't tested"
+        );
+    }
+    let free = all.iter().filter(|function| is_free(function)).count();
+    assert_eq!((free, all.len() > free + 25), (known, true));
+}
+
 /// Calls again and again, granting no request, one, two and so on, until all are granted. `call` answers whether it ran out of
 /// memory; it must say so just where a request was refused.
 fn refuse_each(what: &str, mut call: impl FnMut() -> bool) -> usize {
@@ -127,6 +239,18 @@ fn refuse_each(what: &str, mut call: impl FnMut() -> bool) -> usize {
 
 fn is_out_of_memory<T>(said: Result<T, VerifyError>) -> bool {
     matches!(said, Err(VerifyError::OutOfMemory))
+}
+
+/// The program, whether it is accepted or not, and whether memory ran out.
+fn taken_back<P>(said: Result<Verified<P>, Rejected<P>>) -> (P, bool) {
+    match said {
+        Ok(verified) => (verified.into_program(), false),
+        Err(rejected) => {
+            let (program, error) = rejected.into_parts();
+            assert_eq!(error, VerifyError::OutOfMemory);
+            (program, true)
+        }
+    }
 }
 
 /// Two handlers, a loop that leaves an operand each round, and pools.
@@ -167,7 +291,7 @@ fn verifying_answers_an_error() {
         is_out_of_memory(said)
     });
     let (code, pools) = sample();
-    refuse_each("verify of a small program", || {
+    refuse_each("verify", || {
         is_out_of_memory(verify(Caps::ALL, &code, &whole(&code), &pools))
     });
     let mut chunks = whole(&long);
@@ -187,22 +311,127 @@ fn a_verifier_answers_an_error_and_goes_on() {
     });
     let said = verifier.verify(Caps::ALL, &long, &whole(&long), &none);
     assert_eq!(said, Ok(&[1][..]));
+    refuse_each("Verifier::verify_into", || {
+        verifier.release();
+        let said = verifier.verify_into(Caps::ALL, &long, &whole(&long), &none, &mut [0]);
+        is_out_of_memory(said)
+    });
+    refuse_each("Verifier::explain", || {
+        is_unexplained(verifier.explain(Caps::ALL, &long, &whole(&long), &none, 0))
+    });
     let mut program = Some(Program::new(long.clone(), whole(&long).to_vec(), none));
     refuse_each("Verifier::verify_program", || {
         verifier.release();
-        match verifier.verify_program(Caps::ALL, program.take().unwrap()) {
-            Ok(verified) => {
-                program = Some(verified.into_program());
-                false
-            }
-            Err(rejected) => {
-                let (back, error) = rejected.into_parts();
-                program = Some(back);
-                is_out_of_memory::<()>(Err(error))
-            }
-        }
+        let said = verifier.verify_program(Caps::ALL, program.take().unwrap());
+        let (back, ran_out) = taken_back(said);
+        program = Some(back);
+        ran_out
     });
-    assert_eq!(program.unwrap().verify(Caps::ALL), Ok(vec![1]));
+    let program = program.unwrap();
+    refuse_each("Program::verify", || {
+        is_out_of_memory(program.verify(Caps::ALL))
+    });
+    assert_eq!(program.verify(Caps::ALL), Ok(vec![1]));
+}
+
+fn is_unread<T>(said: Result<T, FileError>) -> bool {
+    match said {
+        Ok(_) => false,
+        Err(FileError::OutOfMemory) => true,
+        Err(error) => panic!("{error}"),
+    }
+}
+
+fn is_untightened(said: Result<Vec<u8>, TightenError>, wanted: &[u8]) -> bool {
+    match said {
+        Ok(tightened) => {
+            assert_eq!(tightened, wanted);
+            false
+        }
+        Err(TightenError::File(FileError::OutOfMemory))
+        | Err(TightenError::Verify(VerifyError::OutOfMemory)) => true,
+        Err(error) => panic!("{error}"),
+    }
+}
+
+#[test]
+fn reading_and_writing_files_answers_an_error() {
+    let (bytes, limits) = (sample_file(), Limits::new());
+    let taken = refuse_each("ProgramFile::read", || {
+        is_unread(ProgramFile::read(&bytes, &limits))
+    });
+    assert!(taken > 20, "{taken}");
+    let wanted = ProgramFile::tighten(&bytes, &limits).unwrap();
+    let taken = refuse_each("ProgramFile::tighten", || {
+        is_untightened(ProgramFile::tighten(&bytes, &limits), &wanted)
+    });
+    assert!(taken > 20, "{taken}");
+    let verifier = Verifier::new();
+    refuse_each("Verifier::tighten_file", || {
+        is_untightened(verifier.tighten_file(&bytes, &limits), &wanted)
+    });
+    let taken = refuse_each("ProgramFile::strip", || {
+        is_unread(ProgramFile::strip(&bytes, &limits))
+    });
+    assert!(taken > 20, "{taken}");
+}
+
+#[test]
+fn verifying_files_answers_an_error() {
+    let file = ProgramFile::try_from(&sample_file()[..]).unwrap();
+    let refused: Refusal = *file.verify(Caps::NONE).unwrap_err().refusal().unwrap();
+    refuse_each("ProgramFile::verify", || {
+        is_out_of_memory(file.verify(Caps::ALL))
+    });
+    refuse_each("ProgramFile::explain", || {
+        is_unexplained(file.explain(Caps::ALL, 2))
+    });
+    refuse_each("ProgramFile::explain", || {
+        is_unexplained(file.explain(Caps::NONE, refused))
+    });
+    let mut verifier = Verifier::new();
+    refuse_each("Verifier::verify_file", || {
+        verifier.release();
+        is_out_of_memory(verifier.verify_file(Caps::ALL, &file).map(<[u16]>::len))
+    });
+    let mut file = Some(file);
+    refuse_each("Verifier::verify_program_file", || {
+        verifier.release();
+        let said = verifier.verify_program_file(Caps::ALL, file.take().unwrap());
+        let (back, ran_out) = taken_back(said);
+        file = Some(back);
+        ran_out
+    });
+    refuse_each("ProgramFile::into_verified", || {
+        let (back, ran_out) = taken_back(file.take().unwrap().into_verified(Caps::ALL));
+        file = Some(back);
+        ran_out
+    });
+    assert_eq!(file.unwrap().verify(Caps::ALL), Ok(vec![1, 1, 1]));
+}
+
+/// What is read of a file takes no memory, and neither does what a machine does.
+#[test]
+fn reading_a_file_again_takes_no_memory() {
+    let file = ProgramFile::try_from(&sample_file()[..]).unwrap();
+    let verified = file.into_verified(Caps::ALL).unwrap();
+    IS_REFUSED.set(false);
+    LEFT.set(Some(0));
+    let counts = [
+        verified.names().count(),
+        verified.functions().count(),
+        verified.constants().count(),
+        verified.operators().count(),
+        verified.op_assignments().count(),
+        verified.chains().map(|chain| chain.steps().len()).sum(),
+        verified.switches().count(),
+    ];
+    let place = verified.site(0);
+    let decoded = grain::Instruction::decode(verified.code(), 0);
+    let checked = verified.flat().check();
+    LEFT.set(None);
+    assert!(!IS_REFUSED.get() && decoded.is_some() && checked.is_ok() && place.is_some());
+    assert_eq!(counts, [2, 2, 13, 2, 1, 3, 1]);
 }
 
 /// Whether an explanation ran out of memory. What it has is written, which takes none.
@@ -235,17 +464,17 @@ fn explaining_answers_an_error() {
     let (code, pools) = sample();
     let program = Program::new(code.clone(), whole(&code).to_vec(), pools);
     let refused = *program.verify(Caps::ALL).unwrap_err().refusal().unwrap();
-    let taken = refuse_each("explain of a refusal", || {
+    let taken = refuse_each("Program::explain", || {
         is_unexplained(program.explain(Caps::ALL, refused))
     });
     assert!(taken > 3, "{taken}");
     let explained = program.explain(Caps::ALL, 0).unwrap();
     assert!(!explained.path().is_empty());
     let long = long();
-    refuse_each("explain of what passes", || {
+    refuse_each("explain", || {
         is_unexplained(explain(Caps::ALL, &long, &whole(&long), &Pools::new(), 0))
     });
-    refuse_each("explain of a constant", || {
+    refuse_each("Program::explain", || {
         is_unexplained(program.explain(Caps::NONE, refused))
     });
 }
@@ -260,6 +489,21 @@ fn the_package_takes_memory_for_the_explained_chunk_alone() {
     assert!(LARGEST.get() < 100, "{}", LARGEST.get());
 }
 
+/// Calls without counting its requests: all of them are granted.
+fn uncounted<T>(call: impl FnOnce() -> T) -> T {
+    let counted = LEFT.replace(None);
+    let answer = call();
+    LEFT.set(counted);
+    answer
+}
+
+/// Takes the lists that pools of the thread have left, so that the next pools begin with none.
+fn take_spare_lists() {
+    let mut pools = Pools::new();
+    pools.add_constant(Caps::NONE).unwrap();
+    std::mem::forget(pools);
+}
+
 #[test]
 fn pools_answer_an_error_and_stay() {
     let steps = || {
@@ -270,25 +514,40 @@ fn pools_answer_an_error_and_stay() {
         };
         (0..500).map(step)
     };
-    let fill = |pools: &mut Pools| -> Result<(), PoolError> {
-        pools.add_constant(Caps::ARRAY)?;
-        pools.extend_constants((0..500).map(|_| Needs::Unknown))?;
-        pools.add_name("name")?;
-        pools.extend_names((0..500).map(|_| "another"))?;
-        pools.add_chain(Root::This, steps(), Tail::Read, 0)?;
-        pools.add_switch([], 0..500, 7)?;
-        Ok(())
-    };
-    let mut wanted = Pools::new();
-    fill(&mut wanted).unwrap();
-    let taken = refuse_each("Pools", || {
-        // Outside of what is kept for the thread, each time anew.
+    // Each call is made on new pools. What is refused adds nothing.
+    let add = |call: &dyn Fn(&mut Pools) -> Result<usize, PoolError>| {
+        uncounted(take_spare_lists);
         let mut pools = Pools::new();
-        let filled = fill(&mut pools);
-        assert!(filled.is_err() || pools == wanted);
-        filled == Err(PoolError::OutOfMemory)
+        match call(&mut pools) {
+            Ok(_) => {
+                assert_ne!(pools, Pools::new());
+                false
+            }
+            Err(PoolError::OutOfMemory) => {
+                assert_eq!(pools, Pools::new());
+                true
+            }
+            Err(error) => panic!("{error}"),
+        }
+    };
+    let needs = || (0..500).map(|_| Needs::Unknown);
+    let names = || (0..500).map(|_| "another");
+    refuse_each("Pools::add_constant", || {
+        add(&|pools| pools.add_constant(Caps::ARRAY))
     });
-    assert!(taken > 8, "{taken}");
+    refuse_each("Pools::extend_constants", || {
+        add(&|pools| pools.extend_constants(needs()))
+    });
+    refuse_each("Pools::add_name", || add(&|pools| pools.add_name("name")));
+    refuse_each("Pools::extend_names", || {
+        add(&|pools| pools.extend_names(names()))
+    });
+    refuse_each("Pools::add_chain", || {
+        add(&|pools| pools.add_chain(Root::This, steps(), Tail::Read, 0))
+    });
+    refuse_each("Pools::add_switch", || {
+        add(&|pools| pools.add_switch([], 0..500, 7))
+    });
 }
 
 #[test]
@@ -305,11 +564,7 @@ fn tables_answer_an_error() {
     };
     let mut given = None;
     refuse_each("Program::attach_positions", || {
-        LEFT.with(|left| {
-            let counted = left.replace(None);
-            given = Some(positions.clone());
-            left.set(counted);
-        });
+        given = Some(uncounted(|| positions.clone()));
         program.attach_positions(given.take().unwrap()).is_err()
     });
     refuse_each("Program::entries", || program.entries().is_err());

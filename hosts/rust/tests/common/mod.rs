@@ -1,6 +1,7 @@
 //! What the tests share. No test uses all of it.
 #![allow(dead_code)]
 
+pub mod api;
 pub mod chance;
 pub mod model;
 pub mod programs;
@@ -41,4 +42,17 @@ pub fn line_of(caps: Caps, code: &[u8], chunks: &[Chunk]) -> String {
             .fold("accepted".to_string(), |line, n| format!("{line} {n}")),
         said => format!("refused {}", refusal(said).line()),
     }
+}
+
+/// A program file with something in each list, the one of the tests in C.
+const SAMPLE: &str = "
+    0067726e0100ffff010709040100001300040102000201000000000402010001010100040102036c656e02c3
+    a90d000102035304e901050268690602040702040802030208000902ff000a0201610001620501630b016601
+    03080c030a020027023c3e011c00000103000301010000010000000101000001010001000001020301010000
+    0301020002000000000201020300050401020801030001017301040101050000010200
+";
+
+/// Its bytes.
+pub fn sample_file() -> Vec<u8> {
+    bytes(&SAMPLE.replace(char::is_whitespace, ""))
 }

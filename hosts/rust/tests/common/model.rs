@@ -251,7 +251,7 @@ impl<'a> Model<'a> {
 
     fn check_chain(&self, chain: &ModelChain) -> Vec<(Kind, u32)> {
         let mut indices = Vec::new();
-        if let Root::Local { name } | Root::Named { name } = chain.root {
+        if let Root::Local { name, .. } | Root::Named { name } = chain.root {
             indices.push((Kind::Name, name));
         }
         for step in &chain.steps {

@@ -52,7 +52,10 @@ fn chain(chance: &mut Chance, names: u32, op_assignments: u32) -> ModelChain {
     let odd = |chance: &mut Chance| u32::from(chance.one_in(60)) * chance.below(9) as u32;
     let name = |chance: &mut Chance| (chance.next() as u32) % names.max(1) + odd(chance);
     let root = match chance.below(4) {
-        0 if names > 0 => Root::Local { name: name(chance) },
+        0 if names > 0 => Root::Local {
+            name: name(chance),
+            slot: chance.below(1 << 16) as u16,
+        },
         1 if names > 0 => Root::Named { name: name(chance) },
         2 => Root::This,
         _ => Root::Temporary,
