@@ -6,3 +6,4 @@ pub mod SpannedWork
 pub mod WideAddresses
 pub mod WrittenAgain
 mod RefusedFiles
+pub mod RestorablePrograms

@@ -1,6 +1,8 @@
 -- Program files that are written again, with chunks that declare their depths or without positions.
-use Rattle.std.specs.Prelude.{◌≡◌, ◌<◌, ◌≤◌, ◌^◌, ℕ, All, Any, List, length}
+use Rattle.std.specs.Prelude.{◌≡◌, ◌<◌, ◌≤◌, ◌^◌, ◌∷◌, ℕ, All, Any, List, length}
 use Rattle.grain.specs.Program.{Program, chunks_of, input_of, places_of}
+use Rattle.grain_base.specs.AddressTable.{numbers_from}
+use Rattle.grain_base.specs.Varint.{AreShortest}
 use Rattle.grain.specs.Sidecars.{IsSidecar, IsStripped}
 use Rattle.grain.specs.Tightened.{IsTightened}
 use Rattle.grain.specs.declared.sidecar.Sidecar.{Sidecar}
@@ -72,9 +74,11 @@ IsTightenCause limits bytes limit old new (tighten_stops.Refused r) = IsRefusedF
 abbrev pub AddressesFit : Program → Type 0
 AddressesFit p = All (λ entry. entry.0 < 2 ^ 32) (entries_at_places (places_of p))
 
--- the table of each sidecar of the program, read with its code, gives just the positions that it has
+-- the table of the program's positions, read with its code, gives just these positions
 abbrev pub IsRestorable : Program → Type 0
-IsRestorable p = (s : Sidecar) → IsSidecar p s → IsRead s.positions.items p.code (places_of p)
+IsRestorable p =
+    let list = entries_at_places (places_of p) in
+    (table : List ℕ) → AreShortest table (length list ∷ numbers_from 0 list) → IsRead table p.code (places_of p)
 
 -- the program has a position at an address that is too wide, or positions that can't be given back
 abbrev pub IsPositionCause : Program → StripStop → Type 0
