@@ -1,5 +1,5 @@
 -- The least capabilities stay so where chunks declare other numbers.
-use Rattle.std.proofs.Common.{◌≡◌, ◌≢◌, ℕ, List, [], ◌∷◌, length, map, suc, refl, sym, ap, subst, arith}
+use Rattle.std.proofs.Common.{◌≡◌, ◌≢◌, List, [], ◌∷◌, length, map, suc, refl, sym, ap, subst, arith}
 use Rattle.grain_code.specs.declared.function.Function.{Function}
 use Rattle.grain_needs.specs.Capabilities.{AreLeast}
 use Rattle.grain_needs.proofs.LeastCapabilities.{least_alike}

@@ -11,7 +11,6 @@ use Rattle.grain_file.specs.Loading.{IsFileOf}
 use Rattle.grain_file.specs.ProgramFile.{Kept, kept}
 use Rattle.grain_file.specs.declared.file.Limits.{Limits}
 use Rattle.grain_file.specs.declared.file.ReadError.{ReadError}
-use Rattle.grain_file.specs.declared.file.ReadError.TheVariants as read_errors
 use Rattle.grain_flat_file.specs.Changed.{AddressesFit, IsPositionCause, IsRestorable, IsStripCause}
 use Rattle.grain_flat_file.specs.declared.changed.StripStop.{StripStop}
 use Rattle.grain_flat_file.specs.declared.changed.StripStop.TheVariants as stops

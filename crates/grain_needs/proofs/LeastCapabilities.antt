@@ -1,11 +1,9 @@
 -- What is accepted under some capabilities is accepted under those that suffice.
-use Rattle.std.proofs.Common.{◌≡◌, ◌≢◌, ℕ, List, [], subst, sym, Some}
-use Rattle.std.specs.List.{All, Contains}
-use Rattle.std.specs.Prelude.{Option}
+use Rattle.std.proofs.Common.{◌≡◌, ◌≢◌, ℕ, List, [], subst, sym}
+use Rattle.std.specs.List.{All}
 use Rattle.std.proofs.lemmas.List.Elements.{All-contains, All-weaker}
 use Rattle.grain_code.specs.Disassembly.{IsDisassembly, placed_from}
 use Rattle.grain_code.specs.Span.{Span}
-use Rattle.grain_code.specs.Split.{AreInstructions}
 use Rattle.grain_code.specs.declared.op.Op.{Op}
 use Rattle.grain_base.specs.declared.value.Dynamic.{Dynamic}
 use Rattle.grain_rules.specs.Accepted.{AreIndexed, ChunkPasses, ConstantPasses, Input, IsAccepted}

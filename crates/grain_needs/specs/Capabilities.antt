@@ -1,5 +1,5 @@
 -- Which capabilities suffice for what is verified, and which are the least that do.
-use Rattle.std.specs.Prelude.{◌≡◌, ◌≢◌, ℕ, List, []}
+use Rattle.std.specs.Prelude.{◌≢◌, ℕ, List, []}
 use Rattle.std.specs.List.{All}
 use Rattle.grain_base.specs.CapBits.{FUNCTION}
 use Rattle.grain_code.specs.Disassembly.{IsDisassembly}

@@ -1,4 +1,4 @@
-use Rattle.std.proofs.Common.{◌≡◌, length, map, take}
+use Rattle.std.proofs.Common.{◌≡◌, map, take}
 use Rattle.grain_base.specs.Place.{place_of}
 use Rattle.grain.proofs.sidecar.same_positions.Given as goal
 

@@ -1,4 +1,4 @@
-use Rattle.std.proofs.Common.{◌≡◌, ℕ, List, subst}
+use Rattle.std.proofs.Common.{ℕ, subst}
 use Rattle.std.specs.List.{All}
 use Rattle.std.specs.Iterator.{Yields}
 use Rattle.grain_code.specs.Disassembly.{IsDisassembly, StepsOn}

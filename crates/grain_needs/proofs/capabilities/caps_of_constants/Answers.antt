@@ -1,6 +1,4 @@
-use Rattle.std.proofs.Common.{◌≡◌, arith, length, subst, sym, take}
-use Rattle.std.specs.List.{All}
-use Rattle.std.proofs.lemmas.List.{take_all}
+use Rattle.std.proofs.Common.{arith, subst, sym}
 use Rattle.grain_rules.specs.Accepted.{ConstantPasses}
 use Rattle.grain_needs.proofs.Accumulated.{constant_here, constants_before, constants_more}
 use Rattle.grain_needs.proofs.capabilities.caps_of_constants.Goals as goal

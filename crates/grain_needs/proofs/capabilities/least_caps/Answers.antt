@@ -1,7 +1,5 @@
 use Rattle.std.proofs.Common.{◌≡◌, ℕ, bit_or, refl, subst, sym}
-use Rattle.std.specs.List.{All}
 use Rattle.grain_base.specs.CapBits.{FUNCTION}
-use Rattle.grain_rules.specs.Accepted.{ConstantPasses}
 use Rattle.grain_rules.specs.Capabilities.{Allows}
 use Rattle.grain_rules.specs.Setting.{with_caps}
 use Rattle.grain_needs.proofs.Accumulated.{constants_all, instructions_all}

@@ -1,6 +1,4 @@
-use Rattle.std.proofs.Common.{◌≡◌, ℕ, ◌∷◌, ◌++◌, [], None, Some, Option, sym, ◌∙◌}
-use Rattle.grain_code.specs.declared.op.Op.{Op}
-use Rattle.grain_needs.specs.Slots.{IsSlotCount, named_slot}
+use Rattle.std.proofs.Common.{sym}
 use Rattle.grain_needs.proofs.SlotCounts.{count_more}
 use Rattle.grain_needs.proofs.slots.chunk_slots.Goals as goal
 

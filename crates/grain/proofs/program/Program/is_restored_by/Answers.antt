@@ -1,8 +1,7 @@
-use Rattle.std.proofs.Common.{◌≡◌, ◌∙◌, List, ℕ, Option, ap, subst, sym, false}
-use Rattle.std.specs.Prelude.{IsTrue, ◌↔◌}
+use Rattle.std.proofs.Common.{◌≡◌, ◌∙◌, List, ℕ, ap, subst, sym}
 use Rattle.std.proofs.lemmas.Bool.{false≢true}
 use Rattle.std.proofs.lemmas.Result.{IfOk-weaker}
-use Rattle.grain_bytecode.specs.Positions.{IsRead, IsRefusal, Place, places}
+use Rattle.grain_bytecode.specs.Positions.{IsRead, IsRefusal, places}
 use Rattle.grain.specs.Program.{Program, places_of}
 use Rattle.grain.proofs.AttachedPositions.{only_memory, places_listed}
 use Rattle.grain.proofs.RestoredPositions.{one_read}

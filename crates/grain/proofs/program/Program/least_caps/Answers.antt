@@ -1,5 +1,4 @@
-use Rattle.std.proofs.Common.{◌≡◌, ◌≢◌, ◌∙◌, List, ℕ, [], ap, length, subst, sym}
-use Rattle.grain_base.specs.declared.value.Dynamic.{Dynamic}
+use Rattle.std.proofs.Common.{◌≡◌, ◌≢◌, ◌∙◌, List, [], ap, length, subst, sym}
 use Rattle.grain_code.specs.declared.function.Function.{Function}
 use Rattle.grain.specs.Program.{Program, input_of}
 use Rattle.grain_needs.proofs.LeastCapabilities.{least_alike}
