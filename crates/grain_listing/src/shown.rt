@@ -61,14 +61,14 @@ pub fn push_name(name: &str, text: &mut String) -> Result<(), AllocError> {
 /// # Errors
 /// [`AllocError`] where memory was refused.
 pub fn push_capabilities(caps: Caps, text: &mut String) -> Result<(), AllocError> {
-    let mut between = "";
+    let mut is_first = true;
     for (name, _) in caps.iter_names() {
-        text.push_str(between)?;
+        text.push_str(if is_first { "" } else { ", " })?;
         text.push_str(name)?;
-        between = ", ";
+        is_first = false;
     }
     if caps.bits() & 0x8000 != 0 {
-        text.push_str(between)?;
+        text.push_str(if is_first { "" } else { ", " })?;
         text.push_str("0x8000")?;
     }
     Ok(())
