@@ -118,7 +118,21 @@ TEXTS = [
     (".switches\ncase 1 -> 0", 2, 12, "no switch before this"),
     (".positions 0\nreturn  @1:1", 2, 9, "position outside of .positions"),
     (".places\n 3 @1:1", 2, 2, "position outside of .positions"),
-    ("return @1:1\n.positions 9", 2, 1, "position outside of .positions"),
+    ("return @1:1\n.positions 9", 2, 1, "`.positions` comes after a position"),
+    (".positions 67108839", 1, 12, "number too large"),
+    (".id 1\nreturn\n.id 2", 3, 1, "directive given twice"),
+    (".caps \"\"\n.caps \"\"", 2, 1, "directive given twice"),
+    (".id 340282366920938463463374607431768211456", 1, 5, "number too large"),
+    (".id 0x10", 1, 5, "not a decimal number"),
+    ("load_const 9223372036854775808", 1, 12, "number too large"),
+    ("load_const 0x10", 1, 12, "not a decimal number"),
+    ("load_local 18446744073709551616", 1, 12, "number too large"),
+    ("load_local x", 1, 12, "not a number"),
+    (".chunks\nmain 0 1\nmain 0 1\n.code\nreturn", 3, 1, "second `main`"),
+    ("assign_local_op 0 a +", 1, 21, "no such op-assignment"),
+    ("5:\nreturn", 1, 1, "label begins with a digit"),
+    # The first wrong line, though the third is read before it.
+    ("jump x\n.names\n\"", 1, 6, "no such label"),
 ]
 # Assembly texts whose programs have no file, and why.
 UNKEPT = [

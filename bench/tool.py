@@ -12,6 +12,8 @@ import os
 import pathlib
 import random
 import re
+import resource
+import signal
 import subprocess
 import sys
 import tempfile
@@ -44,6 +46,8 @@ class Tool:
     def run(self, *arguments, given=b"", **more):
         """The status, and what came on standard output and standard error."""
         streams = {"input": given, "stdout": subprocess.PIPE, "stderr": subprocess.PIPE, **more}
+        if "stdin" in more:
+            del streams["input"]
         ran = subprocess.run([self.program, *arguments], cwd=self.folder, timeout=120, **streams)
         return ran.returncode, ran.stdout, ran.stderr
 
@@ -136,10 +140,11 @@ def check_programs(tool):
     expect(tool.done("addr2line", "add.grain", "3", "9999") == b"main at 1:6\n? at address 9999\n", "addr2line of a program")
     expect(tool.done("addr2line", "add.pos", "6") == b"? at 1:4\n", "addr2line of a sidecar")
     found = [json.loads(line) for line in tool.done("addr2line", "--json", "add.grain", "3", "9999").splitlines()]
-    expect(found == [{"address": 3, "function": "main", "line": 1, "column": 6}, {"address": 9999, "function": None}], f"addr2line --json writes {found}")
+    wanted = [{"address": 3, "function": "main", "position": {"line": 1, "column": 6}}, {"address": 9999, "function": None, "position": None}]
+    expect(found == wanted, f"addr2line --json writes {found}")
     tool.refused("attach", "add.grain", "add.grain", "-o", "x")
-    tool.refused("validate", "--caps", "NOTHING", "add.grain")
-    expect("lacks" in tool.refused("validate", "--caps", "ARRAY", "add.grain"), "capabilities aren't compared")
+    for words in (["validate", "--caps", "NOTHING", "add.grain"], ["addr2line", "add.grain", "0x5"], ["addr2line", "add.grain", "4294967296"]):
+        tool.refused(*words, status=2)
 
 
 def check_scripts(tool):
@@ -157,8 +162,12 @@ def check_scripts(tool):
     status, lines, _ = tool.run("check", "--json", "greet.rhai", "-", "nowhere", given=b"let x = 1; y + x\n")
     found = [json.loads(line) for line in lines.splitlines()]
     expect(status == 1 and found[0] == {"file": "greet.rhai", "errors": []}, f"check --json of a script: {found}")
-    expect(found[1] == {"file": "standard input", "errors": [{"line": 1, "column": 12, "message": "no variable has this name"}]}, f"check --json of an error: {found}")
-    expect(found[2]["file"] == "nowhere" and "line" not in found[2]["errors"][0], f"check --json of a missing file: {found}")
+    expect(found[1] == {"file": "-", "errors": [{"line": 1, "column": 12, "message": "no variable has this name"}]}, f"check --json of an error: {found}")
+    expect(found[2]["file"] == "nowhere" and found[2]["errors"][0]["line"] is None, f"check --json of a missing file: {found}")
+    expect(b'.source "greet.rhai"' in tool.done("print", "greet.grain"), "a compiled script doesn't name its source")
+    for words in (["compile", "--no-source", "greet.rhai"], ["compile", "-"]):
+        program = tool.done(*words, given=tool.read("greet.rhai"))
+        expect(b".source" not in tool.done("print", "-", given=program), f"{words} names a source")
     for script, said in (
         (b"let x = 0;\n1 / x\n", "Division by zero (line 2, position 3)"),
         (b"fn f() { f() } f()\n", "Stack overflow"),
@@ -235,8 +244,45 @@ def check_refusals(tool):
     expect("underflow" in tool.refused("run", "broken.grain"), "a broken program runs")
     status, text_, _ = tool.run("validate", "--explain", "broken.grain")
     expect(status == 1 and b"path" in text_, "--explain has no path")
-    found = json.loads(tool.run("validate", "--json", "broken.grain")[1])
-    expect(found["accepted"] is False and "underflow" in found["error"], "--json of a refusal")
+    refusal = {"kind": "underflow", "chunk": 0, "function": "main", "address": 0, "position": None, "constant": None, "need": 2, "have": 0}
+    wanted = {"file": "broken.grain", "accepted": False, "error": "underflow at=0 need=2 have=0", "refusal": refusal}
+    expect(judged(tool, "broken.grain") == wanted, f"--json of a refusal: {judged(tool, 'broken.grain')}")
+    tool.write("cut.grain", tool.read("broken.grain")[:-1])
+    found = judged(tool, "cut.grain")
+    expect((found["accepted"], found["refusal"]["kind"], found["refusal"]["fault"]) == (False, "malformed", "Truncated"), f"--json of a cut file: {found}")
+    found = judged(tool, "nowhere")
+    expect(found["accepted"] is None and "No such file" in found["error"], f"--json of a missing file: {found}")
+    check_needs(tool)
+
+
+# The beginning of a program file up to its capabilities, one that declares a number, and what follows: `unit` and `return`.
+REST = "0000 020213 000201 00 00 00 00 00 00 00 00 00"
+
+
+def judged(tool, *words):
+    """What `validate --json` says of a file."""
+    return json.loads(tool.run("validate", "--json", *words)[1])
+
+
+def check_needs(tool):
+    """Capabilities that are missing before any chunk, and those that no host has."""
+    tool.write("k.grain", tool.done("parse", "-", given=b'.caps ""\n.constants\n[1]\n.code\nunit @7:7\nreturn\n.chunks\nmain 0 2 stack 1\n'))
+    said = tool.refused("validate", "k.grain")
+    expect(said == "error: k.grain: missing-caps at=0 missing=0002 (constant 0)\n", f"a constant is refused by {said!r}")
+    expect(judged(tool, "k.grain")["refusal"] | {"error": 0} == {
+        "kind": "missing-caps", "chunk": None, "function": None, "address": None, "position": None, "constant": 0, "missing": ["ARRAY"], "error": 0
+    }, "--json of a constant")
+    expect("Constant 0 needs capabilities that the program does not declare: ARRAY." in tool.done("list", "k.grain").decode(), "a listing of a constant")
+    tool.write("f.grain", tool.done("parse", "-", given=b'.caps ""\n.chunks\nmain 0 2 stack 1\nfunction f () 0 2 stack 1\n.code\nunit\nreturn\n'))
+    expect(tool.refused("validate", "f.grain").endswith(" (functions)\n"), "functions without their capability")
+    tool.write("bit.grain", bytes.fromhex("0067726e0100 808002" + REST))
+    sentence = "the host lacks capabilities that the program declares: 0x8000"
+    for words in (["validate"], ["run"], ["flow"]):
+        expect(sentence in tool.refused(*words, "bit.grain"), f"{words} takes an unknown capability")
+    expect(tool.done("list", "bit.grain").decode().startswith(f"bit.grain: refused {sentence}\n"), "list takes an unknown capability")
+    tool.write("all.grain", tool.done("parse", "-", given=b"return\n"))
+    said = tool.refused("validate", "--caps", "ARRAY | 0x7ff4", "all.grain")
+    expect(said.endswith(": FUNCTION, MAP\n"), f"missing capabilities are named by {said!r}")
 
 
 def dump_of(tool, name, sections):
@@ -333,7 +379,7 @@ def check_page(tool):
     maps = first[:6] + b"\x08" + first[7:]
     tool.done("validate", "-", given=maps)
     said = tool.refused("validate", "--caps", "ARRAY", "-", given=maps)
-    expect(said == "error: standard input: the host lacks capabilities Caps(8)\n", f"capabilities are refused by {said!r}")
+    expect(said == "error: standard input: the host lacks capabilities that the program declares: MAP\n", f"capabilities are refused by {said!r}")
     said = tool.refused("validate", "-", given=first[:11] + b"\x01" + first[12:])
     expect(said.startswith("error: standard input: bad-index at=0 index=1 what=constant"), f"a missing constant is refused by {said!r}")
 
@@ -473,6 +519,146 @@ def check_flows(tool):
     expect(strokes.count("#b03a2e") == len(red), f"{strokes.count('#b03a2e')} arrows are red")
 
 
+def limited(size):
+    """Has files of a process end at a size: a write past it fails."""
+    signal.signal(signal.SIGXFSZ, signal.SIG_IGN)
+    resource.setrlimit(resource.RLIMIT_FSIZE, (size, size))
+
+
+def check_writes(tool):
+    """A write that fails leaves the old file. Permissions and links stay."""
+    folder = pathlib.Path(tool.folder)
+    tool.done("smith", "--seed", "1", "--size", "10", "-o", "kept.grain")
+    old, before = tool.read("kept.grain"), sorted(os.listdir(folder))
+    status, _, errors = tool.run("smith", "--seed", "1", "--size", "8000", "-o", "kept.grain", preexec_fn=lambda: limited(4096))
+    expect(status == 1 and errors.startswith(b"error: kept.grain: "), f"a full disk ends with {status}: {errors!r}")
+    expect(tool.read("kept.grain") == old and sorted(os.listdir(folder)) == before, "a write that fails leaves another file")
+    status, _, _ = tool.run("strip", "kept.grain", "--sidecar", "new.pos", "-o", "no/such/folder")
+    expect(status == 1 and sorted(os.listdir(folder)) == before, "of two files one is written")
+    os.chmod(folder / "kept.grain", 0o640)
+    (folder / "link.grain").symlink_to("kept.grain")
+    tool.done("smith", "--seed", "2", "-o", "link.grain")
+    expect((folder / "link.grain").is_symlink() and tool.read("kept.grain") != old, "a link is replaced")
+    expect((folder / "kept.grain").stat().st_mode & 0o777 == 0o640, "a new file has other permissions")
+    expect(tool.done("smith", "--seed", "2", "-o", "/dev/stdout") == tool.read("kept.grain"), "/dev/stdout isn't written")
+    if os.geteuid() != 0:
+        os.chmod(folder / "kept.grain", 0o440)
+        tool.refused("smith", "--seed", "3", "-o", "kept.grain")
+    os.remove(folder / "link.grain")
+
+
+def check_overlaps(tool):
+    """An output that is an input, or another output, is a wrong argument, and nothing is written."""
+    tool.write("c.rhai", b"1 + 1\n")
+    tool.done("compile", "c.rhai", "-o", "c.grain")
+    tool.done("strip", "c.grain", "--sidecar", "c.pos", "-o", "c.bare")
+    os.link(pathlib.Path(tool.folder) / "c.rhai", pathlib.Path(tool.folder) / "again.rhai")
+    tool.write("c.gasm", tool.done("print", "c.grain"))
+    files = ("c.rhai", "c.grain", "c.pos", "c.bare", "c.gasm")
+    before = {name: tool.read(name) for name in files}
+    for line in (
+        "compile c.rhai -o c.rhai", "compile c.rhai -o ./c.rhai", "compile c.rhai -o again.rhai", "compile c.rhai --sidecar c.rhai -o x",
+        "compile c.rhai --sidecar x -o x", "compile c.rhai --sidecar x -o ../" + os.path.basename(tool.folder) + "/x", "compile c.rhai --sidecar -",
+        "parse c.gasm -o c.gasm", "print c.grain -o c.grain", "list c.grain -o c.grain", "flow c.grain -o c.grain", "dump c.grain -o c.grain",
+        "strip c.grain --sidecar x -o x", "strip c.grain --sidecar c.grain -o x", "strip c.grain --sidecar - -o -", "strip c.grain --sidecar -",
+        "attach c.bare c.pos -o c.pos", "attach - -",
+    ):
+        tool.refused(*line.split(), status=2)
+        expect({name: tool.read(name) for name in files} == before and not os.path.exists(f"{tool.folder}/x"), f"{line} writes something")
+    expect(tool.done("strip", "c.grain", "--sidecar", "-", "-o", "x.bare") == before["c.pos"], "--sidecar - isn't standard output")
+    tool.done("strip", "c.grain", "--sidecar", "/dev/null", "-o", "/dev/null")
+    tool.done("strip", "c.grain", "--sidecar", "x.pos", "-o", "c.grain")
+    expect(tool.read("c.grain") == before["c.bare"], "a program isn't stripped in its own place")
+    tool.done("attach", "c.grain", "x.pos", "-o", "c.grain")
+    expect(tool.read("c.grain") == before["c.grain"], "a program doesn't get its positions in its own place")
+
+
+def check_limits(tool):
+    """No more is read than one byte past the limit."""
+    if os.path.exists("/dev/zero"):
+        for words in (["validate", "/dev/zero"], ["check", "/dev/zero"], ["dump", "/dev/zero"], ["addr2line", "/dev/zero", "1"]):
+            status, _, errors = tool.run(*words)
+            expect(status == 1 and b"/dev/zero: more than 67108864 bytes" in errors, f"{words} ends with {status}: {errors!r}")
+        with open("/dev/zero", "rb") as zeros:
+            status, _, errors = tool.run("validate", "-", input=None, stdin=zeros)
+        expect(status == 1 and errors == b"error: standard input: more than 67108864 bytes\n", f"zeros end with {status}: {errors!r}")
+
+
+# A function and a file whose names would forge a line and colour a terminal.
+FORGED = b'.names\n"f\\nother.grain: accepted\\x1b[31m"\n.chunks\nmain 0 2\nfunction #0() 0 2\n.code\nunit\nreturn\n'
+
+
+def plain(tool, *words, given=b""):
+    """What a command writes, which may have no control character except for ends of lines."""
+    _, output, errors = tool.run(*words, given=given)
+    expect(not re.search(rb"[\0-\x09\x0b-\x1f\x7f]", output + errors), f"{words} writes {output + errors!r}")
+    return (output + errors).decode()
+
+
+def check_escapes(tool):
+    tool.write("forged.grain", tool.done("parse", "-", given=FORGED))
+    for words in (["validate", "-v"], ["list"], ["flow"], ["print"], ["dump", "-x"], ["addr2line", "forged.grain", "0"][:1]):
+        said = plain(tool, *words, "forged.grain", *(["0"] if words == ["addr2line"] else []))
+        expect("\nother.grain: accepted" not in said, f"{words} writes {said!r}")
+    tool.write("low.grain", tool.done("parse", "-", given=FORGED.replace(b"#0() 0 2", b"#0() 0 2 stack 0").replace(b"main 0 2", b"main 0 2 stack 1")))
+    said = plain(tool, "validate", "low.grain")
+    expect(said == "error: low.grain: stack-exceeds-declared needed=1 declared=0 (f\\u{a}other.grain: accepted\\u{1b}[31m)\n", f"a name is shown as {said!r}")
+    expect("no\\u{1b}where" in plain(tool, "validate", "no\x1bwhere"), "the name of a file isn't escaped")
+    tool.write("a\nb.grain", tool.read("forged.grain"))
+    for words in (["validate"], ["list"]):
+        expect(plain(tool, *words, "a\nb.grain").startswith("a\\u{a}b.grain: accepted\n"), f"{words} doesn't escape the name of a file")
+    expect("halt\\u{1b}[31m" in plain(tool, "parse", "-", given=b"halt\x1b[31m\n"), "a line isn't escaped")
+    expect("\\u{1b}[31m" in plain(tool, "check", "-", given=b'let x = "\x1b[31m" +;\n'), "the line of a script isn't escaped")
+    expect("\\u{a}forged" in plain(tool, "run", "-", given=b'throw "x\\nforged\\x1b";\n'), "a message isn't escaped")
+    expect(tool.run("run", "-", given=b'print("\\x1b[1m")\n')[1] == b"\x1b[1m\n", "what a script prints is escaped")
+    long = b"x" * 100_000
+    for words, script in ((["check", "-"], b"let a = 1; /*" + long + b"*/ a + ; /*" + long + b"*/\n"), (["parse", "-"], b"load_const " + long + b"\n")):
+        said = tool.refused(*words, given=script) if words[0] == "parse" else tool.run(*words, given=script)[2].decode()
+        expect(len(said) < 1500 and "…" in said, f"{words} shows {len(said)} letters of a line")
+
+
+def check_cuts(tool):
+    """Texts grow with the file, however often a long name is used, and verification is bounded."""
+    for text_ in (b'.names\n"' + b"n" * 5000 + b'"\n.code\n' + b"load_named #0\npop\n" * 500, b'.constants\n["' + b"n" * 5000 + b'"]\n.code\n' + b"load_const #0\npop\n" * 500):
+        file = tool.write("long.grain", tool.done("parse", "-", given=text_ + b"unit\nreturn\n"))
+        for words, most in ((["print"], 100_000), (["list"], 300_000), (["list", "--json"], 400_000), (["flow"], 2_000_000)):
+            size = len(tool.done(*words, file))
+            expect(size < most, f"{words} writes {size} bytes")
+        expect(tool.done("parse", "-", given=tool.done("print", file)) == tool.read(file), "a long name doesn't come back")
+    chunks = b"function f () 0 1001 stack 1\n" * 2000
+    text_ = b".chunks\nmain 0 1001 stack 1\n" + chunks + b".code\n" + b"tick\n" * 999 + b"unit\nreturn\n"
+    file = tool.write("many.grain", tool.done("parse", "-", given=text_))
+    for words in (["validate"], ["list"], ["flow"], ["run"]):
+        said = tool.refused(*words, file)
+        expect(said == f"error: many.grain: its chunks span 2003001 bytes of code, and --work allows 1064592\n", f"{words} says {said!r}")
+    tool.done("validate", "--work", "2003001", file)
+    found = judged(tool, "--work", "2003000", file)["refusal"]
+    expect(found == {"kind": "work", "spans": 2003001, "limit": 2003000}, f"--json of much work: {found}")
+
+
+def check_positions(tool):
+    """A position without a column is its line alone, in JSON with null."""
+    file = tool.write("line.grain", tool.done("parse", "-", given=b"unit @5:0\nreturn\n"))
+    expect(tool.done("addr2line", file, "0") == b"main at 5\n", "addr2line shows a column 0")
+    expect(b"Unit  @5\n" in tool.done("list", file), "list shows a column 0")
+    found = json.loads(tool.done("addr2line", "--json", file, "0"))["position"]
+    expect(found == {"line": 5, "column": None} == items_of(tool, file, "main")[0]["position"], f"--json shows {found}")
+    tool.write("one.grain", tool.done("parse", "-", given=b".id 7\nunit @1:1\nreturn\n"))
+    tool.done("strip", file, "--sidecar", "line.pos", "-o", "line.bare")
+    said = tool.refused("attach", "one.grain", "line.pos", "-o", "x")
+    expect(said == "error: line.pos: the positions are of program 0, and this is program 7\n", f"attach says {said!r}")
+
+
+def check_orders(tool):
+    """Entries of sections are numbered first, wherever the sections are."""
+    said = tool.done("print", "-", given=tool.done("parse", "-", given=b"load_named y\npop\nload_named #0\nreturn\n.names\nx\n")).decode()
+    expect('"x" ; 0' in said and '"y" ; 1' in said and 'load_named #1 ; "y"' in said and 'load_named #0 ; "x"' in said, f"entries are numbered as in {said}")
+    above = b"load_local 0\nassign_local_op 0 a +=\nload_const 1\nload_const #0\ncall_op \"+\" 2 #0\nreturn\n"
+    below = b".op-assignments\n-= \"-=\" - \"-\"\n.constants\n7\n.operators\n*\n.names\na\n"
+    one, other = (tool.done("parse", "-", given=b".chunks\nmain 0 21 stack 9\n" + text_) for text_ in (b".code\n" + above + below, below + b".code\n" + above))
+    expect(one == other, "sections below the code are numbered otherwise than above it")
+
+
 def check_documents(tool):
     """Each program of docs/ASSEMBLY.md is assembled and accepted."""
     page = (TOP / "docs/ASSEMBLY.md").read_text()
@@ -542,7 +728,7 @@ def main():
         if given.write:
             SNAPSHOTS.write_text(snapshots(tool))
             return
-        for check in (check_help, check_snapshots, check_missing, check_programs, check_scripts, check_pointers, check_refusals, check_listings, check_flows, check_dumps, check_page, check_sidecar, check_changes, check_texts, check_items, check_documents, check_large):
+        for check in (check_help, check_snapshots, check_missing, check_programs, check_scripts, check_pointers, check_refusals, check_listings, check_flows, check_positions, check_orders, check_writes, check_overlaps, check_limits, check_escapes, check_cuts, check_dumps, check_page, check_sidecar, check_changes, check_texts, check_items, check_documents, check_large):
             check(tool)
         check_round_trips(tool, given.programs)
     print("grain: all well")

@@ -146,9 +146,13 @@ impl Chunks {
                 self.functions.push(function)?;
                 Ok(())
             }
-            _ => {
+            word => {
                 cursor.left = start;
-                Err(Stop::Fault(Problem::Word))
+                Err(Stop::Fault(if word == "main" {
+                    Problem::MainTwice
+                } else {
+                    Problem::Word
+                }))
             }
         }
     }

@@ -11,6 +11,7 @@ ghost use Rattle.grain_asm.specs.declared.error.Stop.{Stop};
 use crate::error::{Problem, Stop};
 use grain_base::Position;
 use std::alloc::Global;
+use std::num::{IntErrorKind, ParseIntError};
 use std::str;
 
 /// What is left of a line.
@@ -89,7 +90,15 @@ fn number_of(digits: &str) -> Result<u64, Stop>
     };
     match number {
         Ok(number) => Ok(number),
-        Err(_) => Err(Stop::Fault(Problem::NotNumber)),
+        Err(error) => Err(Stop::Fault(no_number(error, Problem::NotNumber))),
+    }
+}
+
+/// Why digits are no number of this size: it is out of range, or they are none.
+pub(crate) fn no_number(error: ParseIntError, otherwise: Problem) -> Problem {
+    match error.kind() {
+        IntErrorKind::PosOverflow | IntErrorKind::NegOverflow => Problem::TooWide,
+        _ => otherwise,
     }
 }
 
@@ -269,7 +278,7 @@ impl<'a> Cursor<'a> {
                 self.left = rest;
                 Ok(integer)
             }
-            Err(_) => Err(Stop::Fault(Problem::NotNumber)),
+            Err(error) => Err(Stop::Fault(no_number(error, Problem::NotDecimal))),
         }
     }
 

@@ -10,13 +10,13 @@ ghost use Rattle.grain_asm.specs.Entries.{Stays};
 use crate::chains::read_chain;
 use crate::chunks::{Chunks, declare};
 use crate::code::{eat_label, read_instruction};
-use crate::cursor::Cursor;
+use crate::cursor::{Cursor, no_number};
 use crate::error::{Problem, Stop, Unfinished};
 use crate::labels::Labels;
 use crate::literals::{read_text, read_text_or_word};
 use crate::operators::read_token;
 use crate::pools::Pools;
-use crate::sections::{Section, read_directive, section_named};
+use crate::sections::{Pass, Section, read_directive, section_named};
 use crate::switches::read_switch_line;
 use crate::values::{MAX_DEPTH, read_value};
 use grain::{Parts, Pools as PoolSizes, Positions, Program, VerifyError, verify};
@@ -24,9 +24,20 @@ use grain_base::{Caps, Position};
 use grain_code::{Chunk, Function};
 use grain_pools::{Strings, StringsError};
 use std::alloc::{AllocError, Global};
+use std::mem;
 
-/// How many positions a text declares at most.
-pub const MAX_POSITIONS: u64 = 64 * 1024 * 1024;
+/// How many positions a text declares at most: as many as a file of 64 MiB has room for, of which 26 bytes are for all else.
+pub const MAX_POSITIONS: u64 = 64 * 1024 * 1024 - 26;
+
+/// Which directives were given that begin no section.
+#[derive(Clone, Copy, Default)]
+pub(crate) struct Given {
+    caps: bool,
+    id: bool,
+    fragments: bool,
+    source: bool,
+    positions: bool,
+}
 
 /// What a text says of a program besides its pools, chunks and code.
 #[derive(Drop)]
@@ -37,6 +48,8 @@ pub(crate) struct Head {
     source: Option<String>,
     /// How many bytes have a position, where the text says so.
     positions: Option<usize>,
+    /// What of this was given.
+    given: Given,
 }
 
 /// A program while its text is read.
@@ -58,9 +71,9 @@ fn read_id(cursor: &mut Cursor<'_>) -> Result<u128, Stop> {
     let digits = cursor.word()?;
     match digits.parse::<u128>() {
         Ok(id) => Ok(id),
-        Err(_) => {
+        Err(error) => {
             cursor.left = start;
-            Err(Stop::Fault(Problem::NotNumber))
+            Err(Stop::Fault(no_number(error, Problem::NotDecimal)))
         }
     }
 }
@@ -79,9 +92,26 @@ fn read_caps(cursor: &mut Cursor<'_>) -> Result<Caps, Stop> {
     }
 }
 
+impl Given {
+    /// Notes a directive, and says whether it was given before.
+    fn note(&mut self, directive: &str) -> bool {
+        match directive {
+            ".caps" => mem::replace(&mut self.caps, true),
+            ".id" => mem::replace(&mut self.id, true),
+            ".fragments" => mem::replace(&mut self.fragments, true),
+            ".source" => mem::replace(&mut self.source, true),
+            ".positions" => mem::replace(&mut self.positions, true),
+            _ => false,
+        }
+    }
+}
+
 impl Head {
     /// Reads what follows a directive that begins no section.
     fn read(&mut self, cursor: &mut Cursor<'_>, directive: &str) -> Result<(), Stop> {
+        if self.given.note(directive) {
+            return Err(Stop::Fault(Problem::DirectiveTwice));
+        }
         match directive {
             ".caps" => self.caps = read_caps(cursor)?,
             ".id" => self.debug_id = read_id(cursor)?,
@@ -106,6 +136,7 @@ impl Draft {
                 fragments: 0,
                 source: None,
                 positions: None,
+                given: Given::default(),
             },
             pools: Pools::new(alloc),
             chunks: Chunks::new(alloc),
@@ -191,8 +222,8 @@ impl Draft {
         Ok(())
     }
 
-    /// Begins the section of a directive, or reads what follows it.
-    fn follow<'a>(
+    /// Reads what follows a directive that begins no section.
+    fn read_head<'a>(
         &mut self,
         cursor: &mut Cursor<'a>,
         start: &'a [u8],
@@ -200,42 +231,83 @@ impl Draft {
     ) -> Result<(), Stop>
         ensures { self.new.code ≡ self.old.code }
     {
-        if let Some(section) = section_named(directive) {
-            self.section = section;
-            return Ok(());
-        }
-        if directive == ".positions" && !self.places.is_empty() {
-            cursor.left = start;
-            return Err(Stop::Fault(Problem::NoPosition));
-        }
         let read = self.head.read(cursor, directive);
-        if read == Err(Stop::Fault(Problem::Directive)) {
+        if let Err(Stop::Fault(Problem::Directive | Problem::DirectiveTwice)) = read {
             cursor.left = start;
         }
         read
     }
 
-    /// Reads a directive or an entry.
-    fn read_item(&mut self, labels: &Labels, cursor: &mut Cursor<'_>) -> Result<(), Stop>
+    /// Begins the section of a directive, or reads what follows it in the first pass. It says whether the line is read.
+    fn follow<'a>(
+        &mut self,
+        pass: Pass,
+        cursor: &mut Cursor<'a>,
+        start: &'a [u8],
+        directive: &str,
+    ) -> Result<bool, Stop>
+        ensures { self.new.code ≡ self.old.code }
+    {
+        if let Some(section) = section_named(directive) {
+            self.section = section;
+            return Ok(true);
+        }
+        if pass == Pass::Entries {
+            self.read_head(cursor, start, directive)?;
+            return Ok(true);
+        }
+        if directive == ".positions" && !self.places.is_empty() {
+            cursor.left = start;
+            return Err(Stop::Fault(Problem::LatePositions));
+        }
+        Ok(false)
+    }
+
+    /// Reads a directive, or an entry that the pass reads. It says whether the line is read.
+    fn read_item(
+        &mut self,
+        labels: &Labels,
+        pass: Pass,
+        cursor: &mut Cursor<'_>,
+    ) -> Result<bool, Stop>
         ensures { OnOk result (Stays self.old.code.items self.new.code.items) }
     {
         cursor.blanks();
         let start = cursor.left;
         match read_directive(cursor)? {
-            None => self.read_entry(labels, cursor),
-            Some(directive) => self.follow(cursor, start, directive),
+            None if pass.reads(self.section) => {
+                self.read_entry(labels, cursor)?;
+                Ok(true)
+            }
+            None => Ok(false),
+            Some(directive) => self.follow(pass, cursor, start, directive),
         }
     }
 
-    /// Reads a line.
-    pub fn read_line(&mut self, labels: &Labels, cursor: &mut Cursor<'_>) -> Result<(), Stop>
+    /// Begins a pass: code comes next, as at the front of a text.
+    pub fn begin(&mut self)
+        ensures { self.new.code ≡ self.old.code }
+    {
+        self.section = Section::Code;
+    }
+
+    /// Reads a line, if the pass reads it.
+    pub fn read_line(
+        &mut self,
+        labels: &Labels,
+        pass: Pass,
+        cursor: &mut Cursor<'_>,
+    ) -> Result<(), Stop>
         ensures { OnOk result (Stays self.old.code.items self.new.code.items) }
     {
         if cursor.is_done() {
             return Ok(());
         }
-        self.read_item(labels, cursor)?;
-        cursor.end()
+        if self.read_item(labels, pass, cursor)? {
+            cursor.end()
+        } else {
+            Ok(())
+        }
     }
 
     /// The program that was read.

@@ -12,6 +12,15 @@ pub enum Problem {
     /// A directive isn't one of docs/ASSEMBLY.md.
     #[error("no such directive")]
     Directive,
+    /// A directive that begins no section is given a second time.
+    #[error("directive given twice")]
+    DirectiveTwice,
+    /// `.positions` comes after a position.
+    #[error("`.positions` comes after a position")]
+    LatePositions,
+    /// There is a main chunk already.
+    #[error("second `main`")]
+    MainTwice,
     /// A word begins no line of the section.
     #[error("this begins no line of the section")]
     Word,
@@ -24,6 +33,9 @@ pub enum Problem {
     /// A label is defined twice.
     #[error("label defined twice")]
     LabelTwice,
+    /// A label begins with a digit, so that it would be taken for an address.
+    #[error("label begins with a digit")]
+    LabelNumber,
     /// A word, a text or an index is missing.
     #[error("a name or a number is missing")]
     Missing,
@@ -36,6 +48,9 @@ pub enum Problem {
     /// A number is not decimal digits, or 0x and hexadecimal digits.
     #[error("not a number")]
     NotNumber,
+    /// An integer, or the number of a program, is not decimal digits.
+    #[error("not a decimal number")]
+    NotDecimal,
     /// A number doesn't fit.
     #[error("number too large")]
     TooWide,
@@ -72,13 +87,16 @@ pub enum Problem {
     /// There is no operator of this spelling.
     #[error("no such operator")]
     NotOperator,
+    /// There is no op-assignment of this spelling.
+    #[error("no such op-assignment")]
+    NotAssignOp,
     /// There is no capability of this name.
     #[error("no such capability")]
     NotCapability,
     /// A position has line 0.
     #[error("position without a line")]
     NoLine,
-    /// A position is outside of `.positions`, or that comes after a position.
+    /// A position is outside of `.positions`.
     #[error("position outside of .positions")]
     NoPosition,
 }

@@ -62,12 +62,23 @@ enum Item<'a> {
     Bytes(u32),
 }
 
+/// A label, which no address is taken for.
+fn label_of<'a>(cursor: &mut Cursor<'a>, start: &'a [u8], word: &'a str) -> Result<Item<'a>, Stop> {
+    match start {
+        [b'0'..=b'9', ..] => {
+            cursor.left = start;
+            Err(Stop::Fault(Problem::LabelNumber))
+        }
+        _ => Ok(Item::Label(word)),
+    }
+}
+
 fn read_item<'a>(cursor: &mut Cursor<'a>) -> Result<Item<'a>, Stop> {
     cursor.blanks();
     let start = cursor.left;
     let word = cursor.word()?;
     if cursor.eat(b':') {
-        return Ok(Item::Label(word));
+        return label_of(cursor, start, word);
     }
     if word == "byte" {
         return Ok(Item::Bytes(1));

@@ -1,5 +1,5 @@
 //! From a text to a program.
-ghost use Rattle.std.specs.Prelude.{◌≡◌, ◌<◌, ℕ, List, IfErr, IfOk, Ok, Some, length, slice_get};
+ghost use Rattle.std.specs.Prelude.{◌≡◌, ◌<◌, ◌≤◌, ℕ, List, IfErr, IfOk, Ok, Some, length, slice_get};
 ghost use Rattle.std.specs.Str.Lines.{lines};
 ghost use Rattle.grain.specs.Program.{input_of};
 ghost use Rattle.grain_rules.specs.Verdict.{IsVerdict};
@@ -10,6 +10,7 @@ use crate::cursor::Cursor;
 use crate::draft::Draft;
 use crate::error::{Flaw, ParseError, Stop, SyntaxError, Unfinished};
 use crate::labels::Labels;
+use crate::sections::Pass;
 use grain::Program;
 use std::alloc::{AllocError, Global};
 
@@ -48,21 +49,53 @@ fn refusal_of(alloc: Global, lines: &[&str], flaw: Flaw) -> ParseError
     }
 }
 
-/// Reads the lines, one after another.
-fn read_lines(alloc: Global, labels: &Labels, lines: &[&str]) -> Result<Draft, Flaw>
+/// Reads the lines of a pass, one after another.
+fn read_pass(
+    alloc: Global,
+    labels: &Labels,
+    pass: Pass,
+    lines: &[&str],
+    draft: &mut Draft,
+) -> Result<(), Flaw>
     ensures { IfErr result (λ flaw. flaw.line < length lines.now) }
 {
-    let mut draft = Draft::new(alloc);
+    draft.begin();
     for (line, text) in lines.iter().enumerate() {
         let mut cursor = Cursor {
             alloc,
             left: text.as_bytes(),
         };
-        if let Err(stop) = draft.read_line(labels, &mut cursor) {
+        if let Err(stop) = draft.read_line(labels, pass, &mut cursor) {
             let left = cursor.left.len();
             return Err(Flaw { line, left, stop });
         }
     }
+    Ok(())
+}
+
+/// The lines before the one that is refused, or all.
+fn before<'a, 'b>(lines: &'a [&'b str], read: &Result<(), Flaw>) -> &'a [&'b str]
+    ensures { length result.now ≤ length lines.now }
+{
+    match read {
+        Ok(()) => lines,
+        Err(flaw) => lines.get(..flaw.line).unwrap_or(lines),
+    }
+}
+
+/// Reads the lines, pass by pass. What is refused is the first line that any pass refuses: a later pass goes only up to the line
+/// that an earlier one refuses.
+fn read_lines(alloc: Global, labels: &Labels, lines: &[&str]) -> Result<Draft, Flaw>
+    ensures { IfErr result (λ flaw. flaw.line < length lines.now) }
+{
+    let mut draft = Draft::new(alloc);
+    let entries = read_pass(alloc, labels, Pass::Entries, lines, &mut draft);
+    let front = before(lines, &entries);
+    let assign_ops = read_pass(alloc, labels, Pass::OpAssignments, front, &mut draft);
+    let front = before(front, &assign_ops);
+    read_pass(alloc, labels, Pass::Rest, front, &mut draft)?;
+    assign_ops?;
+    entries?;
     Ok(draft)
 }
 
@@ -91,7 +124,7 @@ fn draft_of(alloc: Global, lines: &[&str]) -> Result<Draft, Flaw>
 /// The program of an assembly text (docs/ASSEMBLY.md). Only where a chunk says `stack auto`, or nothing of its stack, it is
 /// verified; [`parse_accepted`] verifies each.
 ///
-/// It goes over the text twice, and takes memory for the program, a label for each that is defined, and a slice for each line.
+/// It goes over the text four times, and takes memory for the program, a label for each that is defined, and a slice for each line.
 /// For a name, a plain constant, an operator and an op-assignment in place it goes over the entries that are there.
 ///
 /// # Errors

@@ -229,7 +229,7 @@ impl Pools {
             Some(assign_op) => self.assign_op_index(assign_op),
             None => {
                 cursor.left = start;
-                Err(Stop::Fault(Problem::NotOperator))
+                Err(Stop::Fault(Problem::NotAssignOp))
             }
         }
     }

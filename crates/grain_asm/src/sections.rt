@@ -30,6 +30,33 @@ pub(crate) enum Section {
     Places,
 }
 
+/// Which lines are read at a time. A text is read three times, so that what is entered in place comes behind the entries of the
+/// sections, wherever these are.
+#[derive(Clone, Copy, PartialEq, Eq)]
+pub(crate) enum Pass {
+    /// Directives, and the sections in whose entries nothing is entered in place.
+    Entries,
+    /// Op-assignments, in which names are entered.
+    OpAssignments,
+    /// All other sections.
+    Rest,
+}
+
+impl Pass {
+    /// Whether the entries of a section are read.
+    pub fn reads(self, section: Section) -> bool {
+        match section {
+            Section::Names | Section::Constants | Section::Operators => self == Pass::Entries,
+            Section::OpAssignments => self == Pass::OpAssignments,
+            Section::Chains
+            | Section::Switches
+            | Section::Chunks
+            | Section::Code
+            | Section::Places => self == Pass::Rest,
+        }
+    }
+}
+
 /// The section that a directive begins.
 pub(crate) fn section_named(directive: &str) -> Option<Section>
     ensures { MatchOption result

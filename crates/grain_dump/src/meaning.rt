@@ -5,8 +5,8 @@ use grain_base::{Caps, Flags};
 use grain_code::Function;
 use grain_file::Part;
 use grain_print::{
-    Marks, write_assign_op, write_capabilities, write_chain, write_chunk, write_function,
-    write_switch, write_text, write_token, write_value,
+    Marks, write_assign_op, write_capabilities, write_chain, write_chunk, write_front,
+    write_function, write_switch, write_text, write_token, write_value,
 };
 use std::alloc::{AllocError, Global};
 
@@ -35,7 +35,7 @@ fn write_named(
     match program.names().get(function.name) {
         Some(name) => {
             out.push_str(" ; ")?;
-            write_text(out, name)
+            write_front(out, name)
         }
         None => Ok(()),
     }

@@ -6,7 +6,8 @@ use grain::Program;
 use grain_code::Op;
 use grain_explain::{ExplainedChunk, Refusal, Row};
 use grain_listing::{
-    Handlers, Naming, ProgramListing, name_of, push_shown, row_at, rule, write_bases, write_wrong,
+    Handlers, Naming, ProgramListing, name_of, push_name, push_position, row_at, rule, write_bases,
+    write_wrong,
 };
 use std::alloc::{AllocError, Global};
 
@@ -159,7 +160,8 @@ fn node_of(
 ) -> Result<Node, AllocError> {
     let Label { short, mut whole } = label_of(alloc, naming, op)?;
     if let Some(position) = naming.position(at) {
-        write!(whole, "  @{position}")?;
+        whole.push_str("  @")?;
+        push_position(position, &mut whole)?;
     }
     let (states, standing) = found_at(chunk, at);
     let (counts, bases) = match states {
@@ -179,7 +181,7 @@ fn node_of(
 /// What a chunk is called in a title.
 fn short_name(alloc: Global, program: &Program, place: usize) -> Result<String, AllocError> {
     let mut name = String::new(alloc);
-    push_shown(name_of(program, place), &mut name)?;
+    push_name(name_of(program, place), &mut name)?;
     shortened(alloc, &name, LONGEST_NAME)
 }
 

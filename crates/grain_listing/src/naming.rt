@@ -1,5 +1,7 @@
 //! What instructions and chunks are called.
 
+use crate::cut::{is_cut, write_cut};
+use crate::shown::push_shown;
 use grain::{DisassembleError, Program};
 use grain_base::Position;
 use grain_code::Op;
@@ -31,30 +33,11 @@ pub fn name_of(program: &Program, place: usize) -> &str {
     }
 }
 
-/// Whether a character would change how the text around it is shown: a control character, or a mark of direction.
-fn is_hidden(c: char) -> bool {
-    c.is_control()
-        || matches!(c, '\u{200e}'..='\u{200f}' | '\u{2028}'..='\u{202e}' | '\u{2066}'..='\u{2069}')
-}
-
-/// Appends what a program brings, with an escape for each character that would change how the text around it is shown.
-///
-/// # Errors
-/// [`AllocError`] where memory was refused.
-pub fn push_shown(piece: &str, text: &mut String) -> Result<(), AllocError> {
-    for c in piece.chars() {
-        if is_hidden(c) {
-            let code = c as u32;
-            write!(text, "\\u{{{code:x}}}")?;
-        } else {
-            text.push(c)?;
-        }
-    }
-    Ok(())
-}
-
 /// Appends the text of an operation, or its debug text where an index finds nothing.
 fn write_named(program: &Program, op: &Op, text: &mut String) -> Result<(), AllocError> {
+    if is_cut(program, op) {
+        return write_cut(program, op, text);
+    }
     match op.disassemble(*text.allocator(), program) {
         Ok(named) => push_shown(&named, text),
         Err(DisassembleError::OutOfMemory) => Err(AllocError),
@@ -63,7 +46,7 @@ fn write_named(program: &Program, op: &Op, text: &mut String) -> Result<(), Allo
 }
 
 impl<'a> Naming<'a> {
-    /// Appends the text of an operation. It takes time by the length of that.
+    /// Appends the text of an operation. Names, texts and values that are long are cut, so that it takes constant time.
     ///
     /// # Errors
     /// [`AllocError`] where memory was refused.

@@ -4,6 +4,7 @@ use crate::code::{CodeListing, effect_of};
 use crate::handlers::{Handlers, SHOWN};
 use crate::naming::Naming;
 use crate::program::ProgramListing;
+use crate::refusal::{early_rule, write_early_wrong};
 use crate::sentence::{rule, write_wrong};
 use crate::text::{row_at, write_hex};
 use grain_base::Position;
@@ -337,14 +338,33 @@ impl<'a> Listed<'a> {
     }
 }
 
+/// Writes why code with chunks is refused before these.
+fn write_refusal_before(
+    alloc: Global,
+    naming: Naming<'_>,
+    error: &VerifyError,
+    json: &mut Writer,
+) -> Result<(), AllocError> {
+    let mut said = String::new(alloc);
+    write_early_wrong(naming, error, &mut said)?;
+    begin_object("refusal", json)?;
+    write_error(alloc, error, json)?;
+    write_words("wrong", said.as_str(), json)?;
+    write_words("rule", early_rule(error), json)?;
+    write_path("path", NO_HANDLERS, &[], json)?;
+    write_path("other_path", NO_HANDLERS, &[], json)?;
+    json.end_object()
+}
+
 /// Writes why code with chunks is refused before these, if it is.
 fn write_early_refusal(
     alloc: Global,
+    naming: Naming<'_>,
     listed: Listed<'_>,
     json: &mut Writer,
 ) -> Result<(), AllocError> {
     match listed.early_error() {
-        Some(error) => write_refusal(alloc, error, NO_HANDLERS, &[], &[], json),
+        Some(error) => write_refusal_before(alloc, naming, error, json),
         None => write_null("refusal", json),
     }
 }
@@ -391,7 +411,7 @@ pub fn write_listed(
     listed: Listed<'_>,
     json: &mut Writer,
 ) -> Result<(), AllocError> {
-    write_early_refusal(alloc, listed, json)?;
+    write_early_refusal(alloc, naming, listed, json)?;
     write_items(alloc, naming, listed, json)?;
     write_chunks(alloc, naming, listed, json)
 }

@@ -1,6 +1,6 @@
 //! What is said of a refusal: what is wrong, and which rule it breaks.
 
-use grain_base::Flags;
+use crate::shown::push_capabilities;
 use grain_explain::Row;
 use grain_rules::VerifyError;
 use std::alloc::AllocError;
@@ -40,8 +40,9 @@ fn write_differing(here: &Row, there: &Row, text: &mut String) -> Result<(), All
 fn write_wrong_instruction(error: &VerifyError, text: &mut String) -> Result<(), AllocError> {
     match *error {
         VerifyError::MissingCaps { missing, .. } => {
-            let bits = missing.bits();
-            write!(text, "needs capabilities that the host lacks: {bits:04x}.")
+            text.push_str("needs capabilities that are not allowed: ")?;
+            push_capabilities(missing, text)?;
+            text.push_str(".")
         }
         VerifyError::JumpOutOfRange { target, .. } => {
             write!(text, "has the target {target}, which is outside the chunk.")

@@ -2,10 +2,12 @@
 
 use crate::code::{CodeListing, effect_of};
 use crate::handlers::{Handlers, SHOWN};
-use crate::naming::{Naming, push_shown};
+use crate::naming::Naming;
 use crate::paint::{Kind, Paint};
 use crate::program::ProgramListing;
+use crate::refusal::{early_rule, write_early_wrong};
 use crate::sentence::{rule, write_wrong};
+use crate::shown::{push_name, push_position};
 use grain_code::{Chunk, Flow, Op};
 use grain_explain::{ExplainedChunk, Refusal as ExplainedRefusal, Row};
 use grain_rules::VerifyError;
@@ -112,7 +114,8 @@ fn write_op(naming: Naming<'_>, at: usize, op: &Op, text: &mut String) -> Result
     naming.write_op(op, text)?;
     write_target(op, text)?;
     if let Some(position) = naming.position(at) {
-        write!(text, "  @{position}")?;
+        text.push_str("  @")?;
+        push_position(position, text)?;
     }
     Ok(())
 }
@@ -203,6 +206,21 @@ fn write_table(
     Ok(())
 }
 
+/// Writes why a program is refused before its chunks, and the rule that it breaks.
+fn write_early_refusal(
+    style: Style<'_>,
+    error: &VerifyError,
+    text: &mut String,
+) -> Result<(), AllocError> {
+    let Style { paint, naming } = style;
+    text.push_str("  ")?;
+    paint.begin(Kind::Flaw, text)?;
+    write_early_wrong(naming, error, text)?;
+    paint.end(Kind::Flaw, text)?;
+    let rule = early_rule(error);
+    write!(text, "\n  The rule: {rule}\n")
+}
+
 /// Writes what is wrong, and the rule that it breaks.
 fn write_sentences(
     paint: Paint,
@@ -272,7 +290,7 @@ fn write_head(
     text: &mut String,
 ) -> Result<(), AllocError> {
     match style.naming.chunk_name(place) {
-        Some(name) => push_shown(name, text)?,
+        Some(name) => push_name(name, text)?,
         None => write!(text, "chunk {place}")?,
     }
     let entry = chunk.entry();
@@ -348,7 +366,35 @@ pub fn write_code(
     Ok(())
 }
 
-/// Writes a program: its chunks, each after an empty line, or its code and why it is refused, where it is refused before its chunks.
+/// How many parts the listing of a program has: its chunks, or one where it is refused before these.
+pub fn count_parts(program: &ProgramListing) -> usize {
+    program.explained.chunks.len().max(1)
+}
+
+/// Writes a part of a program: the chunk at this place after an empty line, or the code and why it is refused, where it is refused
+/// before its chunks. All parts are the whole listing, which need not be held at once.
+///
+/// # Errors
+/// [`AllocError`] where memory was refused.
+pub fn write_part(
+    style: Style<'_>,
+    program: &ProgramListing,
+    place: usize,
+    text: &mut String,
+) -> Result<(), AllocError> {
+    let explained = &program.explained;
+    if !explained.chunks.is_empty() {
+        text.push_str("\n")?;
+        return write_chunk(style, program, place, text);
+    }
+    write_code(style, &program.code, text)?;
+    match &explained.verdict {
+        Err(refusal) => write_early_refusal(style, &refusal.error, text),
+        Ok(_) => Ok(()),
+    }
+}
+
+/// Writes all parts of a program.
 ///
 /// # Errors
 /// [`AllocError`] where memory was refused.
@@ -357,17 +403,8 @@ pub fn write_program(
     program: &ProgramListing,
     text: &mut String,
 ) -> Result<(), AllocError> {
-    let explained = &program.explained;
-    if explained.chunks.is_empty() {
-        write_code(style, &program.code, text)?;
-        if let Err(refusal) = &explained.verdict {
-            write_sentences(style.paint, &refusal.error, &[], &[], text)?;
-        }
-        return Ok(());
-    }
-    for place in 0..explained.chunks.len() {
-        text.push_str("\n")?;
-        write_chunk(style, program, place, text)?;
+    for place in 0..count_parts(program) {
+        write_part(style, program, place, text)?;
     }
     Ok(())
 }

@@ -1,5 +1,5 @@
 -- Operators by their spellings.
-use Rattle.std.proofs.Common.{◌≡◌, ◌≢◌, ◌<◌, ◌≤◌, ◌+◌, ◌∙◌, ℕ, List, [], Option, Some, None, MatchOption, map, ap, sym, refl, arith, length, slice_get, inr, inl, get_or, zero-add}
+use Rattle.std.proofs.Common.{◌≡◌, ◌≢◌, ◌<◌, ◌≤◌, ◌∙◌, ℕ, List, [], Option, Some, None, MatchOption, map, ap, sym, refl, arith, length, slice_get, inr, inl, get_or, zero-add}
 use Rattle.std.proofs.lemmas.List.{length-map}
 use Rattle.std.specs.List.{AllWithin, HoldsAt, position, range_with_len}
 use Rattle.std.specs.Option.{IfNone, IfSome, option_copied, option_map}

@@ -1,19 +1,38 @@
-//! Instructions with their labels and positions.
+//! Instructions with their labels and positions, in parts of the code.
 
 use crate::chains::write_position;
 use crate::forms::form_of;
 use crate::marks::{Marks, write_address};
-use crate::quote::write_text;
+use crate::quote::{cut, write_front};
 use crate::values::write_value;
-use grain::{Positions, Program, disassemble};
+use grain::{Positions, Program, decode};
+use grain_base::{Dynamic, Position};
 use grain_code::{Field, Op, Pool};
 use std::alloc::{AllocError, Global};
+use std::ops::Range;
 
-/// The name of an index into the names, or the text of an operator or a value, as a comment shows it.
+/// The text of a value as a comment shows it.
+fn shown_value(alloc: Global, value: &Dynamic) -> Result<String, AllocError> {
+    let mut text = String::new(alloc);
+    write_value(alloc, &mut text, value)?;
+    cut(alloc, &text)
+}
+
+/// The texts of constants as comments show them, each of 64 bytes at most. It takes time by the size of the constants, once for however
+/// many instructions load them.
+pub fn shown_values(alloc: Global, consts: &[Dynamic]) -> Result<Vec<String>, AllocError> {
+    let mut values = Vec::with_capacity(alloc, consts.len())?;
+    for value in consts {
+        values.push(shown_value(alloc, value)?)?;
+    }
+    Ok(values)
+}
+
+/// Appends the front of the name of an index into the names, or of the text of a constant, as a comment.
 fn write_meaning(
-    alloc: Global,
     out: &mut String,
     program: &Program,
+    values: &[String],
     pool: Pool,
     index: u32,
 ) -> Result<(), AllocError> {
@@ -21,14 +40,14 @@ fn write_meaning(
         Pool::Names => match program.names().get(index) {
             Some(name) => {
                 out.push_str(" ; ")?;
-                write_text(out, name)
+                write_front(out, name)
             }
             None => Ok(()),
         },
-        Pool::Constants => match program.consts().get(index as usize) {
+        Pool::Constants => match values.get(index as usize) {
             Some(value) => {
                 out.push_str(" ; ")?;
-                write_value(alloc, out, value)
+                out.push_str(value)
             }
             None => Ok(()),
         },
@@ -62,10 +81,10 @@ fn write_label(out: &mut String, marks: &Marks, at: usize) -> Result<(), AllocEr
 }
 
 fn write_instruction(
-    alloc: Global,
     out: &mut String,
     program: &Program,
     marks: &Marks,
+    values: &[String],
     at: usize,
     op: &Op,
 ) -> Result<(), AllocError> {
@@ -82,52 +101,83 @@ fn write_instruction(
     write_position(out, program.position(at))?;
     for field in fields.as_slice() {
         if let Field::Index(pool, index) = field {
-            write_meaning(alloc, out, program, *pool, *index)?;
+            write_meaning(out, program, values, *pool, *index)?;
         }
     }
     out.push_str("\n")
 }
 
-/// Appends the instructions, and then each byte that begins none.
-pub fn write_code(
-    alloc: Global,
+/// Appends a byte of the code that begins no instruction.
+fn write_byte(out: &mut String, program: &Program, at: usize) -> Result<(), AllocError> {
+    let byte = program.code().get(at).copied().unwrap_or_default();
+    write!(out, "  byte 0x{byte:02x}")?;
+    write_position(out, program.position(at))?;
+    out.push_str("\n")
+}
+
+/// Appends what begins at an address: an instruction, or a byte behind the last of these.
+fn write_line(
     out: &mut String,
     program: &Program,
     marks: &Marks,
+    values: &[String],
+    at: usize,
 ) -> Result<(), AllocError> {
-    out.push_str(".code\n")?;
-    let code = program.code();
-    for (at, op) in disassemble(code) {
-        write_label(out, marks, at)?;
-        write_instruction(alloc, out, program, marks, at, &op)?;
+    write_label(out, marks, at)?;
+    if at >= marks.whole {
+        return write_byte(out, program, at);
     }
-    for at in marks.whole..code.len() {
-        write_label(out, marks, at)?;
-        let byte = code.get(at).copied().unwrap_or_default();
-        write!(out, "  byte 0x{byte:02x}")?;
-        write_position(out, program.position(at))?;
-        out.push_str("\n")?;
+    match decode(program.code(), at) {
+        Some(op) => write_instruction(out, program, marks, values, at, &op),
+        None => Ok(()),
     }
-    write_label(out, marks, code.len())
 }
 
-/// Appends the positions that are of no line of the code.
+/// Appends the lines that begin in a part of the code: the instructions, and then each byte that begins none. The first part has the
+/// head of the section, and the last one the label at the end.
+pub fn write_code(
+    out: &mut String,
+    program: &Program,
+    marks: &Marks,
+    values: &[String],
+    part: Range<usize>,
+) -> Result<(), AllocError> {
+    let len = program.code().len();
+    if part.start == 0 {
+        out.push_str(".code\n")?;
+    }
+    for at in part.start..part.end.min(len) {
+        if marks.begins_line(at) {
+            write_line(out, program, marks, values, at)?;
+        }
+    }
+    if part.end > len {
+        write_label(out, marks, len)?;
+    }
+    Ok(())
+}
+
+/// Appends the positions in a part of the addresses that are of no line of the code. The first part has the head of the section.
 pub fn write_places(
     out: &mut String,
     positions: &Positions,
     marks: &Marks,
     len: usize,
+    part: Range<usize>,
 ) -> Result<(), AllocError> {
     let Positions::Dense(list) = positions else {
         return Ok(());
     };
-    out.push_str(".places\n")?;
-    for (at, position) in list.iter().enumerate() {
+    if part.start == 0 {
+        out.push_str(".places\n")?;
+    }
+    for at in part.start..part.end.min(list.len()) {
+        let position = list.get(at).copied().unwrap_or(Position::NONE);
         if position.is_none() || (at < len && marks.begins_line(at)) {
             continue;
         }
         write!(out, "  {at}")?;
-        write_position(out, *position)?;
+        write_position(out, position)?;
         out.push_str("\n")?;
     }
     Ok(())

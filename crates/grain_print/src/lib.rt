@@ -1,4 +1,4 @@
-//! The assembly text of a program (docs/ASSEMBLY.md): [`print`] writes it. The crate `grain_asm` parses it. The texts of single
+//! The assembly text of a program (docs/ASSEMBLY.md): [`print`] writes it, a [`Printer`] piece by piece. The crate `grain_asm` parses it. The texts of single
 //! entries are for other listings.
 #![tactic(auto)]
 
@@ -16,7 +16,7 @@ pub use chains::write_chain;
 pub use forms::{Form, Operand, form_named, form_of};
 pub use marks::Marks;
 pub use operators::{spelling, token_spelled, write_assign_op, write_token};
-pub use program::{print, write_capabilities, write_chunk, write_function};
-pub use quote::write_text;
+pub use program::{Printer, print, write_capabilities, write_chunk, write_function};
+pub use quote::{write_front, write_text};
 pub use switches::write_switch;
 pub use values::write_value;

@@ -1,7 +1,7 @@
 //! A program as a whole.
 
 use crate::chains::write_chain;
-use crate::code::{write_code, write_places};
+use crate::code::{shown_values, write_code, write_places};
 use crate::marks::{Marks, write_address};
 use crate::operators::{write_assign_op, write_token};
 use crate::quote::write_text;
@@ -11,6 +11,7 @@ use grain::{FnAccess, Positions, Program};
 use grain_base::{Caps, Flags};
 use grain_code::{Chunk, Function};
 use std::alloc::{AllocError, Global};
+use std::ops::Range;
 
 /// Appends the names of capabilities with bars between them, and the bit that has none as a number.
 pub fn write_capabilities(out: &mut String, caps: Caps) -> Result<(), AllocError> {
@@ -155,23 +156,106 @@ fn write_chunks(out: &mut String, program: &Program, marks: &Marks) -> Result<()
     Ok(())
 }
 
-/// The assembly text of a program (docs/ASSEMBLY.md), complete: what is parsed of it is this program.
-///
-/// It goes over the program three times, and takes memory for the text and for a byte of each byte of the code.
+/// How many addresses a part of the code or of the positions has.
+const PART: usize = 4096;
+
+/// How many parts this many addresses have, and the place behind them.
+fn count_parts(addresses: usize) -> usize {
+    addresses.checked_div(PART).unwrap_or(0).saturating_add(1)
+}
+
+/// The addresses of a part.
+fn part_at(index: usize) -> Range<usize> {
+    let start = index.saturating_mul(PART);
+    start..start.saturating_add(PART)
+}
+
+/// The assembly text of a program, in pieces: it need not be held at once.
+#[derive(Drop)]
+pub struct Printer<'a> {
+    alloc: Global,
+    program: &'a Program,
+    marks: Marks,
+    /// The texts of the constants in comments.
+    values: Vec<String>,
+}
+
+impl<'a> Printer<'a> {
+    /// The text of a program. It takes memory for a byte of each byte of the code and up to 67 bytes for each constant, and time by the
+    /// size of the program.
+    ///
+    /// # Errors
+    /// Where a growth was refused.
+    pub fn new(alloc: Global, program: &'a Program) -> Result<Printer<'a>, AllocError> {
+        Ok(Printer {
+            alloc,
+            program,
+            marks: Marks::of(alloc, program)?,
+            values: shown_values(alloc, program.consts())?,
+        })
+    }
+
+    /// How many pieces the text has.
+    #[must_use]
+    pub fn count_pieces(&self) -> usize {
+        let of_code = count_parts(self.program.code().len());
+        of_code
+            .saturating_add(1)
+            .saturating_add(self.count_places())
+    }
+
+    /// How many parts the positions have.
+    fn count_places(&self) -> usize {
+        match self.program.positions() {
+            Positions::Dense(list) => count_parts(list.len()),
+            Positions::Stripped => 0,
+        }
+    }
+
+    /// Appends all before the code.
+    fn write_front(&self, out: &mut String) -> Result<(), AllocError> {
+        let Printer {
+            alloc,
+            program,
+            marks,
+            ..
+        } = self;
+        write_head(out, program)?;
+        write_names(out, program)?;
+        write_constants(*alloc, out, program)?;
+        write_operators(out, program)?;
+        write_chains(out, program)?;
+        write_switches(*alloc, out, program, marks)?;
+        write_chunks(out, program, marks)
+    }
+
+    /// Appends the piece at an index: all before the code, lines of the code, or positions that are of no line.
+    ///
+    /// # Errors
+    /// Where a growth was refused.
+    pub fn write_piece(&self, index: usize, out: &mut String) -> Result<(), AllocError> {
+        let program = self.program;
+        let len = program.code().len();
+        let Some(index) = index.checked_sub(1) else {
+            return self.write_front(out);
+        };
+        match index.checked_sub(count_parts(len)) {
+            None => write_code(out, program, &self.marks, &self.values, part_at(index)),
+            Some(index) => write_places(out, program.positions(), &self.marks, len, part_at(index)),
+        }
+    }
+}
+
+/// The assembly text of a program (docs/ASSEMBLY.md), complete: what is parsed of it is this program. It is all pieces of a
+/// [`Printer`], and takes memory for the text.
 ///
 /// # Errors
 /// Where a growth was refused. Each program has a text, also one that no file keeps and one that isn't accepted.
 pub fn print(alloc: Global, program: &Program) -> Result<String, AllocError> {
-    let marks = Marks::of(alloc, program)?;
+    let printer = Printer::new(alloc, program)?;
     let mut out = String::new(alloc);
-    write_head(&mut out, program)?;
-    write_names(&mut out, program)?;
-    write_constants(alloc, &mut out, program)?;
-    write_operators(&mut out, program)?;
-    write_chains(&mut out, program)?;
-    write_switches(alloc, &mut out, program, &marks)?;
-    write_chunks(&mut out, program, &marks)?;
-    write_code(alloc, &mut out, program, &marks)?;
-    write_places(&mut out, program.positions(), &marks, program.code().len())?;
+    for index in 0..printer.count_pieces() {
+        printer.write_piece(index, &mut out)?;
+    }
     Ok(out)
 }

@@ -2,12 +2,14 @@
 
 use crate::arguments::{Argument, FILE, Subcommand};
 use crate::failure::Failure;
-use crate::files::{is_sidecar, program_of, read_bytes, sidecar_of, write_standard};
+use crate::files::{is_sidecar, program_of, read_bytes, sidecar_of};
 use crate::json_lines::{line_of, writer};
+use crate::output::write_standard;
 use crate::places::chunk_at;
+use crate::refusal_object::write_site;
 use clap::ArgMatches;
 use grain::{Program, Sidecar, pos};
-use grain_listing::name_of;
+use grain_listing::{name_of, push_name};
 use json::Writer;
 use std::alloc::{AllocError, Global};
 
@@ -35,7 +37,7 @@ pub const SUBCOMMAND: Subcommand = Subcommand {
 struct Known<'a> {
     at: u32,
     function: Option<&'a str>,
-    /// Its line and column.
+    /// Its line and column, which is 0 where there is none.
     site: Option<(usize, usize)>,
 }
 
@@ -66,14 +68,21 @@ fn known_apart(sidecar: &Sidecar, at: u32) -> Known<'_> {
     }
 }
 
+/// Appends the function and the position, or the address where there is none.
+fn push_known(known: Known<'_>, text: &mut String) -> Result<(), AllocError> {
+    let Known { at, function, site } = known;
+    push_name(function.unwrap_or("?"), text)?;
+    match site {
+        Some((line, 0)) => write!(text, " at {line}\n"),
+        Some((line, column)) => write!(text, " at {line}:{column}\n"),
+        None => write!(text, " at address {at}\n"),
+    }
+}
+
 /// Appends a line of text: the function and the position, or the address where there is none.
 fn write_line(alloc: Global, out: &mut Vec<u8>, known: Known<'_>) -> Result<(), AllocError> {
-    let Known { at, function, site } = known;
-    let name = function.unwrap_or("?");
-    let text = match site {
-        Some((line, column)) => format!(in alloc; "{name} at {line}:{column}\n")?,
-        None => format!(in alloc; "{name} at address {at}\n")?,
-    };
+    let mut text = String::new(alloc);
+    push_known(known, &mut text)?;
     out.extend_from_slice(text.as_bytes())
 }
 
@@ -87,11 +96,12 @@ fn write_object(json: &mut Writer, known: Known<'_>) -> Result<(), AllocError> {
         Some(name) => json.string(name)?,
         None => json.null()?,
     }
-    if let Some((line, column)) = known.site {
-        json.key("line")?;
-        json.u64(line as u64)?;
-        json.key("column")?;
-        json.u64(column as u64)?;
+    match known.site {
+        Some((line, column)) => write_site(json, "position", line as u64, column as u64)?,
+        None => {
+            json.key("position")?;
+            json.null()?;
+        }
     }
     json.end_object()
 }
@@ -167,7 +177,10 @@ fn addresses_of(alloc: Global, matches: &ArgMatches<'_>) -> Result<Vec<u32>, Fai
     for word in matches.get_raw("ADDRESS").unwrap_or_default() {
         match word.parse::<u32>() {
             Ok(at) => addresses.push(at).map_err(AllocError::from)?,
-            Err(_) => return Err(Failure::of(alloc, word, "not an address")),
+            Err(_) => {
+                let what = "not an address (a decimal number below 4294967296)";
+                return Err(Failure::of_argument(alloc, word, what));
+            }
         }
     }
     Ok(addresses)

@@ -2,8 +2,9 @@
 
 use crate::arguments::{Argument, Subcommand};
 use crate::failure::Failure;
-use crate::files::{read_bytes, shown, write_standard};
+use crate::files::read_bytes;
 use crate::json_lines::{line_of, writer};
+use crate::output::write_standard;
 use crate::scripts::compiled;
 use clap::ArgMatches;
 use grain_compile::Place;
@@ -28,15 +29,21 @@ pub const SUBCOMMAND: Subcommand = Subcommand {
     ],
 };
 
-/// Appends an error as a JSON object: its line and column, if it has these, and what is wrong.
-fn write_error(json: &mut Writer, place: Place, message: &str) -> Result<(), AllocError> {
-    json.begin_object()?;
-    if place.is_some() {
-        json.key("line")?;
-        json.u64(u64::from(place.line))?;
-        json.key("column")?;
-        json.u64(u64::from(place.column))?;
+/// Appends a number of a place, or null where there is no place.
+fn write_number(json: &mut Writer, name: &str, number: Option<u32>) -> Result<(), AllocError> {
+    json.key(name)?;
+    match number {
+        Some(number) => json.u64(u64::from(number)),
+        None => json.null(),
     }
+}
+
+/// Appends an error as a JSON object: its line and column, null where it has none, and what is wrong.
+fn write_error(json: &mut Writer, place: Place, message: &str) -> Result<(), AllocError> {
+    let is_somewhere = place.is_some();
+    json.begin_object()?;
+    write_number(json, "line", is_somewhere.then_some(place.line))?;
+    write_number(json, "column", is_somewhere.then_some(place.column))?;
     json.key("message")?;
     json.string(message)?;
     json.end_object()
@@ -69,7 +76,7 @@ fn write_object(
 ) -> Result<(), AllocError> {
     json.begin_object()?;
     json.key("file")?;
-    json.string(shown(path))?;
+    json.string(path)?;
     json.key("errors")?;
     json.begin_array()?;
     if let Some(failure) = found {
@@ -102,22 +109,13 @@ fn flaw_of(rt: &HostRuntime, path: &str) -> Result<Option<Failure>, Failure> {
     }
 }
 
-/// Says why a script can't be compiled.
-fn tell(rt: &HostRuntime, failure: &Failure) {
-    // Where standard error can't be written either, the status alone says it.
-    let _said = match failure {
-        Failure::Script { report, .. } => eprint!(rt; "{report}"),
-        failure => eprintln!(rt; "error: {failure}"),
-    };
-}
-
 /// Compiles a script, says why it can't be, and returns whether it can.
 fn visit(rt: &HostRuntime, is_json: bool, path: &str) -> Result<bool, Failure> {
     let flaw = flaw_of(rt, path)?;
     if is_json {
         write_standard(rt, &object_of(rt.alloc(), path, flaw.as_ref())?)?;
     } else if let Some(failure) = &flaw {
-        tell(rt, failure);
+        failure.say(rt);
     }
     Ok(flaw.is_none())
 }

@@ -2,10 +2,13 @@
 
 use crate::arguments::{Argument, FILE, Subcommand};
 use crate::failure::Failure;
-use crate::files::{file_of, read_bytes, shown, write_binary, write_file};
+use crate::files::{file_of, read_bytes, shown};
+use crate::output::{STANDARD, write_binary, write_both};
+use crate::overlaps::{refuse_input, refuse_twice};
 use crate::scripts::compiled;
 use clap::ArgMatches;
 use grain::Program;
+use std::alloc::Global;
 
 /// `grain compile`
 pub const SUBCOMMAND: Subcommand = Subcommand {
@@ -26,45 +29,74 @@ pub const SUBCOMMAND: Subcommand = Subcommand {
             is_required: false,
             help: "Write the positions to this file, and leave them out of the program",
         },
+        Argument::Flag {
+            name: "no-source",
+            letter: None,
+            help: "Leave the name of the script out of the program",
+        },
     ],
 };
 
-/// Takes the positions off a program, and writes them to a file where one is given.
-fn strip(
-    rt: &HostRuntime,
-    path: &str,
-    program: &mut Program,
-    sidecar: Option<&str>,
-) -> Result<(), Failure> {
-    let positions = match program.strip_positions() {
-        Ok(positions) => positions,
-        Err(error) => return Err(Failure::of(rt.alloc(), shown(path), error)),
-    };
-    match sidecar {
-        Some(to) => write_file(rt, to, &grain_file::write_sidecar(rt.alloc(), &positions)?),
-        None => Ok(()),
+/// What is made of a script, besides its program.
+#[derive(Clone, Copy)]
+struct Wanted {
+    /// The positions in a file of their own.
+    sidecar: bool,
+    /// No positions in the program.
+    stripped: bool,
+    /// The name of the script in the program.
+    source: bool,
+}
+
+/// Takes the positions off a program: the sidecar file of them.
+fn strip(alloc: Global, path: &str, program: &mut Program) -> Result<Vec<u8>, Failure> {
+    match program.strip_positions() {
+        Ok(positions) => Ok(grain_file::write_sidecar(alloc, &positions)?),
+        Err(error) => Err(Failure::of(alloc, shown(path), error)),
     }
 }
 
-/// The program file of a script.
-fn made(
-    rt: &HostRuntime,
-    path: &str,
-    is_stripped: bool,
-    sidecar: Option<&str>,
-) -> Result<Vec<u8>, Failure> {
+/// The program of a script, with the name of the script where that is wanted and it has one.
+fn program_of(rt: &HostRuntime, path: &str, with_source: bool) -> Result<Program, Failure> {
     let mut program = compiled(rt.alloc(), path, read_bytes(rt, path)?)?;
-    if is_stripped || sidecar.is_some() {
-        strip(rt, path, &mut program, sidecar)?;
+    if with_source && path != STANDARD {
+        let name = String::from_str(rt.alloc(), path)?;
+        let _named = program.set_source(name);
     }
-    file_of(rt.alloc(), path, &program)
+    Ok(program)
+}
+
+/// The program file of a script, and the sidecar file, empty where the positions stay.
+fn made(rt: &HostRuntime, path: &str, wanted: Wanted) -> Result<(Vec<u8>, Vec<u8>), Failure> {
+    let alloc = rt.alloc();
+    let mut program = program_of(rt, path, wanted.source)?;
+    let table = if wanted.stripped || wanted.sidecar {
+        strip(alloc, path, &mut program)?
+    } else {
+        Vec::new(alloc)
+    };
+    Ok((file_of(alloc, path, &program)?, table))
 }
 
 /// Compiles a script.
 pub fn run(rt: &HostRuntime, matches: &ArgMatches<'_>) -> Result<u8, Failure> {
     let path = matches.get_str("FILE").unwrap_or("-");
+    let to = matches.get_str("output");
     let sidecar = matches.get_str("sidecar");
-    let bytes = made(rt, path, matches.get_flag("strip"), sidecar)?;
-    write_binary(rt, matches.get_str("output"), &bytes)?;
+    let wanted = Wanted {
+        sidecar: sidecar.is_some(),
+        stripped: matches.get_flag("strip"),
+        source: !matches.get_flag("no-source"),
+    };
+    refuse_input(rt, to, path)?;
+    refuse_input(rt, sidecar, path)?;
+    if sidecar.is_some() {
+        refuse_twice(rt, sidecar, to)?;
+    }
+    let (bytes, table) = made(rt, path, wanted)?;
+    match sidecar {
+        Some(sidecar) => write_both(rt, (sidecar, &table), (to, &bytes))?,
+        None => write_binary(rt, to, &bytes)?,
+    }
     Ok(0)
 }

@@ -2,7 +2,9 @@
 
 use crate::arguments::{Argument, FILE, Subcommand};
 use crate::failure::Failure;
-use crate::files::{is_sidecar, program_of, read_bytes, shown, sidecar_of, write_text};
+use crate::files::{is_sidecar, program_of, read_bytes, shown, sidecar_of};
+use crate::output::write_text;
+use crate::overlaps::refuse_input;
 use clap::ArgMatches;
 use grain_dump::{Dump, program_dump, sidecar_dump};
 use grain_file::WriteError;
@@ -47,9 +49,10 @@ fn dump_of(alloc: Global, path: &str, bytes: &[u8], with_items: bool) -> Result<
 pub fn run(rt: &HostRuntime, matches: &ArgMatches<'_>) -> Result<u8, Failure> {
     let alloc = rt.alloc();
     let path = matches.get_str("FILE").unwrap_or("-");
+    let to = matches.get_str("output");
+    refuse_input(rt, to, path)?;
     let bytes = read_bytes(rt, path)?;
     let dump = dump_of(alloc, path, &bytes, matches.get_flag("hex"))?;
-    let to = matches.get_str("output");
     if matches.get_flag("json") {
         write_text(rt, to, &dump.json(alloc, path, &bytes)?)?;
     } else {

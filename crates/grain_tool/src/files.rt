@@ -1,14 +1,16 @@
-//! Files, standard input and standard output.
+//! Files and standard input.
 
 use crate::failure::Failure;
+use crate::output::STANDARD;
 use grain::{Program, Sidecar};
 use grain_file::{Limits, ReadError};
 use std::alloc::Global;
-use std::fs;
-use std::io::{IsTerminal, Read, Write};
+use std::fs::File;
+use std::io;
+use std::io::Read;
 
-/// What stands for standard input or output.
-const STANDARD: &str = "-";
+/// How many bytes an assembly text has at most. It is longer than the file of its program.
+const LONGEST_TEXT: usize = 1024 * 1024 * 1024;
 
 /// What a file is called in messages.
 pub fn shown(path: &str) -> &str {
@@ -19,34 +21,54 @@ pub fn shown(path: &str) -> &str {
     }
 }
 
-fn read_standard(rt: &HostRuntime) -> Result<Vec<u8>, Failure> {
-    let mut bytes = Vec::new(rt.alloc());
-    match rt.stdin().read_to_end(&mut bytes) {
-        Ok(_) => Ok(bytes),
-        Err(error) => Err(Failure::of(rt.alloc(), shown(STANDARD), error)),
+/// Why a file isn't read whole.
+fn too_large(alloc: Global, path: &str, limit: usize) -> Failure {
+    Failure::of(alloc, shown(path), format_args!("more than {limit} bytes"))
+}
+
+/// The bytes of a reader: one more than the limit at most.
+fn read_up_to<R: Read + Drop>(alloc: Global, reader: R, limit: usize) -> io::Result<Vec<u8>> {
+    let mut bytes = Vec::new(alloc);
+    let most = limit.saturating_add(1) as u64;
+    reader.take(most).read_to_end(&mut bytes)?;
+    Ok(bytes)
+}
+
+/// The bytes of a file, or of standard input: one more than the limit at most.
+fn front_of(rt: &HostRuntime, path: &str, limit: usize) -> io::Result<Vec<u8>> {
+    if path == STANDARD {
+        read_up_to(rt.alloc(), rt.stdin(), limit)
+    } else {
+        read_up_to(rt.alloc(), File::open(rt, path)?, limit)
     }
 }
 
-/// The bytes of a file, or of standard input for `-`.
+/// The bytes of a file, or of standard input for `-`. No more is read than one byte past the limit.
 ///
 /// # Errors
-/// It could not be read.
-pub fn read_bytes(rt: &HostRuntime, path: &str) -> Result<Vec<u8>, Failure> {
-    if path == STANDARD {
-        return read_standard(rt);
-    }
-    match fs::read(rt, path) {
+/// It could not be read, or has more bytes than the limit.
+fn read_within(rt: &HostRuntime, path: &str, limit: usize) -> Result<Vec<u8>, Failure> {
+    match front_of(rt, path, limit) {
+        Ok(bytes) if bytes.len() > limit => Err(too_large(rt.alloc(), path, limit)),
         Ok(bytes) => Ok(bytes),
-        Err(error) => Err(Failure::of(rt.alloc(), path, error)),
+        Err(error) => Err(Failure::of_input(rt.alloc(), shown(path), error)),
     }
+}
+
+/// The bytes of a program file, a sidecar or a script, or of standard input for `-`.
+///
+/// # Errors
+/// It could not be read, or has more than 64 MiB.
+pub fn read_bytes(rt: &HostRuntime, path: &str) -> Result<Vec<u8>, Failure> {
+    read_within(rt, path, Limits::default().size)
 }
 
 /// The text of a file, or of standard input for `-`.
 ///
 /// # Errors
-/// It could not be read, or is not UTF-8.
+/// It could not be read, has more than 1 GiB, or is not UTF-8.
 pub fn read_text(rt: &HostRuntime, path: &str) -> Result<String, Failure> {
-    let bytes = read_bytes(rt, path)?;
+    let bytes = read_within(rt, path, LONGEST_TEXT)?;
     match String::from_utf8(bytes) {
         Ok(text) => Ok(text),
         Err(_) => Err(Failure::of(rt.alloc(), shown(path), "the text is not UTF-8")),
@@ -113,38 +135,4 @@ pub fn file_of(alloc: Global, path: &str, program: &Program) -> Result<Vec<u8>, 
 /// Whether bytes begin as a sidecar file does.
 pub fn is_sidecar(bytes: &[u8]) -> bool {
     matches!(bytes, [0, b'g', b'r', b'n', 1, 1, ..])
-}
-
-/// Writes bytes to standard output.
-pub fn write_standard(rt: &HostRuntime, bytes: &[u8]) -> Result<(), Failure> {
-    let mut out = rt.stdout();
-    match out.write_all(bytes) {
-        Ok(()) => out.flush().map_err(Failure::of_output),
-        Err(error) => Err(Failure::of_output(error)),
-    }
-}
-
-/// Writes a file.
-pub fn write_file(rt: &HostRuntime, path: &str, bytes: &[u8]) -> Result<(), Failure> {
-    match fs::write(rt, path, bytes) {
-        Ok(()) => Ok(()),
-        Err(error) => Err(Failure::of(rt.alloc(), path, error)),
-    }
-}
-
-/// Writes the bytes of a text to a file, or to standard output where none is given.
-pub fn write_text(rt: &HostRuntime, path: Option<&str>, text: &[u8]) -> Result<(), Failure> {
-    match path {
-        Some(path) if path != STANDARD => write_file(rt, path, text),
-        _ => write_standard(rt, text),
-    }
-}
-
-/// Writes a binary file, or to standard output where none is given and that is no terminal.
-pub fn write_binary(rt: &HostRuntime, path: Option<&str>, bytes: &[u8]) -> Result<(), Failure> {
-    match path {
-        Some(path) if path != STANDARD => write_file(rt, path, bytes),
-        _ if rt.stdout().is_terminal() => Err(Failure::Terminal),
-        _ => write_standard(rt, bytes),
-    }
 }

@@ -2,8 +2,11 @@
 
 use crate::arguments::{Argument, FILE, Subcommand};
 use crate::failure::Failure;
-use crate::files::{shown, write_text};
+use crate::files::shown;
 use crate::list::explained;
+use crate::loading::{WORK, admit, allowed_of};
+use crate::output::write_text;
+use crate::overlaps::refuse_input;
 use crate::scripts::program_in;
 use clap::ArgMatches;
 use grain::Program;
@@ -29,6 +32,7 @@ pub const SUBCOMMAND: Subcommand = Subcommand {
             letter: None,
             help: "Write text for Graphviz in place of SVG",
         },
+        WORK,
         Argument::Output,
     ],
 };
@@ -102,8 +106,11 @@ fn drawn(
 pub fn run(rt: &HostRuntime, matches: &ArgMatches<'_>) -> Result<u8, Failure> {
     let path = matches.get_str("FILE").unwrap_or("-");
     let (name, is_dot) = (matches.get_str("function"), matches.get_flag("dot"));
+    let to = matches.get_str("output");
+    refuse_input(rt, to, path)?;
     let program = program_in(rt, path)?;
+    admit(rt.alloc(), path, allowed_of(matches), &program)?;
     let text = drawn(rt.alloc(), path, &program, name, is_dot)?;
-    write_text(rt, matches.get_str("output"), text.as_bytes())?;
+    write_text(rt, to, text.as_bytes())?;
     Ok(0)
 }

@@ -2,12 +2,16 @@
 
 use crate::arguments::{Argument, FILE, Subcommand};
 use crate::failure::Failure;
-use crate::files::{read_program, shown, write_text};
+use crate::files::{read_program, shown};
 use crate::json_lines::{line_of, writer};
+use crate::loading::{Allowed, Obstacle, WORK, allowed_of, obstacle_before, push_lacking, refused};
+use crate::output::Output;
+use crate::overlaps::refuse_input;
 use clap::ArgMatches;
-use grain::{Program, VerifyError};
+use grain::{Caps, Flags, Program, VerifyError};
 use grain_listing::{
-    Colours, Kind, Listed, Naming, Paint, ProgramListing, Style, write_listed, write_program,
+    Colours, Kind, Listed, Naming, Paint, ProgramListing, Style, count_parts, push_shown,
+    write_listed, write_part,
 };
 use json::Writer;
 use std::alloc::{AllocError, Global};
@@ -25,59 +29,106 @@ pub const SUBCOMMAND: Subcommand = Subcommand {
             letter: None,
             help: "Write a JSON object on a line of its own",
         },
+        WORK,
         Argument::Colour {
             help: "Colour the listing",
         },
     ],
 };
 
+/// Why a program is refused: what keeps a host from it, or else its verdict.
+fn refusal_of(
+    alloc: Global,
+    listing: &ProgramListing,
+    missing: Caps,
+) -> Result<Option<String>, AllocError> {
+    let mut text = String::new(alloc);
+    if !missing.is_empty() {
+        push_lacking(missing, &mut text)?;
+        return Ok(Some(text));
+    }
+    match &listing.explained.verdict {
+        Ok(_) => Ok(None),
+        Err(refusal) => {
+            write!(text, "{}", refusal.error)?;
+            Ok(Some(text))
+        }
+    }
+}
+
 /// Appends what a file is called, and whether its program is accepted.
 fn write_heading(
-    style: Style<'_>,
+    paint: Paint,
     path: &str,
-    program: &ProgramListing,
+    refusal: Option<&str>,
     out: &mut String,
 ) -> Result<(), AllocError> {
-    style.paint.write(Kind::Heading, path, out)?;
+    paint.begin(Kind::Heading, out)?;
+    push_shown(path, out)?;
+    paint.end(Kind::Heading, out)?;
     out.push_str(": ")?;
-    match &program.explained.verdict {
-        Ok(_) => style.paint.write(Kind::Good, "accepted", out)?,
-        Err(refusal) => {
-            style.paint.begin(Kind::Flaw, out)?;
-            write!(out, "refused {}", refusal.error)?;
-            style.paint.end(Kind::Flaw, out)?;
+    match refusal {
+        None => paint.write(Kind::Good, "accepted", out)?,
+        Some(error) => {
+            paint.begin(Kind::Flaw, out)?;
+            out.push_str("refused ")?;
+            out.push_str(error)?;
+            paint.end(Kind::Flaw, out)?;
         }
     }
     out.push('\n')
 }
 
-/// The listing of a program as text.
-fn text_of(
+/// The heading of a listing.
+fn heading_of(
     alloc: Global,
-    style: Style<'_>,
+    paint: Paint,
     path: &str,
-    program: &ProgramListing,
+    refusal: Option<&str>,
 ) -> Result<String, AllocError> {
-    let mut out = String::new(alloc);
-    write_heading(style, path, program, &mut out)?;
-    write_program(style, program, &mut out)?;
-    Ok(out)
+    let mut text = String::new(alloc);
+    write_heading(paint, path, refusal, &mut text)?;
+    Ok(text)
 }
 
-/// Appends the member that says why a program is refused, null where it is accepted.
-fn write_error(
+/// A part of a listing.
+fn part_of(
     alloc: Global,
-    program: &ProgramListing,
-    json: &mut Writer,
-) -> Result<(), AllocError> {
-    json.key("error")?;
-    match &program.explained.verdict {
-        Ok(_) => json.null(),
-        Err(refusal) => {
-            let error = format!(in alloc; "{}", refusal.error)?;
-            json.string(error.as_str())
-        }
+    style: Style<'_>,
+    listing: &ProgramListing,
+    place: usize,
+) -> Result<String, AllocError> {
+    let mut text = String::new(alloc);
+    write_part(style, listing, place, &mut text)?;
+    Ok(text)
+}
+
+/// Writes the parts of a listing, one after another.
+fn write_parts(
+    rt: &HostRuntime,
+    output: &mut Output,
+    style: Style<'_>,
+    listing: &ProgramListing,
+) -> Result<(), Failure> {
+    for place in 0..count_parts(listing) {
+        let text = part_of(rt.alloc(), style, listing, place)?;
+        output.write(rt, text.as_bytes())?;
     }
+    Ok(())
+}
+
+/// Writes a listing as text.
+fn write_as_text(
+    rt: &HostRuntime,
+    output: &mut Output,
+    style: Style<'_>,
+    path: &str,
+    listing: &ProgramListing,
+    refusal: Option<&str>,
+) -> Result<(), Failure> {
+    let heading = heading_of(rt.alloc(), style.paint, shown(path), refusal)?;
+    output.write(rt, heading.as_bytes())?;
+    write_parts(rt, output, style, listing)
 }
 
 /// Appends the listing of a program.
@@ -85,16 +136,21 @@ fn write_object(
     alloc: Global,
     path: &str,
     naming: Naming<'_>,
-    program: &ProgramListing,
+    listing: &ProgramListing,
+    refusal: Option<&str>,
     json: &mut Writer,
 ) -> Result<(), AllocError> {
     json.begin_object()?;
     json.key("file")?;
     json.string(path)?;
     json.key("accepted")?;
-    json.boolean(program.explained.verdict.is_ok())?;
-    write_error(alloc, program, json)?;
-    write_listed(alloc, naming, Listed::Program(program), json)?;
+    json.boolean(refusal.is_none())?;
+    json.key("error")?;
+    match refusal {
+        None => json.null()?,
+        Some(error) => json.string(error)?,
+    }
+    write_listed(alloc, naming, Listed::Program(listing), json)?;
     json.end_object()
 }
 
@@ -103,10 +159,11 @@ fn object_of(
     alloc: Global,
     path: &str,
     naming: Naming<'_>,
-    program: &ProgramListing,
+    listing: &ProgramListing,
+    refusal: Option<&str>,
 ) -> Result<Vec<u8>, AllocError> {
     let mut json = writer(alloc);
-    write_object(alloc, path, naming, program, &mut json)?;
+    write_object(alloc, path, naming, listing, refusal, &mut json)?;
     line_of(json)
 }
 
@@ -119,33 +176,56 @@ pub fn explained(alloc: Global, program: &Program) -> Result<ProgramListing, All
     }
 }
 
-/// The listing of a program: as text with these colours, or as JSON where there are none.
-fn listing_of(
-    alloc: Global,
+/// Writes the listing of a program: as text with these colours, or as JSON where there are none.
+fn write_listing(
+    rt: &HostRuntime,
+    output: &mut Output,
     path: &str,
     program: &Program,
+    missing: Caps,
     paint: Option<Paint>,
-) -> Result<Vec<u8>, AllocError> {
-    let listing = explained(alloc, program)?;
+) -> Result<(), Failure> {
+    let listing = explained(rt.alloc(), program)?;
     let naming = Naming::Program(program);
+    let refusal = refusal_of(rt.alloc(), &listing, missing)?;
+    let refusal = refusal.as_deref();
     match paint {
-        None => object_of(alloc, path, naming, &listing),
+        None => output.write(rt, &object_of(rt.alloc(), path, naming, &listing, refusal)?),
         Some(paint) => {
-            Ok(text_of(alloc, Style { paint, naming }, shown(path), &listing)?.into_bytes())
+            let style = Style { paint, naming };
+            write_as_text(rt, output, style, path, &listing, refusal)
         }
+    }
+}
+
+/// The capabilities that no host has and the program declares. It is listed nevertheless, but not where its chunks span too much.
+fn missing_of(
+    alloc: Global,
+    path: &str,
+    allowed: Allowed,
+    program: &Program,
+) -> Result<Caps, Failure> {
+    match obstacle_before(allowed, program) {
+        None => Ok(Caps::empty()),
+        Some(Obstacle::Capabilities(missing)) => Ok(missing),
+        Some(obstacle) => Err(refused(alloc, path, obstacle)),
     }
 }
 
 /// Lists a program.
 pub fn run(rt: &HostRuntime, matches: &ArgMatches<'_>) -> Result<u8, Failure> {
     let path = matches.get_str("FILE").unwrap_or("-");
+    let to = matches.get_str("output");
+    refuse_input(rt, to, path)?;
     let paint = if matches.get_flag("json") {
         None
     } else {
         Some(Colours::of(matches).paint(rt))
     };
     let program = read_program(rt, path)?;
-    let text = listing_of(rt.alloc(), path, &program, paint)?;
-    write_text(rt, matches.get_str("output"), &text)?;
+    let missing = missing_of(rt.alloc(), path, allowed_of(matches), &program)?;
+    let mut output = Output::open(rt, to)?;
+    let done = write_listing(rt, &mut output, path, &program, missing, paint);
+    output.end(rt, done)?;
     Ok(0)
 }

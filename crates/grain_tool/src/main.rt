@@ -7,14 +7,19 @@ mod check_script;
 mod commands;
 mod compile_script;
 mod dump;
+mod excerpt;
 mod failure;
 mod files;
 mod flow;
 mod json_lines;
 mod list;
+mod loading;
+mod output;
+mod overlaps;
 mod parse;
 mod places;
 mod print;
+mod refusal_object;
 mod run;
 mod scripts;
 mod smith;
@@ -33,7 +38,7 @@ fn words(rt: &HostRuntime) -> Result<Vec<String>, Failure> {
     match env::args(rt) {
         Ok(words) => Ok(words.collect(rt.alloc())?),
         Err(error) if error.kind() == io::ErrorKind::OutOfMemory => Err(Failure::OutOfMemory),
-        Err(_) => Err(Failure::Arguments),
+        Err(_) => Err(Failure::NotText),
     }
 }
 
@@ -69,15 +74,13 @@ fn main(rt: HostRuntime) -> ExitCode {
     let status = match start(&rt) {
         Ok(status) => status,
         Err(failure) => {
-            // Where standard error can't be written either, the status alone says it.
-            let _said = match &failure {
-                Failure::Script { report, .. } => eprint!(rt; "{report}"),
-                failure if failure.is_left_alone() => Ok(()),
-                failure => eprintln!(rt; "error: {failure}"),
-            };
-            match failure {
-                Failure::Arguments => WRONG_ARGUMENTS,
-                _ => 1,
+            if !failure.is_left_alone() {
+                failure.say(&rt);
+            }
+            if failure.is_of_arguments() {
+                WRONG_ARGUMENTS
+            } else {
+                1
             }
         }
     };

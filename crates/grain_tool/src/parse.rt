@@ -1,11 +1,14 @@
 //! `grain parse`: the program file of an assembly text.
 
 use crate::arguments::{Argument, FILE, Subcommand};
+use crate::excerpt::push_excerpt;
 use crate::failure::Failure;
-use crate::files::{file_of, read_text, shown, write_binary};
+use crate::files::{file_of, read_text, shown};
+use crate::output::write_binary;
+use crate::overlaps::refuse_input;
 use clap::ArgMatches;
 use grain_asm::{ParseError, SyntaxError};
-use std::alloc::Global;
+use std::alloc::{AllocError, Global};
 
 /// `grain parse`
 pub const SUBCOMMAND: Subcommand = Subcommand {
@@ -15,21 +18,26 @@ pub const SUBCOMMAND: Subcommand = Subcommand {
     arguments: &[FILE, Argument::Output],
 };
 
+/// What is wrong with a line, where, and the line itself.
+fn lines_of(alloc: Global, error: &SyntaxError) -> Result<String, AllocError> {
+    let SyntaxError {
+        line,
+        column,
+        text: found,
+        problem,
+    } = error;
+    let mut text = format!(in alloc; "{problem} (line {line}, column {column})\n  {line} | ")?;
+    push_excerpt(found, column.saturating_sub(1), &mut text)?;
+    Ok(text)
+}
+
 /// Why a text is refused: what is wrong, where, and the line itself.
 fn refused(alloc: Global, path: &str, error: &ParseError) -> Failure {
     match error {
-        ParseError::Syntax(
-            SyntaxError {
-                line,
-                column,
-                text,
-                problem,
-            },
-        ) => Failure::of(
-            alloc,
-            shown(path),
-            format_args!("{problem} (line {line}, column {column})\n  {line} | {text}"),
-        ),
+        ParseError::Syntax(error) => match lines_of(alloc, error) {
+            Ok(lines) => Failure::of_lines(alloc, shown(path), lines),
+            Err(AllocError) => Failure::OutOfMemory,
+        },
         ParseError::OutOfMemory => Failure::OutOfMemory,
         ParseError::Refused(refusal) => Failure::of(
             alloc,
@@ -52,7 +60,9 @@ fn assembled(rt: &HostRuntime, path: &str) -> Result<Vec<u8>, Failure> {
 /// Assembles a text.
 pub fn run(rt: &HostRuntime, matches: &ArgMatches<'_>) -> Result<u8, Failure> {
     let path = matches.get_str("FILE").unwrap_or("-");
+    let to = matches.get_str("output");
+    refuse_input(rt, to, path)?;
     let bytes = assembled(rt, path)?;
-    write_binary(rt, matches.get_str("output"), &bytes)?;
+    write_binary(rt, to, &bytes)?;
     Ok(0)
 }

@@ -1,14 +1,17 @@
 //! Where in a program an address is.
 
-use grain::{Chunk, Program};
-use grain_listing::name_of;
+use grain::{Chunk, Program, Refusal, VerifyError};
+use grain_listing::{Needing, lacking, name_of, push_name, push_position};
 use std::alloc::{AllocError, Global};
+
+/// What a chunk is called that isn't known.
+const UNKNOWN: &str = "?";
 
 fn holds(chunk: Chunk, at: usize) -> bool {
     chunk.entry() as usize <= at && at < chunk.end() as usize
 }
 
-/// The place of the chunk that an address is in.
+/// The place of the first chunk that an address is in.
 pub fn chunk_at(program: &Program, at: usize) -> Option<usize> {
     if holds(program.main(), at) {
         return Some(0);
@@ -20,32 +23,145 @@ pub fn chunk_at(program: &Program, at: usize) -> Option<usize> {
     index.checked_add(1)
 }
 
-/// The name of the function that an address is in.
-fn function_at(program: &Program, at: usize) -> &str {
-    match chunk_at(program, at) {
-        Some(place) => name_of(program, place),
-        None => "?",
+/// Where a refusal is.
+#[derive(Clone, Copy)]
+pub struct Spot {
+    /// The place of the chunk.
+    pub place: Option<usize>,
+    /// The address.
+    pub address: Option<usize>,
+    /// The constant that needs capabilities.
+    pub constant: Option<usize>,
+    /// Whether the functions need some.
+    pub is_of_functions: bool,
+}
+
+/// The address that a refusal names.
+fn address_of(error: &VerifyError) -> Option<usize> {
+    match *error {
+        VerifyError::MissingCaps { at, .. }
+        | VerifyError::Undecodable { at }
+        | VerifyError::JumpOutOfRange { at, .. }
+        | VerifyError::JumpIntoAnInstruction { at, .. }
+        | VerifyError::DepthConflict { at, .. }
+        | VerifyError::Underflow { at, .. }
+        | VerifyError::IteratorUnderflow { at }
+        | VerifyError::HandlerUnderflow { at }
+        | VerifyError::SinksBelowHandler { at, .. }
+        | VerifyError::BadIndex { at, .. } => Some(at),
+        VerifyError::TrailingBytes { .. }
+        | VerifyError::ChunkOutOfRange { .. }
+        | VerifyError::FallsOffTheEnd
+        | VerifyError::StackExceedsDeclared { .. }
+        | VerifyError::OutOfMemory => None,
     }
 }
 
-/// An address as text: the function, the position where it is known, and the address itself.
-pub fn write_address(alloc: Global, program: &Program, at: usize) -> Result<String, AllocError> {
-    let name = function_at(program, at);
+/// Where capabilities are missing before any chunk.
+fn spot_of_needing(needing: Option<Needing>) -> Spot {
+    Spot {
+        place: None,
+        address: None,
+        constant: match needing {
+            Some(Needing::Constant(index)) => Some(index),
+            _ => None,
+        },
+        is_of_functions: needing == Some(Needing::Functions),
+    }
+}
+
+/// Where a refusal of a program is.
+pub fn spot_of(program: &Program, refusal: &Refusal) -> Spot {
+    if let (None, VerifyError::MissingCaps { .. }) = (refusal.place, &refusal.error) {
+        return spot_of_needing(lacking(program));
+    }
+    let address = address_of(&refusal.error);
+    let place = match (refusal.place, address) {
+        (Some(place), _) => Some(place),
+        (None, Some(at)) => chunk_at(program, at),
+        (None, None) => None,
+    };
+    Spot {
+        place,
+        address,
+        constant: None,
+        is_of_functions: false,
+    }
+}
+
+/// Appends the name of the chunk at a place.
+fn push_chunk(
+    program: &Program,
+    place: Option<usize>,
+    text: &mut String,
+) -> Result<(), AllocError> {
+    match place {
+        Some(place) => push_name(name_of(program, place), text),
+        None => text.push_str(UNKNOWN),
+    }
+}
+
+/// Appends where something is: the function, the position where it is known, and the address itself.
+fn push_address(
+    program: &Program,
+    place: Option<usize>,
+    at: usize,
+    text: &mut String,
+) -> Result<(), AllocError> {
+    push_chunk(program, place, text)?;
     let position = program.position(at);
-    if position.is_none() {
-        format!(in alloc; "{name}, address {at}")
-    } else {
-        format!(in alloc; "{name} at {position}, address {at}")
+    if !position.is_none() {
+        text.push_str(" at ")?;
+        push_position(position, text)?;
+    }
+    write!(text, ", address {at}")
+}
+
+/// Appends where a refusal is, in parentheses, where it is anywhere.
+///
+/// # Errors
+/// [`AllocError`] where memory was refused.
+pub fn push_spot(program: &Program, spot: Spot, text: &mut String) -> Result<(), AllocError> {
+    match spot {
+        Spot {
+            constant: Some(index),
+            ..
+        } => write!(text, " (constant {index})"),
+        Spot {
+            is_of_functions: true,
+            ..
+        } => text.push_str(" (functions)"),
+        Spot {
+            address: Some(at),
+            place,
+            ..
+        } => {
+            text.push_str(" (")?;
+            push_address(program, place, at, text)?;
+            text.push(')')
+        }
+        Spot {
+            place: Some(place),
+            ..
+        } => {
+            text.push_str(" (")?;
+            push_chunk(program, Some(place), text)?;
+            text.push(')')
+        }
+        _ => Ok(()),
     }
 }
 
 /// An address as text: the function and the position, where these are known.
 pub fn write_place(alloc: Global, program: &Program, at: usize) -> Result<String, AllocError> {
-    let name = function_at(program, at);
+    let mut text = String::new(alloc);
+    push_chunk(program, chunk_at(program, at), &mut text)?;
     let position = program.position(at);
     if position.is_none() {
-        format!(in alloc; "{name} at address {at}")
+        write!(text, " at address {at}")?;
     } else {
-        format!(in alloc; "{name} at {position}")
+        text.push_str(" at ")?;
+        push_position(position, &mut text)?;
     }
+    Ok(text)
 }

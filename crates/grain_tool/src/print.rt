@@ -2,8 +2,13 @@
 
 use crate::arguments::{Argument, FILE, Subcommand};
 use crate::failure::Failure;
-use crate::files::{read_program, write_text};
+use crate::files::read_program;
+use crate::output::Output;
+use crate::overlaps::refuse_input;
 use clap::ArgMatches;
+use grain::Program;
+use grain_print::Printer;
+use std::alloc::{AllocError, Global};
 
 /// `grain print`
 pub const SUBCOMMAND: Subcommand = Subcommand {
@@ -13,16 +18,31 @@ pub const SUBCOMMAND: Subcommand = Subcommand {
     arguments: &[FILE, Argument::Output],
 };
 
-/// The assembly text of a program file.
-fn text_of(rt: &HostRuntime, path: &str) -> Result<String, Failure> {
-    let program = read_program(rt, path)?;
-    Ok(grain_print::print(rt.alloc(), &program)?)
+/// A piece of the assembly text of a program.
+fn piece_of(alloc: Global, printer: &Printer<'_>, index: usize) -> Result<String, AllocError> {
+    let mut text = String::new(alloc);
+    printer.write_piece(index, &mut text)?;
+    Ok(text)
+}
+
+/// Writes the assembly text of a program, piece by piece.
+fn write_pieces(rt: &HostRuntime, output: &mut Output, program: &Program) -> Result<(), Failure> {
+    let printer = Printer::new(rt.alloc(), program)?;
+    for index in 0..printer.count_pieces() {
+        let text = piece_of(rt.alloc(), &printer, index)?;
+        output.write(rt, text.as_bytes())?;
+    }
+    Ok(())
 }
 
 /// Prints a program file.
 pub fn run(rt: &HostRuntime, matches: &ArgMatches<'_>) -> Result<u8, Failure> {
     let path = matches.get_str("FILE").unwrap_or("-");
-    let text = text_of(rt, path)?;
-    write_text(rt, matches.get_str("output"), text.as_bytes())?;
+    let to = matches.get_str("output");
+    refuse_input(rt, to, path)?;
+    let program = read_program(rt, path)?;
+    let mut output = Output::open(rt, to)?;
+    let done = write_pieces(rt, &mut output, &program);
+    output.end(rt, done)?;
     Ok(0)
 }

@@ -3,12 +3,13 @@
 use crate::arguments::{Argument, FILE, Subcommand};
 use crate::failure::Failure;
 use crate::files::shown;
+use crate::loading::{WORK, admit, allowed_of};
 use crate::places::{chunk_at, write_place};
 use crate::scripts::program_in;
 use crate::terminal::Terminal;
 use clap::ArgMatches;
 use grain::{Program, VerifyError};
-use grain_listing::name_of;
+use grain_listing::{name_of, push_shown};
 use grain_machine::{Ending, Limits, Outcome, accept};
 use grain_script::{Fault, Script, World};
 use grain_value::{Cause, SizeLimits, Value};
@@ -53,6 +54,7 @@ pub const SUBCOMMAND: Subcommand = Subcommand {
             default: "16000000",
             help: "Allow this many values and bytes of text in one value",
         },
+        WORK,
         Argument::Rest {
             name: "ARG",
             help: "Texts that the script gets from the function `args()`",
@@ -126,7 +128,8 @@ fn report(
     fault: &Fault,
     calls: &[usize],
 ) -> Result<String, AllocError> {
-    let mut text = fault.text(alloc, program)?;
+    let mut text = String::new(alloc);
+    push_shown(&fault.text(alloc, program)?, &mut text)?;
     if calls.is_empty() {
         return Ok(text);
     }
@@ -156,7 +159,7 @@ fn result(
         Outcome::Returned(None) => Ok(Value::Unit),
         Outcome::Faulted(fault) | Outcome::Uncatchable(fault) => {
             let text = report(alloc, program, &fault, calls)?;
-            Err(Failure::of(alloc, shown(path), text))
+            Err(Failure::of_lines(alloc, shown(path), text))
         }
         Outcome::OutOfFuel => Err(Failure::of(alloc, shown(path), "out of fuel")),
         Outcome::OutOfMemory => Err(Failure::OutOfMemory),
@@ -241,6 +244,7 @@ fn run_here(
 pub fn run(rt: &HostRuntime, matches: &ArgMatches<'_>) -> Result<u8, Failure> {
     let path = matches.get_str("FILE").unwrap_or("-");
     let program = program_in(rt, path)?;
+    admit(rt.alloc(), path, allowed_of(matches), &program)?;
     run_here(rt, matches, path, &program)?;
     Ok(0)
 }

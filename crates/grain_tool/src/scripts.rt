@@ -1,13 +1,14 @@
 //! Scripts and program files alike.
 
+use crate::excerpt::push_report;
 use crate::failure::Failure;
 use crate::files::{program_of, read_bytes, shown};
 use grain::Program;
-use grain_compile::{CompileError, Options, Problem, compile, flaws, report};
+use grain_compile::{CompileError, Options, Problem, compile, flaws};
 use md5::{Digest, Md5};
 use std::alloc::{AllocError, Global};
 
-/// How long reports of errors get before no other is added: each shows a whole line, and a line can be as long as the script.
+/// How long reports of errors get before no other is added.
 const LONGEST_REPORTS: usize = 65_536;
 
 /// How a program file begins.
@@ -76,8 +77,7 @@ fn with_all_errors(
     let mut text = String::new(alloc);
     for error in &errors {
         if text.len() < LONGEST_REPORTS {
-            let one = report(alloc, shown(path), source, error)?;
-            text.push_str(one.as_str())?;
+            push_report(shown(path), source, error, &mut text)?;
         }
     }
     Ok(Failure::Script {

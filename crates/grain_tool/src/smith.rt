@@ -2,7 +2,8 @@
 
 use crate::arguments::{Argument, Subcommand};
 use crate::failure::Failure;
-use crate::files::{file_of, write_binary};
+use crate::files::file_of;
+use crate::output::write_binary;
 use clap::ArgMatches;
 use grain_smith::{Options, SmithError, smith, smith_near};
 use std::alloc::Global;

@@ -2,11 +2,11 @@
 
 use crate::arguments::{Argument, FILE, Subcommand};
 use crate::failure::Failure;
-use crate::files::{
-    file_of, read_bytes, read_program, shown, sidecar_of, write_binary, write_file,
-};
+use crate::files::{file_of, read_bytes, read_program, shown, sidecar_of};
+use crate::output::{STANDARD, write_binary, write_both};
+use crate::overlaps::{refuse_input, refuse_twice};
 use clap::ArgMatches;
-use grain::{Program, Sidecar};
+use grain::{Program, Sidecar, TableError};
 use std::alloc::Global;
 
 /// `grain strip`
@@ -60,10 +60,13 @@ fn both_of(rt: &HostRuntime, path: &str) -> Result<(Vec<u8>, Vec<u8>), Failure> 
 /// Takes positions off a program.
 pub fn strip(rt: &HostRuntime, matches: &ArgMatches<'_>) -> Result<u8, Failure> {
     let path = matches.get_str("FILE").unwrap_or("-");
+    let to = matches.get_str("output");
+    let sidecar = matches.get_str("sidecar").unwrap_or(STANDARD);
+    // The program may be written in its own place, which its positions may not take.
+    refuse_input(rt, Some(sidecar), path)?;
+    refuse_twice(rt, Some(sidecar), to)?;
     let (bytes, table) = both_of(rt, path)?;
-    let to = matches.get_str("sidecar").unwrap_or("-");
-    write_file(rt, to, &table)?;
-    write_binary(rt, matches.get_str("output"), &bytes)?;
+    write_both(rt, (sidecar, &table), (to, &bytes))?;
     Ok(0)
 }
 
@@ -73,13 +76,26 @@ fn read_sidecar(rt: &HostRuntime, path: &str) -> Result<Sidecar, Failure> {
     sidecar_of(rt.alloc(), path, &bytes)
 }
 
+/// Why the positions aren't those of a program. Its number is shown as everywhere else, in decimal.
+fn unattached(alloc: Global, from: &str, error: TableError) -> Failure {
+    match error {
+        TableError::OutOfMemory => Failure::OutOfMemory,
+        TableError::WrongProgram { expected, found } => Failure::of(
+            alloc,
+            shown(from),
+            format_args!("the positions are of program {expected}, and this is program {found}"),
+        ),
+        error => Failure::of(alloc, shown(from), error),
+    }
+}
+
 /// The file of a program with the positions of a sidecar file.
 fn attached(rt: &HostRuntime, path: &str, from: &str) -> Result<Vec<u8>, Failure> {
     let mut program = read_program(rt, path)?;
     let sidecar = read_sidecar(rt, from)?;
     match program.attach_positions(&sidecar) {
         Ok(()) => file_of(rt.alloc(), path, &program),
-        Err(error) => Err(Failure::of(rt.alloc(), shown(from), error)),
+        Err(error) => Err(unattached(rt.alloc(), from, error)),
     }
 }
 
@@ -87,7 +103,16 @@ fn attached(rt: &HostRuntime, path: &str, from: &str) -> Result<Vec<u8>, Failure
 pub fn attach(rt: &HostRuntime, matches: &ArgMatches<'_>) -> Result<u8, Failure> {
     let path = matches.get_str("FILE").unwrap_or("-");
     let from = matches.get_str("SIDECAR").unwrap_or("-");
+    let to = matches.get_str("output");
+    if path == STANDARD && from == STANDARD {
+        return Err(Failure::of_argument(
+            rt.alloc(),
+            "standard input",
+            "two files would be read from it",
+        ));
+    }
+    refuse_input(rt, to, from)?;
     let bytes = attached(rt, path, from)?;
-    write_binary(rt, matches.get_str("output"), &bytes)?;
+    write_binary(rt, to, &bytes)?;
     Ok(0)
 }

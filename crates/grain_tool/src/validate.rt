@@ -2,21 +2,26 @@
 
 use crate::arguments::{Argument, Subcommand};
 use crate::failure::Failure;
-use crate::files::{read_bytes, shown, unread, write_standard};
+use crate::files::{read_bytes, shown, unread};
 use crate::json_lines::{line_of, writer};
 use crate::list::explained;
-use crate::places::write_address;
+use crate::loading::{Allowed, Obstacle, WORK, allowed_of, obstacle_before, sentence_of};
+use crate::output::write_standard;
+use crate::places::{push_spot, spot_of};
+use crate::refusal_object::{write_malformed, write_obstacle};
 use clap::ArgMatches;
-use grain::{Caps, Flags, Program, VerifyError};
-use grain_file::{Limits, LoadError, Loaded, load};
-use grain_listing::{Colours, Kind, Naming, Paint, ProgramListing, Style, name_of, write_chunk};
+use grain::{Caps, Flags, Meter, Program, Refusal, VerifyError};
+use grain_file::{Limits, ReadError, read};
+use grain_listing::{
+    Colours, Kind, Naming, Paint, Style, name_of, push_name, push_shown, write_chunk,
+};
 use json::Writer;
 use std::alloc::{AllocError, Global};
 
 /// What is reported, and how.
 #[derive(Clone, Copy)]
 struct Report {
-    host: Caps,
+    allowed: Allowed,
     paint: Paint,
     numbers: bool,
     explain: bool,
@@ -54,136 +59,113 @@ pub const SUBCOMMAND: Subcommand = Subcommand {
             letter: None,
             help: "Write a JSON object for each file, on a line of its own",
         },
+        WORK,
         Argument::Colour {
             help: "Colour what is printed",
         },
     ],
 };
 
-/// The address that a refusal names.
-fn address_of(error: &VerifyError) -> Option<usize> {
-    match *error {
-        VerifyError::MissingCaps { at, .. }
-        | VerifyError::Undecodable { at }
-        | VerifyError::JumpOutOfRange { at, .. }
-        | VerifyError::JumpIntoAnInstruction { at, .. }
-        | VerifyError::DepthConflict { at, .. }
-        | VerifyError::Underflow { at, .. }
-        | VerifyError::IteratorUnderflow { at }
-        | VerifyError::HandlerUnderflow { at }
-        | VerifyError::SinksBelowHandler { at, .. }
-        | VerifyError::BadIndex { at, .. } => Some(at),
-        VerifyError::TrailingBytes { .. }
-        | VerifyError::ChunkOutOfRange { .. }
-        | VerifyError::FallsOffTheEnd
-        | VerifyError::StackExceedsDeclared { .. }
-        | VerifyError::OutOfMemory => None,
+/// What is known of a file.
+#[derive(Drop)]
+enum Found {
+    /// It is accepted, with the operands that each function needs.
+    Accepted(Program, Vec<u16>),
+    /// The host doesn't take it.
+    Refused(Program, Obstacle),
+    /// It is no program file.
+    Malformed(ReadError),
+    /// It could not be read.
+    Unread(Failure),
+}
+
+/// What is known of a program.
+fn judged(allowed: Allowed, program: Program) -> Result<Found, Failure> {
+    if let Some(obstacle) = obstacle_before(allowed, &program) {
+        return Ok(Found::Refused(program, obstacle));
+    }
+    match program.verify_placed(&mut Meter::new()) {
+        Ok(numbers) => Ok(Found::Accepted(program, numbers)),
+        Err(refusal) if refusal.error == VerifyError::OutOfMemory => Err(Failure::OutOfMemory),
+        Err(refusal) => Ok(Found::Refused(program, Obstacle::Refused(refusal))),
     }
 }
 
-/// The place of the refused chunk, if it is one.
-fn refused_place(listing: &ProgramListing) -> Option<usize> {
-    match &listing.explained.verdict {
-        Ok(_) => None,
-        Err(refusal) => refusal.place,
+/// What is known of the program of these bytes.
+fn judged_bytes(alloc: Global, allowed: Allowed, bytes: &[u8]) -> Result<Found, Failure> {
+    match read(alloc, bytes, &Limits::default()) {
+        Ok(program) => judged(allowed, program),
+        Err(ReadError::OutOfMemory) => Err(Failure::OutOfMemory),
+        Err(error) => Ok(Found::Malformed(error)),
     }
 }
 
-/// The listing of a chunk.
-fn chunk_text(
-    alloc: Global,
-    style: Style<'_>,
-    listing: &ProgramListing,
-    place: Option<usize>,
-) -> Result<String, AllocError> {
-    let mut out = String::new(alloc);
-    if let Some(place) = place {
-        write_chunk(style, listing, place, &mut out)?;
+/// What is known of a file.
+fn found_of(rt: &HostRuntime, allowed: Allowed, path: &str) -> Result<Found, Failure> {
+    match read_bytes(rt, path) {
+        Ok(bytes) => judged_bytes(rt.alloc(), allowed, &bytes),
+        Err(Failure::OutOfMemory) => Err(Failure::OutOfMemory),
+        Err(failure) => Ok(Found::Unread(failure)),
     }
-    Ok(out)
 }
 
-/// What is explained of a refused program: the place of the refused chunk, and its listing.
+/// The listing of a refused chunk.
 fn explanation_of(
     alloc: Global,
     paint: Paint,
     program: &Program,
-) -> Result<(Option<usize>, String), AllocError> {
-    let listing = explained(alloc, program)?;
-    let place = refused_place(&listing);
-    let naming = Naming::Program(program);
-    let text = chunk_text(alloc, Style { paint, naming }, &listing, place)?;
-    Ok((place, text))
-}
-
-/// Why a program is refused: the sentence, the function and the place.
-fn sentence(
-    alloc: Global,
-    program: &Program,
-    place: Option<usize>,
-    error: &VerifyError,
+    place: usize,
 ) -> Result<String, AllocError> {
-    match (address_of(error), place) {
-        (Some(at), _) => {
-            let there = write_address(alloc, program, at)?;
-            format!(in alloc; "{error} ({there})")
+    let listing = explained(alloc, program)?;
+    let naming = Naming::Program(program);
+    let mut text = String::new(alloc);
+    write_chunk(Style { paint, naming }, &listing, place, &mut text)?;
+    Ok(text)
+}
+
+/// Lists the refused chunk, where that is asked for.
+fn explain(
+    rt: &HostRuntime,
+    report: Report,
+    program: &Program,
+    obstacle: &Obstacle,
+) -> Result<(), Failure> {
+    match obstacle {
+        Obstacle::Refused(
+            Refusal {
+                place: Some(place),
+                ..
+            },
+        ) if report.explain => {
+            let text = explanation_of(rt.alloc(), report.paint, program, *place)?;
+            write_standard(rt, text.as_bytes())
         }
-        (None, Some(place)) => {
-            let name = name_of(program, place);
-            format!(in alloc; "{error} ({name})")
-        }
-        (None, None) => format!(in alloc; "{error}"),
+        _ => Ok(()),
     }
 }
 
-/// Explains a refused program where that is asked for, and returns the place of the refused chunk.
-fn explain(rt: &HostRuntime, report: Report, program: &Program) -> Result<Option<usize>, Failure> {
-    let (place, listing) = explanation_of(rt.alloc(), report.paint, program)?;
-    if report.explain && !report.json {
-        write_standard(rt, listing.as_bytes())?;
+/// Why a program isn't taken: the sentence, and where.
+fn sentence(alloc: Global, program: &Program, obstacle: &Obstacle) -> Result<String, AllocError> {
+    let mut text = sentence_of(alloc, *obstacle)?;
+    if let Obstacle::Refused(refusal) = obstacle {
+        push_spot(program, spot_of(program, refusal), &mut text)?;
     }
-    Ok(place)
+    Ok(text)
 }
 
-/// What is said of a refused program.
-fn refusal_of(
-    alloc: Global,
+/// Says why a program isn't taken.
+fn say_refused(
+    rt: &HostRuntime,
+    report: Report,
     path: &str,
     program: &Program,
-    place: Option<usize>,
-    error: &VerifyError,
-) -> Result<Failure, AllocError> {
-    let what = sentence(alloc, program, place, error)?;
-    Ok(Failure::of(alloc, shown(path), what.as_str()))
-}
-
-/// Says that a program is refused.
-fn refuse(
-    rt: &HostRuntime,
-    report: Report,
-    path: &str,
-    bytes: &[u8],
-    error: &VerifyError,
-) -> Result<Failure, Failure> {
-    let program = crate::files::program_of(rt.alloc(), path, bytes)?;
-    let place = explain(rt, report, &program)?;
-    Ok(refusal_of(rt.alloc(), path, &program, place, error)?)
-}
-
-/// Why a file isn't loaded.
-fn failure_of(
-    rt: &HostRuntime,
-    report: Report,
-    path: &str,
-    bytes: &[u8],
-    error: LoadError,
-) -> Result<Failure, Failure> {
-    match error {
-        LoadError::Read(error) => Ok(unread(rt.alloc(), path, error)),
-        LoadError::Refused(VerifyError::OutOfMemory) => Err(Failure::OutOfMemory),
-        LoadError::Refused(error) => refuse(rt, report, path, bytes, &error),
-        LoadError::Capabilities(_) => Ok(Failure::of(rt.alloc(), shown(path), error)),
-    }
+    obstacle: &Obstacle,
+) -> Result<(), Failure> {
+    explain(rt, report, program, obstacle)?;
+    let what = sentence(rt.alloc(), program, obstacle)?;
+    // What the program brings is escaped already.
+    Failure::of_lines(rt.alloc(), shown(path), what).say(rt);
+    Ok(())
 }
 
 /// Appends what is said of an accepted program.
@@ -191,26 +173,57 @@ fn write_accepted(
     out: &mut String,
     report: Report,
     path: &str,
-    loaded: &Loaded,
+    program: &Program,
+    numbers: &[u16],
 ) -> Result<(), AllocError> {
-    out.push_str(path)?;
+    push_shown(path, out)?;
     out.push_str(": ")?;
     report.paint.write(Kind::Good, "accepted", out)?;
     out.push('\n')?;
     if !report.numbers {
         return Ok(());
     }
-    let mut place = 0usize;
-    for number in &loaded.numbers {
-        let name = name_of(&loaded.program, place);
-        write!(out, "{number:>9} operands  {name}\n")?;
-        place = place.saturating_add(1);
+    for (place, number) in numbers.iter().enumerate() {
+        write!(out, "{number:>9} operands  ")?;
+        push_name(name_of(program, place), out)?;
+        out.push('\n')?;
     }
     Ok(())
 }
 
+/// Says that a file is accepted.
+fn say_accepted(
+    rt: &HostRuntime,
+    report: Report,
+    path: &str,
+    program: &Program,
+    numbers: &[u16],
+) -> Result<(), Failure> {
+    let mut out = String::new(rt.alloc());
+    write_accepted(&mut out, report, shown(path), program, numbers)?;
+    write_standard(rt, out.as_bytes())
+}
+
+/// Says what is known of a file.
+fn say(rt: &HostRuntime, report: Report, path: &str, found: &Found) -> Result<(), Failure> {
+    match found {
+        Found::Accepted(program, numbers) => say_accepted(rt, report, path, program, numbers),
+        Found::Refused(program, obstacle) => say_refused(rt, report, path, program, obstacle),
+        Found::Malformed(error) => {
+            unread(rt.alloc(), path, *error).say(rt);
+            Ok(())
+        }
+        Found::Unread(failure) => {
+            failure.say(rt);
+            Ok(())
+        }
+    }
+}
+
 /// Appends the operands that each function of an accepted program needs.
 fn write_operands(json: &mut Writer, numbers: &[u16]) -> Result<(), AllocError> {
+    json.key("accepted")?;
+    json.boolean(true)?;
     json.key("operands")?;
     json.begin_array()?;
     for number in numbers {
@@ -219,90 +232,78 @@ fn write_operands(json: &mut Writer, numbers: &[u16]) -> Result<(), AllocError> 
     json.end_array()
 }
 
-/// Appends what is said of a file.
-fn write_object(
+/// Appends whether a file is accepted, null where it could not be read, and why it isn't, in words.
+fn write_why(json: &mut Writer, is_read: bool, what: &str) -> Result<(), AllocError> {
+    json.key("accepted")?;
+    if is_read {
+        json.boolean(false)?;
+    } else {
+        json.null()?;
+    }
+    json.key("error")?;
+    json.string(what)
+}
+
+/// Appends why a program isn't taken.
+fn write_refused(
+    alloc: Global,
+    json: &mut Writer,
+    program: &Program,
+    obstacle: &Obstacle,
+) -> Result<(), AllocError> {
+    write_why(json, true, &sentence_of(alloc, *obstacle)?)?;
+    json.key("refusal")?;
+    write_obstacle(json, program, obstacle)
+}
+
+/// Appends why bytes are no program file.
+fn write_unread(
     alloc: Global,
     json: &mut Writer,
     path: &str,
-    found: Result<&Loaded, &Failure>,
+    error: &ReadError,
 ) -> Result<(), AllocError> {
+    let failure = unread(alloc, path, *error);
+    write_why(json, true, &format!(in alloc; "{failure}")?)?;
+    json.key("refusal")?;
+    write_malformed(alloc, json, error)
+}
+
+/// Appends the members that say what is known of a file.
+fn write_found(
+    alloc: Global,
+    json: &mut Writer,
+    path: &str,
+    found: &Found,
+) -> Result<(), AllocError> {
+    match found {
+        Found::Accepted(_, numbers) => write_operands(json, numbers),
+        Found::Refused(program, obstacle) => write_refused(alloc, json, program, obstacle),
+        Found::Malformed(error) => write_unread(alloc, json, path, error),
+        Found::Unread(failure) => write_why(json, false, &format!(in alloc; "{failure}")?),
+    }
+}
+
+/// A line of JSON that says what is known of a file.
+fn object_of(alloc: Global, path: &str, found: &Found) -> Result<Vec<u8>, AllocError> {
+    let mut json = writer(alloc);
     json.begin_object()?;
     json.key("file")?;
     json.string(path)?;
-    json.key("accepted")?;
-    json.boolean(found.is_ok())?;
-    match found {
-        Ok(loaded) => write_operands(json, &loaded.numbers)?,
-        Err(failure) => {
-            json.key("error")?;
-            let text = format!(in alloc; "{failure}")?;
-            json.string(&text)?;
-        }
-    }
-    json.end_object()
-}
-
-/// A line of JSON of an accepted program, or of why it isn't.
-fn object_of(
-    alloc: Global,
-    path: &str,
-    found: Result<&Loaded, &Failure>,
-) -> Result<Vec<u8>, AllocError> {
-    let mut json = writer(alloc);
-    write_object(alloc, &mut json, path, found)?;
+    write_found(alloc, &mut json, path, found)?;
+    json.end_object()?;
     line_of(json)
-}
-
-/// Says that a file is accepted.
-fn tell_accepted(
-    rt: &HostRuntime,
-    report: Report,
-    path: &str,
-    loaded: &Loaded,
-) -> Result<bool, Failure> {
-    let alloc = rt.alloc();
-    if report.json {
-        write_standard(rt, &object_of(alloc, path, Ok(loaded))?)?;
-        return Ok(true);
-    }
-    let mut out = String::new(alloc);
-    write_accepted(&mut out, report, shown(path), loaded)?;
-    write_standard(rt, out.as_bytes())?;
-    Ok(true)
-}
-
-/// Says why a file isn't loaded.
-fn tell_refused(
-    rt: &HostRuntime,
-    report: Report,
-    path: &str,
-    bytes: &[u8],
-    error: LoadError,
-) -> Result<bool, Failure> {
-    let failure = failure_of(rt, report, path, bytes, error)?;
-    tell(rt, report, path, failure)
 }
 
 /// Reads and verifies a file, says what it is, and returns whether it is accepted.
 fn visit(rt: &HostRuntime, report: Report, path: &str) -> Result<bool, Failure> {
-    let bytes = match read_bytes(rt, path) {
-        Ok(bytes) => bytes,
-        Err(failure) => return tell(rt, report, path, failure),
-    };
-    match load(rt.alloc(), &bytes, report.host, &Limits::default()) {
-        Ok(loaded) => tell_accepted(rt, report, path, &loaded),
-        Err(error) => tell_refused(rt, report, path, &bytes, error),
-    }
-}
-
-/// Reports why a file isn't accepted.
-fn tell(rt: &HostRuntime, report: Report, path: &str, failure: Failure) -> Result<bool, Failure> {
+    let found = found_of(rt, report.allowed, path)?;
     if report.json {
-        write_standard(rt, &object_of(rt.alloc(), path, Err(&failure))?)?;
-        return Ok(false);
+        write_standard(rt, &object_of(rt.alloc(), path, &found)?)?;
+    } else {
+        say(rt, report, path, &found)?;
     }
-    let _said = eprintln!(rt; "error: {failure}");
-    Ok(false)
+    Ok(matches!(found, Found::Accepted(..)))
 }
 
 /// The capabilities of the host.
@@ -311,15 +312,19 @@ fn host_of(alloc: Global, names: Option<&str>) -> Result<Caps, Failure> {
         None => Ok(Caps::all()),
         Some(names) => match bitflags::parser::from_str::<Caps>(names) {
             Ok(caps) => Ok(caps),
-            Err(_) => Err(Failure::of(alloc, names, "no such capability")),
+            Err(_) => Err(Failure::of_argument(alloc, names, "no such capability (--caps)")),
         },
     }
 }
 
 /// Says of each file whether it is accepted.
 pub fn run(rt: &HostRuntime, matches: &ArgMatches<'_>) -> Result<u8, Failure> {
+    let host = host_of(rt.alloc(), matches.get_str("caps"))?;
     let report = Report {
-        host: host_of(rt.alloc(), matches.get_str("caps"))?,
+        allowed: Allowed {
+            host,
+            ..allowed_of(matches)
+        },
         paint: Colours::of(matches).paint(rt),
         numbers: matches.get_flag("numbers"),
         explain: matches.get_flag("explain"),

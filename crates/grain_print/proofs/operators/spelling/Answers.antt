@@ -1,4 +1,4 @@
-use Rattle.std.proofs.Common.{◌≡◌, ap, sym, ◌∙◌}
+use Rattle.std.proofs.Common.{ap, sym, ◌∙◌}
 use Rattle.grain_print.specs.Spellings.{spelling_at}
 use Rattle.grain_print.proofs.SpelledTokens.{copied_at}
 use Rattle.grain_print.proofs.operators.spelling.Goals as goal

@@ -1,4 +1,4 @@
-use Rattle.std.proofs.Common.{◌≡◌, Some, ap, slice_get, ◌∙◌}
+use Rattle.std.proofs.Common.{ap, slice_get, ◌∙◌}
 use Rattle.grain_base.specs.Tokens.{token_parts}
 use Rattle.grain_print.specs.Spellings.{spellings}
 use Rattle.grain_print.proofs.SpelledTokens.{none_spelled, numbers_fit, token_found, token_only}

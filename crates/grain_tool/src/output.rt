@@ -1,0 +1,256 @@
+//! Where results are written. A file is written under another name, and replaces the old one once it is whole: a write that
+//! fails leaves the old file.
+
+use crate::failure::Failure;
+use std::alloc::{AllocError, Global};
+use std::fs::{File, Metadata, OpenOptions};
+use std::io::{ErrorKind, IsTerminal, Write};
+use std::{fs, io};
+
+/// What stands for standard input or output.
+pub const STANDARD: &str = "-";
+
+/// How many names a new file tries.
+const TRIES: usize = 1000;
+
+/// A file that is written, and what it replaces.
+#[derive(Drop)]
+struct Replacing {
+    file: File,
+    /// Where it is until it is whole.
+    temporary: String,
+    /// The file whose place it takes.
+    place: String,
+}
+
+/// Where a result is written.
+#[derive(Drop)]
+enum Target {
+    /// To standard output.
+    Standard,
+    /// Into what is there: a device, a pipe.
+    There(File),
+    /// Into a new file.
+    New(Replacing),
+}
+
+/// What is written to a file or to standard output.
+#[derive(Drop)]
+pub struct Output {
+    target: Target,
+    /// What the file is called in messages.
+    path: String,
+}
+
+/// Whether a path stands for standard output.
+pub fn is_standard(path: Option<&str>) -> bool {
+    match path {
+        Some(path) => path == STANDARD,
+        None => true,
+    }
+}
+
+/// The folder of a path, with its slash; empty for one in the current folder.
+fn folder_of(path: &str) -> &str {
+    match path.rfind('/') {
+        Some(slash) => path.get(..slash.saturating_add(1)).unwrap_or_default(),
+        None => "",
+    }
+}
+
+/// A name in the folder of a file that is tried for a new one.
+fn temporary_name(alloc: Global, path: &str, number: usize) -> Result<String, AllocError> {
+    let folder = folder_of(path);
+    format!(in alloc; "{folder}.grain-{number}.tmp")
+}
+
+/// A new file in the folder of another, and its name.
+fn create_temporary(rt: &HostRuntime, path: &str) -> io::Result<(File, String)> {
+    for number in 0..TRIES {
+        let name = temporary_name(rt.alloc(), path, number)?;
+        match File::create_new(rt, name.as_str()) {
+            Ok(file) => return Ok((file, name)),
+            Err(error) if error.kind() == ErrorKind::AlreadyExists => {}
+            Err(error) => return Err(error),
+        }
+    }
+    Err(io::Error::from(ErrorKind::AlreadyExists))
+}
+
+/// A new file that replaces the one at a path, or is the first there.
+fn new_target(rt: &HostRuntime, path: &str) -> io::Result<Target> {
+    let (file, temporary) = create_temporary(rt, path)?;
+    let place = String::from_str(rt.alloc(), path)?;
+    Ok(Target::New(Replacing {
+        file,
+        temporary,
+        place,
+    }))
+}
+
+/// A new file that replaces a regular one, and has its permissions. One that must not be written isn't replaced.
+fn replacing(rt: &HostRuntime, path: &str, found: &Metadata) -> io::Result<Target> {
+    let _writable = OpenOptions::new().write(true).open(rt, path)?;
+    let place = fs::canonicalize(rt, path)?;
+    let target = new_target(rt, place.to_string_lossy())?;
+    if let Target::New(new) = &target {
+        let set = new.file.set_permissions(found.permissions());
+        if set.is_err() {
+            let _removed = fs::remove_file(rt, new.temporary.as_str());
+            set?;
+        }
+    }
+    Ok(target)
+}
+
+/// What is there, opened for writing.
+fn there(rt: &HostRuntime, path: &str) -> io::Result<Target> {
+    Ok(Target::There(File::create(rt, path)?))
+}
+
+/// Whether a path is one of the system's, which may lead to what is open already.
+fn is_of_system(path: &str) -> bool {
+    path.starts_with("/dev/") || path.starts_with("/proc/")
+}
+
+/// Where what is written to a path goes.
+fn target_of(rt: &HostRuntime, path: &str) -> io::Result<Target> {
+    if is_of_system(path) {
+        return there(rt, path);
+    }
+    match fs::metadata(rt, path) {
+        Ok(found) if found.is_file() => replacing(rt, path, &found),
+        Ok(_) => there(rt, path),
+        Err(error) if error.kind() == ErrorKind::NotFound => {
+            // A link that leads nowhere stays a link.
+            if fs::symlink_metadata(rt, path).is_ok() {
+                there(rt, path)
+            } else {
+                new_target(rt, path)
+            }
+        }
+        Err(error) => Err(error),
+    }
+}
+
+/// Writes bytes to standard output.
+pub fn write_standard(rt: &HostRuntime, bytes: &[u8]) -> Result<(), Failure> {
+    let mut out = rt.stdout();
+    match out.write_all(bytes) {
+        Ok(()) => out.flush().map_err(Failure::of_output),
+        Err(error) => Err(Failure::of_output(error)),
+    }
+}
+
+/// Has a new file take its place, once it is on the disk.
+fn put(rt: &HostRuntime, new: &Replacing) -> io::Result<()> {
+    new.file.sync_all()?;
+    fs::rename(rt, new.temporary.as_str(), new.place.as_str())
+}
+
+impl Output {
+    /// What is written to a file, or to standard output where none is given.
+    ///
+    /// # Errors
+    /// The file can't be written.
+    pub fn open(rt: &HostRuntime, path: Option<&str>) -> Result<Output, Failure> {
+        let alloc = rt.alloc();
+        let Some(path) = path.filter(|path| *path != STANDARD) else {
+            return Ok(Output {
+                target: Target::Standard,
+                path: String::new(alloc),
+            });
+        };
+        match target_of(rt, path) {
+            Ok(target) => Ok(Output {
+                target,
+                path: String::from_str(alloc, path)?,
+            }),
+            Err(error) => Err(Failure::of(alloc, path, error)),
+        }
+    }
+
+    /// The same of a binary file, which no terminal shows.
+    ///
+    /// # Errors
+    /// The file can't be written, or would go to a terminal.
+    pub fn open_binary(rt: &HostRuntime, path: Option<&str>) -> Result<Output, Failure> {
+        if is_standard(path) && rt.stdout().is_terminal() {
+            return Err(Failure::Terminal);
+        }
+        Output::open(rt, path)
+    }
+
+    /// Writes more bytes.
+    ///
+    /// # Errors
+    /// They can't be written.
+    pub fn write(&mut self, rt: &HostRuntime, bytes: &[u8]) -> Result<(), Failure> {
+        let written = match &mut self.target {
+            Target::Standard => return write_standard(rt, bytes),
+            Target::There(file) => file.write_all(bytes),
+            Target::New(new) => new.file.write_all(bytes),
+        };
+        match written {
+            Ok(()) => Ok(()),
+            Err(error) => Err(Failure::of(rt.alloc(), self.path.as_str(), error)),
+        }
+    }
+
+    /// Ends the output: where all was done, a new file takes the place of the old one. Otherwise it is removed.
+    ///
+    /// # Errors
+    /// That of what was done, or the file can't be written.
+    pub fn end(self, rt: &HostRuntime, done: Result<(), Failure>) -> Result<(), Failure> {
+        let Output { target, path } = self;
+        let Target::New(new) = target else {
+            return done;
+        };
+        let put = match done {
+            Ok(()) => match put(rt, &new) {
+                Ok(()) => return Ok(()),
+                Err(error) => Err(Failure::of(rt.alloc(), path.as_str(), error)),
+            },
+            Err(failure) => Err(failure),
+        };
+        // Where it can't be removed either, why it isn't whole is said.
+        let _removed = fs::remove_file(rt, new.temporary.as_str());
+        put
+    }
+}
+
+/// Writes a whole output.
+fn write_whole(rt: &HostRuntime, output: Output, bytes: &[u8]) -> Result<(), Failure> {
+    let mut output = output;
+    let done = output.write(rt, bytes);
+    output.end(rt, done)
+}
+
+/// Writes the bytes of a text to a file, or to standard output where none is given.
+pub fn write_text(rt: &HostRuntime, path: Option<&str>, text: &[u8]) -> Result<(), Failure> {
+    write_whole(rt, Output::open(rt, path)?, text)
+}
+
+/// Writes a binary file, or to standard output where none is given and that is no terminal.
+pub fn write_binary(rt: &HostRuntime, path: Option<&str>, bytes: &[u8]) -> Result<(), Failure> {
+    write_whole(rt, Output::open_binary(rt, path)?, bytes)
+}
+
+/// Writes two binary files, each to its path. Both are whole before either takes the place of an old one.
+pub fn write_both(
+    rt: &HostRuntime,
+    (path, bytes): (&str, &[u8]),
+    (other_path, other_bytes): (Option<&str>, &[u8]),
+) -> Result<(), Failure> {
+    let mut one = Output::open_binary(rt, Some(path))?;
+    let mut other = match Output::open_binary(rt, other_path) {
+        Ok(other) => other,
+        Err(failure) => return one.end(rt, Err(failure)),
+    };
+    let done = match one.write(rt, bytes) {
+        Ok(()) => other.write(rt, other_bytes),
+        Err(failure) => Err(failure),
+    };
+    let done = one.end(rt, done);
+    other.end(rt, done)
+}
