@@ -1,9 +1,10 @@
 -- What the program of a text has of what was read.
 use Rattle.std.specs.Option.{ForSome}
-use Rattle.std.specs.Prelude.{◌≡◌, ℕ, List, [], Option, None, Some, map, option_map, string_bytes}
-use Rattle.grain.specs.Program.{Program, listed_positions}
+use Rattle.std.specs.Prelude.{◌≡◌, ℕ, List, MatchOption, [], Option, None, Some, map, option_map, string_bytes}
+use Rattle.grain.specs.Program.{Program, input_of, listed_positions}
 use Rattle.grain.specs.declared.program.Parts.{Parts}
 use Rattle.grain_base.specs.declared.position.Position.{Position}
+use Rattle.grain_needs.specs.Capabilities.{AreLeast}
 use Rattle.grain_asm.specs.Entries.{Stays}
 use Rattle.grain_asm.specs.declared.chunks.Chunks.{Chunks}
 use Rattle.grain_asm.specs.declared.draft.Draft.{Draft}
@@ -24,9 +25,9 @@ pub record KeepsChunks (old new : Chunks) : Type 0 where
   pub main : ForSome old.main (λ chunk. new.main ≡ Some chunk)
   pub functions : Stays old.functions.items new.functions.items
 
--- nothing was read so far: all capabilities are allowed, and code comes next
+-- nothing was read so far, and code comes next
 pub record HasReadNothing (draft : Draft) : Type 0 where
-  pub caps : draft.head.caps.0 ≡ 32767
+  pub caps : draft.head.caps ≡ None
   pub debug_id : draft.head.debug_id ≡ 0
   pub fragments : draft.head.fragments ≡ 0
   pub source : draft.head.source ≡ None
@@ -55,7 +56,8 @@ pub record HasDirectives (id fragments : ℕ) (name : Option (List ℕ)) (places
   pub source : option_map string_bytes parts.source ≡ name
   pub positions : listed_positions parts.positions ≡ places
 
--- the program has the code, the entries and what the directives say
+-- The program has the code, the entries and what the directives say. Its capabilities are those that are declared, or else the least that
+-- suffice for it.
 pub record IsProgramOf (draft : Draft) (program : Program) : Type 0 where
   pub code : program.code ≡ draft.code.items
   pub names : program.names ≡ map string_bytes draft.pools.names.items
@@ -64,7 +66,7 @@ pub record IsProgramOf (draft : Draft) (program : Program) : Type 0 where
   pub assign_ops : program.assign_ops ≡ draft.pools.assign_ops.items
   pub chains : program.chains ≡ draft.pools.chains.items
   pub switches : program.switches ≡ draft.pools.switches.items
-  pub caps : program.caps ≡ draft.head.caps
+  pub caps : MatchOption draft.head.caps (AreLeast (input_of program) program.caps.0) (λ caps. program.caps ≡ caps)
   pub debug_id : program.debug_id ≡ draft.head.debug_id
   pub residuals : program.residuals ≡ draft.head.fragments
   pub source : program.source ≡ option_map string_bytes draft.head.source

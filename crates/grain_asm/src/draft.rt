@@ -1,7 +1,8 @@
 //! A program while its text is read.
-ghost use Rattle.std.specs.Prelude.{◌≡◌, ◌<◌, IfOk, List, MatchOption, OnOk, [], length, map, option_map, string_bytes, unwrap_or};
+ghost use Rattle.std.specs.Prelude.{◌≡◌, ◌<◌, IfOk, IfSome, List, MatchOption, OnOk, [], length, map, option_map, string_bytes, unwrap_or};
 ghost use Rattle.std.specs.Option.{ForSome};
-ghost use Rattle.grain.specs.Program.{listed_positions, made};
+ghost use Rattle.grain.specs.Program.{input_of, listed_positions, made};
+ghost use Rattle.grain_needs.specs.Capabilities.{AreLeast};
 ghost use Rattle.grain_code.specs.Span.{Span};
 ghost use Rattle.grain_code.specs.declared.function.Function.{Function};
 ghost use Rattle.grain_asm.specs.Drafted.{HasDirectives, HasEntries, HasReadNothing, IsProgramOf};
@@ -42,7 +43,8 @@ pub(crate) struct Given {
 /// What a text says of a program besides its pools, chunks and code.
 #[derive(Drop)]
 pub(crate) struct Head {
-    caps: Caps,
+    /// The capabilities, where the text declares some.
+    caps: Option<Caps>,
     debug_id: u128,
     fragments: usize,
     source: Option<String>,
@@ -113,7 +115,7 @@ impl Head {
             return Err(Stop::Fault(Problem::DirectiveTwice));
         }
         match directive {
-            ".caps" => self.caps = read_caps(cursor)?,
+            ".caps" => self.caps = Some(read_caps(cursor)?),
             ".id" => self.debug_id = read_id(cursor)?,
             ".fragments" => self.fragments = cursor.number()? as usize,
             ".source" => self.source = Some(read_text(cursor)?),
@@ -131,7 +133,7 @@ impl Draft {
     {
         Draft {
             head: Head {
-                caps: <Caps as grain_base::Flags>::all(),
+                caps: None,
                 debug_id: 0,
                 fragments: 0,
                 source: None,
@@ -340,8 +342,23 @@ impl Draft {
             pools,
             positions,
         )?;
-        assemble(alloc, head.caps, code, main, functions, parts, &automatic)
+        let caps = head.caps.unwrap_or(<Caps as grain_base::Flags>::all());
+        let program = assemble(alloc, caps, code, main, functions, parts, &automatic)?;
+        Ok(declaring(program, head.caps))
     }
+}
+
+/// The program, with the capabilities that its text declares, or else the least that suffice.
+fn declaring(mut program: Program, caps: Option<Caps>) -> Program
+    requires { IfSome caps (λ given. program.caps ≡ given) }
+    ensures caps { MatchOption caps (AreLeast (input_of result) result.caps.0)
+        (λ given. result.caps ≡ given) }
+    ensures rest { result ≡ record program { caps = result.caps } }
+{
+    if caps.is_none() {
+        program.declare_least_caps();
+    }
+    program
 }
 
 /// The positions of code.

@@ -84,7 +84,11 @@ pub fn unread(alloc: Global, path: &str, error: ReadError) -> Failure {
             format_args!("{fault} ({part}, byte {at})"),
         ),
         ReadError::OutOfMemory => Failure::OutOfMemory,
-        ReadError::TooLarge { .. } => Failure::of(alloc, shown(path), error),
+        ReadError::TooLarge { .. } | ReadError::DepthLimit { .. } => Failure::of(
+            alloc,
+            shown(path),
+            error,
+        ),
     }
 }
 

@@ -222,6 +222,7 @@ pub fn write_malformed(
             write_number(json, "byte", *at as u64)?;
         }
         ReadError::TooLarge { .. } => write_words(json, "kind", "too-large")?,
+        ReadError::DepthLimit { .. } => write_words(json, "kind", "depth-limit")?,
         ReadError::OutOfMemory => write_words(json, "kind", "out-of-memory")?,
     }
     json.end_object()

@@ -41,12 +41,30 @@ pub const ATTACH: Subcommand = Subcommand {
     ],
 };
 
-/// Takes the positions off a program: its file without them, and theirs.
-fn apart(alloc: Global, path: &str, program: &mut Program) -> Result<(Vec<u8>, Vec<u8>), Failure> {
-    let sidecar = match program.strip_positions() {
+/// The sidecar of a program. Positions that it would not give back are refused.
+fn restorable(alloc: Global, path: &str, program: &Program) -> Result<Sidecar, Failure> {
+    let sidecar = match program.sidecar() {
         Ok(sidecar) => sidecar,
         Err(error) => return Err(Failure::of(alloc, shown(path), error)),
     };
+    if program.is_restored_by(&sidecar)? {
+        Ok(sidecar)
+    } else {
+        Err(Failure::of(
+            alloc,
+            shown(path),
+            "a sidecar cannot restore these positions: there is one where no instruction begins, or none at all",
+        ))
+    }
+}
+
+/// Takes the positions off a program: its file without them, and theirs.
+fn apart(alloc: Global, path: &str, program: &mut Program) -> Result<(Vec<u8>, Vec<u8>), Failure> {
+    let sidecar = restorable(alloc, path, program)?;
+    // The sidecar fitted once already, so this cannot fail for another reason than memory.
+    if program.strip_positions().is_err() {
+        return Err(Failure::OutOfMemory);
+    }
     let table = grain_file::write_sidecar(alloc, &sidecar)?;
     Ok((file_of(alloc, path, program)?, table))
 }
