@@ -143,6 +143,9 @@ def check_programs(tool):
     wanted = [{"address": 3, "function": "main", "position": {"line": 1, "column": 6}}, {"address": 9999, "function": None, "position": None}]
     expect(found == wanted, f"addr2line --json writes {found}")
     tool.refused("attach", "add.grain", "add.grain", "-o", "x")
+    tool.write("long.grain", tool.done("parse", "-", given=b".positions 9\n.code\n  unit @7:7\n  return\n"))
+    tool.refused("strip", "long.grain", "--sidecar", "long.pos", "-o", "x")
+    expect(not os.path.exists(os.path.join(tool.folder, "long.pos")), "positions are written that don't come back")
     for words in (["validate", "--caps", "NOTHING", "add.grain"], ["addr2line", "add.grain", "0x5"], ["addr2line", "add.grain", "4294967296"]):
         tool.refused(*words, status=2)
 
@@ -280,9 +283,15 @@ def check_needs(tool):
     for words in (["validate"], ["run"], ["flow"]):
         expect(sentence in tool.refused(*words, "bit.grain"), f"{words} takes an unknown capability")
     expect(tool.done("list", "bit.grain").decode().startswith(f"bit.grain: refused {sentence}\n"), "list takes an unknown capability")
-    tool.write("all.grain", tool.done("parse", "-", given=b"return\n"))
+    tool.write("all.grain", tool.done("parse", "-", given=b'.caps "0x7fff"\nreturn\n'))
     said = tool.refused("validate", "--caps", "ARRAY | 0x7ff4", "all.grain")
     expect(said.endswith(": FUNCTION, MAP\n"), f"missing capabilities are named by {said!r}")
+    for words, text in (("parse", b"return\n"), ("compile", b"1 + 2\n")):
+        tool.write("none.grain", tool.done(words, "-", given=text))
+        tool.done("validate", "--caps", "", "none.grain")
+    tool.write("list.grain", tool.done("compile", "-", given=b"[1]\n"))
+    said = tool.refused("validate", "--caps", "", "list.grain")
+    expect(said.endswith(": ARRAY\n"), f"a list needs {said!r}")
 
 
 def dump_of(tool, name, sections):

@@ -1,5 +1,5 @@
 -- Where the positions of assembled operations are: each instruction has the place of the operation that it was.
-use Rattle.std.proofs.Common.{◌≡◌, ◌≢◌, ℕ, ◌+◌, ◌<◌, ◌≤◌, inl, inr, zero, suc, Bool, true, false, cond, List, [], ◌∷◌, Option, Some, None, Result, Ok, Err, length, get_or, map, is_none, ap, refl, subst, sym, ◌∙◌, arith}
+use Rattle.std.proofs.Common.{◌≡◌, ◌≢◌, ℕ, ◌+◌, ◌<◌, inl, inr, zero, suc, Bool, true, false, cond, List, [], ◌∷◌, Option, Some, None, Result, Ok, Err, length, get_or, map, is_none, ap, refl, subst, sym, ◌∙◌, arith}
 use Rattle.std.specs.Prelude.{IfOk, IfSome, option_map, slice_get, slice_index}
 use Rattle.std.specs.List.{Contains, list_all}
 use Rattle.std.proofs.Math.ListN.{get_or-append, set}

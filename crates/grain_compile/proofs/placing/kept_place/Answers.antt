@@ -1,7 +1,6 @@
 use Rattle.std.proofs.Common.{◌≡◌, ℕ, List, rules}
 use Rattle.std.specs.Prelude.{IfSome}
 use Rattle.grain_base.specs.Place.{place_of}
-use Rattle.grain_lexer.specs.declared.error.Place.{Place}
 use Rattle.grain_compile.proofs.LocatedPositions.{exact_for}
 use Rattle.grain_compile.proofs.placing.kept_place.Goals as goal
 
