@@ -119,7 +119,7 @@ fn main() -> Result<(), Box<dyn Error>> {
 mod tests {
     use super::answer;
 
-    // What `grain compile` makes of these, without the capabilities that they don't need:
+    // What `grain compile --no-source` makes of these:
     //
     //     fn fib(n) { if n < 2 { n } else { fib(n - 1) + fib(n - 2) } }
     //     fib(20)
