@@ -616,7 +616,7 @@ GRAIN_NODISCARD grain_status grain_listing(uint16_t caps, const grain_program *p
  * first thing that is wrong. `error` may be NULL. GRAIN_BAD_LIMIT, GRAIN_TOO_LONG, GRAIN_OUT_OF_MEMORY: *error stays.
  *
  * Reading goes over the bytes once, and keeps none of them. Memory is linear in the length of the file. The call stack grows by
- * about 1,000 bytes for each level that values are nested: up to 80 KiB for the usual limit of 64 levels, up to 256 KiB for
+ * about 1,200 bytes for each level that values are nested: up to 80 KiB for the usual limit of 64 levels, up to 320 KiB for
  * GRAIN_DEPTH_MAX levels. A thread with less must have a lower limit. A program has exactly one file, which is these bytes. */
 GRAIN_NODISCARD grain_status grain_file_read(grain_file **file, const uint8_t *bytes, size_t bytes_len,
                                              const grain_limits *limits, grain_read_error *error);

@@ -207,7 +207,7 @@ static void measure_files(uint32_t depth, size_t allowed) {
 int main(void) {
     write_nested();
     measure_files(64, 80 * 1024);
-    measure_files(GRAIN_DEPTH_MAX, 256 * 1024);
+    measure_files(GRAIN_DEPTH_MAX, 320 * 1024);
     measure(&with_pools, GRAIN_CAP_ALL);
     measure(&with_pools, GRAIN_CAP_ALL & ~GRAIN_CAP_PROPERTY);
     measure(&nested, GRAIN_CAP_ALL);

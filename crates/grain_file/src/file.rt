@@ -21,8 +21,8 @@ use grain_pools::{AssignOp, Chain, Strings, Switch};
 use std::alloc::Global;
 use thiserror::Error;
 
-/// The greatest limit on how deep values are nested, [`Limits::depth`]. A level takes some 1,000 bytes of the call stack where a value is
-/// read, and less where it is dropped, so that 256 KiB suffice for this many.
+/// The greatest limit on how deep values are nested, [`Limits::depth`]. A level takes some 1,200 bytes of the call stack where a value is
+/// read, and less where it is dropped, so that 320 KiB suffice for this many.
 pub const MAX_DEPTH: u32 = 256;
 
 /// What a host bounds of the files that it reads.

@@ -89,7 +89,7 @@ fn new_target(rt: &HostRuntime, path: &str) -> io::Result<Target> {
 }
 
 /// A new file that replaces a regular one, and has its permissions. One that must not be written isn't replaced.
-fn replacing(rt: &HostRuntime, path: &str, found: &Metadata) -> io::Result<Target> {
+fn beside(rt: &HostRuntime, path: &str, found: &Metadata) -> io::Result<Target> {
     let _writable = OpenOptions::new().write(true).open(rt, path)?;
     let place = fs::canonicalize(rt, path)?;
     let target = new_target(rt, place.to_string_lossy())?;
@@ -119,7 +119,7 @@ fn target_of(rt: &HostRuntime, path: &str) -> io::Result<Target> {
         return there(rt, path);
     }
     match fs::metadata(rt, path) {
-        Ok(found) if found.is_file() => replacing(rt, path, &found),
+        Ok(found) if found.is_file() => beside(rt, path, &found),
         Ok(_) => there(rt, path),
         Err(error) if error.kind() == ErrorKind::NotFound => {
             // A link that leads nowhere stays a link.

@@ -13,7 +13,7 @@ pub struct Limits {
     /// How many bytes a file has at most.
     pub size: usize,
     /// How deep values are nested at most, no more than [`Limits::MAX_DEPTH`]; one that holds no other counts 1. Reading takes
-    /// about 1,000 bytes of the call stack for each level: up to 80 KiB for the usual 64, up to 256 KiB for the greatest.
+    /// about 1,200 bytes of the call stack for each level: up to 80 KiB for the usual 64, up to 320 KiB for the greatest.
     pub depth: u32,
     /// How many cases a switch has at most. An attacker can choose equal hashes, and then time grows by the square of it.
     pub cases: usize,
