@@ -14,8 +14,9 @@ PROGRAM is the built command `grain`. A file `bench/scripts/TOPIC.rhai` has many
 The expectations are written from the Rhai Book, not from the output of a program. `PROGRAM run FILE` must end with status 1
 where an error is expected, otherwise with status 0.
 
-Each case that compiles is also compiled to a file (`compile`), printed as assembly (`print`) and parsed again (`parse`): the
-bytes must be the same. A program without one of these subcommands is only run, and a note says so.
+Each case that compiles is also compiled to a file (`compile`), which a host without modules and custom syntax accepts
+(`validate`), printed as assembly (`print`) and parsed again (`parse`): the bytes must be the same. A program without one of
+these subcommands is only run, and a note says so.
 
 What docs/LANGUAGE.md shows of the language in code has to be in a case, which .ci/documents checks.
 
@@ -38,6 +39,8 @@ PATTERNS = {
 }
 MARKS = ("//=", "//!", "//@")
 SECONDS = 60
+# The capabilities of a host without modules and custom syntax.
+PLAIN = " | ".join(("FUNCTION", "ARRAY", "BLOB", "MAP", "FN_PTR", "CURRYING", "SHARING", "THIS", "INDEXING", "PROPERTY", "METHOD"))
 
 
 @dataclasses.dataclass
@@ -133,7 +136,7 @@ class Checker:
 
     def lacking(self):
         """The subcommands that the program doesn't have."""
-        return [name for name in ("compile", "print", "parse") if self.call(name, "--help").returncode != 0]
+        return [name for name in ("compile", "validate", "print", "parse") if self.call(name, "--help").returncode != 0]
 
     def write(self, case):
         (self.folder / "case.rhai").write_text(case.script)
@@ -158,10 +161,11 @@ class Checker:
                 yield f"the message `{message.strip()}` doesn't name {place}"
 
     def unlike_again(self, case):
-        """What differs after the compiled file was printed as assembly and parsed again."""
+        """Why the compiled file isn't accepted, or what differs after it was printed as assembly and parsed again."""
         self.write(case)
         for words in (
             ("compile", "case.rhai", "-o", "case.grain"),
+            ("validate", "--caps", PLAIN, "case.grain"),
             ("print", "case.grain", "-o", "case.asm"),
             ("parse", "case.asm", "-o", "again.grain"),
         ):
