@@ -1,4 +1,4 @@
-use Rattle.std.proofs.Common.{◌≡◌, ◌∙◌, ap, map, slice_index_or}
+use Rattle.std.proofs.Common.{◌∙◌, ap, map, slice_index_or}
 use Rattle.std.proofs.Math.Seq.{map-set_same}
 use Rattle.grain.specs.Tightened.{undeclared_function}
 use Rattle.grain_code.specs.Span.{undeclared_chunk}
