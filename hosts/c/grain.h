@@ -431,7 +431,7 @@ typedef struct grain_explanation {
     grain_refusal refusal; /* written if the chunk is refused; its chunk is GRAIN_WHOLE_PROGRAM */
 } grain_explanation;
 
-/* Where pools aren't flat: a list and an index into it. The entry there is wrong, or has more steps, cases or ranges
+/* If pools aren't flat: a list and an index into it. The entry there is wrong, or has more steps, cases or ranges
  * than there are, or belongs to no chain, switch or name. */
 typedef struct grain_pools_flaw {
     grain_list list;

@@ -194,7 +194,7 @@ static bool is_same(const grain_report *one, const grain_report *other) {
            a->first == b->first && a->second == b->second;
 }
 
-/* One more than the greatest slot that an instruction of a chunk names, read by grain_instruction; 0 where none names one. */
+/* One more than the greatest slot that an instruction of a chunk names, read by grain_instruction; 0 if none names one. */
 static uint32_t count_slots(const grain_program *program, const grain_chunk *chunk) {
     grain_instruction_row found;
     uint32_t slots = 0;

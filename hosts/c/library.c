@@ -54,7 +54,7 @@ static const grain_program *whole_program(const grain_program *program, grain_pr
     return copy;
 }
 
-/* Writes the slots of each chunk of a program that is accepted, where they are wanted. */
+/* Writes the slots of each chunk of a program that is accepted, if they are wanted. */
 static grain_status with_slots(uint32_t status, const grain_program *program, uint32_t *slots, size_t slots_len) {
     if (status == GRAIN_ACCEPTED && slots != NULL)
         grain_proved_slots(program, slots, slots_len);

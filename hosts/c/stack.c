@@ -184,7 +184,7 @@ static void strip_file(void) {
     status = grain_file_strip(file_bytes, file_len, limits, &stripped, &sidecar, NULL);
 }
 
-/* At this depth, where grain.h allows as much stack. */
+/* At this depth, if grain.h allows as much stack. */
 static void measure_files(uint32_t depth, size_t allowed) {
     grain_limits own = GRAIN_LIMITS_DEFAULT;
     own.depth = depth;

@@ -1,4 +1,4 @@
--- The least capabilities stay so where chunks declare other numbers.
+-- The least capabilities stay so if chunks declare other numbers.
 use Rattle.std.proofs.Common.{◌≡◌, ◌≢◌, List, [], ◌∷◌, length, map, suc, refl, sym, ap, subst, arith}
 use Rattle.grain_code.specs.declared.function.Function.{Function}
 use Rattle.grain_needs.specs.Capabilities.{AreLeast}

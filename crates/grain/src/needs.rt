@@ -34,14 +34,12 @@ impl Program {
         least_caps(&self.parts.consts, &self.code, &self.functions, &pools)
     }
 
-    /// The number of slots that the instructions of each chunk name, the main chunk before those of the functions
-    /// ([`chunk_slots`]).
+    /// The number of slots that the instructions of each chunk name: the main chunk's, then those of the functions.
     ///
-    /// A host that makes room for as many when it calls a chunk needs no test where an instruction names a slot. It reads the code of each
-    /// chunk once.
+    /// [`chunk_slots`] says what a host does with them if the program is accepted. It reads the code of each chunk once.
     ///
     /// # Errors
-    /// [`AllocError`] where the memory for the numbers was refused.
+    /// [`AllocError`] if the allocator refuses the list.
     pub fn slots(&self) -> Result<Vec<u32>, AllocError>
         ensures { IfOk result (λ slots. AreSlotCounts self.now slots.items) }
     {

@@ -69,15 +69,19 @@ impl Program {
         Ok(sidecar)
     }
 
-    /// Whether the table of a sidecar, read with the code, gives just the positions that the program has: only then does it have them again
-    /// when they are stripped and this sidecar of it is attached.
+    /// Whether the table of a sidecar, read with the code, gives exactly the positions of the program. Only then can they be stripped
+    /// and attached again without a loss.
     ///
-    /// It doesn't where a position belongs to an address at which no instruction begins, where there are more positions or fewer than bytes of
-    /// code, and where there is a list of positions all of which are none. It goes over the table, the code and the positions once, and
-    /// takes memory for the positions that are read.
+    /// These programs have positions that no sidecar gives back:
+    ///
+    /// - a position belongs to an address at which no instruction begins;
+    /// - there are more or fewer positions than bytes of code;
+    /// - there is a list of positions, all of which are empty.
+    ///
+    /// It reads the table, the code and the positions once, and allocates a list of positions.
     ///
     /// # Errors
-    /// [`AllocError`] where there is no memory for them.
+    /// [`AllocError`] if the allocator refuses that list.
     pub fn is_restored_by(&self, sidecar: &Sidecar) -> Result<bool, AllocError>
         ensures { IfOk result (λ restores. IsTrue restores ↔ IsRead
             sidecar.now.positions.items self.now.code (places_of self.now)) }

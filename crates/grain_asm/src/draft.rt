@@ -43,7 +43,7 @@ pub(crate) struct Given {
 /// What a text says of a program besides its pools, chunks and code.
 #[derive(Drop)]
 pub(crate) struct Head {
-    /// The capabilities, where the text declares some.
+    /// The capabilities, if the text declares some.
     caps: Option<Caps>,
     debug_id: u128,
     fragments: usize,

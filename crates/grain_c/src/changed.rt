@@ -77,10 +77,13 @@ fn fit(program: &[u8], sidecar: &[u8], files: &Stripped) -> bool
 /// Reads a program file within the limits, and writes the file of the same program without positions, and their sidecar file. Of
 /// as many bytes as were read the room for the program is never too short.
 ///
-/// 0 where they are written, with their sizes. 2 where the room for one of them is too short: then only the sizes are written. 9
-/// where the bytes are no file within the limits: then why is written. 10 where the code has a position above 4294967295. 12 where
-/// attaching the positions wouldn't give the file back. 11 where the limit on nesting is above 256, which is tested first. 3 where
-/// the allocator refused.
+/// - 0: both are written, with their sizes.
+/// - 2: the room for one of them is too short. Only the sizes are written.
+/// - 3: the allocator refused.
+/// - 9: the bytes are no file within the limits. The cause is written.
+/// - 10: an address above 4294967295 has a position.
+/// - 11: the limit on nesting is above 256. This is tested first.
+/// - 12: attaching the sidecar wouldn't give the file back.
 #[unsafe(no_mangle)]
 pub extern "C" fn grain_proved_file_strip(
     alloc: Global,

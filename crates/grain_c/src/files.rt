@@ -79,10 +79,12 @@ fn read_into(
 
 /// Reads a program file within the limits.
 ///
-/// 0 where it is read: the handle keeps it, and what it has is written, which stays until the handle is freed or used again. What
-/// the handle kept before is freed. 9 where the bytes are no file within the limits: then why is written. 10 where a list of it
-/// has 4294967296 entries or more, or a text or a blob as many bytes. 11 where the limit on nesting is above 256, which is tested
-/// first. 3 where the allocator refused.
+/// - 0: the handle keeps the file, and its contents are written. They stay until the handle is freed or used again. What the
+///   handle kept before is freed.
+/// - 3: the allocator refused.
+/// - 9: the bytes are no file within the limits. The cause is written.
+/// - 10: a list of the file has 4294967296 entries or more, or a text or a blob has as many bytes.
+/// - 11: the limit on nesting is above 256. This is tested first.
 #[unsafe(no_mangle)]
 pub extern "C" fn grain_proved_file_read<'a>(
     alloc: Global,

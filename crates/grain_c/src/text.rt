@@ -43,7 +43,7 @@ fn word_of(kind: u32) -> Option<&'static str>
     }
 }
 
-/// The refusal that a record tells, if it tells one.
+/// The refusal that a record encodes, if it encodes one.
 fn error_of(refusal: &CRefusal) -> Option<VerifyError>
     ensures some { IfSome result (TellsRefusal refusal.now) }
     ensures none { IfNone result ((e : VerifyError) → TellsRefusal refusal.now e → ⊥) }
@@ -117,8 +117,8 @@ pub(crate) fn print(room: &mut [u8], text: &[u8]) -> usize
     text.len()
 }
 
-/// The text of a refusal that a record tells, if it tells one.
-fn told_text(refusal: &CRefusal) -> Option<Line>
+/// The text of the refusal that a record encodes, if it encodes one.
+fn encoded_text(refusal: &CRefusal) -> Option<Line>
     ensures some { IfSome result (λ line. (e : VerifyError) × TellsRefusal refusal.now e
         × (line.items ≡ verify_error_text e)) }
     ensures none { IfNone result ((e : VerifyError) → TellsRefusal refusal.now e → ⊥) }
@@ -138,13 +138,14 @@ fn line_of(refusal: &CRefusal) -> Option<Line>
 {
     match lack_of(refusal) {
         Some(missing) => Some(lack_text(missing)),
-        None => told_text(refusal),
+        None => encoded_text(refusal),
     }
 }
 
-/// Writes a refusal as the line program prints it, in ASCII, as far as there is room for it, and answers how long it is: of a program
-/// that declares capabilities which the host lacks, `declared-caps missing=` and four hexadecimal digits. 0: the record is no refusal,
-/// and nothing is written. No text is longer than 128 bytes. It takes no memory.
+/// Writes a refusal in ASCII as the line program prints it, as much as there is room for, and returns its length. If the host lacks
+/// declared capabilities, the text is `declared-caps missing=` and four hexadecimal digits.
+///
+/// 0: the record is no refusal, and nothing is written. No text is longer than 128 bytes. It allocates nothing.
 #[unsafe(no_mangle)]
 pub extern "C" fn grain_proved_refusal_text(refusal: &CRefusal, text: &mut [u8]) -> usize
     ensures text { result ≢ 0 → (line : List ℕ) × IsRefusalText refusal.now line

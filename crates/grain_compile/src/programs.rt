@@ -25,7 +25,7 @@ const MAX_LEVELS: usize = 8 * MAX_DEPTH;
 
 /// Compiles a source text. The result is the program, which is accepted, and the greatest operand count that any run of each
 /// chunk reaches, the top level first. Each chunk declares that number, and the program the least capabilities that suffice for it
-/// ([`Program::declare_least_caps`]). Each place that an error names, and each position of the program, lies in the text, unless there
+/// ([`Program::declare_least_caps`]). The position of each error, and each position of the program, lies in the text, unless there
 /// is none. It takes time linear in the length of the text, except that the cases of a switch are read again for each arm with a
 /// condition.
 ///

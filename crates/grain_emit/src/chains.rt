@@ -96,7 +96,7 @@ impl Emitter {
     }
 }
 
-/// How many steps come before the first one that ends early where its value is unit, or all of them.
+/// The number of steps before the first one that ends the chain early at a unit, or of all steps.
 pub fn before_optional(steps: &[Access]) -> usize
     ensures { result ≤ length steps.now }
 {

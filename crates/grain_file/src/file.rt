@@ -21,8 +21,8 @@ use grain_pools::{AssignOp, Chain, Strings, Switch};
 use std::alloc::Global;
 use thiserror::Error;
 
-/// The greatest limit on how deep values are nested, [`Limits::depth`]. A level takes some 1,200 bytes of the call stack where a value is
-/// read, and less where it is dropped, so that 320 KiB suffice for this many.
+/// The greatest [`Limits::depth`]. To read a value takes about 1,200 bytes of the call stack for each level, and to drop it takes less:
+/// 320 KiB suffice for this many levels.
 pub const MAX_DEPTH: u32 = 256;
 
 /// What a host bounds of the files that it reads.
@@ -88,9 +88,13 @@ pub enum ReadError {
 /// of bytes that are left.
 ///
 /// # Errors
-/// `DepthLimit` where the limit on the nesting of values is above [`MAX_DEPTH`]. `TooLarge` where the bytes are more than the limit.
-/// Else `Malformed` with the first byte at which no file goes on so, the
-/// part that it is in, and why. `OutOfMemory` where a growth was refused.
+/// Tested in this order:
+///
+/// - `DepthLimit`: the limit on the nesting of values is above [`MAX_DEPTH`].
+/// - `TooLarge`: there are more bytes than the limit.
+/// - `Malformed`: the first byte at which no file continues in this way, its part, and the cause.
+///
+/// `OutOfMemory` if the allocator refused.
 pub fn read(alloc: Global, bytes: &[u8], limits: &Limits) -> Result<Program, ReadError>
     // What is read is what the bytes are a file of.
     ensures found { IfOk result (λ p. IsFileWithin limits.now bytes.now (kept p)) }

@@ -1,4 +1,4 @@
--- A program that declares capabilities which the host lacks: its refusal as a record, and what is printed of it.
+-- A program that declares capabilities which the host lacks: its refusal as a record, and the text of that record.
 use Rattle.std.specs.Prelude.{◌≡◌, ◌⊎◌, ℕ, ◌<◌, ◌^◌, ◌++◌, List, codes}
 use Rattle.grain_rules.specs.Texts.{four_digits, verify_error_text}
 use Rattle.grain_rules.specs.declared.error.VerifyError.{VerifyError}
@@ -20,7 +20,7 @@ pub record TellsLack (refusal : CRefusal) (missing : ℕ) : Type 0 where
 abbrev pub lack_text : ℕ → List ℕ
 lack_text missing = codes "declared-caps missing=" ++ four_digits missing
 
--- what is printed of a record: the refusal that it tells, or that capabilities are missing which the program declares
+-- the text of a record: that of the refusal that it encodes, or that the host lacks declared capabilities
 abbrev pub IsRefusalText : CRefusal → List ℕ → Type 0
 IsRefusalText refusal text =
     ((e : VerifyError) × TellsRefusal refusal e × (text ≡ verify_error_text e))

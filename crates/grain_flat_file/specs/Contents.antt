@@ -122,18 +122,18 @@ pub record AreSwitchLists (switches : List Switch) (lists : SwitchLists) : Type 
   pub targets_are : lists.targets.items ≡ flat_map switch_targets_of switches
   pub ranges_are : lists.ranges.items ≡ flat_map switch_ranges switches
 
--- ---- where the items of one begin among those of all
+-- ---- the index of the first item of each entry in the list of all items
 
 -- of parts with these numbers of items
-abbrev pub begins : List ℕ → List ℕ
-begins counts = part_begins (λ (n : ℕ). n) 0 counts
+abbrev pub first_indices : List ℕ → List ℕ
+first_indices counts = part_begins (λ (n : ℕ). n) 0 counts
 
 -- the steps of each chain, the cases and the ranges of each switch, and the parameters of each function, by the counts that their rows have
 pub record AreBegins (chains : List CChain) (switches : List CSwitch) (functions : List CFunction) (b : Begins) : Type 0 where
-  pub chain_steps_are : b.chain_steps.items ≡ begins (map (λ (c : CChain). c.steps) chains)
-  pub switch_cases_are : b.switch_cases.items ≡ begins (map (λ (s : CSwitch). s.cases) switches)
-  pub switch_ranges_are : b.switch_ranges.items ≡ begins (map (λ (s : CSwitch). s.ranges) switches)
-  pub function_parameters_are : b.function_parameters.items ≡ begins (map (λ (f : CFunction). f.parameters) functions)
+  pub chain_steps_are : b.chain_steps.items ≡ first_indices (map (λ (c : CChain). c.steps) chains)
+  pub switch_cases_are : b.switch_cases.items ≡ first_indices (map (λ (s : CSwitch). s.cases) switches)
+  pub switch_ranges_are : b.switch_ranges.items ≡ first_indices (map (λ (s : CSwitch). s.ranges) switches)
+  pub function_parameters_are : b.function_parameters.items ≡ first_indices (map (λ (f : CFunction). f.parameters) functions)
 
 -- ---- all of it
 
@@ -194,7 +194,7 @@ pub record AreContents (p : Program) (c : CContents) : Type 0 where
   pub positions_are : c.positions ≡ length (unwrap_or p.positions [])
   pub has_positions_is : c.has_positions ≡ is_some p.positions
   pub sites : (s : Sidecar) × IsSidecar p s × (c.table.now ≡ s.positions.items) × (c.stream.now ≡ s.chains.items)
-  pub chain_steps_are : c.chain_steps.now ≡ begins (map (λ (r : CChain). r.steps) c.program.pools.chains.now)
-  pub switch_cases_are : c.switch_cases.now ≡ begins (map (λ (r : CSwitch). r.cases) c.program.pools.switches.now)
-  pub switch_ranges_are : c.switch_ranges.now ≡ begins (map (λ (r : CSwitch). r.ranges) c.program.pools.switches.now)
-  pub function_parameters_are : c.function_parameters.now ≡ begins (map (λ (r : CFunction). r.parameters) c.functions.now)
+  pub chain_steps_are : c.chain_steps.now ≡ first_indices (map (λ (r : CChain). r.steps) c.program.pools.chains.now)
+  pub switch_cases_are : c.switch_cases.now ≡ first_indices (map (λ (r : CSwitch). r.cases) c.program.pools.switches.now)
+  pub switch_ranges_are : c.switch_ranges.now ≡ first_indices (map (λ (r : CSwitch). r.ranges) c.program.pools.switches.now)
+  pub function_parameters_are : c.function_parameters.now ≡ first_indices (map (λ (r : CFunction). r.parameters) c.functions.now)

@@ -1,13 +1,14 @@
-//! Where the steps of each chain, the arms of each switch and the parameters of each function begin among those of all.
+//! The index of the first step of each chain in the list of all steps, and the same of the arms of switches and the parameters of
+//! functions.
 ghost use Rattle.std.specs.Prelude.{◌≡◌, IfOk, map};
-ghost use Rattle.grain_flat_file.specs.Contents.{AreBegins, begins};
+ghost use Rattle.grain_flat_file.specs.Contents.{AreBegins, first_indices};
 
 use crate::records::CFunction;
 use crate::unflat::Unflat;
 use grain_flat::{CChain, CSwitch};
 use std::alloc::{AllocError, Global};
 
-/// Where each begins, so that one is found by its index at once.
+/// First indices, by which the items of one entry are found in constant time.
 #[derive(Drop)]
 pub(crate) struct Begins {
     /// The steps of each chain.
@@ -20,9 +21,9 @@ pub(crate) struct Begins {
     pub(crate) function_parameters: Vec<u32>,
 }
 
-/// Where each part begins, of which the parts have as many items as these counts say.
+/// The first index of each part of a list, from the number of items of each part.
 fn begins_of(alloc: Global, counts: &[u32]) -> Result<Vec<u32>, Unflat>
-    ensures { IfOk result (λ v. v.items ≡ begins counts.now) }
+    ensures { IfOk result (λ v. v.items ≡ first_indices counts.now) }
 {
     let mut begins = Vec::with_capacity(alloc, counts.len())?;
     let mut from: u32 = 0;
@@ -63,7 +64,7 @@ fn parameter_counts(alloc: Global, functions: &[CFunction]) -> Result<Vec<u32>, 
         .collect(alloc)
 }
 
-/// Where each begins, by the counts that the rows have.
+/// The first indices for the counts in these rows.
 pub(crate) fn begins_by_rows(
     alloc: Global,
     chains: &[CChain],

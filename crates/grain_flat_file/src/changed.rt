@@ -19,7 +19,7 @@ use std::alloc::{AllocError, Global};
 /// Why a file isn't written with chunks that declare their depths.
 #[derive(Clone, Copy, Debug, PartialEq, Eq)]
 pub enum TightenStop {
-    /// The bytes are no file within the limits, or a growth was refused.
+    /// The bytes are no file within the limits, or the allocator refused.
     Read(ReadError),
     /// The chunks span more of the code than the limit allows.
     TooMuchWork,
@@ -123,7 +123,7 @@ pub struct Stripped {
 /// Why a file isn't written without its positions.
 #[derive(Clone, Copy, Debug, PartialEq, Eq)]
 pub enum StripStop {
-    /// The bytes are no file within the limits, or a growth was refused.
+    /// The bytes are no file within the limits, or the allocator refused.
     Read(ReadError),
     /// A position that has a line is above 4294967295.
     TooLong,
@@ -182,8 +182,11 @@ fn bare_file(alloc: Global, mut program: Program) -> Result<Vec<u8>, AllocError>
 /// [`Program::is_restored_by`], one [`write`] and one [`write_sidecar`].
 ///
 /// # Errors
-/// Tested in this order: `Read` as [`read`], and wherever a growth was refused; `TooLong` where a position that has a line is above
-/// 4294967295; `NotRestorable` where attaching the sidecar to the file without positions wouldn't give the file back.
+/// Tested in this order:
+///
+/// - `Read`: as [`read`]. It is also the error if the allocator refused.
+/// - `TooLong`: an address above 4294967295 has a position.
+/// - `NotRestorable`: attaching the sidecar to the file without positions wouldn't give the file back.
 pub fn strip(alloc: Global, bytes: &[u8], limits: &Limits) -> Result<Stripped, StripStop>
     // What is written is the file of the program that was read, without positions, and these, which can be given back.
     ensures files { IfOk result (AreStrippedFiles limits.now bytes.now) }

@@ -82,7 +82,7 @@ fn index_in(part: Part) -> u64
     }
 }
 
-/// Why bytes are no file, as a record. Of a growth that was refused, and of a limit that is too great, there is none.
+/// Why bytes are no file, as a record. There is none if the allocator refused or a limit is too great.
 pub fn read_error_record(error: &ReadError) -> Option<CReadError>
     ensures { result ≡ read_error_record error.now }
 {

@@ -196,7 +196,7 @@ fn joined(
     Ok(Value::text(alloc, text)?)
 }
 
-/// Appends a part, where the limits allow a text as long.
+/// Appends a part, if the limits allow a text of that length.
 fn add_within(limits: SizeLimits, text: &mut String, part: &str) -> Result<(), Cause> {
     if text.len().saturating_add(part.len()) > limits.size {
         return Err(Cause::TooLarge);

@@ -26,7 +26,7 @@ pub(crate) fn lower(alloc: Global, text: &str) -> Result<String, Cause> {
     Ok(changed)
 }
 
-/// The text with another character at a place. It looks at each character once.
+/// The text with another character at an index. It looks at each character once.
 pub(crate) fn with_character(
     alloc: Global,
     text: &Text,

@@ -1,4 +1,4 @@
-//! Texts of operations whose length is bounded, however long the names and values are that their indices lead to.
+//! Texts of operations whose length is bounded, however long the names and values of their indices are.
 
 use crate::shown::{is_long, push_name};
 use grain::Program;
@@ -11,17 +11,18 @@ use std::collections::BTreeMap;
 /// How many bytes and parts a chain, a switch or a value has at most of which the text is shown.
 const ROOM: usize = 1024;
 
-/// What is left of the room behind a value: each value in it takes its bytes and one. It looks at no more values than there is room.
-#[cycle(behind)]
-fn behind(value: &Dynamic, room: usize) -> usize {
+/// The room that a value leaves, or 0 if it takes more: each value in it takes its bytes and one. It looks at no more values than
+/// there is room.
+#[cycle(room_after)]
+fn room_after(value: &Dynamic, room: usize) -> usize {
     let room = room.saturating_sub(1);
     match value {
         Dynamic::Str(text) => room.saturating_sub(text.len()),
         Dynamic::Blob(bytes) => room.saturating_sub(bytes.len()),
-        Dynamic::Array(items) => behind_items(items, room),
-        Dynamic::Map(entries) => behind_entries(entries, room),
+        Dynamic::Array(items) => room_after_items(items, room),
+        Dynamic::Map(entries) => room_after_entries(entries, room),
         Dynamic::FnPtr(pointer) => room.saturating_sub(pointer.name.len()),
-        Dynamic::Shared(inner) => behind(inner, room),
+        Dynamic::Shared(inner) => room_after(inner, room),
         Dynamic::Host(host) => room.saturating_sub(host.type_name.len()),
         Dynamic::Unit
         | Dynamic::Bool(_)
@@ -32,26 +33,26 @@ fn behind(value: &Dynamic, room: usize) -> usize {
     }
 }
 
-#[cycle(behind)]
-fn behind_items(items: &[Dynamic], room: usize) -> usize {
+#[cycle(room_after)]
+fn room_after_items(items: &[Dynamic], room: usize) -> usize {
     let mut room = room;
     for item in items {
         if room == 0 {
             break;
         }
-        room = behind(item, room);
+        room = room_after(item, room);
     }
     room
 }
 
-#[cycle(behind)]
-fn behind_entries(entries: &BTreeMap<String, Dynamic>, room: usize) -> usize {
+#[cycle(room_after)]
+fn room_after_entries(entries: &BTreeMap<String, Dynamic>, room: usize) -> usize {
     let mut room = room;
     for (key, value) in entries {
         if room == 0 {
             break;
         }
-        room = behind(value, room.saturating_sub(key.len()));
+        room = room_after(value, room.saturating_sub(key.len()));
     }
     room
 }
@@ -60,7 +61,7 @@ fn behind_entries(entries: &BTreeMap<String, Dynamic>, room: usize) -> usize {
 fn is_long_value(value: &Dynamic) -> bool {
     match value {
         Dynamic::Str(text) => is_long(text),
-        value => behind(value, ROOM) == 0,
+        value => room_after(value, ROOM) == 0,
     }
 }
 
@@ -143,13 +144,13 @@ fn is_long_switch(switch: &Switch) -> bool {
             if room == 0 {
                 break;
             }
-            room = behind(key, room);
+            room = room_after(key, room);
         }
     }
     room == 0
 }
 
-/// Whether what an index leads to is shown in part.
+/// Whether only a part of the entry at an index is shown.
 fn is_long_entry(program: &Program, pool: Pool, index: u32) -> bool {
     let place = index as usize;
     match pool {
@@ -178,7 +179,7 @@ pub fn is_cut(program: &Program, op: &Op) -> bool {
     false
 }
 
-/// Appends the front of what an index leads to, if that is a name or a text.
+/// Appends the beginning of the entry at an index, if that is a name or a text.
 fn push_front(
     program: &Program,
     pool: Pool,
@@ -205,10 +206,10 @@ fn push_front(
     }
 }
 
-/// Appends the text of an operation that is cut: its debug text, and the front of each name and text. It takes constant time.
+/// Appends the text of an operation that is cut: its debug text, and the beginning of each name and text. It takes constant time.
 ///
 /// # Errors
-/// [`AllocError`] where memory was refused.
+/// [`AllocError`] if memory was refused.
 pub fn write_cut(program: &Program, op: &Op, text: &mut String) -> Result<(), AllocError> {
     write!(text, "{op:?}")?;
     for field in op.fields().as_slice() {

@@ -39,7 +39,7 @@ fn passes(program: &Program, index: usize) -> bool {
     }
 }
 
-/// The first of the constants that needs a capability which the program doesn't declare, or else the functions where they do. It takes
+/// The first of the constants that needs a capability which the program doesn't declare, or else the functions if they do. It takes
 /// time by the size of the constants.
 pub fn lacking(program: &Program) -> Option<Needing> {
     if let Some(index) = (0..program.consts().len()).find(|index| !passes(program, *index)) {

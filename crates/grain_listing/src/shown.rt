@@ -15,7 +15,7 @@ fn is_hidden(c: char) -> bool {
 /// Appends what a program brings, with an escape for each character that would change how the text around it is shown.
 ///
 /// # Errors
-/// [`AllocError`] where memory was refused.
+/// [`AllocError`] if memory was refused.
 pub fn push_shown(piece: &str, text: &mut String) -> Result<(), AllocError> {
     for c in piece.chars() {
         if is_hidden(c) {
@@ -28,7 +28,7 @@ pub fn push_shown(piece: &str, text: &mut String) -> Result<(), AllocError> {
     Ok(())
 }
 
-/// The front of a text that a listing shows: whole characters, and 64 bytes at most.
+/// The beginning of a text that a listing shows: whole characters, and 64 bytes at most.
 fn front_of(text: &str) -> &str {
     for end in [LONGEST, 63, 62] {
         if let Some(front) = text.get(..end) {
@@ -38,16 +38,16 @@ fn front_of(text: &str) -> &str {
     text.get(..61).unwrap_or(text)
 }
 
-/// Whether a listing shows only the front of a text.
+/// Whether a listing shows only the beginning of a text.
 pub fn is_long(text: &str) -> bool {
     text.len() > LONGEST
 }
 
-/// Appends a name as [`push_shown`] does. Of a name of more than 64 bytes only the front is shown, and an ellipsis, so that it takes
+/// Appends a name as [`push_shown`] does. A name of more than 64 bytes is cut, and an ellipsis follows, so that it takes
 /// constant time.
 ///
 /// # Errors
-/// [`AllocError`] where memory was refused.
+/// [`AllocError`] if memory was refused.
 pub fn push_name(name: &str, text: &mut String) -> Result<(), AllocError> {
     if !is_long(name) {
         return push_shown(name, text);
@@ -59,7 +59,7 @@ pub fn push_name(name: &str, text: &mut String) -> Result<(), AllocError> {
 /// Appends the names of capabilities with commas between them, and the bit that has none as a number.
 ///
 /// # Errors
-/// [`AllocError`] where memory was refused.
+/// [`AllocError`] if memory was refused.
 pub fn push_capabilities(caps: Caps, text: &mut String) -> Result<(), AllocError> {
     let mut is_first = true;
     for (name, _) in caps.iter_names() {
@@ -74,10 +74,10 @@ pub fn push_capabilities(caps: Caps, text: &mut String) -> Result<(), AllocError
     Ok(())
 }
 
-/// Appends a position: its line, and its column where it has one.
+/// Appends a position: its line, and its column if it has one.
 ///
 /// # Errors
-/// [`AllocError`] where memory was refused.
+/// [`AllocError`] if memory was refused.
 pub fn push_position(position: Position, text: &mut String) -> Result<(), AllocError> {
     match (position.line(), position.position()) {
         (Some(line), Some(column)) => write!(text, "{line}:{column}"),

@@ -366,13 +366,13 @@ pub fn write_code(
     Ok(())
 }
 
-/// How many parts the listing of a program has: its chunks, or one where it is refused before these.
+/// How many parts the listing of a program has: its chunks, or one if it is refused before these.
 pub fn count_parts(program: &ProgramListing) -> usize {
     program.explained.chunks.len().max(1)
 }
 
-/// Writes a part of a program: the chunk at this place after an empty line, or the code and why it is refused, where it is refused
-/// before its chunks. All parts are the whole listing, which need not be held at once.
+/// Writes one part of the listing: an empty line and the chunk with this index. If the program is refused before its chunks, the part
+/// is the code and the refusal. All parts together are the listing, so it need not be in memory at once.
 ///
 /// # Errors
 /// [`AllocError`] where memory was refused.
@@ -397,7 +397,7 @@ pub fn write_part(
 /// Writes all parts of a program.
 ///
 /// # Errors
-/// [`AllocError`] where memory was refused.
+/// [`AllocError`] if memory was refused.
 pub fn write_program(
     style: Style<'_>,
     program: &ProgramListing,

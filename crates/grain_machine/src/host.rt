@@ -65,7 +65,7 @@ pub trait Host {
     /// A truth value.
     fn boolean(&mut self, value: bool) -> Self::Value;
 
-    /// Is told that a run begins: no frame of an earlier run is left, however that one ended.
+    /// A run begins. No frame of an earlier run is left, however that one ended.
     fn began(&mut self) {}
 
     /// Keeps this number of local variables of the frame, and drops the later ones.

@@ -106,7 +106,7 @@ const WHOLE: Limits = Limits {
     depth: 5,
 };
 
-/// Ends with a fault where a function is called.
+/// Ends with a fault if a function is called.
 const WITHOUT_CALLS: Limits = Limits {
     fuel: 100,
     depth: 0,

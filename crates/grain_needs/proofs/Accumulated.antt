@@ -31,7 +31,7 @@ module _ {X : Type 0} (needs : X → ℕ) (xs : List X) (x : X) (caps more both 
   least_more others before all =
       subst (Allows others) (sym joined) (allows_both others caps more (before (all_before (λ y. Allows others (needs y)) xs x all)) (subst (Allows others) (sym own) (all_last (λ y. Allows others (needs y)) xs x all)))
 
--- a constant passes where as much suffices
+-- a constant passes if as much suffices
 passes_more : (caps more : ℕ) → ((n : ℕ) → Allows caps n → Allows more n) → (needed : Option ℕ) → AllowsConst caps needed → AllowsConst more needed
 passes_more caps more kept None h = tt
 passes_more caps more kept (Some n) h = kept n h

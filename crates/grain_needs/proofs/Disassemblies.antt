@@ -26,7 +26,7 @@ one_disassembly at bytes items others h k =
 after : (at x : ℕ) → at ≤ x → (at ≡ x) ⊎ (at < x)
 after at x low = elim (cases_lt at x) [ inl above ↦ inr above | inr not ↦ inl (omega arith) ]
 
--- from a start to a boundary behind it: the instructions, and that each start between has its own among them
+-- from a start to a later boundary: the instructions, and that each start between has its own among them
 record Between (bytes : List ℕ) (at end : ℕ) : Type 0 where
   pub ops : List Op
   pub each : AllByRecursion IsInstruction ops

@@ -27,8 +27,8 @@ receiver_slot (receiver.Local slot) = Some slot
 receiver_slot (receiver.Named n) = None
 receiver_slot receiver.This = None
 
--- The slot that an instruction names, where chains begin at these slots. The number of `UnwindTo` and of `Statement` is a depth, and no
--- slot; what is declared takes the next slot, which it doesn't name.
+-- The slot that an instruction names, given the slot of each chain's root. The number of `UnwindTo` and of `Statement` is a depth, not
+-- a slot. A declaration takes the next slot and names none.
 abbrev pub named_slot : List (Option ℕ) → Op → Option ℕ
 named_slot chains (ops.LoadLocal slot) = Some slot
 named_slot chains (ops.StoreLocal slot is_const) = Some slot

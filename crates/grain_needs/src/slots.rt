@@ -90,9 +90,9 @@ fn slots_with(slots: u32, named: Option<u16>) -> u32
 
 /// The number of slots that the instructions of a chunk name: one more than the greatest of these slots, or 0 if they name none.
 ///
-/// A host that makes room for this many slots when it calls the chunk, and for its parameters if these are more, needs no test
-/// where an instruction names a slot ([`runs_stay_within_slots`](crate::laws::runs_stay_within_slots)). It reads the chunk's
-/// part of the code once, and takes no memory.
+/// For a chunk of an accepted program, a host allocates this many slots when it calls the chunk, and its parameters if these are more.
+/// No kept run then names a slot outside them ([`runs_stay_within_slots`](crate::laws::runs_stay_within_slots)), so the host tests
+/// none. It reads the chunk's part of the code once, and takes no memory.
 #[must_use]
 pub fn chunk_slots<C: ChainSlots>(code: &[u8], chunk: &Chunk, chains: &C) -> u32
     ensures { AreSlots (C.slots chains.now) code.now chunk.now result }

@@ -28,7 +28,7 @@ pub fn shown_values(alloc: Global, consts: &[Dynamic]) -> Result<Vec<String>, Al
     Ok(values)
 }
 
-/// Appends the front of the name of an index into the names, or of the text of a constant, as a comment.
+/// Appends the beginning of the name at an index, or of the text of a constant, as a comment.
 fn write_meaning(
     out: &mut String,
     program: &Program,
@@ -115,7 +115,7 @@ fn write_byte(out: &mut String, program: &Program, at: usize) -> Result<(), Allo
     out.push_str("\n")
 }
 
-/// Appends what begins at an address: an instruction, or a byte behind the last of these.
+/// Appends the instruction at an address, or the byte if it is past the last instruction.
 fn write_line(
     out: &mut String,
     program: &Program,

@@ -159,7 +159,7 @@ fn write_chunks(out: &mut String, program: &Program, marks: &Marks) -> Result<()
 /// How many addresses a part of the code or of the positions has.
 const PART: usize = 4096;
 
-/// How many parts this many addresses have, and the place behind them.
+/// The number of parts of this many addresses and of the end after them.
 fn count_parts(addresses: usize) -> usize {
     addresses.checked_div(PART).unwrap_or(0).saturating_add(1)
 }
@@ -185,7 +185,7 @@ impl<'a> Printer<'a> {
     /// size of the program.
     ///
     /// # Errors
-    /// Where a growth was refused.
+    /// If the allocator refused.
     pub fn new(alloc: Global, program: &'a Program) -> Result<Printer<'a>, AllocError> {
         Ok(Printer {
             alloc,
@@ -232,7 +232,7 @@ impl<'a> Printer<'a> {
     /// Appends the piece at an index: all before the code, lines of the code, or positions that are of no line.
     ///
     /// # Errors
-    /// Where a growth was refused.
+    /// If the allocator refused.
     pub fn write_piece(&self, index: usize, out: &mut String) -> Result<(), AllocError> {
         let program = self.program;
         let len = program.code().len();

@@ -28,7 +28,7 @@ pub fn write_text(out: &mut String, text: &str) -> Result<(), AllocError> {
     out.push('"')
 }
 
-/// The front of a text: whole characters, and 64 bytes at most.
+/// The beginning of a text: whole characters, and 64 bytes at most.
 fn front_of(text: &str) -> &str {
     for end in [LONGEST, 63, 62] {
         if let Some(front) = text.get(..end) {
@@ -38,7 +38,7 @@ fn front_of(text: &str) -> &str {
     text.get(..61).unwrap_or(text)
 }
 
-/// Appends a text in quotes as a comment shows it: of one of more than 64 bytes the front, and an ellipsis behind the quotes. It takes
+/// Appends a text in quotes for a comment. One of more than 64 bytes is cut, and an ellipsis follows the quotes. It takes
 /// constant time.
 pub fn write_front(out: &mut String, text: &str) -> Result<(), AllocError> {
     if text.len() <= LONGEST {

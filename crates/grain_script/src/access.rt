@@ -133,7 +133,7 @@ impl<W: World + Drop> Script<W> {
         }
     }
 
-    /// Goes along the steps from a variable, as [`walk`]. Where only one item or entry is read, the variable isn't touched.
+    /// Goes along the steps from a variable, as [`walk`]. If only one item or entry is read, the variable isn't touched.
     fn chain_from(
         &mut self,
         program: &Program,
@@ -227,7 +227,7 @@ impl<W: World + Drop> Script<W> {
         }
     }
 
-    /// What the last step of a chain gives on a value for which the script has no such method. `None` where the value was lent:
+    /// What the last step of a chain gives on a value for which the script has no such method. `None` if the value was lent:
     /// then nothing has changed, and the whole chain is to be done.
     fn without_method(
         &mut self,
@@ -250,7 +250,7 @@ impl<W: World + Drop> Script<W> {
         Ok(Some(Reply::Value(given.unwrap_or(Value::Unit))))
     }
 
-    /// The value on which a method is called, taken out of its variable where it is a part that goes back there. `None` where a step
+    /// The value on which a method is called, taken out of its variable if it is a part that goes back there. `None` if a step
     /// before it ends the chain early.
     fn receiver(
         &mut self,

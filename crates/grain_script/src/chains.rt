@@ -36,7 +36,7 @@ struct Part {
     is_taken: bool,
 }
 
-/// Goes along the steps from a value, whose parts may be changed in place, and gives what is read at their end; `None` where a step
+/// Goes along the steps from a value, whose parts may be changed in place, and gives what is read at their end; `None` if a step
 /// ends the chain early. A failure has the position of its step.
 pub(crate) fn walk(
     context: &Context<'_>,

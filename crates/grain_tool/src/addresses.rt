@@ -37,7 +37,7 @@ pub const SUBCOMMAND: Subcommand = Subcommand {
 struct Known<'a> {
     at: u32,
     function: Option<&'a str>,
-    /// Its line and column, which is 0 where there is none.
+    /// Its line and column, which is 0 if there is none.
     site: Option<(usize, usize)>,
 }
 
@@ -68,7 +68,7 @@ fn known_apart(sidecar: &Sidecar, at: u32) -> Known<'_> {
     }
 }
 
-/// Appends the function and the position, or the address where there is none.
+/// Appends the function and the position, or the address if there is none.
 fn push_known(known: Known<'_>, text: &mut String) -> Result<(), AllocError> {
     let Known { at, function, site } = known;
     push_name(function.unwrap_or("?"), text)?;

@@ -29,7 +29,7 @@ pub const SUBCOMMAND: Subcommand = Subcommand {
     ],
 };
 
-/// Appends a number of a place, or null where there is no place.
+/// Appends a number of a place, or null if there is no place.
 fn write_number(json: &mut Writer, name: &str, number: Option<u32>) -> Result<(), AllocError> {
     json.key(name)?;
     match number {
@@ -38,7 +38,7 @@ fn write_number(json: &mut Writer, name: &str, number: Option<u32>) -> Result<()
     }
 }
 
-/// Appends an error as a JSON object: its line and column, null where it has none, and what is wrong.
+/// Appends an error as a JSON object: its line and column, null if it has none, and what is wrong.
 fn write_error(json: &mut Writer, place: Place, message: &str) -> Result<(), AllocError> {
     let is_somewhere = place.is_some();
     json.begin_object()?;

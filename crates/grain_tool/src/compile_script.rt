@@ -56,7 +56,7 @@ fn strip(alloc: Global, path: &str, program: &mut Program) -> Result<Vec<u8>, Fa
     }
 }
 
-/// The program of a script, with the name of the script where that is wanted and it has one.
+/// The program of a script, with the name of the script if that is wanted and it has one.
 fn program_of(rt: &HostRuntime, path: &str, with_source: bool) -> Result<Program, Failure> {
     let mut program = compiled(rt.alloc(), path, read_bytes(rt, path)?)?;
     if with_source && path != STANDARD {
@@ -66,7 +66,7 @@ fn program_of(rt: &HostRuntime, path: &str, with_source: bool) -> Result<Program
     Ok(program)
 }
 
-/// The program file of a script, and the sidecar file, empty where the positions stay.
+/// The program file of a script, and the sidecar file, empty if the positions stay.
 fn made(rt: &HostRuntime, path: &str, wanted: Wanted) -> Result<(Vec<u8>, Vec<u8>), Failure> {
     let alloc = rt.alloc();
     let mut program = program_of(rt, path, wanted.source)?;

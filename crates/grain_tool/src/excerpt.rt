@@ -72,7 +72,7 @@ fn push_window(window: Window<'_>, text: &mut String) -> Result<(), AllocError> 
 /// Appends a line around a byte of it.
 ///
 /// # Errors
-/// [`AllocError`] where memory was refused.
+/// [`AllocError`] if memory was refused.
 pub fn push_excerpt(line: &str, at: usize, text: &mut String) -> Result<(), AllocError> {
     push_window(Window::of(line, at), text)
 }
@@ -146,10 +146,10 @@ fn push_message(
     push_marked(source, place, text)
 }
 
-/// Appends an error of a script: where it is and what is wrong, the line, and the note that belongs to it.
+/// Appends an error of a script: if it is and what is wrong, the line, and the note that belongs to it.
 ///
 /// # Errors
-/// [`AllocError`] where memory was refused.
+/// [`AllocError`] if memory was refused.
 pub fn push_report(
     file: &str,
     source: &str,

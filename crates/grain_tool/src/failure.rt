@@ -36,7 +36,7 @@ pub enum Failure {
     /// A script can't be compiled.
     #[error("{report}")]
     Script {
-        /// What is wrong and where, with the lines themselves, in which all is escaped.
+        /// What is wrong and if, with the lines themselves, in which all is escaped.
         report: String,
         /// The same without words.
         errors: Vec<CompileError>,
@@ -129,7 +129,7 @@ impl Failure {
     /// The message: lines, of which each has its end. Control characters of files and of their names are escaped.
     ///
     /// # Errors
-    /// [`AllocError`] where memory was refused.
+    /// [`AllocError`] if memory was refused.
     pub fn said(&self, alloc: Global) -> Result<String, AllocError> {
         let mut text = String::new(alloc);
         match self {
@@ -155,7 +155,7 @@ impl Failure {
 
     /// Says it on standard error.
     pub fn say(&self, rt: &HostRuntime) {
-        // Where standard error can't be written either, the status alone says it.
+        // If standard error can't be written either, the status alone says it.
         let _said = match self.said(rt.alloc()) {
             Ok(text) => eprint!(rt; "{text}"),
             Err(AllocError) => eprintln!(rt; "error: out of memory"),

@@ -176,7 +176,7 @@ pub fn explained(alloc: Global, program: &Program) -> Result<ProgramListing, All
     }
 }
 
-/// Writes the listing of a program: as text with these colours, or as JSON where there are none.
+/// Writes the listing of a program: as text with these colours, or as JSON if there are none.
 fn write_listing(
     rt: &HostRuntime,
     output: &mut Output,
@@ -198,7 +198,7 @@ fn write_listing(
     }
 }
 
-/// The capabilities that no host has and the program declares. It is listed nevertheless, but not where its chunks span too much.
+/// The capabilities that no host has and the program declares. It is listed nevertheless, but not if its chunks span too much.
 fn missing_of(
     alloc: Global,
     path: &str,

@@ -28,7 +28,7 @@ pub const WORK: Argument = Argument::Number {
 pub struct Allowed {
     /// Its capabilities.
     pub host: Caps,
-    /// How many bytes of code chunks span at most, where that is said.
+    /// How many bytes of code chunks span at most, if that is said.
     pub work: Option<u64>,
 }
 
@@ -93,7 +93,7 @@ pub fn obstacle_before(allowed: Allowed, program: &Program) -> Option<Obstacle> 
 /// The sentence about capabilities that the host lacks.
 ///
 /// # Errors
-/// [`AllocError`] where memory was refused.
+/// [`AllocError`] if memory was refused.
 pub fn push_lacking(missing: Caps, text: &mut String) -> Result<(), AllocError> {
     text.push_str("the host lacks capabilities that the program declares: ")?;
     push_capabilities(missing, text)
@@ -102,7 +102,7 @@ pub fn push_lacking(missing: Caps, text: &mut String) -> Result<(), AllocError> 
 /// The sentence about what is in the way.
 ///
 /// # Errors
-/// [`AllocError`] where memory was refused.
+/// [`AllocError`] if memory was refused.
 pub fn sentence_of(alloc: Global, obstacle: Obstacle) -> Result<String, AllocError> {
     let mut text = String::new(alloc);
     match obstacle {

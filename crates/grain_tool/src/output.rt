@@ -1,4 +1,4 @@
-//! Where results are written. A file is written under another name, and replaces the old one once it is whole: a write that
+//! If results are written. A file is written under another name, and replaces the old one once it is whole: a write that
 //! fails leaves the old file.
 
 use crate::failure::Failure;
@@ -17,13 +17,13 @@ const TRIES: usize = 1000;
 #[derive(Drop)]
 struct Replacing {
     file: File,
-    /// Where it is until it is whole.
+    /// If it is until it is whole.
     temporary: String,
     /// The file whose place it takes.
     place: String,
 }
 
-/// Where a result is written.
+/// If a result is written.
 #[derive(Drop)]
 enum Target {
     /// To standard output.
@@ -113,7 +113,7 @@ fn is_of_system(path: &str) -> bool {
     path.starts_with("/dev/") || path.starts_with("/proc/")
 }
 
-/// Where what is written to a path goes.
+/// If what is written to a path goes.
 fn target_of(rt: &HostRuntime, path: &str) -> io::Result<Target> {
     if is_of_system(path) {
         return there(rt, path);
@@ -149,7 +149,7 @@ fn put(rt: &HostRuntime, new: &Replacing) -> io::Result<()> {
 }
 
 impl Output {
-    /// What is written to a file, or to standard output where none is given.
+    /// What is written to a file, or to standard output if none is given.
     ///
     /// # Errors
     /// The file can't be written.
@@ -197,7 +197,7 @@ impl Output {
         }
     }
 
-    /// Ends the output: where all was done, a new file takes the place of the old one. Otherwise it is removed.
+    /// Ends the output: if all was done, a new file takes the place of the old one. Otherwise it is removed.
     ///
     /// # Errors
     /// That of what was done, or the file can't be written.
@@ -213,7 +213,7 @@ impl Output {
             },
             Err(failure) => Err(failure),
         };
-        // Where it can't be removed either, why it isn't whole is said.
+        // If it can't be removed either, why it isn't whole is said.
         let _removed = fs::remove_file(rt, new.temporary.as_str());
         put
     }
@@ -226,12 +226,12 @@ fn write_whole(rt: &HostRuntime, output: Output, bytes: &[u8]) -> Result<(), Fai
     output.end(rt, done)
 }
 
-/// Writes the bytes of a text to a file, or to standard output where none is given.
+/// Writes the bytes of a text to a file, or to standard output if none is given.
 pub fn write_text(rt: &HostRuntime, path: Option<&str>, text: &[u8]) -> Result<(), Failure> {
     write_whole(rt, Output::open(rt, path)?, text)
 }
 
-/// Writes a binary file, or to standard output where none is given and that is no terminal.
+/// Writes a binary file, or to standard output if none is given and that is no terminal.
 pub fn write_binary(rt: &HostRuntime, path: Option<&str>, bytes: &[u8]) -> Result<(), Failure> {
     write_whole(rt, Output::open_binary(rt, path)?, bytes)
 }

@@ -18,7 +18,7 @@ pub const SUBCOMMAND: Subcommand = Subcommand {
     arguments: &[FILE, Argument::Output],
 };
 
-/// What is wrong with a line, where, and the line itself.
+/// What is wrong with a line, if, and the line itself.
 fn lines_of(alloc: Global, error: &SyntaxError) -> Result<String, AllocError> {
     let SyntaxError {
         line,

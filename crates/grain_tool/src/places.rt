@@ -23,7 +23,7 @@ pub fn chunk_at(program: &Program, at: usize) -> Option<usize> {
     index.checked_add(1)
 }
 
-/// Where a refusal is.
+/// If a refusal is.
 #[derive(Clone, Copy)]
 pub struct Spot {
     /// The place of the chunk.
@@ -57,7 +57,7 @@ fn address_of(error: &VerifyError) -> Option<usize> {
     }
 }
 
-/// Where capabilities are missing before any chunk.
+/// If capabilities are missing before any chunk.
 fn spot_of_needing(needing: Option<Needing>) -> Spot {
     Spot {
         place: None,
@@ -70,7 +70,7 @@ fn spot_of_needing(needing: Option<Needing>) -> Spot {
     }
 }
 
-/// Where a refusal of a program is.
+/// If a refusal of a program is.
 pub fn spot_of(program: &Program, refusal: &Refusal) -> Spot {
     if let (None, VerifyError::MissingCaps { .. }) = (refusal.place, &refusal.error) {
         return spot_of_needing(lacking(program));
@@ -101,7 +101,7 @@ fn push_chunk(
     }
 }
 
-/// Appends where something is: the function, the position where it is known, and the address itself.
+/// Appends if something is: the function, the position if it is known, and the address itself.
 fn push_address(
     program: &Program,
     place: Option<usize>,
@@ -117,10 +117,10 @@ fn push_address(
     write!(text, ", address {at}")
 }
 
-/// Appends where a refusal is, in parentheses, where it is anywhere.
+/// Appends if a refusal is, in parentheses, if it is anywhere.
 ///
 /// # Errors
-/// [`AllocError`] where memory was refused.
+/// [`AllocError`] if memory was refused.
 pub fn push_spot(program: &Program, spot: Spot, text: &mut String) -> Result<(), AllocError> {
     match spot {
         Spot {

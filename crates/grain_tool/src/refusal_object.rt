@@ -13,7 +13,7 @@ fn write_number(json: &mut Writer, name: &str, number: u64) -> Result<(), AllocE
     json.u64(number)
 }
 
-/// Writes a number, or null where there is none.
+/// Writes a number, or null if there is none.
 fn write_option(json: &mut Writer, name: &str, number: Option<u64>) -> Result<(), AllocError> {
     json.key(name)?;
     match number {
@@ -27,10 +27,10 @@ fn write_words(json: &mut Writer, name: &str, words: &str) -> Result<(), AllocEr
     json.string(words)
 }
 
-/// Writes a position with its line, and its column, which is null where there is none.
+/// Writes a position with its line, and its column, which is null if there is none.
 ///
 /// # Errors
-/// [`AllocError`] where memory was refused.
+/// [`AllocError`] if memory was refused.
 pub fn write_site(json: &mut Writer, name: &str, line: u64, column: u64) -> Result<(), AllocError> {
     json.key(name)?;
     json.begin_object()?;
@@ -39,7 +39,7 @@ pub fn write_site(json: &mut Writer, name: &str, line: u64, column: u64) -> Resu
     json.end_object()
 }
 
-/// Writes a position, or null where there is none.
+/// Writes a position, or null if there is none.
 fn write_position(json: &mut Writer, position: Position) -> Result<(), AllocError> {
     match position.line() {
         Some(line) => {
@@ -145,7 +145,7 @@ fn write_details(json: &mut Writer, error: &VerifyError) -> Result<(), AllocErro
     }
 }
 
-/// Writes where a refusal is: its chunk, its function, its address and its position, each null where there is none.
+/// Writes if a refusal is: its chunk, its function, its address and its position, each null if there is none.
 fn write_spot(json: &mut Writer, program: &Program, spot: Spot) -> Result<(), AllocError> {
     write_option(json, "chunk", spot.place.map(|place| place as u64))?;
     match spot.place {
@@ -180,7 +180,7 @@ fn write_refusal(
 /// Writes the object that says why a program isn't taken.
 ///
 /// # Errors
-/// [`AllocError`] where memory was refused.
+/// [`AllocError`] if memory was refused.
 pub fn write_obstacle(
     json: &mut Writer,
     program: &Program,
@@ -205,7 +205,7 @@ pub fn write_obstacle(
 /// Writes the object that says why bytes are no program file.
 ///
 /// # Errors
-/// [`AllocError`] where memory was refused.
+/// [`AllocError`] if memory was refused.
 pub fn write_malformed(
     alloc: Global,
     json: &mut Writer,

@@ -123,7 +123,7 @@ fn explanation_of(
     Ok(text)
 }
 
-/// Lists the refused chunk, where that is asked for.
+/// Lists the refused chunk, if that is asked for.
 fn explain(
     rt: &HostRuntime,
     report: Report,
@@ -144,7 +144,7 @@ fn explain(
     }
 }
 
-/// Why a program isn't taken: the sentence, and where.
+/// Why a program isn't taken: the sentence, and if.
 fn sentence(alloc: Global, program: &Program, obstacle: &Obstacle) -> Result<String, AllocError> {
     let mut text = sentence_of(alloc, *obstacle)?;
     if let Obstacle::Refused(refusal) = obstacle {
@@ -232,7 +232,7 @@ fn write_operands(json: &mut Writer, numbers: &[u16]) -> Result<(), AllocError> 
     json.end_array()
 }
 
-/// Appends whether a file is accepted, null where it could not be read, and why it isn't, in words.
+/// Appends whether a file is accepted, null if it could not be read, and why it isn't, in words.
 fn write_why(json: &mut Writer, is_read: bool, what: &str) -> Result<(), AllocError> {
     json.key("accepted")?;
     if is_read {

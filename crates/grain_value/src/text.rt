@@ -2,7 +2,7 @@
 
 use std::alloc::{AllocError, Global};
 
-/// A text, with how many characters it has. Where each of them is one byte, one is found in constant time.
+/// A text with its number of characters. If each of them is one byte, a character is found in constant time.
 #[derive(Clone, PartialEq, Eq, PartialOrd, Ord, Drop)]
 pub struct Text {
     string: String,
@@ -64,20 +64,20 @@ impl Text {
         self.count == self.string.len()
     }
 
-    /// The character at a place, if there is one. It walks over the characters before it, unless each is one byte.
+    /// The character at an index, if there is one. It walks over the characters before it, unless each is one byte.
     #[must_use]
     pub fn character(&self, place: usize) -> Option<char> {
         let (_, rest) = self.split_at(place);
         rest.chars().next()
     }
 
-    /// The characters before a place, and the others. It walks as [`character`](Text::character).
+    /// The characters before an index, and the others. It walks as [`character`](Text::character).
     #[must_use]
     pub fn split_at(&self, place: usize) -> (&str, &str) {
         split(self.as_str(), place, self.is_ascii())
     }
 
-    /// The characters from one place up to another. It walks as [`character`](Text::character), up to the second place.
+    /// The characters from one index up to another. It walks as [`character`](Text::character), up to the second index.
     #[must_use]
     pub fn part(&self, first: usize, end: usize) -> &str {
         let (_, rest) = self.split_at(first);
@@ -113,7 +113,7 @@ impl Text {
     }
 }
 
-/// The characters before a place, and the others. Where each is one byte, it walks over none.
+/// The characters before an index, and the others. If each is one byte, it walks over none.
 fn split(text: &str, place: usize, is_ascii: bool) -> (&str, &str) {
     let at = if is_ascii {
         place

@@ -57,7 +57,7 @@ fn room_for(size: usize) -> Result<Vec<u8>, FileError> {
     zeroed(size).map_err(|_| FileError::OutOfMemory)
 }
 
-/// The first bytes of room, which are those that were written, in memory that is no larger. They are copied: where the allocator
+/// The first bytes of room, which are those that were written, in memory that is no larger. They are copied: if the allocator
 /// refuses to shrink a list, the process ends.
 fn written(room: &[u8], size: usize) -> Result<Vec<u8>, FileError> {
     copied(&room[..size.min(room.len())]).map_err(|_| FileError::OutOfMemory)
@@ -161,7 +161,7 @@ impl ProgramFile {
     /// ```
     ///
     /// # Errors
-    /// Those of [`ProgramFile::read`]; [`FileError::NotRestorable`]; [`FileError::TooLong`] where an address above 4294967295 has a
+    /// Those of [`ProgramFile::read`]; [`FileError::NotRestorable`]; [`FileError::TooLong`] if an address above 4294967295 has a
     /// position.
     pub fn strip(bytes: &[u8], limits: &Limits) -> Result<Stripped, FileError> {
         let size = match strip(bytes, limits, bytes.len().min(limits.size))? {

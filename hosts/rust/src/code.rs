@@ -109,7 +109,7 @@ pub struct InstructionRow {
 const MOST_BYTES: usize = 7;
 
 impl InstructionRow {
-    /// Its row of the instruction table; `None` where this package doesn't know the tag.
+    /// Its row of the instruction table; `None` if this package doesn't know the tag.
     #[must_use]
     pub fn opcode(&self) -> Option<Opcode> {
         Opcode::from_tag(self.tag)
@@ -142,7 +142,7 @@ impl InstructionRow {
         &self.bytes[..usize::from(self.width).min(MOST_BYTES)]
     }
 
-    /// Its name in FORMAT.md ("Instructions"); `?` where this package doesn't know the tag.
+    /// Its name in FORMAT.md ("Instructions"); `?` if this package doesn't know the tag.
     #[must_use]
     pub fn mnemonic(&self) -> &'static str {
         mnemonic(self.tag).unwrap_or("?")

@@ -404,7 +404,7 @@ impl ProgramFile {
 
     /// Verifies the program for a host with these capabilities, and returns the depth of each chunk.
     ///
-    /// The host needs the capabilities that the program declares, and the program is verified under these. Where the program is to
+    /// The host needs the capabilities that the program declares, and the program is verified under these. If the program is to
     /// be run, [`ProgramFile::into_verified`] keeps the file and the depths together.
     ///
     /// # Errors

@@ -75,7 +75,7 @@ impl<'a> FileChain<'a> {
 pub struct FileStep {
     /// What it does.
     pub step: Step,
-    /// Whether it ends the chain where it is applied to `()`: `?.` or `?[`.
+    /// Whether it ends the chain if it is applied to `()`: `?.` or `?[`.
     pub is_optional: bool,
 }
 
@@ -129,7 +129,7 @@ const IS_OPTIONAL: u8 = 1;
 pub struct Range {
     /// The first integer.
     pub from: i64,
-    /// The last integer where the range is inclusive, else the first one past it.
+    /// The last integer if the range is inclusive, else the first one past it.
     pub to: i64,
     /// Whether the range has that last integer.
     pub is_inclusive: bool,

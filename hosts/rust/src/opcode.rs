@@ -181,7 +181,7 @@ macro_rules! opcodes {
         }
 
         impl Instruction {
-            /// The instruction at an address, and the address of the one behind it; `None` where there is none.
+            /// The instruction at an address, and the address of the one behind it; `None` if there is none.
             ///
             /// This is plain Rust, quick enough for a machine. [`instruction`](crate::instruction) returns the same by the proved
             /// library.

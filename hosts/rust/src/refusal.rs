@@ -134,7 +134,7 @@ impl Refusal {
         Refusal { record, visited }
     }
 
-    /// The refusal of a program file that declares these capabilities, by number, where the host lacks some of them.
+    /// The refusal of a program file that declares these capabilities, by number, if the host lacks some of them.
     pub(crate) fn of_declared_caps(declared: u16, host: Caps) -> Option<Refusal> {
         let missing = declared & !host.bits();
         let record = raw::Refusal {

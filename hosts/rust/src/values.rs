@@ -100,7 +100,7 @@ impl<'a> Values<'a> {
         (number(1), number(2))
     }
 
-    /// The first value, where there are rows.
+    /// The first value, if there are rows.
     pub(crate) fn first(&self) -> Option<Value<'a>> {
         let row = self.rows.first()?;
         Some(match row.tag {

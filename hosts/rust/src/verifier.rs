@@ -246,7 +246,7 @@ impl<'a> Room<'a> {
         }
     }
 
-    /// Where as many numbers of slots are written as there are depths; NULL where there is no such room.
+    /// Where as many numbers of slots are written as there are depths; NULL if there is no such room.
     pub(crate) fn slots(&mut self) -> *mut u32 {
         match &mut self.slots {
             Some(slots) if slots.len() >= self.depths.len() => slots.as_mut_ptr(),
@@ -317,7 +317,7 @@ pub(crate) fn judge(
     room: &mut Room<'_>,
 ) -> Result<u64, VerifyError> {
     if code.len() <= SMALL_CODE && chunks.len() <= SMALL_LIST && pools.are_within(SMALL_LIST) {
-        // An error where the thread is about to end.
+        // An error if the thread is about to end.
         let judged = SMALL.try_with(|small| {
             let mut small = small.try_borrow_mut().ok();
             let scratch = small.as_mut().map(|small| &mut small.scratch);

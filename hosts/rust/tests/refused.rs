@@ -111,7 +111,7 @@ unsafe extern "C" fn grain_dealloc(block: *mut c_void) {
     unsafe { free(block) }
 }
 
-/// Calls that take memory as a `Vec` does: the process ends where the allocator refuses. Clones do too.
+/// Calls that take memory as a `Vec` does: the process ends if the allocator refuses. Clones do too.
 const ENDING: [&str; 4] = [
     "Pools::chain",
     "Pools::constant",

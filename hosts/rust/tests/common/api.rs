@@ -5,7 +5,7 @@ use std::path::Path;
 /// A public function.
 #[derive(Debug)]
 pub struct Function {
-    /// The type that it belongs to; empty where it belongs to none.
+    /// The type that it belongs to; empty if it belongs to none.
     pub of: String,
     pub name: String,
     signature: String,
