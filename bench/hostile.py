@@ -327,13 +327,18 @@ def memory_text(memory):
     return "%.0f" % memory if memory > own + 1 else "< %.0f" % (own + 1)
 
 
+def arguments(description, size, runs):
+    """The program, the smaller size, the number of runs, and a part of the names of shapes."""
+    parser = argparse.ArgumentParser(description=description.splitlines()[0])
+    parser.add_argument("program")
+    parser.add_argument("--size", type=int, default=size)
+    parser.add_argument("--runs", type=int, default=runs)
+    parser.add_argument("--only", default="")
+    return parser.parse_args()
+
+
 def main():
-    words = argparse.ArgumentParser(description=__doc__.splitlines()[0])
-    words.add_argument("program")
-    words.add_argument("--size", type=int, default=100000)
-    words.add_argument("--runs", type=int, default=5)
-    words.add_argument("--only", default="")
-    asked = words.parse_args()
+    asked = arguments(__doc__, 100000, 5)
     failed = False
     print("%-24s %10s %10s %6s %8s" % ("shape", "N, ms", "10 N, ms", "ratio", "MB"))
     for shape in SHAPES:

@@ -7,11 +7,12 @@ PROGRAM is the built command. For each shape it prints the least processor time 
 of the two. Work that grows with its input has a ratio of at most about 10. It ends with status 1 where a ratio is above 14, or the
 command's status or the first line of what it prints isn't the one that the shape is made for.
 """
-import argparse
 import os
 import subprocess
 import sys
 import tempfile
+
+from hostile import arguments
 
 LIMIT = 14
 
@@ -129,12 +130,7 @@ def measure(program, shape, size, runs):
 
 
 def main():
-    words = argparse.ArgumentParser(description=__doc__.splitlines()[0])
-    words.add_argument("program")
-    words.add_argument("--size", type=int, default=6000)
-    words.add_argument("--runs", type=int, default=3)
-    words.add_argument("--only", default="")
-    asked = words.parse_args()
+    asked = arguments(__doc__, 6000, 3)
     failed = False
     print("%-24s %10s %10s %6s" % ("shape", "N, ms", "10 N, ms", "ratio"))
     for shape in SHAPES:

@@ -5,7 +5,7 @@ use Rattle.grain.specs.Program.{Program, input_of, listed_positions}
 use Rattle.grain.specs.declared.program.Parts.{Parts}
 use Rattle.grain_base.specs.declared.position.Position.{Position}
 use Rattle.grain_needs.specs.Capabilities.{AreLeast}
-use Rattle.grain_asm.specs.Entries.{Stays}
+use Rattle.grain_asm.specs.Entries.{GrowsTo}
 use Rattle.grain_asm.specs.declared.chunks.Chunks.{Chunks}
 use Rattle.grain_asm.specs.declared.draft.Draft.{Draft}
 use Rattle.grain_asm.specs.declared.pools.Pools.{Pools}
@@ -20,10 +20,10 @@ pub record HasNoEntry (pools : Pools) : Type 0 where
   pub chains : pools.chains.items ≡ []
   pub switches : pools.switches.items ≡ []
 
--- the main chunk and the functions that were read stay, and more functions come behind them
+-- the main chunk and the functions that were read stay, and more functions follow them
 pub record KeepsChunks (old new : Chunks) : Type 0 where
   pub main : ForSome old.main (λ chunk. new.main ≡ Some chunk)
-  pub functions : Stays old.functions.items new.functions.items
+  pub functions : GrowsTo old.functions.items new.functions.items
 
 -- nothing was read so far, and code comes next
 pub record HasReadNothing (draft : Draft) : Type 0 where

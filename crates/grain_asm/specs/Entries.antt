@@ -1,4 +1,4 @@
--- Entries of pools, to which indices lead.
+-- Entries of pools, and the indices that name them.
 use Rattle.std.specs.Prelude.{◌≡◌, ◌⊎◌, ℕ, List, String, Some, [], ◌∷◌, ◌++◌, slice_get, string_bytes, IsSomeAnd}
 use Rattle.std.specs.Global.{Global}
 use Rattle.grain_base.specs.Tokens.{token_parts}
@@ -21,9 +21,9 @@ pub record Enters {A : Type 0} (P : A → Type 0) (old new : List A) (index : �
   pub leads : HasEntryAt P new index
   pub stays : (new ≡ old) ⊎ ((entry : A) × (new ≡ old ++ entry ∷ []))
 
--- what was there stays, and more comes behind it
-abbrev pub Stays : {A : Type 0} → List A → List A → Type 0
-Stays {A} old new = (more : List A) × (new ≡ old ++ more)
+-- the old list is the beginning of the new one
+abbrev pub GrowsTo : {A : Type 0} → List A → List A → Type 0
+GrowsTo {A} old new = (more : List A) × (new ≡ old ++ more)
 
 -- an index comes, or a name that is entered there
 abbrev pub ReadsNameIndex : List ℕ → List (String Global) → List (String Global) → ℕ → List ℕ → Type 0

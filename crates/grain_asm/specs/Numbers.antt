@@ -1,5 +1,7 @@
 -- Numbers as texts write them.
-use Rattle.std.specs.Prelude.{◌≡◌, ℕ, ℤ, Bool, List, ◌∷◌, [], drop, nat_eq, if◌then◌else◌}
+use Rattle.core.specs.declared.str.parse.IntErrorKind.{IntErrorKind}
+use Rattle.core.specs.declared.str.parse.IntErrorKind.TheVariants.{PosOverflow, NegOverflow}
+use Rattle.std.specs.Prelude.{◌≡◌, ◌⊎◌, ℕ, ℤ, Bool, List, ◌∷◌, [], drop, nat_eq, if◌then◌else◌}
 use Rattle.std.specs.List.{starts_with}
 use Rattle.std.specs.Str.Parse.{IsNumeral, digits_value, signed_digits_value, without_leading_plus}
 use Rattle.grain_asm.specs.Blanks.{ReadsText, unblanked}
@@ -30,3 +32,7 @@ ReadsInteger line n left = (text : List ℕ) × ReadsText line text left × (n �
 -- behind the blanks come # and a number, and then what is left
 abbrev pub ReadsIndex : List ℕ → ℕ → List ℕ → Type 0
 ReadsIndex line n left = (digits : List ℕ) × (unblanked line ≡ 35 ∷ digits) × ReadsNumeral digits n left
+
+-- the digits are a number that the type doesn't have
+abbrev pub IsOutOfRange : IntErrorKind → Type 0
+IsOutOfRange kind = (kind ≡ PosOverflow) ⊎ (kind ≡ NegOverflow)

@@ -1,11 +1,12 @@
 //! A cursor over a line. What reads a thing moves it past that; where something is wrong, it stays at what is wrong.
 ghost use Rattle.std.specs.Prelude.{◌≡◌, ◌<◌, ◌≤◌, ◌∷◌, ◌++◌, IfOk, IfSome, MatchOption, MatchResult, false, length, position, true};
 ghost use Rattle.std.specs.Bool.{OnFalse, OnTrue};
-ghost use Rattle.std.specs.Str.Parse.{ParsesUnsigned};
+ghost use Rattle.std.specs.Str.Parse.{ParsesUnsigned, error_kind};
 ghost use Rattle.grain_asm.specs.Blanks.{ReadsText, is_mark, is_over, unblanked};
-ghost use Rattle.grain_asm.specs.Numbers.{ReadsIndex, ReadsInteger, ReadsNumeral, digits_of, radix_of};
+ghost use Rattle.grain_asm.specs.Numbers.{IsOutOfRange, ReadsIndex, ReadsInteger, ReadsNumeral, digits_of, radix_of};
 ghost use Rattle.grain_asm.specs.Positions.{ReadsPosition, ReadsPositionOrNone};
 ghost use Rattle.grain_asm.specs.declared.error.Problem.{Problem};
+ghost use Rattle.grain_asm.specs.declared.error.Problem.TheVariants as problems;
 ghost use Rattle.grain_asm.specs.declared.error.Stop.{Stop};
 
 use crate::error::{Problem, Stop};
@@ -94,8 +95,11 @@ fn number_of(digits: &str) -> Result<u64, Stop>
     }
 }
 
-/// Why digits are no number of this size: it is out of range, or they are none.
-pub(crate) fn no_number(error: ParseIntError, otherwise: Problem) -> Problem {
+/// The problem of digits that can't be read: the number is out of range, or else the digits are wrong.
+pub(crate) fn no_number(error: ParseIntError, otherwise: Problem) -> Problem
+    ensures wide { IsOutOfRange (error_kind error) → result ≡ problems.TooWide }
+    ensures wrong { (IsOutOfRange (error_kind error) → ⊥) → result ≡ otherwise }
+{
     match error.kind() {
         IntErrorKind::PosOverflow | IntErrorKind::NegOverflow => Problem::TooWide,
         _ => otherwise,

@@ -6,7 +6,7 @@ ghost use Rattle.grain_needs.specs.Capabilities.{AreLeast};
 ghost use Rattle.grain_code.specs.Span.{Span};
 ghost use Rattle.grain_code.specs.declared.function.Function.{Function};
 ghost use Rattle.grain_asm.specs.Drafted.{HasDirectives, HasEntries, HasReadNothing, IsProgramOf};
-ghost use Rattle.grain_asm.specs.Entries.{Stays};
+ghost use Rattle.grain_asm.specs.Entries.{GrowsTo};
 
 use crate::chains::read_chain;
 use crate::chunks::{Chunks, declare};
@@ -164,7 +164,7 @@ impl Draft {
 
     /// Reads a line of code.
     fn read_code_line(&mut self, labels: &Labels, cursor: &mut Cursor<'_>) -> Result<(), Stop>
-        ensures { OnOk result (Stays self.old.code.items self.new.code.items) }
+        ensures { OnOk result (GrowsTo self.old.code.items self.new.code.items) }
     {
         if eat_label(cursor) {
             return Ok(());
@@ -202,7 +202,7 @@ impl Draft {
 
     /// Reads an entry of a pool.
     fn read_entry(&mut self, labels: &Labels, cursor: &mut Cursor<'_>) -> Result<(), Stop>
-        ensures { OnOk result (Stays self.old.code.items self.new.code.items) }
+        ensures { OnOk result (GrowsTo self.old.code.items self.new.code.items) }
     {
         match self.section {
             Section::Names => self.pools.names.push(read_text_or_word(cursor)?)?,
@@ -272,7 +272,7 @@ impl Draft {
         pass: Pass,
         cursor: &mut Cursor<'_>,
     ) -> Result<bool, Stop>
-        ensures { OnOk result (Stays self.old.code.items self.new.code.items) }
+        ensures { OnOk result (GrowsTo self.old.code.items self.new.code.items) }
     {
         cursor.blanks();
         let start = cursor.left;
@@ -286,7 +286,7 @@ impl Draft {
         }
     }
 
-    /// Begins a pass: code comes next, as at the front of a text.
+    /// Begins a pass: code comes next, as at the beginning of a text.
     pub fn begin(&mut self)
         ensures { self.new.code ≡ self.old.code }
     {
@@ -300,7 +300,7 @@ impl Draft {
         pass: Pass,
         cursor: &mut Cursor<'_>,
     ) -> Result<(), Stop>
-        ensures { OnOk result (Stays self.old.code.items self.new.code.items) }
+        ensures { OnOk result (GrowsTo self.old.code.items self.new.code.items) }
     {
         if cursor.is_done() {
             return Ok(());

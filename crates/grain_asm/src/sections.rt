@@ -1,7 +1,7 @@
 //! Sections and directives.
-ghost use Rattle.std.specs.Prelude.{◌≡◌, ◌≢◌, IfOk, MatchOption};
+ghost use Rattle.std.specs.Prelude.{◌≡◌, ◌≢◌, ◌↔◌, IfOk, IsTrue, MatchOption};
 ghost use Rattle.grain_asm.specs.Blanks.{ReadsText, unblanked};
-ghost use Rattle.grain_asm.specs.Directives.{directive_of};
+ghost use Rattle.grain_asm.specs.Directives.{directive_of, pass_of};
 ghost use Rattle.grain_asm.specs.declared.sections.Section.{Section};
 
 use crate::cursor::Cursor;
@@ -30,11 +30,11 @@ pub(crate) enum Section {
     Places,
 }
 
-/// Which lines are read at a time. A text is read three times, so that what is entered in place comes behind the entries of the
-/// sections, wherever these are.
+/// Which sections are read at a time. A text is read three times, so that an entry written in an instruction follows the entries of all
+/// sections.
 #[derive(Clone, Copy, PartialEq, Eq)]
 pub(crate) enum Pass {
-    /// Directives, and the sections in whose entries nothing is entered in place.
+    /// Directives, and the sections whose entries add no other entries.
     Entries,
     /// Op-assignments, in which names are entered.
     OpAssignments,
@@ -44,7 +44,9 @@ pub(crate) enum Pass {
 
 impl Pass {
     /// Whether the entries of a section are read.
-    pub fn reads(self, section: Section) -> bool {
+    pub fn reads(self, section: Section) -> bool
+        ensures { IsTrue result ↔ (self ≡ pass_of section) }
+    {
         match section {
             Section::Names | Section::Constants | Section::Operators => self == Pass::Entries,
             Section::OpAssignments => self == Pass::OpAssignments,

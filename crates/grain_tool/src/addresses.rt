@@ -1,14 +1,14 @@
 //! `grain addr2line`: the function and the position of addresses.
 
-use crate::arguments::{Argument, FILE, Subcommand};
-use crate::failure::Failure;
-use crate::files::{is_sidecar, program_of, read_bytes, sidecar_of};
-use crate::json_lines::{line_of, writer};
-use crate::output::write_standard;
-use crate::places::chunk_at;
-use crate::refusal_object::write_site;
 use clap::ArgMatches;
 use grain::{Program, Sidecar, pos};
+use grain_cli::arguments::{Argument, FILE, Subcommand};
+use grain_cli::failure::Failure;
+use grain_cli::files::{is_sidecar, program_of, read_bytes, sidecar_of};
+use grain_cli::json_lines::{line_of, writer};
+use grain_cli::output::write_standard;
+use grain_cli::places::chunk_at;
+use grain_cli::refusal_object::write_site;
 use grain_listing::{name_of, push_name};
 use json::Writer;
 use std::alloc::{AllocError, Global};

@@ -1,12 +1,12 @@
 //! `grain check`: whether scripts can be compiled.
 
-use crate::arguments::{Argument, Subcommand};
-use crate::failure::Failure;
-use crate::files::read_bytes;
-use crate::json_lines::{line_of, writer};
-use crate::output::write_standard;
 use crate::scripts::compiled;
 use clap::ArgMatches;
+use grain_cli::arguments::{Argument, Subcommand};
+use grain_cli::failure::Failure;
+use grain_cli::files::read_bytes;
+use grain_cli::json_lines::{line_of, writer};
+use grain_cli::output::write_standard;
 use grain_compile::Place;
 use json::Writer;
 use std::alloc::{AllocError, Global};
@@ -29,7 +29,7 @@ pub const SUBCOMMAND: Subcommand = Subcommand {
     ],
 };
 
-/// Appends a number of a place, or null if there is no place.
+/// Appends a line or a column, or null if there is none.
 fn write_number(json: &mut Writer, name: &str, number: Option<u32>) -> Result<(), AllocError> {
     json.key(name)?;
     match number {

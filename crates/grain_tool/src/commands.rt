@@ -1,12 +1,12 @@
 //! The command with its subcommands.
 
-use crate::arguments::{Subcommand, command_of};
-use crate::failure::Failure;
 use crate::{
     addresses, check_script, compile_script, dump, flow, list, parse, print, run, smith, strip,
     validate,
 };
 use clap::{ArgMatches, Command};
+use grain_cli::arguments::{Subcommand, command_of};
+use grain_cli::failure::Failure;
 use std::alloc::{AllocError, Global};
 
 /// What the program is called, whatever its file is.

@@ -1,13 +1,13 @@
 //! `grain compile`: the program file of a script.
 
-use crate::arguments::{Argument, FILE, Subcommand};
-use crate::failure::Failure;
-use crate::files::{file_of, read_bytes, shown};
-use crate::output::{STANDARD, write_binary, write_both};
-use crate::overlaps::{refuse_input, refuse_twice};
 use crate::scripts::compiled;
 use clap::ArgMatches;
 use grain::Program;
+use grain_cli::arguments::{Argument, FILE, Subcommand};
+use grain_cli::failure::Failure;
+use grain_cli::files::{file_of, read_bytes, shown};
+use grain_cli::output::{STANDARD, write_binary, write_both};
+use grain_cli::overlaps::{refuse_input, refuse_twice};
 use std::alloc::Global;
 
 /// `grain compile`
@@ -56,7 +56,7 @@ fn strip(alloc: Global, path: &str, program: &mut Program) -> Result<Vec<u8>, Fa
     }
 }
 
-/// The program of a script, with the name of the script if that is wanted and it has one.
+/// The program of a script, with the name of the script if the arguments say so and it has one.
 fn program_of(rt: &HostRuntime, path: &str, with_source: bool) -> Result<Program, Failure> {
     let mut program = compiled(rt.alloc(), path, read_bytes(rt, path)?)?;
     if with_source && path != STANDARD {

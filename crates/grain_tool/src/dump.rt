@@ -1,11 +1,11 @@
 //! `grain dump`: the sections of a program file or a sidecar file, with their offsets and sizes.
 
-use crate::arguments::{Argument, FILE, Subcommand};
-use crate::failure::Failure;
-use crate::files::{is_sidecar, program_of, read_bytes, shown, sidecar_of};
-use crate::output::write_text;
-use crate::overlaps::refuse_input;
 use clap::ArgMatches;
+use grain_cli::arguments::{Argument, FILE, Subcommand};
+use grain_cli::failure::Failure;
+use grain_cli::files::{is_sidecar, program_of, read_bytes, shown, sidecar_of};
+use grain_cli::output::write_text;
+use grain_cli::overlaps::refuse_input;
 use grain_dump::{Dump, program_dump, sidecar_dump};
 use grain_file::WriteError;
 use std::alloc::Global;

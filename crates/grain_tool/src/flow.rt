@@ -1,15 +1,15 @@
 //! `grain flow`: the control flow of a function, as a picture.
 
-use crate::arguments::{Argument, FILE, Subcommand};
-use crate::failure::Failure;
-use crate::files::shown;
 use crate::list::explained;
-use crate::loading::{WORK, admit, allowed_of};
-use crate::output::write_text;
-use crate::overlaps::refuse_input;
 use crate::scripts::program_in;
 use clap::ArgMatches;
 use grain::Program;
+use grain_cli::arguments::{Argument, FILE, Subcommand};
+use grain_cli::failure::Failure;
+use grain_cli::files::shown;
+use grain_cli::loading::{WORK, admit, allowed_of};
+use grain_cli::output::write_text;
+use grain_cli::overlaps::refuse_input;
 use grain_flow::{Graph, write_dot, write_svg};
 use grain_listing::{ProgramListing, name_of};
 use std::alloc::{AllocError, Global};
@@ -37,7 +37,7 @@ pub const SUBCOMMAND: Subcommand = Subcommand {
     ],
 };
 
-/// The place of the chunk with a name, or of the one that is refused, else of the top level.
+/// The index of the chunk with a name, or of the one that is refused, else of the top level.
 fn place_of(program: &Program, listing: &ProgramListing, name: Option<&str>) -> Option<usize> {
     let Some(name) = name else {
         return match &listing.explained.verdict {

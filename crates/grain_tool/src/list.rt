@@ -1,14 +1,16 @@
 //! `grain list`: the instructions of all chunks with the states there, and why a program is refused.
 
-use crate::arguments::{Argument, FILE, Subcommand};
-use crate::failure::Failure;
-use crate::files::{read_program, shown};
-use crate::json_lines::{line_of, writer};
-use crate::loading::{Allowed, Obstacle, WORK, allowed_of, obstacle_before, push_lacking, refused};
-use crate::output::Output;
-use crate::overlaps::refuse_input;
 use clap::ArgMatches;
 use grain::{Caps, Flags, Program, VerifyError};
+use grain_cli::arguments::{Argument, FILE, Subcommand};
+use grain_cli::failure::Failure;
+use grain_cli::files::{read_program, shown};
+use grain_cli::json_lines::{line_of, writer};
+use grain_cli::loading::{
+    Allowed, Obstacle, WORK, allowed_of, obstacle_before, push_lacking, refused,
+};
+use grain_cli::output::Output;
+use grain_cli::overlaps::refuse_input;
 use grain_listing::{
     Colours, Kind, Listed, Naming, Paint, ProgramListing, Style, count_parts, push_shown,
     write_listed, write_part,
@@ -198,7 +200,7 @@ fn write_listing(
     }
 }
 
-/// The capabilities that no host has and the program declares. It is listed nevertheless, but not if its chunks span too much.
+/// The declared capabilities that no host has. The program is listed nevertheless, unless its chunks span too much.
 fn missing_of(
     alloc: Global,
     path: &str,

@@ -2,24 +2,14 @@
 #![tactic(auto)]
 
 mod addresses;
-mod arguments;
 mod check_script;
 mod commands;
 mod compile_script;
 mod dump;
-mod excerpt;
-mod failure;
-mod files;
 mod flow;
-mod json_lines;
 mod list;
-mod loading;
-mod output;
-mod overlaps;
 mod parse;
-mod places;
 mod print;
-mod refusal_object;
 mod run;
 mod scripts;
 mod smith;
@@ -28,8 +18,8 @@ mod terminal;
 mod validate;
 
 use crate::commands::WRONG_ARGUMENTS;
-use crate::failure::Failure;
 use clap::error::ErrorKind;
+use grain_cli::failure::Failure;
 use std::process::ExitCode;
 use std::{env, io};
 

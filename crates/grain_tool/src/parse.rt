@@ -1,13 +1,13 @@
 //! `grain parse`: the program file of an assembly text.
 
-use crate::arguments::{Argument, FILE, Subcommand};
-use crate::excerpt::push_excerpt;
-use crate::failure::Failure;
-use crate::files::{file_of, read_text, shown};
-use crate::output::write_binary;
-use crate::overlaps::refuse_input;
 use clap::ArgMatches;
 use grain_asm::{ParseError, SyntaxError};
+use grain_cli::arguments::{Argument, FILE, Subcommand};
+use grain_cli::excerpt::push_excerpt;
+use grain_cli::failure::Failure;
+use grain_cli::files::{file_of, read_text, shown};
+use grain_cli::output::write_binary;
+use grain_cli::overlaps::refuse_input;
 use std::alloc::{AllocError, Global};
 
 /// `grain parse`
@@ -18,7 +18,7 @@ pub const SUBCOMMAND: Subcommand = Subcommand {
     arguments: &[FILE, Argument::Output],
 };
 
-/// What is wrong with a line, if, and the line itself.
+/// The problem of a line, with its position and the line itself.
 fn lines_of(alloc: Global, error: &SyntaxError) -> Result<String, AllocError> {
     let SyntaxError {
         line,

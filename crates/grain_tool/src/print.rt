@@ -1,12 +1,12 @@
 //! `grain print`: the assembly text of a program file.
 
-use crate::arguments::{Argument, FILE, Subcommand};
-use crate::failure::Failure;
-use crate::files::read_program;
-use crate::output::Output;
-use crate::overlaps::refuse_input;
 use clap::ArgMatches;
 use grain::Program;
+use grain_cli::arguments::{Argument, FILE, Subcommand};
+use grain_cli::failure::Failure;
+use grain_cli::files::read_program;
+use grain_cli::output::Output;
+use grain_cli::overlaps::refuse_input;
 use grain_print::Printer;
 use std::alloc::{AllocError, Global};
 

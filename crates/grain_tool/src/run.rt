@@ -1,14 +1,14 @@
 //! `grain run`: a script or a program file, verified and run.
 
-use crate::arguments::{Argument, FILE, Subcommand};
-use crate::failure::Failure;
-use crate::files::shown;
-use crate::loading::{WORK, admit, allowed_of};
-use crate::places::{chunk_at, write_place};
 use crate::scripts::program_in;
 use crate::terminal::Terminal;
 use clap::ArgMatches;
 use grain::{Program, VerifyError};
+use grain_cli::arguments::{Argument, FILE, Subcommand};
+use grain_cli::failure::Failure;
+use grain_cli::files::shown;
+use grain_cli::loading::{WORK, admit, allowed_of};
+use grain_cli::places::{chunk_at, write_place};
 use grain_listing::{name_of, push_shown};
 use grain_machine::{Ending, Limits, Outcome, accept};
 use grain_script::{Fault, Script, World};
@@ -110,7 +110,7 @@ fn ending<W: World + Drop>(
     Ok(accepted.main().run(alloc, script, limits)?)
 }
 
-/// The function and the position of an address. A function of the library, which has no place in the script, has its name alone.
+/// The function and the position of an address. A function of the library, which isn't in the script, has its name alone.
 fn write_call(alloc: Global, program: &Program, at: usize) -> Result<String, AllocError> {
     let is_placed = !program.position(program.main().entry() as usize).is_none();
     match chunk_at(program, at) {

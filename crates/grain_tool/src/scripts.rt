@@ -1,9 +1,9 @@
 //! Scripts and program files alike.
 
-use crate::excerpt::push_report;
-use crate::failure::Failure;
-use crate::files::{program_of, read_bytes, shown};
 use grain::Program;
+use grain_cli::excerpt::push_report;
+use grain_cli::failure::Failure;
+use grain_cli::files::{program_of, read_bytes, shown};
 use grain_compile::{CompileError, Options, Problem, compile, flaws};
 use md5::{Digest, Md5};
 use std::alloc::{AllocError, Global};

@@ -1,10 +1,10 @@
 //! `grain smith`: the program file of a random program.
 
-use crate::arguments::{Argument, Subcommand};
-use crate::failure::Failure;
-use crate::files::file_of;
-use crate::output::write_binary;
 use clap::ArgMatches;
+use grain_cli::arguments::{Argument, Subcommand};
+use grain_cli::failure::Failure;
+use grain_cli::files::file_of;
+use grain_cli::output::write_binary;
 use grain_smith::{Options, SmithError, smith, smith_near};
 use std::alloc::Global;
 

@@ -1,12 +1,12 @@
 //! `grain strip` and `grain attach`: positions apart from their program, and back.
 
-use crate::arguments::{Argument, FILE, Subcommand};
-use crate::failure::Failure;
-use crate::files::{file_of, read_bytes, read_program, shown, sidecar_of};
-use crate::output::{STANDARD, write_binary, write_both};
-use crate::overlaps::{refuse_input, refuse_twice};
 use clap::ArgMatches;
 use grain::{Program, Sidecar, TableError};
+use grain_cli::arguments::{Argument, FILE, Subcommand};
+use grain_cli::failure::Failure;
+use grain_cli::files::{file_of, read_bytes, read_program, shown, sidecar_of};
+use grain_cli::output::{STANDARD, write_binary, write_both};
+use grain_cli::overlaps::{refuse_input, refuse_twice};
 use std::alloc::Global;
 
 /// `grain strip`
@@ -80,7 +80,7 @@ pub fn strip(rt: &HostRuntime, matches: &ArgMatches<'_>) -> Result<u8, Failure> 
     let path = matches.get_str("FILE").unwrap_or("-");
     let to = matches.get_str("output");
     let sidecar = matches.get_str("sidecar").unwrap_or(STANDARD);
-    // The program may be written in its own place, which its positions may not take.
+    // The program may replace its own file, but its positions may not.
     refuse_input(rt, Some(sidecar), path)?;
     refuse_twice(rt, Some(sidecar), to)?;
     let (bytes, table) = both_of(rt, path)?;

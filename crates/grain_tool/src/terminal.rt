@@ -1,6 +1,6 @@
 //! What scripts print.
 
-use crate::failure::Failure;
+use grain_cli::failure::Failure;
 use grain_script::World;
 use grain_value::{Cause, Value};
 use std::alloc::Global;

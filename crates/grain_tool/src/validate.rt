@@ -1,16 +1,16 @@
 //! `grain validate`: whether program files are accepted.
 
-use crate::arguments::{Argument, Subcommand};
-use crate::failure::Failure;
-use crate::files::{read_bytes, shown, unread};
-use crate::json_lines::{line_of, writer};
 use crate::list::explained;
-use crate::loading::{Allowed, Obstacle, WORK, allowed_of, obstacle_before, sentence_of};
-use crate::output::write_standard;
-use crate::places::{push_spot, spot_of};
-use crate::refusal_object::{write_malformed, write_obstacle};
 use clap::ArgMatches;
 use grain::{Caps, Flags, Meter, Program, Refusal, VerifyError};
+use grain_cli::arguments::{Argument, Subcommand};
+use grain_cli::failure::Failure;
+use grain_cli::files::{read_bytes, shown, unread};
+use grain_cli::json_lines::{line_of, writer};
+use grain_cli::loading::{Allowed, Obstacle, WORK, allowed_of, obstacle_before, sentence_of};
+use grain_cli::output::write_standard;
+use grain_cli::places::{push_spot, spot_of};
+use grain_cli::refusal_object::{write_malformed, write_obstacle};
 use grain_file::{Limits, ReadError, read};
 use grain_listing::{
     Colours, Kind, Naming, Paint, Style, name_of, push_name, push_shown, write_chunk,
@@ -123,7 +123,7 @@ fn explanation_of(
     Ok(text)
 }
 
-/// Lists the refused chunk, if that is asked for.
+/// Lists the refused chunk, if the arguments say so.
 fn explain(
     rt: &HostRuntime,
     report: Report,
@@ -144,7 +144,7 @@ fn explain(
     }
 }
 
-/// Why a program isn't taken: the sentence, and if.
+/// Why a program isn't accepted: the sentence, and the place.
 fn sentence(alloc: Global, program: &Program, obstacle: &Obstacle) -> Result<String, AllocError> {
     let mut text = sentence_of(alloc, *obstacle)?;
     if let Obstacle::Refused(refusal) = obstacle {
@@ -168,7 +168,7 @@ fn say_refused(
     Ok(())
 }
 
-/// Appends what is said of an accepted program.
+/// Appends the report of an accepted program.
 fn write_accepted(
     out: &mut String,
     report: Report,
@@ -204,7 +204,7 @@ fn say_accepted(
     write_standard(rt, out.as_bytes())
 }
 
-/// Says what is known of a file.
+/// Prints the outcome of a file.
 fn say(rt: &HostRuntime, report: Report, path: &str, found: &Found) -> Result<(), Failure> {
     match found {
         Found::Accepted(program, numbers) => say_accepted(rt, report, path, program, numbers),

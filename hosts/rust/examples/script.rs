@@ -7,104 +7,104 @@ use std::error::Error;
 /// The host has functions, and no other feature that a program can declare.
 const CAPS: Caps = Caps::FUNCTION;
 
-/// Why a run ends early, and at which address.
-struct Fault(&'static str, u32);
-
-/// Runs a chunk, with arguments in its first slots. Accepted code has its instructions and its operands. What nothing verifies
-/// is tested here: types, and how many steps, calls and variables there are.
-fn run<'a>(
+/// A run of accepted code, which has its instructions, operands and slots. Types, steps, calls and variables are tested here.
+struct Machine<'a> {
     file: &'a VerifiedFile,
-    chunk: usize,
-    mut locals: Vec<Value<'a>>,
-    (calls, steps): (u32, &mut u32),
-) -> Result<Value<'a>, Fault> {
-    let (mut at, mut declared) = (file.chunks()[chunk].entry, locals.len());
-    locals.resize(
-        declared.max(file.slots()[chunk] as usize) + 100,
-        Value::Unit,
-    );
-    let mut stack = Vec::with_capacity(file.depths()[chunk].into());
-    loop {
-        let decoded = Instruction::decode(file.code(), at);
-        let (instruction, mut next) = decoded.expect("accepted code has an instruction here");
-        let fault = |what| Fault(what, at);
-        let mut pop = || stack.pop().expect("accepted code has its operands");
-        *steps = steps.checked_sub(1).ok_or(fault("too many steps"))?;
-        match instruction {
-            Instruction::LoadConst { constant } => stack.extend(file.constant(constant.into())),
-            Instruction::Unit => stack.push(Value::Unit),
-            Instruction::True => stack.push(Value::Bool(true)),
-            Instruction::False => stack.push(Value::Bool(false)),
-            Instruction::LoadLocal { slot } => stack.push(locals[usize::from(slot)]),
-            Instruction::StoreLocal { slot } => locals[usize::from(slot)] = pop(),
-            Instruction::AssignLocal { slot, .. } => locals[usize::from(slot)] = pop(),
-            Instruction::DeclareLocal { .. } => {
-                *locals
-                    .get_mut(declared)
-                    .ok_or(fault("too many variables"))? = pop();
-                declared += 1;
+    steps: u32,
+    calls: u32,
+    /// The address of the last instruction.
+    at: u32,
+}
+
+impl<'a> Machine<'a> {
+    /// Runs a chunk with arguments in its first slots.
+    fn run(&mut self, chunk: usize, mut locals: Vec<Value<'a>>) -> Result<Value<'a>, &'static str> {
+        let (file, mut declared) = (self.file, locals.len());
+        let slots = declared.max(file.slots()[chunk] as usize) + 100;
+        locals.resize(slots, Value::Unit);
+        let mut stack = Vec::with_capacity(file.depths()[chunk].into());
+        let mut next = file.chunks()[chunk].entry;
+        self.calls = self.calls.checked_sub(1).ok_or("too many calls")?;
+        loop {
+            self.at = next;
+            self.steps = self.steps.checked_sub(1).ok_or("too many steps")?;
+            let decoded = Instruction::decode(file.code(), next);
+            let (instruction, after) = decoded.expect("accepted code has an instruction here");
+            let mut pop = || stack.pop().expect("accepted code has its operands");
+            next = after;
+            match instruction {
+                Instruction::LoadConst { constant } => stack.extend(file.constant(constant.into())),
+                Instruction::Unit => stack.push(Value::Unit),
+                Instruction::True => stack.push(Value::Bool(true)),
+                Instruction::False => stack.push(Value::Bool(false)),
+                Instruction::LoadLocal { slot } => stack.push(locals[usize::from(slot)]),
+                Instruction::StoreLocal { slot } => locals[usize::from(slot)] = pop(),
+                Instruction::AssignLocal { slot, .. } => locals[usize::from(slot)] = pop(),
+                Instruction::DeclareLocal { .. } => {
+                    *locals.get_mut(declared).ok_or("too many variables")? = pop();
+                    declared += 1;
+                }
+                Instruction::UnwindTo { len } => declared = declared.min(len.into()),
+                Instruction::Pop => drop(pop()),
+                Instruction::Jump { target } => next = target,
+                Instruction::JumpIfFalse { target } => match pop() {
+                    Value::Bool(false) => next = target,
+                    Value::Bool(true) => {}
+                    _ => return Err("no boolean"),
+                },
+                Instruction::CallOp { name, argc, .. } => {
+                    let with = stack.split_off(stack.len() - usize::from(argc));
+                    stack.push(operate(file.name(name.into()), &with)?);
+                }
+                Instruction::Call { name, argc } => {
+                    let with = stack.split_off(stack.len() - usize::from(argc));
+                    let mut functions = file.functions();
+                    let called = functions
+                        .position(|f| f.name == name.into() && f.parameters.len() == with.len())
+                        .ok_or("no such function")?;
+                    stack.push(self.run(called + 1, with)?);
+                }
+                Instruction::Tick | Instruction::Checkpoint | Instruction::Statement { .. } => {}
+                Instruction::Return => {
+                    self.calls += 1;
+                    return Ok(stack.pop().unwrap_or(Value::Unit));
+                }
+                _ => return Err("an instruction that this machine lacks"),
             }
-            Instruction::UnwindTo { len } => declared = declared.min(len.into()),
-            Instruction::Pop => drop(pop()),
-            Instruction::Jump { target } => next = target,
-            Instruction::JumpIfFalse { target } => match pop() {
-                Value::Bool(false) => next = target,
-                Value::Bool(true) => {}
-                _ => return Err(fault("no boolean")),
-            },
-            Instruction::Call { name, argc } | Instruction::CallOp { name, argc, .. } => {
-                let with = stack.split_off(stack.len() - usize::from(argc));
-                let name = file.name(name.into());
-                let function = file.functions().position(|each| {
-                    file.name(each.name) == name && each.parameters.len() == with.len()
-                });
-                stack.push(match (operate(name, &with), function) {
-                    (Some(result), _) => result.map_err(fault)?,
-                    (None, Some(_)) if calls == 0 => return Err(fault("too many calls")),
-                    (None, Some(function)) => run(file, function + 1, with, (calls - 1, steps))?,
-                    (None, None) => return Err(fault("no such function")),
-                });
-            }
-            Instruction::Tick | Instruction::Checkpoint | Instruction::Statement { .. } => {}
-            Instruction::Return => return Ok(stack.pop().unwrap_or(Value::Unit)),
-            _ => return Err(fault("an instruction that this machine lacks")),
         }
-        at = next;
     }
 }
 
-/// An operator on two integers; `None` for all other calls.
-fn operate<'a>(name: Option<&str>, with: &[Value<'a>]) -> Option<Result<Value<'a>, &'static str>> {
+/// An operator on two integers.
+fn operate<'a>(name: Option<&str>, with: &[Value<'a>]) -> Result<Value<'a>, &'static str> {
     let [Value::Integer(a), Value::Integer(b)] = *with else {
-        return None;
+        return Err("no integers");
     };
-    let number = match name? {
+    let number = match name.unwrap_or_default() {
+        "<" => return Ok(Value::Bool(a < b)),
         "+" => a.checked_add(b),
         "-" => a.checked_sub(b),
-        "/" if b == 0 => return Some(Err("division by zero")),
+        "/" if b == 0 => return Err("division by zero"),
         "/" => a.checked_div(b),
-        "<" => return Some(Ok(Value::Bool(a < b))),
-        _ => return None,
+        _ => return Err("no such operator"),
     };
-    Some(number.map(Value::Integer).ok_or("overflow"))
+    number.map(Value::Integer).ok_or("overflow")
 }
 
 /// The result of a program file, or the line of its fault.
 fn answer(bytes: &[u8]) -> Result<String, Box<dyn Error>> {
-    let verified = match ProgramFile::try_from(bytes)?.into_verified(CAPS) {
-        Ok(verified) => verified,
-        Err(rejected) => {
-            if let Some(refusal) = rejected.refusal() {
-                eprint!("{}", rejected.program().explain(CAPS, refusal)?);
-            }
-            return Err(rejected.into());
-        }
+    let file = ProgramFile::try_from(bytes)?.into_verified(CAPS)?;
+    let mut machine = Machine {
+        file: &file,
+        steps: 10_000_000,
+        calls: 200,
+        at: 0,
     };
-    match run(&verified, 0, Vec::new(), (200, &mut 10_000_000)) {
+    match machine.run(0, Vec::new()) {
         Ok(value) => Ok(format!("{value:?}")),
-        Err(Fault(what, at)) => {
-            let site = verified.site(at).unwrap_or_default();
-            Err(format!("{site}: {what}").into())
+        Err(fault) => {
+            let site = file.site(machine.at).unwrap_or_default();
+            Err(format!("{site}: {fault}").into())
         }
     }
 }

@@ -145,7 +145,7 @@ fn write_details(json: &mut Writer, error: &VerifyError) -> Result<(), AllocErro
     }
 }
 
-/// Writes if a refusal is: its chunk, its function, its address and its position, each null if there is none.
+/// Writes the place of a refusal: its chunk, function, address and position, each null if there is none.
 fn write_spot(json: &mut Writer, program: &Program, spot: Spot) -> Result<(), AllocError> {
     write_option(json, "chunk", spot.place.map(|place| place as u64))?;
     match spot.place {

@@ -4,23 +4,23 @@ use grain_compile::{CompileError, Place, Problem};
 use grain_listing::push_shown;
 use std::alloc::{AllocError, Global};
 
-/// How many bytes of a line are shown before a column, and how many behind it.
+/// How many bytes of a line are shown before a column, and how many after it.
 const SIDE: usize = 160;
 
-/// The part of a line around a place in it.
+/// The part of a line around an index of it.
 #[derive(Clone, Copy)]
 struct Window<'a> {
-    /// What is shown before the place.
+    /// The bytes before the index.
     before: &'a str,
-    /// What is shown from the place on.
+    /// The bytes from the index on.
     behind: &'a str,
     /// Whether the line begins before that.
     is_cut_before: bool,
-    /// Whether the line goes on behind that.
+    /// Whether the line continues after them.
     is_cut_behind: bool,
 }
 
-/// The first place of a text from this on at which a character begins, or its end.
+/// The first index from this one on at which a character of a text begins, or the end of the text.
 fn boundary_from(text: &str, at: usize) -> usize {
     for place in [at, at.saturating_add(1), at.saturating_add(2)] {
         if text.is_char_boundary(place) {
@@ -56,13 +56,13 @@ fn push_piece(piece: &str, text: &mut String) -> Result<(), AllocError> {
     Ok(())
 }
 
-/// Appends what is shown of a line before the place.
+/// Appends the shown bytes before the index.
 fn push_before(window: Window<'_>, text: &mut String) -> Result<(), AllocError> {
     text.push_str(if window.is_cut_before { "…" } else { "" })?;
     push_piece(window.before, text)
 }
 
-/// Appends what is shown of a line.
+/// Appends the shown bytes of a line.
 fn push_window(window: Window<'_>, text: &mut String) -> Result<(), AllocError> {
     push_before(window, text)?;
     push_piece(window.behind, text)?;
@@ -77,7 +77,7 @@ pub fn push_excerpt(line: &str, at: usize, text: &mut String) -> Result<(), Allo
     push_window(Window::of(line, at), text)
 }
 
-/// Appends blanks as wide as what is shown of a line before the place. A tab stays a tab.
+/// Appends blanks as wide as the shown bytes before the index. A tab stays a tab.
 fn push_indent(window: Window<'_>, text: &mut String) -> Result<(), AllocError> {
     let mut before = String::new(*text.allocator());
     push_before(window, &mut before)?;
@@ -102,7 +102,7 @@ fn byte_of(line: &str, column: u32) -> usize {
     }
 }
 
-/// Appends the line of a place, and below it a caret at the column.
+/// Appends a line, and below it a caret at the index.
 fn push_marked(source: &str, place: Place, text: &mut String) -> Result<(), AllocError> {
     let Some(line) = line_of(source, place.line) else {
         return Ok(());
@@ -115,7 +115,7 @@ fn push_marked(source: &str, place: Place, text: &mut String) -> Result<(), Allo
     text.push_str("^\n")
 }
 
-/// Another place that explains the problem, with what is there.
+/// Another position that explains the problem, and a sentence about it.
 fn note_of(problem: Problem) -> Option<(Place, &'static str)> {
     match problem {
         Problem::Unclosed(_, place) if place.is_some() => {
@@ -128,7 +128,7 @@ fn note_of(problem: Problem) -> Option<(Place, &'static str)> {
     }
 }
 
-/// Appends a message about a place of a script, and its line.
+/// Appends a message about a position of a script, and its line.
 fn push_message(
     file: &str,
     source: &str,
@@ -146,7 +146,7 @@ fn push_message(
     push_marked(source, place, text)
 }
 
-/// Appends an error of a script: if it is and what is wrong, the line, and the note that belongs to it.
+/// Appends an error of a script: its position and sentence, the line, and the note that belongs to it.
 ///
 /// # Errors
 /// [`AllocError`] if memory was refused.

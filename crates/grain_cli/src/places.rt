@@ -11,7 +11,7 @@ fn holds(chunk: Chunk, at: usize) -> bool {
     chunk.entry() as usize <= at && at < chunk.end() as usize
 }
 
-/// The place of the first chunk that an address is in.
+/// The index of the first chunk that an address is in.
 pub fn chunk_at(program: &Program, at: usize) -> Option<usize> {
     if holds(program.main(), at) {
         return Some(0);
@@ -23,10 +23,10 @@ pub fn chunk_at(program: &Program, at: usize) -> Option<usize> {
     index.checked_add(1)
 }
 
-/// If a refusal is.
+/// Where a refusal is.
 #[derive(Clone, Copy)]
 pub struct Spot {
-    /// The place of the chunk.
+    /// The index of the chunk.
     pub place: Option<usize>,
     /// The address.
     pub address: Option<usize>,
@@ -57,7 +57,7 @@ fn address_of(error: &VerifyError) -> Option<usize> {
     }
 }
 
-/// If capabilities are missing before any chunk.
+/// Where capabilities are missing before any chunk.
 fn spot_of_needing(needing: Option<Needing>) -> Spot {
     Spot {
         place: None,
@@ -70,7 +70,7 @@ fn spot_of_needing(needing: Option<Needing>) -> Spot {
     }
 }
 
-/// If a refusal of a program is.
+/// Where a refusal of a program is.
 pub fn spot_of(program: &Program, refusal: &Refusal) -> Spot {
     if let (None, VerifyError::MissingCaps { .. }) = (refusal.place, &refusal.error) {
         return spot_of_needing(lacking(program));
@@ -89,7 +89,7 @@ pub fn spot_of(program: &Program, refusal: &Refusal) -> Spot {
     }
 }
 
-/// Appends the name of the chunk at a place.
+/// Appends the name of the chunk with this index.
 fn push_chunk(
     program: &Program,
     place: Option<usize>,
@@ -101,7 +101,7 @@ fn push_chunk(
     }
 }
 
-/// Appends if something is: the function, the position if it is known, and the address itself.
+/// Appends a place: the function, the position if it is known, and the address.
 fn push_address(
     program: &Program,
     place: Option<usize>,
@@ -117,7 +117,7 @@ fn push_address(
     write!(text, ", address {at}")
 }
 
-/// Appends if a refusal is, in parentheses, if it is anywhere.
+/// Appends the place of a refusal in parentheses, if it has one.
 ///
 /// # Errors
 /// [`AllocError`] if memory was refused.

@@ -1,4 +1,4 @@
-//! If results are written. A file is written under another name, and replaces the old one once it is whole: a write that
+//! Outputs. A file is written under another name, and replaces the old one once it is whole: a write that
 //! fails leaves the old file.
 
 use crate::failure::Failure;
@@ -7,7 +7,7 @@ use std::fs::{File, Metadata, OpenOptions};
 use std::io::{ErrorKind, IsTerminal, Write};
 use std::{fs, io};
 
-/// What stands for standard input or output.
+/// The path that means standard input or output.
 pub const STANDARD: &str = "-";
 
 /// How many names a new file tries.
@@ -17,13 +17,13 @@ const TRIES: usize = 1000;
 #[derive(Drop)]
 struct Replacing {
     file: File,
-    /// If it is until it is whole.
+    /// Its path until it is whole.
     temporary: String,
-    /// The file whose place it takes.
+    /// The path of the file that it replaces.
     place: String,
 }
 
-/// If a result is written.
+/// Where a result goes.
 #[derive(Drop)]
 enum Target {
     /// To standard output.
@@ -42,7 +42,7 @@ pub struct Output {
     path: String,
 }
 
-/// Whether a path stands for standard output.
+/// Whether a path means standard output.
 pub fn is_standard(path: Option<&str>) -> bool {
     match path {
         Some(path) => path == STANDARD,
@@ -108,12 +108,12 @@ fn there(rt: &HostRuntime, path: &str) -> io::Result<Target> {
     Ok(Target::There(File::create(rt, path)?))
 }
 
-/// Whether a path is one of the system's, which may lead to what is open already.
+/// Whether a path is one of the system's, which may be a file that is open already.
 fn is_of_system(path: &str) -> bool {
     path.starts_with("/dev/") || path.starts_with("/proc/")
 }
 
-/// If what is written to a path goes.
+/// The target of a path.
 fn target_of(rt: &HostRuntime, path: &str) -> io::Result<Target> {
     if is_of_system(path) {
         return there(rt, path);
@@ -122,7 +122,7 @@ fn target_of(rt: &HostRuntime, path: &str) -> io::Result<Target> {
         Ok(found) if found.is_file() => beside(rt, path, &found),
         Ok(_) => there(rt, path),
         Err(error) if error.kind() == ErrorKind::NotFound => {
-            // A link that leads nowhere stays a link.
+            // A link to no file stays a link.
             if fs::symlink_metadata(rt, path).is_ok() {
                 there(rt, path)
             } else {
@@ -142,7 +142,7 @@ pub fn write_standard(rt: &HostRuntime, bytes: &[u8]) -> Result<(), Failure> {
     }
 }
 
-/// Has a new file take its place, once it is on the disk.
+/// Renames a new file to its path, once it is on the disk.
 fn put(rt: &HostRuntime, new: &Replacing) -> io::Result<()> {
     new.file.sync_all()?;
     fs::rename(rt, new.temporary.as_str(), new.place.as_str())
@@ -197,7 +197,7 @@ impl Output {
         }
     }
 
-    /// Ends the output: if all was done, a new file takes the place of the old one. Otherwise it is removed.
+    /// Ends the output. If everything was written, a new file replaces the old one. Otherwise it is removed.
     ///
     /// # Errors
     /// That of what was done, or the file can't be written.
@@ -213,7 +213,7 @@ impl Output {
             },
             Err(failure) => Err(failure),
         };
-        // If it can't be removed either, why it isn't whole is said.
+        // If it can't be removed either, the first error is reported.
         let _removed = fs::remove_file(rt, new.temporary.as_str());
         put
     }
@@ -236,7 +236,7 @@ pub fn write_binary(rt: &HostRuntime, path: Option<&str>, bytes: &[u8]) -> Resul
     write_whole(rt, Output::open_binary(rt, path)?, bytes)
 }
 
-/// Writes two binary files, each to its path. Both are whole before either takes the place of an old one.
+/// Writes two binary files, each to its path. Both are whole before either replaces an old one.
 pub fn write_both(
     rt: &HostRuntime,
     (path, bytes): (&str, &[u8]),

@@ -36,7 +36,7 @@ pub enum Failure {
     /// A script can't be compiled.
     #[error("{report}")]
     Script {
-        /// What is wrong and if, with the lines themselves, in which all is escaped.
+        /// The positions, sentences and lines, in which everything is escaped.
         report: String,
         /// The same without words.
         errors: Vec<CompileError>,

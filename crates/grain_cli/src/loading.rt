@@ -28,7 +28,7 @@ pub const WORK: Argument = Argument::Number {
 pub struct Allowed {
     /// Its capabilities.
     pub host: Caps,
-    /// How many bytes of code chunks span at most, if that is said.
+    /// How many bytes of code chunks may span, if the arguments say so.
     pub work: Option<u64>,
 }
 
