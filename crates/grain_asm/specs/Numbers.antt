@@ -1,6 +1,6 @@
 -- Numbers as texts write them.
-use Rattle.core.specs.declared.str.parse.IntErrorKind.{IntErrorKind}
-use Rattle.core.specs.declared.str.parse.IntErrorKind.TheVariants.{PosOverflow, NegOverflow}
+use Rattle.std.specs.declared.num.IntErrorKind.{IntErrorKind}
+use Rattle.std.specs.declared.num.IntErrorKind.TheVariants.{PosOverflow, NegOverflow}
 use Rattle.std.specs.Prelude.{◌≡◌, ◌⊎◌, ℕ, ℤ, Bool, List, ◌∷◌, [], drop, nat_eq, if◌then◌else◌}
 use Rattle.std.specs.List.{starts_with}
 use Rattle.std.specs.Str.Parse.{IsNumeral, digits_value, signed_digits_value, without_leading_plus}

@@ -42,8 +42,8 @@ pub enum Problem {
     /// Something follows the end of the line's item.
     #[error("something follows")]
     Trailing,
-    /// Another mark is due.
-    #[error("another mark is due")]
+    /// Another character is expected.
+    #[error("unexpected character")]
     Mark,
     /// A number is not decimal digits, or 0x and hexadecimal digits.
     #[error("not a number")]
@@ -104,9 +104,9 @@ pub enum Problem {
 /// Why reading a line stopped.
 #[derive(Clone, Copy, Debug, PartialEq, Eq)]
 pub enum Stop {
-    /// A growth was refused.
+    /// The allocator refused.
     OutOfMemory,
-    /// What the cursor is at is wrong.
+    /// The text at the cursor is wrong.
     Fault(Problem),
 }
 
@@ -158,7 +158,7 @@ pub(crate) enum Unfinished {
     Refused(VerifyError),
     /// The names have more than 4294967295 bytes.
     NamesTooLong,
-    /// A growth was refused.
+    /// The allocator refused.
     OutOfMemory,
 }
 
@@ -180,7 +180,7 @@ pub enum ParseError {
     /// The names have more than 4294967295 bytes.
     #[error("names too long")]
     NamesTooLong,
-    /// A growth was refused.
+    /// The allocator refused.
     #[error("out of memory")]
     OutOfMemory,
 }

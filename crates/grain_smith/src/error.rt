@@ -11,7 +11,7 @@ pub enum SmithError {
     #[error("what was written is refused: {0}")]
     Refused(BuildError),
     /// There are as many functions as chunks, and so no chunk for the top level: an error of this crate too.
-    #[error("no chunk is the top level")]
+    #[error("missing `main`")]
     Uneven,
     /// A growth was refused.
     #[error("out of memory")]

@@ -16,7 +16,7 @@ use std::alloc::{AllocError, Global};
 /// `grain addr2line`
 pub const SUBCOMMAND: Subcommand = Subcommand {
     name: "addr2line",
-    about: "Says which function and position an address of the code is of",
+    about: "Maps addresses to functions and source positions",
     example: "Example:\n  grain addr2line program.grain 14 23",
     arguments: &[
         FILE,
