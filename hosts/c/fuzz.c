@@ -1,5 +1,6 @@
-/* Any bytes as a program file: reading, every list, the verdict, each chunk explained, and the same bytes again. For libFuzzer, over
- * the archive that hosts/build has made:
+/* Any bytes as a program file: reading, every list, the verdict, each chunk explained, and the same bytes again. Then all of it
+ * with an allocation refused. In a part of the runs each block and the bytes themselves end at a page that can't be touched. For
+ * libFuzzer, over the archive that hosts/build has made:
  *
  *     clang -g -O1 -fsanitize=fuzzer,address,undefined hosts/c/fuzz.c hosts/out/libgrain.a -o hosts/out/fuzz
  *     mkdir -p hosts/out/corpus hosts/out/found
@@ -9,11 +10,63 @@
  *
  * hosts/c/corpus.txt has a file in each line: that of files.c, some that bench/random_files.py makes, and what was found of them.
  */
+#define _DEFAULT_SOURCE
 #include "rewrite.h"
 
 #include <stdio.h>
+#include <sys/mman.h>
+
+enum { PAGE = 4096, HEAD = 16 };
+
+static long left = -1;  /* how many allocations succeed still; all if it is negative */
+static long live = 0;   /* how many blocks of the library there are */
+static bool are_fenced; /* whether blocks end at a page that can't be touched */
 
 #define REQUIRE(what) ((what) ? (void)0 : (fprintf(stderr, "line %d: %s\n", __LINE__, #what), abort()))
+
+static size_t fenced_size(size_t size) {
+    return (size + HEAD + PAGE - 1) / PAGE * PAGE;
+}
+
+/* A block that ends at a page that can't be touched, except for its alignment. */
+static uint8_t *fenced(size_t size, size_t alignment) {
+    size_t room = fenced_size((size + alignment - 1) / alignment * alignment);
+    uint8_t *start = mmap(NULL, room + PAGE, PROT_READ | PROT_WRITE, MAP_PRIVATE | MAP_ANONYMOUS, -1, 0);
+    REQUIRE(start != MAP_FAILED && mprotect(start + room, PAGE, PROT_NONE) == 0);
+    return start + room - (size + alignment - 1) / alignment * alignment;
+}
+
+/* The head of a block keeps the size of its mapping, or 0 for one of malloc. */
+void *grain_alloc(size_t size, size_t alignment) {
+    if (left == 0)
+        return NULL;
+    left -= left > 0;
+    live++;
+    uint8_t *block = are_fenced ? fenced(size, alignment) : (uint8_t *)malloc(size + HEAD) + HEAD;
+    size_t mapped = are_fenced ? fenced_size((size + alignment - 1) / alignment * alignment) + PAGE : 0;
+    memcpy(block - HEAD, &mapped, sizeof mapped);
+    return block;
+}
+
+void grain_dealloc(void *block) {
+    uint8_t *head = (uint8_t *)block - HEAD;
+    size_t mapped;
+    memcpy(&mapped, head, sizeof mapped);
+    live--;
+    if (mapped == 0)
+        free(head);
+    else
+        munmap(head - (uintptr_t)head % PAGE, mapped);
+}
+
+void *grain_realloc(void *block, size_t old_size, size_t size, size_t alignment) {
+    void *grown = grain_alloc(size, alignment);
+    if (grown != NULL) {
+        memcpy(grown, block, old_size < size ? old_size : size);
+        grain_dealloc(block);
+    }
+    return grown;
+}
 
 /* All bytes of a list are read. */
 static uint32_t sum_of(const void *list, size_t size) {
@@ -88,30 +141,87 @@ static void change_all(const uint8_t *bytes, size_t len) {
     free(sidecar.bytes);
 }
 
-int LLVMFuzzerTestOneInput(const uint8_t *bytes, size_t len);
-
-int LLVMFuzzerTestOneInput(const uint8_t *bytes, size_t len) {
+/* Every call, for a file that is well. */
+static void try_file(const uint8_t *bytes, size_t len, const grain_file *file) {
     static volatile uint32_t sum;
-    grain_file *file;
-    grain_read_error error = {GRAIN_CAUSE_TOO_LARGE, GRAIN_PART_HEADER, 0, 0, 0};
-    char text[GRAIN_TEXT_SIZE];
-    grain_status status = grain_file_read(&file, bytes, len, NULL, &error);
-    if (status != GRAIN_ACCEPTED) {
-        REQUIRE(status == GRAIN_MALFORMED && file == NULL && error.at <= len);
-        REQUIRE(grain_read_error_text(&error, text, sizeof text) != 0);
-        return 0;
-    }
     const grain_contents *all = grain_file_contents(file);
+    uint64_t detail;
     sum = sum_of_all(all);
     (void)sum;
     REQUIRE(grain_check_pools(&all->program.pools, NULL));
-    uint64_t detail;
     REQUIRE(grain_check_table(all->table, all->table_len, &detail) == GRAIN_TABLE_SOUND);
     REQUIRE(grain_check_stream(all->stream, all->stream_len, &detail) == GRAIN_TABLE_SOUND);
     verify_all(file, all);
     explain_all(all);
     REQUIRE(writes_again(all, bytes, len));
     change_all(bytes, len);
+}
+
+static int print_nothing(void *context, const char *text, size_t length) {
+    (void)context, (void)text, (void)length;
+    return 0;
+}
+
+/* The calls on a file that allocate, from an allocation on that is refused: what they give they give whole, or nothing. */
+static void try_refused(const uint8_t *bytes, size_t len, long succeeding) {
+    grain_file *file;
+    left = succeeding;
+    grain_status status = grain_file_read(&file, bytes, len, NULL, NULL);
+    REQUIRE(status == GRAIN_ACCEPTED || status == GRAIN_OUT_OF_MEMORY);
+    REQUIRE((file != NULL) == (status == GRAIN_ACCEPTED));
+    if (file != NULL) {
+        const grain_contents *all = grain_file_contents(file);
+        size_t count = all->program.chunks_len;
+        uint16_t *depths = calloc(count, sizeof *depths);
+        uint32_t *slots = calloc(count, sizeof *slots);
+        left = succeeding % 8;
+        status = grain_file_verify(NULL, file, GRAIN_CAP_ALL, GRAIN_NO_LIMIT, depths, count, slots, NULL);
+        REQUIRE(status == GRAIN_ACCEPTED || status == GRAIN_REFUSED || status == GRAIN_OUT_OF_MEMORY);
+        for (size_t i = 0; status != GRAIN_ACCEPTED && i < count; i++)
+            REQUIRE(depths[i] == 0 && slots[i] == 0);
+        left = succeeding % 8;
+        status = grain_listing(all->caps, &all->program, 0, print_nothing, NULL);
+        REQUIRE(status == GRAIN_ACCEPTED || status == GRAIN_REFUSED || status == GRAIN_BAD_CODE || status == GRAIN_OUT_OF_MEMORY);
+        free(depths);
+        free(slots);
+    }
     grain_file_free(file);
+    uint8_t *room = calloc(3 * len, 1);
+    grain_room program = {room, len, 0}, sidecar = {room + len, 2 * len, 0};
+    left = succeeding;
+    status = grain_file_strip(bytes, len, NULL, &program, &sidecar, NULL);
+    REQUIRE(status == GRAIN_ACCEPTED || status == GRAIN_NOT_RESTORABLE || status == GRAIN_OUT_OF_MEMORY);
+    left = succeeding;
+    status = grain_file_tighten(bytes, len, NULL, GRAIN_NO_LIMIT, &program, NULL, NULL);
+    REQUIRE(status == GRAIN_ACCEPTED || status == GRAIN_REFUSED || status == GRAIN_OUT_OF_MEMORY);
+    left = -1;
+    free(room);
+}
+
+int LLVMFuzzerTestOneInput(const uint8_t *given, size_t len);
+
+int LLVMFuzzerTestOneInput(const uint8_t *given, size_t len) {
+    static unsigned runs;
+    grain_file *file;
+    grain_read_error error = {GRAIN_CAUSE_TOO_LARGE, GRAIN_PART_HEADER, 0, 0, 0};
+    char text[GRAIN_TEXT_SIZE];
+    are_fenced = runs++ % 8 == 0;
+    uint8_t *bytes = are_fenced ? fenced(len, 1) : (uint8_t *)malloc(len);
+    if (len != 0)
+        memcpy(bytes, given, len);
+    grain_status status = grain_file_read(&file, bytes, len, NULL, &error);
+    if (status != GRAIN_ACCEPTED) {
+        REQUIRE(status == GRAIN_MALFORMED && file == NULL && error.at <= len);
+        REQUIRE(grain_read_error_text(&error, text, sizeof text) != 0);
+    } else {
+        try_file(bytes, len, file);
+        try_refused(bytes, len, (long)(runs % 61));
+    }
+    grain_file_free(file);
+    REQUIRE(live == 0);
+    if (are_fenced)
+        munmap(bytes + len - fenced_size(len), fenced_size(len) + PAGE);
+    else
+        free(bytes);
     return 0;
 }

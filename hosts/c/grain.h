@@ -4,7 +4,8 @@
  * yes means, and what it requires of the machine that runs accepted code, is described at grain_verify below.
  *
  * Every function is proved, except for plain C: grain_listing, grain_version, grain_status_text, the three functions that
- * allocate, and the test for NULL before each call. Whatever the numbers and the contents of lists are, a call returns, and
+ * allocate, the code around the calls on files that allocates, fills and frees their records, and the test for NULL before
+ * each call. Whatever the numbers and the contents of lists are, a call returns, and
  * writes only what its description says. The caller must ensure what no library can check:
  *
  * - A list is a pointer and a length. The pointer may be NULL if the length is 0. Any other pointer is aligned to its type,
@@ -19,8 +20,9 @@
  *   two companions (at the end). They free everything before they return, except what a scratch or a file keeps. Don't call
  *   them from a signal handler, nor in a child that a process with several threads has forked.
  *
- * No call waits, prints or ends the process. Nothing is kept between calls except in a scratch or a file. A call takes up to
- * 22 KiB of its thread's stack. Calls that read a file take more, by how deep its values are nested (grain_file_read).
+ * No call waits or prints. Nothing is kept between calls except in a scratch or a file. A call takes up to 22 KiB of its
+ * thread's stack; calls that read a file take more, by how deep its values are nested (grain_file_read). On a thread that has
+ * as much, no call ends the process.
  * The library is for x86-64 Linux, on processors with popcnt (x86-64-v2).
  *
  * FORMAT.md has the instructions, the tables and the rules of verification; EMBEDDING.md says what a host owes
@@ -617,7 +619,7 @@ GRAIN_NODISCARD grain_status grain_listing(uint16_t caps, const grain_program *p
  *
  * Reading goes over the bytes once, and keeps none of them. Memory is linear in the length of the file. The call stack grows by
  * about 1,200 bytes for each level that values are nested: up to 80 KiB for the usual limit of 64 levels, up to 320 KiB for
- * GRAIN_DEPTH_MAX levels. A thread with less must have a lower limit. A program has exactly one file, which is these bytes. */
+ * GRAIN_DEPTH_MAX levels. A thread with less must have a lower limit. A program has at most one file, which is these bytes. */
 GRAIN_NODISCARD grain_status grain_file_read(grain_file **file, const uint8_t *bytes, size_t bytes_len,
                                              const grain_limits *limits, grain_read_error *error);
 

@@ -21,7 +21,7 @@ use std::str;
 
 /// A program file that was read (FORMAT.md, "Program files"): all that the program has.
 ///
-/// Nothing says that the program verifies until [`ProgramFile::verify`] does. A program has exactly one file, so that the bytes
+/// Nothing says that the program verifies until [`ProgramFile::verify`] does. A program has at most one file, so that the bytes
 /// may be hashed, signed and compared in place of it, and a host that writes it again writes these. [`ProgramFile::tighten`] and
 /// [`ProgramFile::strip`] write the file of a program that is changed. Threads may share one.
 ///

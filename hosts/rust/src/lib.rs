@@ -5,6 +5,23 @@
 //! does [what a host owes](crate#what-a-host-owes). The library behind this package is proved to accept exactly the programs of
 //! FORMAT.md, where memory suffices; the package is plain Rust around the library's C functions, tested and not proved.
 //!
+//! A stranger's program file:
+//!
+//! ```
+//! use grain::{Caps, Limits, ProgramFile, VerifiedFile};
+//!
+//! fn accept(untrusted: &[u8]) -> Result<VerifiedFile, Box<dyn std::error::Error>> {
+//!     let file = ProgramFile::read(untrusted, &Limits::new())?;
+//!     Ok(file.into_verified(Caps::FUNCTION | Caps::ARRAY)?)
+//! }
+//!
+//! let verified = accept(include_bytes!("../examples/fib.grain"))?;
+//! assert_eq!((verified.depths().len(), verified.slots()[1]), (2, 1));
+//! # Ok::<(), Box<dyn std::error::Error>>(())
+//! ```
+//!
+//! A program that the host builds:
+//!
 //! ```
 //! use grain::{Caps, Case, Chunk, Pools, Program, Root, Step, Tail};
 //!
@@ -49,11 +66,9 @@
 //! - Its constants, names, functions, chains and switches are those that the verified pools describe, by the same indices.
 //! - It has the capabilities for which the program was verified, and knows what constants can do that are [`Needs::Unknown`].
 //! - Its machine steps as FORMAT.md says ("Verification").
-//! - Where a handler catches a fault, the stacks still have at least what they had when the handler was armed. Accepted code
-//!   ensures this at every instruction except the quiet ones: `UNIT`, `FALSE`, `TRUE`, `POP`, `ROTATE`, `POP_HANDLER`,
-//!   `ITER_DROP`, `UNWIND_TO` and `RETURN` ([`Opcode::is_quiet`]). At these the machine must never fault, or only with at least
-//!   that much left.
-//!
+//! - When a handler catches a fault, the stacks still have at least what they had when the handler was armed. Accepted code
+//!   ensures this at every instruction except the quiet ones ([`Opcode::is_quiet`]). At these the machine must never fault, or
+//!   only with at least that much left.
 //! - It never reads or writes a slot that it hasn't allocated. A slot is any number of 16 bits, and verification tests none.
 //!   [`Verified::slots`] says how many slots each chunk names; a machine that has as many for a call needs no test of a slot.
 //!
@@ -64,7 +79,7 @@
 //! - The length of the code, and of each list of the pools: time and memory grow with them.
 //! - The work: chunks may overlap, so that many short chunks cost as much as long code. [`Verifier::limit`] bounds it.
 //! - The depth of constants is the host's to bound, where it reads them: verification sees only what they need. [`Limits`] bounds
-//!   it for program files, which take about 1,000 bytes of the call stack for each level.
+//!   it for program files, which take about 1,200 bytes of the call stack for each level, of which there are 256 at most.
 //! - The variables of a call: `DECLARE_LOCAL` takes the next slot, which a hostile program can do without end. And the steps of a
 //!   run, and how deep calls are nested.
 //!
