@@ -2,18 +2,20 @@
 """Writes the reference of contracts and definitions from the sources, or says whether it is up to date.
 
     bench/reference.py              fails where a file of docs/reference isn't what the sources say; `--check` is the same
-    bench/reference.py --write      writes docs/reference/contracts.md and docs/reference/definitions.md
+    bench/reference.py --write      writes a page for each crate, and the index README.md
 
-contracts.md has each public function with a contract: its doc comment, its clauses, and what the definitions that a clause
-cites say; and the ghost members of public traits and implementations. It has the wrong bodies that the prover must refuse as well, each by the function that it changes. Of a program
-it has all functions with a contract, since none of them is public. definitions.md has each definition of specs/ with its
-comment and its place, each file after those that it uses.
+The page of a crate has each public function with a contract: its signature, its doc comment, its clauses, and what the
+definitions that a clause cites say; and the ghost members of public traits and implementations. Of a program it has all
+functions with a contract, since none of them is public. Then come the wrong bodies that the prover must refuse, each by the
+function that it changes, and each definition of specs/ with its comment, each file after those that it uses. There are no
+line numbers, so that a page changes only with what it says.
 """
 import dataclasses
 import functools
 import pathlib
 import re
 import sys
+import textwrap
 
 TOP = pathlib.Path(__file__).resolve().parent.parent
 CRATES = TOP / "crates"
@@ -44,7 +46,7 @@ class Function:
     owner: str
     name: str
     path: str
-    line: int
+    signature: str
     visible: str
     docs: list
     clauses: list
@@ -133,6 +135,13 @@ def head_of(lines, number, indent):
     return "\n".join(lines[number:])
 
 
+def signature_of(head):
+    """The head of a function without its clauses and comments, laid out from its first column."""
+    first = CLAUSE.search(head)
+    lines = head[: first.start() if first else len(head)].rstrip().removesuffix("{").rstrip().splitlines()
+    return textwrap.dedent("\n".join(line for line in lines if not line.strip().startswith("//"))).rstrip(";")
+
+
 def functions(crate):
     """The functions of a crate's sources, those of tests left out."""
     for path in sorted((CRATES / crate / "src").glob("**/*.rt")):
@@ -146,13 +155,13 @@ def functions(crate):
             if kind in ("trait", "impl for") and owner_of(line) and not line.endswith("}"):
                 last = next((it for it in range(number, len(lines)) if lines[it] == "}"), number)
                 visible = "" if kind == "trait" and not line.startswith("pub ") else "pub"
-                yield Function(owner, "", relative, number + 1, visible, docs_above(lines, number), list(members_of("\n".join(lines[number:last]))))
+                yield Function(owner, "", relative, "", visible, docs_above(lines, number), list(members_of("\n".join(lines[number:last]))))
             found = FN.match(line)
             if not found:
                 continue
             visible = "pub" if kind in ("trait", "impl for") and found[1] else (found[2] or "").strip()
             head = head_of(lines, number, found[1])
-            yield Function(owner if found[1] else "", found[3], relative, number + 1, visible, docs_above(lines, number), clauses_of(head))
+            yield Function(owner if found[1] else "", found[3], relative, signature_of(head), visible, docs_above(lines, number), clauses_of(head))
 
 
 def exported(crate):
@@ -223,7 +232,7 @@ def summary(docs):
 
 
 class Definitions:
-    """What specs/ defines: of each definition its comment, its place and its parts."""
+    """What specs/ defines: of each definition its comment, its signature and its parts."""
 
     def __init__(self):
         self.found = {}
@@ -244,7 +253,7 @@ class Definitions:
                     at -= 1
                     first.insert(0, lines[at].lstrip("- "))
                 signature = line[begins.start(1) :].removesuffix(" where")
-                own[begins[1]] = (number + 1, " ".join(first) if at > 0 else "", signature, parts_of(lines, number + 1))
+                own[begins[1]] = (" ".join(first) if at > 0 else "", signature, parts_of(lines, number + 1))
         self.found[crate, path.stem] = own
 
     def home(self, crate, path, name):
@@ -255,7 +264,7 @@ class Definitions:
 
     def comment(self, place):
         crate, file, name = place
-        return self.found.get((crate, file), {}).get(name, (0, "", "", []))[1]
+        return self.found.get((crate, file), {}).get(name, ("", "", []))[0]
 
 
 def flat(lines):
@@ -303,10 +312,16 @@ def cited(clause, brought, definitions):
     return seen
 
 
+def link_to(place, crate):
+    """The link from the page of a crate to a definition."""
+    return f"{'' if place[0] == crate else place[0] + '.md'}#{anchor(place)}"
+
+
 def contract_lines(crate, function, name, brought, definitions):
-    yield f"#### `{function.title()}`"
-    yield ""
-    yield f'<a id="{name}"></a>[{function.path}](../../crates/{crate}/{function.path}#L{function.line})'
+    yield f'#### <a id="{name}"></a>`{function.title()}`'
+    if function.signature:
+        yield ""
+        yield from ("```rust", *function.signature.splitlines(), "```")
     for paragraph in summary(function.docs):
         yield ""
         yield paragraph
@@ -317,7 +332,7 @@ def contract_lines(crate, function, name, brought, definitions):
         yield f"- **{clause.kind}**{name}:{comment} `{clause.text}`"
         for place in cited(clause, brought, definitions):
             said = definitions.comment(place)
-            yield f"  - [`{place[2]}`](definitions.md#{anchor(place)})" + (f": {said}" if said else "")
+            yield f"  - [`{place[2]}`]({link_to(place, crate)})" + (f": {said}" if said else "")
     yield ""
 
 
@@ -346,7 +361,9 @@ def wrong_body_lines(crate):
     rows = sorted(wrong_bodies(crate))
     if not rows:
         return
-    yield f"### Wrong bodies of {crate}"
+    yield "## Wrong bodies"
+    yield ""
+    yield "The prover must refuse each, at the open goal if one is named. Each gate tries those in bold."
     yield ""
     yield "| Wrong body | Changes | Open goal |"
     yield "|---|---|---|"
@@ -357,36 +374,21 @@ def wrong_body_lines(crate):
     yield ""
 
 
-def contracts(definitions):
-    lines = [
-        "# Contracts",
-        "",
-        "Each public function with a contract, by crate, and what its clauses cite. [bench/reference.py](../../bench/reference.py) writes this page from the sources: change it there. What is promised in plain words is in [PROMISES.md](../PROMISES.md).",
-        "",
-        "A clause is `ensures` or `requires`, its name, and its text; `ghost` is what a trait or an implementation says of a type, as what is printed or how contracts see it. Below a clause are the definitions that it names, each with its comment in [definitions.md](definitions.md). The prover must refuse each wrong body; each gate tries those in bold. Its open goal is named where the edit does.",
-        "",
-    ]
-    for crate in crates():
-        names, modules = exported(crate)
-        shown = [it for it in functions(crate) if it.clauses and is_public(it, crate, names, modules)]
-        bodies = list(wrong_body_lines(crate))
-        if not shown and not bodies:
-            continue
-        lines += [f"## {crate}", ""]
-        path, anchors = None, {}
-        for function in shown:
-            if function.path != path:
-                path = function.path
-                source = (CRATES / crate / path).read_text()
-                first = re.match(r"(?://! .*\n)+", source)
-                said = " ".join(line.removeprefix("//! ") for line in first[0].splitlines()) if first else ""
-                lines += [f"### {crate}/{path}", "", *([said, ""] if said else [])]
-                brought = believed.uses(re.sub(r"^    ", "", source, flags=re.M))
-            name = f"{crate}-" + re.sub(r"\W+", "-", function.title()).strip("-")
-            anchors[name] = anchors.get(name, 0) + 1
-            lines += contract_lines(crate, function, name if anchors[name] == 1 else f"{name}-{anchors[name]}", brought, definitions)
-        lines += bodies
-    return "\n".join(lines).rstrip("\n") + "\n"
+def contracts(crate, definitions):
+    """The contracts of a crate's public functions, source by source."""
+    names, modules = exported(crate)
+    path, anchors = None, {}
+    for function in (it for it in functions(crate) if it.clauses and is_public(it, crate, names, modules)):
+        if function.path != path:
+            path = function.path
+            source = (CRATES / crate / path).read_text()
+            first = re.match(r"(?://! .*\n)+", source)
+            said = " ".join(line.removeprefix("//! ") for line in first[0].splitlines()) if first else ""
+            yield from (f"### [{path}](../../crates/{crate}/{path})", "", *([said, ""] if said else []))
+            brought = believed.uses(re.sub(r"^    ", "", source, flags=re.M))
+        name = f"{crate}-" + re.sub(r"\W+", "-", function.title()).strip("-")
+        anchors[name] = anchors.get(name, 0) + 1
+        yield from contract_lines(crate, function, name if anchors[name] == 1 else f"{name}-{anchors[name]}", brought, definitions)
 
 
 def in_order(crate, definitions, files):
@@ -402,34 +404,72 @@ def in_order(crate, definitions, files):
     return ordered
 
 
-def reading(files, definitions):
-    lines = [
-        "# Definitions of the contracts",
-        "",
-        "Each definition of specs/ with its comment, in reading order. [bench/reference.py](../../bench/reference.py) writes this page from the sources: change it there. [DEFINITIONS.md](../DEFINITIONS.md) says what to read first. A definition without a comment has its type here.",
-        "",
-    ]
-    for crate in crates():
-        if not (CRATES / crate / "specs" / "Lib.antt").is_file():
+def reading(crate, files, definitions):
+    """The definitions of a crate in reading order."""
+    if not (CRATES / crate / "specs" / "Lib.antt").is_file():
+        return
+    for file in in_order(crate, definitions, files):
+        own = definitions.found[crate, file]
+        if not own:
             continue
-        lines += [f"## {crate}", ""]
-        for file in in_order(crate, definitions, files):
-            own = definitions.found[crate, file]
-            if not own:
-                continue
-            lines += [f"### {crate}/specs/{file}.antt", "", *([definitions.heads[crate, file], ""] if definitions.heads[crate, file] else [])]
-            for name, (number, comment, signature, parts) in own.items():
-                place = f'<a id="{anchor((crate, file, name))}"></a>[`{name}`](../../crates/{crate}/specs/{file}.antt#L{number})'
-                lines.append(f"- {place}: {comment or f'`{signature}`'}")
-                lines += [f"  - `{part}`: {said}" for part, said in parts]
-            lines.append("")
-    return "\n".join(lines).rstrip("\n") + "\n"
+        head = definitions.heads[crate, file]
+        yield from (f"### [specs/{file}.antt](../../crates/{crate}/specs/{file}.antt)", "", *([head, ""] if head else []))
+        for name, (comment, signature, parts) in own.items():
+            yield f'- <a id="{anchor((crate, file, name))}"></a>`{name}`: {comment or f"`{signature}`"}'
+            yield from (f"  - `{part}`: {said}" for part, said in parts)
+        yield ""
+
+
+def page(crate, files, definitions):
+    """The page of a crate; none if it has no contract, no definition and no wrong body."""
+    clauses, defined = list(contracts(crate, definitions)), list(reading(crate, files, definitions))
+    bodies = list(wrong_body_lines(crate))
+    if not clauses and not defined and not bodies:
+        return None
+    lines = [f"# {crate}", "", f"Written from the sources of [{crate}](../../crates/{crate}) by [bench/reference.py](../../bench/reference.py). [README.md](README.md) says how to read it.", ""]
+    lines += ["## Contracts", "", *clauses] if clauses else []
+    lines += bodies
+    lines += ["## Definitions", "", *defined] if defined else []
+    return linked("\n".join(lines).rstrip("\n") + "\n")
+
+
+INDEX = """# Reference
+
+A page for each crate, lowest first, written from the sources by [bench/reference.py](../../bench/reference.py): change it there. [PROMISES.md](../PROMISES.md) says in plain words what is promised, [DEFINITIONS.md](../DEFINITIONS.md) which definitions to read first, and [belief.md](belief.md) what the contract of `verify` rests on.
+
+## Reading a contract
+
+- A clause is `ensures` or `requires`, its name, and its text. `requires` is the caller's duty, and `ensures` what then holds after the call. `ghost` is what a trait or an implementation says of a type: what is printed, or how contracts see it.
+- `x.now` is the value of an argument `x` that the function only reads. Of one that it may change, `x.old` is the value before the call and `x.new` the value after it. `result` is what is returned.
+- `IfOk result (λ value. P)` holds if the result is an error, or P holds of the value in it. `IfErr`, `IfSome` and `IfNone` are read likewise. `OnOk result P` is P if the result is `Ok`.
+- `λ x. P` is P as a property of x. `A × B` is both, `A ⊎ B` one of the two, `A → B` that A implies B, `⊥` what never holds. `a ≡ b` is that a and b are equal. `(x : T) × P` is that there is such an x, `(x : T) → P` that P holds of each.
+- Below a clause are the definitions that it names, each with its comment. A definition without a comment has its type here.
+
+## Crates
+
+| Crate | Public functions with a contract | Definitions |
+|---|---|---|
+"""
+
+
+def index(found):
+    """The index: of each crate its contracts and definitions, counted."""
+    rows = (f"| [{crate}]({crate}.md) | {text.count(chr(10) + '#### ')} | {len(re.findall(r'^- <a id=', text, re.M))} |" for crate, text in found.items())
+    return INDEX + "\n".join(rows) + "\n"
 
 
 def pages():
     """The text of each page by its file."""
     files, definitions = believed.all_files(), Definitions()
-    return {REFERENCE / "contracts.md": linked(contracts(definitions)), REFERENCE / "definitions.md": linked(reading(files, definitions))}
+    found = {crate: text for crate in crates() if (text := page(crate, files, definitions))}
+    written = {REFERENCE / f"{crate}.md": text for crate, text in found.items()}
+    return {REFERENCE / "README.md": index(found), **written}
+
+
+def others():
+    """Pages of crates that aren't there, or have nothing to show."""
+    kept = {*pages(), REFERENCE / "belief.md"}
+    return [path for path in REFERENCE.glob("*.md") if path not in kept]
 
 
 def stale():
@@ -437,11 +477,14 @@ def stale():
     for path, text in pages().items():
         if not path.is_file() or path.read_text() != text:
             yield f"{path.relative_to(TOP)} isn't up to date: run bench/reference.py --write"
+    yield from (f"{path.relative_to(TOP)} is the page of no crate" for path in others())
 
 
 def main():
     if sys.argv[1:] == ["--write"]:
         REFERENCE.mkdir(exist_ok=True)
+        for path in others():
+            path.unlink()
         for path, text in pages().items():
             path.write_text(text)
         return 0
