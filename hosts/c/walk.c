@@ -160,9 +160,9 @@ static void decode(const uint8_t *code, size_t at, uint32_t fields[3]) {
     }
 }
 
-/* Runs the chunk of an accepted program. No test is made of addresses, indices or operands: `operands` has as many places as
- * the chunk's depth. A slot is any number of 16 bits, so `locals` has a place for each. false: a function isn't there, or an
- * instruction that this host doesn't know. Without PUSH_HANDLER nothing catches that, so the run ends. */
+/* Runs the chunk of an accepted program. No test is made of addresses, indices, operands or slots: `operands` has room for the
+ * chunk's depth, and `locals` for its slots. false: a function isn't there, or an instruction that this host doesn't know.
+ * Without PUSH_HANDLER nothing catches that, so the run ends. */
 static bool run(const script *of, int64_t *operands, int64_t *locals, int64_t *result) {
     const uint8_t *code = of->code.items;
     const int64_t *values = of->values.items;
@@ -221,20 +221,20 @@ static void explain(const script *of, const grain_refusal *refusal) {
 
 /* Verifies a program, and runs it or explains why not. */
 static bool answer(grain_scratch *scratch, const script *of) {
-    static int64_t locals[UINT16_MAX + 1];
     uint16_t depth = 0;
+    uint32_t slots = 0;
     int64_t result = 0;
     grain_report report;
     grain_program program = program_of(of);
     /* The chunks don't overlap, so the length of the code bounds the work. */
-    grain_status status = grain_verify(scratch, GRAIN_CAP_ALL, program.code_len, &program, &depth, 1, NULL, &report);
+    grain_status status = grain_verify(scratch, GRAIN_CAP_ALL, program.code_len, &program, &depth, 1, &slots, &report);
     if (status == GRAIN_REFUSED)
         explain(of, &report.refusal);
     if (status != GRAIN_ACCEPTED)
         return false;
-    int64_t *operands = malloc((depth + 1u) * sizeof *operands);
-    bool is_done = operands != NULL && run(of, operands, locals, &result);
-    free(operands);
+    int64_t *locals = calloc((size_t)slots + depth + 1, sizeof *locals);
+    bool is_done = locals != NULL && run(of, locals + slots, locals, &result);
+    free(locals);
     printf(is_done ? "depth %u, visited %llu, result %lld\n" : "the run ended early\n", depth,
            (unsigned long long)report.visited, (long long)result);
     return is_done;

@@ -128,10 +128,9 @@ bool call(const std::string &name, std::uint32_t count, const std::int64_t *argu
     return true;
 }
 
-// Runs an accepted script. No test is made of addresses, indices or operands: `operands` has as many places as the chunk's
-// depth, and there is a local for each slot of 16 bits.
-bool run(const Script &script, std::int64_t *operands, std::int64_t &result) {
-    std::vector<std::int64_t> locals(0x10000);
+// Runs an accepted script. No test is made of addresses, indices, operands or slots: `operands` has room for the chunk's depth,
+// and `locals` for its slots.
+bool run(const Script &script, std::int64_t *operands, std::int64_t *locals, std::int64_t &result) {
     std::size_t at = 0, depth = 0;
     for (;;) {
         const Form form = form_of(script.code[at]);
@@ -191,9 +190,9 @@ bool answer(grain::Verifier &verifier, const Script &script) {
         explain(script, flat.program(), found.report.refusal);
     if (found.status != GRAIN_ACCEPTED)
         return false;
-    std::vector<std::int64_t> operands(found.depths[0]);
+    std::vector<std::int64_t> operands(found.depths[0]), locals(found.slots[0]);
     std::int64_t result = 0;
-    if (!run(script, operands.data(), result))
+    if (!run(script, operands.data(), locals.data(), result))
         return false;
     std::printf("depth %u, visited %llu, result %lld\n", found.depths[0],
                 static_cast<unsigned long long>(found.report.visited), static_cast<long long>(result));

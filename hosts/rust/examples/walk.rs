@@ -110,14 +110,14 @@ fn sum(is_bad: bool) -> Script {
     }
 }
 
-/// Runs a chunk of an accepted program on a stack of just its depth. What a fault is, the host says: here, a text.
+/// Runs a chunk of an accepted program on a stack of just its depth, with just its slots. A fault is a text here.
 ///
-/// It tests no operand and no address: accepted code has them all. Slots, types and the end of a run are the host's own to see
-/// to.
+/// It tests no operand, no address and no slot: accepted code has them all. Types and the number of steps must be checked by
+/// the host.
 fn run(verified: &Verified, script: &Script, chunk: usize) -> Result<Value, &'static str> {
     let depth = verified.depth(chunk).ok_or("no such chunk")?;
     let mut stack = vec![Value::Unit; usize::from(depth)];
-    let (mut top, mut locals) = (0, [Value::Unit; 16]);
+    let (mut top, mut locals) = (0, vec![Value::Unit; verified.slots()[chunk] as usize]);
     let mut address = verified.chunks()[chunk].entry;
     for _ in 0..10_000 {
         let Some((opcode, fields)) = Opcode::decode(verified.code(), address) else {
@@ -133,13 +133,10 @@ fn run(verified: &Verified, script: &Script, chunk: usize) -> Result<Value, &'st
             Opcode::Unit => push(&mut top, Value::Unit),
             Opcode::True => push(&mut top, Value::Bool(true)),
             Opcode::False => push(&mut top, Value::Bool(false)),
-            Opcode::LoadLocal => {
-                let slot = locals.get(fields[0] as usize).ok_or("no such slot")?;
-                push(&mut top, *slot);
-            }
+            Opcode::LoadLocal => push(&mut top, locals[fields[0] as usize]),
             Opcode::StoreLocal => {
                 top -= 1;
-                *locals.get_mut(fields[0] as usize).ok_or("no such slot")? = stack[top];
+                locals[fields[0] as usize] = stack[top];
             }
             Opcode::Call => {
                 top -= fields[1] as usize;
