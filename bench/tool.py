@@ -1,5 +1,6 @@
 #!/usr/bin/env python3
-"""Whether the built command `grain` does what docs/COMMAND.md and docs/ASSEMBLY.md say, tried as a person would.
+"""Whether the built command `grain` does what docs/COMMAND.md and docs/ASSEMBLY.md say, tried as a person would. Their examples are
+run by .ci/examples.
 
     python3 bench/tool.py TOOL [--programs N]
 
@@ -668,20 +669,6 @@ def check_orders(tool):
     expect(one == other, "sections below the code are numbered otherwise than above it")
 
 
-def check_documents(tool):
-    """Each program of docs/ASSEMBLY.md is assembled and accepted."""
-    page = (TOP / "docs/ASSEMBLY.md").read_text()
-    found = re.findall(r"(?:^    .*\n|^\n)+", page[page.index("## A loop"):], re.M)
-    programs = [re.sub(r"^    ", "", block, flags=re.M) for block in found if block.strip()]
-    expect(len(programs) == 3, f"docs/ASSEMBLY.md has {len(programs)} programs")
-    answers = []
-    for program in programs:
-        file = tool.write("page.grain", tool.done("parse", "-", given=program.encode()))
-        tool.done("validate", file)
-        answers.append(tool.done("run", file).strip())
-    expect(answers == [b"55", b"no luck", b"30"], f"the programs of docs/ASSEMBLY.md give {answers}")
-
-
 def check_texts(tool):
     """Each text of bench/assembly makes a program that its printed text makes too, and that of the try is printed so."""
     for path in sorted((TOP / "bench/assembly").glob("*.gasm")):
@@ -737,7 +724,7 @@ def main():
         if given.write:
             SNAPSHOTS.write_text(snapshots(tool))
             return
-        for check in (check_help, check_snapshots, check_missing, check_programs, check_scripts, check_pointers, check_refusals, check_listings, check_flows, check_positions, check_orders, check_writes, check_overlaps, check_limits, check_escapes, check_cuts, check_dumps, check_page, check_sidecar, check_changes, check_texts, check_items, check_documents, check_large):
+        for check in (check_help, check_snapshots, check_missing, check_programs, check_scripts, check_pointers, check_refusals, check_listings, check_flows, check_positions, check_orders, check_writes, check_overlaps, check_limits, check_escapes, check_cuts, check_dumps, check_page, check_sidecar, check_changes, check_texts, check_items, check_large):
             check(tool)
         check_round_trips(tool, given.programs)
     print("grain: all well")
