@@ -43,8 +43,8 @@ PREPARING = {"error: AllocError", "error: AllocFailed { .. }", "error: OutOfMemo
 
 # The crate that has the tests of each.
 TESTS = {
-    "grain_base": "grain_lower_tests",
-    "grain_bytecode": "grain_lower_tests",
+    "grain_base": "grain_tests",
+    "grain_bytecode": "grain_tests",
     "grain": "grain_tests",
     "grain_explain": "grain_tests",
     "grain_file": "grain_file_tests",

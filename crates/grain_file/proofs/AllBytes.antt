@@ -3,15 +3,15 @@ use Rattle.std.proofs.Common.{◌≡◌, ℕ, ◌+◌, ◌-◌, ◌≤◌, cond,
 use Rattle.std.specs.Prelude.{MatchResult, IfOk, IfErr}
 use Rattle.std.proofs.lemmas.Bool.{eqb-true}
 use Rattle.std.proofs.lemmas.List.{append-nil, drop_at, nil_from_length}
-use Rattle.grain_fields.specs.declared.error.Fault.TheVariants.{Trailing}
+use Rattle.grain_format.specs.declared.error.Fault.TheVariants.{Trailing}
 use Rattle.grain_file.specs.declared.file.Limits.{Limits}
 use Rattle.grain_file.specs.declared.file.ReadError.{ReadError}
 use Rattle.grain_file.specs.declared.file.ReadError.TheVariants as errors
 use Rattle.grain_file.specs.Causes.{IsCauseIn, IsFaultIn}
-use Rattle.grain_fields.specs.Ends.{err_is, bind_err, at_whole, end_moved}
-use Rattle.grain_fields.specs.Formats.{Format, whole}
-use Rattle.grain_fields.specs.Laws.{bind_ok, chosen, ok_is}
-use Rattle.grain_fields.specs.Reading.{LocatedFault, AreBytes, Ends}
+use Rattle.grain_format.specs.Ends.{err_is, bind_err, at_whole, end_moved}
+use Rattle.grain_format.specs.Formats.{Format, whole}
+use Rattle.grain_format.specs.Laws.{bind_ok, chosen, ok_is}
+use Rattle.grain_format.specs.Reading.{LocatedFault, AreBytes, Ends}
 
 module _ {K : Type 0} (F : Format K) where
   abbrev pub Spells : List ℕ → K → Type 0

@@ -18,13 +18,13 @@ use Rattle.grain_pools.specs.declared.chain.Step.TheVariants as steps
 use Rattle.grain.specs.Program.{Program}
 use Rattle.grain.specs.Sidecars.{IsStripped}
 use Rattle.grain.specs.Tightened.{IsTightened, undeclared_function}
-use Rattle.grain_fields.specs.Chains.{chain_format, chain_parts, root_format, root_parts, step_format, step_parts, place_format, line_and_column, tail_format, tail_parts}
-use Rattle.grain_fields.specs.Formats.{any_number, blob, both, byte, counted_list, depending, number_below, only, optional, tag_below, text}
-use Rattle.grain_fields.specs.Functions.{chunk_format, function_format, function_parts}
-use Rattle.grain_fields.proofs.NoLonger.{NoLonger, both_no_longer, depending_no_longer, list_no_longer, none_no_longer, same, smaller}
-use Rattle.grain_fields.specs.Names.{names_format}
-use Rattle.grain_fields.specs.Switches.{switch_format}
-use Rattle.grain_fields.specs.Tokens.{assign_op_format, token_format}
+use Rattle.grain_format.specs.Chains.{chain_format, chain_parts, root_format, root_parts, step_format, step_parts, place_format, line_and_column, tail_format, tail_parts}
+use Rattle.grain_format.specs.Formats.{any_number, blob, both, byte, counted_list, depending, number_below, only, optional, tag_below, text}
+use Rattle.grain_format.specs.Functions.{chunk_format, function_format, function_parts}
+use Rattle.grain_format.proofs.NoLonger.{NoLonger, both_no_longer, depending_no_longer, list_no_longer, none_no_longer, same, smaller}
+use Rattle.grain_format.specs.Names.{names_format}
+use Rattle.grain_format.specs.Switches.{switch_format}
+use Rattle.grain_format.specs.Tokens.{assign_op_format, token_format}
 use Rattle.grain_pools.specs.declared.chain.Tail.{Tail}
 use Rattle.grain_file.specs.Loading.{IsFileOf}
 use Rattle.grain_file.specs.ProgramFile.{Bounds, Kept, body_format, bounds_of, code_format, file_format, kept, pools_format, positions_format, residuals_refusal, rest_format, value_format, versioned_format}

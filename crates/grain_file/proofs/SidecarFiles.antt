@@ -5,7 +5,7 @@ use Rattle.grain.specs.declared.sidecar.Sidecar.{Sidecar}
 use Rattle.grain_file.specs.declared.file.Limits.{Limits}
 use Rattle.grain_file.specs.declared.file.ReadError.{ReadError}
 use Rattle.grain_file.specs.declared.file.ReadError.TheVariants as errors
-use Rattle.grain_fields.specs.Reading.{AreBytes}
+use Rattle.grain_format.specs.Reading.{AreBytes}
 use Rattle.grain_file.specs.SidecarFile.{IsSidecarFile, IsSidecarFileWithin, SidecarParts, sidecar_format, sidecar_parts}
 use Rattle.grain_file.proofs.AllBytes.{Given, all_found, one_spelling, one_value, result_only}
 

@@ -2,26 +2,26 @@
 use Rattle.std.proofs.Common.{◌≡◌, ℕ, ◌≤◌, max, eqb, List, [], ◌∷◌, length, Result, Ok, Err, None, refl, sym, ap, ◌∙◌, arith, inl, inr}
 use Rattle.std.specs.Prelude.{MatchResult, IfOk, IfErr}
 use Rattle.grain.specs.Program.{Program}
-use Rattle.grain_fields.specs.declared.error.Fault.{Fault}
-use Rattle.grain_fields.specs.declared.error.Fault.TheVariants.{Magic}
-use Rattle.grain_fields.specs.declared.error.WriteError.TheVariants as write_error
-use Rattle.grain_fields.specs.declared.error.WriteError.{WriteError}
+use Rattle.grain_format.specs.declared.error.Fault.{Fault}
+use Rattle.grain_format.specs.declared.error.Fault.TheVariants.{Magic}
+use Rattle.grain_format.specs.declared.error.WriteError.TheVariants as write_error
+use Rattle.grain_format.specs.declared.error.WriteError.{WriteError}
 use Rattle.grain_file.specs.declared.file.Limits.{Limits}
 use Rattle.grain_file.specs.declared.file.ReadError.{ReadError}
 use Rattle.grain_file.specs.declared.file.TheConstants.{MAX_DEPTH}
 use Rattle.grain_file.specs.declared.file.ReadError.TheVariants as errors
-use Rattle.grain_fields.specs.Reading.{LocatedFault, AreBytes, Decides}
-use Rattle.grain_fields.specs.Laws.{chosen, ok_is}
+use Rattle.grain_format.specs.Reading.{LocatedFault, AreBytes, Decides}
+use Rattle.grain_format.specs.Laws.{chosen, ok_is}
 use Rattle.grain_file.specs.ProgramFile.{Bounds, bounds_of, no_bounds, Kept, kept, pools_format, file_format, versioned_format, body_format, IsFile, IsFileWithin, refusal_of, whole_at}
-use Rattle.grain_fields.specs.Texts.{expected_at}
-use Rattle.grain_fields.specs.Lists.{CountedFit, headed_at}
-use Rattle.grain_fields.specs.Names.{names_format}
+use Rattle.grain_format.specs.Texts.{expected_at}
+use Rattle.grain_format.specs.Lists.{CountedFit, headed_at}
+use Rattle.grain_format.specs.Names.{names_format}
 use Rattle.grain_base.specs.Tokens.{TokenParts}
-use Rattle.grain_fields.specs.Tokens.{AssignOpParts, token_format, assign_op_format}
-use Rattle.grain_fields.specs.Chains.{ChainParts, chain_format}
-use Rattle.grain_fields.specs.Switches.{FitsAlone, SwitchParts, each_more, each_switch, most_cases}
-use Rattle.grain_fields.specs.Form.{Form, IsSound}
-use Rattle.grain_fields.specs.FormSound.{deepest, each_within, each_deeper}
+use Rattle.grain_format.specs.Tokens.{AssignOpParts, token_format, assign_op_format}
+use Rattle.grain_format.specs.Chains.{ChainParts, chain_format}
+use Rattle.grain_format.specs.Switches.{FitsAlone, SwitchParts, each_more, each_switch, most_cases}
+use Rattle.grain_format.specs.Form.{Form, IsSound}
+use Rattle.grain_format.specs.FormSound.{deepest, each_within, each_deeper}
 use Rattle.grain_file.specs.Causes.{IsReadCause, IsReadFault}
 use Rattle.grain_file.proofs.AllBytes.{all_again, all_found, result_exact, result_only}
 

@@ -6,17 +6,17 @@ use Rattle.grain_base.specs.declared.value.Dynamic.{Dynamic}
 use Rattle.grain_pools.specs.Dispatch.{arms, listed}
 use Rattle.grain_pools.specs.declared.switch.Switch.{Switch}
 use Rattle.grain.specs.Program.{Program, places_of}
-use Rattle.grain_fields.specs.declared.error.Unkept.{Unkept}
-use Rattle.grain_fields.specs.Reading.{or_refused}
-use Rattle.grain_fields.specs.Refusals.{counted_refusal, optional_refusal}
-use Rattle.grain_fields.specs.Functions.{FunctionParts, function_format}
+use Rattle.grain_format.specs.declared.error.Unkept.{Unkept}
+use Rattle.grain_format.specs.Reading.{or_refused}
+use Rattle.grain_format.specs.Refusals.{counted_refusal, optional_refusal}
+use Rattle.grain_format.specs.Functions.{FunctionParts, function_format}
 use Rattle.grain_base.specs.Tokens.{TokenParts, token_parts}
-use Rattle.grain_fields.specs.Tokens.{AssignOpParts, assign_op_parts, token_format, assign_op_format}
+use Rattle.grain_format.specs.Tokens.{AssignOpParts, assign_op_parts, token_format, assign_op_format}
 use Rattle.grain_bytecode.specs.Positions.{Place}
-use Rattle.grain_fields.specs.Chains.{RootParts, StepParts, ChainParts, chain_parts, root_format, step_format, tail_format, chain_format, place_format}
-use Rattle.grain_fields.specs.Switches.{case_format, key_refusal, range_format, switch_parts, switch_refusal}
-use Rattle.grain_fields.specs.Cases.{is_keyed}
-use Rattle.grain_fields.specs.Form.{forms, value_refusal}
+use Rattle.grain_format.specs.Chains.{RootParts, StepParts, ChainParts, chain_parts, root_format, step_format, tail_format, chain_format, place_format}
+use Rattle.grain_format.specs.Switches.{case_format, key_refusal, range_format, switch_parts, switch_refusal}
+use Rattle.grain_format.specs.Cases.{is_keyed}
+use Rattle.grain_format.specs.Form.{forms, value_refusal}
 use Rattle.grain_file.specs.ProgramFile.{CodeParts, code_format, pools_format, rest_format, positions_format, versioned_format, body_format, file_format, residuals_refusal, kept, refusal_of}
 use Rattle.grain_file.specs.Writable.{IsWritableProgram}
 

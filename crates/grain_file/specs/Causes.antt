@@ -1,18 +1,18 @@
 -- What a refusal says of the bytes, and what of the parts of a program is kept.
 use Rattle.std.specs.Prelude.{◌≡◌, ℕ, ◌-◌, ◌<◌, ◌≤◌, List, length, drop, map, Result, Err}
-use Rattle.grain_fields.specs.Reading.{LocatedFault}
+use Rattle.grain_format.specs.Reading.{LocatedFault}
 use Rattle.grain_file.specs.declared.file.Code.{Code}
 use Rattle.grain_file.specs.declared.file.PoolFields.{PoolFields}
 use Rattle.grain_file.specs.declared.file.Limits.{Limits}
 use Rattle.grain_file.specs.declared.file.ReadError.{ReadError}
 use Rattle.grain_file.specs.declared.file.TheConstants.{MAX_DEPTH}
 use Rattle.grain_file.specs.declared.file.ReadError.TheVariants as errors
-use Rattle.grain_fields.specs.Form.{forms}
-use Rattle.grain_fields.specs.Functions.{function_parts}
+use Rattle.grain_format.specs.Form.{forms}
+use Rattle.grain_format.specs.Functions.{function_parts}
 use Rattle.grain_base.specs.Tokens.{token_parts}
-use Rattle.grain_fields.specs.Tokens.{assign_op_parts}
-use Rattle.grain_fields.specs.Chains.{chain_parts}
-use Rattle.grain_fields.specs.Switches.{switch_parts}
+use Rattle.grain_format.specs.Tokens.{assign_op_parts}
+use Rattle.grain_format.specs.Chains.{chain_parts}
+use Rattle.grain_format.specs.Switches.{switch_parts}
 use Rattle.grain_file.specs.ProgramFile.{Bounds, CodeParts, PoolParts, bounds_of, halves, whole_at}
 
 abbrev pub code_parts : Code → CodeParts

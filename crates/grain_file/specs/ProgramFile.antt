@@ -4,23 +4,23 @@ use Rattle.grain_code.specs.Span.{Span}
 use Rattle.grain.specs.Program.{Program, places_of}
 use Rattle.grain_file.specs.declared.file.Limits.{Limits}
 use Rattle.grain_file.specs.declared.file.TheConstants.{MAX_DEPTH}
-use Rattle.grain_fields.specs.declared.error.Fault.TheVariants.{Magic, Version, Kind}
-use Rattle.grain_fields.specs.declared.error.Unkept.{Unkept}
-use Rattle.grain_fields.specs.declared.error.Unkept.TheVariants.{Residuals}
-use Rattle.grain_fields.specs.Reading.{LocatedFault}
-use Rattle.grain_fields.specs.Formats.{Format, any_number, number_below, blob, text, only, both, depending, counted_list, optional, headed, whole}
-use Rattle.grain_fields.specs.Functions.{FunctionParts, function_parts, function_format, chunk_format}
-use Rattle.grain_fields.specs.Names.{names_format}
+use Rattle.grain_format.specs.declared.error.Fault.TheVariants.{Magic, Version, Kind}
+use Rattle.grain_format.specs.declared.error.Unkept.{Unkept}
+use Rattle.grain_format.specs.declared.error.Unkept.TheVariants.{Residuals}
+use Rattle.grain_format.specs.Reading.{LocatedFault}
+use Rattle.grain_format.specs.Formats.{Format, any_number, number_below, blob, text, only, both, depending, counted_list, optional, headed, whole}
+use Rattle.grain_format.specs.Functions.{FunctionParts, function_parts, function_format, chunk_format}
+use Rattle.grain_format.specs.Names.{names_format}
 use Rattle.grain_base.specs.Tokens.{TokenParts, token_parts}
-use Rattle.grain_fields.specs.Tokens.{AssignOpParts, token_format, assign_op_parts, assign_op_format}
+use Rattle.grain_format.specs.Tokens.{AssignOpParts, token_format, assign_op_parts, assign_op_format}
 use Rattle.grain_bytecode.specs.Positions.{Place}
-use Rattle.grain_fields.specs.Chains.{ChainParts, chain_parts, chain_format, place_format}
-use Rattle.grain_fields.specs.Switches.{SwitchParts, most_cases, switch_parts, switch_format}
-use Rattle.grain_fields.specs.Form.{Form, forms, spelled, value_refusal, FitsWithin}
-use Rattle.grain_fields.specs.FormAt.{value_at}
-use Rattle.grain_fields.specs.FormLaws.{value_takes, value_again}
-use Rattle.grain_fields.specs.FormEnds.{value_ends}
-use Rattle.grain_fields.specs.FormSound.{value_keeps, deepest}
+use Rattle.grain_format.specs.Chains.{ChainParts, chain_parts, chain_format, place_format}
+use Rattle.grain_format.specs.Switches.{SwitchParts, most_cases, switch_parts, switch_format}
+use Rattle.grain_format.specs.Form.{Form, forms, spelled, value_refusal, FitsWithin}
+use Rattle.grain_format.specs.FormAt.{value_at}
+use Rattle.grain_format.specs.FormLaws.{value_takes, value_again}
+use Rattle.grain_format.specs.FormEnds.{value_ends}
+use Rattle.grain_format.specs.FormSound.{value_keeps, deepest}
 
 abbrev pub value_format : ℕ → Format Form
 value_format depth = record { spelling = spelled; Fits = FitsWithin depth; reading = value_at depth; refusal = value_refusal; takes = value_takes depth; again = value_again depth; keeps = value_keeps depth; ends = value_ends depth }

@@ -3,8 +3,8 @@ use Rattle.std.specs.Prelude.{◌≡◌, true, None}
 use Rattle.std.specs.List.{AllByRecursion, list_all}
 use Rattle.grain_pools.specs.Dispatch.{arms, listed}
 use Rattle.grain.specs.Program.{Program}
-use Rattle.grain_fields.specs.Cases.{is_keyed}
-use Rattle.grain_fields.specs.Form.{forms, value_refusal}
+use Rattle.grain_format.specs.Cases.{is_keyed}
+use Rattle.grain_format.specs.Form.{forms, value_refusal}
 
 -- No constant has a value of the host, at any depth, the key of each case is its constant, and no fragment of syntax is left.
 pub record IsWritableProgram (p : Program) : Type 0 where

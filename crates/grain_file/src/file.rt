@@ -2,13 +2,13 @@
 ghost use Rattle.std.specs.Prelude.{◌≡◌, ◌≤◌, ◌⊎◌, ℕ, List, Option, Ok, [], IfOk, IfErr, OnOk, MatchResult, map, option_map, string_bytes};
 ghost use Rattle.grain.specs.Program.{Program, listed_positions};
 ghost use Rattle.grain_base.specs.Place.{place_of};
-ghost use Rattle.grain_fields.specs.Reading.{Decides, Gives};
-ghost use Rattle.grain_fields.specs.Form.{forms};
-ghost use Rattle.grain_fields.specs.Functions.{function_parts};
+ghost use Rattle.grain_format.specs.Reading.{Decides, Gives};
+ghost use Rattle.grain_format.specs.Form.{forms};
+ghost use Rattle.grain_format.specs.Functions.{function_parts};
 ghost use Rattle.grain_base.specs.Tokens.{token_parts};
-ghost use Rattle.grain_fields.specs.Tokens.{assign_op_parts};
-ghost use Rattle.grain_fields.specs.Chains.{chain_parts};
-ghost use Rattle.grain_fields.specs.Switches.{switch_parts};
+ghost use Rattle.grain_format.specs.Tokens.{assign_op_parts};
+ghost use Rattle.grain_format.specs.Chains.{chain_parts};
+ghost use Rattle.grain_format.specs.Switches.{switch_parts};
 ghost use Rattle.grain_file.specs.ProgramFile.{CodeParts, bounds_of, IsFileWithin, Kept, PoolParts, body_format, code_format, file_format, halves, kept, pools_format, rest_format, versioned_format, whole_at};
 ghost use Rattle.grain_file.specs.Causes.{IsReadCause, IsReadFault, code_parts, pool_parts};
 
@@ -16,7 +16,7 @@ use grain::{Parts, Program};
 use grain_base::{Caps, Dynamic, Flags, Position, Token};
 use grain_bytecode::Positions;
 use grain_code::{Chunk, Function};
-use grain_fields::{Cursor, Fault, Field, Part, Stop, read_names, read_switches, read_values};
+use grain_format::{Cursor, Fault, Field, Part, Stop, read_names, read_switches, read_values};
 use grain_pools::{AssignOp, Chain, Strings, Switch};
 use std::alloc::Global;
 use thiserror::Error;
@@ -150,7 +150,7 @@ fn read_file(cursor: &mut Cursor<'_>, limits: &Limits) -> Result<Program, Stop>
 }
 
 /// Reads what a file begins with, and what follows.
-#[tactic(auto, unfolding(crate::specs::ProgramFile::file_format, grain_fields::specs::Texts::expected_at))]
+#[tactic(auto, unfolding(crate::specs::ProgramFile::file_format, grain_format::specs::Texts::expected_at))]
 fn read_headed(cursor: &mut Cursor<'_>, limits: &Limits) -> Result<Program, Stop>
     ensures { Gives kept result cursor.new.left.now
         ((file_format (bounds_of limits.now)).reading cursor.old.left.now) }
@@ -164,7 +164,7 @@ fn read_headed(cursor: &mut Cursor<'_>, limits: &Limits) -> Result<Program, Stop
 }
 
 /// Reads the version, the kind and the program.
-#[tactic(auto, unfolding(crate::specs::ProgramFile::versioned_format, grain_fields::specs::Texts::expected_at))]
+#[tactic(auto, unfolding(crate::specs::ProgramFile::versioned_format, grain_format::specs::Texts::expected_at))]
 fn read_versioned(cursor: &mut Cursor<'_>, limits: &Limits) -> Result<Program, Stop>
     ensures { Gives kept result cursor.new.left.now
         ((versioned_format (bounds_of limits.now)).reading cursor.old.left.now) }
@@ -176,7 +176,7 @@ fn read_versioned(cursor: &mut Cursor<'_>, limits: &Limits) -> Result<Program, S
 }
 
 /// Reads the program.
-#[tactic(auto, unfolding(crate::specs::ProgramFile::body_format, crate::specs::ProgramFile::rest_format, grain_fields::specs::Texts::expected_at))]
+#[tactic(auto, unfolding(crate::specs::ProgramFile::body_format, crate::specs::ProgramFile::rest_format, grain_format::specs::Texts::expected_at))]
 fn read_body(cursor: &mut Cursor<'_>, limits: &Limits) -> Result<Program, Stop>
     ensures { Gives kept result cursor.new.left.now
         ((body_format (bounds_of limits.now)).reading cursor.old.left.now) }

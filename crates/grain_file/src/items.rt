@@ -2,21 +2,21 @@
 ghost use Rattle.std.specs.Prelude.{◌≡◌, ◌++◌, ◌∷◌, [], ℕ, List, Option, IfOk, OnOk, length, map, option_map};
 ghost use Rattle.grain.specs.Program.{listed_positions};
 ghost use Rattle.grain_base.specs.Place.{place_of};
-ghost use Rattle.grain_fields.specs.Form.{value_form, forms, spelled};
-ghost use Rattle.grain_fields.specs.Formats.{any_number, both, optional, text};
-ghost use Rattle.grain_fields.specs.Lists.{counted_spelling};
-ghost use Rattle.grain_fields.specs.Names.{names_format};
+ghost use Rattle.grain_format.specs.Form.{value_form, forms, spelled};
+ghost use Rattle.grain_format.specs.Formats.{any_number, both, optional, text};
+ghost use Rattle.grain_format.specs.Lists.{counted_spelling};
+ghost use Rattle.grain_format.specs.Names.{names_format};
 ghost use Rattle.grain_file.specs.Outline.{IsDraft, IsOutline, IsSidecarOutline, Tile};
 ghost use Rattle.grain_file.specs.ProgramFile.{Bounds, code_format, file_format, halves, kept, pools_format, positions_format, rest_format};
 ghost use Rattle.grain_file.specs.SidecarFile.{sidecar_format, sidecar_parts};
-ghost use Rattle.grain_fields.specs.Switches.{switch_parts, switch_spelling};
-ghost use Rattle.grain_fields.specs.Texts.{counted_bytes};
+ghost use Rattle.grain_format.specs.Switches.{switch_parts, switch_spelling};
+ghost use Rattle.grain_format.specs.Texts.{counted_bytes};
 
 use crate::writing::{high_half, low_half, put_source};
 use grain::{Program, Sidecar};
 use grain_base::{Dynamic, Flags};
 use grain_bytecode::Positions;
-use grain_fields::{Field, Part, Unkept, WriteError, put_bytes, put_number, put_switch, put_value};
+use grain_format::{Field, Part, Unkept, WriteError, put_bytes, put_number, put_switch, put_value};
 use grain_pools::{Strings, Switch};
 use std::alloc::{AllocError, Global};
 

@@ -4,7 +4,7 @@
 //! [`read_sidecar`] and [`write_sidecar`] do the same for positions that are kept apart. [`outline`] and [`outline_sidecar`] say
 //! where each part is. What a file is stands in
 //! docs/FORMAT.md ("Program files", "Sidecar files") and in the folder `specs/`. It is made of the formats of its fields, which
-//! the crate `grain_fields` has. By their laws a program has one file, and a file is of one program.
+//! the crate `grain_format` has. By their laws a program has one file, and a file is of one program.
 #![tactic(auto)]
 
 mod file;
@@ -15,7 +15,7 @@ mod sidecars;
 mod writing;
 
 pub use file::{Limits, MAX_DEPTH, ReadError, read};
-pub use grain_fields::{Fault, Part, Unkept, WriteError};
+pub use grain_format::{Fault, Part, Unkept, WriteError};
 pub use items::{Item, outline, outline_sidecar};
 pub use loading::{LoadError, Loaded, load};
 pub use sidecars::{read_sidecar, write_sidecar};

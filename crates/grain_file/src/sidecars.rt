@@ -1,14 +1,14 @@
 //! Sidecar files: the positions of a program, apart from it.
 ghost use Rattle.std.specs.Prelude.{◌≡◌, ◌++◌, [], List, IfOk, IfErr, MatchResult, Ok, OnOk};
 ghost use Rattle.grain_file.specs.Causes.{IsCauseIn, IsFaultIn};
-ghost use Rattle.grain_fields.specs.Formats.{whole};
-ghost use Rattle.grain_fields.specs.Reading.{Gives};
+ghost use Rattle.grain_format.specs.Formats.{whole};
+ghost use Rattle.grain_format.specs.Reading.{Gives};
 ghost use Rattle.grain_file.specs.SidecarFile.{IsSidecarFile, IsSidecarFileWithin, SidecarParts, kind_format, sidecar_format, sidecar_parts, tables_format};
 
 use crate::file::{Limits, ReadError, join};
 use crate::writing::{high_half, low_half};
 use grain::Sidecar;
-use grain_fields::{Cursor, Fault, Field, Part, Stop, put_bytes, put_number};
+use grain_format::{Cursor, Fault, Field, Part, Stop, put_bytes, put_number};
 use std::alloc::{AllocError, Global};
 
 /// The sidecar that the bytes are a file of (docs/FORMAT.md, "Sidecar files"). Nothing says that its tables are whole, or of
@@ -68,7 +68,7 @@ fn read_file(cursor: &mut Cursor<'_>) -> Result<Sidecar, Stop>
 }
 
 /// Reads what a file begins with, and what follows.
-#[tactic(auto, unfolding(crate::specs::SidecarFile::sidecar_format, grain_fields::specs::Texts::expected_at))]
+#[tactic(auto, unfolding(crate::specs::SidecarFile::sidecar_format, grain_format::specs::Texts::expected_at))]
 fn read_headed(cursor: &mut Cursor<'_>) -> Result<Sidecar, Stop>
     ensures { Gives sidecar_parts result cursor.new.left.now
         (sidecar_format.reading cursor.old.left.now) }
@@ -82,7 +82,7 @@ fn read_headed(cursor: &mut Cursor<'_>) -> Result<Sidecar, Stop>
 }
 
 /// Reads the version, the kind and the tables.
-#[tactic(auto, unfolding(crate::specs::SidecarFile::kind_format, grain_fields::specs::Texts::expected_at))]
+#[tactic(auto, unfolding(crate::specs::SidecarFile::kind_format, grain_format::specs::Texts::expected_at))]
 fn read_kind(cursor: &mut Cursor<'_>) -> Result<Sidecar, Stop>
     ensures { Gives sidecar_parts result cursor.new.left.now
         (kind_format.reading cursor.old.left.now) }

@@ -2,14 +2,14 @@
 ghost use Rattle.std.specs.Prelude.{◌≡◌, ◌++◌, ◌/◌, ◌%◌, ◌^◌, ℕ, List, Option, IfOk, IfErr, OnOk, map, option_map};
 ghost use Rattle.grain.specs.Program.{listed_positions};
 ghost use Rattle.grain_base.specs.Place.{place_of};
-ghost use Rattle.grain_fields.specs.Reading.{Decides};
-ghost use Rattle.grain_fields.specs.Formats.{optional, text};
+ghost use Rattle.grain_format.specs.Reading.{Decides};
+ghost use Rattle.grain_format.specs.Formats.{optional, text};
 ghost use Rattle.grain_file.specs.ProgramFile.{Bounds, IsFile, IsWithin, code_format, file_format, kept, no_bounds, pools_format, positions_format, refusal_of, rest_format};
 
 use grain::Program;
 use grain_base::Flags;
 use grain_bytecode::Positions;
-use grain_fields::{
+use grain_format::{
     Field, Unkept, WriteError, put_all, put_bytes, put_names, put_switches, put_values,
 };
 use std::alloc::{AllocError, Global};

@@ -3,7 +3,7 @@ use Rattle.std.proofs.Common.{◌≡◌, ℕ, ◌+◌, ◌≤◌, List, [], ◌�
 use Rattle.grain.specs.Program.{Program, chunks_of, input_of}
 use Rattle.grain_code.specs.Span.{Span}
 use Rattle.grain_code.specs.declared.function.Function.{Function}
-use Rattle.grain_fields.specs.Functions.{FunctionParts, function_parts}
+use Rattle.grain_format.specs.Functions.{FunctionParts, function_parts}
 use Rattle.grain_file.specs.ProgramFile.{Kept, kept}
 use Rattle.grain_flat.specs.Work.{work_of}
 use Rattle.grain_flat.proofs.VisitBounds.{all_reached_few, refused_within}

@@ -3,8 +3,8 @@ use Rattle.std.proofs.Common.{◌≡◌, ℕ, List, [], ◌∷◌, ◌++◌, len
 use Rattle.std.specs.List.{flat_map}
 use Rattle.std.specs.Prelude.{string_bytes}
 use Rattle.grain_base.specs.declared.value.FnPtr.{FnPtr}
-use Rattle.grain_fields.specs.Form.{Form, array, object_map, form_entries_of, forms, forms_of, listed_entries, listed_forms, pointer_form}
-use Rattle.grain_fields.proofs.PointerForm.{pointer_form_is}
+use Rattle.grain_format.specs.Form.{Form, array, object_map, form_entries_of, forms, forms_of, listed_entries, listed_forms, pointer_form}
+use Rattle.grain_format.proofs.PointerForm.{pointer_form_is}
 use Rattle.grain_flat_file.specs.Values.{counted_row, entry_rows, entry_texts, rows_of_entries, rows_of_forms, texts_of_entries, texts_of_forms, value_rows, value_texts}
 use Rattle.grain_flat_file.specs.declared.records.CValue.{CValue}
 use Rattle.grain_flat_file.specs.declared.tags.TheConstants as tags

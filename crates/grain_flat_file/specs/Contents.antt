@@ -10,7 +10,7 @@ use Rattle.grain_base.specs.declared.access.FnAccess.{FnAccess}
 use Rattle.grain_base.specs.declared.access.FnAccess.TheVariants as access
 use Rattle.grain_base.specs.declared.value.Dynamic.{Dynamic}
 use Rattle.grain_code.specs.declared.function.Function.{Function}
-use Rattle.grain_fields.specs.Form.{forms}
+use Rattle.grain_format.specs.Form.{forms}
 use Rattle.grain_file.specs.ProgramFile.{halves}
 use Rattle.grain_flat.specs.Flat.{asked_row, case_rows, arm_range_targets, chain_row, step_rows, switch_row}
 use Rattle.grain_flat.specs.RowFacts.{part_begins}

@@ -1,9 +1,9 @@
 -- Why bytes are no file, as a record.
 use Rattle.std.specs.Prelude.{ℕ, Option, Some, None}
-use Rattle.grain_fields.specs.declared.error.Fault.{Fault}
-use Rattle.grain_fields.specs.declared.error.Fault.TheVariants as faults
-use Rattle.grain_fields.specs.declared.parts.Part.{Part}
-use Rattle.grain_fields.specs.declared.parts.Part.TheVariants as part
+use Rattle.grain_format.specs.declared.error.Fault.{Fault}
+use Rattle.grain_format.specs.declared.error.Fault.TheVariants as faults
+use Rattle.grain_format.specs.declared.parts.Part.{Part}
+use Rattle.grain_format.specs.declared.parts.Part.TheVariants as part
 use Rattle.grain_file.specs.declared.file.ReadError.{ReadError}
 use Rattle.grain_file.specs.declared.file.ReadError.TheVariants as errors
 use Rattle.grain_flat_file.specs.declared.causes.TheConstants as causes

@@ -4,7 +4,7 @@ use Rattle.std.specs.List.{flat_map}
 use Rattle.std.proofs.Common.{inl, inr}
 use Rattle.grain_base.specs.Tokens.{TokenParts, token_parts}
 use Rattle.grain_base.specs.declared.token.Token.{Token}
-use Rattle.grain_fields.specs.Form.{Form, Forms, Entries, unit, boolean, integer, character, text, range, range_inclusive, array, blob, object_map, fn_ptr, shared, host, no_forms, form_then, no_entries, entry_then, listed_forms, listed_entries}
+use Rattle.grain_format.specs.Form.{Form, Forms, Entries, unit, boolean, integer, character, text, range, range_inclusive, array, blob, object_map, fn_ptr, shared, host, no_forms, form_then, no_entries, entry_then, listed_forms, listed_entries}
 use Rattle.grain_pools.specs.declared.assign_op.AssignOp.{AssignOp}
 use Rattle.grain_flat_file.specs.declared.records.CValue.{CValue}
 use Rattle.grain_flat_file.specs.declared.records.COpAssignment.{COpAssignment}

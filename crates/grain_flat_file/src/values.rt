@@ -2,8 +2,8 @@
 ghost use Rattle.std.specs.Prelude.{◌≡◌, ◌+◌, ◌∷◌, ◌++◌, [], IfOk, OnOk, length, map, pos};
 ghost use Rattle.std.specs.List.{flat_map};
 ghost use Rattle.grain_base.specs.Tokens.{token_parts};
-ghost use Rattle.grain_fields.specs.Form.{entry_forms, form_entries_of, forms, forms_of, pointer_form, value_form};
-ghost use Rattle.grain_fields.specs.Form as form;
+ghost use Rattle.grain_format.specs.Form.{entry_forms, form_entries_of, forms, forms_of, pointer_form, value_form};
+ghost use Rattle.grain_format.specs.Form as form;
 ghost use Rattle.grain_flat_file.specs.Values.{AreConstantLists, AreOperatorLists, assigned_names, assigned_rows, assigned_texts, entry_rows, entry_texts, has_bytes, operator_rows, operator_texts, placed_row, placed_rows, row_bytes, value_begins, value_row, value_rows, value_texts};
 
 use crate::pools::count_of;

@@ -1,4 +1,4 @@
-//! The tests of `grain_machine`, which call it as a host does, and one of `grain_script`: a test that changes has no crate proved
+//! The tests of `grain_machine`, which call it as a host does, and one of `rhai_runtime`: a test that changes has no crate proved
 //! again but this one.
 #![tactic(auto)]
 

@@ -4,7 +4,7 @@ use crate::runs::{ADD, ASSIGN, DECLARE, INVOKE, with_function};
 use crate::samples::{assert_same, made};
 use grain::{Op, Program};
 use grain_machine::{Accepted, Limits, Outcome, accept};
-use grain_script::{Recorder, Script};
+use rhai_runtime::{Recorder, Script};
 use std::alloc::{AllocError, Global};
 use std::test::Fail;
 

@@ -1,4 +1,4 @@
-//! The assembly text of a program (docs/ASSEMBLY.md): [`print`] writes it, a [`Printer`] piece by piece. The crate `grain_asm` parses it. The texts of single
+//! The assembly text of a program (docs/ASSEMBLY.md): [`print`] writes it, a [`Printer`] piece by piece. The crate `grain_parse` parses it. The texts of single
 //! entries are for other listings.
 #![tactic(auto)]
 

@@ -1,6 +1,9 @@
-//! Programs for tests.
+//! What several tests share.
 
-use grain::{Chunk, FnAccess, Function, Parts, Pools, Positions, Program, Sidecar, Strings};
+use grain::{
+    Chain, Chunk, Flags, FnAccess, Function, Parts, Pools, Position, Positions, Program, Root,
+    Sidecar, Step, StepFlags, Strings, Tail,
+};
 use std::alloc::{AllocError, Global};
 use std::fmt::Debug;
 use std::process::Abort;
@@ -17,6 +20,32 @@ pub(crate) fn made<T, E>(rt: &impl Abort, made: Result<T, E>) -> T {
         Ok(made) => made,
         Err(_) => panic!(rt; "a test can't be prepared"),
     }
+}
+
+/// `a[i].b`, whose four positions in the first line are 1:1, 1:3, its bracket 1:2, and 1:6.
+pub(crate) fn chain(alloc: Global) -> Result<Chain, AllocError> {
+    let index = Step::Index {
+        operand: 0,
+        flags: StepFlags::empty(),
+        pos: Position::new(1, 3),
+        bracket: Position::new(1, 2),
+    };
+    let property = Step::Property {
+        name: 1,
+        getter: 2,
+        setter: 3,
+        flags: StepFlags::SKIP_IF_UNIT,
+        pos: Position::new(1, 6),
+    };
+    Ok(Chain {
+        root: Root::Named {
+            name: 0,
+            pos: Position::new(1, 1),
+        },
+        steps: vec![in alloc; index, property]?,
+        tail: Tail::Read,
+        operands: 1,
+    })
 }
 
 /// Number 7, with these names and nothing else.

@@ -1,8 +1,8 @@
 //! Texts that make programs, as the command doesn't have it: bench/tool.py and bench/scripts have the rest.
 
 use crate::samples::{assert_same, made};
-use grain_asm::{ParseError, parse_accepted};
-use grain_compile::{Options, compile};
+use grain_parse::{ParseError, parse_accepted};
+use rhai_compile::{Options, compile};
 use std::alloc::Global;
 
 /// The numbers of the assembly text's program, where it is accepted.

@@ -1,23 +1,11 @@
 //! The command `grain`: works with scripts and program files (docs/COMMAND.md).
 #![tactic(auto)]
 
-mod addresses;
-mod check_script;
-mod commands;
-mod compile_script;
-mod dump;
-mod flow;
-mod list;
-mod parse;
-mod print;
-mod run;
+mod command;
 mod scripts;
-mod smith;
-mod strip;
 mod terminal;
-mod validate;
 
-use crate::commands::WRONG_ARGUMENTS;
+use crate::command::WRONG_ARGUMENTS;
 use clap::error::ErrorKind;
 use grain_cli::failure::Failure;
 use std::process::ExitCode;
@@ -50,10 +38,10 @@ fn say(rt: &HostRuntime, said: &clap::Error) -> Result<u8, Failure> {
 /// Does what the arguments ask for, and returns the status of the process.
 fn start(rt: &HostRuntime) -> Result<u8, Failure> {
     let words = words(rt)?;
-    let command = commands::command(rt.alloc())?;
-    match command.try_get_matches_from(words.as_slice()) {
+    let parser = command::parser(rt.alloc())?;
+    match parser.try_get_matches_from(words.as_slice()) {
         Ok(matches) => match matches.subcommand() {
-            Some((name, inner)) => commands::dispatch(rt, name, inner),
+            Some((name, inner)) => command::dispatch(rt, name, inner),
             None => Ok(WRONG_ARGUMENTS),
         },
         Err(said) => say(rt, &said),

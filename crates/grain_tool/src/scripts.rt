@@ -4,8 +4,8 @@ use grain::Program;
 use grain_cli::excerpt::push_report;
 use grain_cli::failure::Failure;
 use grain_cli::files::{program_of, read_bytes, shown};
-use grain_compile::{CompileError, Options, Problem, compile, flaws};
 use md5::{Digest, Md5};
+use rhai_compile::{CompileError, Options, Problem, compile, flaws};
 use std::alloc::{AllocError, Global};
 
 /// How long reports of errors get before no other is added.

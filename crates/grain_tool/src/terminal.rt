@@ -1,8 +1,8 @@
 //! What scripts print.
 
 use grain_cli::failure::Failure;
-use grain_script::World;
-use grain_value::{Cause, Value};
+use rhai_runtime::World;
+use rhai_values::{Cause, Value};
 use std::alloc::Global;
 use std::io;
 use std::io::Write;

@@ -1,7 +1,7 @@
 use Rattle.std.proofs.Common.{refl}
 use Rattle.std.proofs.lemmas.Result.{err_from_is_err_and}
 use Rattle.grain_file.specs.ProgramFile.{pools_format}
-use Rattle.grain_fields.proofs.FieldLoop.{stopped}
+use Rattle.grain_format.proofs.FieldLoop.{stopped}
 use Rattle.grain_file.proofs.file.read_pools.Goals as goal
 
 pub returns-in_err-switches : goal.returns-in_err-switches

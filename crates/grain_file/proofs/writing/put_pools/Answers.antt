@@ -1,9 +1,9 @@
 use Rattle.std.proofs.Common.{map}
-use Rattle.grain_fields.specs.Form.{forms}
+use Rattle.grain_format.specs.Form.{forms}
 use Rattle.grain_base.specs.Tokens.{token_parts}
-use Rattle.grain_fields.specs.Tokens.{assign_op_parts}
-use Rattle.grain_fields.specs.Chains.{chain_parts}
-use Rattle.grain_fields.specs.Switches.{switch_parts}
+use Rattle.grain_format.specs.Tokens.{assign_op_parts}
+use Rattle.grain_format.specs.Chains.{chain_parts}
+use Rattle.grain_format.specs.Switches.{switch_parts}
 use Rattle.grain_file.proofs.Whole.{pools_fit}
 use Rattle.grain_file.proofs.writing.put_pools.Goals as goal
 

@@ -1,6 +1,6 @@
 use Rattle.std.proofs.Common.{◌≡◌, ◌++◌, drop, length}
 use Rattle.std.specs.List.{flat_map}
-use Rattle.grain_fields.specs.Form.{forms}
+use Rattle.grain_format.specs.Form.{forms}
 use Rattle.grain_flat_file.specs.Values.{value_begins, value_rows, value_texts}
 use Rattle.grain_flat_file.proofs.values.list_constants.Given as goal
 

@@ -1,6 +1,6 @@
 use Rattle.std.proofs.Common.{◌≡◌, ◌++◌, drop}
 use Rattle.std.specs.List.{flat_map}
-use Rattle.grain_fields.specs.Form.{forms, spelled}
+use Rattle.grain_format.specs.Form.{forms, spelled}
 use Rattle.grain_file.specs.Outline.{IsDraft}
 use Rattle.grain_file.proofs.items.Draft.constants.Given as goal
 

@@ -1,4 +1,4 @@
-use Rattle.grain_fields.proofs.NameLists.{one_name}
+use Rattle.grain_format.proofs.NameLists.{one_name}
 use Rattle.grain_file.proofs.items.Draft.names.Goals as goal
 
 pub loop-name-preserved : goal.loop-name-preserved

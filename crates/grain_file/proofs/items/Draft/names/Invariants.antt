@@ -1,7 +1,7 @@
 use Rattle.std.proofs.Common.{◌≡◌, ◌++◌}
 use Rattle.std.specs.List.{flat_map}
 use Rattle.grain_pools.specs.NamesLeft.{names_left}
-use Rattle.grain_fields.specs.Texts.{counted_bytes}
+use Rattle.grain_format.specs.Texts.{counted_bytes}
 use Rattle.grain_file.specs.Outline.{IsDraft}
 use Rattle.grain_file.proofs.items.Draft.names.Given as goal
 

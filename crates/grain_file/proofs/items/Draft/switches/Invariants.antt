@@ -1,6 +1,6 @@
 use Rattle.std.proofs.Common.{◌≡◌, ◌++◌, map, drop}
 use Rattle.std.specs.List.{flat_map}
-use Rattle.grain_fields.specs.Switches.{switch_parts, switch_spelling}
+use Rattle.grain_format.specs.Switches.{switch_parts, switch_spelling}
 use Rattle.grain_file.specs.Outline.{IsDraft}
 use Rattle.grain_file.proofs.items.Draft.switches.Given as goal
 

@@ -1,7 +1,7 @@
 use Rattle.std.proofs.Common.{◌≡◌, ◌∙◌, List, ap, length, sym}
 use Rattle.std.proofs.lemmas.List.{length-map}
 use Rattle.grain_base.specs.declared.value.Dynamic.{Dynamic}
-use Rattle.grain_fields.specs.Form.{entry_forms, forms, value_form}
+use Rattle.grain_format.specs.Form.{entry_forms, forms, value_form}
 use Rattle.grain_flat_file.proofs.ValueRows.{array_rows, array_texts, map_rows, map_texts, pointer_rows, pointer_texts}
 use Rattle.grain_flat_file.proofs.values.ValueLists.+add_value.Goals as goal
 

@@ -1,6 +1,6 @@
 use Rattle.std.proofs.Common.{◌≡◌, ◌++◌, drop}
 use Rattle.std.specs.List.{flat_map}
-use Rattle.grain_fields.specs.Form.{entry_forms, forms}
+use Rattle.grain_format.specs.Form.{entry_forms, forms}
 use Rattle.grain_flat_file.specs.Values.{entry_rows, entry_texts, value_rows, value_texts}
 use Rattle.grain_flat_file.proofs.values.ValueLists.+add_value.Given as goal
 

@@ -1,5 +1,0 @@
-use Rattle.std.specs.Str.Lines.{lines}
-use Rattle.grain_asm.proofs.parsing.parse.Goals as goal
-
-pub returns-in-Ok : goal.returns-in-Ok
-returns-in-Ok c = c.finish.ensures (lines c.args.text.now)

@@ -1,9 +1,0 @@
-use Rattle.std.proofs.Common.{◌≡◌, string_bytes, rules, tests}
-use Rattle.std.proofs.lemmas.Iterator.{IsFirst-from_position, YieldsList-from_slice}
-use Rattle.grain_asm.proofs.PoolEntries.{first_leads}
-use Rattle.grain_asm.proofs.pools.place_of_name.Goals as goal
-
-pub returns : goal.returns
-returns c =
-    first_leads _ (λ _. Unit {0}) _ _
-    (IsFirst-from_position _ _ _ (λ other. string_bytes other ≡ c.args.name.now) (λ _. Unit {0}) c.position.ensures.ran (YieldsList-from_slice c.args.names.now cc) (λ x q k. search (rules, tests)) (λ x q k. search (rules, tests)))

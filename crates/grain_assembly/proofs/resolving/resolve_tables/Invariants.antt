@@ -1,7 +1,0 @@
-use Rattle.std.proofs.Common.{◌≡◌, map, take}
-use Rattle.grain_assembly.specs.Assembled.{targets_of}
-use Rattle.grain_assembly.specs.Resolved.{resolved_tables}
-use Rattle.grain_assembly.proofs.resolving.resolve_tables.Given as goal
-
-abbrev pub invariant-loop-table : goal.invariant-loop-table
-invariant-loop-table l = map targets_of l.resolved.items ≡ resolved_tables l.places (map targets_of (take l.table-index l.tables))

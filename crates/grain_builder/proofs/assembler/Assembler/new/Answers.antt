@@ -1,0 +1,5 @@
+use Rattle.grain_builder.proofs.Marks.{started}
+use Rattle.grain_builder.proofs.assembler.Assembler.new.Goals as goal
+
+pub invariant_of-result : goal.invariant_of-result
+invariant_of-result c = rw (c.new.ensures.items, c.new-2.ensures.items, c.new-3.ensures.items, c.new-4.ensures.items, c.new-5.ensures.items, c.outermost.ensures) started

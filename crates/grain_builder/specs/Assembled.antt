@@ -1,0 +1,52 @@
+-- What the fields of an assembler say.
+use Rattle.std.specs.Prelude.{ℕ, List, [], ◌∷◌, ◌++◌, map}
+use Rattle.grain_code.specs.declared.op.Op.{Op}
+use Rattle.rhai_lexer.specs.declared.error.Place.{Place}
+use Rattle.grain_builder.specs.Sound.{Workings}
+use Rattle.grain_builder.specs.Unfinished.{Spot, Unfinished, spot}
+use Rattle.grain_builder.specs.declared.assembler.Assembler.TheInside.{Inside}
+use Rattle.grain_builder.specs.declared.assembler.Label.{Label}
+use Rattle.grain_builder.specs.declared.assembler.PlacedOp.{PlacedOp}
+use Rattle.grain_builder.specs.declared.assembler.Targets.{Targets}
+
+abbrev pub spot_at : Label → Spot
+spot_at l = spot l.operands l.frame
+
+abbrev pub op_in : PlacedOp → Op
+op_in p = p.op
+
+abbrev pub place_in : PlacedOp → Place
+place_in p = p.place
+
+abbrev pub label_place : Label → ℕ
+label_place l = l.at
+
+-- all targets of a switch
+abbrev pub targets_of : Targets → List ℕ
+targets_of t = t.cases.items ++ t.default ∷ []
+
+abbrev pub workings_of : Inside → Workings
+workings_of a = record {
+  ops = map op_in a.ops.items;
+  chains = a.chains.items;
+  tables = map targets_of a.tables.items;
+  labels = map spot_at a.labels.items;
+  outers = map (λ (l : Label). l.outer) a.labels.items;
+  places = map label_place a.labels.items;
+  cuts = a.cuts.items;
+  operands = a.operands;
+  level = a.frame;
+  pending = a.pending;
+  fixed = a.is_fixed;
+}
+
+abbrev pub written : Inside → Unfinished
+written a = record {
+  operands = a.operands;
+  level = a.frame;
+  labels = map spot_at a.labels.items;
+  outers = map (λ (l : Label). l.outer) a.labels.items;
+  pending = a.pending;
+  fixed = a.is_fixed;
+  places = map place_in a.ops.items;
+}

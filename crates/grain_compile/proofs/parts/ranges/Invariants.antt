@@ -1,6 +1,0 @@
-use Rattle.std.specs.List.{All, Contains}
-use Rattle.grain_assembly.specs.Assembled.{targets_of}
-use Rattle.grain_compile.proofs.parts.ranges.Given as goal
-
-abbrev pub invariant-loop-place : goal.invariant-loop-place
-invariant-loop-place l = All (λ r. Contains (targets_of l.targets) r.target) l.ranges.items

@@ -1,9 +1,0 @@
-use Rattle.std.proofs.Common.{◌≡◌, ◌-◌, map}
-use Rattle.grain_fields.specs.Lists.{repeat_at}
-use Rattle.grain_fields.proofs.FieldLoop.{with_front}
-use Rattle.grain_fields.proofs.lists.VecField.read.Given as goal
-
-abbrev pub invariant-items : goal.invariant-items
-invariant-items g l =
-    with_front (map g.T.Field.view l.items.items) (repeat_at g.T.Field.format.reading (l.count - l.index) l.cursor.left.now)
-    ≡ repeat_at g.T.Field.format.reading l.count l.initial.cursor.left.now

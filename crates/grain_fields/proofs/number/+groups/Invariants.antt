@@ -1,5 +1,0 @@
-use Rattle.std.proofs.Common.{length}
-use Rattle.grain_fields.proofs.number.+groups.Given as goal
-
-abbrev pub decreases-groups : goal.decreases-groups
-decreases-groups l = length l.bytes.now

@@ -1,4 +1,0 @@
-use Rattle.grain_fields.proofs.number.+put_groups.Given as goal
-
-abbrev pub decreases-put_groups : goal.decreases-put_groups
-decreases-put_groups l = l.more

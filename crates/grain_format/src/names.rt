@@ -1,0 +1,91 @@
+//! The names of a program as a field.
+ghost use Rattle.std.specs.Prelude.{◌≡◌, ◌<◌, ◌++◌, ◌^◌, IfSome, None, OnOk, Some, length, slice_get};
+ghost use Rattle.std.specs.List.{concat};
+ghost use Rattle.grain_pools.specs.Names.{texts};
+ghost use Rattle.grain_format.specs.Reading.{Gives};
+ghost use Rattle.grain_format.specs.Texts.{text_at};
+ghost use Rattle.grain_format.specs.Lists.{counted_at};
+ghost use Rattle.grain_format.specs.Names.{names_format};
+
+use crate::cursor::Cursor;
+use crate::error::{Fault, Stop};
+use crate::lists::reserve;
+use crate::number::{put_bytes, put_number};
+use crate::parts::Part;
+use grain_pools::{Strings, StringsError};
+use std::alloc::AllocError;
+
+/// Reads the names. Time and memory are linear in the bytes that it reads. For a count nothing is reserved beyond the number of
+/// bytes that are left.
+///
+/// # Errors
+/// A `Fault` where the bytes at the cursor are no names: `Truncated`, `TooWide`, `NotShortest`, `NotText`, or `NamesTooLong` where
+/// they have more than 4294967295 bytes. `OutOfMemory` where a growth was refused.
+pub fn read_names(cursor: &mut Cursor<'_>) -> Result<Strings, Stop>
+    ensures { Gives (λ names. names) result cursor.new.left.now
+        (names_format.reading cursor.old.left.now) }
+{
+    let start = cursor.left;
+    cursor.part = Part::Names;
+    let names = read_texts(cursor)?;
+    match Strings::new(cursor.alloc, &names) {
+        Ok(strings) => Ok(strings),
+        Err(StringsError::OutOfMemory) => Err(Stop::OutOfMemory),
+        Err(StringsError::TooLong) => {
+            cursor.left = start;
+            cursor.part = Part::Names;
+            Err(Stop::Fault(Fault::NamesTooLong))
+        }
+    }
+}
+
+/// Reads how many texts there are, and each, which stays where it lies.
+fn read_texts<'a>(cursor: &mut Cursor<'a>) -> Result<Vec<&'a str>, Stop>
+    ensures { Gives (λ names. texts names.items) result cursor.new.left.now
+        (counted_at text_at cursor.old.left.now) }
+{
+    let count = cursor.number()?;
+    let mut names = Vec::with_capacity(cursor.alloc, reserve(count, cursor.left.len()))?;
+    'names: for index in 0..count {
+        cursor.part = Part::Name(index as usize);
+        let name = cursor.text()?;
+        names.push(name)?;
+    }
+    Ok(names)
+}
+
+/// Appends how many names there are, and each. Time and memory are linear in the bytes that it appends.
+///
+/// # Errors
+/// Where a growth was refused.
+pub fn put_names(out: &mut Vec<u8>, names: &Strings) -> Result<(), AllocError>
+    ensures spelled { OnOk result
+        (out.new.items ≡ out.old.items ++ names_format.spelling names.now) }
+    ensures fits { OnOk result (names_format.Fits names.now) }
+    ensures kept { names_format.refusal names.now ≡ None }
+{
+    // The starts have 32 bits, so the names have fewer than 2^32 bytes.
+    let _len = total_len(names);
+    put_number(out, names.len() as u64)?;
+    for name in names.iter() {
+        put_bytes(out, name.as_bytes())?;
+    }
+    Ok(())
+}
+
+/// How many bytes the names have, which is where the last one ends.
+fn total_len(names: &Strings) -> Option<u32>
+    ensures value { result ≡ Some (length (concat names.now)) }
+    ensures small { IfSome result (λ len. len < 2 ^ 32) }
+{
+    start_at(names.starts(), names.len())
+}
+
+/// The start at the index.
+fn start_at(starts: &[u32], at: usize) -> Option<u32>
+    ensures value { result ≡ slice_get starts.now at }
+    ensures small { IfSome result (λ start. start < 2 ^ 32) }
+{
+    let start = starts.get(at)?;
+    Some(*start)
+}

@@ -1,0 +1,11 @@
+use Rattle.std.proofs.Common.{rules, tests}
+use Rattle.std.proofs.lemmas.Iterator.{IsFirst-from_position, YieldsList-from_slice}
+use Rattle.grain_pools.specs.declared.assign_op.AssignOp.{AssignOp}
+use Rattle.grain_parse.specs.Entries.{AreSameAssignOps}
+use Rattle.grain_parse.proofs.PoolEntries.{first_leads}
+use Rattle.grain_parse.proofs.pools.place_of_assign_op.Goals as goal
+
+pub returns : goal.returns
+returns c =
+    first_leads _ (λ _. Unit {0}) _ _
+    (IsFirst-from_position _ _ _ (λ (other : AssignOp). AreSameAssignOps other c.args.assign_op.now) (λ _. Unit {0}) c.position.ensures.ran (YieldsList-from_slice c.args.assign_ops.now cc) (λ x q k. search (rules, tests)) (λ x q k. search (rules, tests)))

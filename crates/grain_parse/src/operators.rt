@@ -1,0 +1,51 @@
+//! Operators.
+ghost use Rattle.std.specs.Prelude.{◌≡◌, ◌≢◌, ◌++◌, ℕ, List, IfOk, MatchOption, codes};
+ghost use Rattle.std.specs.Bool.{OnTrue};
+ghost use Rattle.std.specs.List.{Contains};
+ghost use Rattle.grain_base.specs.Tokens.{token_parts};
+ghost use Rattle.grain_parse.specs.Operators.{IsAssignmentOf, ReadsOperator, plain_spellings};
+
+use crate::cursor::Cursor;
+use crate::error::{Problem, Stop};
+use crate::literals::{is_text, read_text};
+use grain_base::Token;
+use grain_print::token_spelled;
+
+/// Whether two operators are the same, by their numbers or their texts.
+pub(crate) fn is_same(one: &Token, other: &Token) -> bool
+    ensures { OnTrue result (token_parts one.now ≡ token_parts other.now) }
+{
+    one.number() == other.number()
+}
+
+/// Reads an operator: its spelling, or in quotes the text of one that the host has added.
+pub(crate) fn read_token(cursor: &mut Cursor<'_>) -> Result<Token, Stop>
+    ensures { IfOk result (λ token. ReadsOperator cursor.old.left.now token cursor.new.left.now) }
+{
+    if is_text(cursor) {
+        return Ok(Token::Custom(read_text(cursor)?));
+    }
+    let start = cursor.left;
+    let spelling = cursor.spelling()?;
+    match token_spelled(spelling) {
+        Some(token) => Ok(token),
+        None => {
+            cursor.left = start;
+            Err(Stop::Fault(Problem::NotOperator))
+        }
+    }
+}
+
+/// The spelling of an op-assignment as `+=`, without its `=`.
+pub(crate) fn plain_spelling(spelling: &str) -> Option<&str>
+    ensures { MatchOption result
+        ((plain : List ℕ) → Contains plain_spellings plain → spelling.now ≢ plain ++ codes "=")
+        (λ plain. IsAssignmentOf plain.now spelling.now) }
+{
+    match spelling {
+        "+=" | "-=" | "*=" | "/=" | "%=" | "**=" | "<<=" | ">>=" | "&=" | "|=" | "^=" => {
+            spelling.strip_suffix("=")
+        }
+        _ => None,
+    }
+}

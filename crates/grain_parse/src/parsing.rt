@@ -1,0 +1,158 @@
+//! From a text to a program.
+ghost use Rattle.std.specs.Prelude.{◌≡◌, ◌<◌, ◌≤◌, ℕ, List, IfErr, IfOk, Ok, Some, length, slice_get};
+ghost use Rattle.std.specs.Str.Lines.{lines};
+ghost use Rattle.grain.specs.Program.{input_of};
+ghost use Rattle.grain_rules.specs.Verdict.{IsVerdict};
+ghost use Rattle.grain_parse.specs.Placed.{IsPlacedError};
+ghost use Rattle.grain_pools.specs.Names.{texts};
+
+use crate::cursor::Cursor;
+use crate::draft::Draft;
+use crate::error::{Flaw, ParseError, Stop, SyntaxError, Unfinished};
+use crate::labels::Labels;
+use crate::sections::Pass;
+use grain::Program;
+use std::alloc::{AllocError, Global};
+
+/// The lines of a text, without what ends them.
+fn lines_of(alloc: Global, text: &str) -> Result<Vec<&str>, AllocError>
+    ensures { IfOk result (λ v. texts v.items ≡ lines text.now) }
+{
+    text.lines().collect(alloc)
+}
+
+/// The line at an index.
+fn line_at<'a>(lines: &[&'a str], at: usize) -> &'a str
+    requires { at < length lines.now }
+    ensures { slice_get (texts lines.now) at ≡ Some result.now }
+{
+    lines[at]
+}
+
+/// The refusal of a line.
+fn refusal_of(alloc: Global, lines: &[&str], flaw: Flaw) -> ParseError
+    requires { flaw.line < length lines.now }
+    ensures { IsPlacedError (texts lines.now) result }
+{
+    let Stop::Fault(problem) = flaw.stop else {
+        return ParseError::OutOfMemory;
+    };
+    let line = line_at(lines, flaw.line);
+    match String::from_str(alloc, line) {
+        Ok(text) => ParseError::Syntax(SyntaxError {
+            line: flaw.line + 1,
+            column: line.len().saturating_sub(flaw.left) + 1,
+            text,
+            problem,
+        }),
+        Err(_) => ParseError::OutOfMemory,
+    }
+}
+
+/// Reads the lines of a pass, one after another.
+fn read_pass(
+    alloc: Global,
+    labels: &Labels,
+    pass: Pass,
+    lines: &[&str],
+    draft: &mut Draft,
+) -> Result<(), Flaw>
+    ensures { IfErr result (λ flaw. flaw.line < length lines.now) }
+{
+    draft.begin();
+    for (line, text) in lines.iter().enumerate() {
+        let mut cursor = Cursor {
+            alloc,
+            left: text.as_bytes(),
+        };
+        if let Err(stop) = draft.read_line(labels, pass, &mut cursor) {
+            let left = cursor.left.len();
+            return Err(Flaw { line, left, stop });
+        }
+    }
+    Ok(())
+}
+
+/// The lines before the one that is refused, or all.
+fn before<'a, 'b>(lines: &'a [&'b str], read: &Result<(), Flaw>) -> &'a [&'b str]
+    ensures { length result.now ≤ length lines.now }
+{
+    match read {
+        Ok(()) => lines,
+        Err(flaw) => lines.get(..flaw.line).unwrap_or(lines),
+    }
+}
+
+/// Reads the lines, pass by pass. What is refused is the first line that any pass refuses: a later pass goes only up to the line
+/// that an earlier one refuses.
+fn read_lines(alloc: Global, labels: &Labels, lines: &[&str]) -> Result<Draft, Flaw>
+    ensures { IfErr result (λ flaw. flaw.line < length lines.now) }
+{
+    let mut draft = Draft::new(alloc);
+    let entries = read_pass(alloc, labels, Pass::Entries, lines, &mut draft);
+    let front = before(lines, &entries);
+    let assign_ops = read_pass(alloc, labels, Pass::OpAssignments, front, &mut draft);
+    let front = before(front, &assign_ops);
+    read_pass(alloc, labels, Pass::Rest, front, &mut draft)?;
+    assign_ops?;
+    entries?;
+    Ok(draft)
+}
+
+/// The program of what was read. Where it has none, no line is at fault.
+fn finish(alloc: Global, draft: Draft) -> Result<Program, ParseError>
+    ensures { (texts : List (List ℕ)) → IfErr result (IsPlacedError texts) }
+{
+    match draft.finish(alloc) {
+        Ok(program) => Ok(program),
+        Err(Unfinished::Refused(refusal)) => Err(ParseError::Refused(refusal)),
+        Err(Unfinished::NamesTooLong) => Err(ParseError::NamesTooLong),
+        Err(Unfinished::OutOfMemory) => Err(ParseError::OutOfMemory),
+    }
+}
+
+/// Reads lines.
+fn draft_of(alloc: Global, lines: &[&str]) -> Result<Draft, Flaw>
+    ensures { IfErr result (λ flaw. flaw.line < length lines.now) }
+{
+    match Labels::of(alloc, lines) {
+        Ok(labels) => read_lines(alloc, &labels, lines),
+        Err(flaw) => Err(flaw),
+    }
+}
+
+/// The program of an assembly text (docs/ASSEMBLY.md). Only where a chunk says `stack auto`, or nothing of its stack, it is
+/// verified; [`parse_accepted`] verifies each.
+///
+/// It goes over the text four times, and takes memory for the program, a label for each that is defined, and a slice for each line.
+/// For a name, a plain constant, an operator and an op-assignment in place it goes over the entries that are there.
+///
+/// # Errors
+/// `Syntax` with the first line that is wrong, labels before all else. `Refused` where the program has to be verified and
+/// isn't accepted. `NamesTooLong` where its names have more than 4294967295 bytes, `OutOfMemory` where a growth was refused.
+pub fn parse(alloc: Global, text: &str) -> Result<Program, ParseError>
+    // A line that is refused is one of the text, and the column is in it or one past its end.
+    ensures { IfErr result (IsPlacedError (lines text.now)) }
+{
+    let lines = lines_of(alloc, text)?;
+    match draft_of(alloc, &lines) {
+        Ok(draft) => finish(alloc, draft),
+        Err(flaw) => Err(refusal_of(alloc, &lines, flaw)),
+    }
+}
+
+/// The program of an assembly text, verified, with the greatest operand count that any run of each chunk reaches.
+///
+/// # Errors
+/// As [`parse`], and `Refused` where the program isn't accepted.
+pub fn parse_accepted(alloc: Global, text: &str) -> Result<(Program, Vec<u16>), ParseError>
+    ensures accepted { IfOk result (λ found. IsVerdict (input_of found.0) (Ok found.1)) }
+    ensures placed { IfErr result (IsPlacedError (lines text.now)) }
+{
+    let program = parse(alloc, text)?;
+    match program.verify() {
+        Ok(numbers) => Ok((program, numbers)),
+        Err(grain::VerifyError::OutOfMemory) => Err(ParseError::OutOfMemory),
+        Err(refusal) => Err(ParseError::Refused(refusal)),
+    }
+}

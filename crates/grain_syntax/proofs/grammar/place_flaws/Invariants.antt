@@ -1,6 +1,0 @@
-use Rattle.std.specs.List.{AllWithin}
-use Rattle.grain_lexer.specs.Places.{HasPlaces}
-use Rattle.grain_syntax.proofs.grammar.place_flaws.Given as goal
-
-abbrev pub invariant-loop-flaw : goal.invariant-loop-flaw
-invariant-loop-flaw l = AllWithin (HasPlaces l.source) l.flaws 0 l.flaw-index

@@ -1,0 +1,250 @@
+//! `grain run`: a script or a program file, verified and run.
+
+use crate::scripts::program_in;
+use crate::terminal::Terminal;
+use clap::ArgMatches;
+use grain::{Program, VerifyError};
+use grain_cli::arguments::{Argument, FILE, Subcommand};
+use grain_cli::failure::Failure;
+use grain_cli::files::shown;
+use grain_cli::loading::{WORK, admit, allowed_of};
+use grain_cli::places::{chunk_at, write_place};
+use grain_listing::{name_of, push_shown};
+use grain_machine::{Ending, Limits, Outcome, accept};
+use rhai_runtime::{Fault, Script, World};
+use rhai_values::{Cause, SizeLimits, Value};
+use std::alloc::{AllocError, Global};
+use std::io::{BufWriter, Write};
+
+/// How deep values may be nested.
+const NESTING: usize = 64;
+
+/// How many calls a backtrace shows.
+const SHOWN_CALLS: usize = 16;
+
+/// How far a run may go.
+#[derive(Clone, Copy)]
+struct Bounds {
+    run: Limits,
+    size: SizeLimits,
+}
+
+/// `grain run`
+pub const SUBCOMMAND: Subcommand = Subcommand {
+    name: "run",
+    about: "Runs a script or a program file, after verifying it",
+    example: "Example:\n  grain run --fuel 1000 script.rhai -- one two",
+    arguments: &[
+        FILE,
+        Argument::Number {
+            name: "fuel",
+            value: "TURNS",
+            is_required: false,
+            help: "Stop after this many operations (default: never)",
+        },
+        Argument::Size {
+            name: "depth",
+            value: "CALLS",
+            default: "10000",
+            help: "Nest calls this deep at most",
+        },
+        Argument::Size {
+            name: "size",
+            value: "SIZE",
+            default: "16000000",
+            help: "Allow this many values and bytes of text in one value",
+        },
+        WORK,
+        Argument::Rest {
+            name: "ARG",
+            help: "Texts that the script gets from the function `args()`",
+        },
+    ],
+};
+
+fn bounds_of(matches: &ArgMatches<'_>) -> Bounds {
+    Bounds {
+        run: Limits {
+            fuel: matches.get_one::<u64>("fuel").unwrap_or(u64::MAX),
+            depth: matches.get_one::<usize>("depth").unwrap_or(0),
+        },
+        size: SizeLimits {
+            size: matches.get_one::<usize>("size").unwrap_or(0),
+            depth: NESTING,
+        },
+    }
+}
+
+/// The arguments of the script, as an array of strings.
+fn words(alloc: Global, matches: &ArgMatches<'_>) -> Result<Value, AllocError> {
+    let mut words = Vec::new(alloc);
+    for word in matches.get_raw("ARG").unwrap_or_default() {
+        words.push(Value::text(alloc, String::from_str(alloc, word)?)?)?;
+    }
+    Value::array(alloc, words)
+}
+
+/// Why a run can't begin.
+fn unready(alloc: Global, path: &str, cause: &Cause) -> Failure {
+    match cause {
+        Cause::OutOfMemory => Failure::OutOfMemory,
+        cause => Failure::of(alloc, shown(path), format_args!("{cause}")),
+    }
+}
+
+/// Runs the program in a world, and gives what it ended with.
+fn ending<W: World + Drop>(
+    alloc: Global,
+    path: &str,
+    program: &Program,
+    script: &mut Script<W>,
+    limits: Limits,
+) -> Result<Ending<Value, Fault>, Failure> {
+    let accepted = match accept(program) {
+        Ok(accepted) => accepted,
+        Err(VerifyError::OutOfMemory) => return Err(Failure::OutOfMemory),
+        Err(error) => {
+            return Err(Failure::of(alloc, shown(path), format_args!("refused: {error}")));
+        }
+    };
+    Ok(accepted.main().run(alloc, script, limits)?)
+}
+
+/// The function and the position of an address. A function of the library, which isn't in the script, has its name alone.
+fn write_call(alloc: Global, program: &Program, at: usize) -> Result<String, AllocError> {
+    let is_placed = !program.position(program.main().entry() as usize).is_none();
+    match chunk_at(program, at) {
+        Some(place) if is_placed && program.position(at).is_none() => {
+            String::from_str(alloc, name_of(program, place))
+        }
+        _ => write_place(alloc, program, at),
+    }
+}
+
+/// Why a script failed: the fault, and the calls that it ended, each on a line of its own.
+fn report(
+    alloc: Global,
+    program: &Program,
+    fault: &Fault,
+    calls: &[usize],
+) -> Result<String, AllocError> {
+    let mut text = String::new(alloc);
+    push_shown(&fault.text(alloc, program)?, &mut text)?;
+    if calls.is_empty() {
+        return Ok(text);
+    }
+    let place = write_call(alloc, program, fault.at)?;
+    write!(text, "\n  in {place}")?;
+    for call in calls.iter().take(SHOWN_CALLS) {
+        let place = write_call(alloc, program, *call)?;
+        write!(text, "\n  called from {place}")?;
+    }
+    let left_out = calls.len().saturating_sub(SHOWN_CALLS);
+    if left_out > 0 {
+        write!(text, "\n  and {left_out} more calls")?;
+    }
+    Ok(text)
+}
+
+/// What a run returned, or why it failed.
+fn result(
+    alloc: Global,
+    path: &str,
+    program: &Program,
+    outcome: Outcome<Value, Fault>,
+    calls: &[usize],
+) -> Result<Value, Failure> {
+    match outcome {
+        Outcome::Returned(Some(value)) => Ok(value),
+        Outcome::Returned(None) => Ok(Value::Unit),
+        Outcome::Faulted(fault) | Outcome::Uncatchable(fault) => {
+            let text = report(alloc, program, &fault, calls)?;
+            Err(Failure::of_lines(alloc, shown(path), text))
+        }
+        Outcome::OutOfFuel => Err(Failure::of(alloc, shown(path), "out of fuel")),
+        Outcome::OutOfMemory => Err(Failure::OutOfMemory),
+    }
+}
+
+/// Runs the program, and gives what it returned, or why it failed.
+fn value_of<W: World + Drop>(
+    alloc: Global,
+    path: &str,
+    program: &Program,
+    script: &mut Script<W>,
+    limits: Limits,
+) -> Result<Value, Failure> {
+    let ending = ending(alloc, path, program, script, limits)?;
+    result(alloc, path, program, ending.outcome, script.backtrace())
+}
+
+/// Prints the value of a script, unless it is unit.
+fn show<W: World + Drop>(
+    alloc: Global,
+    script: &mut Script<W>,
+    value: &Value,
+) -> Result<(), AllocError> {
+    if !matches!(value, Value::Unit) {
+        let line = format!(in alloc; "{value}")?;
+        // Where it can't be written, the world knows why.
+        let _written = script.world_mut().print(line.as_str());
+    }
+    Ok(())
+}
+
+/// Runs the program, and prints its value: what was printed is written also where the run fails.
+fn run_script<O: Write + Drop, E: Write + Drop>(
+    alloc: Global,
+    path: &str,
+    program: &Program,
+    script: &mut Script<Terminal<O, E>>,
+    limits: Limits,
+) -> Result<(), Failure> {
+    let value = value_of(alloc, path, program, script, limits);
+    if let Ok(value) = &value {
+        show(alloc, script, value)?;
+    }
+    script.world_mut().finish()?;
+    let _value = value?;
+    Ok(())
+}
+
+/// Runs a program whose script has this world: what it prints, and at last its value.
+fn run_in<O: Write + Drop, E: Write + Drop>(
+    alloc: Global,
+    path: &str,
+    program: &Program,
+    bounds: Bounds,
+    world: Terminal<O, E>,
+) -> Result<(), Failure> {
+    match Script::new(alloc, program, world, bounds.size) {
+        Ok(mut script) => run_script(alloc, path, program, &mut script, bounds.run),
+        Err(cause) => Err(unready(alloc, path, &cause)),
+    }
+}
+
+/// Runs a program in this process: what it prints goes to standard output, and what it debugs to standard error.
+fn run_here(
+    rt: &HostRuntime,
+    matches: &ArgMatches<'_>,
+    path: &str,
+    program: &Program,
+) -> Result<(), Failure> {
+    let alloc = rt.alloc();
+    let words = words(alloc, matches)?;
+    let output = match BufWriter::new(alloc, rt.stdout()) {
+        Ok(output) => output,
+        Err(error) => return Err(Failure::of_output(error)),
+    };
+    let world = Terminal::new(alloc, output, rt.stderr(), words);
+    run_in(alloc, path, program, bounds_of(matches), world)
+}
+
+/// Runs a script or a program file.
+pub fn run(rt: &HostRuntime, matches: &ArgMatches<'_>) -> Result<u8, Failure> {
+    let path = matches.get_str("FILE").unwrap_or("-");
+    let program = program_in(rt, path)?;
+    admit(rt.alloc(), path, allowed_of(matches), &program)?;
+    run_here(rt, matches, path, &program)?;
+    Ok(0)
+}

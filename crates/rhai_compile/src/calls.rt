@@ -1,0 +1,136 @@
+//! The code of calls and closures.
+ghost use Rattle.std.specs.Prelude.{◌≡◌, ◌+◌, ◌-◌, ◌≤◌, OnOk};
+ghost use Rattle.rhai_emit.specs.Loops.{count};
+ghost use Rattle.rhai_emit.specs.Rules.{IsWritten, Stands, AddsPlaces};
+ghost use Rattle.rhai_emit.specs.Places.{both, here, list_places, expr_places};
+
+use crate::coder::Coder;
+use grain::Op;
+use rhai_emit::{Callee, Emitter, argc_of, callee_of};
+use rhai_lexer::{CompileError, Place, Problem, Thing};
+use rhai_syntax::Expr;
+
+impl<F: Fn(&mut Emitter, &Expr, usize, bool) -> Result<(), CompileError>> Coder<F> {
+    pub(crate) fn call(
+        &self,
+        emitter: &mut Emitter,
+        place: Place,
+        name: u32,
+        arguments: &[Expr],
+    ) -> Result<(), CompileError>
+        requires may { (m : _) (e : _) (w : _) → Stands m.now → F.pre self.now.writes m e self.now.depth w }
+        requires does { (m : _) (e : _) (w : _) (r : _) (n : _) → F.post self.now.writes m e self.now.depth w r n
+            → OnOk r (IsWritten m.now n.now (m.now.code.operands + count w)) }
+        requires adds { (m : _) (e : _) (w : _) (r : _) (n : _) → F.post self.now.writes m e self.now.depth w r n
+            → OnOk r (AddsPlaces m.now n.now (expr_places e.now)) }
+        requires stands { Stands emitter.old }
+        ensures written { OnOk result (IsWritten emitter.old emitter.new (emitter.old.code.operands + 1)) }
+        ensures placed { OnOk result (AddsPlaces emitter.old emitter.new
+            (both (here place) (list_places arguments.now))) }
+    {
+        match (callee_of(emitter.pools.names.get(name)), arguments) {
+            (Callee::Evaluated, _) => {
+                Err(CompileError::new(place, Problem::Unsupported(Thing::Eval)))
+            }
+            (Callee::Shared, [argument]) => self.is_shared(emitter, place, argument),
+            (Callee::Pointer, [argument]) => {
+                self.expr(emitter, argument, true)?;
+                emitter.put(place, Op::MakeFnPtr, 1, 1)
+            }
+            (Callee::Called, [pointer, others @ ..]) => {
+                self.expr(emitter, pointer, true)?;
+                self.all(emitter, others)?;
+                emitter.call_pointer(place, argc_of(place, others.len())?, false)
+            }
+            (Callee::Curried, [pointer, others @ ..]) => {
+                self.expr(emitter, pointer, true)?;
+                self.all(emitter, others)?;
+                emitter.curry(place, argc_of(place, others.len())?)
+            }
+            _ => self.function(emitter, place, name, arguments),
+        }
+    }
+
+    /// Whether a value is shared. Of a local variable it is the shared value itself that is tested, not what it holds.
+    fn is_shared(
+        &self,
+        emitter: &mut Emitter,
+        place: Place,
+        argument: &Expr,
+    ) -> Result<(), CompileError>
+        requires may { (m : _) (e : _) (w : _) → Stands m.now → F.pre self.now.writes m e self.now.depth w }
+        requires does { (m : _) (e : _) (w : _) (r : _) (n : _) → F.post self.now.writes m e self.now.depth w r n
+            → OnOk r (IsWritten m.now n.now (m.now.code.operands + count w)) }
+        requires adds { (m : _) (e : _) (w : _) (r : _) (n : _) → F.post self.now.writes m e self.now.depth w r n
+            → OnOk r (AddsPlaces m.now n.now (expr_places e.now)) }
+        requires stands { Stands emitter.old }
+        ensures written { OnOk result (IsWritten emitter.old emitter.new (emitter.old.code.operands + 1)) }
+        ensures placed { OnOk result (AddsPlaces emitter.old emitter.new
+            (both (here place) (expr_places argument.now))) }
+    {
+        match emitter.slot_of(argument) {
+            Some(slot) => emitter.put(argument.place, Op::LoadShared(slot), 0, 1)?,
+            None => self.expr(emitter, argument, true)?,
+        }
+        emitter.put(place, Op::IsShared, 1, 1)
+    }
+
+    /// A call of a function of the script or of the host. The host may change a local variable that is its first argument.
+    fn function(
+        &self,
+        emitter: &mut Emitter,
+        place: Place,
+        name: u32,
+        arguments: &[Expr],
+    ) -> Result<(), CompileError>
+        requires may { (m : _) (e : _) (w : _) → Stands m.now → F.pre self.now.writes m e self.now.depth w }
+        requires does { (m : _) (e : _) (w : _) (r : _) (n : _) → F.post self.now.writes m e self.now.depth w r n
+            → OnOk r (IsWritten m.now n.now (m.now.code.operands + count w)) }
+        requires adds { (m : _) (e : _) (w : _) (r : _) (n : _) → F.post self.now.writes m e self.now.depth w r n
+            → OnOk r (AddsPlaces m.now n.now (expr_places e.now)) }
+        requires stands { Stands emitter.old }
+        ensures written { OnOk result (IsWritten emitter.old emitter.new (emitter.old.code.operands + 1)) }
+        ensures placed { OnOk result (AddsPlaces emitter.old emitter.new
+            (both (here place) (list_places arguments.now))) }
+    {
+        let argc = argc_of(place, arguments.len())?;
+        if !emitter.has_plain_function(name, arguments.len())
+            && let Some((first, others)) = arguments.split_first()
+            && let Some(slot) = emitter.changeable_slot_of(first)
+        {
+            self.all(emitter, others)?;
+            return emitter.call_on(place, name, slot, argc);
+        }
+        self.all(emitter, arguments)?;
+        emitter.call(place, name, argc)
+    }
+
+    /// A method of the value on top, to which its arguments are added.
+    pub(crate) fn method(
+        &self,
+        emitter: &mut Emitter,
+        place: Place,
+        name: u32,
+        arguments: &[Expr],
+    ) -> Result<(), CompileError>
+        requires may { (m : _) (e : _) (w : _) → Stands m.now → F.pre self.now.writes m e self.now.depth w }
+        requires does { (m : _) (e : _) (w : _) (r : _) (n : _) → F.post self.now.writes m e self.now.depth w r n
+            → OnOk r (IsWritten m.now n.now (m.now.code.operands + count w)) }
+        requires adds { (m : _) (e : _) (w : _) (r : _) (n : _) → F.post self.now.writes m e self.now.depth w r n
+            → OnOk r (AddsPlaces m.now n.now (expr_places e.now)) }
+        requires stands { Stands emitter.old }
+        requires room { emitter.old.code.level.floor + 1 ≤ emitter.old.code.operands }
+        ensures written { OnOk result (IsWritten emitter.old emitter.new (emitter.old.code.operands)) }
+        ensures placed { OnOk result (AddsPlaces emitter.old emitter.new
+            (both (here place) (list_places arguments.now))) }
+    {
+        self.all(emitter, arguments)?;
+        let with_value = argc_of(place, arguments.len().saturating_add(1))?;
+        let argc = with_value.saturating_sub(1);
+        match callee_of(emitter.pools.names.get(name)) {
+            Callee::Called => emitter.call_pointer(place, argc, argc > 0),
+            Callee::Curried => emitter.curry(place, argc),
+            _ => emitter.call(place, name, with_value),
+        }
+    }
+}

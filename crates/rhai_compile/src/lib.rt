@@ -1,0 +1,22 @@
+//! A compiler of Rhai: from a source text to a program that is accepted.
+//!
+//! [`compile`] reads a text by `rhai_syntax`, and writes operations for it by `rhai_emit`, which has [`grain::build`] assemble
+//! and verify them. docs/LANGUAGE.md says what is compiled.
+#![tactic(auto)]
+
+mod access;
+mod blocks;
+mod building;
+mod calls;
+mod coder;
+mod loops;
+mod parts;
+mod placing;
+mod prelude;
+mod programs;
+mod switches;
+
+pub use programs::{compile, compile_syntax};
+pub use rhai_emit::Options;
+pub use rhai_lexer::{CompileError, Place, Problem, Thing, report};
+pub use rhai_syntax::{MAX_FLAWS, flaws};

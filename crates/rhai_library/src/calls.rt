@@ -1,0 +1,57 @@
+//! Calls by function.
+
+use crate::function::Function;
+use crate::{arrays, maps, numbers, scalars, texts};
+use rhai_values::{Cause, SizeLimits, Value};
+use std::alloc::Global;
+
+/// Calls a function of the library. What it changes in place is its first argument, the receiver. `None` means that the function
+/// doesn't take such arguments.
+///
+/// It takes time by the size of its arguments and of its result.
+///
+/// # Errors
+/// As each function: [`Cause::Overflow`], [`Cause::OutOfBounds`], [`Cause::WrongType`], [`Cause::TooLarge`] or out of memory.
+pub fn call(
+    alloc: Global,
+    limits: SizeLimits,
+    function: Function,
+    receiver: &mut Value,
+    arguments: &[Value],
+) -> Result<Option<Value>, Cause> {
+    if let Some(value) = of_any(alloc, function, receiver, arguments)? {
+        return Ok(Some(value));
+    }
+    match receiver {
+        Value::Text(text) => texts::call(alloc, limits, function, text, arguments),
+        Value::Array(list) => arrays::call(alloc, limits, function, list, arguments),
+        Value::Map(object) => maps::call(alloc, function, object, arguments),
+        Value::Int(number) => numbers::call(alloc, function, *number, arguments),
+        Value::Char(character) => scalars::of_character(alloc, function, *character, arguments),
+        Value::Range(range) => Ok(scalars::of_range(function, range, arguments)),
+        Value::Pointer(pointer) => scalars::of_pointer(alloc, function, pointer, arguments),
+        _ => Ok(None),
+    }
+}
+
+/// What every value has.
+fn of_any(
+    alloc: Global,
+    function: Function,
+    receiver: &Value,
+    arguments: &[Value],
+) -> Result<Option<Value>, Cause> {
+    let text = match (function, arguments) {
+        (Function::TypeOf, []) => String::from_str(alloc, receiver.type_name())?,
+        (Function::ToString, []) => format!(in alloc; "{receiver}")?,
+        (Function::ToDebug, []) => format!(in alloc; "{receiver:?}")?,
+        (Function::Range, [Value::Int(to)]) => {
+            return match receiver {
+                Value::Int(from) => Ok(Some(Value::range(alloc, *from, *to, false)?)),
+                _ => Ok(None),
+            };
+        }
+        _ => return Ok(None),
+    };
+    Ok(Some(Value::text(alloc, text)?))
+}

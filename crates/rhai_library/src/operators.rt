@@ -1,0 +1,236 @@
+//! Operators by their tokens.
+
+use grain_base::Token;
+use rhai_values::{Cause, Text, Value, are_equal, order};
+use std::alloc::Global;
+use std::cmp::Ordering;
+use std::rc::Rc;
+
+/// What a binary operator gives, also that of an op-assignment. `None` means that it doesn't take such operands. The left one may
+/// be used up: a text or an array is extended in place where nobody else holds it.
+///
+/// # Errors
+/// [`Cause::Overflow`], [`Cause::DivisionByZero`], or out of memory.
+#[inline]
+pub fn operate(
+    alloc: Global,
+    operator: &Token,
+    left: &mut Value,
+    right: &Value,
+) -> Result<Option<Value>, Cause> {
+    match (&*left, right) {
+        (Value::Int(x), Value::Int(y)) => operate_on_integers(alloc, operator, *x, *y),
+        (Value::Bool(x), Value::Bool(y)) => match of_truths(operator, *x, *y) {
+            Some(value) => Ok(Some(Value::Bool(value))),
+            None => Ok(compared(operator, left, right)),
+        },
+        _ => match operator {
+            Token::Plus | Token::PlusAssign => extended(alloc, operator, left, right),
+            _ => Ok(compared(operator, left, right)),
+        },
+    }
+}
+
+/// What an operator gives of one or two operands. The left one may be used up, as by [`operate`].
+///
+/// # Errors
+/// As [`operate`].
+#[inline]
+pub fn operate_on(
+    alloc: Global,
+    operator: &Token,
+    operands: &mut [Value],
+) -> Result<Option<Value>, Cause> {
+    let Some((left, rest)) = operands.split_first_mut() else {
+        return Ok(None);
+    };
+    match rest.first() {
+        None => negate(operator, left),
+        Some(right) => operate(alloc, operator, left, right),
+    }
+}
+
+/// What comparing gives: values of two types are never equal, and none of them is less than the other.
+fn compared(operator: &Token, left: &Value, right: &Value) -> Option<Value> {
+    let holds = match operator {
+        Token::EqualsTo => are_equal(left, right),
+        Token::NotEqualsTo => !are_equal(left, right),
+        Token::LessThan => matches!(order(left, right), Some(Ordering::Less)),
+        Token::GreaterThan => matches!(order(left, right), Some(Ordering::Greater)),
+        Token::LessThanEqualsTo => {
+            matches!(order(left, right), Some(Ordering::Less | Ordering::Equal))
+        }
+        Token::GreaterThanEqualsTo => {
+            matches!(
+                order(left, right),
+                Some(Ordering::Greater | Ordering::Equal)
+            )
+        }
+        _ => return None,
+    };
+    Some(Value::Bool(holds))
+}
+
+fn of_truths(operator: &Token, x: bool, y: bool) -> Option<bool> {
+    match operator {
+        Token::Ampersand | Token::AndAssign => Some(x && y),
+        Token::Pipe | Token::OrAssign => Some(x || y),
+        Token::XOr | Token::XOrAssign => Some(x != y),
+        _ => None,
+    }
+}
+
+/// What a binary operator gives of two integers, as [`operate`].
+///
+/// # Errors
+/// As [`operate`].
+#[inline(always)]
+pub fn operate_on_integers(
+    alloc: Global,
+    operator: &Token,
+    x: i64,
+    y: i64,
+) -> Result<Option<Value>, Cause> {
+    let number = match operator {
+        Token::EqualsTo => return Ok(Some(Value::Bool(x == y))),
+        Token::NotEqualsTo => return Ok(Some(Value::Bool(x != y))),
+        Token::LessThan => return Ok(Some(Value::Bool(x < y))),
+        Token::LessThanEqualsTo => return Ok(Some(Value::Bool(x <= y))),
+        Token::GreaterThan => return Ok(Some(Value::Bool(x > y))),
+        Token::GreaterThanEqualsTo => return Ok(Some(Value::Bool(x >= y))),
+        Token::ExclusiveRange => return Ok(Some(Value::range(alloc, x, y, false)?)),
+        Token::InclusiveRange => return Ok(Some(Value::range(alloc, x, y, true)?)),
+        Token::Plus | Token::PlusAssign => x.checked_add(y),
+        Token::Minus | Token::MinusAssign => x.checked_sub(y),
+        Token::Multiply | Token::MultiplyAssign => x.checked_mul(y),
+        Token::Divide | Token::DivideAssign | Token::Modulo | Token::ModuloAssign if y == 0 => {
+            return Err(Cause::DivisionByZero);
+        }
+        Token::Divide | Token::DivideAssign => x.checked_div(y),
+        Token::Modulo | Token::ModuloAssign => x.checked_rem(y),
+        Token::Ampersand | Token::AndAssign => Some(x & y),
+        Token::Pipe | Token::OrAssign => Some(x | y),
+        Token::XOr | Token::XOrAssign => Some(x ^ y),
+        Token::PowerOf | Token::PowerOfAssign => powered(x, y)?,
+        Token::LeftShift | Token::LeftShiftAssign => Some(shifted_left(x, y)),
+        Token::RightShift | Token::RightShiftAssign => Some(shifted_right(x, y)),
+        _ => return Ok(None),
+    };
+    match number {
+        Some(number) => Ok(Some(Value::Int(number))),
+        None => Err(Cause::Overflow),
+    }
+}
+
+fn powered(x: i64, y: i64) -> Result<Option<i64>, Cause> {
+    if y < 0 {
+        return Err(Cause::WrongType("an exponent that isn't negative"));
+    }
+    match u32::try_from(y) {
+        Ok(exponent) => Ok(x.checked_pow(exponent)),
+        Err(_) => match x {
+            0 | 1 => Ok(Some(x)),
+            -1 => Ok(Some(if y & 1 == 0 { 1 } else { -1 })),
+            _ => Ok(None),
+        },
+    }
+}
+
+/// Shifted left, or right where the distance is below 0. What leaves the 64 bits is lost.
+fn shifted_left(x: i64, distance: i64) -> i64 {
+    match u32::try_from(distance) {
+        Ok(distance) if distance < 64 => x.wrapping_shl(distance),
+        Ok(_) => 0,
+        Err(_) if distance < 0 => shifted_right_by(x, distance.unsigned_abs()),
+        Err(_) => 0,
+    }
+}
+
+/// Shifted right with its sign, or left where the distance is below 0.
+fn shifted_right(x: i64, distance: i64) -> i64 {
+    if distance < 0 {
+        return match u32::try_from(distance.unsigned_abs()) {
+            Ok(distance) if distance < 64 => x.wrapping_shl(distance),
+            _ => 0,
+        };
+    }
+    shifted_right_by(x, distance.unsigned_abs())
+}
+
+fn shifted_right_by(x: i64, distance: u64) -> i64 {
+    match u32::try_from(distance) {
+        Ok(distance) if distance < 64 => x.wrapping_shr(distance),
+        _ => { if x < 0 { -1 } else { 0 } }
+    }
+}
+
+/// What `+` gives of texts, characters, arrays and object maps.
+fn extended(
+    alloc: Global,
+    operator: &Token,
+    left: &mut Value,
+    right: &Value,
+) -> Result<Option<Value>, Cause> {
+    let is_assigned = matches!(operator, Token::PlusAssign);
+    match (left.take(), right) {
+        (Value::Text(mut text), other) => {
+            push_shown(alloc, &mut text, other)?;
+            Ok(Some(Value::Text(text)))
+        }
+        (Value::Array(mut list), Value::Array(others)) => {
+            Rc::make_mut(&mut list)?.extend(others.items())?;
+            Ok(Some(Value::Array(list)))
+        }
+        (Value::Array(mut list), _) if is_assigned => {
+            Rc::make_mut(&mut list)?.push(right.clone()?)?;
+            Ok(Some(Value::Array(list)))
+        }
+        (Value::Map(mut object), Value::Map(others)) => {
+            Rc::make_mut(&mut object)?.extend(others)?;
+            Ok(Some(Value::Map(object)))
+        }
+        (first, Value::Text(text)) => {
+            let text = text.as_str();
+            let joined = format!(in alloc; "{first}{text}")?;
+            Ok(Some(Value::text(alloc, joined)?))
+        }
+        (Value::Char(first), Value::Char(second)) => {
+            let joined = format!(in alloc; "{first}{second}")?;
+            Ok(Some(Value::text(alloc, joined)?))
+        }
+        (other, _) => {
+            *left = other;
+            Ok(None)
+        }
+    }
+}
+
+/// Appends what a value shows to a text.
+fn push_shown(alloc: Global, text: &mut Rc<Text>, value: &Value) -> Result<(), Cause> {
+    let text = Rc::make_mut(text)?;
+    match value {
+        Value::Text(other) => text.push_str(other.as_str())?,
+        Value::Char(character) => text.push(*character)?,
+        value => {
+            let shown = format!(in alloc; "{value}")?;
+            text.push_str(shown.as_str())?;
+        }
+    }
+    Ok(())
+}
+
+/// What an operator before its only operand gives. `None` means that it doesn't take such an operand.
+///
+/// # Errors
+/// [`Cause::Overflow`].
+pub fn negate(operator: &Token, value: &Value) -> Result<Option<Value>, Cause> {
+    match (operator, value) {
+        (Token::UnaryMinus | Token::Minus, Value::Int(x)) => match x.checked_neg() {
+            Some(number) => Ok(Some(Value::Int(number))),
+            None => Err(Cause::Overflow),
+        },
+        (Token::UnaryPlus | Token::Plus, Value::Int(x)) => Ok(Some(Value::Int(*x))),
+        (Token::Bang, Value::Bool(x)) => Ok(Some(Value::Bool(!*x))),
+        _ => Ok(None),
+    }
+}

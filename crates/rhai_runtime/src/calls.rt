@@ -1,0 +1,336 @@
+//! Calls: of operators, of functions of the script, the library and the world, and of function pointers.
+ghost use Rattle.std.specs.Prelude.{IfOk, length, ◌<◌};
+ghost use Rattle.grain_machine.specs.Reply.{NamesFunction};
+
+use crate::script::Script;
+use crate::world::World;
+use grain::Program;
+use grain_code::Receiver;
+use grain_machine::Reply;
+use rhai_library::{Callee, call, operate_at, operate_on};
+use rhai_values::{Cause, Lent, Pointer, This, Value, Variable, copies};
+
+/// What a function pointer is called on in method position.
+#[derive(Drop)]
+enum On {
+    /// A variable, which gets back what `this` is at last.
+    Variable(Variable),
+    /// A value that lies in none.
+    Value(Value),
+}
+
+impl<W: World + Drop> Script<W> {
+    /// What an operator gives: that of the library, or a function of the script that has its name.
+    #[inline]
+    pub(crate) fn operator(
+        &mut self,
+        program: &Program,
+        name: u32,
+        token: u32,
+        operands: &mut [Value],
+    ) -> Result<Reply<Value>, Cause>
+        ensures { IfOk result (NamesFunction program.now) }
+    {
+        let Some(operator) = program.tokens().get(token as usize) else {
+            return Err(Cause::Unsupported);
+        };
+        match operate_on(self.alloc, operator, operands)? {
+            Some(value) => Ok(Reply::Value(value)),
+            None => self.call(program, name, operands),
+        }
+    }
+
+    /// Calls a function by its name: one of the program's, of the library, or of the world.
+    pub(crate) fn call(
+        &mut self,
+        program: &Program,
+        name: u32,
+        operands: &mut [Value],
+    ) -> Result<Reply<Value>, Cause>
+        ensures { IfOk result (NamesFunction program.now) }
+    {
+        if let Some(function) = self.table.function(program, name, operands.len()) {
+            self.variables.begin(operands, self.at)?;
+            return Ok(Reply::Call { function });
+        }
+        Ok(Reply::Value(self.call_outside(program, name, operands)?))
+    }
+
+    /// Calls a function that isn't the program's.
+    fn call_outside(
+        &mut self,
+        program: &Program,
+        name: u32,
+        operands: &[Value],
+    ) -> Result<Value, Cause> {
+        let callee = self.table.callee(name);
+        let given = self.call_known(callee, operands)?;
+        match given {
+            Some(value) => Ok(value),
+            None => self.call_world(program, name, operands),
+        }
+    }
+
+    /// Does `print` or `debug` of one value.
+    fn written(&mut self, callee: Callee, operands: &[Value]) -> Result<Option<Value>, Cause> {
+        match (callee, operands) {
+            (Callee::Print, [value]) => {
+                let line = format!(in self.alloc; "{value}")?;
+                self.world.print(line.as_str())?;
+            }
+            (Callee::Debug, [value]) => {
+                let line = format!(in self.alloc; "{value:?}")?;
+                self.world.debug(line.as_str())?;
+            }
+            _ => return Ok(None),
+        }
+        Ok(Some(Value::Unit))
+    }
+
+    fn call_world(
+        &mut self,
+        program: &Program,
+        name: u32,
+        operands: &[Value],
+    ) -> Result<Value, Cause> {
+        let name = program.names().get(name).unwrap_or("");
+        match self.world.call(self.alloc, name, operands)? {
+            Some(value) => Ok(value),
+            None => Err(Cause::no_function(self.alloc, name, None, operands)),
+        }
+    }
+
+    /// Calls the function of a pointer that lies below its arguments. In method position what it is called on, a value below the
+    /// pointer or a variable, is `this` there. Where that is a function pointer itself, it is the one that is called.
+    pub(crate) fn call_pointer(
+        &mut self,
+        program: &Program,
+        is_method: bool,
+        receiver: &Option<Receiver>,
+        operands: &mut [Value],
+    ) -> Result<Reply<Value>, Cause>
+        ensures { IfOk result (NamesFunction program.now) }
+    {
+        if let Some(receiver) = receiver {
+            let variable = variable_of(receiver);
+            if let Value::Pointer(pointer) = self.variable(program, variable)? {
+                let pointer = pointer.clone()?;
+                return self.call_function(program, &pointer, None, operands);
+            }
+            return self.call_below(program, Some(On::Variable(variable)), operands);
+        }
+        if is_method && !matches!(operands.first(), Some(Value::Pointer(_))) {
+            let Some((value, others)) = operands.split_first_mut() else {
+                return Err(Cause::Unsupported);
+            };
+            let value = value.take();
+            return self.call_below(program, Some(On::Value(value)), others);
+        }
+        self.call_below(program, None, operands)
+    }
+
+    /// Calls the function of the pointer that lies below its arguments, on a variable or a value where there is one.
+    #[inline]
+    fn call_below(
+        &mut self,
+        program: &Program,
+        on: Option<On>,
+        operands: &mut [Value],
+    ) -> Result<Reply<Value>, Cause>
+        ensures { IfOk result (NamesFunction program.now) }
+    {
+        let Some((pointer, arguments)) = operands.split_first_mut() else {
+            return Err(Cause::Unsupported);
+        };
+        let Value::Pointer(pointer) = pointer.take() else {
+            return Err(Cause::WrongType("Fn"));
+        };
+        self.call_function(program, &pointer, on, arguments)
+    }
+
+    /// Calls the function of a pointer with these arguments, after those that are bound.
+    #[inline]
+    fn call_function(
+        &mut self,
+        program: &Program,
+        pointer: &Pointer,
+        on: Option<On>,
+        arguments: &mut [Value],
+    ) -> Result<Reply<Value>, Cause>
+        ensures { IfOk result (NamesFunction program.now) }
+    {
+        let bound = pointer.bound();
+        let count = bound.len().saturating_add(arguments.len());
+        let name = self.table.index_of(pointer.name());
+        if let Some(name) = name
+            && let Some(function) = self.table.function(program, name, count)
+        {
+            let this = match on {
+                Some(On::Variable(variable)) => Some(self.lent(program, variable)?),
+                Some(On::Value(value)) => Some(This { value, lent: None }),
+                None => None,
+            };
+            self.variables.begin_bound(bound, arguments, this, self.at)?;
+            return Ok(Reply::Call { function });
+        }
+        let mut all = copies(self.alloc, bound)?;
+        for argument in arguments {
+            all.push(argument.take())?;
+        }
+        let given = self.call_by_name(program, pointer.name(), name, all.as_slice())?;
+        Ok(Reply::Value(given))
+    }
+
+    /// Calls a function that isn't the program's by its name, which the program may not have among its own.
+    fn call_by_name(
+        &mut self,
+        program: &Program,
+        text: &str,
+        name: Option<u32>,
+        arguments: &[Value],
+    ) -> Result<Value, Cause> {
+        if let Some(name) = name {
+            return self.call_outside(program, name, arguments);
+        }
+        match self.call_known(Callee::named(text), arguments)? {
+            Some(value) => Ok(value),
+            None => Err(Cause::no_function(self.alloc, text, None, arguments)),
+        }
+    }
+
+    /// Calls a function that every script has, if it is one that takes these arguments.
+    fn call_known(
+        &mut self,
+        callee: Option<Callee>,
+        arguments: &[Value],
+    ) -> Result<Option<Value>, Cause> {
+        match callee {
+            Some(Callee::Library(function)) => match arguments.split_first() {
+                Some((receiver, arguments)) => {
+                    let mut receiver = receiver.clone()?;
+                    call(self.alloc, self.limits, function, &mut receiver, arguments)
+                }
+                None => Ok(None),
+            },
+            Some(Callee::Operator(index)) => operate_at(self.alloc, index, arguments),
+            Some(callee) => self.written(callee, arguments),
+            None => Ok(None),
+        }
+    }
+
+    /// Takes the value of a variable out for a call on it.
+    fn lent(&mut self, program: &Program, variable: Variable) -> Result<This, Cause> {
+        let value = self.variable_mut(program, variable)?.take();
+        let path = Vec::new(self.alloc);
+        Ok(This {
+            value,
+            lent: Some(Lent { variable, path }),
+        })
+    }
+
+    /// The value of a variable, or of `this`.
+    pub(crate) fn variable(&self, program: &Program, variable: Variable) -> Result<&Value, Cause> {
+        match variable {
+            Variable::Local(slot) => self.variables.local(slot),
+            Variable::Named(name) => match self.variables.named(name) {
+                Some(value) => Ok(value),
+                None => Err(self.no_variable(program, name)),
+            },
+            Variable::This => match self.variables.this() {
+                Some(value) => Ok(value),
+                None => Err(Cause::NoThis),
+            },
+        }
+    }
+
+    /// The place of the value of a variable, or of `this`.
+    pub(crate) fn variable_mut(
+        &mut self,
+        program: &Program,
+        variable: Variable,
+    ) -> Result<&mut Value, Cause> {
+        match variable {
+            Variable::Local(slot) => self.variables.local_mut(slot),
+            Variable::Named(name) => {
+                if self.variables.named(name).is_none() {
+                    return Err(self.no_variable(program, name));
+                }
+                match self.variables.named_mut(name) {
+                    Some(value) => Ok(value),
+                    None => Err(Cause::Unsupported),
+                }
+            }
+            Variable::This => match self.variables.this_mut() {
+                Some(value) => Ok(value),
+                None => Err(Cause::NoThis),
+            },
+        }
+    }
+
+    /// Calls a function whose first argument is a variable, changed in place where the library does. Of a variable that isn't
+    /// local the value lies below the arguments too.
+    pub(crate) fn call_on(
+        &mut self,
+        program: &Program,
+        name: u32,
+        receiver: &Receiver,
+        operands: &mut [Value],
+    ) -> Result<Reply<Value>, Cause>
+        ensures { IfOk result (NamesFunction program.now) }
+    {
+        let variable = variable_of(receiver);
+        let skipped = match receiver {
+            Receiver::Local(_) => 0usize,
+            Receiver::Named(_) | Receiver::This => 1,
+        };
+        let Some(arguments) = operands.get_mut(skipped..) else {
+            return Err(Cause::Unsupported);
+        };
+        let count = arguments.len().saturating_add(1);
+        if let Some(function) = self.table.function(program, name, count) {
+            let first = [self.variable_mut(program, variable)?.clone()?];
+            self.variables
+                .begin_bound(&first, arguments, None, self.at)?;
+            return Ok(Reply::Call { function });
+        }
+        Ok(Reply::Value(self.call_in_place(program, name, variable, arguments)?))
+    }
+
+    /// Calls a function of the library on the value of a variable, in place, or another one on a copy.
+    fn call_in_place(
+        &mut self,
+        program: &Program,
+        name: u32,
+        variable: Variable,
+        arguments: &[Value],
+    ) -> Result<Value, Cause> {
+        let alloc = self.alloc;
+        let limits = self.limits;
+        let callee = self.table.callee(name);
+        let receiver = self.variable_mut(program, variable)?;
+        if let Some(Callee::Library(function)) = callee {
+            let given = call(alloc, limits, function, receiver, arguments);
+            if !limits.allow(receiver.measure()) {
+                return Err(Cause::TooLarge);
+            }
+            if let Some(value) = given? {
+                return Ok(value);
+            }
+        }
+        let mut all = Vec::new(alloc);
+        all.push(receiver.clone()?)?;
+        for argument in arguments {
+            all.push(argument.clone()?)?;
+        }
+        self.call_outside(program, name, all.as_slice())
+    }
+}
+
+/// The variable that is the receiver of a call.
+fn variable_of(receiver: &Receiver) -> Variable {
+    match receiver {
+        Receiver::Local(slot) => Variable::Local(*slot),
+        Receiver::Named(name) => Variable::Named(*name),
+        Receiver::This => Variable::This,
+    }
+}

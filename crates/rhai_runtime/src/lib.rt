@@ -1,0 +1,20 @@
+//! A host of `grain_machine` for scripts: calls, assignments and chains of accesses over the values and variables of
+//! `rhai_values`, with the functions and operators of `rhai_library`.
+//!
+//! What operations do to the stacks is the machine's, and proved there. What they mean for values docs/FORMAT.md leaves to a
+//! host: here it is as Rhai's documentation says, as far as docs/LANGUAGE.md lists it. Proved of this host is that each call is safe
+//! and ends, that it names only functions of the program, and that a fault of `give` or `take` has the address of the operation.
+#![tactic(auto)]
+
+mod access;
+mod calls;
+mod chains;
+mod fault;
+mod host;
+mod script;
+mod table;
+mod world;
+
+pub use fault::Fault;
+pub use script::Script;
+pub use world::{Recorder, World};

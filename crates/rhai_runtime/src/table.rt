@@ -1,0 +1,175 @@
+//! What the names and constants of a program mean, found once before it runs.
+ghost use Rattle.std.specs.Prelude.{◌<◌, IfSome, length};
+
+use grain::Program;
+use rhai_library::Callee;
+use rhai_values::{Cause, Text, Value, value_of};
+use std::alloc::{AllocError, Global};
+use std::collections::BTreeMap;
+use std::rc::Rc;
+
+/// A function of the program.
+#[derive(Clone, Copy, Drop)]
+struct Declared {
+    params: usize,
+    /// The name of the type of its receiver, where it is declared for one.
+    this_type: Option<u32>,
+    index: usize,
+}
+
+/// What one name means.
+#[derive(Drop)]
+struct Meaning {
+    /// The name itself, to be shared.
+    name: Rc<Text>,
+    callee: Option<Callee>,
+    declared: Vec<Declared>,
+}
+
+/// What the names and constants of a program mean.
+#[derive(Drop)]
+pub(crate) struct Table {
+    constants: Vec<Value>,
+    /// By the index of the name.
+    meanings: Vec<Meaning>,
+    indices: BTreeMap<String, u32>,
+}
+
+impl Table {
+    /// The table of the program. It takes time and memory by its pools and functions.
+    pub(crate) fn of(alloc: Global, program: &Program) -> Result<Table, Cause> {
+        let mut table = Table {
+            constants: Vec::new(alloc),
+            meanings: Vec::new(alloc),
+            indices: BTreeMap::new(alloc),
+        };
+        for constant in program.consts() {
+            table.constants.push(value_of(alloc, constant)?)?;
+        }
+        table.add_names(alloc, program)?;
+        table.add_functions(program)?;
+        Ok(table)
+    }
+
+    fn add_names(&mut self, alloc: Global, program: &Program) -> Result<(), AllocError> {
+        let mut index = 0u32;
+        for name in program.names().iter() {
+            self.meanings.push(Meaning {
+                name: Rc::new(alloc, Text::of(String::from_str(alloc, name)?))?,
+                callee: Callee::named(name),
+                declared: Vec::new(alloc),
+            })?;
+            let _ = self.indices.insert(String::from_str(alloc, name)?, index)?;
+            index = index.saturating_add(1);
+        }
+        Ok(())
+    }
+
+    fn add_functions(&mut self, program: &Program) -> Result<(), AllocError> {
+        let mut index = 0usize;
+        for function in program.functions() {
+            if let Some(meaning) = self.meanings.get_mut(function.name as usize) {
+                meaning.declared.push(Declared {
+                    params: function.params.len(),
+                    this_type: function.this_type,
+                    index,
+                })?;
+            }
+            index = index.saturating_add(1);
+        }
+        Ok(())
+    }
+
+    /// The value of a constant.
+    pub(crate) fn constant(&self, index: u32) -> Option<&Value> {
+        self.constants.get(index as usize)
+    }
+
+    /// The name at an index.
+    pub(crate) fn name(&self, index: u32) -> Option<&Rc<Text>> {
+        match self.meanings.get(index as usize) {
+            Some(meaning) => Some(&meaning.name),
+            None => None,
+        }
+    }
+
+    /// The index of a name.
+    pub(crate) fn index_of(&self, name: &str) -> Option<u32> {
+        match self.indices.get(name) {
+            Some(index) => Some(*index),
+            None => None,
+        }
+    }
+
+    /// The function of the library, or `print` or `debug`, that has this name.
+    pub(crate) fn callee(&self, name: u32) -> Option<Callee> {
+        self.meanings.get(name as usize)?.callee
+    }
+
+    /// The function of the program that has this name and number of parameters, and is declared for no receiver.
+    pub(crate) fn function(&self, program: &Program, name: u32, params: usize) -> Option<usize>
+        ensures { IfSome result (λ index. index < length program.now.functions) }
+    {
+        let meaning = self.meanings.get(name as usize)?;
+        for declared in &meaning.declared {
+            if declared.params == params && declared.this_type.is_none() {
+                return within(program, declared.index);
+            }
+        }
+        None
+    }
+
+    /// Whether the program has functions of this name with this number of parameters.
+    pub(crate) fn has_functions(&self, name: u32, params: usize) -> bool {
+        match self.meanings.get(name as usize) {
+            Some(meaning) => meaning
+                .declared
+                .iter()
+                .any(|declared| declared.params == params),
+            None => false,
+        }
+    }
+
+    /// The function of the program that a method call on this value calls: one that is declared for its type, else one that is
+    /// declared for no receiver.
+    pub(crate) fn method(
+        &self,
+        program: &Program,
+        name: u32,
+        params: usize,
+        receiver: &Value,
+    ) -> Option<usize>
+        ensures { IfSome result (λ index. index < length program.now.functions) }
+    {
+        let meaning = self.meanings.get(name as usize)?;
+        for declared in &meaning.declared {
+            if declared.params == params && is_for(program, declared.this_type, receiver) {
+                return within(program, declared.index);
+            }
+        }
+        self.function(program, name, params)
+    }
+}
+
+/// The index, where the program has a function there.
+fn within(program: &Program, index: usize) -> Option<usize>
+    ensures { IfSome result (λ index. index < length program.now.functions) }
+{
+    if index < program.functions().len() {
+        Some(index)
+    } else {
+        None
+    }
+}
+
+/// Whether a function is declared for the type of the value.
+fn is_for(program: &Program, this_type: Option<u32>, receiver: &Value) -> bool {
+    let Some(name) = this_type else {
+        return false;
+    };
+    match program.names().get(name) {
+        Some("int") => receiver.type_name() == "i64",
+        Some(name) => receiver.type_name() == name,
+        None => false,
+    }
+}

@@ -1,0 +1,304 @@
+//! A walk over lexemes, and what has been read so far.
+
+use crate::ast::{Binding, Expr, Form, Function};
+use rhai_lexer::{
+    CompileError, Kind, Lexeme, Lexemes, Mark, Names, Operator, Place, Problem, Thing,
+};
+use std::alloc::Global;
+use std::collections::HashSet;
+
+/// A walk over lexemes.
+#[derive(Drop)]
+pub(crate) struct Cursor {
+    pub(crate) alloc: Global,
+    lexemes: Vec<Lexeme>,
+    at: usize,
+    pub(crate) names: Names,
+    texts: Names,
+    pub(crate) functions: Vec<Function>,
+    /// The names of variables, in the order in which they were read.
+    uses: Vec<u32>,
+    /// How many `throw` without a value were read.
+    pub(crate) rethrows: usize,
+    /// What is wrong so far.
+    pub(crate) flaws: Vec<CompileError>,
+}
+
+impl Cursor {
+    pub(crate) fn new(alloc: Global, lexemes: Lexemes) -> Cursor {
+        let Lexemes { list, names, texts } = lexemes;
+        Cursor {
+            alloc,
+            lexemes: list,
+            at: 0,
+            names,
+            texts,
+            functions: Vec::new(alloc),
+            uses: Vec::new(alloc),
+            rethrows: 0,
+            flaws: Vec::new(alloc),
+        }
+    }
+
+    /// What was read, statements aside.
+    pub(crate) fn end(self) -> (Names, Names, Vec<Function>) {
+        let Cursor {
+            alloc: _,
+            lexemes: _,
+            at: _,
+            names,
+            texts,
+            functions,
+            uses: _,
+            rethrows: _,
+            flaws: _,
+        } = self;
+        (names, texts, functions)
+    }
+
+    /// How many lexemes are left.
+    pub(crate) fn left(&self) -> usize {
+        self.lexemes.len().saturating_sub(self.at)
+    }
+
+    /// The lexeme this far after the next one.
+    pub(crate) fn ahead(&self, ahead: usize) -> Lexeme {
+        match self.lexemes.get(self.at.saturating_add(ahead)) {
+            Some(lexeme) => *lexeme,
+            None => Lexeme {
+                kind: Kind::Mark(Mark::End),
+                place: Place::NONE,
+            },
+        }
+    }
+
+    /// The lexeme this far before the next one.
+    pub(crate) fn behind(&self, behind: usize) -> Lexeme {
+        match self.lexemes.get(self.at.saturating_sub(behind)) {
+            Some(lexeme) => *lexeme,
+            None => self.peek(),
+        }
+    }
+
+    /// The next lexeme.
+    pub(crate) fn peek(&self) -> Lexeme {
+        self.ahead(0)
+    }
+
+    pub(crate) fn place(&self) -> Place {
+        self.peek().place
+    }
+
+    /// Goes past the next lexeme.
+    pub(crate) fn go(&mut self) {
+        if self.left() > 1 {
+            self.at = self.at.saturating_add(1);
+        }
+    }
+
+    pub(crate) fn is_at(&self, mark: Mark) -> bool {
+        match self.peek().kind {
+            Kind::Mark(found) => found == mark,
+            _ => false,
+        }
+    }
+
+    /// Goes past the mark, if it comes next.
+    pub(crate) fn eat(&mut self, mark: Mark) -> bool {
+        let is_there = self.is_at(mark);
+        if is_there {
+            self.go();
+        }
+        is_there
+    }
+
+    /// Goes past the mark.
+    pub(crate) fn expect(&mut self, mark: Mark, thing: Thing) -> Result<(), CompileError> {
+        if self.eat(mark) {
+            Ok(())
+        } else {
+            Err(self.expected(thing))
+        }
+    }
+
+    /// Goes past the mark that closes the bracket that was opened at the place.
+    pub(crate) fn close(
+        &mut self,
+        mark: Mark,
+        thing: Thing,
+        opened: Place,
+    ) -> Result<(), CompileError> {
+        if self.eat(mark) {
+            Ok(())
+        } else {
+            Err(self.fault(Problem::Unclosed(thing, opened)))
+        }
+    }
+
+    /// Goes past a name, and returns it with its place.
+    pub(crate) fn binding(&mut self, thing: Thing) -> Result<Binding, CompileError> {
+        let place = self.place();
+        let name = self.name(thing)?;
+        Ok(Binding { name, place })
+    }
+
+    /// Goes past a name.
+    pub(crate) fn name(&mut self, thing: Thing) -> Result<u32, CompileError> {
+        match self.peek().kind {
+            Kind::Name(name) => {
+                self.go();
+                Ok(name)
+            }
+            _ => Err(self.expected(thing)),
+        }
+    }
+
+    /// Something else is expected at the next lexeme, which may be reserved.
+    pub(crate) fn expected(&self, thing: Thing) -> CompileError {
+        if self.is_at(Mark::Reserved) {
+            self.fault(Problem::Reserved)
+        } else {
+            self.fault(Problem::Expected(thing))
+        }
+    }
+
+    /// The problem, at the next lexeme.
+    pub(crate) fn fault(&self, problem: Problem) -> CompileError {
+        CompileError::new(self.place(), problem)
+    }
+
+    /// Whether statements end here.
+    pub(crate) fn is_at_end_of_block(&self) -> bool {
+        match self.peek().kind {
+            Kind::Mark(Mark::RightBrace | Mark::End) => true,
+            Kind::NextPiece(_) | Kind::LastPiece(_) => true,
+            _ => false,
+        }
+    }
+
+    /// Whether no value can begin here.
+    pub(crate) fn is_at_end_of_value(&self) -> bool {
+        match self.peek().kind {
+            Kind::Mark(Mark::Semicolon | Mark::Comma | Mark::RightParen | Mark::RightBracket) => {
+                true
+            }
+            _ => self.is_at_end_of_block(),
+        }
+    }
+
+    /// The operator that comes next, if it is between operands and has at least this precedence.
+    pub(crate) fn operator(&self, least: u8) -> Option<Operator> {
+        match self.peek().kind {
+            Kind::Operator(operator) if operator.binds() >= least && operator.binds() > 0 => {
+                Some(operator)
+            }
+            _ => None,
+        }
+    }
+
+    /// Whether `=` comes next.
+    pub(crate) fn is_at_assign(&self) -> bool {
+        match self.peek().kind {
+            Kind::Assign(None) => true,
+            _ => false,
+        }
+    }
+
+    /// A condition isn't followed by `=`.
+    pub(crate) fn check_condition(&self) -> Result<(), CompileError> {
+        if self.is_at_assign() {
+            return Err(self.fault(Problem::AssignedCondition));
+        }
+        Ok(())
+    }
+
+    /// A name isn't followed by `!(`.
+    pub(crate) fn check_scope_call(&self) -> Result<(), CompileError> {
+        match (self.peek().kind, self.ahead(1).kind) {
+            (Kind::Operator(Operator::Bang), Kind::Mark(Mark::LeftParen)) => {
+                Err(self.fault(Problem::Unsupported(Thing::ScopeCall)))
+            }
+            _ => Ok(()),
+        }
+    }
+
+    /// Whether `|` comes next.
+    pub(crate) fn is_at_pipe(&self) -> bool {
+        match self.peek().kind {
+            Kind::Operator(operator) => operator == Operator::Pipe,
+            _ => false,
+        }
+    }
+
+    /// Goes past `|`, if it comes next.
+    pub(crate) fn eat_pipe(&mut self) -> bool {
+        let is_there = self.is_at_pipe();
+        if is_there {
+            self.go();
+        }
+        is_there
+    }
+
+    /// Goes past the name of a property, and returns it as a text.
+    pub(crate) fn property_text(&mut self) -> Result<u32, CompileError> {
+        let text = match self.peek().kind {
+            Kind::Text(text) => text,
+            Kind::Name(name) => {
+                let name = String::from_str(self.alloc, self.names.get(name))?;
+                self.texts.index(name)?
+            }
+            _ => return Err(self.fault(Problem::Expected(Thing::PropertyName))),
+        };
+        self.go();
+        Ok(text)
+    }
+
+    /// The name that is spelled like a text.
+    pub(crate) fn name_of_text(&mut self, text: u32) -> Result<u32, CompileError> {
+        let name = String::from_str(self.alloc, self.texts.get(text))?;
+        self.names.index(name)
+    }
+
+    /// A variable is used.
+    pub(crate) fn uses(&mut self, name: u32) -> Result<(), CompileError> {
+        self.uses.push(name)?;
+        Ok(())
+    }
+
+    /// How many uses of variables there were.
+    pub(crate) fn count_uses(&self) -> usize {
+        self.uses.len()
+    }
+
+    /// The variables that were used since there were this many uses, each once. They count once each from now on.
+    pub(crate) fn used_since(&mut self, count: usize) -> Result<Vec<u32>, CompileError> {
+        let mut used = Vec::new(self.alloc);
+        let mut seen = HashSet::new(self.alloc);
+        for name in self.uses.get(count..).unwrap_or_default() {
+            if seen.insert(*name)? {
+                used.push(*name)?;
+            }
+        }
+        self.uses.truncate(count);
+        for name in &used {
+            self.uses.push(*name)?;
+        }
+        Ok(used)
+    }
+
+    /// A name for the next function that has none, which no source text can contain.
+    pub(crate) fn made_up_name(&mut self) -> Result<u32, CompileError> {
+        let number = self.functions.len();
+        let name = format!(in self.alloc; "anon${number}")?;
+        self.names.index(name)
+    }
+
+    pub(crate) fn boxed(&self, expr: Expr) -> Result<Box<Expr>, CompileError> {
+        Ok(Box::new(self.alloc, expr)?)
+    }
+
+    /// The expression of a form that begins at the place.
+    pub(crate) fn expr(&self, place: Place, form: Form) -> Expr {
+        Expr { place, form }
+    }
+}
