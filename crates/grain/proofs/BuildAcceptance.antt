@@ -160,12 +160,16 @@ module _ (d : Draft) (p : Program) (lays : CanLay d) (laid : IsLaid d p) where
         (All-map (ChunkPasses there) (span_moved f) d.cuts (λ k cut l. chunk_there _ (lays.cuts k cut l) (h.typed k cut l))));
   }
 
+  -- indices that pass in its code pass in the operations
+  pub indexed_here : AreIndexed (setting_of p) p.code → All (Indexed s) d.ops
+  indexed_here h = indexed_ops s d.ops p.code laid.offsets laid.code (subst (λ (t : Setting). AreIndexed t p.code) same_setting h)
+
   -- and the other way
   pub accepted_here : IsAccepted (input_of p) → CanBuild d
   accepted_here h = record {
     lays = lays;
     constants = λ k v l. subst (λ (A : Type 0). A) constants_same h.constants k v l;
-    indexed = indexed_ops s d.ops p.code laid.offsets laid.code (subst (λ (t : Setting). AreIndexed t p.code) same_setting h.code);
+    indexed = indexed_here h.code;
     functions = λ some. subst (λ (c : Caps). Allows c.0 FUNCTION) same_caps (h.functions (λ none. some (sym laid.heads ∙ ap (map head_of) none)));
     typed = λ k cut l.
         let chunks : All (ChunkPasses there) (map (span_moved f) d.cuts) = subst (All (ChunkPasses there)) laid.chunks (subst (λ (c : Bytecode). All (ChunkPasses c) (chunks_of p)) same_code h.chunks) in

@@ -11,3 +11,4 @@ pub mod StripRoundTrip
 pub mod RedeclaredPrograms
 pub mod RestoredPositions
 pub mod LeastRedeclared
+pub mod VerifiedPrograms

@@ -2,6 +2,7 @@
 pub mod Program
 pub mod Lookups
 pub mod Tightened
+pub mod Verified
 pub mod Sidecars
 pub mod Build
 pub mod Explanations

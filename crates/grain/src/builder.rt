@@ -1,11 +1,13 @@
 //! Building a program from operations whose targets are indices.
 ghost use Rattle.std.specs.Prelude.{◌≡◌, ◌↔◌, ◌⊎◌, ℕ, ◌+◌, ◌-◌, ◌<◌, IfErr, IfOk, IsTrue, OnOk, length, map, slice_index};
 ghost use Rattle.std.specs.List.{All};
-ghost use Rattle.grain_code.specs.Assembly.{CanAssemble};
+ghost use Rattle.grain_code.specs.Assembly.{CanAssemble, IsAssembly};
 ghost use Rattle.grain.specs.Build.{AreCuts, AreDeepestByIndex, BuildFlaw, CanBuild, CanLay, IsFirstBadCut, IsLaid, draft, head_of, span_of};
+ghost use Rattle.grain.specs.Verified.{IsVerified};
 ghost use Rattle.grain_rules.specs.ByIndex.{IsCut, span_moved};
 
 use crate::program::{Parts, Program};
+use crate::verified::Verified;
 use grain_base::{Caps, FnAccess};
 use grain_bytecode::{AssembleError, assemble, resolve_switch_targets};
 use grain_code::{Chunk, Function, Op};
@@ -171,18 +173,20 @@ fn place_functions(
     Ok(functions)
 }
 
-/// The program of these operations. Nothing is tested but whether they can be written.
-fn lay(
+/// The program of these operations, whose cuts lie in the list, and where each operation begins in its code.
+fn lay_cuts(
     alloc: Global,
     caps: Caps,
     ops: &[Op],
     cuts: &[Cut],
     heads: Vec<Head>,
     mut parts: Parts,
-) -> Result<Program, BuildError>
+) -> Result<(Program, Vec<u32>), BuildError>
     requires count { length cuts.now ≡ length heads.items + 1 }
     requires inside { AreCuts (draft caps ops.now cuts.now heads.items parts) }
-    ensures ok { IfOk result (IsLaid (draft caps ops.now cuts.now heads.items parts)) }
+    ensures ok { IfOk result
+        (λ laid. IsLaid (draft caps ops.now cuts.now heads.items parts) laid.0) }
+    ensures offsets { IfOk result (λ laid. IsAssembly ops.now laid.0.code laid.1.items) }
     ensures lays { OnOk result (CanLay (draft caps ops.now cuts.now heads.items parts)) }
     ensures accepts { CanLay (draft caps ops.now cuts.now heads.items parts)
         → IfErr result (λ e. e ≡ BuildError.OutOfMemory) }
@@ -194,22 +198,58 @@ fn lay(
     resolve_switch_targets(&mut parts.switches, &offsets)?;
     let functions = place_functions(alloc, &offsets, &cuts[1..], heads)?;
     let main = cuts[0].place(&offsets);
-    Ok(Program::new(alloc, caps, code, main, functions, parts))
+    let program = Program::new(alloc, caps, code, main, functions, parts);
+    Ok((program, offsets))
+}
+
+/// Assembles a program from operations whose targets are indices, as [`build`] does, and doesn't verify it. The result is also where
+/// each operation begins in the code, and where the last one ends.
+///
+/// # Errors
+/// As [`build`], but for `Verify`.
+pub fn lay(
+    alloc: Global,
+    caps: Caps,
+    ops: &[Op],
+    cuts: &[Cut],
+    heads: Vec<Head>,
+    parts: Parts,
+) -> Result<(Program, Vec<u32>), BuildError>
+    // The first cut has no head.
+    requires { length cuts.now ≡ length heads.items + 1 }
+
+    // What is laid is what was handed over, and where its operations are.
+    ensures ok { IfOk result
+        (λ laid. IsLaid (draft caps ops.now cuts.now heads.items parts) laid.0) }
+    ensures offsets { IfOk result (λ laid. IsAssembly ops.now laid.0.code laid.1.items) }
+
+    // What can be laid is, unless memory runs out, and each other refusal is a flaw.
+    ensures lays { OnOk result (CanLay (draft caps ops.now cuts.now heads.items parts)) }
+    ensures accepts { CanLay (draft caps ops.now cuts.now heads.items parts)
+        → IfErr result (λ e. e ≡ BuildError.OutOfMemory) }
+    ensures flaws { IfErr result (λ e. (e ≡ BuildError.OutOfMemory)
+        ⊎ BuildFlaw (draft caps ops.now cuts.now heads.items parts) e) }
+
+    // Memory is needed only if the cuts lie in the list and the operations can be assembled.
+    ensures memory { IfErr result (λ e. e ≡ BuildError.OutOfMemory
+        → AreCuts (draft caps ops.now cuts.now heads.items parts) × CanAssemble ops.now) }
+{
+    check_cuts(cuts, ops.len())?;
+    lay_cuts(alloc, caps, ops, cuts, heads, parts)
 }
 
 /// Builds a program from operations whose targets are indices, and verifies it.
 ///
-/// The first cut is the top level, and each other is the body of the function whose head is at its place. Targets of
-/// jumps and of the switches of the parts are indices of operations, or the number of operations for their end. Answers
-/// the program, whose targets are addresses, and the greatest operand count that any run of each cut reaches. All that
-/// decides, and the numbers, are said of the operations by index alone.
+/// The first cut is the top level, and each other is the body of the function whose head has its index. Targets of
+/// jumps and of the switches of the parts are indices of operations, or the number of operations for their end. In the program
+/// targets are addresses. All that decides, and the depths, are said of the operations by index alone.
 ///
 /// It costs one assembly and one verification, and goes over the cuts, the heads and the switches a few times.
 ///
 /// # Errors
 /// Tested in this order: `BadCut` with the first cut that runs backwards or past the operations; `Assemble` as
 /// [`assemble`] and then [`resolve_switch_targets`]; `Verify` as [`Program::verify`] of the program that the operations
-/// make. `OutOfMemory` where a growth was refused in any of them, which comes only where the cuts lie in the list and the
+/// make. `OutOfMemory` if an allocation was refused in any of them, which comes only if the cuts lie in the list and the
 /// operations can be assembled.
 pub fn build(
     alloc: Global,
@@ -218,16 +258,17 @@ pub fn build(
     cuts: &[Cut],
     heads: Vec<Head>,
     parts: Parts,
-) -> Result<(Program, Vec<u16>), BuildError>
+) -> Result<Verified, BuildError>
     // The first cut has no head.
     requires { length cuts.now ≡ length heads.items + 1 }
 
     // What is built is what was handed over, and passes by index.
     ensures accepted { OnOk result (CanBuild (draft caps ops.now cuts.now heads.items parts)) }
     ensures laid { IfOk result
-        (λ built. IsLaid (draft caps ops.now cuts.now heads.items parts) built.0) }
+        (λ built. IsLaid (draft caps ops.now cuts.now heads.items parts) built.program) }
     ensures deepest { IfOk result (λ built.
-        AreDeepestByIndex (draft caps ops.now cuts.now heads.items parts) built.1.items) }
+        AreDeepestByIndex (draft caps ops.now cuts.now heads.items parts) built.depths) }
+    ensures verified { IfOk result IsVerified }
 
     // What passes by index is built unless memory runs out, and each other refusal is a flaw.
     ensures accepts { CanBuild (draft caps ops.now cuts.now heads.items parts)
@@ -235,12 +276,13 @@ pub fn build(
     ensures flaws { IfErr result (λ e. (e ≡ BuildError.OutOfMemory)
         ⊎ BuildFlaw (draft caps ops.now cuts.now heads.items parts) e) }
 
-    // Memory is wanted only where the cuts lie in the list and the operations can be assembled.
+    // Memory is needed only if the cuts lie in the list and the operations can be assembled.
     ensures memory { IfErr result (λ e. e ≡ BuildError.OutOfMemory
         → AreCuts (draft caps ops.now cuts.now heads.items parts) × CanAssemble ops.now) }
 {
-    check_cuts(cuts, ops.len())?;
-    let program = lay(alloc, caps, ops, cuts, heads, parts)?;
-    let numbers = program.verify()?;
-    Ok((program, numbers))
+    let (program, _) = lay(alloc, caps, ops, cuts, heads, parts)?;
+    match program.into_verified() {
+        Ok(verified) => Ok(verified),
+        Err(rejected) => Err(BuildError::from(rejected.refusal.error)),
+    }
 }

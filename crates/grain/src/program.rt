@@ -172,6 +172,13 @@ impl Program {
         self
     }
 
+    /// Says where the bytes of the code are in the source text.
+    pub fn set_positions(&mut self, positions: Positions)
+        ensures { self.new ≡ record self.old { positions = listed_positions positions } }
+    {
+        self.parts.positions = positions;
+    }
+
     /// The constants that instructions point into.
     pub fn consts(&self) -> &[Dynamic]
         ensures { result.now ≡ self.now.consts }

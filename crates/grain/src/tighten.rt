@@ -112,7 +112,7 @@ impl Program {
     }
 
     /// Declares these numbers, chunk by chunk.
-    fn declare(&mut self, numbers: &[u16])
+    pub(crate) fn declare(&mut self, numbers: &[u16])
         requires { length numbers.now ≡ length (chunks_of self.old) }
         ensures declared { declared_by self.new ≡ numbers.now }
         ensures rest { undeclared self.new ≡ undeclared self.old }

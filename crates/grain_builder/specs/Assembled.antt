@@ -7,7 +7,7 @@ use Rattle.grain_builder.specs.Unfinished.{Spot, Unfinished, spot}
 use Rattle.grain_builder.specs.declared.assembler.Assembler.TheInside.{Inside}
 use Rattle.grain_builder.specs.declared.assembler.Label.{Label}
 use Rattle.grain_builder.specs.declared.assembler.PlacedOp.{PlacedOp}
-use Rattle.grain_builder.specs.declared.assembler.Targets.{Targets}
+use Rattle.grain_builder.specs.declared.assembler.TableTargets.{TableTargets}
 
 abbrev pub spot_at : Label → Spot
 spot_at l = spot l.operands l.frame
@@ -22,7 +22,7 @@ abbrev pub label_place : Label → ℕ
 label_place l = l.at
 
 -- all targets of a switch
-abbrev pub targets_of : Targets → List ℕ
+abbrev pub targets_of : TableTargets → List ℕ
 targets_of t = t.cases.items ++ t.default ∷ []
 
 abbrev pub workings_of : Inside → Workings

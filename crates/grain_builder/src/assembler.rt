@@ -31,7 +31,7 @@ pub struct PlacedOp {
 
 /// Where a switch leads.
 #[derive(Drop)]
-pub struct Targets {
+pub struct TableTargets {
     /// Where its cases and its ranges lead, in this order.
     pub cases: Vec<u32>,
     /// Where all other subjects lead.
@@ -44,7 +44,7 @@ pub struct Assembler {
     pub(crate) alloc: Global,
     pub(crate) ops: Vec<PlacedOp>,
     pub(crate) chains: Vec<Chain>,
-    pub(crate) tables: Vec<Targets>,
+    pub(crate) tables: Vec<TableTargets>,
     pub(crate) labels: Vec<Label>,
     pub(crate) cuts: Vec<Chunk>,
     pub(crate) operands: usize,

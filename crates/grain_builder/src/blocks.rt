@@ -6,7 +6,7 @@ ghost use Rattle.grain_rules.specs.Counts.{without_last};
 ghost use Rattle.grain_builder.specs.Assembled.{targets_of};
 ghost use Rattle.grain_builder.specs.Unfinished.{StaysIn, LeavesOperands, SameLabels, spot, level_with_handler, level_with_iterator, level_without_iterator, AddsPlace};
 
-use crate::assembler::{Assembler, PlacedOp, Targets};
+use crate::assembler::{Assembler, PlacedOp, TableTargets};
 use crate::frame::Frame;
 use crate::writing::{MAX_OPERANDS, too_many};
 use grain_code::Op;
@@ -151,7 +151,7 @@ impl Assembler {
     ///
     /// # Errors
     /// There are too many switches, or the allocator refused.
-    pub fn switch(&mut self, place: Place, targets: Targets) -> Result<u32, CompileError>
+    pub fn switch(&mut self, place: Place, targets: TableTargets) -> Result<u32, CompileError>
         requires room { self.old.level.floor + 1 ≤ self.old.operands }
         requires there { (l : ℕ) → Contains (targets_of targets) l
             → slice_get self.old.labels l ≡ Some (spot self.old.operands self.old.level) }

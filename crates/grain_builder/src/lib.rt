@@ -11,6 +11,6 @@ mod leaving;
 mod resolving;
 mod writing;
 
-pub use assembler::{Assembler, Targets};
+pub use assembler::{Assembler, TableTargets};
 pub use frame::Frame;
 pub use resolving::Assembled;

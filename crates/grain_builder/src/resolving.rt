@@ -4,7 +4,7 @@ ghost use Rattle.grain_builder.specs.Assembled.{label_place, op_in, place_in, ta
 ghost use Rattle.grain_builder.specs.Finished.{IsComplete};
 ghost use Rattle.grain_builder.specs.Resolved.{resolved_op, resolved_tables};
 
-use crate::assembler::{Assembler, Label, PlacedOp, Targets};
+use crate::assembler::{Assembler, Label, PlacedOp, TableTargets};
 use grain_code::{Chunk, Op};
 use grain_pools::Chain;
 use rhai_lexer::{CompileError, Place};
@@ -20,7 +20,7 @@ pub struct Assembled {
     /// The chains.
     pub chains: Vec<Chain>,
     /// Where each switch leads.
-    pub tables: Vec<Targets>,
+    pub tables: Vec<TableTargets>,
     /// The chunks.
     pub cuts: Vec<Chunk>,
 }
@@ -107,11 +107,15 @@ fn resolve_labels(alloc: Global, labels: &[u32], places: &[u32]) -> Result<Vec<u
     Ok(resolved)
 }
 
-fn resolve_table(alloc: Global, table: &Targets, places: &[u32]) -> Result<Targets, AllocError>
+fn resolve_table(
+    alloc: Global,
+    table: &TableTargets,
+    places: &[u32],
+) -> Result<TableTargets, AllocError>
     ensures { IfOk result (λ t. targets_of t ≡ map (slice_index places.now) (targets_of table.now)) }
 {
     let cases = resolve_labels(alloc, &table.cases, places)?;
-    Ok(Targets {
+    Ok(TableTargets {
         cases,
         default: target(places, table.default),
     })
@@ -119,9 +123,9 @@ fn resolve_table(alloc: Global, table: &Targets, places: &[u32]) -> Result<Targe
 
 fn resolve_tables(
     alloc: Global,
-    tables: &[Targets],
+    tables: &[TableTargets],
     places: &[u32],
-) -> Result<Vec<Targets>, AllocError>
+) -> Result<Vec<TableTargets>, AllocError>
     ensures { IfOk result (λ v. map targets_of v.items
         ≡ resolved_tables places.now (map targets_of tables.now)) }
 {

@@ -3,8 +3,8 @@ use types.Kit.{Item, Goal, Step, step}
 use denote.{Laws.Is, Laws.Typed, RattleType.RattleType, Param.Laws.Laws, Struct.Owning.shape, Struct.Struct.Struct, Struct.Struct.Struct-Makes}
 use Rattle.grain_c.proofs.Words.{Bool, List, [], ◌∷◌, refl, argument, argument_laws, box_of, box_typed, fjoin, layout, owned, ptr_val, vbool, word, Logic, Ptr, Ura, Val, ‵, ◌$◌}
 use Rattle.grain_c.specs.Keeps.{keeps}
-use Rattle.grain_flat.specs.contracts.scratch.Scratch as scratch
-use Rattle.grain_flat.proofs.scratch.Scratch.TheLaws as scratch_laws
+use Rattle.grain_flat.specs.contracts.scratch.FlatScratch as scratch
+use Rattle.grain_flat.proofs.scratch.FlatScratch.TheLaws as scratch_laws
 use Rattle.grain_c.specs.contracts.handle.CScratch as handle
 
 -- a scratch as a type argument, and in a box

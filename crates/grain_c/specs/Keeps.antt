@@ -5,7 +5,7 @@ use denote.RawPtr.{Ptr}
 use Rattle.std.specs.Box.Ownership.{box_owns}
 use Rattle.std.specs.Global.{Global}
 use Rattle.std.specs.contracts.impls.GlobalAllocator.TheImpl.{ghosts}
-use Rattle.grain_flat.specs.contracts.scratch.Scratch.{the_row}
+use Rattle.grain_flat.specs.contracts.scratch.FlatScratch.{the_row}
 
 -- where something is kept, a scratch in a block of the heap and the right to free that block; else nothing
 abbrev pub keeps : Bool → Ptr → Fml

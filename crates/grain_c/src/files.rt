@@ -15,7 +15,7 @@ use crate::verify::verify_in;
 use arrayvec::ArrayString;
 use grain_base::{Caps, Flags};
 use grain_file::{Limits, ReadError};
-use grain_flat::{CReport, Scratch, lack_record};
+use grain_flat::{CReport, FlatScratch, lack_record};
 use grain_flat_file::{
     CContents, CLimits, CReadError, FileStop, read_error_of, read_error_record, read_flat,
 };
@@ -127,7 +127,7 @@ pub extern "C" fn grain_proved_file_free(alloc: Global, file: &mut CHeldFile) {
 /// Verifies what a file has, in the memory of a scratch.
 fn verify_file_in(
     alloc: Global,
-    scratch: &mut Scratch,
+    scratch: &mut FlatScratch,
     contents: &CContents<'_>,
     host: u16,
     limit: u64,
@@ -181,7 +181,7 @@ pub extern "C" fn grain_proved_file_verify(
     ensures answer { IsFileAnswer
         contents.now host limit depths.old depths.new report.old report.new result }
 {
-    match take(alloc, scratch).or_else(|| Box::new(alloc, Scratch::new(alloc)).ok()) {
+    match take(alloc, scratch).or_else(|| Box::new(alloc, FlatScratch::new(alloc)).ok()) {
         Some(mut kept) => {
             let status = verify_file_in(alloc, &mut kept, contents, host, limit, depths, report);
             keep(alloc, scratch, kept);
@@ -190,7 +190,7 @@ pub extern "C" fn grain_proved_file_verify(
         // Without memory for what is kept, nothing is.
         None => verify_file_in(
             alloc,
-            &mut Scratch::new(alloc),
+            &mut FlatScratch::new(alloc),
             contents,
             host,
             limit,

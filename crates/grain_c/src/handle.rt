@@ -4,7 +4,7 @@
 //! doesn't depend on it. A handle has no `Drop`, so that none which keeps something is let go in silence.
 ghost use Rattle.std.specs.Prelude.{◌≡◌, true, false};
 
-use grain_flat::Scratch;
+use grain_flat::FlatScratch;
 use std::alloc::Global;
 use std::marker::Model;
 use std::{mem, ptr};
@@ -34,7 +34,7 @@ impl CScratch {
     }
 
     /// Keeps this.
-    fn of(kept: Box<Scratch>) -> CScratch {
+    fn of(kept: Box<FlatScratch>) -> CScratch {
         let block = Box::into_raw(kept);
         CScratch {
             made: true,
@@ -50,11 +50,11 @@ impl CScratch {
     }
 
     /// What it keeps.
-    fn into_box(self, alloc: Global) -> Box<Scratch>
+    fn into_box(self, alloc: Global) -> Box<FlatScratch>
         requires { self.made ≡ true }
     {
         let CScratch { made: _, block } = self;
-        unsafe { Box::from_raw(alloc, block as *mut Scratch) }
+        unsafe { Box::from_raw(alloc, block as *mut FlatScratch) }
     }
 
     /// Lets one go that keeps nothing.
@@ -65,7 +65,7 @@ impl CScratch {
     }
 
     /// What it keeps, if anything.
-    fn into_kept(mut self, alloc: Global) -> Option<Box<Scratch>> {
+    fn into_kept(mut self, alloc: Global) -> Option<Box<FlatScratch>> {
         if self.is_made() {
             Some(self.into_box(alloc))
         } else {
@@ -76,11 +76,11 @@ impl CScratch {
 }
 
 /// What the handle keeps, if anything, which then keeps nothing.
-pub(crate) fn take(alloc: Global, scratch: &mut CScratch) -> Option<Box<Scratch>> {
+pub(crate) fn take(alloc: Global, scratch: &mut CScratch) -> Option<Box<FlatScratch>> {
     mem::replace(scratch, CScratch::none()).into_kept(alloc)
 }
 
 /// Has the handle keep this. What it kept before is dropped.
-pub(crate) fn keep(alloc: Global, scratch: &mut CScratch, kept: Box<Scratch>) {
+pub(crate) fn keep(alloc: Global, scratch: &mut CScratch, kept: Box<FlatScratch>) {
     drop(mem::replace(scratch, CScratch::of(kept)).into_kept(alloc));
 }

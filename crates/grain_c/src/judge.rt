@@ -7,7 +7,9 @@ ghost use Rattle.grain_flat.specs.Flat.{IsFlat};
 
 use crate::status::{ACCEPTED, NOT_FLAT, OUT_OF_MEMORY, REFUSED, SHORT, TOO_MUCH_WORK};
 use grain_base::{Caps, Flags};
-use grain_flat::{CProgram, CReport, Scratch, Stop, is_flat, is_within, refusal_record, verdict};
+use grain_flat::{
+    CProgram, CReport, FlatScratch, Rejection, is_flat, is_within, refusal_record, verdict,
+};
 use grain_verify::Meter;
 use std::alloc::Global;
 
@@ -41,7 +43,7 @@ fn bar(program: &CProgram<'_>, room: usize, limit: u64) -> Option<u32>
 #[inline(always)]
 pub(crate) fn judge(
     alloc: Global,
-    scratch: &mut Scratch,
+    scratch: &mut FlatScratch,
     caps: u16,
     limit: u64,
     program: &CProgram<'_>,
@@ -74,8 +76,8 @@ pub(crate) fn judge(
             report.visited = shown(&meter);
             Ok(found)
         }
-        Err(Stop::OutOfMemory) => Err(OUT_OF_MEMORY),
-        Err(Stop::Refused(refusal)) => {
+        Err(Rejection::OutOfMemory) => Err(OUT_OF_MEMORY),
+        Err(Rejection::Refused(refusal)) => {
             *report = CReport {
                 refusal: refusal_record(refusal.place, &refusal.error),
                 visited: shown(&meter),

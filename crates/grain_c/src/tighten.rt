@@ -5,14 +5,14 @@ ghost use Rattle.grain_c.specs.Answers.{IsAnswer, WritesTight};
 use crate::handle::{CScratch, keep, take};
 use crate::judge::judge;
 use crate::status::ACCEPTED;
-use grain_flat::{CChunk, CProgram, CReport, Scratch, tighten};
+use grain_flat::{CChunk, CProgram, CReport, FlatScratch, tighten};
 use std::alloc::Global;
 
 /// Verifies a program and tightens its chunks, in the memory of a scratch, whatever that was used for before.
 #[inline(always)]
 fn tighten_in(
     alloc: Global,
-    scratch: &mut Scratch,
+    scratch: &mut FlatScratch,
     caps: u16,
     limit: u64,
     program: &CProgram<'_>,
@@ -60,7 +60,7 @@ pub extern "C" fn grain_proved_tighten(
     ensures answer { IsAnswer
         caps limit program.now (length tightened.old) report.old report.new result }
 {
-    match take(alloc, scratch).or_else(|| Box::new(alloc, Scratch::new(alloc)).ok()) {
+    match take(alloc, scratch).or_else(|| Box::new(alloc, FlatScratch::new(alloc)).ok()) {
         Some(mut kept) => {
             let status = tighten_in(alloc, &mut kept, caps, limit, program, tightened, report);
             keep(alloc, scratch, kept);
@@ -69,7 +69,7 @@ pub extern "C" fn grain_proved_tighten(
         // Without memory for what is kept, nothing is.
         None => tighten_in(
             alloc,
-            &mut Scratch::new(alloc),
+            &mut FlatScratch::new(alloc),
             caps,
             limit,
             program,

@@ -5,7 +5,7 @@ ghost use Rattle.grain_c.specs.Answers.{IsAnswer, WritesDepths};
 use crate::handle::{CScratch, keep, take};
 use crate::judge::judge;
 use crate::status::ACCEPTED;
-use grain_flat::{CProgram, CReport, Scratch};
+use grain_flat::{CProgram, CReport, FlatScratch};
 use std::alloc::Global;
 
 /// Writes the depths in front of the room, and leaves the rest of it.
@@ -20,7 +20,7 @@ fn put(room: &mut [u16], depths: &[u16])
 #[inline(always)]
 pub(crate) fn verify_in(
     alloc: Global,
-    scratch: &mut Scratch,
+    scratch: &mut FlatScratch,
     caps: u16,
     limit: u64,
     program: &CProgram<'_>,
@@ -65,7 +65,7 @@ pub extern "C" fn grain_proved_verify(
 {
     verify_in(
         alloc,
-        &mut Scratch::new(alloc),
+        &mut FlatScratch::new(alloc),
         caps,
         limit,
         program,
@@ -95,7 +95,7 @@ pub extern "C" fn grain_proved_verify_with(
     ensures answer { IsAnswer
         caps limit program.now (length depths.old) report.old report.new result }
 {
-    match take(alloc, scratch).or_else(|| Box::new(alloc, Scratch::new(alloc)).ok()) {
+    match take(alloc, scratch).or_else(|| Box::new(alloc, FlatScratch::new(alloc)).ok()) {
         Some(mut kept) => {
             let status = verify_in(alloc, &mut kept, caps, limit, program, depths, report);
             keep(alloc, scratch, kept);

@@ -5,7 +5,7 @@ use crate::arguments::Argument;
 use crate::failure::Failure;
 use crate::files::shown;
 use clap::ArgMatches;
-use grain::{Caps, Chunk, Flags, Program, Refusal};
+use grain::{Caps, Chunk, Flags, Program, Refusal, Verified, VerifyError};
 use grain_listing::push_capabilities;
 use std::alloc::{AllocError, Global};
 
@@ -137,5 +137,25 @@ pub fn admit(
     match obstacle_before(allowed, program) {
         None => Ok(()),
         Some(obstacle) => Err(refused(alloc, path, obstacle)),
+    }
+}
+
+/// The program of a file, verified, if a host takes it.
+///
+/// # Errors
+/// As [`admit`], and the program is refused.
+pub fn verified_of(
+    alloc: Global,
+    path: &str,
+    allowed: Allowed,
+    program: Program,
+) -> Result<Verified, Failure> {
+    admit(alloc, path, allowed, &program)?;
+    match program.into_verified() {
+        Ok(verified) => Ok(verified),
+        Err(rejected) if rejected.refusal.error == VerifyError::OutOfMemory => {
+            Err(Failure::OutOfMemory)
+        }
+        Err(rejected) => Err(Failure::of(alloc, shown(path), format_args!("refused: {rejected}"))),
     }
 }

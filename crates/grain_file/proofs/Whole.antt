@@ -2,8 +2,8 @@
 use Rattle.std.proofs.Common.{◌≡◌, ℕ, ◌≤◌, max, eqb, List, [], ◌∷◌, length, Result, Ok, Err, None, refl, sym, ap, ◌∙◌, arith, inl, inr}
 use Rattle.std.specs.Prelude.{MatchResult, IfOk, IfErr}
 use Rattle.grain.specs.Program.{Program}
-use Rattle.grain_format.specs.declared.error.Fault.{Fault}
-use Rattle.grain_format.specs.declared.error.Fault.TheVariants.{Magic}
+use Rattle.grain_format.specs.declared.error.FieldFault.{FieldFault}
+use Rattle.grain_format.specs.declared.error.FieldFault.TheVariants.{Magic}
 use Rattle.grain_format.specs.declared.error.WriteError.TheVariants as write_error
 use Rattle.grain_format.specs.declared.error.WriteError.{WriteError}
 use Rattle.grain_file.specs.declared.file.Limits.{Limits}
@@ -103,7 +103,7 @@ pools_fit names xs tokens ops chains switches n v t o c s bounds deep many = (n,
 
 -- ---- the bytes that a file begins with
 
-headed_reads : {A : Type 0} (tag : ℕ) (fault : Fault) (reading : List ℕ → Result (A × List ℕ) LocatedFault) (bytes rest : List ℕ) (u : Unit {0}) → expected_at tag fault bytes ≡ Ok (u, rest) → headed_at tag fault reading bytes ≡ reading rest
+headed_reads : {A : Type 0} (tag : ℕ) (fault : FieldFault) (reading : List ℕ → Result (A × List ℕ) LocatedFault) (bytes rest : List ℕ) (u : Unit {0}) → expected_at tag fault bytes ≡ Ok (u, rest) → headed_at tag fault reading bytes ≡ reading rest
 unfolding expected_at
 headed_reads tag fault reading [] rest u e = absurd cc
 headed_reads tag fault reading (b ∷ bytes) rest u e =

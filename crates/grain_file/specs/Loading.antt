@@ -1,10 +1,10 @@
 -- When a file is loaded, and what a refusal says.
-use Rattle.std.specs.Prelude.{◌≡◌, ◌≢◌, ◌⊎◌, ℕ, List}
+use Rattle.std.specs.Prelude.{◌≡◌, ◌≢◌, ℕ, List}
 use Rattle.grain_base.specs.CapBits.{missing}
 use Rattle.grain.specs.Program.{Program, input_of}
 use Rattle.grain_rules.specs.Accepted.{IsAccepted}
 use Rattle.grain_rules.specs.Capabilities.{Allows}
-use Rattle.grain_rules.specs.Flaw.{Flaw}
+use Rattle.grain_verify.specs.Refusals.{IsPlacedRefusal}
 use Rattle.grain_rules.specs.declared.error.VerifyError.TheVariants as verify_error
 use Rattle.grain_file.specs.declared.file.Limits.{Limits}
 use Rattle.grain_file.specs.declared.file.ReadError.TheVariants as read_error
@@ -25,12 +25,15 @@ pub record IsLoadable (host : ℕ) (p : Program) : Type 0 where
 
 -- memory ran out, at one of the steps
 abbrev pub IsMemory : LoadError → Type 0
-IsMemory e = (e ≡ load_error.Read read_error.OutOfMemory) ⊎ (e ≡ load_error.Refused verify_error.OutOfMemory)
+IsMemory (load_error.Read error) = error ≡ read_error.OutOfMemory
+IsMemory (load_error.Capabilities absent) = ⊥
+IsMemory (load_error.Refused rejected) = rejected.refusal.error ≡ verify_error.OutOfMemory
 
--- Which test failed: the bytes are no file, or a file of a program that declares what the host lacks, or of one with a flaw.
+-- Which test failed: the bytes are no file, or a file of a program that declares what the host lacks, or of the rejected one, which has
+-- the flaw that is named.
 abbrev pub IsLoadCause : Limits → List ℕ → ℕ → LoadError → Type 0
 IsLoadCause limits bytes host (load_error.Read error) = IsReadCause limits bytes error
 IsLoadCause limits bytes host (load_error.Capabilities absent) =
     (p : Program) × IsFileOf limits bytes p × (absent.0 ≡ missing host p.caps.0) × (absent.0 ≢ 0)
-IsLoadCause limits bytes host (load_error.Refused error) =
-    (p : Program) × IsFileOf limits bytes p × Allows host p.caps.0 × ((error ≡ verify_error.OutOfMemory) ⊎ Flaw (input_of p) error)
+IsLoadCause limits bytes host (load_error.Refused rejected) =
+    IsFileOf limits bytes rejected.program × Allows host rejected.program.caps.0 × IsPlacedRefusal (input_of rejected.program) rejected.refusal

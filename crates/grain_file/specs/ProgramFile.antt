@@ -4,7 +4,7 @@ use Rattle.grain_code.specs.Span.{Span}
 use Rattle.grain.specs.Program.{Program, places_of}
 use Rattle.grain_file.specs.declared.file.Limits.{Limits}
 use Rattle.grain_file.specs.declared.file.TheConstants.{MAX_DEPTH}
-use Rattle.grain_format.specs.declared.error.Fault.TheVariants.{Magic, Version, Kind}
+use Rattle.grain_format.specs.declared.error.FieldFault.TheVariants.{Magic, Version, Kind}
 use Rattle.grain_format.specs.declared.error.Unkept.{Unkept}
 use Rattle.grain_format.specs.declared.error.Unkept.TheVariants.{Residuals}
 use Rattle.grain_format.specs.Reading.{LocatedFault}

@@ -2,7 +2,7 @@
 use Rattle.std.specs.Prelude.{◌≡◌, ℕ, ◌≤◌, List, length}
 use Rattle.grain.specs.declared.sidecar.Sidecar.{Sidecar}
 use Rattle.grain_file.specs.declared.file.Limits.{Limits}
-use Rattle.grain_format.specs.declared.error.Fault.TheVariants.{Magic, Version, Kind}
+use Rattle.grain_format.specs.declared.error.FieldFault.TheVariants.{Magic, Version, Kind}
 use Rattle.grain_format.specs.Formats.{Format, any_number, blob, both, headed}
 use Rattle.grain_file.specs.ProgramFile.{halves}
 

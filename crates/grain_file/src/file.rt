@@ -16,7 +16,9 @@ use grain::{Parts, Program};
 use grain_base::{Caps, Dynamic, Flags, Position, Token};
 use grain_bytecode::Positions;
 use grain_code::{Chunk, Function};
-use grain_format::{Cursor, Fault, Field, Part, Stop, read_names, read_switches, read_values};
+use grain_format::{
+    Cursor, FieldFault, FileField, Part, Stop, read_names, read_switches, read_values,
+};
 use grain_pools::{AssignOp, Chain, Strings, Switch};
 use std::alloc::Global;
 use thiserror::Error;
@@ -78,7 +80,7 @@ pub enum ReadError {
         /// The part that the byte is in.
         part: Part,
         /// What is wrong there.
-        fault: Fault,
+        fault: FieldFault,
     },
 }
 
@@ -126,7 +128,7 @@ fn read_whole(alloc: Global, bytes: &[u8], limits: &Limits) -> Result<Program, R
     match read_file(&mut cursor, limits) {
         Ok(program) => Ok(program),
         Err(Stop::OutOfMemory) => Err(ReadError::OutOfMemory),
-        Err(Stop::Fault(fault)) => {
+        Err(Stop::FieldFault(fault)) => {
             let at = bytes.len().saturating_sub(cursor.left.len());
             let part = cursor.part;
             Err(ReadError::Malformed { at, part, fault })
@@ -145,7 +147,7 @@ fn read_file(cursor: &mut Cursor<'_>, limits: &Limits) -> Result<Program, Stop>
         Ok(program)
     } else {
         cursor.part = Part::Rest;
-        Err(Stop::Fault(Fault::Trailing))
+        Err(Stop::FieldFault(FieldFault::Trailing))
     }
 }
 
@@ -155,10 +157,10 @@ fn read_headed(cursor: &mut Cursor<'_>, limits: &Limits) -> Result<Program, Stop
     ensures { Gives kept result cursor.new.left.now
         ((file_format (bounds_of limits.now)).reading cursor.old.left.now) }
 {
-    cursor.expect(0x00, Fault::Magic)?;
-    cursor.expect(0x67, Fault::Magic)?;
-    cursor.expect(0x72, Fault::Magic)?;
-    cursor.expect(0x6e, Fault::Magic)?;
+    cursor.expect(0x00, FieldFault::Magic)?;
+    cursor.expect(0x67, FieldFault::Magic)?;
+    cursor.expect(0x72, FieldFault::Magic)?;
+    cursor.expect(0x6e, FieldFault::Magic)?;
     let program = read_versioned(cursor, limits)?;
     Ok(program)
 }
@@ -169,8 +171,8 @@ fn read_versioned(cursor: &mut Cursor<'_>, limits: &Limits) -> Result<Program, S
     ensures { Gives kept result cursor.new.left.now
         ((versioned_format (bounds_of limits.now)).reading cursor.old.left.now) }
 {
-    cursor.expect(1, Fault::Version)?;
-    cursor.expect(0, Fault::Kind)?;
+    cursor.expect(1, FieldFault::Version)?;
+    cursor.expect(0, FieldFault::Kind)?;
     let program = read_body(cursor, limits)?;
     Ok(program)
 }

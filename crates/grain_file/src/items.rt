@@ -16,7 +16,9 @@ use crate::writing::{high_half, low_half, put_source};
 use grain::{Program, Sidecar};
 use grain_base::{Dynamic, Flags};
 use grain_bytecode::Positions;
-use grain_format::{Field, Part, Unkept, WriteError, put_bytes, put_number, put_switch, put_value};
+use grain_format::{
+    FileField, Part, Unkept, WriteError, put_bytes, put_number, put_switch, put_value,
+};
 use grain_pools::{Strings, Switch};
 use std::alloc::{AllocError, Global};
 
@@ -121,7 +123,7 @@ impl Draft {
     }
 
     /// Appends a value.
-    fn field<T: Field>(&mut self, value: &T, part: Part) -> Result<(), WriteError>
+    fn field<T: FileField>(&mut self, value: &T, part: Part) -> Result<(), WriteError>
         requires { IsDraft self.old }
         ensures draft { OnOk result (IsDraft self.new) }
         ensures spelled { OnOk result (self.new.bytes.items
@@ -203,7 +205,7 @@ impl Draft {
     }
 
     /// Appends how many items there are, and each.
-    fn list<T: Field>(&mut self, items: &[T], list: Part) -> Result<(), WriteError>
+    fn list<T: FileField>(&mut self, items: &[T], list: Part) -> Result<(), WriteError>
         requires { IsDraft self.old }
         ensures draft { OnOk result (IsDraft self.new) }
         ensures spelled { OnOk result (self.new.bytes.items ≡ self.old.bytes.items

@@ -15,8 +15,8 @@ mod sidecars;
 mod writing;
 
 pub use file::{Limits, MAX_DEPTH, ReadError, read};
-pub use grain_format::{Fault, Part, Unkept, WriteError};
+pub use grain_format::{FieldFault, Part, Unkept, WriteError};
 pub use items::{Item, outline, outline_sidecar};
-pub use loading::{LoadError, Loaded, load};
+pub use loading::{LoadError, load};
 pub use sidecars::{read_sidecar, write_sidecar};
 pub use writing::write;

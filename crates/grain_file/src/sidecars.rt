@@ -8,7 +8,7 @@ ghost use Rattle.grain_file.specs.SidecarFile.{IsSidecarFile, IsSidecarFileWithi
 use crate::file::{Limits, ReadError, join};
 use crate::writing::{high_half, low_half};
 use grain::Sidecar;
-use grain_format::{Cursor, Fault, Field, Part, Stop, put_bytes, put_number};
+use grain_format::{Cursor, FieldFault, FileField, Part, Stop, put_bytes, put_number};
 use std::alloc::{AllocError, Global};
 
 /// The sidecar that the bytes are a file of (docs/FORMAT.md, "Sidecar files"). Nothing says that its tables are whole, or of
@@ -44,7 +44,7 @@ fn read_all(alloc: Global, bytes: &[u8]) -> Result<Sidecar, ReadError>
     match read_file(&mut cursor) {
         Ok(sidecar) => Ok(sidecar),
         Err(Stop::OutOfMemory) => Err(ReadError::OutOfMemory),
-        Err(Stop::Fault(fault)) => {
+        Err(Stop::FieldFault(fault)) => {
             let at = bytes.len().saturating_sub(cursor.left.len());
             let part = cursor.part;
             Err(ReadError::Malformed { at, part, fault })
@@ -63,7 +63,7 @@ fn read_file(cursor: &mut Cursor<'_>) -> Result<Sidecar, Stop>
         Ok(sidecar)
     } else {
         cursor.part = Part::Rest;
-        Err(Stop::Fault(Fault::Trailing))
+        Err(Stop::FieldFault(FieldFault::Trailing))
     }
 }
 
@@ -73,10 +73,10 @@ fn read_headed(cursor: &mut Cursor<'_>) -> Result<Sidecar, Stop>
     ensures { Gives sidecar_parts result cursor.new.left.now
         (sidecar_format.reading cursor.old.left.now) }
 {
-    cursor.expect(0x00, Fault::Magic)?;
-    cursor.expect(0x67, Fault::Magic)?;
-    cursor.expect(0x72, Fault::Magic)?;
-    cursor.expect(0x6e, Fault::Magic)?;
+    cursor.expect(0x00, FieldFault::Magic)?;
+    cursor.expect(0x67, FieldFault::Magic)?;
+    cursor.expect(0x72, FieldFault::Magic)?;
+    cursor.expect(0x6e, FieldFault::Magic)?;
     let sidecar = read_kind(cursor)?;
     Ok(sidecar)
 }
@@ -87,8 +87,8 @@ fn read_kind(cursor: &mut Cursor<'_>) -> Result<Sidecar, Stop>
     ensures { Gives sidecar_parts result cursor.new.left.now
         (kind_format.reading cursor.old.left.now) }
 {
-    cursor.expect(1, Fault::Version)?;
-    cursor.expect(1, Fault::Kind)?;
+    cursor.expect(1, FieldFault::Version)?;
+    cursor.expect(1, FieldFault::Kind)?;
     let sidecar = read_tables(cursor)?;
     Ok(sidecar)
 }

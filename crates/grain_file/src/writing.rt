@@ -10,7 +10,7 @@ use grain::Program;
 use grain_base::Flags;
 use grain_bytecode::Positions;
 use grain_format::{
-    Field, Unkept, WriteError, put_all, put_bytes, put_names, put_switches, put_values,
+    FileField, Unkept, WriteError, put_all, put_bytes, put_names, put_switches, put_values,
 };
 use std::alloc::{AllocError, Global};
 

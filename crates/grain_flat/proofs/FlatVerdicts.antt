@@ -13,8 +13,8 @@ use Rattle.grain_flat.specs.Flat.{AreChains, IsFlat}
 use Rattle.grain_flat.specs.RowFacts.{facts_by_rows, leads_of}
 use Rattle.grain_flat.specs.Asking.{RowPasses}
 use Rattle.grain_flat.specs.Judging.{AreSome, IsFlatMetered, IsFlatVerdict, IsMeteredOf, IsVerdictOf, judged}
-use Rattle.grain_flat.specs.declared.judge.Stop.{Stop}
-use Rattle.grain_flat.specs.declared.judge.Stop.TheVariants as stops
+use Rattle.grain_flat.specs.declared.judge.Rejection.{Rejection}
+use Rattle.grain_flat.specs.declared.judge.Rejection.TheVariants as stops
 use Rattle.grain_flat.specs.declared.records.CPools.{CPools}
 use Rattle.grain_flat.proofs.CodeOfRows.{code_by_rows, are_of_rows}
 use Rattle.grain_flat.proofs.Flatness.{switches_by_rows}
@@ -30,7 +30,7 @@ over_is : (caps : ℕ) (bytes : List ℕ) (chunks : List Span) (p : CPools) (fun
 over_is caps bytes chunks p functions cs are = ap (λ (code : Bytecode). record { code = code; consts = []; functions = functions; chunks = chunks }) (code_by_rows caps bytes p cs are)
 
 flat_verdict : (caps : ℕ) (bytes : List ℕ) (chunks : List Span) (p : CPools) (cs : List Chain) (ts : List Arms) (functions : List Function) → AreOf p cs ts → AreSome p.functions functions
-    → All (RowPasses caps) p.constants.now → (result : Result (Vec ℕ Global) Stop) → IsVerdictOf (judged caps bytes chunks p functions cs ts) result → IsFlatVerdict caps bytes chunks p result
+    → All (RowPasses caps) p.constants.now → (result : Result (Vec ℕ Global) Rejection) → IsVerdictOf (judged caps bytes chunks p functions cs ts) result → IsFlatVerdict caps bytes chunks p result
 flat_verdict caps bytes chunks p cs ts functions made some rows (Ok v) h =
     let none = no_constants caps in
     record {
@@ -63,7 +63,7 @@ flat_verdict caps bytes chunks p cs ts functions made some rows (Err (stops.Refu
     }
 
 flat_metered : (caps : ℕ) (bytes : List ℕ) (chunks : List Span) (p : CPools) (cs : List Chain) (ts : List Arms) (functions : List Function) → AreOf p cs ts → AreSome p.functions functions
-    → (old new : ℕ) (result : Result (Vec ℕ Global) Stop) → IsMeteredOf (judged caps bytes chunks p functions cs ts) old new result → IsFlatMetered caps bytes chunks p old new result
+    → (old new : ℕ) (result : Result (Vec ℕ Global) Rejection) → IsMeteredOf (judged caps bytes chunks p functions cs ts) old new result → IsFlatMetered caps bytes chunks p old new result
 flat_metered caps bytes chunks p cs ts functions made some old new (Ok v) h = record {
   accepted = (h.accepted.0, λ rest. reached_there caps bytes chunks p cs ts functions made some rest [] (no_constants caps) h.accepted.0 h.accepted.1, h.accepted.2);
   refused = tt;
@@ -73,13 +73,13 @@ flat_metered caps bytes chunks p cs ts functions made some old new (Err stop) h 
     record { accepted = tt; refused = (h.refused.0, record { starts = within.starts; nowhere = within.nowhere }, h.refused.2) }
 
 pub rows_verdict : (caps : ℕ) (bytes : List ℕ) (chunks : List Span) (p : CPools) (functions : List Function) → IsFlat p → length p.steps.now < 2 ^ 63 → AreSome p.functions functions
-    → All (RowPasses caps) p.constants.now → (result : Result (Vec ℕ Global) Stop) → IsVerdictOf (over caps bytes chunks p functions) result → IsFlatVerdict caps bytes chunks p result
+    → All (RowPasses caps) p.constants.now → (result : Result (Vec ℕ Global) Rejection) → IsVerdictOf (over caps bytes chunks p functions) result → IsFlatVerdict caps bytes chunks p result
 rows_verdict caps bytes chunks p functions flat small some rows result h =
     let are = are_of_rows p flat small in
     flat_verdict caps bytes chunks p _ _ functions are some rows result (subst (λ (i : Input). IsVerdictOf i result) (over_is caps bytes chunks p functions _ are.chains_are) h)
 
 pub rows_metered : (caps : ℕ) (bytes : List ℕ) (chunks : List Span) (p : CPools) (functions : List Function) → IsFlat p → length p.steps.now < 2 ^ 63 → AreSome p.functions functions
-    → (old new : ℕ) (result : Result (Vec ℕ Global) Stop) → IsMeteredOf (over caps bytes chunks p functions) old new result → IsFlatMetered caps bytes chunks p old new result
+    → (old new : ℕ) (result : Result (Vec ℕ Global) Rejection) → IsMeteredOf (over caps bytes chunks p functions) old new result → IsFlatMetered caps bytes chunks p old new result
 rows_metered caps bytes chunks p functions flat small some old new result h =
     let are = are_of_rows p flat small in
     flat_metered caps bytes chunks p _ _ functions are some old new result (subst (λ (i : Input). IsMeteredOf i old new result) (over_is caps bytes chunks p functions _ are.chains_are) h)

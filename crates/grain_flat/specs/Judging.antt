@@ -12,8 +12,8 @@ use Rattle.grain_flat.specs.Answers.{Accepts, Visits, VisitsWithin, Refuses}
 use Rattle.grain_flat.specs.Flat.{code_with}
 use Rattle.grain_flat.specs.RowFacts.{facts_by_rows, leads_of}
 use Rattle.grain_flat.specs.declared.judge.Judge.{Judge}
-use Rattle.grain_flat.specs.declared.judge.Stop.{Stop}
-use Rattle.grain_flat.specs.declared.judge.Stop.TheVariants as stops
+use Rattle.grain_flat.specs.declared.judge.Rejection.{Rejection}
+use Rattle.grain_flat.specs.declared.judge.Rejection.TheVariants as stops
 use Rattle.grain_flat.specs.declared.records.CPools.{CPools}
 
 -- what is judged with these chunks, without constants
@@ -30,33 +30,33 @@ judged caps bytes chunks p functions chains switches = record {
 }
 
 -- why nothing is accepted, or that memory was refused
-abbrev pub IsStop : ℕ → List ℕ → List Span → CPools → Stop → Type 0
+abbrev pub IsStop : ℕ → List ℕ → List Span → CPools → Rejection → Type 0
 IsStop caps bytes chunks p stops.OutOfMemory = ⊤
 IsStop caps bytes chunks p (stops.Refused r) = Refuses caps bytes chunks p r.place r.error
 
 -- the same of what is judged
-abbrev pub IsStopOf : Input → Stop → Type 0
+abbrev pub IsStopOf : Input → Rejection → Type 0
 IsStopOf i stops.OutOfMemory = ⊤
 IsStopOf i (stops.Refused r) = (IsAccepted i → ⊥) × FlawAt i r.place r.error
 
 -- the answer is right about what is judged
-pub record IsVerdictOf (i : Input) (result : Result (Vec ℕ Global) Stop) : Type 0 where
+pub record IsVerdictOf (i : Input) (result : Result (Vec ℕ Global) Rejection) : Type 0 where
   pub accepted : IfOk result (λ v. IsAccepted i × AreTyped i v.items × AreDeepest i v.items × AreSafe i v.items)
   pub refused : IfErr result (IsStopOf i)
 
 -- the meter counts what accepted chunks reach, and of others no more than their starts
-pub record IsMeteredOf (i : Input) (old new : ℕ) (result : Result (Vec ℕ Global) Stop) : Type 0 where
+pub record IsMeteredOf (i : Input) (old new : ℕ) (result : Result (Vec ℕ Global) Rejection) : Type 0 where
   pub accepted : IfOk result (λ _. (n : ℕ) × AreReached i.code i.chunks n × HasCounted old new n)
   pub refused : IfErr result (λ _. (n : ℕ) × IsWithinAll i n × HasCounted old new n)
 
 -- the answer is right about all with the flat form
-pub record IsFlatVerdict (caps : ℕ) (bytes : List ℕ) (chunks : List Span) (p : CPools) (result : Result (Vec ℕ Global) Stop) : Type 0 where
+pub record IsFlatVerdict (caps : ℕ) (bytes : List ℕ) (chunks : List Span) (p : CPools) (result : Result (Vec ℕ Global) Rejection) : Type 0 where
   pub accepted : IfOk result (λ v. Accepts caps bytes chunks p v.items)
   pub each : IfOk result (λ v. length v.items ≡ length chunks)
   pub refused : IfErr result (IsStop caps bytes chunks p)
 
 -- the meter counts what the accepted chunks of all with the flat form reach, and of others no more than their starts
-pub record IsFlatMetered (caps : ℕ) (bytes : List ℕ) (chunks : List Span) (p : CPools) (old new : ℕ) (result : Result (Vec ℕ Global) Stop) : Type 0 where
+pub record IsFlatMetered (caps : ℕ) (bytes : List ℕ) (chunks : List Span) (p : CPools) (old new : ℕ) (result : Result (Vec ℕ Global) Rejection) : Type 0 where
   pub accepted : IfOk result (λ _. (n : ℕ) × Visits caps bytes chunks p n × HasCounted old new n)
   pub refused : IfErr result (λ _. (n : ℕ) × VisitsWithin bytes chunks n × HasCounted old new n)
 

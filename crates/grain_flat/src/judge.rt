@@ -20,21 +20,21 @@ pub(crate) struct Judge<'a> {
 
 /// Why it isn't accepted.
 #[derive(Drop)]
-pub enum Stop {
+pub enum Rejection {
     /// Memory was wanted.
     OutOfMemory,
     /// It is refused.
     Refused(Refusal),
 }
 
-impl From<AllocError> for Stop {
+impl From<AllocError> for Rejection {
     ghost use Rattle.std.specs.Prelude.{◌≡◌};
-    ghost use Rattle.grain_flat.specs.declared.judge.Stop.{Stop};
+    ghost use Rattle.grain_flat.specs.declared.judge.Rejection.{Rejection};
 
-    ghost from_gives = { λ _ e. e ≡ Stop.OutOfMemory };
+    ghost from_gives = { λ _ e. e ≡ Rejection.OutOfMemory };
 
-    fn from(_: AllocError) -> Stop {
-        Stop::OutOfMemory
+    fn from(_: AllocError) -> Rejection {
+        Rejection::OutOfMemory
     }
 }
 
@@ -45,7 +45,7 @@ impl<'a> Judge<'a> {
         scratch: &mut Scratch,
         chunks: &'a [Chunk],
         meter: &mut Meter,
-    ) -> Result<Vec<u16>, Stop>
+    ) -> Result<Vec<u16>, Rejection>
         ensures verdict { IsVerdictOf (judged_input self.now chunks.now) result }
         ensures metered { IsMeteredOf (judged_input self.now chunks.now) meter.old meter.new result }
     {
@@ -60,8 +60,8 @@ impl<'a> Judge<'a> {
         match scratch.verify(self.alloc, &candidate, meter) {
             Ok(numbers) => Ok(numbers),
             Err(refusal) => match refusal.error {
-                VerifyError::OutOfMemory => Err(Stop::OutOfMemory),
-                _ => Err(Stop::Refused(refusal)),
+                VerifyError::OutOfMemory => Err(Rejection::OutOfMemory),
+                _ => Err(Rejection::Refused(refusal)),
             },
         }
     }

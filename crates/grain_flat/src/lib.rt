@@ -32,7 +32,7 @@ mod work;
 pub use explaining::{ExplanationRows, explain_chunk, rows_of};
 pub use fields::fields_of;
 pub use flat::{is_flat, pools_flaw};
-pub use judge::Stop;
+pub use judge::Rejection;
 pub use lacks::{lack_of, lack_record, lack_text};
 pub use line::Line;
 pub use listing::{fill, list_entries, list_sites};
@@ -42,7 +42,7 @@ pub use records::{
     CPools, CPoolsFlaw, CProgram, CRefusal, CReport, CRow, CStep, CSwitch,
 };
 pub use refusals::refusal_record;
-pub use scratch::Scratch;
+pub use scratch::FlatScratch;
 pub use slots::write_slots;
 pub use tightening::tighten;
 pub use verdicts::verdict;

@@ -9,19 +9,19 @@ use std::alloc::Global;
 /// [`verdict`](crate::verdict) takes memory only where there isn't enough here. Each result is right whatever was verified
 /// before; which of several flaws a refusal names and when memory runs out may differ, as far as clauses say.
 #[derive(Drop)]
-pub struct Scratch {
+pub struct FlatScratch {
     pub(crate) walks: grain_verify::Scratch,
     pub(crate) tables: Tables,
     /// The chunks of a program that has several, as they are verified.
     pub(crate) chunks: Vec<Chunk>,
 }
 
-impl Scratch {
+impl FlatScratch {
     /// It takes no memory until a program is verified.
     #[must_use]
     #[inline(always)]
-    pub fn new(alloc: Global) -> Scratch {
-        Scratch {
+    pub fn new(alloc: Global) -> FlatScratch {
+        FlatScratch {
             walks: grain_verify::Scratch::new(alloc),
             tables: Tables::new(alloc),
             chunks: Vec::new(alloc),

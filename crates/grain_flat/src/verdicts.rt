@@ -4,13 +4,13 @@ ghost use Rattle.std.specs.Result.{IsErrOf};
 ghost use Rattle.grain_flat.specs.Flat.{IsFlat};
 ghost use Rattle.grain_flat.specs.Asking.{RowPasses};
 ghost use Rattle.grain_flat.specs.Judging.{AreSome, IsFlatMetered, IsFlatVerdict};
-ghost use Rattle.grain_flat.specs.declared.judge.Stop.{Stop};
+ghost use Rattle.grain_flat.specs.declared.judge.Rejection.{Rejection};
 
 use crate::asking::first_refused;
-use crate::judge::{Judge, Stop};
+use crate::judge::{Judge, Rejection};
 use crate::records::{CChunk, CPools};
 use crate::row_reads::{Rows, Tables};
-use crate::scratch::Scratch;
+use crate::scratch::FlatScratch;
 use grain_base::{Caps, FnAccess};
 use grain_code::{Chunk, Function};
 use grain_rules::VerifyError;
@@ -67,7 +67,7 @@ fn verdict_with(
     chunks: &[Chunk],
     pools: &CPools<'_>,
     meter: &mut Meter,
-) -> Result<Vec<u16>, Stop>
+) -> Result<Vec<u16>, Rejection>
     requires flat { IsFlat pools.now }
     requires constants { All (RowPasses caps.0) pools.now.constants.now }
     ensures verdict { IsFlatVerdict caps.0 code.now chunks.now pools.now result }
@@ -96,26 +96,26 @@ fn verdict_with(
 ///
 /// # Errors
 ///
-/// [`Stop::Refused`] with a flaw of all of them and the place of its chunk, [`Stop::OutOfMemory`] where a growth was
+/// [`Rejection::Refused`] with a flaw of all of them and the place of its chunk, [`Rejection::OutOfMemory`] where a growth was
 /// refused.
 pub fn verdict(
     alloc: Global,
-    scratch: &mut Scratch,
+    scratch: &mut FlatScratch,
     caps: Caps,
     code: &[u8],
     chunks: &[CChunk],
     pools: &CPools<'_>,
     meter: &mut Meter,
-) -> Result<Vec<u16>, Stop>
+) -> Result<Vec<u16>, Rejection>
     requires { IsFlat pools.now }
     ensures verdict { IsFlatVerdict caps.0 code.now chunks.now pools.now result }
     ensures metered { IsFlatMetered
         caps.0 code.now chunks.now pools.now meter.old meter.new result }
-    ensures memory { IsErrOf result Stop.OutOfMemory
+    ensures memory { IsErrOf result Rejection.OutOfMemory
         → All (RowPasses caps.0) pools.now.constants.now }
 {
     if let Some(missing) = first_refused(caps, pools.constants) {
-        return Err(Stop::Refused(Refusal {
+        return Err(Rejection::Refused(Refusal {
             place: None,
             error: VerifyError::MissingCaps {
                 artifact: caps,
@@ -124,7 +124,7 @@ pub fn verdict(
             },
         }));
     }
-    let Scratch {
+    let FlatScratch {
         walks,
         tables,
         chunks: listed,

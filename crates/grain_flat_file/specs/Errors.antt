@@ -1,7 +1,7 @@
 -- Why bytes are no file, as a record.
 use Rattle.std.specs.Prelude.{ℕ, Option, Some, None}
-use Rattle.grain_format.specs.declared.error.Fault.{Fault}
-use Rattle.grain_format.specs.declared.error.Fault.TheVariants as faults
+use Rattle.grain_format.specs.declared.error.FieldFault.{FieldFault}
+use Rattle.grain_format.specs.declared.error.FieldFault.TheVariants as faults
 use Rattle.grain_format.specs.declared.parts.Part.{Part}
 use Rattle.grain_format.specs.declared.parts.Part.TheVariants as part
 use Rattle.grain_file.specs.declared.file.ReadError.{ReadError}
@@ -10,7 +10,7 @@ use Rattle.grain_flat_file.specs.declared.causes.TheConstants as causes
 use Rattle.grain_flat_file.specs.declared.parts.TheConstants as parts
 use Rattle.grain_flat_file.specs.declared.records.CReadError.{CReadError}
 
-abbrev pub cause_of : Fault → ℕ
+abbrev pub cause_of : FieldFault → ℕ
 cause_of faults.Magic = causes.MAGIC
 cause_of faults.Version = causes.VERSION
 cause_of faults.Kind = causes.KIND

@@ -4,31 +4,31 @@ ghost use Rattle.grain_flat_file.specs.Errors.{cause_of, index_in, part_number, 
 
 use crate::records::CReadError;
 use crate::{causes, parts};
-use grain_file::{Fault, Part, ReadError};
+use grain_file::{FieldFault, Part, ReadError};
 
 /// Which fault it is, as a number.
-fn cause_of(fault: Fault) -> u32
+fn cause_of(fault: FieldFault) -> u32
     ensures { result ≡ cause_of fault }
 {
     match fault {
-        Fault::Magic => causes::MAGIC,
-        Fault::Version => causes::VERSION,
-        Fault::Kind => causes::KIND,
-        Fault::Truncated => causes::TRUNCATED,
-        Fault::TooWide => causes::TOO_WIDE,
-        Fault::NotShortest => causes::NOT_SHORTEST,
-        Fault::NotText => causes::NOT_TEXT,
-        Fault::NotCharacter => causes::NOT_CHARACTER,
-        Fault::UnknownTag => causes::UNKNOWN_TAG,
-        Fault::KeyOrder => causes::KEY_ORDER,
-        Fault::TooDeep => causes::TOO_DEEP,
-        Fault::NamesTooLong => causes::NAMES_TOO_LONG,
-        Fault::CaseOrder => causes::CASE_ORDER,
-        Fault::NoConstant => causes::NO_CONSTANT,
-        Fault::TooManyCases => causes::TOO_MANY_CASES,
-        Fault::SameCase => causes::SAME_CASE,
-        Fault::NoLine => causes::NO_LINE,
-        Fault::Trailing => causes::TRAILING,
+        FieldFault::Magic => causes::MAGIC,
+        FieldFault::Version => causes::VERSION,
+        FieldFault::Kind => causes::KIND,
+        FieldFault::Truncated => causes::TRUNCATED,
+        FieldFault::TooWide => causes::TOO_WIDE,
+        FieldFault::NotShortest => causes::NOT_SHORTEST,
+        FieldFault::NotText => causes::NOT_TEXT,
+        FieldFault::NotCharacter => causes::NOT_CHARACTER,
+        FieldFault::UnknownTag => causes::UNKNOWN_TAG,
+        FieldFault::KeyOrder => causes::KEY_ORDER,
+        FieldFault::TooDeep => causes::TOO_DEEP,
+        FieldFault::NamesTooLong => causes::NAMES_TOO_LONG,
+        FieldFault::CaseOrder => causes::CASE_ORDER,
+        FieldFault::NoConstant => causes::NO_CONSTANT,
+        FieldFault::TooManyCases => causes::TOO_MANY_CASES,
+        FieldFault::SameCase => causes::SAME_CASE,
+        FieldFault::NoLine => causes::NO_LINE,
+        FieldFault::Trailing => causes::TRAILING,
     }
 }
 
@@ -106,28 +106,28 @@ pub fn read_error_record(error: &ReadError) -> Option<CReadError>
 }
 
 /// The fault with a number.
-fn fault_of(cause: u32) -> Option<Fault>
+fn fault_of(cause: u32) -> Option<FieldFault>
     ensures { IfSome result (λ fault. cause_of fault ≡ cause) }
 {
     match cause {
-        causes::MAGIC => Some(Fault::Magic),
-        causes::VERSION => Some(Fault::Version),
-        causes::KIND => Some(Fault::Kind),
-        causes::TRUNCATED => Some(Fault::Truncated),
-        causes::TOO_WIDE => Some(Fault::TooWide),
-        causes::NOT_SHORTEST => Some(Fault::NotShortest),
-        causes::NOT_TEXT => Some(Fault::NotText),
-        causes::NOT_CHARACTER => Some(Fault::NotCharacter),
-        causes::UNKNOWN_TAG => Some(Fault::UnknownTag),
-        causes::KEY_ORDER => Some(Fault::KeyOrder),
-        causes::TOO_DEEP => Some(Fault::TooDeep),
-        causes::NAMES_TOO_LONG => Some(Fault::NamesTooLong),
-        causes::CASE_ORDER => Some(Fault::CaseOrder),
-        causes::NO_CONSTANT => Some(Fault::NoConstant),
-        causes::TOO_MANY_CASES => Some(Fault::TooManyCases),
-        causes::SAME_CASE => Some(Fault::SameCase),
-        causes::NO_LINE => Some(Fault::NoLine),
-        causes::TRAILING => Some(Fault::Trailing),
+        causes::MAGIC => Some(FieldFault::Magic),
+        causes::VERSION => Some(FieldFault::Version),
+        causes::KIND => Some(FieldFault::Kind),
+        causes::TRUNCATED => Some(FieldFault::Truncated),
+        causes::TOO_WIDE => Some(FieldFault::TooWide),
+        causes::NOT_SHORTEST => Some(FieldFault::NotShortest),
+        causes::NOT_TEXT => Some(FieldFault::NotText),
+        causes::NOT_CHARACTER => Some(FieldFault::NotCharacter),
+        causes::UNKNOWN_TAG => Some(FieldFault::UnknownTag),
+        causes::KEY_ORDER => Some(FieldFault::KeyOrder),
+        causes::TOO_DEEP => Some(FieldFault::TooDeep),
+        causes::NAMES_TOO_LONG => Some(FieldFault::NamesTooLong),
+        causes::CASE_ORDER => Some(FieldFault::CaseOrder),
+        causes::NO_CONSTANT => Some(FieldFault::NoConstant),
+        causes::TOO_MANY_CASES => Some(FieldFault::TooManyCases),
+        causes::SAME_CASE => Some(FieldFault::SameCase),
+        causes::NO_LINE => Some(FieldFault::NoLine),
+        causes::TRAILING => Some(FieldFault::Trailing),
         _ => None,
     }
 }

@@ -3,7 +3,7 @@ use Rattle.std.proofs.Common.{◌≡◌, ℕ, true, List, map, length, Some, Non
 use Rattle.std.proofs.lemmas.Bool.{cases_Bool}
 use Rattle.std.proofs.lemmas.List.Sorted.{IsPermutation-sym}
 use Rattle.grain_base.specs.declared.value.Dynamic.{Dynamic}
-use Rattle.grain_format.specs.declared.error.Fault.TheVariants.{CaseOrder, NoConstant, TooManyCases}
+use Rattle.grain_format.specs.declared.error.FieldFault.TheVariants.{CaseOrder, NoConstant, TooManyCases}
 use Rattle.grain_format.specs.Formats.{counted_list}
 use Rattle.grain_format.specs.Form.{Form}
 use Rattle.grain_format.specs.Cases.{CaseParts, Cases, Gathered, are_there, ascend_from, case_parts}

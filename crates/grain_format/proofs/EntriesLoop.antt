@@ -2,7 +2,7 @@
 use Rattle.std.proofs.Common.{◌≡◌, ℕ, suc, ◌-◌, ◌+◌, ◌≤◌, ◌<◌, true, false, List, [], ◌∷◌, ◌++◌, length, Some, None, Result, Ok, Err, refl, sym, ap, ◌∙◌, arith, length-append}
 use Rattle.std.specs.Prelude.{slice_get}
 use Rattle.std.proofs.lemmas.List.{append-nil}
-use Rattle.grain_format.specs.declared.error.Fault.TheVariants.{KeyOrder}
+use Rattle.grain_format.specs.declared.error.FieldFault.TheVariants.{KeyOrder}
 use Rattle.grain_format.specs.declared.error.Stop.{Stop}
 use Rattle.grain_format.specs.declared.error.Stop.TheVariants as stop
 use Rattle.grain_format.specs.Reading.{LocatedFault, Stops}
@@ -29,7 +29,7 @@ module _ (value : List ℕ → Result (Form × List ℕ) LocatedFault) where
       → Stops e left (text_at bytes) → with_front front (entries_at value (count - i) (last_key front) bytes) ≡ entries_at value count None start → Stops e left (counted_entries_at value whole)
   unfolding entries_at
   key_ends stop.OutOfMemory left whole front count i start bytes h lt stops so_far = tt
-  key_ends (stop.Fault f) left whole front count i start bytes h lt stops so_far =
+  key_ends (stop.FieldFault f) left whole front count i start bytes h lt stops so_far =
       let one : with_front front (entries_at value (count - i) (last_key front) bytes) ≡ Err (f, left) = rw (one_more count i lt, stops) refl in
       rw h (sym so_far ∙ one)
 
@@ -46,7 +46,7 @@ module _ (value : List ℕ → Result (Form × List ℕ) LocatedFault) where
       → Stops e left (counted_entries_at value whole)
   unfolding entries_at
   value_ends stop.OutOfMemory left whole key mid front count i start bytes h lt t later stops so_far = tt
-  value_ends (stop.Fault f) left whole key mid front count i start bytes h lt t later stops so_far =
+  value_ends (stop.FieldFault f) left whole key mid front count i start bytes h lt t later stops so_far =
       let one : with_front front (entries_at value (count - i) (last_key front) bytes) ≡ Err (f, left) = rw (one_more count i lt, t, later, stops) refl in
       rw h (sym so_far ∙ one)
 

@@ -33,7 +33,7 @@ module _ {A : Type 0} (reading : List ℕ → Result (A × List ℕ) LocatedFaul
       → with_front front (repeat_at reading (count - i) bytes) ≡ total → Stops e left total
   unfolding repeat_at
   ends stop.OutOfMemory left front count i bytes total lt h so_far = tt
-  ends (stop.Fault f) left front count i bytes total lt h so_far =
+  ends (stop.FieldFault f) left front count i bytes total lt h so_far =
       let k : count - i ≡ suc (count - (i + 1)) = omega arith in
       let one : with_front front (repeat_at reading (count - i) bytes) ≡ Err (f, left) = rw (k, h) refl in
       sym so_far ∙ one
@@ -57,4 +57,4 @@ module _ {A : Type 0} (reading : List ℕ → Result (A × List ℕ) LocatedFaul
 -- what stopped a step stops what would follow it
 pub stopped : {A B : Type 0} (e : Stop) (left : List ℕ) (read : Result A LocatedFault) (more : A → Result B LocatedFault) → Stops e left read → Stops e left (read >>= more)
 stopped stop.OutOfMemory left read more h = tt
-stopped (stop.Fault f) left read more h = rw h refl
+stopped (stop.FieldFault f) left read more h = rw h refl

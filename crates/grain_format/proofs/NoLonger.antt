@@ -4,7 +4,7 @@ use Rattle.std.specs.List.{AllByRecursion, AllZip, flat_map}
 use Rattle.std.proofs.lemmas.Bool.{lt-ltb, le-ltb, cases_lt}
 use Rattle.std.proofs.lemmas.List.{length-append}
 use Rattle.std.proofs.lemmas.List.Concat.{flat_map-cons}
-use Rattle.grain_format.specs.declared.error.Fault.{Fault}
+use Rattle.grain_format.specs.declared.error.FieldFault.{FieldFault}
 use Rattle.grain_format.specs.Formats.{Format, both, counted_list, depending, headed, number_below, optional}
 use Rattle.grain_format.specs.Numbers.{groups, number}
 
@@ -62,7 +62,7 @@ module _ {A B : Type 0} where
   }
 
 module _ {A : Type 0} (F : Format A) where
-  pub headed_no_longer : (tag : ℕ) (fault : Fault) (old new : A) → NoLonger F old new → NoLonger (headed tag fault F) old new
+  pub headed_no_longer : (tag : ℕ) (fault : FieldFault) (old new : A) → NoLonger F old new → NoLonger (headed tag fault F) old new
   headed_no_longer tag fault old new h = record { fits = h.fits; short = let short = h.short in omega arith }
 
   pub none_no_longer : (old : Option A) → NoLonger (optional F) old None

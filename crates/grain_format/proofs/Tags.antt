@@ -1,6 +1,6 @@
 -- A byte that is no tag of a value.
 use Rattle.std.proofs.Common.{◌≡◌, ◌-◌, ◌<◌, ◌≤◌, ℕ, zero, suc, List, ◌∷◌, Result, Err, refl, arith}
-use Rattle.grain_format.specs.declared.error.Fault.TheVariants.{UnknownTag}
+use Rattle.grain_format.specs.declared.error.FieldFault.TheVariants.{UnknownTag}
 use Rattle.grain_format.specs.Reading.{LocatedFault}
 use Rattle.grain_format.specs.Form.{Form}
 use Rattle.grain_format.specs.FormAt.{behind_tag, value_at}

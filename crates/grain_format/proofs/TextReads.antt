@@ -3,7 +3,7 @@ use Rattle.std.proofs.Common.{◌≡◌, List, ℕ, Ok, Err, refl}
 use Rattle.std.specs.Str.{IsUtf8, is_utf8}
 use Rattle.std.proofs.lemmas.Str.{IsUtf8-from_is_utf8, is_utf8-from_IsUtf8}
 use Rattle.std.proofs.lemmas.Bool.{false_from_ne_true}
-use Rattle.grain_format.specs.declared.error.Fault.TheVariants.{NotText}
+use Rattle.grain_format.specs.declared.error.FieldFault.TheVariants.{NotText}
 use Rattle.grain_format.specs.Texts.{bytes_at, text_at}
 
 pub text_found : (old bytes left text : List ℕ) → bytes_at old ≡ Ok (bytes, left) → (text ≡ bytes) × IsUtf8 bytes → text_at old ≡ Ok (text, left)

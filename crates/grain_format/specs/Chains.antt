@@ -11,7 +11,7 @@ use Rattle.grain_pools.specs.declared.chain.Step.{Step}
 use Rattle.grain_pools.specs.declared.chain.Step.TheVariants.{Index, Property, Method}
 use Rattle.grain_pools.specs.declared.chain.Tail.{Tail}
 use Rattle.grain_pools.specs.declared.chain.Tail.TheVariants.{Read, Assign}
-use Rattle.grain_format.specs.declared.error.Fault.TheVariants.{NoLine, UnknownTag}
+use Rattle.grain_format.specs.declared.error.FieldFault.TheVariants.{NoLine, UnknownTag}
 use Rattle.grain_format.specs.Lists.{BeginsOtherwise}
 use Rattle.grain_format.specs.Formats.{Format, number_below, byte, no_bytes, both, checked, counted_list, optional, alternative, headed}
 

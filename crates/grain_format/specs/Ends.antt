@@ -1,8 +1,8 @@
 -- Where reading fails, what is wrong stands in the bytes.
 use Rattle.std.proofs.Common.{◌≡◌, ℕ, zero, suc, Bool, cond, ltb, eqb, List, [], ◌∷◌, ◌++◌, length, take, drop, Option, Some, Result, Ok, Err, refl, sym, ap, subst, ◌∙◌, append_assoc, inl, inr, ◌⊎◌}
 use Rattle.std.specs.Str.{is_utf8}
-use Rattle.grain_format.specs.declared.error.Fault.{Fault}
-use Rattle.grain_format.specs.declared.error.Fault.TheVariants.{Truncated, TooWide, NotText, UnknownTag}
+use Rattle.grain_format.specs.declared.error.FieldFault.{FieldFault}
+use Rattle.grain_format.specs.declared.error.FieldFault.TheVariants.{Truncated, TooWide, NotText, UnknownTag}
 use Rattle.grain_format.specs.Reading.{LocatedFault, ◌>>=◌, Takes, IsEnd, Ends}
 use Rattle.grain_format.specs.Laws.{chosen, tail_are_bytes}
 use Rattle.grain_format.specs.Numbers.{number, groups_at, located, number_at, below_at}
@@ -22,10 +22,10 @@ pub bind_err : {A B : Type 0} (r : Result A LocatedFault) (f : A → Result B Lo
 bind_err (Ok x) f d e = inr (x, refl, e)
 bind_err {A = A} {B = B} (Err c) f d e = inl (ap (λ (b : LocatedFault). failed {A = A} b) (err_is {A = B} {E = LocatedFault} c d e))
 
-abbrev pub flaw : Fault → List ℕ → LocatedFault
+abbrev pub flaw : FieldFault → List ℕ → LocatedFault
 flaw fault left = (fault, left)
 
-pub at_whole : (bytes : List ℕ) (fault f : Fault) (left : List ℕ) → flaw fault bytes ≡ flaw f left → IsEnd left bytes
+pub at_whole : (bytes : List ℕ) (fault f : FieldFault) (left : List ℕ) → flaw fault bytes ≡ flaw f left → IsEnd left bytes
 at_whole bytes fault f left e =
     let same : bytes ≡ left = ap (λ (d : LocatedFault). d.1) e in
     subst (λ (l : List ℕ). IsEnd l bytes) same (record { front = []; is = refl })
@@ -39,7 +39,7 @@ end_moved bytes front rest left e end = subst (λ (b : List ℕ). IsEnd left b) 
 
 -- ---- numbers, bytes and texts
 
-located_ends : {A : Type 0} (bytes : List ℕ) (r : Result A Fault) (fault : Fault) (left : List ℕ) → located bytes r ≡ Err (fault, left) → IsEnd left bytes
+located_ends : {A : Type 0} (bytes : List ℕ) (r : Result A FieldFault) (fault : FieldFault) (left : List ℕ) → located bytes r ≡ Err (fault, left) → IsEnd left bytes
 located_ends bytes (Ok x) fault left e = absurd cc
 located_ends {A = A} bytes (Err f) fault left e = at_whole bytes f fault left (err_is {A = A} {E = LocatedFault} (f, bytes) (fault, left) e)
 
@@ -124,7 +124,7 @@ seen_ends to reading ends bytes fault left are e =
       | inr a ↦ absurd (let q = a.2 in cc)
     ]
 
-pub checked_ends : {A : Type 0} (reading : List ℕ → Result (A × List ℕ) LocatedFault) (test : A → Bool) (wrong : Fault) → Ends reading → Ends (checked_at test wrong reading)
+pub checked_ends : {A : Type 0} (reading : List ℕ → Result (A × List ℕ) LocatedFault) (test : A → Bool) (wrong : FieldFault) → Ends reading → Ends (checked_at test wrong reading)
 checked_ends {A = A} reading test wrong ends bytes fault left are e =
     elim (bind_err (reading bytes) (λ x. cond (test x.0) (Ok x) (Err (wrong, bytes))) (fault, left) e) [
       | inl p ↦ ends bytes fault left are p
@@ -176,7 +176,7 @@ alternative_ends tag first_at second_at ends_first ends_second (b ∷ bytes) fau
       | inr p ↦ seen_ends inr second_at ends_second (b ∷ bytes) fault left are p.1
     ]
 
-pub headed_ends : {A : Type 0} (tag : ℕ) (wrong : Fault) (reading : List ℕ → Result (A × List ℕ) LocatedFault) → Ends reading → Ends (headed_at tag wrong reading)
+pub headed_ends : {A : Type 0} (tag : ℕ) (wrong : FieldFault) (reading : List ℕ → Result (A × List ℕ) LocatedFault) → Ends reading → Ends (headed_at tag wrong reading)
 headed_ends {A = A} tag wrong reading ends [] fault left are e = at_whole [] Truncated fault left (err_is {A = A × List ℕ} {E = LocatedFault} (Truncated, []) (fault, left) e)
 headed_ends {A = A} tag wrong reading ends (b ∷ bytes) fault left are e =
     elim (chosen (eqb b tag) (reading bytes) (Err (wrong, b ∷ bytes)) (Err (fault, left)) e) [

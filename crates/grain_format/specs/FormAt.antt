@@ -1,7 +1,7 @@
 -- Reading a value.
 use Rattle.std.specs.Prelude.{ℕ, ℤ, pos, negsuc, zero, suc, ◌/◌, ◌%◌, ◌^◌, ◌==◌, if◌then◌else◌, true, false, List, [], ◌∷◌, Option, Some, None, Result, Ok, Err}
 use Rattle.std.proofs.Math.Utf8.{scalar}
-use Rattle.grain_format.specs.declared.error.Fault.TheVariants.{Truncated, UnknownTag, KeyOrder, TooDeep, NotCharacter}
+use Rattle.grain_format.specs.declared.error.FieldFault.TheVariants.{Truncated, UnknownTag, KeyOrder, TooDeep, NotCharacter}
 use Rattle.grain_format.specs.Reading.{LocatedFault, ◌>>=◌}
 use Rattle.grain_format.specs.Numbers.{number_at, below_at}
 use Rattle.grain_format.specs.Texts.{bytes_at, text_at}

@@ -2,8 +2,8 @@
 use Rattle.std.proofs.Common.{◌≡◌, ℕ, zero, suc, ◌^◌, cond, List, [], ◌∷◌, ◌++◌, Option, Some, None, Result, Ok, Err, inl, inr}
 use Rattle.std.proofs.Math.Utf8.{scalar}
 use Rattle.grain_base.specs.Varint.{zigzag}
-use Rattle.grain_format.specs.declared.error.Fault.{Fault}
-use Rattle.grain_format.specs.declared.error.Fault.TheVariants.{KeyOrder, NotCharacter, UnknownTag, Truncated, TooDeep}
+use Rattle.grain_format.specs.declared.error.FieldFault.{FieldFault}
+use Rattle.grain_format.specs.declared.error.FieldFault.TheVariants.{KeyOrder, NotCharacter, UnknownTag, Truncated, TooDeep}
 use Rattle.grain_format.specs.Reading.{LocatedFault, ◌>>=◌, AreBytes, Takes, IsEnd, Ends}
 use Rattle.grain_format.specs.Laws.{chosen, tail_are_bytes}
 use Rattle.grain_format.specs.Ends.{err_is, bind_err, at_whole, after, end_moved, number_ends, below_ends, bytes_ends, text_ends, both_ends, seen_ends, checked_ends, counted_ends}
@@ -61,7 +61,7 @@ module _ (value : List ℕ → Result (Form × List ℕ) LocatedFault) (Inner : 
             end_moved bytes (number a.0.0) a.0.1 left t.0 (entries_end a.0.0 None a.0.1 fault left (left_are_bytes bytes (number a.0.0) a.0.1 are t.0) a.2)
       ]
 
-  pub behind_ends : (tag : ℕ) (bytes : List ℕ) (fault : Fault) (left : List ℕ) → AreBytes bytes → behind_tag value tag bytes ≡ Err (fault, left) → IsEnd left (tag ∷ bytes)
+  pub behind_ends : (tag : ℕ) (bytes : List ℕ) (fault : FieldFault) (left : List ℕ) → AreBytes bytes → behind_tag value tag bytes ≡ Err (fault, left) → IsEnd left (tag ∷ bytes)
   unfolding behind_tag
   behind_ends zero bytes fault left are e = absurd cc
   behind_ends (suc zero) bytes fault left are e = absurd cc

@@ -4,7 +4,7 @@ use Rattle.std.proofs.Math.Utf8.{scalar}
 use Rattle.std.specs.List.{flat_map, AllByRecursion}
 use Rattle.std.proofs.lemmas.Bool.{eqb-true, eqb-false, cases_Bool}
 use Rattle.grain_base.specs.Varint.{zigzag}
-use Rattle.grain_format.specs.declared.error.Fault.TheVariants.{KeyOrder, NotCharacter}
+use Rattle.grain_format.specs.declared.error.FieldFault.TheVariants.{KeyOrder, NotCharacter}
 use Rattle.grain_format.specs.Reading.{LocatedFault, ◌>>=◌, AreBytes, Takes, Again}
 use Rattle.grain_format.specs.Numbers.{number, number_at, below_at}
 use Rattle.grain_format.specs.Texts.{counted_bytes, bytes_at, text_at}

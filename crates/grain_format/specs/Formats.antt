@@ -1,9 +1,9 @@
 -- Formats: how values are spelled, which of them, what reading gives, and which are refused, with the four laws. A format of
 -- many fields is put together from those of its parts.
 use Rattle.std.specs.Prelude.{ℕ, ◌<◌, ◌^◌, List, [], ◌∷◌, Option, None, Result, Ok, Err, length, ◌==◌, if◌then◌else◌, refl, IfSome, ◌≡◌, ◌++◌, ◌⊎◌, Bool, true}
-use Rattle.grain_format.specs.declared.error.Fault.{Fault}
+use Rattle.grain_format.specs.declared.error.FieldFault.{FieldFault}
 use Rattle.grain_format.specs.declared.error.Unkept.{Unkept}
-use Rattle.grain_format.specs.declared.error.Fault.TheVariants.{Trailing}
+use Rattle.grain_format.specs.declared.error.FieldFault.TheVariants.{Trailing}
 use Rattle.grain_format.specs.Reading.{LocatedFault, ◌>>=◌, Takes, Again, KeepsAll, Ends}
 use Rattle.grain_format.specs.Ends.{number_ends, below_ends, bytes_ends, text_ends, byte_ends, tag_ends, only_ends, both_ends, depending_ends, seen_ends, checked_ends, counted_ends, optional_ends, alternative_ends, headed_ends}
 use Rattle.grain_format.specs.Refusals.{both_refusal, depending_refusal, counted_refusal, optional_refusal, alternative_refusal, all_keeps, both_keeps, depending_keeps, counted_keeps, optional_keeps, alternative_keeps, only_keeps}
@@ -97,7 +97,7 @@ viewed_as to from there back F = record {
 }
 
 -- a field that passes a test
-abbrev pub checked : {A : Type 0} → (A → Bool) → Fault → Format A → Format A
+abbrev pub checked : {A : Type 0} → (A → Bool) → FieldFault → Format A → Format A
 checked test fault F = record {
   spelling = F.spelling;
   Fits = λ x. F.Fits x × (test x ≡ true);
@@ -149,7 +149,7 @@ alternative tag F G apart = record {
 }
 
 -- a tag, and a field behind it
-abbrev pub headed : {A : Type 0} → ℕ → Fault → Format A → Format A
+abbrev pub headed : {A : Type 0} → ℕ → FieldFault → Format A → Format A
 headed tag fault F = record {
   spelling = λ x. tag ∷ F.spelling x;
   Fits = F.Fits;

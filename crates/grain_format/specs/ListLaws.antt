@@ -3,7 +3,7 @@ use Rattle.std.proofs.Common.{◌≡◌, ℕ, zero, suc, List, [], ◌∷◌, �
 use Rattle.std.specs.Prelude.{IfSome}
 use Rattle.std.proofs.lemmas.Bool.{eqb-true, eq-eqb}
 use Rattle.std.specs.List.{flat_map, AllByRecursion}
-use Rattle.grain_format.specs.declared.error.Fault.{Fault}
+use Rattle.grain_format.specs.declared.error.FieldFault.{FieldFault}
 use Rattle.grain_format.specs.Reading.{LocatedFault, ◌>>=◌, AreBytes, Takes, Again}
 use Rattle.grain_format.specs.Numbers.{number, number_at}
 use Rattle.grain_format.specs.Lists.{both_spelling, BothFit, both_at, depending_spelling, DependingFit, depending_at, checked_at, seen_at, repeat_at, counted_spelling, CountedFit, counted_at, optional_spelling, optional_at, alternative_spelling, AlternativeFits, alternative_at, BeginsOtherwise, headed_at}
@@ -101,7 +101,7 @@ module _ {A : Type 0} (spelling : A → List ℕ) (Fits : A → Type 0) (reading
   optional_again again None rest fits = refl
   optional_again again (Some x) rest fits = rw (again x rest fits) refl
 
-module _ {A : Type 0} (spelling : A → List ℕ) (Fits : A → Type 0) (reading : List ℕ → Result (A × List ℕ) LocatedFault) (test : A → Bool) (fault : Fault) where
+module _ {A : Type 0} (spelling : A → List ℕ) (Fits : A → Type 0) (reading : List ℕ → Result (A × List ℕ) LocatedFault) (test : A → Bool) (fault : FieldFault) where
   pub checked_takes : Takes spelling Fits reading → Takes spelling (λ x. Fits x × (test x ≡ true)) (checked_at test fault reading)
   checked_takes takes bytes x rest are e =
       let a = bind_ok (reading bytes) (λ y. cond (test y.0) (Ok y) (Err (fault, bytes))) (x, rest) e in
@@ -144,7 +144,7 @@ module _ {A B : Type 0} (tag : ℕ) (first : A → List ℕ) (First : A → Type
   alternative_again apart again_first again_second (inl x) rest fits = rw (eq-eqb tag tag refl, again_first x rest fits) refl
   alternative_again apart again_first again_second (inr y) rest fits = other_is_read y rest (second y ++ rest) (apart y rest fits) (again_second y rest fits)
 
-module _ {A : Type 0} (tag : ℕ) (fault : Fault) (spelling : A → List ℕ) (Fits : A → Type 0) (reading : List ℕ → Result (A × List ℕ) LocatedFault) where
+module _ {A : Type 0} (tag : ℕ) (fault : FieldFault) (spelling : A → List ℕ) (Fits : A → Type 0) (reading : List ℕ → Result (A × List ℕ) LocatedFault) where
   pub headed_takes : Takes spelling Fits reading → Takes (λ x. tag ∷ spelling x) Fits (headed_at tag fault reading)
   headed_takes takes [] x rest are e = absurd cc
   headed_takes takes (b ∷ bytes) x rest are e =

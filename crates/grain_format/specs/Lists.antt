@@ -2,8 +2,8 @@
 use Rattle.std.specs.Prelude.{◌≡◌, ℕ, zero, suc, ◌<◌, ◌^◌, List, [], ◌∷◌, ◌++◌, length, Option, Some, None, Result, Ok, Err, Bool, false, ◌==◌, ◌⊎◌, if◌then◌else◌}
 use Rattle.std.proofs.Common.{inl, inr}
 use Rattle.std.specs.List.{flat_map, AllByRecursion}
-use Rattle.grain_format.specs.declared.error.Fault.{Fault}
-use Rattle.grain_format.specs.declared.error.Fault.TheVariants.{Truncated, UnknownTag}
+use Rattle.grain_format.specs.declared.error.FieldFault.{FieldFault}
+use Rattle.grain_format.specs.declared.error.FieldFault.TheVariants.{Truncated, UnknownTag}
 use Rattle.grain_format.specs.Reading.{LocatedFault, ◌>>=◌}
 use Rattle.grain_format.specs.Numbers.{number, number_at}
 
@@ -32,7 +32,7 @@ abbrev pub seen_at : {A B : Type 0} → (A → B) → (List ℕ → Result (A ×
 seen_at to reading bytes = reading bytes >>= λ a. Ok (to a.0, a.1)
 
 -- a field that passes a test; a fault stands where the field begins
-abbrev pub checked_at : {A : Type 0} → (A → Bool) → Fault → (List ℕ → Result (A × List ℕ) LocatedFault) → List ℕ → Result (A × List ℕ) LocatedFault
+abbrev pub checked_at : {A : Type 0} → (A → Bool) → FieldFault → (List ℕ → Result (A × List ℕ) LocatedFault) → List ℕ → Result (A × List ℕ) LocatedFault
 checked_at test fault reading bytes = reading bytes >>= λ x. (if test x.0 then Ok x else Err (fault, bytes))
 
 -- a number of fields of one kind
@@ -80,6 +80,6 @@ BeginsOtherwise tag [] = ⊥
 BeginsOtherwise tag (b ∷ rest) = (b == tag) ≡ false
 
 -- a tag, and a field behind it
-abbrev pub headed_at : {A : Type 0} → ℕ → Fault → (List ℕ → Result (A × List ℕ) LocatedFault) → List ℕ → Result (A × List ℕ) LocatedFault
+abbrev pub headed_at : {A : Type 0} → ℕ → FieldFault → (List ℕ → Result (A × List ℕ) LocatedFault) → List ℕ → Result (A × List ℕ) LocatedFault
 headed_at tag fault reading [] = Err (Truncated, [])
 headed_at tag fault reading (b ∷ rest) = if b == tag then reading rest else Err (fault, b ∷ rest)

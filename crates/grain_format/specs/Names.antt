@@ -1,7 +1,7 @@
 -- The names of a program: how many there are, and the text of each. All have fewer than 2 ^ 32 bytes.
 use Rattle.std.specs.Prelude.{ℕ, ◌^◌, List, length, nat_lt, Bool}
 use Rattle.std.specs.List.{concat}
-use Rattle.grain_format.specs.declared.error.Fault.TheVariants.{NamesTooLong}
+use Rattle.grain_format.specs.declared.error.FieldFault.TheVariants.{NamesTooLong}
 use Rattle.grain_format.specs.Formats.{Format, text, counted_list, checked}
 
 abbrev pub are_short : List (List ℕ) → Bool

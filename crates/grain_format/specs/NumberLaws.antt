@@ -1,8 +1,8 @@
 -- A number that is read is spelled so, and one that is spelled is read.
 use Rattle.std.proofs.Common.{◌≡◌, ℕ, zero, suc, ◌+◌, ◌-◌, ◌*◌, ◌/◌, ◌%◌, ◌^◌, ◌<◌, ◌≤◌, true, false, cond, ltb, eqb, List, [], ◌∷◌, ◌++◌, Result, Ok, Err, refl, ap, subst, arith, inl, inr, pow-suc}
 use Rattle.std.proofs.lemmas.Bool.{ltb-true, ltb-false, lt-ltb, le-ltb, eqb-false, ne_eqb, cases_lt}
-use Rattle.grain_format.specs.declared.error.Fault.{Fault}
-use Rattle.grain_format.specs.declared.error.Fault.TheVariants.{TooWide, NotShortest}
+use Rattle.grain_format.specs.declared.error.FieldFault.{FieldFault}
+use Rattle.grain_format.specs.declared.error.FieldFault.TheVariants.{TooWide, NotShortest}
 use Rattle.grain_format.specs.Reading.{LocatedFault, AreBytes, Takes, Again}
 use Rattle.grain_format.specs.Numbers.{groups, number, behind, groups_at, located, number_at, below_at}
 use Rattle.grain_format.specs.Laws.{bind_ok, chosen, ok_is, tail_are_bytes}
@@ -16,14 +16,14 @@ unfolding groups
 one_group zero byte rest lt = (let same : byte ≡ byte % 128 = omega arith in ap (λ (b : ℕ). b ∷ rest) same, omega arith)
 one_group (suc more) byte rest lt = (rw (lt-ltb byte 128 lt) refl, omega arith)
 
-behind_ok : (byte : ℕ) (r : Result (ℕ × List ℕ) Fault) (y : ℕ × List ℕ) → behind byte r ≡ Ok y
+behind_ok : (byte : ℕ) (r : Result (ℕ × List ℕ) FieldFault) (y : ℕ × List ℕ) → behind byte r ≡ Ok y
     → (high : ℕ × List ℕ) × (r ≡ Ok high) × (0 < high.0) × (high.0 < 2 ^ 57) × ((128 * high.0 + (byte - 128), high.1) ≡ y)
 behind_ok byte (Err fault) y e = absurd cc
 behind_ok byte (Ok high) y e =
     elim (chosen (eqb high.0 0) (Err NotShortest) (cond (ltb high.0 (2 ^ 57)) (Ok (128 * high.0 + (byte - 128), high.1)) (Err TooWide)) (Ok y) e) [
       | inl p ↦ absurd (let q = p.1 in cc)
       | inr p ↦ elim (chosen (ltb high.0 (2 ^ 57)) (Ok (128 * high.0 + (byte - 128), high.1)) (Err TooWide) (Ok y) p.1) [
-        | inl q ↦ (high, refl, (let nz = eqb-false high.0 0 p.0 in omega arith), ltb-true high.0 (2 ^ 57) q.0, ok_is {E = Fault} _ _ q.1)
+        | inl q ↦ (high, refl, (let nz = eqb-false high.0 0 p.0 in omega arith), ltb-true high.0 (2 ^ 57) q.0, ok_is {E = FieldFault} _ _ q.1)
         | inr q ↦ absurd (let r = q.1 in cc)
       ]
     ]
@@ -42,13 +42,13 @@ unfolding groups_at
 groups_takes zero [] p are e = absurd cc
 groups_takes zero (byte ∷ rest) p are e =
     elim (chosen (ltb byte 128) (Ok (byte, rest)) (Err TooWide) (Ok p) e) [
-      | inl q ↦ subst (λ (x : ℕ × List ℕ). Spelled zero (byte ∷ rest) x) (ok_is {E = Fault} (byte, rest) p q.1) (one_group zero byte rest (ltb-true byte 128 q.0))
+      | inl q ↦ subst (λ (x : ℕ × List ℕ). Spelled zero (byte ∷ rest) x) (ok_is {E = FieldFault} (byte, rest) p q.1) (one_group zero byte rest (ltb-true byte 128 q.0))
       | inr q ↦ absurd (let r = q.1 in cc)
     ]
 groups_takes (suc more) [] p are e = absurd cc
 groups_takes (suc more) (byte ∷ rest) p are e =
     elim (chosen (ltb byte 128) (Ok (byte, rest)) (behind byte (groups_at more rest)) (Ok p) e) [
-      | inl q ↦ subst (λ (x : ℕ × List ℕ). Spelled (suc more) (byte ∷ rest) x) (ok_is {E = Fault} (byte, rest) p q.1) (one_group (suc more) byte rest (ltb-true byte 128 q.0))
+      | inl q ↦ subst (λ (x : ℕ × List ℕ). Spelled (suc more) (byte ∷ rest) x) (ok_is {E = FieldFault} (byte, rest) p q.1) (one_group (suc more) byte rest (ltb-true byte 128 q.0))
       | inr q ↦
           let h = behind_ok byte (groups_at more rest) p q.1 in
           let t = groups_takes more rest h.0 (tail_are_bytes byte rest are) h.1 in
@@ -74,7 +74,7 @@ groups_again (suc more) n rest small fits =
           rw (le-ltb n 128 le, low, again, some, high, whole) refl
     ]
 
-located_ok : {A : Type 0} (bytes : List ℕ) (r : Result A Fault) (x : A) → located bytes r ≡ Ok x → r ≡ Ok x
+located_ok : {A : Type 0} (bytes : List ℕ) (r : Result A FieldFault) (x : A) → located bytes r ≡ Ok x → r ≡ Ok x
 located_ok {A = A} bytes (Ok y) x e = ap (λ (z : A). Ok z) (ok_is {E = LocatedFault} y x e)
 located_ok bytes (Err f) x e = absurd cc
 
@@ -84,7 +84,7 @@ number_takes bytes n rest are e = groups_takes 9 bytes (n, rest) are (located_ok
 
 pub number_again : Again number (λ n. n < 2 ^ 64) number_at
 unfolding number number_at
-number_again n rest small = ap (λ (r : Result (ℕ × List ℕ) Fault). located (groups 9 n ++ rest) r) (groups_again 9 n rest small (omega arith))
+number_again n rest small = ap (λ (r : Result (ℕ × List ℕ) FieldFault). located (groups 9 n ++ rest) r) (groups_again 9 n rest small (omega arith))
 
 abbrev pub IsBelow : ℕ → ℕ → Type 0
 IsBelow limit n = (n < limit) × (n < 2 ^ 64)

@@ -1,6 +1,6 @@
 -- What reading a field gives: its value and the bytes after it, or what is wrong and the bytes from there on.
 use Rattle.std.specs.Prelude.{◌≡◌, ℕ, ◌<◌, List, ◌++◌, Result, Ok, Err, Option, Some, None, slice_index}
-use Rattle.grain_format.specs.declared.error.Fault.{Fault}
+use Rattle.grain_format.specs.declared.error.FieldFault.{FieldFault}
 use Rattle.grain_format.specs.declared.error.Stop.{Stop}
 use Rattle.grain_format.specs.declared.error.Stop.TheVariants as stop
 use Rattle.grain_format.specs.declared.error.Unkept.{Unkept}
@@ -9,7 +9,7 @@ use Rattle.grain_format.specs.declared.error.WriteError.TheVariants as write_err
 
 -- what is wrong, and the bytes from there on
 abbrev pub LocatedFault : Type 0
-LocatedFault = Fault × List ℕ
+LocatedFault = FieldFault × List ℕ
 
 -- a step, and the next with what it gave
 infixl 10 ◌>>=◌
@@ -20,7 +20,7 @@ abbrev pub ◌>>=◌ : {A B : Type 0} → Result A LocatedFault → (A → Resul
 -- What stopped the code is what reading says, unless memory ran out.
 abbrev pub Stops : {Y : Type 0} → Stop → List ℕ → Result Y LocatedFault → Type 0
 Stops stop.OutOfMemory left read = Unit {0}
-Stops (stop.Fault fault) left read = read ≡ Err (fault, left)
+Stops (stop.FieldFault fault) left read = read ≡ Err (fault, left)
 
 -- What the code returned, seen by view, and the bytes that it left are what reading gives, unless memory ran out.
 abbrev pub Gives : {X Y : Type 0} → (X → Y) → Result X Stop → List ℕ → Result (Y × List ℕ) LocatedFault → Type 0
@@ -49,7 +49,7 @@ pub record IsEnd (left bytes : List ℕ) : Type 0 where
 -- Where reading fails, what is wrong stands in the bytes.
 abbrev pub Ends : {A : Type 0} → (List ℕ → Result (A × List ℕ) LocatedFault) → Type 0
 Ends {A} reading =
-    (bytes : List ℕ) (fault : Fault) (left : List ℕ) → AreBytes bytes → reading bytes ≡ Err (fault, left) → IsEnd left bytes
+    (bytes : List ℕ) (fault : FieldFault) (left : List ℕ) → AreBytes bytes → reading bytes ≡ Err (fault, left) → IsEnd left bytes
 
 -- ---- what no file keeps
 

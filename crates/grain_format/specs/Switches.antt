@@ -8,8 +8,8 @@ use Rattle.grain_pools.specs.declared.switch.Switch.{Switch}
 use Rattle.grain_pools.specs.declared.switch.SwitchRange.{SwitchRange}
 use Rattle.grain_base.specs.Varint.{zigzag}
 use Rattle.grain_base.specs.declared.value.Dynamic.{Dynamic}
-use Rattle.grain_format.specs.declared.error.Fault.{Fault}
-use Rattle.grain_format.specs.declared.error.Fault.TheVariants.{CaseOrder, NoConstant, TooManyCases, SameCase}
+use Rattle.grain_format.specs.declared.error.FieldFault.{FieldFault}
+use Rattle.grain_format.specs.declared.error.FieldFault.TheVariants.{CaseOrder, NoConstant, TooManyCases, SameCase}
 use Rattle.grain_format.specs.declared.error.Unkept.{Unkept}
 use Rattle.grain_format.specs.declared.error.Unkept.TheVariants.{CaseKey}
 use Rattle.grain_format.specs.Form.{Form}
@@ -62,7 +62,7 @@ abbrev pub do_differ : List Form → List CaseParts → Bool
 do_differ constants cs = are_new [] (map (case_content constants) cs)
 
 -- the first test that cases don't pass, before their values are looked at
-abbrev pub case_flaw : ℕ → ℕ → List CaseParts → Option Fault
+abbrev pub case_flaw : ℕ → ℕ → List CaseParts → Option FieldFault
 case_flaw count most cs = if ascend_from 0 cs then (if are_there count cs then (if has_few most cs then None else Some TooManyCases) else Some NoConstant) else Some CaseOrder
 
 -- cases that ascend

@@ -3,8 +3,8 @@ use Rattle.std.proofs.Common.{◌≡◌, ℕ, ◌^◌, ◌<◌, ◌≤◌, true,
 use Rattle.std.specs.Str.{is_utf8}
 use Rattle.std.proofs.lemmas.Bool.{ltb-true, ltb-false, lt-ltb, le-ltb, eqb-true, eq-eqb}
 use Rattle.std.proofs.lemmas.List.{take_at, drop_at, take-append-drop, length-take}
-use Rattle.grain_format.specs.declared.error.Fault.{Fault}
-use Rattle.grain_format.specs.declared.error.Fault.TheVariants.{Truncated, NotText, UnknownTag}
+use Rattle.grain_format.specs.declared.error.FieldFault.{FieldFault}
+use Rattle.grain_format.specs.declared.error.FieldFault.TheVariants.{Truncated, NotText, UnknownTag}
 use Rattle.grain_format.specs.Reading.{LocatedFault, Takes, Again}
 use Rattle.grain_format.specs.Numbers.{number, number_at}
 use Rattle.grain_format.specs.Texts.{counted_bytes, byte_at, bytes_at, text_at, tag_at, expected_at}
@@ -97,7 +97,7 @@ only_takes {A = A} one bytes x rest are e =
 pub only_again : {A : Type 0} (one : A) → Again (λ x. []) (λ x. x ≡ one) (λ bytes. Ok (one, bytes))
 only_again {A = A} one x rest is = ap (λ (y : A). Ok (y, rest)) (sym is)
 
-pub expected_takes : (byte : ℕ) (fault : Fault) → Takes (λ u. byte ∷ []) Anything (expected_at byte fault)
+pub expected_takes : (byte : ℕ) (fault : FieldFault) → Takes (λ u. byte ∷ []) Anything (expected_at byte fault)
 unfolding expected_at
 expected_takes byte fault [] x rest are e = absurd cc
 expected_takes byte fault (b ∷ bytes) x rest are e =
@@ -106,6 +106,6 @@ expected_takes byte fault (b ∷ bytes) x rest are e =
       | inr p ↦ absurd (let q = p.1 in cc)
     ]
 
-pub expected_again : (byte : ℕ) (fault : Fault) → Again (λ u. byte ∷ []) Anything (expected_at byte fault)
+pub expected_again : (byte : ℕ) (fault : FieldFault) → Again (λ u. byte ∷ []) Anything (expected_at byte fault)
 unfolding expected_at
 expected_again byte fault u rest fits = rw (eq-eqb byte byte refl) refl

@@ -1,8 +1,8 @@
 -- Bytes and texts: how many bytes, and these.
 use Rattle.std.specs.Prelude.{ℕ, List, [], ◌∷◌, ◌++◌, length, take, drop, Result, Ok, Err, nat_lt, ◌==◌, if◌then◌else◌}
 use Rattle.std.specs.Str.{is_utf8}
-use Rattle.grain_format.specs.declared.error.Fault.{Fault}
-use Rattle.grain_format.specs.declared.error.Fault.TheVariants.{Truncated, NotText, UnknownTag}
+use Rattle.grain_format.specs.declared.error.FieldFault.{FieldFault}
+use Rattle.grain_format.specs.declared.error.FieldFault.TheVariants.{Truncated, NotText, UnknownTag}
 use Rattle.grain_format.specs.Reading.{LocatedFault, ◌>>=◌}
 use Rattle.grain_format.specs.Numbers.{number, number_at}
 
@@ -20,7 +20,7 @@ unfoldable pub text_at : List ℕ → Result (List ℕ × List ℕ) LocatedFault
 text_at bytes = bytes_at bytes >>= λ t. if is_utf8 t.0 then Ok t else Err (NotText, bytes)
 
 -- a byte that has to stand there
-unfoldable pub expected_at : ℕ → Fault → List ℕ → Result (Unit {0} × List ℕ) LocatedFault
+unfoldable pub expected_at : ℕ → FieldFault → List ℕ → Result (Unit {0} × List ℕ) LocatedFault
 expected_at byte fault [] = Err (Truncated, [])
 expected_at byte fault (b ∷ rest) = if b == byte then Ok (tt, rest) else Err (fault, b ∷ rest)
 

@@ -9,8 +9,8 @@ ghost use Rattle.grain_format.specs.Cases.{CaseParts, are_there, ascend_from, ca
 
 use crate::copy::copy;
 use crate::cursor::Cursor;
-use crate::error::{Fault, Stop, WriteError};
-use crate::field::Field;
+use crate::error::{FieldFault, Stop, WriteError};
+use crate::field::FileField;
 use grain_base::Dynamic;
 use std::alloc::{AllocError, Global};
 use std::collections::HashMap;
@@ -24,7 +24,7 @@ pub struct Case {
     pub target: u32,
 }
 
-impl Field for Case {
+impl FileField for Case {
     ghost View = { CaseParts };
 
     ghost view = { case_view };
@@ -161,29 +161,29 @@ pub(crate) fn read_cases(
     let cases = Vec::<Case>::read(cursor)?;
     if let Some(fault) = flaw(&cases, constants.len(), most) {
         cursor.left = start;
-        return Err(Stop::Fault(fault));
+        return Err(Stop::FieldFault(fault));
     }
     match gather(cursor.alloc, &cases, constants)? {
         Some(gathered) => Ok(Some(gathered)),
         None => {
             cursor.left = start;
-            Err(Stop::Fault(Fault::SameCase))
+            Err(Stop::FieldFault(FieldFault::SameCase))
         }
     }
 }
 
 /// What is wrong with cases, before their values are looked at.
-fn flaw(cases: &[Case], constants: usize, most: usize) -> Option<Fault>
+fn flaw(cases: &[Case], constants: usize, most: usize) -> Option<FieldFault>
     ensures { result ≡ case_flaw constants most (map case_view cases.now) }
 {
     if !do_ascend(cases) {
-        return Some(Fault::CaseOrder);
+        return Some(FieldFault::CaseOrder);
     }
     if !are_there(cases, constants) {
-        return Some(Fault::NoConstant);
+        return Some(FieldFault::NoConstant);
     }
     if cases.len() > most {
-        return Some(Fault::TooManyCases);
+        return Some(FieldFault::TooManyCases);
     }
     None
 }

@@ -3,12 +3,12 @@ ghost use Rattle.std.specs.Prelude.{◌≡◌, ◌++◌, ℕ, Option, OnOk};
 ghost use Rattle.grain_format.specs.Chains.{ChainParts, RootParts, StepParts, chain_format, chain_parts, root_format, root_parts, step_format, step_parts, tail_format, tail_parts};
 
 use crate::cursor::Cursor;
-use crate::error::{Fault, Stop, WriteError};
-use crate::field::Field;
+use crate::error::{FieldFault, Stop, WriteError};
+use crate::field::FileField;
 use grain_base::{Flags, Position};
 use grain_pools::{Chain, Root, Step, StepFlags, Tail};
 
-impl Field for Root {
+impl FileField for Root {
     ghost View = { RootParts };
 
     ghost view = { root_parts };
@@ -17,7 +17,7 @@ impl Field for Root {
 
     fn read(cursor: &mut Cursor<'_>) -> Result<Root, Stop> {
         match cursor.left {
-            [] => Err(Stop::Fault(Fault::Truncated)),
+            [] => Err(Stop::FieldFault(FieldFault::Truncated)),
             [0, rest @ ..] => {
                 cursor.left = rest;
                 let slot = u16::read(cursor)?;
@@ -39,7 +39,7 @@ impl Field for Root {
                 cursor.left = rest;
                 Ok(Root::Temporary)
             }
-            [_, ..] => Err(Stop::Fault(Fault::UnknownTag)),
+            [_, ..] => Err(Stop::FieldFault(FieldFault::UnknownTag)),
         }
     }
 
@@ -70,7 +70,7 @@ impl Field for Root {
     }
 }
 
-impl Field for Step {
+impl FileField for Step {
     ghost View = { StepParts };
 
     ghost view = { step_parts };
@@ -79,7 +79,7 @@ impl Field for Step {
 
     fn read(cursor: &mut Cursor<'_>) -> Result<Step, Stop> {
         match cursor.left {
-            [] => Err(Stop::Fault(Fault::Truncated)),
+            [] => Err(Stop::FieldFault(FieldFault::Truncated)),
             [0, rest @ ..] => {
                 cursor.left = rest;
                 let operand = u16::read(cursor)?;
@@ -123,7 +123,7 @@ impl Field for Step {
                     pos,
                 })
             }
-            [_, ..] => Err(Stop::Fault(Fault::UnknownTag)),
+            [_, ..] => Err(Stop::FieldFault(FieldFault::UnknownTag)),
         }
     }
 
@@ -176,7 +176,7 @@ impl Field for Step {
     }
 }
 
-impl Field for Tail {
+impl FileField for Tail {
     ghost View = { Option (Option ℕ) };
 
     ghost view = { tail_parts };
@@ -185,7 +185,7 @@ impl Field for Tail {
 
     fn read(cursor: &mut Cursor<'_>) -> Result<Tail, Stop> {
         match cursor.left {
-            [] => Err(Stop::Fault(Fault::Truncated)),
+            [] => Err(Stop::FieldFault(FieldFault::Truncated)),
             [0, rest @ ..] => {
                 cursor.left = rest;
                 Ok(Tail::Read)
@@ -195,7 +195,7 @@ impl Field for Tail {
                 let op = Option::<u32>::read(cursor)?;
                 Ok(Tail::Assign { op })
             }
-            [_, ..] => Err(Stop::Fault(Fault::UnknownTag)),
+            [_, ..] => Err(Stop::FieldFault(FieldFault::UnknownTag)),
         }
     }
 
@@ -214,7 +214,7 @@ impl Field for Tail {
     }
 }
 
-impl Field for Chain {
+impl FileField for Chain {
     ghost View = { ChainParts };
 
     ghost view = { chain_parts };

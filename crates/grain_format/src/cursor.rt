@@ -4,7 +4,7 @@ ghost use Rattle.grain_format.specs.Reading.{Gives};
 ghost use Rattle.grain_format.specs.Numbers.{number_at, below_at};
 ghost use Rattle.grain_format.specs.Texts.{byte_at, bytes_at, expected_at, tag_at, text_at};
 
-use crate::error::{Fault, Stop};
+use crate::error::{FieldFault, Stop};
 use crate::number::groups;
 use crate::parts::Part;
 use std::alloc::Global;
@@ -46,7 +46,7 @@ impl<'a> Cursor<'a> {
                 self.left = rest;
                 Ok(*byte)
             }
-            None => Err(Stop::Fault(Fault::Truncated)),
+            None => Err(Stop::FieldFault(FieldFault::Truncated)),
         }
     }
 
@@ -55,7 +55,7 @@ impl<'a> Cursor<'a> {
     /// # Errors
     /// The fault where another byte is there, and `Truncated` where none is left.
     #[tactic(auto, unfolding(crate::specs::Texts::expected_at))]
-    pub fn expect(&mut self, byte: u8, fault: Fault) -> Result<(), Stop>
+    pub fn expect(&mut self, byte: u8, fault: FieldFault) -> Result<(), Stop>
         ensures { Gives (λ u. u) result self.new.left.now
             (expected_at byte fault self.old.left.now) }
     {
@@ -64,8 +64,8 @@ impl<'a> Cursor<'a> {
                 self.left = rest;
                 Ok(())
             }
-            Some(_) => Err(Stop::Fault(fault)),
-            None => Err(Stop::Fault(Fault::Truncated)),
+            Some(_) => Err(Stop::FieldFault(fault)),
+            None => Err(Stop::FieldFault(FieldFault::Truncated)),
         }
     }
 
@@ -83,8 +83,8 @@ impl<'a> Cursor<'a> {
                 self.left = rest;
                 Ok(*b)
             }
-            Some(_) => Err(Stop::Fault(Fault::UnknownTag)),
-            None => Err(Stop::Fault(Fault::Truncated)),
+            Some(_) => Err(Stop::FieldFault(FieldFault::UnknownTag)),
+            None => Err(Stop::FieldFault(FieldFault::Truncated)),
         }
     }
 
@@ -102,7 +102,7 @@ impl<'a> Cursor<'a> {
                 self.left = rest;
                 Ok(n)
             }
-            Err(fault) => Err(Stop::Fault(fault)),
+            Err(fault) => Err(Stop::FieldFault(fault)),
         }
     }
 
@@ -120,7 +120,7 @@ impl<'a> Cursor<'a> {
             Ok(n) => Ok(n),
             Err(_) => {
                 self.left = start;
-                Err(Stop::Fault(Fault::TooWide))
+                Err(Stop::FieldFault(FieldFault::TooWide))
             }
         }
     }
@@ -139,7 +139,7 @@ impl<'a> Cursor<'a> {
             Ok(n) => Ok(n),
             Err(_) => {
                 self.left = start;
-                Err(Stop::Fault(Fault::TooWide))
+                Err(Stop::FieldFault(FieldFault::TooWide))
             }
         }
     }
@@ -154,7 +154,7 @@ impl<'a> Cursor<'a> {
     {
         let len = self.number()?;
         if (self.left.len() as u64) < len {
-            return Err(Stop::Fault(Fault::Truncated));
+            return Err(Stop::FieldFault(FieldFault::Truncated));
         }
         let (bytes, rest) = self.left.split_at(len as usize);
         self.left = rest;
@@ -175,7 +175,7 @@ impl<'a> Cursor<'a> {
             Ok(text) => Ok(text),
             Err(_) => {
                 self.left = start;
-                Err(Stop::Fault(Fault::NotText))
+                Err(Stop::FieldFault(FieldFault::NotText))
             }
         }
     }

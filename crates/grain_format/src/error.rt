@@ -8,7 +8,7 @@ use thiserror::Error;
 
 /// What is wrong with the bytes, at the first place where something is.
 #[derive(Clone, Copy, Debug, PartialEq, Eq)]
-pub enum Fault {
+pub enum FieldFault {
     /// The bytes don't begin as a file does.
     Magic,
     /// The file is of a version that this reader doesn't know.
@@ -47,39 +47,39 @@ pub enum Fault {
     Trailing,
 }
 
-impl Fault {
+impl FieldFault {
     /// What is wrong, in a few words.
     fn sentence(self) -> &'static str {
         match self {
-            Fault::Magic => "not a Grain file",
-            Fault::Version => "unknown version",
-            Fault::Kind => "a file of another kind",
-            Fault::Truncated => "the file ends within a field",
-            Fault::TooWide => "number too large",
-            Fault::NotShortest => "number with a shorter spelling",
-            Fault::NotText => "text is not UTF-8",
-            Fault::NotCharacter => "not a character",
-            Fault::UnknownTag => "unknown tag",
-            Fault::KeyOrder => "keys out of order",
-            Fault::TooDeep => "values nested too deep",
-            Fault::NamesTooLong => "names too long",
-            Fault::CaseOrder => "cases out of order",
-            Fault::NoConstant => "case without its constant",
-            Fault::TooManyCases => "too many cases",
-            Fault::SameCase => "cases of the same value",
-            Fault::NoLine => "position without a line",
-            Fault::Trailing => "bytes after the end",
+            FieldFault::Magic => "not a Grain file",
+            FieldFault::Version => "unknown version",
+            FieldFault::Kind => "a file of another kind",
+            FieldFault::Truncated => "the file ends within a field",
+            FieldFault::TooWide => "number too large",
+            FieldFault::NotShortest => "number with a shorter spelling",
+            FieldFault::NotText => "text is not UTF-8",
+            FieldFault::NotCharacter => "not a character",
+            FieldFault::UnknownTag => "unknown tag",
+            FieldFault::KeyOrder => "keys out of order",
+            FieldFault::TooDeep => "values nested too deep",
+            FieldFault::NamesTooLong => "names too long",
+            FieldFault::CaseOrder => "cases out of order",
+            FieldFault::NoConstant => "case without its constant",
+            FieldFault::TooManyCases => "too many cases",
+            FieldFault::SameCase => "cases of the same value",
+            FieldFault::NoLine => "position without a line",
+            FieldFault::Trailing => "bytes after the end",
         }
     }
 }
 
-impl fmt::Display for Fault {
+impl fmt::Display for FieldFault {
     fn fmt<W: fmt::Write>(&self, f: &mut fmt::Formatter<W>) -> fmt::Result {
         f.write_str(self.sentence())
     }
 }
 
-impl error::Error for Fault {}
+impl error::Error for FieldFault {}
 
 /// Why reading stopped.
 #[derive(Clone, Copy, Debug, PartialEq, Eq)]
@@ -87,7 +87,7 @@ pub enum Stop {
     /// A growth was refused.
     OutOfMemory,
     /// The bytes at the cursor are at fault.
-    Fault(Fault),
+    FieldFault(FieldFault),
 }
 
 impl From<AllocError> for Stop {

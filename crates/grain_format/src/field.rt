@@ -8,13 +8,13 @@ ghost use Rattle.grain_format.specs.Switches.{integer_format};
 ghost use Rattle.grain_format.specs.Formats.{Format, any_number, number_below, text, optional};
 
 use crate::cursor::Cursor;
-use crate::error::{Fault, Stop, WriteError};
+use crate::error::{FieldFault, Stop, WriteError};
 use crate::integer::{put_integer, read_integer};
 use crate::number::{put_number, put_string};
 use grain_base::Position;
 
 /// A type whose values are fields of a file.
-pub trait Field: Drop {
+pub trait FileField: Drop {
     /// What of a value is kept.
     ghost View: { Type 0 };
 
@@ -26,7 +26,7 @@ pub trait Field: Drop {
     /// Reads a value at the cursor, and moves the cursor behind it. Time and memory are linear in the bytes that it reads.
     ///
     /// # Errors
-    /// A `Fault` where the bytes at the cursor are no spelling of a value. `OutOfMemory` where a growth was refused.
+    /// A `FieldFault` where the bytes at the cursor are no spelling of a value. `OutOfMemory` where a growth was refused.
     fn read(cursor: &mut Cursor<'_>) -> Result<Self, Stop>
         ensures { Gives view result cursor.new.left.now (format.reading cursor.old.left.now) };
 
@@ -41,7 +41,7 @@ pub trait Field: Drop {
         ensures decides { Decides result (format.refusal (view self.now)) };
 }
 
-impl Field for u32 {
+impl FileField for u32 {
     ghost View = { ℕ };
 
     ghost view = { λ n. n };
@@ -59,7 +59,7 @@ impl Field for u32 {
     }
 }
 
-impl Field for u16 {
+impl FileField for u16 {
     ghost View = { ℕ };
 
     ghost view = { λ n. n };
@@ -77,7 +77,7 @@ impl Field for u16 {
     }
 }
 
-impl Field for u64 {
+impl FileField for u64 {
     ghost View = { ℕ };
 
     ghost view = { λ n. n };
@@ -95,7 +95,7 @@ impl Field for u64 {
     }
 }
 
-impl Field for i64 {
+impl FileField for i64 {
     ghost View = { ℤ };
 
     ghost view = { λ z. z };
@@ -112,7 +112,7 @@ impl Field for i64 {
     }
 }
 
-impl Field for Position {
+impl FileField for Position {
     ghost View = { Place };
 
     ghost view = { place_of };
@@ -121,7 +121,7 @@ impl Field for Position {
 
     fn read(cursor: &mut Cursor<'_>) -> Result<Position, Stop> {
         match cursor.left {
-            [] => Err(Stop::Fault(Fault::Truncated)),
+            [] => Err(Stop::FieldFault(FieldFault::Truncated)),
             [0, rest @ ..] => {
                 cursor.left = rest;
                 Ok(Position::NONE)
@@ -131,7 +131,7 @@ impl Field for Position {
                 let position = read_place(cursor)?;
                 Ok(position)
             }
-            [_, ..] => Err(Stop::Fault(Fault::UnknownTag)),
+            [_, ..] => Err(Stop::FieldFault(FieldFault::UnknownTag)),
         }
     }
 
@@ -157,12 +157,12 @@ fn read_place(cursor: &mut Cursor<'_>) -> Result<Position, Stop>
     let column = u16::read(cursor)?;
     if line == 0 {
         cursor.left = start;
-        return Err(Stop::Fault(Fault::NoLine));
+        return Err(Stop::FieldFault(FieldFault::NoLine));
     }
     Ok(Position::new(line, column))
 }
 
-impl Field for String {
+impl FileField for String {
     ghost View = { List ℕ };
 
     ghost view = { λ s. string_bytes s };
@@ -180,7 +180,7 @@ impl Field for String {
     }
 }
 
-impl<T: Field> Field for Option<T> {
+impl<T: FileField> FileField for Option<T> {
     ghost View = { Option T.View };
 
     ghost view = { λ o. option_map T.view o };
@@ -189,7 +189,7 @@ impl<T: Field> Field for Option<T> {
 
     fn read(cursor: &mut Cursor<'_>) -> Result<Option<T>, Stop> {
         match cursor.left {
-            [] => Err(Stop::Fault(Fault::Truncated)),
+            [] => Err(Stop::FieldFault(FieldFault::Truncated)),
             [0, rest @ ..] => {
                 cursor.left = rest;
                 Ok(None)
@@ -199,7 +199,7 @@ impl<T: Field> Field for Option<T> {
                 let value = T::read(cursor)?;
                 Ok(Some(value))
             }
-            [_, ..] => Err(Stop::Fault(Fault::UnknownTag)),
+            [_, ..] => Err(Stop::FieldFault(FieldFault::UnknownTag)),
         }
     }
 

@@ -6,11 +6,11 @@ ghost use Rattle.grain_format.specs.Functions.{FunctionParts, access_tag, chunk_
 
 use crate::cursor::Cursor;
 use crate::error::{Stop, WriteError};
-use crate::field::Field;
+use crate::field::FileField;
 use grain_base::FnAccess;
 use grain_code::{Chunk, Function};
 
-impl Field for FnAccess {
+impl FileField for FnAccess {
     ghost View = { ℕ };
 
     ghost view = { access_tag };
@@ -35,7 +35,7 @@ impl Field for FnAccess {
     }
 }
 
-impl Field for Chunk {
+impl FileField for Chunk {
     ghost View = { Span };
 
     ghost view = { λ s. s };
@@ -57,7 +57,7 @@ impl Field for Chunk {
     }
 }
 
-impl Field for Function {
+impl FileField for Function {
     ghost View = { FunctionParts };
 
     ghost view = { function_parts };

@@ -1,6 +1,6 @@
 //! The fields of program files: how each is spelled, read and written.
 //!
-//! A [`Field`] is a type with a *format* (docs/FORMAT.md, "Program files"; the folder `specs/`). The format says how values are
+//! A [`FileField`] is a type with a *format* (docs/FORMAT.md, "Program files"; the folder `specs/`). The format says how values are
 //! spelled, what reading gives and which values are refused. It has the laws that tie these to one another. [`Cursor`] reads the
 //! bytes. Names, constants and switches have functions of their own. A host uses `grain_file`, which re-exports what is for hosts.
 #![tactic(auto)]
@@ -22,8 +22,8 @@ mod tokens;
 mod values;
 
 pub use cursor::Cursor;
-pub use error::{Fault, Stop, Unkept, WriteError};
-pub use field::Field;
+pub use error::{FieldFault, Stop, Unkept, WriteError};
+pub use field::FileField;
 pub use lists::put_all;
 pub use names::{put_names, read_names};
 pub use number::{put_bytes, put_number};

@@ -7,7 +7,7 @@ ghost use Rattle.grain_format.specs.Formats.{Format, counted_list};
 
 use crate::cursor::Cursor;
 use crate::error::{Stop, WriteError};
-use crate::field::Field;
+use crate::field::FileField;
 use crate::number::put_number;
 
 /// For how many items room is made before they are read: never for more than there are bytes left.
@@ -22,7 +22,7 @@ pub(crate) fn reserve(count: u64, left: usize) -> usize
 ///
 /// # Errors
 /// `Unkept` with the reason against the first item that has no spelling. `OutOfMemory` where a growth was refused.
-pub fn put_all<T: Field>(out: &mut Vec<u8>, items: &[T]) -> Result<(), WriteError>
+pub fn put_all<T: FileField>(out: &mut Vec<u8>, items: &[T]) -> Result<(), WriteError>
     ensures spelled { OnOk result (out.new.items
         ≡ out.old.items ++ counted_spelling T.format.spelling (map T.view items.now)) }
     ensures fits { OnOk result (CountedFit T.format.Fits (map T.view items.now)) }
@@ -35,7 +35,7 @@ pub fn put_all<T: Field>(out: &mut Vec<u8>, items: &[T]) -> Result<(), WriteErro
     Ok(())
 }
 
-impl<T: Field> Field for Vec<T> {
+impl<T: FileField> FileField for Vec<T> {
     ghost View = { List T.View };
 
     ghost view = { λ v. map T.view v.items };

@@ -8,7 +8,7 @@ ghost use Rattle.grain_format.specs.Lists.{counted_at};
 ghost use Rattle.grain_format.specs.Names.{names_format};
 
 use crate::cursor::Cursor;
-use crate::error::{Fault, Stop};
+use crate::error::{FieldFault, Stop};
 use crate::lists::reserve;
 use crate::number::{put_bytes, put_number};
 use crate::parts::Part;
@@ -19,7 +19,7 @@ use std::alloc::AllocError;
 /// bytes that are left.
 ///
 /// # Errors
-/// A `Fault` where the bytes at the cursor are no names: `Truncated`, `TooWide`, `NotShortest`, `NotText`, or `NamesTooLong` where
+/// A `FieldFault` where the bytes at the cursor are no names: `Truncated`, `TooWide`, `NotShortest`, `NotText`, or `NamesTooLong` where
 /// they have more than 4294967295 bytes. `OutOfMemory` where a growth was refused.
 pub fn read_names(cursor: &mut Cursor<'_>) -> Result<Strings, Stop>
     ensures { Gives (λ names. names) result cursor.new.left.now
@@ -34,7 +34,7 @@ pub fn read_names(cursor: &mut Cursor<'_>) -> Result<Strings, Stop>
         Err(StringsError::TooLong) => {
             cursor.left = start;
             cursor.part = Part::Names;
-            Err(Stop::Fault(Fault::NamesTooLong))
+            Err(Stop::FieldFault(FieldFault::NamesTooLong))
         }
     }
 }

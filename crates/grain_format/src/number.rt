@@ -4,36 +4,36 @@ ghost use Rattle.grain_format.specs.Numbers.{groups, groups_at, number};
 ghost use Rattle.grain_format.specs.Texts.{counted_bytes};
 ghost use Rattle.grain_format.specs.TextLaws.{TextFits};
 
-use crate::error::Fault;
+use crate::error::FieldFault;
 use std::alloc::AllocError;
 
 /// The number at the front of the bytes, and what follows it. After the first group at most `more` groups are read.
 #[tactic(auto, unfolding(crate::specs::Numbers::groups_at))]
-pub(crate) fn groups(bytes: &[u8], more: u8) -> Result<(u64, &[u8]), Fault>
+pub(crate) fn groups(bytes: &[u8], more: u8) -> Result<(u64, &[u8]), FieldFault>
     ensures { MatchResult result
         (λ found. groups_at more bytes.now ≡ Ok (found.0, found.1.now))
         (λ fault. groups_at more bytes.now ≡ Err fault) }
 {
     let Some((byte, rest)) = bytes.split_first() else {
-        return Err(Fault::Truncated);
+        return Err(FieldFault::Truncated);
     };
     if *byte < 128 {
         return Ok((u64::from(*byte), rest));
     }
     let Some(less) = more.checked_sub(1) else {
-        return Err(Fault::TooWide);
+        return Err(FieldFault::TooWide);
     };
     let (high, rest) = match groups(rest, less) {
         Ok(found) => found,
         Err(fault) => return Err(fault),
     };
     if high == 0 {
-        return Err(Fault::NotShortest);
+        return Err(FieldFault::NotShortest);
     }
     if high < 1 << 57 {
         Ok((128 * high + u64::from(*byte - 128), rest))
     } else {
-        Err(Fault::TooWide)
+        Err(FieldFault::TooWide)
     }
 }
 

@@ -12,7 +12,7 @@ ghost use Rattle.grain_format.specs.Switches.{FitsAlone, RangeParts, bool_tag, r
 use crate::cases::{Case, list_in_order, read_cases};
 use crate::cursor::Cursor;
 use crate::error::{Stop, Unkept, WriteError};
-use crate::field::Field;
+use crate::field::FileField;
 use crate::lists::reserve;
 use crate::number::put_number;
 use crate::parts::Part;
@@ -20,7 +20,7 @@ use grain_base::Dynamic;
 use grain_pools::{Switch, SwitchRange};
 use std::alloc::{AllocError, Global};
 
-impl Field for bool {
+impl FileField for bool {
     ghost View = { ℕ };
 
     ghost view = { bool_tag };
@@ -43,7 +43,7 @@ impl Field for bool {
     }
 }
 
-impl Field for SwitchRange {
+impl FileField for SwitchRange {
     ghost View = { RangeParts };
 
     ghost view = { range_parts };
@@ -93,7 +93,7 @@ fn read_switch(cursor: &mut Cursor<'_>, constants: &[Dynamic], most: usize) -> R
 /// values were chosen so that their hashes are the same, time grows with the square of the number of cases.
 ///
 /// # Errors
-/// A `Fault` where the bytes at the cursor are no such switches: `Truncated`, `TooWide`, `NotShortest`, `UnknownTag`, `CaseOrder`,
+/// A `FieldFault` where the bytes at the cursor are no such switches: `Truncated`, `TooWide`, `NotShortest`, `UnknownTag`, `CaseOrder`,
 /// `NoConstant`, `TooManyCases` or `SameCase`. `OutOfMemory` where a growth was refused.
 pub fn read_switches(
     cursor: &mut Cursor<'_>,

@@ -3,8 +3,8 @@ ghost use Rattle.grain_base.specs.Tokens.{TokenParts, token_parts};
 ghost use Rattle.grain_format.specs.Tokens.{AssignOpParts, assign_op_format, assign_op_parts, token_format};
 
 use crate::cursor::Cursor;
-use crate::error::{Fault, Stop, WriteError};
-use crate::field::Field;
+use crate::error::{FieldFault, Stop, WriteError};
+use crate::field::FileField;
 use crate::number::put_string;
 use grain_base::Token;
 use grain_pools::AssignOp;
@@ -12,7 +12,7 @@ use grain_pools::AssignOp;
 /// The tag of an operator that the host has added, which its text follows. Any other has its number as its tag.
 const CUSTOM: u8 = 39;
 
-impl Field for Token {
+impl FileField for Token {
     ghost View = { TokenParts };
 
     ghost view = { token_parts };
@@ -21,7 +21,7 @@ impl Field for Token {
 
     fn read(cursor: &mut Cursor<'_>) -> Result<Token, Stop> {
         match cursor.left {
-            [] => Err(Stop::Fault(Fault::Truncated)),
+            [] => Err(Stop::FieldFault(FieldFault::Truncated)),
             [CUSTOM, rest @ ..] => {
                 cursor.left = rest;
                 let text = cursor.text()?;
@@ -52,7 +52,7 @@ impl Field for Token {
     }
 }
 
-impl Field for AssignOp {
+impl FileField for AssignOp {
     ghost View = { AssignOpParts };
 
     ghost view = { assign_op_parts };

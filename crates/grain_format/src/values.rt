@@ -9,7 +9,7 @@ ghost use Rattle.grain_format.specs.FormSound.{entry_refusal};
 ghost use Rattle.grain_format.specs.FormAt.{behind_tag, character_at, counted_entries_at, pointer_at, value_at};
 
 use crate::cursor::Cursor;
-use crate::error::{Fault, Stop, Unkept, WriteError};
+use crate::error::{FieldFault, Stop, Unkept, WriteError};
 use crate::integer::{put_integer, read_integer};
 use crate::lists::reserve;
 use crate::number::{put_bytes, put_number, put_string};
@@ -27,7 +27,7 @@ fn read_character(cursor: &mut Cursor<'_>) -> Result<char, Stop>
         Some(c) => Ok(c),
         None => {
             cursor.left = start;
-            Err(Stop::Fault(Fault::NotCharacter))
+            Err(Stop::FieldFault(FieldFault::NotCharacter))
         }
     }
 }
@@ -46,13 +46,13 @@ pub(crate) fn read_value(cursor: &mut Cursor<'_>, depth: u32) -> Result<Dynamic,
     ensures { Gives value_form result cursor.new.left.now (value_at depth cursor.old.left.now) }
 {
     let Some(less) = depth.checked_sub(1) else {
-        return Err(Stop::Fault(Fault::TooDeep));
+        return Err(Stop::FieldFault(FieldFault::TooDeep));
     };
     let Some((tag, rest)) = cursor.left.split_first() else {
-        return Err(Stop::Fault(Fault::Truncated));
+        return Err(Stop::FieldFault(FieldFault::Truncated));
     };
     if *tag > 12 {
-        return Err(Stop::Fault(Fault::UnknownTag));
+        return Err(Stop::FieldFault(FieldFault::UnknownTag));
     }
     cursor.left = rest;
     read_behind(cursor, *tag, less)
@@ -133,7 +133,7 @@ fn read_pointer(cursor: &mut Cursor<'_>, depth: u32) -> Result<FnPtr, Stop>
 /// with the depth. For a count nothing is reserved beyond the number of bytes that are left.
 ///
 /// # Errors
-/// A `Fault` where the bytes at the cursor are no such values: `Truncated`, `TooWide`, `NotShortest`, `NotText`, `NotCharacter`,
+/// A `FieldFault` where the bytes at the cursor are no such values: `Truncated`, `TooWide`, `NotShortest`, `NotText`, `NotCharacter`,
 /// `UnknownTag`, `KeyOrder` or `TooDeep`. `OutOfMemory` where a growth was refused.
 #[cycle(value)]
 pub fn read_values(cursor: &mut Cursor<'_>, depth: u32) -> Result<Vec<Dynamic>, Stop>
@@ -164,7 +164,7 @@ fn read_entries(cursor: &mut Cursor<'_>, depth: u32) -> Result<BTreeMap<String, 
         let key = cursor.text()?;
         if !comes_after(&entries, key) {
             cursor.left = start;
-            return Err(Stop::Fault(Fault::KeyOrder));
+            return Err(Stop::FieldFault(FieldFault::KeyOrder));
         }
         let value = read_value(cursor, depth)?;
         let key = String::from_str(cursor.alloc, key)?;

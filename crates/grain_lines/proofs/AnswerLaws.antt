@@ -8,22 +8,22 @@ use Rattle.std.specs.Str.Lines.{strip_carriage_return}
 use Rattle.std.proofs.lemmas.List.{length-append}
 use Rattle.std.proofs.lemmas.List.Sums.{sum_by-append}
 use Rattle.grain_lines.specs.Lines.{ended, ended_lines, is_case}
-use Rattle.grain_lines.specs.Case.{asked, is_bad, as_asked}
-use Rattle.grain_lines.specs.declared.case.Case.{Case}
+use Rattle.grain_lines.specs.LineCase.{asked, is_bad, as_asked}
+use Rattle.grain_lines.specs.declared.case.LineCase.{LineCase}
 use Rattle.grain_lines.specs.Verdict.{Adds, IsVerdictOn, Verdict, IsVerdictText}
 use Rattle.grain_lines.specs.Report.{Answers, Written}
 use Rattle.grain_lines.specs.Outcome.{CountsOn, saturated}
 use Rattle.grain_lines.proofs.LineLaws.{cases_in, cases_in-append}
 
 -- a line without a form spells no case
-bad-as_asked : (found : Option Case) (bad : Bool) → is_some found ≡ not bad → bad ≡ is_none (option_map as_asked found)
+bad-as_asked : (found : Option LineCase) (bad : Bool) → is_some found ≡ not bad → bad ≡ is_none (option_map as_asked found)
 bad-as_asked (Some case) true e = e
 bad-as_asked (Some case) false e = refl
 bad-as_asked None true e = refl
 bad-as_asked None false e = e
 
 -- a case was answered and counted
-pub answers_one : (line mid : List ℕ) (old new : Written) (found : Option Case) (bad : Bool) → is_case line ≡ true → option_map as_asked found ≡ asked line
+pub answers_one : (line mid : List ℕ) (old new : Written) (found : Option LineCase) (bad : Bool) → is_case line ≡ true → option_map as_asked found ≡ asked line
     → is_some found ≡ not bad → Adds (IsVerdictOn (option_map as_asked found)) old.text mid → new.text ≡ mid ++ 10 ∷ []
     → CountsOn old.summary.cases new.summary.cases 1 → CountsOn old.summary.bad new.summary.bad (cond bad 1 0) → Answers (filter is_case (line ∷ [])) old new
 answers_one line mid old new found bad is found_is bad_is adds e cases bads = rw is (record {

@@ -6,8 +6,8 @@ use Rattle.std.specs.Str.{bytes_eq}
 use Rattle.grain_code.specs.Span.{Span}
 use Rattle.grain_lines.specs.Fields.{caps_spelled, chunks_spelled, hex_of, u32_of}
 use Rattle.grain_lines.specs.Words.{words}
-use Rattle.grain_lines.specs.declared.case.Case.{Case}
-use Rattle.grain_lines.specs.declared.case.Case.TheVariants.{Code, Site, Verify}
+use Rattle.grain_lines.specs.declared.case.LineCase.{LineCase}
+use Rattle.grain_lines.specs.declared.case.LineCase.TheVariants.{Code, Site, Verify}
 
 -- what a case asks, one constructor for each form
 pub data Asked : Type 0 where
@@ -15,8 +15,8 @@ pub data Asked : Type 0 where
   site : List ℕ → ℕ → Asked
   verify : ℕ → List ℕ → List Span → Asked
 
--- what a value of `Case` asks
-abbrev pub as_asked : Case → Asked
+-- what a value of `LineCase` asks
+abbrev pub as_asked : LineCase → Asked
 as_asked (Code bytes) = code bytes.items
 as_asked (Site table address) = site table.items address
 as_asked (Verify caps bytes chunks) = verify caps.0 bytes.items chunks.items

@@ -5,7 +5,7 @@ use Rattle.std.specs.Prelude.{◌≡◌, ◌≢◌, ℕ, ◌-◌, ◌^◌, ◌<�
 use Rattle.std.specs.Prelude.{count_by}
 use Rattle.std.specs.Io.KnownBytes.{Appends, Consumes, IsAtEnd}
 use Rattle.grain_lines.specs.Lines.{case_lines, complete_cases}
-use Rattle.grain_lines.specs.Case.{is_bad}
+use Rattle.grain_lines.specs.LineCase.{is_bad}
 use Rattle.grain_lines.specs.Verdict.{IsVerdictText}
 use Rattle.grain_lines.specs.Outcome.{saturated}
 use Rattle.grain_lines.specs.declared.outcome.Summary.{Summary}

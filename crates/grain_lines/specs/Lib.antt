@@ -1,6 +1,6 @@
 pub mod Words
 pub mod Fields
-pub mod Case
+pub mod LineCase
 pub mod Lines
 pub mod Verdict
 pub mod Outcome

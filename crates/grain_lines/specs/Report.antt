@@ -3,7 +3,7 @@ use Rattle.std.specs.Prelude.{◌≡◌, ℕ, length, List, [], ◌++◌, map, f
 use Rattle.std.specs.Prelude.{count_by}
 use Rattle.std.specs.Str.Lines.{strip_carriage_return}
 use Rattle.grain_lines.specs.Lines.{AreLines, is_case}
-use Rattle.grain_lines.specs.Case.{is_bad}
+use Rattle.grain_lines.specs.LineCase.{is_bad}
 use Rattle.grain_lines.specs.Verdict.{IsVerdictText}
 use Rattle.grain_lines.specs.Outcome.{CountsOn}
 use Rattle.grain_lines.specs.declared.outcome.Summary.{Summary}

@@ -12,7 +12,7 @@ use Rattle.grain_base.specs.declared.pos.Site.{Site}
 use Rattle.grain_rules.specs.Texts.{verify_error_text}
 use Rattle.grain_rules.specs.declared.error.VerifyError.{VerifyError}
 use Rattle.grain_rules.specs.declared.error.VerifyError.TheVariants as errors
-use Rattle.grain_lines.specs.Case.{Asked, asked, code, site, verify}
+use Rattle.grain_lines.specs.LineCase.{Asked, asked, code, site, verify}
 use Rattle.grain_lines.specs.Lines.{ended_lines}
 
 -- some text of this kind comes behind the old text

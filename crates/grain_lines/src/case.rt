@@ -2,7 +2,7 @@
 
 ghost use Rattle.std.specs.Prelude.{◌≡◌, IfOk, IsSomeAnd, OnErr};
 ghost use Rattle.std.specs.Option.{option_map};
-ghost use Rattle.grain_lines.specs.Case.{TakesMemory, asked, code_by, site_by, verify_by, as_asked};
+ghost use Rattle.grain_lines.specs.LineCase.{TakesMemory, asked, code_by, site_by, verify_by, as_asked};
 ghost use Rattle.grain_lines.specs.Words.{words};
 
 use crate::fields::{are_chunks, caps_of, chunks_of, hex_of, u32_of};
@@ -13,7 +13,7 @@ use std::alloc::{AllocError, Global};
 
 /// What a case means, one variant for each form (docs/FORMAT.md, "Lines, cases and verdicts").
 #[derive(Drop)]
-pub enum Case {
+pub enum LineCase {
     /// How many instructions this code is.
     Code {
         code: Vec<u8>,
@@ -32,7 +32,7 @@ pub enum Case {
 }
 
 /// The case of a line whose first word is `code`, by what follows that word.
-fn code_case(alloc: Global, fields: &[u8]) -> Result<Option<Case>, AllocError>
+fn code_case(alloc: Global, fields: &[u8]) -> Result<Option<LineCase>, AllocError>
     ensures ok { IfOk result (λ found. option_map as_asked found ≡ code_by (words fields.now)) }
     ensures memory { OnErr result (IsSomeAnd (code_by (words fields.now)) TakesMemory) }
 {
@@ -42,11 +42,11 @@ fn code_case(alloc: Global, fields: &[u8]) -> Result<Option<Case>, AllocError>
     if next_word(rest).is_some() {
         return Ok(None);
     }
-    Ok(hex_of(alloc, hex)?.map(|code| Case::Code { code }))
+    Ok(hex_of(alloc, hex)?.map(|code| LineCase::Code { code }))
 }
 
 /// The case of a line whose first word is `site`, by what follows that word.
-fn site_case(alloc: Global, fields: &[u8]) -> Result<Option<Case>, AllocError>
+fn site_case(alloc: Global, fields: &[u8]) -> Result<Option<LineCase>, AllocError>
     ensures ok { IfOk result (λ found. option_map as_asked found ≡ site_by (words fields.now)) }
     ensures memory { OnErr result (IsSomeAnd (site_by (words fields.now)) TakesMemory) }
 {
@@ -62,11 +62,11 @@ fn site_case(alloc: Global, fields: &[u8]) -> Result<Option<Case>, AllocError>
     let Some(address) = u32_of(address) else {
         return Ok(None);
     };
-    Ok(hex_of(alloc, hex)?.map(|table| Case::Site { table, address }))
+    Ok(hex_of(alloc, hex)?.map(|table| LineCase::Site { table, address }))
 }
 
 /// The case of a line whose first word is `verify`, by what follows that word.
-fn verify_case(alloc: Global, fields: &[u8]) -> Result<Option<Case>, AllocError>
+fn verify_case(alloc: Global, fields: &[u8]) -> Result<Option<LineCase>, AllocError>
     ensures ok { IfOk result (λ found. option_map as_asked found ≡ verify_by (words fields.now)) }
     ensures memory { OnErr result (IsSomeAnd (verify_by (words fields.now)) TakesMemory) }
 {
@@ -82,7 +82,7 @@ fn verify_case(alloc: Global, fields: &[u8]) -> Result<Option<Case>, AllocError>
     match hex_of(alloc, hex) {
         Ok(Some(code)) => {
             let chunks = chunks_of(alloc, fields)?;
-            Ok(chunks.map(|chunks| Case::Verify { caps, code, chunks }))
+            Ok(chunks.map(|chunks| LineCase::Verify { caps, code, chunks }))
         }
         Ok(None) => Ok(None),
         Err(AllocError) if are_chunks(fields) => Err(AllocError),
@@ -94,8 +94,8 @@ fn verify_case(alloc: Global, fields: &[u8]) -> Result<Option<Case>, AllocError>
 ///
 /// # Errors
 /// [`AllocError`] where the line has a form with bytes or chunks, and memory for them was refused.
-#[tactic(auto, unfolding(crate::specs::Case::asked))]
-pub fn case_of(alloc: Global, line: &[u8]) -> Result<Option<Case>, AllocError>
+#[tactic(auto, unfolding(crate::specs::LineCase::asked))]
+pub fn case_of(alloc: Global, line: &[u8]) -> Result<Option<LineCase>, AllocError>
     ensures ok { IfOk result (λ found. option_map as_asked found ≡ asked line.now) }
     ensures memory { OnErr result (IsSomeAnd (asked line.now) TakesMemory) }
 {

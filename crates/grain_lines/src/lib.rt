@@ -13,7 +13,7 @@ mod stream;
 mod verdict;
 mod words;
 
-pub use case::{Case, case_of};
+pub use case::{LineCase, case_of};
 pub use driver::run;
 pub use fields::{are_hex_digits, caps_of, chunk_of, hex_of, u32_of};
 pub use lines::{is_case, without_return};

@@ -4,11 +4,11 @@ ghost use Rattle.std.specs.Prelude.{◌≡◌, ◌≢◌, ◌++◌, Ok, Err, IfE
 ghost use Rattle.std.specs.Option.{option_map};
 ghost use Rattle.grain_base.specs.CapBits.{set_of};
 ghost use Rattle.grain_rules.specs.declared.error.VerifyError.{VerifyError};
-ghost use Rattle.grain_lines.specs.Case.{as_asked};
+ghost use Rattle.grain_lines.specs.LineCase.{as_asked};
 ghost use Rattle.grain_lines.specs.Verdict.{Adds, CodeVerdict, IsJudged, IsVerdictOn, SiteVerdict};
 ghost use Rattle.grain_lines.specs.Verdict.{VerifyVerdict, accepted_text, program};
 
-use crate::case::Case;
+use crate::case::LineCase;
 use grain_base::{Caps, pos};
 use grain_code::{Chunk, count_instructions};
 use grain_rules::{Candidate, NoPools, VerifyError};
@@ -109,15 +109,15 @@ pub(crate) fn write_verdict_with(
     alloc: Global,
     scratch: &mut Scratch,
     text: &mut String,
-    case: &Option<Case>,
+    case: &Option<LineCase>,
 ) -> Result<(), AllocError>
     ensures { OnOk result (Adds (IsVerdictOn (option_map as_asked case.now))
         (string_bytes text.old) (string_bytes text.new)) }
 {
     match case {
-        Some(Case::Code { code }) => write_count(text, code),
-        Some(Case::Site { table, address }) => write_site(text, table, *address),
-        Some(Case::Verify { caps, code, chunks }) => {
+        Some(LineCase::Code { code }) => write_count(text, code),
+        Some(LineCase::Site { table, address }) => write_site(text, table, *address),
+        Some(LineCase::Verify { caps, code, chunks }) => {
             write_judged(alloc, scratch, text, *caps, code, chunks)
         }
         None => text.push_str("bad case"),
@@ -131,7 +131,7 @@ pub(crate) fn write_verdict_with(
 pub fn write_verdict(
     alloc: Global,
     text: &mut String,
-    case: &Option<Case>,
+    case: &Option<LineCase>,
 ) -> Result<(), AllocError>
     ensures { OnOk result (Adds (IsVerdictOn (option_map as_asked case.now))
         (string_bytes text.old) (string_bytes text.new)) }

@@ -6,7 +6,7 @@ use Rattle.grain_rules.specs.Verdict.{IsVerdict}
 use Rattle.grain.specs.declared.explanation.Explained.{Explained}
 use Rattle.grain_verify.specs.declared.refusal.Refusal.{Refusal}
 use Rattle.grain_rules.specs.declared.error.VerifyError.TheVariants.{OutOfMemory}
-use Rattle.grain_lines.specs.Case.{Asked, code, site, verify}
+use Rattle.grain_lines.specs.LineCase.{Asked, code, site, verify}
 use Rattle.grain_lines.specs.Verdict.{Adds, IsVerdictOn, accepted_text, program, refused_text}
 use Rattle.grain_lines.proofs.VerdictLaws.{adds_accepted, adds_refused}
 use Rattle.grain_list.specs.Listed.{Explains}

@@ -3,7 +3,7 @@ use Rattle.std.specs.Prelude.{◌≡◌, ⊤, ℕ, List, Option, None, Some}
 use Rattle.grain.specs.Explanations.{IsExplanation}
 use Rattle.grain_code.specs.Span.{Span}
 use Rattle.grain.specs.declared.explanation.Explained.{Explained}
-use Rattle.grain_lines.specs.Case.{Asked, code, site, verify}
+use Rattle.grain_lines.specs.LineCase.{Asked, code, site, verify}
 use Rattle.grain_lines.specs.Verdict.{program}
 use Rattle.grain_listing.specs.ListedCode.{IsListedCode}
 use Rattle.grain_listing.specs.declared.code.CodeListing.{CodeListing}

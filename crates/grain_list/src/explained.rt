@@ -2,13 +2,13 @@
 
 ghost use Rattle.std.specs.Prelude.{◌≡◌, IfNone, IfOk, IfSome, OnOk, Option, string_bytes};
 ghost use Rattle.std.specs.Option.{option_map};
-ghost use Rattle.grain_lines.specs.Case.{Asked, as_asked};
+ghost use Rattle.grain_lines.specs.LineCase.{Asked, as_asked};
 ghost use Rattle.grain_lines.specs.Verdict.{Adds, IsVerdictOn};
 ghost use Rattle.grain_list.specs.Listed.{Explains, IsNoProgram};
 
 use grain::{Explained, explain};
 use grain_explain::ExplainError;
-use grain_lines::{Case, write_accepted};
+use grain_lines::{LineCase, write_accepted};
 use grain_rules::{NoPools, VerifyError};
 use std::alloc::{AllocError, Global};
 
@@ -16,12 +16,12 @@ use std::alloc::{AllocError, Global};
 ///
 /// # Errors
 /// [`AllocError`] where memory was refused.
-pub fn explained_of(alloc: Global, case: &Option<Case>) -> Result<Option<Explained>, AllocError>
+pub fn explained_of(alloc: Global, case: &Option<LineCase>) -> Result<Option<Explained>, AllocError>
     ensures explained { IfOk result (λ found. IfSome found (Explains (option_map as_asked case.now))) }
     ensures programs { IfOk result
         (λ found. IfNone found (IsNoProgram (option_map as_asked case.now))) }
 {
-    let Some(Case::Verify { caps, code, chunks }) = case else {
+    let Some(LineCase::Verify { caps, code, chunks }) = case else {
         return Ok(None);
     };
     match explain(alloc, *caps, &[], code, &[], chunks, &NoPools) {

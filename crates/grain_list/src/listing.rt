@@ -2,14 +2,14 @@
 
 ghost use Rattle.std.specs.Prelude.{◌≡◌, IfNone, IfOk, IfSome, Option, is_none, string_bytes};
 ghost use Rattle.std.specs.Option.{option_map};
-ghost use Rattle.grain_lines.specs.Case.{Asked, as_asked, asked};
+ghost use Rattle.grain_lines.specs.LineCase.{Asked, as_asked, asked};
 ghost use Rattle.grain_lines.specs.Verdict.{Verdict};
 ghost use Rattle.grain_list.specs.Listed.{Explains, IsNoProgram, IsShown};
 
 use crate::explained::{explained_of, write_explained};
 use crate::problem::Problem;
 use grain::Explained;
-use grain_lines::{Case, case_of, write_verdict};
+use grain_lines::{LineCase, case_of, write_verdict};
 use grain_listing::{CodeListing, ProgramListing};
 use std::alloc::{AllocError, Global};
 
@@ -54,7 +54,7 @@ fn printable(alloc: Global, line: &[u8]) -> Result<String, AllocError> {
 fn body_of(
     alloc: Global,
     line: &[u8],
-    case: Option<Case>,
+    case: Option<LineCase>,
     explained: Option<Explained>,
 ) -> Result<Body, AllocError>
     requires explained { IfSome explained (Explains (option_map as_asked case)) }
@@ -63,9 +63,9 @@ fn body_of(
 {
     match case {
         None => Ok(Body::Bad(Problem::of(line))),
-        Some(Case::Site { .. }) => Ok(Body::Site),
-        Some(Case::Code { code }) => Ok(Body::Code(CodeListing::of(alloc, code)?)),
-        Some(Case::Verify { code, chunks, .. }) => {
+        Some(LineCase::Site { .. }) => Ok(Body::Site),
+        Some(LineCase::Code { code }) => Ok(Body::Code(CodeListing::of(alloc, code)?)),
+        Some(LineCase::Verify { code, chunks, .. }) => {
             let Some(explained) = explained else {
                 unreachable!();
             };

@@ -11,11 +11,12 @@ use Rattle.grain.specs.Program.{Program, chunks_of, input_of}
 use Rattle.grain_rules.specs.Accepted.{IsSafe}
 use Rattle.grain_rules.specs.Typing.{HasTyping}
 use Rattle.grain_machine.specs.Asked.{program_code}
-use Rattle.grain_machine.specs.State.{IsNumbered, IsRunnable, Numbered}
+use Rattle.grain.specs.Verified.{IsVerified, Verified}
+use Rattle.grain_machine.specs.State.{IsRunnable}
 
--- each chunk has a number
-pub numbers_long : (a : Numbered) → IsNumbered a → length a.numbers ≡ length a.program.functions + 1
-numbers_long a h = let e = AllZip-long (HasTyping (program_code a.program)) (chunks_of a.program) a.numbers h.typed in let m = length-map a.program.functions (λ (f : Function). f.chunk) in omega arith
+-- each chunk has a depth
+pub depths_long : (a : Verified) → IsVerified a → length a.depths ≡ length a.program.functions + 1
+depths_long a h = let e = AllZip-long (HasTyping (program_code a.program)) (chunks_of a.program) a.depths h.typed in let m = length-map a.program.functions (λ (f : Function). f.chunk) in omega arith
 
 -- what relates two lists relates what stands at one place
 related : {A B : Type 0} (R : A → B → Type 0) (xs : List A) (ys : List B) (k : ℕ) (x : A) (y : B) → AllZip R xs ys → slice_get xs k ≡ Some x → slice_get ys k ≡ Some y → R x y
@@ -25,16 +26,16 @@ related R xs ys k x y h ex ey = rw (ex, ey) at (AllZip-left R xs ys h k)
 pub placed : {X : Type 0} (xs : List X) (k : ℕ) (x : X) → slice_get xs k ≡ Some x → Contains xs x
 placed xs k x e = (k, slice_get_within xs k x e, get_or_from_slice_get xs k x x e)
 
--- a chunk with its number is runnable
-pub runnable : (a : Numbered) (k : ℕ) (chunk : Span) (room : ℕ) → IsNumbered a → slice_get (chunks_of a.program) k ≡ Some chunk
-    → slice_get a.numbers k ≡ Some room → IsRunnable (record { program = a.program; chunk = chunk; room = room })
+-- a chunk with its depth is runnable
+pub runnable : (a : Verified) (k : ℕ) (chunk : Span) (room : ℕ) → IsVerified a → slice_get (chunks_of a.program) k ≡ Some chunk
+    → slice_get a.depths k ≡ Some room → IsRunnable (record { program = a.program; chunk = chunk; room = room })
 runnable a k chunk room h ec er = record {
   accepted = h.accepted;
   place = k;
   there = ec;
-  safe = related (IsSafe (input_of a.program).code) (chunks_of a.program) a.numbers k chunk room h.safe ec er;
-  typed = related (HasTyping (program_code a.program)) (chunks_of a.program) a.numbers k chunk room h.typed ec er;
-  finds = h.finds;
+  safe = related (IsSafe (input_of a.program).code) (chunks_of a.program) a.depths k chunk room h.safe ec er;
+  typed = related (HasTyping (program_code a.program)) (chunks_of a.program) a.depths k chunk room h.typed ec er;
+  finds = h.found;
 }
 
 -- the chunk of a function stands behind the main chunk

@@ -12,7 +12,7 @@ use Rattle.grain_machine.specs.State.{FrameState, IsUnderWay, MakesMove, Runs, s
 use Rattle.grain_machine.specs.Values.{Lands, below, counted}
 use Rattle.grain_machine.specs.declared.frames.Caller.{Caller}
 use Rattle.grain_machine.specs.declared.frames.Frames.{Frames}
-use Rattle.grain_machine.specs.declared.run.Limits.{Limits}
+use Rattle.grain_machine.specs.declared.run.RunLimits.{RunLimits}
 use Rattle.grain_machine.specs.declared.step.Outcome.{Outcome}
 use Rattle.grain_machine.specs.declared.step.Outcome.TheVariants as outcomes
 use Rattle.grain_machine.proofs.Calling.{all_waiting, caught_first, outer_runs}
@@ -94,7 +94,7 @@ ends_after p fuel turns s (outcomes.Uncatchable x) l e = (l, e.0, e.1)
 ends_after p fuel turns s outcomes.OutOfFuel l e = absurd e
 ends_after p fuel turns s outcomes.OutOfMemory l e = (l, e)
 
-ended_so : {V I F : Type 0} (r : Runs) (limits : Limits) (f : Frames V I) (at : ℕ) (outcome : Outcome V F) (earlier : List (CallStack V I))
+ended_so : {V I F : Type 0} (r : Runs) (limits : RunLimits) (f : Frames V I) (at : ℕ) (outcome : Outcome V F) (earlier : List (CallStack V I))
     → IsRunOfCalls r.program limits.depth r.chunk (stack_of f) earlier → IsStanding r.program f → at ≡ (outermost_of (stack_of f)).machine.address
     → EndsAfter r.program limits.fuel (length earlier) (stack_of f) outcome → IsEnded I r limits at outcome
 ended_so r limits f at outcome earlier run standing e ends =
@@ -108,13 +108,13 @@ ended_so r limits f at outcome earlier run standing e ends =
       ends = ends;
     }
 
-pub ended : {V I F : Type 0} (r : Runs) (limits : Limits) (f : Frames V I) (at : ℕ) (outcome : Outcome V F) (earlier : List (CallStack V I))
+pub ended : {V I F : Type 0} (r : Runs) (limits : RunLimits) (f : Frames V I) (at : ℕ) (outcome : Outcome V F) (earlier : List (CallStack V I))
     → IsRunOfCalls r.program limits.depth r.chunk (stack_of f) earlier → IsStanding r.program f → at ≡ (outermost_of (stack_of f)).machine.address
     → length earlier < limits.fuel → StackEnds r.program (stack_of f) outcome → IsEnded I r limits at outcome
 ended r limits f at outcome earlier run standing e l ends =
     ended_so r limits f at outcome earlier run standing e (ends_after r.program limits.fuel (length earlier) (stack_of f) outcome l ends)
 
-pub spent : {V I F : Type 0} (r : Runs) (limits : Limits) (f : Frames V I) (at : ℕ) (earlier : List (CallStack V I))
+pub spent : {V I F : Type 0} (r : Runs) (limits : RunLimits) (f : Frames V I) (at : ℕ) (earlier : List (CallStack V I))
     → IsRunOfCalls r.program limits.depth r.chunk (stack_of f) earlier → IsStanding r.program f → at ≡ (outermost_of (stack_of f)).machine.address
     → length earlier ≡ limits.fuel → IsEnded {V = V} {F = F} I r limits at outcomes.OutOfFuel
 spent r limits f at earlier run standing e l = ended_so r limits f at outcomes.OutOfFuel earlier run standing e l

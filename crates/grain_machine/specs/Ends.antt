@@ -13,7 +13,7 @@ use Rattle.grain_machine.specs.Asked.{program_code}
 use Rattle.grain_machine.specs.Calls.{Activation, CallStack, IsRunOfCalls, Sounds, catcher, outermost_of}
 use Rattle.grain_machine.specs.State.{Runs}
 use Rattle.grain_machine.specs.Values.{ValueMachine, counted, top}
-use Rattle.grain_machine.specs.declared.run.Limits.{Limits}
+use Rattle.grain_machine.specs.declared.run.RunLimits.{RunLimits}
 use Rattle.grain_machine.specs.declared.step.Outcome.{Outcome}
 use Rattle.grain_machine.specs.declared.step.Outcome.TheVariants as outcomes
 
@@ -80,7 +80,7 @@ pub record IsOutermost {V I : Type 0} (r : Runs) (a : Activation V I) (turns at 
 
 -- A run of the chunk within the limits ends so, and stands at this address of the chunk; each frame is on a kept run of its
 -- own chunk.
-pub record IsEnded {V F : Type 0} (I : Type 0) (r : Runs) (limits : Limits) (at : ℕ) (outcome : Outcome V F) : Type 0 where
+pub record IsEnded {V F : Type 0} (I : Type 0) (r : Runs) (limits : RunLimits) (at : ℕ) (outcome : Outcome V F) : Type 0 where
   pub stack : CallStack V I
   pub earlier : List (CallStack V I)
   pub run : IsRunOfCalls r.program limits.depth r.chunk stack earlier

@@ -70,18 +70,6 @@ pub record IsRunnable (r : Runs) : Type 0 where
   pub typed : HasTyping (program_code r.program) r.chunk r.room
   pub finds : FindsIndices r.program
 
--- a program, and the number that is answered for each of its chunks
-pub record Numbered : Type 0 where
-  pub program : Program
-  pub numbers : List ℕ
-
--- the program is accepted, and these are the numbers of its chunks
-pub record IsNumbered (a : Numbered) : Type 0 where
-  pub accepted : IsAccepted (input_of a.program)
-  pub safe : AreSafe (input_of a.program) a.numbers
-  pub typed : AreTyped (input_of a.program) a.numbers
-  pub finds : FindsIndices a.program
-
 -- some kept run of the chunk is in this state, with just the room of the chunk
 abbrev pub IsUnderWay : Runs → State → Type 0
 IsUnderWay r s = IsOnKeptRun (program_code r.program) r.chunk s.machine × (s.room ≡ r.room)

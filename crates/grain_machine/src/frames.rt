@@ -11,9 +11,9 @@ ghost use Rattle.grain_machine.specs.Standing.{stack_of, waiting_of};
 ghost use Rattle.grain_machine.specs.State.{state_of};
 ghost use Rattle.grain_machine.specs.declared.step.Outcome.TheVariants as outcomes;
 
-use crate::accepted::Runnable;
 use crate::frame::Frame;
 use crate::host::{CallError, Host};
+use crate::prepared::Runnable;
 use crate::step::{Outcome, Turn};
 use std::alloc::{AllocError, Global};
 use std::mem;

@@ -6,16 +6,16 @@
 //! `specs/Machine.antt`.
 #![tactic(auto)]
 
-mod accepted;
 mod decoded;
 mod frame;
 mod frames;
 mod host;
+mod prepared;
 mod quick;
 mod run;
 mod step;
 
-pub use accepted::{Accepted, Runnable, accept};
 pub use host::{CallError, Host, Reply, Request, dispatch};
-pub use run::{Ending, Limits};
+pub use prepared::{Prepared, Runnable, prepare};
+pub use run::{Ending, RunLimits};
 pub use step::Outcome;

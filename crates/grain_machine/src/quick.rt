@@ -6,9 +6,9 @@ ghost use Rattle.grain.specs.Program.{setting_of};
 ghost use Rattle.grain_machine.specs.Asked.{IsForHost};
 ghost use Rattle.grain_machine.specs.State.{MakesMove, IsAt, IsUnderWay, state_of};
 
-use crate::accepted::Runnable;
 use crate::frame::Frame;
 use crate::host::Host;
+use crate::prepared::Runnable;
 use grain_code::Op;
 
 impl<'a> Runnable<'a> {

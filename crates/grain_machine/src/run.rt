@@ -2,15 +2,15 @@
 ghost use Rattle.std.specs.Prelude.{◌≡◌, IfOk, OnErr};
 ghost use Rattle.grain_machine.specs.Ends.{IsEnded};
 
-use crate::accepted::Runnable;
 use crate::frames::Frames;
 use crate::host::Host;
+use crate::prepared::Runnable;
 use crate::step::Outcome;
 use std::alloc::{AllocError, Global};
 
 /// How far a run may go.
 #[derive(Clone, Copy, Debug, PartialEq, Eq)]
-pub struct Limits {
+pub struct RunLimits {
     /// How many turns it may take, of all its frames: operations that are done, functions that begin, and faults that are
     /// caught. A return is the operation that called, done at last.
     pub fuel: u64,
@@ -40,7 +40,7 @@ impl<'a> Runnable<'a> {
         &self,
         alloc: Global,
         host: &mut H,
-        limits: Limits,
+        limits: RunLimits,
     ) -> Result<Ending<H::Value, H::Fault>, AllocError>
         // A kept run of the chunk ends so, there and within the fuel, and with it those of the functions that it called.
         ensures ended { IfOk result (λ ending. IsEnded H.Iterator self.now limits ending.at ending.outcome) }

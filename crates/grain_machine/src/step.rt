@@ -9,10 +9,10 @@ ghost use Rattle.grain_machine.specs.Standing.{DoesTurn};
 ghost use Rattle.grain_machine.specs.State.{MakesMove, IsAt, IsUnderWay, state_of};
 ghost use Rattle.grain_machine.specs.Values.{Lands};
 
-use crate::accepted::Runnable;
 use crate::decoded::Decoded;
 use crate::frame::Frame;
 use crate::host::{Host, Request};
+use crate::prepared::Runnable;
 use grain_code::{Op, Receiver};
 
 /// How a run ends.

@@ -4,8 +4,8 @@ use crate::runs::{
     ADD, DIVIDE, INVOKE, LESS, Seen, ended, idle_script, program_of, with_function, with_switch,
 };
 use crate::samples::{assert_same, made};
-use grain::{Dynamic, Op, Program, Switch, SwitchRange};
-use grain_machine::accept;
+use grain::{Dynamic, Op, Switch, SwitchRange, Verified};
+use grain_machine::prepare;
 use std::alloc::{AllocError, Global};
 use std::collections::HashMap;
 use std::test::Fail;
@@ -39,10 +39,10 @@ const HALVING_3: &[Op] = halving!(3);
 const HALVING_4: &[Op] = halving!(4);
 
 /// How a run of the program ends, and how many functions are under way then, as the host was told.
-fn told(alloc: Global, program: &Program, fuel: u64) -> Result<(Seen, usize), Fail> {
-    let accepted = accept(program)?;
+fn told(alloc: Global, verified: &Verified, fuel: u64) -> Result<(Seen, usize), Fail> {
+    let prepared = prepare(alloc, verified)?;
     let mut script = idle_script(alloc);
-    let main = accepted.main();
+    let main = prepared.main();
     let (outcome, _) = ended(&main, alloc, &mut script, fuel)?;
     Ok((outcome, script.under_way()))
 }
@@ -101,13 +101,13 @@ fn a_fault_leaves_functions_until_it_is_caught(rt: HostRuntime) {
 const TWO: &[Op] = &[Op::Const(1), Op::Return, Op::Const(8), Op::Return];
 
 /// How a run of the program's only function ends, and where.
-fn function_ended(alloc: Global, program: &Program) -> Result<(Seen, usize), Fail> {
-    if program.functions().len() != 1 {
+fn function_ended(alloc: Global, verified: &Verified) -> Result<(Seen, usize), Fail> {
+    if verified.program().functions().len() != 1 {
         return Err(Fail::new("not one function"));
     }
-    let accepted = accept(program)?;
+    let prepared = prepare(alloc, verified)?;
     let mut script = idle_script(alloc);
-    Ok(ended(&accepted.function(0), alloc, &mut script, 10)?)
+    Ok(ended(&prepared.function(0), alloc, &mut script, 10)?)
 }
 
 /// The same of the function that begins at the third of these operations.

@@ -1,9 +1,11 @@
 use crate::samples::{assert_same, made};
 use grain::{
-    BuildError, Caps, Cut, Dynamic, Flags, FnAccess, Head, Op, Parts, Positions, Program, Strings,
-    Switch, build,
+    BuildError, Caps, Cut, Dynamic, Flags, FnAccess, Head, Op, Parts, Positions, Strings, Switch,
+    Verified, build,
 };
-use grain_machine::{CallError, Host, Limits, Outcome, Reply, Request, Runnable, accept, dispatch};
+use grain_machine::{
+    CallError, Host, Outcome, Reply, Request, RunLimits, Runnable, dispatch, prepare,
+};
 use std::alloc::{AllocError, Global};
 use std::test::Fail;
 
@@ -372,14 +374,11 @@ fn built(
     cuts: &[Cut],
     heads: Vec<Head>,
     parts: Parts,
-) -> Result<Program, BuildError> {
+) -> Result<Verified, BuildError> {
     if cuts.len() != heads.len() + 1 {
         return Err(BuildError::BadCut { index: usize::MAX });
     }
-    match build(alloc, Caps::all(), ops, cuts, heads, parts) {
-        Ok((program, _)) => Ok(program),
-        Err(refusal) => Err(refusal),
-    }
+    build(alloc, Caps::all(), ops, cuts, heads, parts)
 }
 
 /// The operations from the first up to the end, which declare that they stack at most 8 operands.
@@ -392,7 +391,7 @@ fn cut(first: usize, end: usize) -> Cut {
 }
 
 /// The operations as the top level of a program with these parts.
-pub(crate) fn program_of(alloc: Global, ops: &[Op], parts: Parts) -> Result<Program, BuildError> {
+pub(crate) fn program_of(alloc: Global, ops: &[Op], parts: Parts) -> Result<Verified, BuildError> {
     built(alloc, ops, &[cut(0, ops.len())], Vec::new(alloc), parts)
 }
 
@@ -408,7 +407,7 @@ fn heads(alloc: Global) -> Result<Vec<Head>, AllocError> {
 }
 
 /// A program of the top level, which ends at an operation, and of one function.
-pub(crate) fn with_function(alloc: Global, ops: &[Op], end: usize) -> Result<Program, Fail> {
+pub(crate) fn with_function(alloc: Global, ops: &[Op], end: usize) -> Result<Verified, Fail> {
     let cuts = [cut(0, end), cut(end, ops.len())];
     let heads = heads(alloc)?;
     let parts = parts(alloc)?;
@@ -416,7 +415,7 @@ pub(crate) fn with_function(alloc: Global, ops: &[Op], end: usize) -> Result<Pro
 }
 
 /// The operations as the top level of a program.
-pub(crate) fn program(alloc: Global, ops: &[Op]) -> Result<Program, Fail> {
+pub(crate) fn program(alloc: Global, ops: &[Op]) -> Result<Verified, Fail> {
     let parts = parts(alloc)?;
     Ok(program_of(alloc, ops, parts)?)
 }
@@ -465,7 +464,7 @@ pub(crate) fn ended(
     script: &mut Script,
     fuel: u64,
 ) -> Result<(Seen, usize), AllocError> {
-    let limits = Limits { fuel, depth: 3 };
+    let limits = RunLimits { fuel, depth: 3 };
     let ending = main.run(alloc, script, limits)?;
     Ok((told(&ending.outcome), ending.at))
 }
@@ -487,12 +486,12 @@ fn ended_by(
 /// How a run of the program ends, where, and whether this was caught in it, by both hosts.
 fn ends(
     alloc: Global,
-    program: &Program,
+    verified: &Verified,
     fuel: u64,
     caught: &[i64],
 ) -> Result<(Seen, usize, bool), Fail> {
-    let accepted = accept(program)?;
-    let main = accepted.main();
+    let prepared = prepare(alloc, verified)?;
+    let main = prepared.main();
     let (told, at, all) = ended_by(&main, alloc, false, fuel, caught)?;
     let same = ended_by(&main, alloc, true, fuel, caught)? == (told, at, all);
     Ok((told, at, same && all))

@@ -2,8 +2,8 @@
 
 use crate::runs::{ADD, ASSIGN, DECLARE, INVOKE, with_function};
 use crate::samples::{assert_same, made};
-use grain::{Op, Program};
-use grain_machine::{Accepted, Limits, Outcome, accept};
+use grain::{Op, Verified};
+use grain_machine::{Outcome, Prepared, RunLimits, prepare};
 use rhai_runtime::{Recorder, Script};
 use std::alloc::{AllocError, Global};
 use std::test::Fail;
@@ -27,34 +27,34 @@ const THROWING: &[Op] = &[
 /// How many calls the fault of a run ended.
 fn calls_of_run(
     alloc: Global,
-    accepted: &Accepted<'_>,
+    prepared: &Prepared<'_>,
     script: &mut Script<Recorder>,
 ) -> Result<usize, AllocError> {
-    let limits = Limits {
+    let limits = RunLimits {
         fuel: 100,
         depth: 5,
     };
-    let _ending = accepted.main().run(alloc, script, limits)?;
+    let _ending = prepared.main().run(alloc, script, limits)?;
     Ok(script.backtrace().len())
 }
 
 /// The same of two runs, one after the other.
 fn calls_of_both(
     alloc: Global,
-    accepted: &Accepted<'_>,
+    prepared: &Prepared<'_>,
     script: &mut Script<Recorder>,
 ) -> Result<[usize; 2], AllocError> {
-    let first = calls_of_run(alloc, accepted, script)?;
-    let second = calls_of_run(alloc, accepted, script)?;
+    let first = calls_of_run(alloc, prepared, script)?;
+    let second = calls_of_run(alloc, prepared, script)?;
     Ok([first, second])
 }
 
 /// The same of a script of the program.
-fn calls_of(alloc: Global, program: &Program) -> Result<[usize; 2], Fail> {
-    let accepted = accept(program)?;
+fn calls_of(alloc: Global, verified: &Verified) -> Result<[usize; 2], Fail> {
+    let prepared = prepare(alloc, verified)?;
     let limits = Script::<Recorder>::DEFAULT_LIMITS;
-    match Script::new(alloc, program, Recorder::new(alloc), limits) {
-        Ok(mut script) => Ok(calls_of_both(alloc, &accepted, &mut script)?),
+    match Script::new(alloc, verified.program(), Recorder::new(alloc), limits) {
+        Ok(mut script) => Ok(calls_of_both(alloc, &prepared, &mut script)?),
         Err(_) => Err(Fail::new("there is no script")),
     }
 }
@@ -101,28 +101,28 @@ const COLLECTING: &[Op] = &[
 ];
 
 /// Enough for a whole run.
-const WHOLE: Limits = Limits {
+const WHOLE: RunLimits = RunLimits {
     fuel: 100,
     depth: 5,
 };
 
 /// Ends with a fault if a function is called.
-const WITHOUT_CALLS: Limits = Limits {
+const WITHOUT_CALLS: RunLimits = RunLimits {
     fuel: 100,
     depth: 0,
 };
 
 /// Ends inside the function.
-const WITHOUT_FUEL: Limits = Limits { fuel: 9, depth: 5 };
+const WITHOUT_FUEL: RunLimits = RunLimits { fuel: 9, depth: 5 };
 
 /// What a run returns as text, or nothing.
 fn returned(
     alloc: Global,
-    accepted: &Accepted<'_>,
+    prepared: &Prepared<'_>,
     script: &mut Script<Recorder>,
-    limits: Limits,
+    limits: RunLimits,
 ) -> Result<String, AllocError> {
-    let ending = accepted.main().run(alloc, script, limits)?;
+    let ending = prepared.main().run(alloc, script, limits)?;
     match ending.outcome {
         Outcome::Returned(Some(value)) => format!(in alloc; "{value};"),
         _ => String::from_str(alloc, ";"),
@@ -132,7 +132,7 @@ fn returned(
 /// What several runs of one script return, one after the other.
 fn returned_by_all(
     alloc: Global,
-    accepted: &Accepted<'_>,
+    prepared: &Prepared<'_>,
     script: &mut Script<Recorder>,
 ) -> Result<String, AllocError> {
     let mut text = String::new(alloc);
@@ -145,7 +145,7 @@ fn returned_by_all(
         WITHOUT_FUEL,
         WHOLE,
     ] {
-        let one = returned(alloc, accepted, script, limits)?;
+        let one = returned(alloc, prepared, script, limits)?;
         text.push_str(one.as_str())?;
     }
     Ok(text)
@@ -153,11 +153,11 @@ fn returned_by_all(
 
 /// The same of a script of these operations, of which those from one on are a function.
 fn runs_of(alloc: Global, ops: &[Op], end: usize) -> Result<String, Fail> {
-    let program = with_function(alloc, ops, end)?;
-    let accepted = accept(&program)?;
+    let verified = with_function(alloc, ops, end)?;
+    let prepared = prepare(alloc, &verified)?;
     let limits = Script::<Recorder>::DEFAULT_LIMITS;
-    match Script::new(alloc, &program, Recorder::new(alloc), limits) {
-        Ok(mut script) => Ok(returned_by_all(alloc, &accepted, &mut script)?),
+    match Script::new(alloc, verified.program(), Recorder::new(alloc), limits) {
+        Ok(mut script) => Ok(returned_by_all(alloc, &prepared, &mut script)?),
         Err(_) => Err(Fail::new("there is no script")),
     }
 }

@@ -1,7 +1,7 @@
 //! Chains.
 
 use crate::cursor::Cursor;
-use crate::error::{Problem, Stop};
+use crate::error::{LineProblem, Stop};
 use crate::pools::Pools;
 use grain_base::Flags;
 use grain_pools::{Chain, Root, Step, StepFlags, Tail};
@@ -26,7 +26,7 @@ fn read_root(pools: &mut Pools, cursor: &mut Cursor<'_>) -> Result<Root, Stop> {
         "temporary" => Ok(Root::Temporary),
         _ => {
             cursor.left = start;
-            Err(Stop::Fault(Problem::Word))
+            Err(Stop::Fault(LineProblem::Word))
         }
     }
 }
@@ -122,7 +122,7 @@ fn read_tail(pools: &mut Pools, cursor: &mut Cursor<'_>) -> Result<Tail, Stop> {
         }
         _ => {
             cursor.left = start;
-            Err(Stop::Fault(Problem::Word))
+            Err(Stop::Fault(LineProblem::Word))
         }
     }
 }
@@ -133,7 +133,7 @@ pub(crate) fn read_chain(pools: &mut Pools, cursor: &mut Cursor<'_>) -> Result<C
     let steps = read_steps(pools, cursor)?;
     let tail = read_tail(pools, cursor)?;
     if !cursor.eat_word("operands") {
-        return Err(Stop::Fault(Problem::Missing));
+        return Err(Stop::Fault(LineProblem::Missing));
     }
     let operands = cursor.number_16()?;
     Ok(Chain {

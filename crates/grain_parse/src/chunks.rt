@@ -5,7 +5,7 @@ ghost use Rattle.grain.specs.Tightened.{undeclared_function};
 ghost use Rattle.grain_code.specs.Span.{undeclared_chunk};
 
 use crate::cursor::Cursor;
-use crate::error::{Problem, Stop};
+use crate::error::{LineProblem, Stop};
 use crate::labels::Labels;
 use crate::pools::Pools;
 use grain_base::FnAccess;
@@ -47,7 +47,7 @@ fn read_params(pools: &mut Pools, cursor: &mut Cursor<'_>) -> Result<Vec<u32>, S
         }
         cursor.expect(b',')?;
     }
-    Err(Stop::Fault(Problem::NoEnd))
+    Err(Stop::Fault(LineProblem::NoEnd))
 }
 
 fn read_access(cursor: &mut Cursor<'_>) -> FnAccess {
@@ -149,9 +149,9 @@ impl Chunks {
             word => {
                 cursor.left = start;
                 Err(Stop::Fault(if word == "main" {
-                    Problem::MainTwice
+                    LineProblem::MainTwice
                 } else {
-                    Problem::Word
+                    LineProblem::Word
                 }))
             }
         }
@@ -169,7 +169,7 @@ impl Chunks {
         self.automatic.push(0)?;
         match u32::try_from(len) {
             Ok(end) => Ok(Chunk::new(0, end, u16::MAX)),
-            Err(_) => Err(Stop::Fault(Problem::TooWide)),
+            Err(_) => Err(Stop::Fault(LineProblem::TooWide)),
         }
     }
 }

@@ -6,7 +6,7 @@ ghost use Rattle.grain_parse.specs.Numbers.{ReadsIndex};
 ghost use Rattle.grain_parse.specs.Widths.{Appends, operand_width};
 
 use crate::cursor::Cursor;
-use crate::error::{Problem, Stop};
+use crate::error::{LineProblem, Stop};
 use crate::labels::Labels;
 use crate::pools::Pools;
 use grain_print::{Operand, form_named};
@@ -17,7 +17,7 @@ fn read_index(cursor: &mut Cursor<'_>) -> Result<u32, Stop>
 {
     match cursor.index()? {
         Some(index) => Ok(index),
-        None => Err(Stop::Fault(Problem::Missing)),
+        None => Err(Stop::Fault(LineProblem::Missing)),
     }
 }
 
@@ -55,7 +55,7 @@ fn read_short_index(
         Ok(index) => Ok(index),
         Err(_) => {
             cursor.left = start;
-            Err(Stop::Fault(Problem::TooWide))
+            Err(Stop::Fault(LineProblem::TooWide))
         }
     }
 }
@@ -124,7 +124,7 @@ pub(crate) fn read_instruction(
     }
     let Some((tag, form)) = form_named(word) else {
         cursor.left = start;
-        return Err(Stop::Fault(Problem::Mnemonic));
+        return Err(Stop::Fault(LineProblem::Mnemonic));
     };
     code.push(tag)?;
     read_operands(pools, labels, code, cursor, form.operands)

@@ -5,11 +5,11 @@ ghost use Rattle.std.specs.Str.Parse.{ParsesUnsigned, error_kind};
 ghost use Rattle.grain_parse.specs.Blanks.{ReadsText, is_mark, is_over, unblanked};
 ghost use Rattle.grain_parse.specs.Numbers.{IsOutOfRange, ReadsIndex, ReadsInteger, ReadsNumeral, digits_of, radix_of};
 ghost use Rattle.grain_parse.specs.Positions.{ReadsPosition, ReadsPositionOrNone};
-ghost use Rattle.grain_parse.specs.declared.error.Problem.{Problem};
-ghost use Rattle.grain_parse.specs.declared.error.Problem.TheVariants as problems;
+ghost use Rattle.grain_parse.specs.declared.error.LineProblem.{LineProblem};
+ghost use Rattle.grain_parse.specs.declared.error.LineProblem.TheVariants as problems;
 ghost use Rattle.grain_parse.specs.declared.error.Stop.{Stop};
 
-use crate::error::{Problem, Stop};
+use crate::error::{LineProblem, Stop};
 use grain_base::Position;
 use std::alloc::Global;
 use std::num::{IntErrorKind, ParseIntError};
@@ -77,7 +77,7 @@ fn text_of(bytes: &[u8]) -> Result<&str, Stop>
 {
     match str::from_utf8(bytes) {
         Ok(text) => Ok(text),
-        Err(_) => Err(Stop::Fault(Problem::NotText)),
+        Err(_) => Err(Stop::Fault(LineProblem::NotText)),
     }
 }
 
@@ -91,17 +91,17 @@ fn number_of(digits: &str) -> Result<u64, Stop>
     };
     match number {
         Ok(number) => Ok(number),
-        Err(error) => Err(Stop::Fault(no_number(error, Problem::NotNumber))),
+        Err(error) => Err(Stop::Fault(no_number(error, LineProblem::NotNumber))),
     }
 }
 
 /// The problem of digits that can't be read: the number is out of range, or else the digits are wrong.
-pub(crate) fn no_number(error: ParseIntError, otherwise: Problem) -> Problem
+pub(crate) fn no_number(error: ParseIntError, otherwise: LineProblem) -> LineProblem
     ensures wide { IsOutOfRange (error_kind error) → result ≡ problems.TooWide }
     ensures wrong { (IsOutOfRange (error_kind error) → ⊥) → result ≡ otherwise }
 {
     match error.kind() {
-        IntErrorKind::PosOverflow | IntErrorKind::NegOverflow => Problem::TooWide,
+        IntErrorKind::PosOverflow | IntErrorKind::NegOverflow => LineProblem::TooWide,
         _ => otherwise,
     }
 }
@@ -131,13 +131,13 @@ impl<'a> Cursor<'a> {
         ensures over { MatchResult result
             (λ _. is_over (unblanked self.old.left.now) ≡ true)
             (λ e. (is_over (unblanked self.old.left.now) ≡ false)
-            × (e ≡ Stop.Fault Problem.Trailing)) }
+            × (e ≡ Stop.Fault LineProblem.Trailing)) }
         ensures left { self.new.left.now ≡ unblanked self.old.left.now }
     {
         if self.is_done() {
             Ok(())
         } else {
-            Err(Stop::Fault(Problem::Trailing))
+            Err(Stop::Fault(LineProblem::Trailing))
         }
     }
 
@@ -165,7 +165,7 @@ impl<'a> Cursor<'a> {
         if self.eat(byte) {
             Ok(())
         } else {
-            Err(Stop::Fault(Problem::Mark))
+            Err(Stop::Fault(LineProblem::Mark))
         }
     }
 
@@ -176,7 +176,7 @@ impl<'a> Cursor<'a> {
         self.blanks();
         let (word, rest) = split_word(self.left);
         if word.is_empty() {
-            return Err(Stop::Fault(Problem::Missing));
+            return Err(Stop::Fault(LineProblem::Missing));
         }
         let word = text_of(word)?;
         self.left = rest;
@@ -237,7 +237,7 @@ impl<'a> Cursor<'a> {
         let number = self.number()?;
         if number > limit {
             self.left = start;
-            return Err(Stop::Fault(Problem::TooWide));
+            return Err(Stop::Fault(LineProblem::TooWide));
         }
         Ok(number)
     }
@@ -248,7 +248,7 @@ impl<'a> Cursor<'a> {
             ReadsNumeral self.old.left.now number self.new.left.now) }
     {
         let number = self.number_up_to(u64::from(u32::MAX))?;
-        u32::try_from(number).map_err(|_| Stop::Fault(Problem::TooWide))
+        u32::try_from(number).map_err(|_| Stop::Fault(LineProblem::TooWide))
     }
 
     /// Reads a number of 16 bits.
@@ -257,7 +257,7 @@ impl<'a> Cursor<'a> {
             ReadsNumeral self.old.left.now number self.new.left.now) }
     {
         let number = self.number_up_to(u64::from(u16::MAX))?;
-        u16::try_from(number).map_err(|_| Stop::Fault(Problem::TooWide))
+        u16::try_from(number).map_err(|_| Stop::Fault(LineProblem::TooWide))
     }
 
     /// Reads a number of 8 bits.
@@ -266,7 +266,7 @@ impl<'a> Cursor<'a> {
             ReadsNumeral self.old.left.now number self.new.left.now) }
     {
         let number = self.number_up_to(u64::from(u8::MAX))?;
-        u8::try_from(number).map_err(|_| Stop::Fault(Problem::TooWide))
+        u8::try_from(number).map_err(|_| Stop::Fault(LineProblem::TooWide))
     }
 
     /// Reads an integer, with a sign or without.
@@ -282,7 +282,7 @@ impl<'a> Cursor<'a> {
                 self.left = rest;
                 Ok(integer)
             }
-            Err(error) => Err(Stop::Fault(no_number(error, Problem::NotDecimal))),
+            Err(error) => Err(Stop::Fault(no_number(error, LineProblem::NotDecimal))),
         }
     }
 
@@ -319,7 +319,7 @@ impl<'a> Cursor<'a> {
         let line = self.number_16()?;
         if line == 0 {
             self.left = start;
-            return Err(Stop::Fault(Problem::NoLine));
+            return Err(Stop::Fault(LineProblem::NoLine));
         }
         self.expect(b':')?;
         let column = self.number_16()?;

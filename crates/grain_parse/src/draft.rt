@@ -12,7 +12,7 @@ use crate::chains::read_chain;
 use crate::chunks::{Chunks, declare};
 use crate::code::{eat_label, read_instruction};
 use crate::cursor::{Cursor, no_number};
-use crate::error::{Problem, Stop, Unfinished};
+use crate::error::{LineProblem, Stop, Unfinished};
 use crate::labels::Labels;
 use crate::literals::{read_text, read_text_or_word};
 use crate::operators::read_token;
@@ -75,7 +75,7 @@ fn read_id(cursor: &mut Cursor<'_>) -> Result<u128, Stop> {
         Ok(id) => Ok(id),
         Err(error) => {
             cursor.left = start;
-            Err(Stop::Fault(no_number(error, Problem::NotDecimal)))
+            Err(Stop::Fault(no_number(error, LineProblem::NotDecimal)))
         }
     }
 }
@@ -89,7 +89,7 @@ fn read_caps(cursor: &mut Cursor<'_>) -> Result<Caps, Stop> {
         Ok(caps) => Ok(caps),
         Err(_) => {
             cursor.left = start;
-            Err(Stop::Fault(Problem::NotCapability))
+            Err(Stop::Fault(LineProblem::NotCapability))
         }
     }
 }
@@ -112,7 +112,7 @@ impl Head {
     /// Reads what follows a directive that begins no section.
     fn read(&mut self, cursor: &mut Cursor<'_>, directive: &str) -> Result<(), Stop> {
         if self.given.note(directive) {
-            return Err(Stop::Fault(Problem::DirectiveTwice));
+            return Err(Stop::Fault(LineProblem::DirectiveTwice));
         }
         match directive {
             ".caps" => self.caps = Some(read_caps(cursor)?),
@@ -120,7 +120,7 @@ impl Head {
             ".fragments" => self.fragments = cursor.number()? as usize,
             ".source" => self.source = Some(read_text(cursor)?),
             ".positions" => self.positions = Some(cursor.number_up_to(MAX_POSITIONS)? as usize),
-            _ => return Err(Stop::Fault(Problem::Directive)),
+            _ => return Err(Stop::Fault(LineProblem::Directive)),
         }
         Ok(())
     }
@@ -154,7 +154,7 @@ impl Draft {
         ensures code { self.new.code ≡ self.old.code }
     {
         match self.head.positions {
-            Some(len) if at >= len => Err(Stop::Fault(Problem::NoPosition)),
+            Some(len) if at >= len => Err(Stop::Fault(LineProblem::NoPosition)),
             _ => {
                 self.places.push((at, position))?;
                 Ok(())
@@ -192,7 +192,7 @@ impl Draft {
         let position = cursor.position_or_none()?;
         let placed = match self.head.positions {
             Some(_) => self.place(at, position),
-            None => Err(Stop::Fault(Problem::NoPosition)),
+            None => Err(Stop::Fault(LineProblem::NoPosition)),
         };
         if placed.is_err() {
             cursor.left = start;
@@ -234,7 +234,7 @@ impl Draft {
         ensures { self.new.code ≡ self.old.code }
     {
         let read = self.head.read(cursor, directive);
-        if let Err(Stop::Fault(Problem::Directive | Problem::DirectiveTwice)) = read {
+        if let Err(Stop::Fault(LineProblem::Directive | LineProblem::DirectiveTwice)) = read {
             cursor.left = start;
         }
         read
@@ -260,7 +260,7 @@ impl Draft {
         }
         if directive == ".positions" && !self.places.is_empty() {
             cursor.left = start;
-            return Err(Stop::Fault(Problem::LatePositions));
+            return Err(Stop::Fault(LineProblem::LatePositions));
         }
         Ok(false)
     }

@@ -8,7 +8,7 @@ use thiserror::Error;
 
 /// What is wrong with a line, at the first place where something is.
 #[derive(Clone, Copy, Debug, PartialEq, Eq, Error)]
-pub enum Problem {
+pub enum LineProblem {
     /// A directive isn't one of docs/ASSEMBLY.md.
     #[error("no such directive")]
     Directive,
@@ -107,7 +107,7 @@ pub enum Stop {
     /// The allocator refused.
     OutOfMemory,
     /// The text at the cursor is wrong.
-    Fault(Problem),
+    Fault(LineProblem),
 }
 
 impl From<AllocError> for Stop {
@@ -148,7 +148,7 @@ pub struct SyntaxError {
     /// The line itself.
     pub text: String,
     /// What is wrong.
-    pub problem: Problem,
+    pub problem: LineProblem,
 }
 
 /// Why lines that are all well make no program.

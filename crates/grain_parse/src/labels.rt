@@ -4,9 +4,9 @@ ghost use Rattle.grain_parse.specs.Addresses.{ReadsAddress};
 ghost use Rattle.grain_parse.specs.Widths.{operand_width};
 
 use crate::cursor::Cursor;
-use crate::error::{Flaw, Problem, Stop};
+use crate::error::{Flaw, LineProblem, Stop};
 use crate::sections::{Section, read_directive, section_named};
-use grain_print::{Form, Operand, form_named};
+use grain_print::{Operand, TextForm, form_named};
 use std::alloc::{AllocError, Global};
 use std::collections::HashMap;
 
@@ -36,7 +36,7 @@ fn operand_width(operand: Operand) -> u32
 }
 
 /// How many bytes an instruction has: its tag, and its operands.
-fn width_of(form: &Form) -> u32
+fn width_of(form: &TextForm) -> u32
     ensures { result ≡ min (1 + sum_by operand_width form.now.operands.now) u32.MAX }
 {
     let mut width = 1u32;
@@ -67,7 +67,7 @@ fn label_of<'a>(cursor: &mut Cursor<'a>, start: &'a [u8], word: &'a str) -> Resu
     match start {
         [b'0'..=b'9', ..] => {
             cursor.left = start;
-            Err(Stop::Fault(Problem::LabelNumber))
+            Err(Stop::Fault(LineProblem::LabelNumber))
         }
         _ => Ok(Item::Label(word)),
     }
@@ -87,7 +87,7 @@ fn read_item<'a>(cursor: &mut Cursor<'a>) -> Result<Item<'a>, Stop> {
         Some((_, form)) => Ok(Item::Bytes(width_of(form))),
         None => {
             cursor.left = start;
-            Err(Stop::Fault(Problem::Mnemonic))
+            Err(Stop::Fault(LineProblem::Mnemonic))
         }
     }
 }
@@ -102,7 +102,7 @@ impl Labels {
                     *address = next;
                     Ok(())
                 }
-                None => Err(Stop::Fault(Problem::TooWide)),
+                None => Err(Stop::Fault(LineProblem::TooWide)),
             },
             Item::Label(label) => {
                 let label = String::from_str(cursor.alloc, label)?;
@@ -110,7 +110,7 @@ impl Labels {
                     Ok(())
                 } else {
                     cursor.left = start;
-                    Err(Stop::Fault(Problem::LabelTwice))
+                    Err(Stop::Fault(LineProblem::LabelTwice))
                 }
             }
         }
@@ -175,7 +175,7 @@ impl Labels {
             Some(address) => Ok(*address),
             None => {
                 cursor.left = start;
-                Err(Stop::Fault(Problem::UnknownLabel))
+                Err(Stop::Fault(LineProblem::UnknownLabel))
             }
         }
     }

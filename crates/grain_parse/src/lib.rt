@@ -17,6 +17,6 @@ mod switches;
 mod values;
 
 pub use draft::MAX_POSITIONS;
-pub use error::{ParseError, Problem, SyntaxError};
+pub use error::{LineProblem, ParseError, SyntaxError};
 pub use parsing::{parse, parse_accepted};
 pub use values::MAX_DEPTH;

@@ -5,7 +5,7 @@ ghost use Rattle.grain_parse.specs.Blanks.{unblanked};
 ghost use Rattle.grain_parse.specs.Literals.{IsEscape, IsLiteral, IsOfDigits, IsUnit, ReadsName, ReadsQuoted, WritesByte};
 
 use crate::cursor::Cursor;
-use crate::error::{Problem, Stop};
+use crate::error::{LineProblem, Stop};
 
 /// The byte that two hexadecimal digits are, where it is ASCII.
 fn escaped_byte(high: u8, low: u8) -> Option<u8>
@@ -55,7 +55,7 @@ fn read_escape(cursor: &mut Cursor<'_>) -> Result<u8, Stop>
             cursor.left = rest;
             Ok(byte)
         }
-        None => Err(Stop::Fault(Problem::Escape)),
+        None => Err(Stop::Fault(LineProblem::Escape)),
     }
 }
 
@@ -75,7 +75,7 @@ fn read_unit(cursor: &mut Cursor<'_>, quote: u8) -> Result<Option<u8>, Stop>
             cursor.left = rest;
             Ok(if *byte == quote { None } else { Some(*byte) })
         }
-        [] => Err(Stop::Fault(Problem::NoEnd)),
+        [] => Err(Stop::Fault(LineProblem::NoEnd)),
     }
 }
 
@@ -91,7 +91,7 @@ fn read_bytes(cursor: &mut Cursor<'_>, quote: u8) -> Result<Vec<u8>, Stop>
         };
         bytes.push(byte)?;
     }
-    Err(Stop::Fault(Problem::NoEnd))
+    Err(Stop::Fault(LineProblem::NoEnd))
 }
 
 /// Reads a literal between two quotes.
@@ -103,7 +103,7 @@ fn read_quoted(cursor: &mut Cursor<'_>, quote: u8) -> Result<String, Stop>
     let bytes = read_bytes(cursor, quote)?;
     match String::from_utf8(bytes) {
         Ok(text) => Ok(text),
-        Err(_) => Err(Stop::Fault(Problem::NotText)),
+        Err(_) => Err(Stop::Fault(LineProblem::NotText)),
     }
 }
 
@@ -135,7 +135,7 @@ pub(crate) fn read_char(cursor: &mut Cursor<'_>) -> Result<char, Stop>
     let text = read_quoted(cursor, b'\'')?;
     match only_char(&text) {
         Some(c) => Ok(c),
-        None => Err(Stop::Fault(Problem::NotCharacter)),
+        None => Err(Stop::Fault(LineProblem::NotCharacter)),
     }
 }
 

@@ -6,7 +6,7 @@ ghost use Rattle.grain_base.specs.Tokens.{token_parts};
 ghost use Rattle.grain_parse.specs.Operators.{IsAssignmentOf, ReadsOperator, plain_spellings};
 
 use crate::cursor::Cursor;
-use crate::error::{Problem, Stop};
+use crate::error::{LineProblem, Stop};
 use crate::literals::{is_text, read_text};
 use grain_base::Token;
 use grain_print::token_spelled;
@@ -31,7 +31,7 @@ pub(crate) fn read_token(cursor: &mut Cursor<'_>) -> Result<Token, Stop>
         Some(token) => Ok(token),
         None => {
             cursor.left = start;
-            Err(Stop::Fault(Problem::NotOperator))
+            Err(Stop::Fault(LineProblem::NotOperator))
         }
     }
 }

@@ -1,8 +1,7 @@
 //! From a text to a program.
-ghost use Rattle.std.specs.Prelude.{◌≡◌, ◌<◌, ◌≤◌, ℕ, List, IfErr, IfOk, Ok, Some, length, slice_get};
+ghost use Rattle.std.specs.Prelude.{◌≡◌, ◌<◌, ◌≤◌, ℕ, List, IfErr, IfOk, Some, length, slice_get};
 ghost use Rattle.std.specs.Str.Lines.{lines};
-ghost use Rattle.grain.specs.Program.{input_of};
-ghost use Rattle.grain_rules.specs.Verdict.{IsVerdict};
+ghost use Rattle.grain.specs.Verified.{IsVerified};
 ghost use Rattle.grain_parse.specs.Placed.{IsPlacedError};
 ghost use Rattle.grain_pools.specs.Names.{texts};
 
@@ -11,7 +10,8 @@ use crate::draft::Draft;
 use crate::error::{Flaw, ParseError, Stop, SyntaxError, Unfinished};
 use crate::labels::Labels;
 use crate::sections::Pass;
-use grain::Program;
+use grain::{Program, Verified};
+use grain_rules::VerifyError;
 use std::alloc::{AllocError, Global};
 
 /// The lines of a text, without what ends them.
@@ -141,18 +141,19 @@ pub fn parse(alloc: Global, text: &str) -> Result<Program, ParseError>
     }
 }
 
-/// The program of an assembly text, verified, with the greatest operand count that any run of each chunk reaches.
+/// The program of an assembly text, verified.
 ///
 /// # Errors
-/// As [`parse`], and `Refused` where the program isn't accepted.
-pub fn parse_accepted(alloc: Global, text: &str) -> Result<(Program, Vec<u16>), ParseError>
-    ensures accepted { IfOk result (λ found. IsVerdict (input_of found.0) (Ok found.1)) }
+/// As [`parse`], and `Refused` if the program isn't accepted.
+pub fn parse_accepted(alloc: Global, text: &str) -> Result<Verified, ParseError>
+    ensures verified { IfOk result IsVerified }
     ensures placed { IfErr result (IsPlacedError (lines text.now)) }
 {
-    let program = parse(alloc, text)?;
-    match program.verify() {
-        Ok(numbers) => Ok((program, numbers)),
-        Err(grain::VerifyError::OutOfMemory) => Err(ParseError::OutOfMemory),
-        Err(refusal) => Err(ParseError::Refused(refusal)),
+    match parse(alloc, text)?.into_verified() {
+        Ok(verified) => Ok(verified),
+        Err(rejected) => match rejected.refusal.error {
+            VerifyError::OutOfMemory => Err(ParseError::OutOfMemory),
+            error => Err(ParseError::Refused(error)),
+        },
     }
 }

@@ -8,7 +8,7 @@ ghost use Rattle.grain_parse.specs.Entries.{AreSameAssignOps, Enters, HasEntryAt
 ghost use Rattle.grain_parse.specs.Operators.{IsAssignmentOf};
 
 use crate::cursor::Cursor;
-use crate::error::{Problem, Stop};
+use crate::error::{LineProblem, Stop};
 use crate::literals::read_text_or_word;
 use crate::operators::{is_same, plain_spelling, read_token};
 use crate::values::{MAX_DEPTH, read_value};
@@ -35,7 +35,7 @@ fn last(count: usize) -> Result<u32, Stop>
 {
     match count.checked_sub(1) {
         Some(last) => index_of(last),
-        None => Err(Stop::Fault(Problem::TooWide)),
+        None => Err(Stop::Fault(LineProblem::TooWide)),
     }
 }
 
@@ -45,7 +45,7 @@ fn index_of(place: usize) -> Result<u32, Stop>
 {
     match u32::try_from(place) {
         Ok(index) => Ok(index),
-        Err(_) => Err(Stop::Fault(Problem::TooWide)),
+        Err(_) => Err(Stop::Fault(LineProblem::TooWide)),
     }
 }
 
@@ -229,7 +229,7 @@ impl Pools {
             Some(assign_op) => self.assign_op_index(assign_op),
             None => {
                 cursor.left = start;
-                Err(Stop::Fault(Problem::NotAssignOp))
+                Err(Stop::Fault(LineProblem::NotAssignOp))
             }
         }
     }

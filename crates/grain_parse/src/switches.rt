@@ -1,7 +1,7 @@
 //! Switches.
 
 use crate::cursor::Cursor;
-use crate::error::{Problem, Stop};
+use crate::error::{LineProblem, Stop};
 use crate::labels::Labels;
 use crate::pools::Pools;
 use crate::values::{MAX_DEPTH, read_value};
@@ -61,10 +61,10 @@ fn read_case(pools: &mut Pools, labels: &Labels, cursor: &mut Cursor<'_>) -> Res
                 Ok(())
             } else {
                 cursor.left = start;
-                Err(Stop::Fault(Problem::SameCase))
+                Err(Stop::Fault(LineProblem::SameCase))
             }
         }
-        None => Err(Stop::Fault(Problem::NoSwitch)),
+        None => Err(Stop::Fault(LineProblem::NoSwitch)),
     }
 }
 
@@ -90,7 +90,7 @@ fn read_range(pools: &mut Pools, labels: &Labels, cursor: &mut Cursor<'_>) -> Re
         Dynamic::RangeInclusive(from, to) => (from, to, true),
         _ => {
             cursor.left = start;
-            return Err(Stop::Fault(Problem::NotValue));
+            return Err(Stop::Fault(LineProblem::NotValue));
         }
     };
     let target = read_target(labels, cursor)?;
@@ -104,7 +104,7 @@ fn read_range(pools: &mut Pools, labels: &Labels, cursor: &mut Cursor<'_>) -> Re
             })?;
             Ok(())
         }
-        None => Err(Stop::Fault(Problem::NoSwitch)),
+        None => Err(Stop::Fault(LineProblem::NoSwitch)),
     }
 }
 
@@ -130,7 +130,7 @@ pub(crate) fn read_switch_line(
         "range" => read_range(pools, labels, cursor),
         _ => {
             cursor.left = start;
-            Err(Stop::Fault(Problem::Word))
+            Err(Stop::Fault(LineProblem::Word))
         }
     }
 }

@@ -1,7 +1,7 @@
 //! Values.
 
 use crate::cursor::Cursor;
-use crate::error::{Problem, Stop};
+use crate::error::{LineProblem, Stop};
 use crate::literals::{read_char, read_text, read_text_or_word};
 use grain_base::{Dynamic, FnPtr, HostValue};
 use std::alloc::{AllocError, Global};
@@ -41,7 +41,7 @@ fn read_blob(cursor: &mut Cursor<'_>) -> Result<Dynamic, Stop> {
         Err(hex::FromHexError::OutOfMemory) => Err(Stop::OutOfMemory),
         Err(_) => {
             cursor.left = start;
-            Err(Stop::Fault(Problem::NotHex))
+            Err(Stop::Fault(LineProblem::NotHex))
         }
     }
 }
@@ -83,7 +83,7 @@ fn shared(alloc: Global, value: Dynamic) -> Result<Dynamic, AllocError> {
 pub(crate) fn read_value(cursor: &mut Cursor<'_>, depth: u32) -> Result<Dynamic, Stop> {
     cursor.blanks();
     let Some(depth) = depth.checked_sub(1) else {
-        return Err(Stop::Fault(Problem::TooDeep));
+        return Err(Stop::Fault(LineProblem::TooDeep));
     };
     match cursor.left {
         [b'(', ..] => read_unit(cursor),
@@ -115,7 +115,7 @@ fn read_named(cursor: &mut Cursor<'_>, depth: u32) -> Result<Dynamic, Stop> {
         "shared" => read_shared(cursor, depth),
         _ => {
             cursor.left = start;
-            Err(Stop::Fault(Problem::NotValue))
+            Err(Stop::Fault(LineProblem::NotValue))
         }
     }
 }
@@ -158,7 +158,7 @@ fn read_items(cursor: &mut Cursor<'_>, end: u8, depth: u32) -> Result<Vec<Dynami
         }
         cursor.expect(b',')?;
     }
-    Err(Stop::Fault(Problem::NoEnd))
+    Err(Stop::Fault(LineProblem::NoEnd))
 }
 
 /// Reads keys with their values up to the brace that ends them.
@@ -175,12 +175,12 @@ fn read_entries(cursor: &mut Cursor<'_>, depth: u32) -> Result<BTreeMap<String, 
         let value = read_value(cursor, depth)?;
         if !put(&mut entries, key, value)? {
             cursor.left = start;
-            return Err(Stop::Fault(Problem::SameKey));
+            return Err(Stop::Fault(LineProblem::SameKey));
         }
         if cursor.eat(b'}') {
             return Ok(entries);
         }
         cursor.expect(b',')?;
     }
-    Err(Stop::Fault(Problem::NoEnd))
+    Err(Stop::Fault(LineProblem::NoEnd))
 }

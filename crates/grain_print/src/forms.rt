@@ -29,7 +29,7 @@ pub enum Operand {
 
 /// How an instruction is written.
 #[derive(Clone, Copy, Debug)]
-pub struct Form {
+pub struct TextForm {
     /// What it is called: its constant of the instruction table in lower case. It is empty of a byte that begins no
     /// instruction.
     pub mnemonic: &'static str,
@@ -37,14 +37,14 @@ pub struct Form {
     pub operands: &'static [Operand],
 }
 
-const NONE: Form = Form {
+const NONE: TextForm = TextForm {
     mnemonic: "",
     operands: &[],
 };
 
 macro_rules! form {
     ($mnemonic:literal $($operand:ident)*) => {
-        Form {
+        TextForm {
             mnemonic: $mnemonic,
             operands: &[$(Operand::$operand,)*],
         }
@@ -52,7 +52,7 @@ macro_rules! form {
 }
 
 /// The form of each tag, by the tag.
-static FORMS: [Form; 80] = [
+static FORMS: [TextForm; 80] = [
     NONE,
     form!("load_const" Constant),
     form!("unit"),
@@ -137,7 +137,7 @@ static FORMS: [Form; 80] = [
 
 /// The form of the instructions that begin with a tag. It takes constant time.
 #[must_use]
-pub fn form_of(tag: u8) -> Option<&'static Form> {
+pub fn form_of(tag: u8) -> Option<&'static TextForm> {
     match FORMS.get(tag as usize) {
         Some(form) if !form.mnemonic.is_empty() => Some(form),
         _ => None,
@@ -146,7 +146,7 @@ pub fn form_of(tag: u8) -> Option<&'static Form> {
 
 /// The tag of the instruction of this name, and its form.
 #[must_use]
-pub fn form_named(mnemonic: &str) -> Option<(u8, &'static Form)> {
+pub fn form_named(mnemonic: &str) -> Option<(u8, &'static TextForm)> {
     let mut tag = 0u8;
     for form in &FORMS {
         if !mnemonic.is_empty() && form.mnemonic == mnemonic {

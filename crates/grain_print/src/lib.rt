@@ -13,7 +13,7 @@ mod switches;
 mod values;
 
 pub use chains::write_chain;
-pub use forms::{Form, Operand, form_named, form_of};
+pub use forms::{Operand, TextForm, form_named, form_of};
 pub use marks::Marks;
 pub use operators::{spelling, token_spelled, write_assign_op, write_token};
 pub use program::{Printer, print, write_capabilities, write_chunk, write_function};

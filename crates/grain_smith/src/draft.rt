@@ -5,7 +5,7 @@ use crate::closing::MOST_CLOSINGS;
 use crate::error::SmithError;
 use crate::frames::DEPTH;
 use crate::lists::position;
-use crate::options::Options;
+use crate::options::SmithOptions;
 use crate::supply::Supply;
 use crate::switches::switches;
 use crate::values::constant;
@@ -176,7 +176,7 @@ fn constants(alloc: Global, seeds: &[u64]) -> Result<Vec<Dynamic>, AllocError> {
 }
 
 /// The program of a seed, as operations.
-pub fn drafted(alloc: Global, seed: u64, options: &Options) -> Result<Draft, SmithError> {
+pub fn drafted(alloc: Global, seed: u64, options: &SmithOptions) -> Result<Draft, SmithError> {
     let mut chance = Chance::new(seed);
     let supply = Supply::new(alloc, &mut chance)?;
     let mut writer = Writer::new(alloc, chance, supply);

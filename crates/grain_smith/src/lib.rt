@@ -26,5 +26,5 @@ mod writer;
 
 pub use error::SmithError;
 pub use near::smith_near;
-pub use options::Options;
+pub use options::SmithOptions;
 pub use smithing::smith;

@@ -3,7 +3,7 @@
 use crate::chance::Chance;
 use crate::draft::{Draft, drafted};
 use crate::error::SmithError;
-use crate::options::Options;
+use crate::options::SmithOptions;
 use crate::smithing::smith;
 use crate::steps::Pieces;
 use grain::{Function, Parts, Program, assemble, resolve_switch_targets};
@@ -31,7 +31,7 @@ fn functions(alloc: Global, program: &Program) -> Result<Vec<Function>, AllocErr
 }
 
 /// What the program of a seed has except for its code and chunks. It is made a second time, since it isn't copied.
-fn parts(alloc: Global, seed: u64, options: &Options) -> Result<Parts, SmithError> {
+fn parts(alloc: Global, seed: u64, options: &SmithOptions) -> Result<Parts, SmithError> {
     let Draft {
         ops,
         mut parts,
@@ -47,7 +47,7 @@ fn parts(alloc: Global, seed: u64, options: &Options) -> Result<Parts, SmithErro
 fn changed(
     alloc: Global,
     seed: u64,
-    options: &Options,
+    options: &SmithOptions,
     program: &Program,
     chance: &mut Chance,
 ) -> Result<Program, SmithError> {
@@ -68,15 +68,16 @@ fn changed(
 ///
 /// # Errors
 /// As [`smith`].
-pub fn smith_near(alloc: Global, seed: u64, options: &Options) -> Result<Program, SmithError> {
-    let program = smith(alloc, seed, options)?;
+pub fn smith_near(alloc: Global, seed: u64, options: &SmithOptions) -> Result<Program, SmithError> {
+    let smithed = smith(alloc, seed, options)?;
+    let program = smithed.program();
     let mut chance = Chance::new(seed ^ SALT);
-    let mut near = changed(alloc, seed, options, &program, &mut chance)?;
+    let mut near = changed(alloc, seed, options, program, &mut chance)?;
     for _turn in 1..TRIES {
         if near.verify().is_err() {
             break;
         }
-        near = changed(alloc, seed, options, &program, &mut chance)?;
+        near = changed(alloc, seed, options, program, &mut chance)?;
     }
     Ok(near)
 }

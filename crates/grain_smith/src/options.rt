@@ -2,13 +2,13 @@
 
 /// What kind of program is made.
 #[derive(Clone, Copy, Debug)]
-pub struct Options {
+pub struct SmithOptions {
     /// About how many operations it has.
     pub size: usize,
 }
 
-impl Default for Options {
-    fn default() -> Options {
-        Options { size: 60 }
+impl Default for SmithOptions {
+    fn default() -> SmithOptions {
+        SmithOptions { size: 60 }
     }
 }

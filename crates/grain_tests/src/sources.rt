@@ -1,23 +1,17 @@
 //! Texts that make programs, as the command doesn't have it: bench/tool.py and bench/scripts have the rest.
 
 use crate::samples::{assert_same, made};
-use grain_parse::{ParseError, parse_accepted};
+use grain_parse::parse_accepted;
 use rhai_compile::{Options, compile};
 use std::alloc::Global;
 
-/// The numbers of the assembly text's program, where it is accepted.
-fn numbers(alloc: Global, text: &str) -> Result<Vec<u16>, ParseError> {
-    let (_program, numbers) = parse_accepted(alloc, text)?;
-    Ok(numbers)
-}
-
 #[test]
-fn accepted_texts_have_numbers(rt: HostRuntime) {
-    let numbers = made(
+fn accepted_texts_have_depths(rt: HostRuntime) {
+    let verified = made(
         &rt,
-        numbers(rt.alloc(), "  unit\n  unit\n  pop\n  return\n"),
+        parse_accepted(rt.alloc(), "  unit\n  unit\n  pop\n  return\n"),
     );
-    assert_same(&rt, numbers.as_slice(), [2].as_slice());
+    assert_same(&rt, verified.depths(), [2].as_slice());
 }
 
 /// Whether a script of a variable that it doesn't declare is compiled.

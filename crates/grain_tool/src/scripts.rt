@@ -1,9 +1,10 @@
 //! Scripts and program files alike.
 
-use grain::Program;
+use grain::{Program, Verified};
 use grain_cli::excerpt::push_report;
 use grain_cli::failure::Failure;
 use grain_cli::files::{program_of, read_bytes, shown};
+use grain_cli::loading::{Allowed, admit, verified_of};
 use md5::{Digest, Md5};
 use rhai_compile::{CompileError, Options, Problem, compile, flaws};
 use std::alloc::{AllocError, Global};
@@ -14,24 +15,43 @@ const LONGEST_REPORTS: usize = 65_536;
 /// How a program file begins.
 const MAGIC: &[u8; 4] = b"\0grn";
 
+fn is_program_file(bytes: &[u8]) -> bool {
+    bytes.starts_with(MAGIC.as_slice())
+}
+
 /// The program of a file: of a script, compiled, or of a program file, read. Nothing says that the latter is accepted.
 ///
 /// # Errors
 /// The file can't be read, or is neither.
 pub fn program_in(rt: &HostRuntime, path: &str) -> Result<Program, Failure> {
     let bytes = read_bytes(rt, path)?;
-    if bytes.as_slice().starts_with(MAGIC.as_slice()) {
+    if is_program_file(&bytes) {
         program_of(rt.alloc(), path, &bytes)
     } else {
-        compiled(rt.alloc(), path, bytes)
+        Ok(compiled(rt.alloc(), path, bytes)?.into_program())
     }
+}
+
+/// The program of a file as [`program_in`], verified once, if a host takes it.
+///
+/// # Errors
+/// As [`program_in`] and [`verified_of`].
+pub fn verified_in(rt: &HostRuntime, path: &str, allowed: Allowed) -> Result<Verified, Failure> {
+    let bytes = read_bytes(rt, path)?;
+    if is_program_file(&bytes) {
+        let program = program_of(rt.alloc(), path, &bytes)?;
+        return verified_of(rt.alloc(), path, allowed, program);
+    }
+    let verified = compiled(rt.alloc(), path, bytes)?;
+    admit(rt.alloc(), path, allowed, verified.program())?;
+    Ok(verified)
 }
 
 /// The program of a script.
 ///
 /// # Errors
 /// The bytes are no text, or it can't be compiled.
-pub fn compiled(alloc: Global, path: &str, bytes: Vec<u8>) -> Result<Program, Failure> {
+pub fn compiled(alloc: Global, path: &str, bytes: Vec<u8>) -> Result<Verified, Failure> {
     let Ok(source) = String::from_utf8(bytes) else {
         return Err(Failure::of(alloc, shown(path), "the text is not UTF-8"));
     };
@@ -40,7 +60,7 @@ pub fn compiled(alloc: Global, path: &str, bytes: Vec<u8>) -> Result<Program, Fa
         debug_id: u128::from_le_bytes(digest_of(source.as_bytes())),
     };
     match compile(alloc, source.as_str(), &options) {
-        Ok((program, _)) => Ok(program),
+        Ok(verified) => Ok(verified),
         Err(error) => Err(refused(alloc, path, source.as_str(), error)),
     }
 }

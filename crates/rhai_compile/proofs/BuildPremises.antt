@@ -12,7 +12,7 @@ use Rattle.grain_code.specs.Span.{Span}
 use Rattle.grain_code.specs.declared.op.Op.{Op}
 use Rattle.grain_pools.specs.Chain.{consumed}
 use Rattle.grain_pools.specs.declared.chain.Chain.{Chain}
-use Rattle.grain_rules.specs.Accepted.{ConstantPasses}
+use Rattle.grain_rules.specs.Accepted.{ConstantPasses, IsAccepted}
 use Rattle.grain_rules.specs.ByIndex.{IsCut, LeadWithin, code_by_index}
 use Rattle.grain_rules.specs.Capabilities.{Allows}
 use Rattle.grain_rules.specs.Code.{switch_targets}
@@ -27,6 +27,9 @@ use Rattle.grain.specs.declared.builder.Head.{Head}
 use Rattle.grain.specs.declared.program.Parts.{Parts}
 use Rattle.grain_builder.specs.Finished.{AreTypedCuts, LeadAmong}
 use Rattle.rhai_compile.specs.Capabilities.{every_capability}
+use Rattle.rhai_compile.specs.Laid.{IsLaidOut}
+use Rattle.grain.specs.Program.{Program, input_of}
+use Rattle.grain.proofs.BuildAcceptance.{accepted_there, indexed_here}
 use Rattle.rhai_compile.proofs.AllAllowed.{all_allowed}
 
 takes_at : (chains : List Chain) (h : ℕ) (c : Chain) → slice_get chains h ≡ Some c → get_or (map (λ (f : ChainFacts). f.takes) (map chain_facts chains)) h 0 ≡ consumed c
@@ -76,3 +79,18 @@ can_build caps ops cuts heads parts chunks tables m all typed are within taken c
           let whole : All has chunks = λ k d l. typed s leads k (get_or chunks k d) (takes_at parts.chains.items) allowed among (slice_get-get_or chunks k d l) in
           subst (All has) (sym taken) (All-take has m chunks whole);
     }
+
+-- a program that is laid of them is accepted, if each index of its code leads into its pool
+pub laid_accepted : (ops : List Op) (cuts : List Cut) (heads : List Head) (parts : Parts) (p : Program) → IsLaidOut ops cuts heads parts p
+    → (chunks : List Span) (tables : List (List ℕ)) (m : ℕ)
+    → AreTypedCuts ops parts.chains.items tables chunks
+    → All (IsCut (length ops)) chunks
+    → LeadWithin (length ops) tables
+    → map span_of cuts ≡ take m chunks
+    → LeadAmong (map switch_targets parts.switches.items) tables
+    → All (ConstantPasses every_capability) parts.consts.items
+    → IsAccepted (input_of p)
+laid_accepted ops cuts heads parts p h chunks tables m typed are within taken among constants =
+    let d = draft h.caps ops cuts heads parts in
+    accepted_there d p h.lays h.laid
+    (can_build h.caps ops cuts heads parts chunks tables m h.every typed are within taken h.lays.ops among constants (indexed_here d p h.lays h.laid h.indexed))

@@ -6,7 +6,7 @@ use Rattle.std.proofs.lemmas.Bool.{cases_lt}
 use Rattle.std.proofs.Math.ListN.{get_or-map}
 use Rattle.std.proofs.lemmas.List.{get_or-append_right, get_or_append_left, get_or_default, get_or_past, length-map, map-append}
 use Rattle.grain_builder.specs.Assembled.{targets_of}
-use Rattle.grain_builder.specs.declared.assembler.Targets.{Targets}
+use Rattle.grain_builder.specs.declared.assembler.TableTargets.{TableTargets}
 use Rattle.std.proofs.lemmas.List.Elements.{All-contains, All-map, Contains-append_cases, Contains-push_cases}
 use Rattle.std.proofs.lemmas.Option.{get_or_from_slice_get, slice_get_within}
 use Rattle.grain_pools.specs.Dispatch.{Case, arm_targets}
@@ -42,7 +42,7 @@ lead_push ss s tables among new w l has =
     ]
 
 -- the targets at the place of a table
-pub targets_at : (ts : List Targets) (i : ℕ) (t : Targets) → i < length ts → t ≡ get_or ts i t → get_or (map targets_of ts) i [] ≡ targets_of t
+pub targets_at : (ts : List TableTargets) (i : ℕ) (t : TableTargets) → i < length ts → t ≡ get_or ts i t → get_or (map targets_of ts) i [] ≡ targets_of t
 targets_at ts i t within is =
     get_or_default (map targets_of ts) i [] (targets_of t) (subst (λ (n : ℕ). i < n) (sym (length-map ts targets_of)) within)
     ∙ (get_or-map targets_of ts i t ∙ ap targets_of (sym is))

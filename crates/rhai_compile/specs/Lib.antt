@@ -1,3 +1,5 @@
 pub mod Capabilities
 pub mod Chunks
+pub mod Laid
 pub mod Positions
+pub mod Writes

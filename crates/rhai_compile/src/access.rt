@@ -2,6 +2,7 @@
 ghost use Rattle.std.specs.Prelude.{◌≡◌, true, ◌+◌, ◌-◌, ◌<◌, ◌≤◌, IfOk, OnOk, cond, length, nat_lt};
 ghost use Rattle.grain_pools.specs.Chain.{consumed, roots_on_stack};
 ghost use Rattle.rhai_emit.specs.Loops.{count};
+ghost use Rattle.rhai_compile.specs.Writes.{Writes};
 ghost use Rattle.rhai_emit.specs.Rules.{IsWritten, Stands, AddsPlaces};
 ghost use Rattle.rhai_emit.specs.Places.{both, pass, here, list_places, expr_places, step_places, steps_places};
 
@@ -22,11 +23,7 @@ impl<F: Fn(&mut Emitter, &Expr, usize, bool) -> Result<(), CompileError>> Coder<
         root: &Expr,
         steps: &[Access],
     ) -> Result<(), CompileError>
-        requires may { (m : _) (e : _) (w : _) → Stands m.now → F.pre self.now.writes m e self.now.depth w }
-        requires does { (m : _) (e : _) (w : _) (r : _) (n : _) → F.post self.now.writes m e self.now.depth w r n
-            → OnOk r (IsWritten m.now n.now (m.now.code.operands + count w)) }
-        requires adds { (m : _) (e : _) (w : _) (r : _) (n : _) → F.post self.now.writes m e self.now.depth w r n
-            → OnOk r (AddsPlaces m.now n.now (expr_places e.now)) }
+        requires rules { Writes (F.pre self.now.writes) (F.post self.now.writes) self.now.depth }
         requires stands { Stands emitter.old }
         ensures written { OnOk result (IsWritten emitter.old emitter.new (emitter.old.code.operands + 1)) }
         ensures placed { OnOk result (AddsPlaces emitter.old emitter.new
@@ -50,11 +47,7 @@ impl<F: Fn(&mut Emitter, &Expr, usize, bool) -> Result<(), CompileError>> Coder<
         steps: &[Access],
         at: (usize, usize),
     ) -> Result<usize, CompileError>
-        requires may { (m : _) (e : _) (w : _) → Stands m.now → F.pre self.now.writes m e self.now.depth w }
-        requires does { (m : _) (e : _) (w : _) (r : _) (n : _) → F.post self.now.writes m e self.now.depth w r n
-            → OnOk r (IsWritten m.now n.now (m.now.code.operands + count w)) }
-        requires adds { (m : _) (e : _) (w : _) (r : _) (n : _) → F.post self.now.writes m e self.now.depth w r n
-            → OnOk r (AddsPlaces m.now n.now (expr_places e.now)) }
+        requires rules { Writes (F.pre self.now.writes) (F.post self.now.writes) self.now.depth }
         requires stands { Stands emitter.old }
         requires room { emitter.old.code.level.floor + count (nat_lt 0 at.0) ≤ emitter.old.code.operands }
         requires within { at.1 < length steps.now }
@@ -92,11 +85,7 @@ impl<F: Fn(&mut Emitter, &Expr, usize, bool) -> Result<(), CompileError>> Coder<
         method: (Place, u32),
         arguments: &[Expr],
     ) -> Result<(), CompileError>
-        requires may { (m : _) (e : _) (w : _) → Stands m.now → F.pre self.now.writes m e self.now.depth w }
-        requires does { (m : _) (e : _) (w : _) (r : _) (n : _) → F.post self.now.writes m e self.now.depth w r n
-            → OnOk r (IsWritten m.now n.now (m.now.code.operands + count w)) }
-        requires adds { (m : _) (e : _) (w : _) (r : _) (n : _) → F.post self.now.writes m e self.now.depth w r n
-            → OnOk r (AddsPlaces m.now n.now (expr_places e.now)) }
+        requires rules { Writes (F.pre self.now.writes) (F.post self.now.writes) self.now.depth }
         requires stands { Stands emitter.old }
         requires room { emitter.old.code.level.floor + count before.1 ≤ emitter.old.code.operands }
         ensures written { OnOk result (IsWritten emitter.old emitter.new (emitter.old.code.operands - count before.entry.1 + 1)) }
@@ -137,11 +126,7 @@ impl<F: Fn(&mut Emitter, &Expr, usize, bool) -> Result<(), CompileError>> Coder<
         steps: &[Access],
         is_on_top: bool,
     ) -> Result<(), CompileError>
-        requires may { (m : _) (e : _) (w : _) → Stands m.now → F.pre self.now.writes m e self.now.depth w }
-        requires does { (m : _) (e : _) (w : _) (r : _) (n : _) → F.post self.now.writes m e self.now.depth w r n
-            → OnOk r (IsWritten m.now n.now (m.now.code.operands + count w)) }
-        requires adds { (m : _) (e : _) (w : _) (r : _) (n : _) → F.post self.now.writes m e self.now.depth w r n
-            → OnOk r (AddsPlaces m.now n.now (expr_places e.now)) }
+        requires rules { Writes (F.pre self.now.writes) (F.post self.now.writes) self.now.depth }
         requires stands { Stands emitter.old }
         requires room { emitter.old.code.level.floor + count is_on_top ≤ emitter.old.code.operands }
         ensures written { OnOk result (IsWritten emitter.old emitter.new (emitter.old.code.operands - count is_on_top + 1)) }
@@ -174,11 +159,7 @@ impl<F: Fn(&mut Emitter, &Expr, usize, bool) -> Result<(), CompileError>> Coder<
         operator: Option<Operator>,
         value: &Expr,
     ) -> Result<(), CompileError>
-        requires may { (m : _) (e : _) (w : _) → Stands m.now → F.pre self.now.writes m e self.now.depth w }
-        requires does { (m : _) (e : _) (w : _) (r : _) (n : _) → F.post self.now.writes m e self.now.depth w r n
-            → OnOk r (IsWritten m.now n.now (m.now.code.operands + count w)) }
-        requires adds { (m : _) (e : _) (w : _) (r : _) (n : _) → F.post self.now.writes m e self.now.depth w r n
-            → OnOk r (AddsPlaces m.now n.now (expr_places e.now)) }
+        requires rules { Writes (F.pre self.now.writes) (F.post self.now.writes) self.now.depth }
         requires stands { Stands emitter.old }
         ensures written { OnOk result (IsWritten emitter.old emitter.new (emitter.old.code.operands)) }
         ensures placed { OnOk result (AddsPlaces emitter.old emitter.new
@@ -211,11 +192,7 @@ impl<F: Fn(&mut Emitter, &Expr, usize, bool) -> Result<(), CompileError>> Coder<
         steps: &[Access],
         assigned: (Option<u32>, &Expr),
     ) -> Result<(), CompileError>
-        requires may { (m : _) (e : _) (w : _) → Stands m.now → F.pre self.now.writes m e self.now.depth w }
-        requires does { (m : _) (e : _) (w : _) (r : _) (n : _) → F.post self.now.writes m e self.now.depth w r n
-            → OnOk r (IsWritten m.now n.now (m.now.code.operands + count w)) }
-        requires adds { (m : _) (e : _) (w : _) (r : _) (n : _) → F.post self.now.writes m e self.now.depth w r n
-            → OnOk r (AddsPlaces m.now n.now (expr_places e.now)) }
+        requires rules { Writes (F.pre self.now.writes) (F.post self.now.writes) self.now.depth }
         requires stands { Stands emitter.old }
         ensures written { OnOk result (IsWritten emitter.old emitter.new (emitter.old.code.operands)) }
         ensures placed { OnOk result (AddsPlaces emitter.old emitter.new
@@ -239,11 +216,7 @@ impl<F: Fn(&mut Emitter, &Expr, usize, bool) -> Result<(), CompileError>> Coder<
 
     /// The steps of a chain, whose operands are given here.
     fn steps(&self, emitter: &mut Emitter, steps: &[Access]) -> Result<Vec<Step>, CompileError>
-        requires may { (m : _) (e : _) (w : _) → Stands m.now → F.pre self.now.writes m e self.now.depth w }
-        requires does { (m : _) (e : _) (w : _) (r : _) (n : _) → F.post self.now.writes m e self.now.depth w r n
-            → OnOk r (IsWritten m.now n.now (m.now.code.operands + count w)) }
-        requires adds { (m : _) (e : _) (w : _) (r : _) (n : _) → F.post self.now.writes m e self.now.depth w r n
-            → OnOk r (AddsPlaces m.now n.now (expr_places e.now)) }
+        requires rules { Writes (F.pre self.now.writes) (F.post self.now.writes) self.now.depth }
         requires stands { Stands emitter.old }
         ensures written { OnOk result (IsWritten emitter.old emitter.new emitter.new.code.operands) }
         ensures more { OnOk result (emitter.old.code.operands ≤ emitter.new.code.operands) }
@@ -260,11 +233,7 @@ impl<F: Fn(&mut Emitter, &Expr, usize, bool) -> Result<(), CompileError>> Coder<
 
     /// A step, whose first operand is at that place.
     fn step(&self, emitter: &mut Emitter, step: &Access, operand: u16) -> Result<Step, CompileError>
-        requires may { (m : _) (e : _) (w : _) → Stands m.now → F.pre self.now.writes m e self.now.depth w }
-        requires does { (m : _) (e : _) (w : _) (r : _) (n : _) → F.post self.now.writes m e self.now.depth w r n
-            → OnOk r (IsWritten m.now n.now (m.now.code.operands + count w)) }
-        requires adds { (m : _) (e : _) (w : _) (r : _) (n : _) → F.post self.now.writes m e self.now.depth w r n
-            → OnOk r (AddsPlaces m.now n.now (expr_places e.now)) }
+        requires rules { Writes (F.pre self.now.writes) (F.post self.now.writes) self.now.depth }
         requires stands { Stands emitter.old }
         ensures written { OnOk result (IsWritten emitter.old emitter.new emitter.new.code.operands) }
         ensures more { OnOk result (emitter.old.code.operands ≤ emitter.new.code.operands) }
@@ -302,11 +271,7 @@ impl<F: Fn(&mut Emitter, &Expr, usize, bool) -> Result<(), CompileError>> Coder<
     /// Where a chain begins, whose value is given here if it is no variable. Of a constant it is a copy, so that no method
     /// changes the constant.
     fn root(&self, emitter: &mut Emitter, root: &Expr) -> Result<Root, CompileError>
-        requires may { (m : _) (e : _) (w : _) → Stands m.now → F.pre self.now.writes m e self.now.depth w }
-        requires does { (m : _) (e : _) (w : _) (r : _) (n : _) → F.post self.now.writes m e self.now.depth w r n
-            → OnOk r (IsWritten m.now n.now (m.now.code.operands + count w)) }
-        requires adds { (m : _) (e : _) (w : _) (r : _) (n : _) → F.post self.now.writes m e self.now.depth w r n
-            → OnOk r (AddsPlaces m.now n.now (expr_places e.now)) }
+        requires rules { Writes (F.pre self.now.writes) (F.post self.now.writes) self.now.depth }
         requires stands { Stands emitter.old }
         ensures written { IfOk result (λ r. IsWritten emitter.old emitter.new (emitter.old.code.operands + cond (roots_on_stack r) 1 0)) }
         ensures placed { OnOk result (AddsPlaces emitter.old emitter.new (expr_places root.now)) }

@@ -2,8 +2,9 @@
 ghost use Rattle.std.specs.Prelude.{◌≡◌, ◌+◌, ◌-◌, ◌≤◌, OnOk, Some, slice_get};
 ghost use Rattle.grain_builder.specs.Unfinished.{spot};
 ghost use Rattle.rhai_emit.specs.Loops.{count};
+ghost use Rattle.rhai_compile.specs.Writes.{Writes};
 ghost use Rattle.rhai_emit.specs.Rules.{IsWritten, Stands, AddsPlaces};
-ghost use Rattle.rhai_emit.specs.Places.{both, branch_places, branches_places, form_places, here, list_places, optional_places, expr_places};
+ghost use Rattle.rhai_emit.specs.Places.{both, branch_places, branches_places, form_places, here, list_places, optional_places};
 
 use crate::coder::Coder;
 use grain::Op;
@@ -20,11 +21,7 @@ impl<F: Fn(&mut Emitter, &Expr, usize, bool) -> Result<(), CompileError>> Coder<
         form: &Form,
         is_wanted: bool,
     ) -> Result<(), CompileError>
-        requires may { (m : _) (e : _) (w : _) → Stands m.now → F.pre self.now.writes m e self.now.depth w }
-        requires does { (m : _) (e : _) (w : _) (r : _) (n : _) → F.post self.now.writes m e self.now.depth w r n
-            → OnOk r (IsWritten m.now n.now (m.now.code.operands + count w)) }
-        requires adds { (m : _) (e : _) (w : _) (r : _) (n : _) → F.post self.now.writes m e self.now.depth w r n
-            → OnOk r (AddsPlaces m.now n.now (expr_places e.now)) }
+        requires rules { Writes (F.pre self.now.writes) (F.post self.now.writes) self.now.depth }
         requires stands { Stands emitter.old }
         ensures written { OnOk result (IsWritten emitter.old emitter.new (emitter.old.code.operands + count is_wanted)) }
         ensures placed { OnOk result (AddsPlaces emitter.old emitter.new
@@ -51,11 +48,7 @@ impl<F: Fn(&mut Emitter, &Expr, usize, bool) -> Result<(), CompileError>> Coder<
 
     /// What gives nothing.
     fn done(&self, emitter: &mut Emitter, place: Place, form: &Form) -> Result<(), CompileError>
-        requires may { (m : _) (e : _) (w : _) → Stands m.now → F.pre self.now.writes m e self.now.depth w }
-        requires does { (m : _) (e : _) (w : _) (r : _) (n : _) → F.post self.now.writes m e self.now.depth w r n
-            → OnOk r (IsWritten m.now n.now (m.now.code.operands + count w)) }
-        requires adds { (m : _) (e : _) (w : _) (r : _) (n : _) → F.post self.now.writes m e self.now.depth w r n
-            → OnOk r (AddsPlaces m.now n.now (expr_places e.now)) }
+        requires rules { Writes (F.pre self.now.writes) (F.post self.now.writes) self.now.depth }
         requires stands { Stands emitter.old }
         ensures written { OnOk result (IsWritten emitter.old emitter.new (emitter.old.code.operands)) }
         ensures placed { OnOk result (AddsPlaces emitter.old emitter.new
@@ -88,11 +81,7 @@ impl<F: Fn(&mut Emitter, &Expr, usize, bool) -> Result<(), CompileError>> Coder<
         statements: &[Expr],
         is_wanted: bool,
     ) -> Result<(), CompileError>
-        requires may { (m : _) (e : _) (w : _) → Stands m.now → F.pre self.now.writes m e self.now.depth w }
-        requires does { (m : _) (e : _) (w : _) (r : _) (n : _) → F.post self.now.writes m e self.now.depth w r n
-            → OnOk r (IsWritten m.now n.now (m.now.code.operands + count w)) }
-        requires adds { (m : _) (e : _) (w : _) (r : _) (n : _) → F.post self.now.writes m e self.now.depth w r n
-            → OnOk r (AddsPlaces m.now n.now (expr_places e.now)) }
+        requires rules { Writes (F.pre self.now.writes) (F.post self.now.writes) self.now.depth }
         requires stands { Stands emitter.old }
         ensures written { OnOk result (IsWritten emitter.old emitter.new (emitter.old.code.operands + count is_wanted)) }
         ensures placed { OnOk result (AddsPlaces emitter.old emitter.new
@@ -115,11 +104,7 @@ impl<F: Fn(&mut Emitter, &Expr, usize, bool) -> Result<(), CompileError>> Coder<
         statements: &[Expr],
         is_wanted: bool,
     ) -> Result<(), CompileError>
-        requires may { (m : _) (e : _) (w : _) → Stands m.now → F.pre self.now.writes m e self.now.depth w }
-        requires does { (m : _) (e : _) (w : _) (r : _) (n : _) → F.post self.now.writes m e self.now.depth w r n
-            → OnOk r (IsWritten m.now n.now (m.now.code.operands + count w)) }
-        requires adds { (m : _) (e : _) (w : _) (r : _) (n : _) → F.post self.now.writes m e self.now.depth w r n
-            → OnOk r (AddsPlaces m.now n.now (expr_places e.now)) }
+        requires rules { Writes (F.pre self.now.writes) (F.post self.now.writes) self.now.depth }
         requires stands { Stands emitter.old }
         ensures written { OnOk result (IsWritten emitter.old emitter.new (emitter.old.code.operands + count is_wanted)) }
         ensures placed { OnOk result (AddsPlaces emitter.old emitter.new
@@ -138,11 +123,7 @@ impl<F: Fn(&mut Emitter, &Expr, usize, bool) -> Result<(), CompileError>> Coder<
         otherwise: &[Expr],
         is_wanted: bool,
     ) -> Result<(), CompileError>
-        requires may { (m : _) (e : _) (w : _) → Stands m.now → F.pre self.now.writes m e self.now.depth w }
-        requires does { (m : _) (e : _) (w : _) (r : _) (n : _) → F.post self.now.writes m e self.now.depth w r n
-            → OnOk r (IsWritten m.now n.now (m.now.code.operands + count w)) }
-        requires adds { (m : _) (e : _) (w : _) (r : _) (n : _) → F.post self.now.writes m e self.now.depth w r n
-            → OnOk r (AddsPlaces m.now n.now (expr_places e.now)) }
+        requires rules { Writes (F.pre self.now.writes) (F.post self.now.writes) self.now.depth }
         requires stands { Stands emitter.old }
         ensures written { OnOk result (IsWritten emitter.old emitter.new (emitter.old.code.operands + count is_wanted)) }
         ensures placed { OnOk result (AddsPlaces emitter.old emitter.new
@@ -165,11 +146,7 @@ impl<F: Fn(&mut Emitter, &Expr, usize, bool) -> Result<(), CompileError>> Coder<
         end: u32,
         is_wanted: bool,
     ) -> Result<(), CompileError>
-        requires may { (m : _) (e : _) (w : _) → Stands m.now → F.pre self.now.writes m e self.now.depth w }
-        requires does { (m : _) (e : _) (w : _) (r : _) (n : _) → F.post self.now.writes m e self.now.depth w r n
-            → OnOk r (IsWritten m.now n.now (m.now.code.operands + count w)) }
-        requires adds { (m : _) (e : _) (w : _) (r : _) (n : _) → F.post self.now.writes m e self.now.depth w r n
-            → OnOk r (AddsPlaces m.now n.now (expr_places e.now)) }
+        requires rules { Writes (F.pre self.now.writes) (F.post self.now.writes) self.now.depth }
         requires stands { Stands emitter.old }
         requires there { slice_get emitter.old.code.labels end
             ≡ Some (spot (emitter.old.code.operands + count is_wanted) emitter.old.code.level) }
@@ -194,11 +171,7 @@ impl<F: Fn(&mut Emitter, &Expr, usize, bool) -> Result<(), CompileError>> Coder<
         place: Place,
         value: &Option<Box<Expr>>,
     ) -> Result<(), CompileError>
-        requires may { (m : _) (e : _) (w : _) → Stands m.now → F.pre self.now.writes m e self.now.depth w }
-        requires does { (m : _) (e : _) (w : _) (r : _) (n : _) → F.post self.now.writes m e self.now.depth w r n
-            → OnOk r (IsWritten m.now n.now (m.now.code.operands + count w)) }
-        requires adds { (m : _) (e : _) (w : _) (r : _) (n : _) → F.post self.now.writes m e self.now.depth w r n
-            → OnOk r (AddsPlaces m.now n.now (expr_places e.now)) }
+        requires rules { Writes (F.pre self.now.writes) (F.post self.now.writes) self.now.depth }
         requires stands { Stands emitter.old }
         ensures written { OnOk result (IsWritten emitter.old emitter.new (emitter.old.code.operands + 1)) }
         ensures placed { OnOk result (AddsPlaces emitter.old emitter.new
@@ -218,11 +191,7 @@ impl<F: Fn(&mut Emitter, &Expr, usize, bool) -> Result<(), CompileError>> Coder<
         catch: Catch,
         catching: &[Expr],
     ) -> Result<(), CompileError>
-        requires may { (m : _) (e : _) (w : _) → Stands m.now → F.pre self.now.writes m e self.now.depth w }
-        requires does { (m : _) (e : _) (w : _) (r : _) (n : _) → F.post self.now.writes m e self.now.depth w r n
-            → OnOk r (IsWritten m.now n.now (m.now.code.operands + count w)) }
-        requires adds { (m : _) (e : _) (w : _) (r : _) (n : _) → F.post self.now.writes m e self.now.depth w r n
-            → OnOk r (AddsPlaces m.now n.now (expr_places e.now)) }
+        requires rules { Writes (F.pre self.now.writes) (F.post self.now.writes) self.now.depth }
         requires stands { Stands emitter.old }
         ensures written { OnOk result (IsWritten emitter.old emitter.new (emitter.old.code.operands)) }
         ensures placed { OnOk result (AddsPlaces emitter.old emitter.new
@@ -245,11 +214,7 @@ impl<F: Fn(&mut Emitter, &Expr, usize, bool) -> Result<(), CompileError>> Coder<
         fault: Option<u32>,
         end: u32,
     ) -> Result<(), CompileError>
-        requires may { (m : _) (e : _) (w : _) → Stands m.now → F.pre self.now.writes m e self.now.depth w }
-        requires does { (m : _) (e : _) (w : _) (r : _) (n : _) → F.post self.now.writes m e self.now.depth w r n
-            → OnOk r (IsWritten m.now n.now (m.now.code.operands + count w)) }
-        requires adds { (m : _) (e : _) (w : _) (r : _) (n : _) → F.post self.now.writes m e self.now.depth w r n
-            → OnOk r (AddsPlaces m.now n.now (expr_places e.now)) }
+        requires rules { Writes (F.pre self.now.writes) (F.post self.now.writes) self.now.depth }
         requires stands { Stands emitter.old }
         requires there { slice_get emitter.old.code.labels end
             ≡ Some (spot emitter.old.code.operands emitter.old.code.level) }
@@ -282,11 +247,7 @@ impl<F: Fn(&mut Emitter, &Expr, usize, bool) -> Result<(), CompileError>> Coder<
         caught: (Catch, Option<u32>),
         body: &[Expr],
     ) -> Result<(), CompileError>
-        requires may { (m : _) (e : _) (w : _) → Stands m.now → F.pre self.now.writes m e self.now.depth w }
-        requires does { (m : _) (e : _) (w : _) (r : _) (n : _) → F.post self.now.writes m e self.now.depth w r n
-            → OnOk r (IsWritten m.now n.now (m.now.code.operands + count w)) }
-        requires adds { (m : _) (e : _) (w : _) (r : _) (n : _) → F.post self.now.writes m e self.now.depth w r n
-            → OnOk r (AddsPlaces m.now n.now (expr_places e.now)) }
+        requires rules { Writes (F.pre self.now.writes) (F.post self.now.writes) self.now.depth }
         requires stands { Stands emitter.old }
         ensures written { OnOk result (IsWritten emitter.old emitter.new (emitter.old.code.operands)) }
         ensures placed { OnOk result (AddsPlaces emitter.old emitter.new

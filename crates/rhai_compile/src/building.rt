@@ -1,26 +1,26 @@
 //! From the code that was made to an accepted program.
-ghost use Rattle.std.specs.Prelude.{◌≡◌, ◌+◌, ◌≤◌, ℕ, List, IfOk, IfSome, OnOk, length, map, take};
+ghost use Rattle.std.specs.Prelude.{◌≡◌, ◌+◌, ◌≤◌, IfOk, IfSome, OnOk, length, map, take};
 ghost use Rattle.std.specs.List.{All};
-ghost use Rattle.grain_base.specs.declared.caps.Caps.{Caps};
-ghost use Rattle.grain_code.specs.Assembly.{CanAssemble, IsAssembly, offsets_from};
-ghost use Rattle.grain_rules.specs.Accepted.{AreDeepest, AreIndexed, IsAccepted};
-ghost use Rattle.grain_rules.specs.Indices.{Indexed};
-ghost use Rattle.grain.specs.Build.{CanBuild, draft, setting_with, span_of};
-ghost use Rattle.grain.specs.Program.{declared_by, input_of, listed_positions};
-ghost use Rattle.grain.specs.Tightened.{undeclared};
+ghost use Rattle.grain_code.specs.Assembly.{IsAssembly};
+ghost use Rattle.grain_rules.specs.Accepted.{AreIndexed, IsAccepted};
+ghost use Rattle.grain.specs.Build.{span_of};
+ghost use Rattle.grain.specs.Program.{declared_by, input_of, listed_positions, setting_of};
+ghost use Rattle.grain.specs.Tightened.{IsTightened};
+ghost use Rattle.grain.specs.Verified.{IsVerified};
 ghost use Rattle.grain_needs.specs.Capabilities.{AreLeast};
 ghost use Rattle.grain_builder.specs.Finished.{IsComplete};
 ghost use Rattle.rhai_compile.specs.Capabilities.{every_capability};
+ghost use Rattle.rhai_compile.specs.Laid.{IsLaidOut};
 ghost use Rattle.rhai_compile.specs.Positions.{AreApart, ArePlacedAt, ArePositions, IsListedPosition, IsLocated, IsPositionIn};
 
 use crate::parts::parts;
 use crate::placing::{keep_in_chains, kept_place};
 use grain::{
-    AssembleError, BuildError, Caps, Chunk, Cut, Flags, FnAccess, Head, Op, Parts, Position,
-    Positions, Program, VerifyError, assemble, build,
+    BuildError, Caps, Chunk, Cut, Flags, FnAccess, Head, Op, Parts, Position, Positions, Program,
+    Verified, VerifyError, lay,
 };
 use grain_builder::Assembled;
-use grain_rules::{Pools, check_code};
+use grain_rules::check_code;
 use rhai_emit::{Emitter, Options, Signature};
 use rhai_lexer::{CompileError, Lines, Place, Problem, Thing};
 use std::alloc::{AllocError, Global};
@@ -30,19 +30,18 @@ pub(crate) fn finish(
     emitter: Emitter,
     heads: Vec<Head>,
     lines: &Lines,
-) -> Result<(Program, Vec<u16>), CompileError>
+) -> Result<Verified, CompileError>
     requires closed { emitter.code.pending ≡ 0 }
     requires ended { 1 ≤ emitter.code.level.home }
     ensures positions { IfOk result
-        (λ built. ArePositions (IsListedPosition lines.now.lengths.items) built.0) }
+        (λ built. ArePositions (IsListedPosition lines.now.lengths.items) built.program) }
     ensures placed { IfOk result
-        (λ built. IfSome built.0.positions (All (IsPositionIn emitter.code.places))) }
+        (λ built. IfSome built.program.positions (All (IsPositionIn emitter.code.places))) }
     ensures located { IfOk result
-        (λ built. IsLocated lines.now.lengths.items emitter.code.places built.0) }
-    ensures accepted { IfOk result (λ built. IsAccepted (input_of built.0)) }
-    ensures declared { IfOk result (λ built. declared_by built.0 ≡ built.1.items) }
-    ensures deepest { IfOk result (λ built. AreDeepest (input_of built.0) built.1.items) }
-    ensures least { IfOk result (λ built. AreLeast (input_of built.0) built.0.caps.0) }
+        (λ built. IsLocated lines.now.lengths.items emitter.code.places built.program) }
+    ensures verified { IfOk result IsVerified }
+    ensures declared { IfOk result (λ built. declared_by built.program ≡ built.depths) }
+    ensures least { IfOk result (λ built. AreLeast (input_of built.program) built.program.caps.0) }
 {
     let Emitter {
         alloc,
@@ -59,21 +58,20 @@ pub(crate) fn finish(
 fn complete(
     alloc: Global,
     options: Options,
-    pools: rhai_emit::Pools,
+    pools: rhai_emit::PoolBuilder,
     made: (Assembled, Vec<Head>),
     lines: &Lines,
-) -> Result<(Program, Vec<u16>), CompileError>
+) -> Result<Verified, CompileError>
     requires { IsComplete made.0 }
     ensures positions { IfOk result
-        (λ built. ArePositions (IsListedPosition lines.now.lengths.items) built.0) }
+        (λ built. ArePositions (IsListedPosition lines.now.lengths.items) built.program) }
     ensures placed { IfOk result
-        (λ built. IfSome built.0.positions (All (IsPositionIn made.0.places.items))) }
+        (λ built. IfSome built.program.positions (All (IsPositionIn made.0.places.items))) }
     ensures located { IfOk result
-        (λ built. IsLocated lines.now.lengths.items made.0.places.items built.0) }
-    ensures accepted { IfOk result (λ built. IsAccepted (input_of built.0)) }
-    ensures declared { IfOk result (λ built. declared_by built.0 ≡ built.1.items) }
-    ensures deepest { IfOk result (λ built. AreDeepest (input_of built.0) built.1.items) }
-    ensures least { IfOk result (λ built. AreLeast (input_of built.0) built.0.caps.0) }
+        (λ built. IsLocated lines.now.lengths.items made.0.places.items built.program) }
+    ensures verified { IfOk result IsVerified }
+    ensures declared { IfOk result (λ built. declared_by built.program ≡ built.depths) }
+    ensures least { IfOk result (λ built. AreLeast (input_of built.program) built.program.caps.0) }
 {
     let (assembled, heads) = made;
     let Assembled {
@@ -85,9 +83,10 @@ fn complete(
     } = assembled;
     keep_in_chains(&mut chains, lines);
     let parts = parts(pools, options, chains, &tables)?;
-    let parts = positioned(alloc, &ops, &places, lines, parts)?;
     let (cuts, heads) = paired(alloc, &cuts, heads)?;
-    built(alloc, &ops, &cuts, heads, parts)
+    let (program, offsets) = laid(alloc, &ops, &cuts, heads, parts)?;
+    let program = positioned(alloc, program, &offsets, &places, lines)?;
+    verified(program)
 }
 
 /// The chunks as cuts of the operations, and for each but the first what its function has besides.
@@ -122,47 +121,65 @@ fn cuts_of(alloc: Global, chunks: &[Chunk]) -> Result<Vec<Cut>, AllocError>
     Ok(cuts)
 }
 
-/// The code of the operations, and where each of them begins in it.
-fn coded(alloc: Global, ops: &[Op]) -> Result<(Vec<u8>, Vec<u32>), CompileError>
-    ensures assembly { IfOk result (λ made. IsAssembly ops.now made.0.items made.1.items) }
-    ensures can { OnOk result (CanAssemble ops.now) }
+/// The program that is assembled of operations, with every capability, and where each operation begins in its code.
+fn laid(
+    alloc: Global,
+    ops: &[Op],
+    cuts: &[Cut],
+    heads: Vec<Head>,
+    parts: Parts,
+) -> Result<(Program, Vec<u32>), CompileError>
+    requires { length cuts.now ≡ length heads.items + 1 }
+    ensures laid { IfOk result (λ l. IsLaidOut ops.now cuts.now heads.items parts l.0) }
+    ensures offsets { IfOk result (λ l. IsAssembly ops.now l.0.code l.1.items) }
 {
-    match assemble(alloc, ops) {
-        Ok(made) => Ok(made),
-        Err(AssembleError::OutOfMemory) => {
-            Err(CompileError::new(Place::NONE, Problem::OutOfMemory))
+    match lay(alloc, all_capabilities(), ops, cuts, heads, parts) {
+        Ok((program, offsets)) => {
+            check_indices(&program)?;
+            Ok((program, offsets))
         }
+        Err(BuildError::OutOfMemory) => Err(CompileError::new(Place::NONE, Problem::OutOfMemory)),
         Err(_) => Err(CompileError::new(Place::NONE, Problem::TooMany(Thing::Operations))),
     }
 }
 
-/// The parts with a position for each byte of the code. Only the first byte of an operation has one, and only if its place lies
+/// The capabilities that a program is assembled with: all of them. It declares the least that suffice in the end.
+fn all_capabilities() -> Caps
+    ensures { result.0 ≡ every_capability }
+{
+    Caps::all()
+}
+
+/// Tests that each index of the code leads into its pool, as it does for each syntax tree that the parser makes.
+fn check_indices(program: &Program) -> Result<(), CompileError>
+    ensures { OnOk result (AreIndexed (setting_of program.now) program.now.code) }
+{
+    match check_code(&program.pools(), program.code()) {
+        Ok(()) => Ok(()),
+        Err(_) => Err(CompileError::new(Place::NONE, Problem::TooMany(Thing::Names))),
+    }
+}
+
+/// The program with a position for each byte of the code. Only the first byte of an operation has one, and only if its place lies
 /// in one of the lines.
 fn positioned(
     alloc: Global,
-    ops: &[Op],
+    mut program: Program,
+    offsets: &[u32],
     places: &[Place],
     lines: &Lines,
-    mut parts: Parts,
-) -> Result<Parts, CompileError>
-    requires { length places.now ≡ length ops.now }
-    ensures can { OnOk result (CanAssemble ops.now) }
-    ensures indexed { IfOk result
-        (λ p. (caps : Caps) → All (Indexed (setting_with caps p)) ops.now) }
-    ensures positions { IfOk result (λ p. IfSome (listed_positions p.positions)
-        (All (IsListedPosition lines.now.lengths.items))) }
-    ensures placed { IfOk result (λ p. IfSome (listed_positions p.positions)
-        (All (IsPositionIn places.now))) }
-    ensures located { IfOk result (λ p. ArePlacedAt lines.now.lengths.items places.now
-        (offsets_from 0 ops.now) (listed_positions p.positions)) }
-    ensures constants { IfOk result (λ p. p.consts ≡ parts.consts) }
-    ensures chains { IfOk result (λ p. p.chains ≡ parts.chains) }
-    ensures switches { IfOk result (λ p. p.switches ≡ parts.switches) }
+) -> Result<Program, AllocError>
+    requires { AreApart (length places.now) (length program.code) offsets.now }
+    ensures rest { IfOk result (λ p. p ≡ record program { positions = p.positions }) }
+    ensures listed { IfOk result
+        (λ p. IfSome p.positions (All (IsListedPosition lines.now.lengths.items))) }
+    ensures placed { IfOk result (λ p. IfSome p.positions (All (IsPositionIn places.now))) }
+    ensures located { IfOk result
+        (λ p. ArePlacedAt lines.now.lengths.items places.now offsets.now p.positions) }
 {
-    let (code, offsets) = coded(alloc, ops)?;
-    check_indices(&parts, &code)?;
-    parts.positions = dense(alloc, code.len(), &offsets, places, lines)?;
-    Ok(parts)
+    let len = program.code().len();
+    program.set_positions(dense(alloc, len, offsets, places, lines)?);
+    Ok(program)
 }
 
 /// The positions of the bytes of the code: at each offset that of its place, if that lies in one of the lines.
@@ -187,105 +204,37 @@ fn dense(
     Ok(Positions::dense(positions))
 }
 
-/// Tests that each index of the code leads into its pool, as it does for each syntax tree that the parser makes.
-fn check_indices(parts: &Parts, code: &[u8]) -> Result<(), CompileError>
-    ensures { OnOk result ((caps : Caps) → AreIndexed (setting_with caps parts.now) code.now) }
-{
-    let pools = Pools {
-        consts: parts.consts.len(),
-        names: &parts.names,
-        tokens: parts.tokens.len(),
-        assign_ops: parts.assign_ops.len(),
-        residuals: parts.residuals,
-        chains: &parts.chains,
-        switches: &parts.switches,
-    };
-    match check_code(&pools, code) {
-        Ok(()) => Ok(()),
-        Err(_) => Err(CompileError::new(Place::NONE, Problem::TooMany(Thing::Names))),
-    }
-}
-
-/// Builds the program, which passes by index: what `build` can refuse is proved not to come.
-fn built(
-    alloc: Global,
-    ops: &[Op],
-    cuts: &[Cut],
-    heads: Vec<Head>,
-    parts: Parts,
-) -> Result<(Program, Vec<u16>), CompileError>
-    requires count { length cuts.now ≡ length heads.items + 1 }
-    requires can { (caps : Caps) → caps.0 ≡ every_capability
-        → CanBuild (draft caps ops.now cuts.now heads.items parts) }
-    ensures positions { IfOk result (λ built. built.0.positions ≡ listed_positions parts.positions) }
-    ensures chains { IfOk result (λ built. built.0.chains ≡ parts.chains.items) }
-    ensures code { IfOk result (λ built. (offsets : List ℕ)
-        × IsAssembly ops.now built.0.code offsets) }
-    ensures accepted { IfOk result (λ built. IsAccepted (input_of built.0)) }
-    ensures declared { IfOk result (λ built. declared_by built.0 ≡ built.1.items) }
-    ensures deepest { IfOk result (λ built. AreDeepest (input_of built.0) built.1.items) }
-    ensures least { IfOk result (λ built. AreLeast (input_of built.0) built.0.caps.0) }
-{
-    match build(alloc, all_capabilities(), ops, cuts, heads, parts) {
-        Ok((program, _)) => least(alloc, program),
-        Err(BuildError::OutOfMemory) => Err(CompileError::new(Place::NONE, Problem::OutOfMemory)),
-        Err(_) => unreachable!(),
-    }
-}
-
-/// The capabilities that a program is built with: all of them. It declares the least that suffice in the end.
-fn all_capabilities() -> Caps
-    ensures { result.0 ≡ every_capability }
-{
-    Caps::all()
-}
-
-/// Declares no more of the host than the program needs: the least capabilities, and of each chunk the operands that it reaches.
-fn least(alloc: Global, mut program: Program) -> Result<(Program, Vec<u16>), CompileError>
+/// The program, verified. It declares no more of the host than it needs: the least capabilities, and of each chunk its depth.
+fn verified(mut program: Program) -> Result<Verified, CompileError>
     requires { IsAccepted (input_of program) }
-    ensures positions { IfOk result (λ built. built.0.positions ≡ program.positions) }
-    ensures chains { IfOk result (λ built. built.0.chains ≡ program.chains) }
-    ensures code { IfOk result (λ built. built.0.code ≡ program.code) }
-    ensures accepted { IfOk result (λ built. IsAccepted (input_of built.0)) }
-    ensures declared { IfOk result (λ built. declared_by built.0 ≡ built.1.items) }
-    ensures deepest { IfOk result (λ built. AreDeepest (input_of built.0) built.1.items) }
-    ensures least { IfOk result (λ built. AreLeast (input_of built.0) built.0.caps.0) }
+    ensures positions { IfOk result (λ built. built.program.positions ≡ program.positions) }
+    ensures chains { IfOk result (λ built. built.program.chains ≡ program.chains) }
+    ensures code { IfOk result (λ built. built.program.code ≡ program.code) }
+    ensures verified { IfOk result IsVerified }
+    ensures declared { IfOk result (λ built. declared_by built.program ≡ built.depths) }
+    ensures least { IfOk result (λ built. AreLeast (input_of built.program) built.program.caps.0) }
 {
     program.declare_least_caps();
-    tightened(alloc, program)
+    match program.into_verified() {
+        Ok(verified) => Ok(tight(verified)),
+        Err(rejected) => match rejected.refusal.error {
+            VerifyError::OutOfMemory => {
+                Err(CompileError::new(Place::NONE, Problem::OutOfMemory))
+            }
+            _ => unreachable!(),
+        },
+    }
 }
 
-/// Has each chunk declare the greatest operand count that it reaches, and returns these counts too.
-fn tightened(alloc: Global, mut program: Program) -> Result<(Program, Vec<u16>), CompileError>
-    requires { IsAccepted (input_of program) }
-    ensures positions { IfOk result (λ built. built.0.positions ≡ program.positions) }
-    ensures chains { IfOk result (λ built. built.0.chains ≡ program.chains) }
-    ensures code { IfOk result (λ built. built.0.code ≡ program.code) }
-    ensures accepted { IfOk result (λ built. IsAccepted (input_of built.0)) }
-    ensures declared { IfOk result (λ built. declared_by built.0 ≡ built.1.items) }
-    ensures deepest { IfOk result (λ built. AreDeepest (input_of built.0) built.1.items) }
-    ensures rest { IfOk result (λ built. undeclared built.0 ≡ undeclared program) }
+/// The program, each of whose chunks declares its depth.
+fn tight(mut verified: Verified) -> Verified
+    ensures tightened { IsTightened verified.program result.program }
+    ensures verified { IsVerified result }
+    ensures declared { declared_by result.program ≡ result.depths }
 {
-    match program.tighten_stack() {
-        Ok(()) => {}
-        Err(VerifyError::OutOfMemory) => {
-            return Err(CompileError::new(Place::NONE, Problem::OutOfMemory));
-        }
-        Err(_) => unreachable!(),
-    }
-    let numbers = declared(alloc, &program)?;
-    Ok((program, numbers))
-}
-
-/// The operand counts that the chunks declare, the top level first.
-fn declared(alloc: Global, program: &Program) -> Result<Vec<u16>, AllocError>
-    ensures { IfOk result (λ numbers. declared_by program.now ≡ numbers.items) }
-{
-    let mut numbers = vec![in alloc; program.main().max_stack()]?;
-    for function in program.functions() {
-        numbers.push(function.chunk.max_stack())?;
-    }
-    Ok(numbers)
+    verified.tighten();
+    let _depths = verified.depths();
+    verified
 }
 
 /// What a function has except for its chunk.

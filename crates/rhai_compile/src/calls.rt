@@ -1,12 +1,12 @@
 //! The code of calls and closures.
 ghost use Rattle.std.specs.Prelude.{◌≡◌, ◌+◌, ◌-◌, ◌≤◌, OnOk};
-ghost use Rattle.rhai_emit.specs.Loops.{count};
+ghost use Rattle.rhai_compile.specs.Writes.{Writes};
 ghost use Rattle.rhai_emit.specs.Rules.{IsWritten, Stands, AddsPlaces};
 ghost use Rattle.rhai_emit.specs.Places.{both, here, list_places, expr_places};
 
 use crate::coder::Coder;
 use grain::Op;
-use rhai_emit::{Callee, Emitter, argc_of, callee_of};
+use rhai_emit::{CallTarget, Emitter, argc_of, callee_of};
 use rhai_lexer::{CompileError, Place, Problem, Thing};
 use rhai_syntax::Expr;
 
@@ -18,31 +18,27 @@ impl<F: Fn(&mut Emitter, &Expr, usize, bool) -> Result<(), CompileError>> Coder<
         name: u32,
         arguments: &[Expr],
     ) -> Result<(), CompileError>
-        requires may { (m : _) (e : _) (w : _) → Stands m.now → F.pre self.now.writes m e self.now.depth w }
-        requires does { (m : _) (e : _) (w : _) (r : _) (n : _) → F.post self.now.writes m e self.now.depth w r n
-            → OnOk r (IsWritten m.now n.now (m.now.code.operands + count w)) }
-        requires adds { (m : _) (e : _) (w : _) (r : _) (n : _) → F.post self.now.writes m e self.now.depth w r n
-            → OnOk r (AddsPlaces m.now n.now (expr_places e.now)) }
+        requires rules { Writes (F.pre self.now.writes) (F.post self.now.writes) self.now.depth }
         requires stands { Stands emitter.old }
         ensures written { OnOk result (IsWritten emitter.old emitter.new (emitter.old.code.operands + 1)) }
         ensures placed { OnOk result (AddsPlaces emitter.old emitter.new
             (both (here place) (list_places arguments.now))) }
     {
         match (callee_of(emitter.pools.names.get(name)), arguments) {
-            (Callee::Evaluated, _) => {
+            (CallTarget::Evaluated, _) => {
                 Err(CompileError::new(place, Problem::Unsupported(Thing::Eval)))
             }
-            (Callee::Shared, [argument]) => self.is_shared(emitter, place, argument),
-            (Callee::Pointer, [argument]) => {
+            (CallTarget::Shared, [argument]) => self.is_shared(emitter, place, argument),
+            (CallTarget::Pointer, [argument]) => {
                 self.expr(emitter, argument, true)?;
                 emitter.put(place, Op::MakeFnPtr, 1, 1)
             }
-            (Callee::Called, [pointer, others @ ..]) => {
+            (CallTarget::Called, [pointer, others @ ..]) => {
                 self.expr(emitter, pointer, true)?;
                 self.all(emitter, others)?;
                 emitter.call_pointer(place, argc_of(place, others.len())?, false)
             }
-            (Callee::Curried, [pointer, others @ ..]) => {
+            (CallTarget::Curried, [pointer, others @ ..]) => {
                 self.expr(emitter, pointer, true)?;
                 self.all(emitter, others)?;
                 emitter.curry(place, argc_of(place, others.len())?)
@@ -58,11 +54,7 @@ impl<F: Fn(&mut Emitter, &Expr, usize, bool) -> Result<(), CompileError>> Coder<
         place: Place,
         argument: &Expr,
     ) -> Result<(), CompileError>
-        requires may { (m : _) (e : _) (w : _) → Stands m.now → F.pre self.now.writes m e self.now.depth w }
-        requires does { (m : _) (e : _) (w : _) (r : _) (n : _) → F.post self.now.writes m e self.now.depth w r n
-            → OnOk r (IsWritten m.now n.now (m.now.code.operands + count w)) }
-        requires adds { (m : _) (e : _) (w : _) (r : _) (n : _) → F.post self.now.writes m e self.now.depth w r n
-            → OnOk r (AddsPlaces m.now n.now (expr_places e.now)) }
+        requires rules { Writes (F.pre self.now.writes) (F.post self.now.writes) self.now.depth }
         requires stands { Stands emitter.old }
         ensures written { OnOk result (IsWritten emitter.old emitter.new (emitter.old.code.operands + 1)) }
         ensures placed { OnOk result (AddsPlaces emitter.old emitter.new
@@ -83,11 +75,7 @@ impl<F: Fn(&mut Emitter, &Expr, usize, bool) -> Result<(), CompileError>> Coder<
         name: u32,
         arguments: &[Expr],
     ) -> Result<(), CompileError>
-        requires may { (m : _) (e : _) (w : _) → Stands m.now → F.pre self.now.writes m e self.now.depth w }
-        requires does { (m : _) (e : _) (w : _) (r : _) (n : _) → F.post self.now.writes m e self.now.depth w r n
-            → OnOk r (IsWritten m.now n.now (m.now.code.operands + count w)) }
-        requires adds { (m : _) (e : _) (w : _) (r : _) (n : _) → F.post self.now.writes m e self.now.depth w r n
-            → OnOk r (AddsPlaces m.now n.now (expr_places e.now)) }
+        requires rules { Writes (F.pre self.now.writes) (F.post self.now.writes) self.now.depth }
         requires stands { Stands emitter.old }
         ensures written { OnOk result (IsWritten emitter.old emitter.new (emitter.old.code.operands + 1)) }
         ensures placed { OnOk result (AddsPlaces emitter.old emitter.new
@@ -113,11 +101,7 @@ impl<F: Fn(&mut Emitter, &Expr, usize, bool) -> Result<(), CompileError>> Coder<
         name: u32,
         arguments: &[Expr],
     ) -> Result<(), CompileError>
-        requires may { (m : _) (e : _) (w : _) → Stands m.now → F.pre self.now.writes m e self.now.depth w }
-        requires does { (m : _) (e : _) (w : _) (r : _) (n : _) → F.post self.now.writes m e self.now.depth w r n
-            → OnOk r (IsWritten m.now n.now (m.now.code.operands + count w)) }
-        requires adds { (m : _) (e : _) (w : _) (r : _) (n : _) → F.post self.now.writes m e self.now.depth w r n
-            → OnOk r (AddsPlaces m.now n.now (expr_places e.now)) }
+        requires rules { Writes (F.pre self.now.writes) (F.post self.now.writes) self.now.depth }
         requires stands { Stands emitter.old }
         requires room { emitter.old.code.level.floor + 1 ≤ emitter.old.code.operands }
         ensures written { OnOk result (IsWritten emitter.old emitter.new (emitter.old.code.operands)) }
@@ -128,8 +112,8 @@ impl<F: Fn(&mut Emitter, &Expr, usize, bool) -> Result<(), CompileError>> Coder<
         let with_value = argc_of(place, arguments.len().saturating_add(1))?;
         let argc = with_value.saturating_sub(1);
         match callee_of(emitter.pools.names.get(name)) {
-            Callee::Called => emitter.call_pointer(place, argc, argc > 0),
-            Callee::Curried => emitter.curry(place, argc),
+            CallTarget::Called => emitter.call_pointer(place, argc, argc > 0),
+            CallTarget::Curried => emitter.curry(place, argc),
             _ => emitter.call(place, name, with_value),
         }
     }

@@ -1,6 +1,7 @@
 //! The code of loops, and of what leads away.
 ghost use Rattle.std.specs.Prelude.{◌≡◌, ◌+◌, ◌-◌, ◌≤◌, OnOk};
 ghost use Rattle.rhai_emit.specs.Loops.{count};
+ghost use Rattle.rhai_compile.specs.Writes.{Writes};
 ghost use Rattle.rhai_emit.specs.Rules.{LeadsAway, IsWritten, Stands, AddsPlaces};
 ghost use Rattle.rhai_emit.specs.Places.{both, form_places, here, list_places, optional_places, expr_places};
 
@@ -19,11 +20,7 @@ impl<F: Fn(&mut Emitter, &Expr, usize, bool) -> Result<(), CompileError>> Coder<
         form: &Form,
         is_wanted: bool,
     ) -> Result<(), CompileError>
-        requires may { (m : _) (e : _) (w : _) → Stands m.now → F.pre self.now.writes m e self.now.depth w }
-        requires does { (m : _) (e : _) (w : _) (r : _) (n : _) → F.post self.now.writes m e self.now.depth w r n
-            → OnOk r (IsWritten m.now n.now (m.now.code.operands + count w)) }
-        requires adds { (m : _) (e : _) (w : _) (r : _) (n : _) → F.post self.now.writes m e self.now.depth w r n
-            → OnOk r (AddsPlaces m.now n.now (expr_places e.now)) }
+        requires rules { Writes (F.pre self.now.writes) (F.post self.now.writes) self.now.depth }
         requires stands { Stands emitter.old }
         ensures written { OnOk result (IsWritten emitter.old emitter.new (emitter.old.code.operands + count is_wanted)) }
         ensures placed { OnOk result (AddsPlaces emitter.old emitter.new
@@ -54,11 +51,7 @@ impl<F: Fn(&mut Emitter, &Expr, usize, bool) -> Result<(), CompileError>> Coder<
         body: &[Expr],
         is_wanted: bool,
     ) -> Result<(), CompileError>
-        requires may { (m : _) (e : _) (w : _) → Stands m.now → F.pre self.now.writes m e self.now.depth w }
-        requires does { (m : _) (e : _) (w : _) (r : _) (n : _) → F.post self.now.writes m e self.now.depth w r n
-            → OnOk r (IsWritten m.now n.now (m.now.code.operands + count w)) }
-        requires adds { (m : _) (e : _) (w : _) (r : _) (n : _) → F.post self.now.writes m e self.now.depth w r n
-            → OnOk r (AddsPlaces m.now n.now (expr_places e.now)) }
+        requires rules { Writes (F.pre self.now.writes) (F.post self.now.writes) self.now.depth }
         requires stands { Stands emitter.old }
         ensures written { OnOk result (IsWritten emitter.old emitter.new (emitter.old.code.operands + count is_wanted)) }
         ensures placed { OnOk result (AddsPlaces emitter.old emitter.new
@@ -89,11 +82,7 @@ impl<F: Fn(&mut Emitter, &Expr, usize, bool) -> Result<(), CompileError>> Coder<
         body: &[Expr],
         is_wanted: bool,
     ) -> Result<(), CompileError>
-        requires may { (m : _) (e : _) (w : _) → Stands m.now → F.pre self.now.writes m e self.now.depth w }
-        requires does { (m : _) (e : _) (w : _) (r : _) (n : _) → F.post self.now.writes m e self.now.depth w r n
-            → OnOk r (IsWritten m.now n.now (m.now.code.operands + count w)) }
-        requires adds { (m : _) (e : _) (w : _) (r : _) (n : _) → F.post self.now.writes m e self.now.depth w r n
-            → OnOk r (AddsPlaces m.now n.now (expr_places e.now)) }
+        requires rules { Writes (F.pre self.now.writes) (F.post self.now.writes) self.now.depth }
         requires stands { Stands emitter.old }
         ensures written { OnOk result (IsWritten emitter.old emitter.new (emitter.old.code.operands + count is_wanted)) }
         ensures placed { OnOk result (AddsPlaces emitter.old emitter.new
@@ -123,11 +112,7 @@ impl<F: Fn(&mut Emitter, &Expr, usize, bool) -> Result<(), CompileError>> Coder<
         repeats: (&Expr, bool),
         is_wanted: bool,
     ) -> Result<(), CompileError>
-        requires may { (m : _) (e : _) (w : _) → Stands m.now → F.pre self.now.writes m e self.now.depth w }
-        requires does { (m : _) (e : _) (w : _) (r : _) (n : _) → F.post self.now.writes m e self.now.depth w r n
-            → OnOk r (IsWritten m.now n.now (m.now.code.operands + count w)) }
-        requires adds { (m : _) (e : _) (w : _) (r : _) (n : _) → F.post self.now.writes m e self.now.depth w r n
-            → OnOk r (AddsPlaces m.now n.now (expr_places e.now)) }
+        requires rules { Writes (F.pre self.now.writes) (F.post self.now.writes) self.now.depth }
         requires stands { Stands emitter.old }
         ensures written { OnOk result (IsWritten emitter.old emitter.new (emitter.old.code.operands + count is_wanted)) }
         ensures placed { OnOk result (AddsPlaces emitter.old emitter.new
@@ -161,11 +146,7 @@ impl<F: Fn(&mut Emitter, &Expr, usize, bool) -> Result<(), CompileError>> Coder<
         parts: (&Expr, &[Expr]),
         is_wanted: bool,
     ) -> Result<(), CompileError>
-        requires may { (m : _) (e : _) (w : _) → Stands m.now → F.pre self.now.writes m e self.now.depth w }
-        requires does { (m : _) (e : _) (w : _) (r : _) (n : _) → F.post self.now.writes m e self.now.depth w r n
-            → OnOk r (IsWritten m.now n.now (m.now.code.operands + count w)) }
-        requires adds { (m : _) (e : _) (w : _) (r : _) (n : _) → F.post self.now.writes m e self.now.depth w r n
-            → OnOk r (AddsPlaces m.now n.now (expr_places e.now)) }
+        requires rules { Writes (F.pre self.now.writes) (F.post self.now.writes) self.now.depth }
         requires stands { Stands emitter.old }
         ensures written { OnOk result (IsWritten emitter.old emitter.new (emitter.old.code.operands + count is_wanted)) }
         ensures placed { OnOk result (AddsPlaces emitter.old emitter.new
@@ -203,11 +184,7 @@ impl<F: Fn(&mut Emitter, &Expr, usize, bool) -> Result<(), CompileError>> Coder<
         form: &Form,
         is_wanted: bool,
     ) -> Result<(), CompileError>
-        requires may { (m : _) (e : _) (w : _) → Stands m.now → F.pre self.now.writes m e self.now.depth w }
-        requires does { (m : _) (e : _) (w : _) (r : _) (n : _) → F.post self.now.writes m e self.now.depth w r n
-            → OnOk r (IsWritten m.now n.now (m.now.code.operands + count w)) }
-        requires adds { (m : _) (e : _) (w : _) (r : _) (n : _) → F.post self.now.writes m e self.now.depth w r n
-            → OnOk r (AddsPlaces m.now n.now (expr_places e.now)) }
+        requires rules { Writes (F.pre self.now.writes) (F.post self.now.writes) self.now.depth }
         requires stands { Stands emitter.old }
         ensures written { OnOk result (IsWritten emitter.old emitter.new (emitter.old.code.operands + count is_wanted)) }
         ensures placed { OnOk result (AddsPlaces emitter.old emitter.new
@@ -222,11 +199,7 @@ impl<F: Fn(&mut Emitter, &Expr, usize, bool) -> Result<(), CompileError>> Coder<
     }
 
     fn away(&self, emitter: &mut Emitter, place: Place, form: &Form) -> Result<(), CompileError>
-        requires may { (m : _) (e : _) (w : _) → Stands m.now → F.pre self.now.writes m e self.now.depth w }
-        requires does { (m : _) (e : _) (w : _) (r : _) (n : _) → F.post self.now.writes m e self.now.depth w r n
-            → OnOk r (IsWritten m.now n.now (m.now.code.operands + count w)) }
-        requires adds { (m : _) (e : _) (w : _) (r : _) (n : _) → F.post self.now.writes m e self.now.depth w r n
-            → OnOk r (AddsPlaces m.now n.now (expr_places e.now)) }
+        requires rules { Writes (F.pre self.now.writes) (F.post self.now.writes) self.now.depth }
         requires stands { Stands emitter.old }
         ensures away { OnOk result (LeadsAway emitter.old emitter.new) }
         ensures placed { OnOk result (AddsPlaces emitter.old emitter.new
@@ -254,11 +227,7 @@ impl<F: Fn(&mut Emitter, &Expr, usize, bool) -> Result<(), CompileError>> Coder<
         place: Place,
         value: &Option<Box<Expr>>,
     ) -> Result<(), CompileError>
-        requires may { (m : _) (e : _) (w : _) → Stands m.now → F.pre self.now.writes m e self.now.depth w }
-        requires does { (m : _) (e : _) (w : _) (r : _) (n : _) → F.post self.now.writes m e self.now.depth w r n
-            → OnOk r (IsWritten m.now n.now (m.now.code.operands + count w)) }
-        requires adds { (m : _) (e : _) (w : _) (r : _) (n : _) → F.post self.now.writes m e self.now.depth w r n
-            → OnOk r (AddsPlaces m.now n.now (expr_places e.now)) }
+        requires rules { Writes (F.pre self.now.writes) (F.post self.now.writes) self.now.depth }
         requires stands { Stands emitter.old }
         ensures away { OnOk result (LeadsAway emitter.old emitter.new) }
         ensures placed { OnOk result (AddsPlaces emitter.old emitter.new

@@ -11,8 +11,8 @@ ghost use Rattle.rhai_compile.specs.Capabilities.{every_capability};
 use grain::{
     AssignOp, Chain, Dynamic, Parts, Positions, Strings, StringsError, Switch, SwitchRange,
 };
-use grain_builder::Targets;
-use rhai_emit::{Leading, Options, Pools, Spanning, Table, assigning, spelling, token};
+use grain_builder::TableTargets;
+use rhai_emit::{Leading, Options, PoolBuilder, Spanning, Table, assigning, spelling, token};
 use rhai_lexer::{CompileError, Names, Operator, Place, Problem, Thing};
 use rhai_syntax::Literal;
 use std::alloc::{AllocError, Global};
@@ -31,7 +31,7 @@ fn value(alloc: Global, texts: &Names, literal: Literal) -> Result<Dynamic, Allo
     }
 }
 
-fn constants(pools: &Pools) -> Result<Vec<Dynamic>, CompileError>
+fn constants(pools: &PoolBuilder) -> Result<Vec<Dynamic>, CompileError>
     ensures { IfOk result (λ v. All (ConstantPasses every_capability) v.items) }
 {
     let mut consts = Vec::new(pools.alloc);
@@ -41,7 +41,7 @@ fn constants(pools: &Pools) -> Result<Vec<Dynamic>, CompileError>
     Ok(consts)
 }
 
-fn assign_op(pools: &mut Pools, operator: Operator) -> Result<AssignOp, CompileError> {
+fn assign_op(pools: &mut PoolBuilder, operator: Operator) -> Result<AssignOp, CompileError> {
     let (spelled, op_assign) = assigning(operator);
     Ok(AssignOp {
         op_assign,
@@ -51,7 +51,7 @@ fn assign_op(pools: &mut Pools, operator: Operator) -> Result<AssignOp, CompileE
     })
 }
 
-fn assign_ops(pools: &mut Pools) -> Result<Vec<AssignOp>, CompileError> {
+fn assign_ops(pools: &mut PoolBuilder) -> Result<Vec<AssignOp>, CompileError> {
     let mut found = Vec::new(pools.alloc);
     for index in 0..pools.assign_ops.len() {
         if let Some(operator) = pools.assign_ops.get(index).copied() {
@@ -78,7 +78,7 @@ fn strings(alloc: Global, names: &Names) -> Result<Strings, CompileError> {
 }
 
 /// The target of a case or a range at its place among these.
-fn target_at(targets: &Targets, place: usize) -> u32
+fn target_at(targets: &TableTargets, place: usize) -> u32
     ensures { Contains (targets_of targets.now) result }
 {
     if place < targets.cases.len() {
@@ -90,9 +90,9 @@ fn target_at(targets: &Targets, place: usize) -> u32
 
 /// The cases of a switch with these targets.
 fn cases(
-    pools: &Pools,
+    pools: &PoolBuilder,
     leading: &[Leading],
-    targets: &Targets,
+    targets: &TableTargets,
 ) -> Result<HashMap<Dynamic, (u32, u32)>, CompileError>
     ensures { IfOk result (λ m. All (λ v. Contains (targets_of targets.now) v.0) (values m)) }
 {
@@ -109,7 +109,7 @@ fn ranges(
     alloc: Global,
     spans: &[Spanning],
     before: usize,
-    targets: &Targets,
+    targets: &TableTargets,
 ) -> Result<Vec<SwitchRange>, AllocError>
     ensures { IfOk result (λ v. All (λ r. Contains (targets_of targets.now) r.target) v.items) }
 {
@@ -126,7 +126,11 @@ fn ranges(
 }
 
 /// A switch with these targets.
-fn switch(pools: &Pools, table: &Table, targets: &Targets) -> Result<Switch, CompileError>
+fn switch(
+    pools: &PoolBuilder,
+    table: &Table,
+    targets: &TableTargets,
+) -> Result<Switch, CompileError>
     ensures { IfOk result
         (λ s. (l : ℕ) → Contains (switch_targets s) l → Contains (targets_of targets.now) l) }
 {
@@ -139,7 +143,7 @@ fn switch(pools: &Pools, table: &Table, targets: &Targets) -> Result<Switch, Com
     })
 }
 
-fn switches(pools: &Pools, targets: &[Targets]) -> Result<Vec<Switch>, CompileError>
+fn switches(pools: &PoolBuilder, targets: &[TableTargets]) -> Result<Vec<Switch>, CompileError>
     ensures { IfOk result
         (λ v. LeadAmong (map switch_targets v.items) (map targets_of targets.now)) }
 {
@@ -155,10 +159,10 @@ fn switches(pools: &Pools, targets: &[Targets]) -> Result<Vec<Switch>, CompileEr
 
 /// All that a program has except for code, chunks and positions.
 pub(crate) fn parts(
-    mut pools: Pools,
+    mut pools: PoolBuilder,
     options: Options,
     chains: Vec<Chain>,
-    targets: &[Targets],
+    targets: &[TableTargets],
 ) -> Result<Parts, CompileError>
     ensures constants { IfOk result (λ p. All (ConstantPasses every_capability) p.consts.items) }
     ensures chains { IfOk result (λ p. p.chains.items ≡ chains.items) }

@@ -1,7 +1,7 @@
 //! Whole programs.
 ghost use Rattle.std.specs.Prelude.{◌≡◌, ◌≤◌, [], IfErr, IfOk, IfSome, None, OnOk};
-ghost use Rattle.grain_rules.specs.Accepted.{AreDeepest, IsAccepted};
 ghost use Rattle.grain.specs.Program.{declared_by, input_of};
+ghost use Rattle.grain.specs.Verified.{IsVerified};
 ghost use Rattle.grain_needs.specs.Capabilities.{AreLeast};
 ghost use Rattle.rhai_compile.specs.Chunks.{BeginsChunk};
 ghost use Rattle.rhai_compile.specs.Positions.{ArePositions, EachHasPlace, IsListedPosition, IsPositionAmong, IsPositionOf};
@@ -14,8 +14,8 @@ ghost use Rattle.rhai_lexer.specs.Places.{HasPlaces};
 use crate::building::{finish, head_of};
 use crate::coder::{Coder, expr};
 use crate::prelude::{needed, with_functions};
-use grain::{Head, Op, Program};
-use rhai_emit::{Body, Emitter, Options, Pools, global_constants, split_functions};
+use grain::{Head, Op, Verified};
+use rhai_emit::{Body, Emitter, Options, PoolBuilder, global_constants, split_functions};
 use rhai_lexer::{CompileError, Lines, Place};
 use rhai_syntax::{Expr, MAX_DEPTH, Syntax, parse};
 use std::alloc::Global;
@@ -23,26 +23,20 @@ use std::alloc::Global;
 /// How deep code nests: an expression of the source text is several of these levels.
 const MAX_LEVELS: usize = 8 * MAX_DEPTH;
 
-/// Compiles a source text. The result is the program, which is accepted, and the greatest operand count that any run of each
-/// chunk reaches, the top level first. Each chunk declares that number, and the program the least capabilities that suffice for it
-/// ([`Program::declare_least_caps`]). The position of each error, and each position of the program, lies in the text, unless there
-/// is none. It takes time linear in the length of the text, except that the cases of a switch are read again for each arm with a
-/// condition.
+/// Compiles a source text to a verified program. Each chunk declares its depth, and the program the least capabilities that suffice
+/// for it ([`Program::declare_least_caps`](grain::Program::declare_least_caps)). The position of each error, and each position of the
+/// program, lies in the text, unless there is none. It takes time linear in the length of the text, except that the cases of a switch
+/// are read again for each arm with a condition. The code is assembled once, and verified once.
 ///
 /// # Errors
 /// The first thing that is wrong with the text, with its line and column. `OutOfMemory` has no place, nor has `TooMany` where it
 /// is about the program as a whole. What it makes is never refused.
-pub fn compile(
-    alloc: Global,
-    source: &str,
-    options: &Options,
-) -> Result<(Program, Vec<u16>), CompileError>
+pub fn compile(alloc: Global, source: &str, options: &Options) -> Result<Verified, CompileError>
     ensures placed { IfErr result (HasPlaces source.now) }
-    ensures positions { IfOk result (λ built. ArePositions (IsPositionOf source.now) built.0) }
-    ensures accepted { IfOk result (λ built. IsAccepted (input_of built.0)) }
-    ensures declared { IfOk result (λ built. declared_by built.0 ≡ built.1.items) }
-    ensures deepest { IfOk result (λ built. AreDeepest (input_of built.0) built.1.items) }
-    ensures least { IfOk result (λ built. AreLeast (input_of built.0) built.0.caps.0) }
+    ensures positions { IfOk result (λ built. ArePositions (IsPositionOf source.now) built.program) }
+    ensures verified { IfOk result IsVerified }
+    ensures declared { IfOk result (λ built. declared_by built.program ≡ built.depths) }
+    ensures least { IfOk result (λ built. AreLeast (input_of built.program) built.program.caps.0) }
 {
     match compiled_text(alloc, source, options) {
         Ok(built) => Ok(built),
@@ -51,16 +45,11 @@ pub fn compile(
 }
 
 /// Compiles a source text, with errors of whose places nothing is proved.
-fn compiled_text(
-    alloc: Global,
-    source: &str,
-    options: &Options,
-) -> Result<(Program, Vec<u16>), CompileError>
-    ensures positions { IfOk result (λ built. ArePositions (IsPositionOf source.now) built.0) }
-    ensures accepted { IfOk result (λ built. IsAccepted (input_of built.0)) }
-    ensures declared { IfOk result (λ built. declared_by built.0 ≡ built.1.items) }
-    ensures deepest { IfOk result (λ built. AreDeepest (input_of built.0) built.1.items) }
-    ensures least { IfOk result (λ built. AreLeast (input_of built.0) built.0.caps.0) }
+fn compiled_text(alloc: Global, source: &str, options: &Options) -> Result<Verified, CompileError>
+    ensures positions { IfOk result (λ built. ArePositions (IsPositionOf source.now) built.program) }
+    ensures verified { IfOk result IsVerified }
+    ensures declared { IfOk result (λ built. declared_by built.program ≡ built.depths) }
+    ensures least { IfOk result (λ built. AreLeast (input_of built.program) built.program.caps.0) }
 {
     let syntax = parse(alloc, source)?;
     let lines = Lines::new(alloc, source)?;
@@ -82,17 +71,16 @@ pub fn compile_syntax(
     options: &Options,
     syntax: Syntax,
     lines: &Lines,
-) -> Result<(Program, Vec<u16>), CompileError>
+) -> Result<Verified, CompileError>
     ensures positions { IfOk result
-        (λ built. ArePositions (IsListedPosition lines.now.lengths.items) built.0) }
+        (λ built. ArePositions (IsListedPosition lines.now.lengths.items) built.program) }
     ensures placed { IfOk result
-        (λ built. IfSome built.0.positions (All (IsPositionAmong (syntax_places syntax)))) }
+        (λ built. IfSome built.program.positions (All (IsPositionAmong (syntax_places syntax)))) }
     ensures located { IfOk result
-        (λ built. EachHasPlace lines.now.lengths.items (syntax_places syntax) built.0) }
-    ensures accepted { IfOk result (λ built. IsAccepted (input_of built.0)) }
-    ensures declared { IfOk result (λ built. declared_by built.0 ≡ built.1.items) }
-    ensures deepest { IfOk result (λ built. AreDeepest (input_of built.0) built.1.items) }
-    ensures least { IfOk result (λ built. AreLeast (input_of built.0) built.0.caps.0) }
+        (λ built. EachHasPlace lines.now.lengths.items (syntax_places syntax) built.program) }
+    ensures verified { IfOk result IsVerified }
+    ensures declared { IfOk result (λ built. declared_by built.program ≡ built.depths) }
+    ensures least { IfOk result (λ built. AreLeast (input_of built.program) built.program.caps.0) }
 {
     let Syntax {
         names,
@@ -101,7 +89,7 @@ pub fn compile_syntax(
         body,
     } = syntax;
     let (signatures, bodies) = split_functions(alloc, functions)?;
-    let pools = Pools::new(alloc, names, texts);
+    let pools = PoolBuilder::new(alloc, names, texts);
     let constants = global_constants(alloc, &body)?;
     let mut emitter = Emitter::new(alloc, *options, pools, signatures, constants);
     let heads = chunks(&mut emitter, &body, &bodies)?;

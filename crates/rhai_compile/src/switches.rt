@@ -2,6 +2,7 @@
 ghost use Rattle.std.specs.Prelude.{◌≡◌, IfSome, true, ◌+◌, ◌-◌, ◌<◌, ◌≤◌, OnOk, Some, slice_get};
 ghost use Rattle.grain_builder.specs.Unfinished.{StaysIn, spot};
 ghost use Rattle.rhai_emit.specs.Loops.{count};
+ghost use Rattle.rhai_compile.specs.Writes.{Writes};
 ghost use Rattle.rhai_emit.specs.Rules.{IsWritten, Stands, AddsPlaces};
 ghost use Rattle.rhai_emit.specs.Switches.{AreArms};
 ghost use Rattle.rhai_emit.specs.Places.{pass, arm_places, arms_places, both, here, expr_places};
@@ -21,11 +22,7 @@ impl<F: Fn(&mut Emitter, &Expr, usize, bool) -> Result<(), CompileError>> Coder<
         arms: &[Arm],
         is_wanted: bool,
     ) -> Result<(), CompileError>
-        requires may { (m : _) (e : _) (w : _) → Stands m.now → F.pre self.now.writes m e self.now.depth w }
-        requires does { (m : _) (e : _) (w : _) (r : _) (n : _) → F.post self.now.writes m e self.now.depth w r n
-            → OnOk r (IsWritten m.now n.now (m.now.code.operands + count w)) }
-        requires adds { (m : _) (e : _) (w : _) (r : _) (n : _) → F.post self.now.writes m e self.now.depth w r n
-            → OnOk r (AddsPlaces m.now n.now (expr_places e.now)) }
+        requires rules { Writes (F.pre self.now.writes) (F.post self.now.writes) self.now.depth }
         requires stands { Stands emitter.old }
         ensures written { OnOk result (IsWritten emitter.old emitter.new (emitter.old.code.operands + count is_wanted)) }
         ensures placed { OnOk result (AddsPlaces emitter.old emitter.new
@@ -53,11 +50,7 @@ impl<F: Fn(&mut Emitter, &Expr, usize, bool) -> Result<(), CompileError>> Coder<
         which: (usize, &Arm),
         is_wanted: bool,
     ) -> Result<(), CompileError>
-        requires may { (m : _) (e : _) (w : _) → Stands m.now → F.pre self.now.writes m e self.now.depth w }
-        requires does { (m : _) (e : _) (w : _) (r : _) (n : _) → F.post self.now.writes m e self.now.depth w r n
-            → OnOk r (IsWritten m.now n.now (m.now.code.operands + count w)) }
-        requires adds { (m : _) (e : _) (w : _) (r : _) (n : _) → F.post self.now.writes m e self.now.depth w r n
-            → OnOk r (AddsPlaces m.now n.now (expr_places e.now)) }
+        requires rules { Writes (F.pre self.now.writes) (F.post self.now.writes) self.now.depth }
         requires stands { Stands emitter.old }
         requires room { emitter.old.code.level.floor + 1 ≤ emitter.old.code.operands }
         requires arms { AreArms labels.now emitter.old.code.operands emitter.old.code }
@@ -91,11 +84,7 @@ impl<F: Fn(&mut Emitter, &Expr, usize, bool) -> Result<(), CompileError>> Coder<
         labels: &Labels,
         index: usize,
     ) -> Result<(), CompileError>
-        requires may { (m : _) (e : _) (w : _) → Stands m.now → F.pre self.now.writes m e self.now.depth w }
-        requires does { (m : _) (e : _) (w : _) (r : _) (n : _) → F.post self.now.writes m e self.now.depth w r n
-            → OnOk r (IsWritten m.now n.now (m.now.code.operands + count w)) }
-        requires adds { (m : _) (e : _) (w : _) (r : _) (n : _) → F.post self.now.writes m e self.now.depth w r n
-            → OnOk r (AddsPlaces m.now n.now (expr_places e.now)) }
+        requires rules { Writes (F.pre self.now.writes) (F.post self.now.writes) self.now.depth }
         requires stands { Stands emitter.old }
         requires room { emitter.old.code.level.floor + 1 ≤ emitter.old.code.operands }
         requires arms { AreArms labels.now emitter.old.code.operands emitter.old.code }

@@ -6,7 +6,7 @@ use Rattle.std.proofs.lemmas.Bool.{cases_lt}
 use Rattle.std.proofs.lemmas.List.Elements.{All-contains, Contains-push_cases}
 use Rattle.grain_builder.specs.Unfinished.{StaysIn, Level, Unfinished, spot}
 use Rattle.grain_builder.specs.Assembled.{targets_of}
-use Rattle.grain_builder.specs.declared.assembler.Targets.{Targets}
+use Rattle.grain_builder.specs.declared.assembler.TableTargets.{TableTargets}
 use Rattle.rhai_emit.specs.Switches.{AreArms, IsArm, LeadToArms}
 use Rattle.rhai_emit.specs.declared.dispatch.Labels.{Labels}
 
@@ -27,7 +27,7 @@ arms_after l n old new arms level labels outers = record {
 }
 
 -- what leads to them finds what is found there
-pub lead_to_arms : (l : Labels) (n : ℕ) (code : Unfinished) (t : Targets) → AreArms l n code → LeadToArms l t → (label : ℕ) → Contains (targets_of t) label → slice_get code.labels label ≡ Some (spot n code.level)
+pub lead_to_arms : (l : Labels) (n : ℕ) (code : Unfinished) (t : TableTargets) → AreArms l n code → LeadToArms l t → (label : ℕ) → Contains (targets_of t) label → slice_get code.labels label ≡ Some (spot n code.level)
 lead_to_arms l n code t arms within label has = elim (Contains-push_cases t.cases.items t.default label has) [
   | inl case ↦ let arm = All-contains (IsArm l) t.cases.items label within.cases case in arms.arms label arm.0 arm.1
   | inr is ↦ subst (λ (x : ℕ). slice_get code.labels x ≡ Some (spot n code.level)) is (arms.arms t.default within.default.0 within.default.1)

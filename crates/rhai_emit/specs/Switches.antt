@@ -2,7 +2,7 @@
 use Rattle.std.specs.Prelude.{◌≡◌, ℕ, ◌+◌, ◌<◌, ◌≤◌, slice_get, Some}
 use Rattle.std.specs.List.{All}
 use Rattle.grain_builder.specs.Unfinished.{Unfinished, spot}
-use Rattle.grain_builder.specs.declared.assembler.Targets.{Targets}
+use Rattle.grain_builder.specs.declared.assembler.TableTargets.{TableTargets}
 use Rattle.rhai_emit.specs.declared.dispatch.Labels.{Labels}
 
 -- At the labels of the arms, and at that where no arm is taken, this many operands are found. Each was made when the one before
@@ -18,6 +18,6 @@ abbrev pub IsArm : Labels → ℕ → Type 0
 IsArm l label = (l.none ≤ label) × (label ≤ l.first)
 
 -- each target is one of these labels
-pub record LeadToArms (l : Labels) (t : Targets) : Type 0 where
+pub record LeadToArms (l : Labels) (t : TableTargets) : Type 0 where
   pub cases : All (IsArm l) t.cases.items
   pub default : IsArm l t.default

@@ -13,7 +13,7 @@ use std::collections::HashSet;
 
 /// What a call of a name is.
 #[derive(Clone, Copy, PartialEq, Eq)]
-pub enum Callee {
+pub enum CallTarget {
     /// A function pointer to a name is made.
     Pointer,
     /// A function pointer is called.
@@ -29,14 +29,14 @@ pub enum Callee {
 }
 
 /// What a call of this name is.
-pub fn callee_of(name: &str) -> Callee {
+pub fn callee_of(name: &str) -> CallTarget {
     match name {
-        "Fn" => Callee::Pointer,
-        "call" => Callee::Called,
-        "curry" => Callee::Curried,
-        "is_shared" => Callee::Shared,
-        "eval" => Callee::Evaluated,
-        _ => Callee::Function,
+        "Fn" => CallTarget::Pointer,
+        "call" => CallTarget::Called,
+        "curry" => CallTarget::Curried,
+        "is_shared" => CallTarget::Shared,
+        "eval" => CallTarget::Evaluated,
+        _ => CallTarget::Function,
     }
 }
 
@@ -81,14 +81,14 @@ impl Emitter {
     /// Whether a method is one of function pointers.
     pub fn is_of_pointers(&self, name: u32) -> bool {
         match callee_of(self.pools.names.get(name)) {
-            Callee::Called | Callee::Curried => true,
+            CallTarget::Called | CallTarget::Curried => true,
             _ => false,
         }
     }
 
     /// Whether a method calls a function pointer.
     pub fn is_called(&self, name: u32) -> bool {
-        callee_of(self.pools.names.get(name)) == Callee::Called
+        callee_of(self.pools.names.get(name)) == CallTarget::Called
     }
 
     /// Calls a function on a local variable, which is the first of this many arguments.

@@ -4,7 +4,7 @@ ghost use Rattle.grain_builder.specs.Unfinished.{fresh};
 
 use crate::emitter::{Emitter, Signature};
 use crate::options::Options;
-use crate::pools::Pools;
+use crate::pools::PoolBuilder;
 use crate::scope::{Local, Scope};
 use crate::signatures::Signatures;
 use grain_builder::Assembler;
@@ -18,7 +18,7 @@ impl Emitter {
     pub fn new(
         alloc: Global,
         options: Options,
-        pools: Pools,
+        pools: PoolBuilder,
         signatures: Signatures,
         constants: HashMap<u32, Literal>,
     ) -> Emitter

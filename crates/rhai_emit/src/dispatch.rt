@@ -12,7 +12,7 @@ ghost use Rattle.rhai_emit.specs.Places.{here};
 use crate::emitter::Emitter;
 use crate::table::{Leading, Spanning, Table};
 use crate::writing::height_with;
-use grain_builder::Targets;
+use grain_builder::TableTargets;
 use rhai_lexer::{CompileError, Place, Problem, Thing};
 use rhai_syntax::{Arm, Case, Literal};
 use std::alloc::Global;
@@ -67,7 +67,7 @@ impl Labels {
 #[derive(Drop)]
 struct Draft {
     table: Table,
-    targets: Targets,
+    targets: TableTargets,
     seen: HashSet<Literal>,
 }
 
@@ -140,7 +140,7 @@ impl Emitter {
                 values: Vec::new(self.alloc),
                 ranges: Vec::new(self.alloc),
             },
-            targets: Targets {
+            targets: TableTargets {
                 cases: Vec::new(self.alloc),
                 default,
             },

@@ -2,7 +2,7 @@
 
 use crate::declared::Declared;
 use crate::options::Options;
-use crate::pools::Pools;
+use crate::pools::PoolBuilder;
 use crate::scope::{Local, Scope};
 use grain_builder::Assembler;
 use rhai_lexer::Place;
@@ -41,7 +41,7 @@ pub struct Emitter {
     /// The operations so far.
     pub code: Assembler,
     /// The pools.
-    pub pools: Pools,
+    pub pools: PoolBuilder,
     /// The variables of the chunk that is written.
     pub scope: Scope,
     /// The functions.

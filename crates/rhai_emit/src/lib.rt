@@ -21,13 +21,13 @@ mod table;
 mod variables;
 mod writing;
 
-pub use calling::{Callee, callee_of};
+pub use calling::{CallTarget, callee_of};
 pub use chains::before_optional;
 pub use dispatch::{Labels, check_arms};
 pub use emitter::{Emitter, Signature};
 pub use operators::{assigning, spelling, token};
 pub use options::Options;
-pub use pools::Pools;
+pub use pools::PoolBuilder;
 pub use positions::position;
 pub use scope::{Found, Local, Loop, Scope};
 pub use signatures::{Body, Signatures, global_constants, split_functions};

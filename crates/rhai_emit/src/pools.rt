@@ -8,7 +8,7 @@ use std::collections::HashMap;
 
 /// The pools of a program in the making.
 #[derive(Drop)]
-pub struct Pools {
+pub struct PoolBuilder {
     /// What allocates.
     pub alloc: Global,
     /// The names.
@@ -26,10 +26,10 @@ pub struct Pools {
     pub switches: Vec<Table>,
 }
 
-impl Pools {
-    /// Pools with these names and texts, and nothing else.
-    pub fn new(alloc: Global, names: Names, texts: Names) -> Pools {
-        Pools {
+impl PoolBuilder {
+    /// PoolBuilder with these names and texts, and nothing else.
+    pub fn new(alloc: Global, names: Names, texts: Names) -> PoolBuilder {
+        PoolBuilder {
             alloc,
             names,
             texts,

@@ -96,7 +96,7 @@ fn object_of(alloc: Global, path: &str, found: Option<&Failure>) -> Result<Vec<u
 /// Reads and compiles a script.
 fn check(rt: &HostRuntime, path: &str) -> Result<(), Failure> {
     let bytes = read_bytes(rt, path)?;
-    let _program = compiled(rt.alloc(), path, bytes)?;
+    let _verified = compiled(rt.alloc(), path, bytes)?;
     Ok(())
 }
 

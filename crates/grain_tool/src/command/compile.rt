@@ -58,7 +58,7 @@ fn strip(alloc: Global, path: &str, program: &mut Program) -> Result<Vec<u8>, Fa
 
 /// The program of a script, with the name of the script if the arguments say so and it has one.
 fn program_of(rt: &HostRuntime, path: &str, with_source: bool) -> Result<Program, Failure> {
-    let mut program = compiled(rt.alloc(), path, read_bytes(rt, path)?)?;
+    let mut program = compiled(rt.alloc(), path, read_bytes(rt, path)?)?.into_program();
     if with_source && path != STANDARD {
         let name = String::from_str(rt.alloc(), path)?;
         let _named = program.set_source(name);

@@ -1,16 +1,16 @@
 //! `grain run`: a script or a program file, verified and run.
 
-use crate::scripts::program_in;
+use crate::scripts::verified_in;
 use crate::terminal::Terminal;
 use clap::ArgMatches;
-use grain::{Program, VerifyError};
+use grain::{Program, Verified};
 use grain_cli::arguments::{Argument, FILE, Subcommand};
 use grain_cli::failure::Failure;
 use grain_cli::files::shown;
-use grain_cli::loading::{WORK, admit, allowed_of};
+use grain_cli::loading::{WORK, allowed_of};
 use grain_cli::places::{chunk_at, write_place};
 use grain_listing::{name_of, push_shown};
-use grain_machine::{Ending, Limits, Outcome, accept};
+use grain_machine::{Ending, Outcome, RunLimits, prepare};
 use rhai_runtime::{Fault, Script, World};
 use rhai_values::{Cause, SizeLimits, Value};
 use std::alloc::{AllocError, Global};
@@ -25,7 +25,7 @@ const SHOWN_CALLS: usize = 16;
 /// How far a run may go.
 #[derive(Clone, Copy)]
 struct Bounds {
-    run: Limits,
+    run: RunLimits,
     size: SizeLimits,
 }
 
@@ -64,7 +64,7 @@ pub const SUBCOMMAND: Subcommand = Subcommand {
 
 fn bounds_of(matches: &ArgMatches<'_>) -> Bounds {
     Bounds {
-        run: Limits {
+        run: RunLimits {
             fuel: matches.get_one::<u64>("fuel").unwrap_or(u64::MAX),
             depth: matches.get_one::<usize>("depth").unwrap_or(0),
         },
@@ -95,19 +95,12 @@ fn unready(alloc: Global, path: &str, cause: &Cause) -> Failure {
 /// Runs the program in a world, and gives what it ended with.
 fn ending<W: World + Drop>(
     alloc: Global,
-    path: &str,
-    program: &Program,
+    verified: &Verified,
     script: &mut Script<W>,
-    limits: Limits,
-) -> Result<Ending<Value, Fault>, Failure> {
-    let accepted = match accept(program) {
-        Ok(accepted) => accepted,
-        Err(VerifyError::OutOfMemory) => return Err(Failure::OutOfMemory),
-        Err(error) => {
-            return Err(Failure::of(alloc, shown(path), format_args!("refused: {error}")));
-        }
-    };
-    Ok(accepted.main().run(alloc, script, limits)?)
+    limits: RunLimits,
+) -> Result<Ending<Value, Fault>, AllocError> {
+    let prepared = prepare(alloc, verified)?;
+    prepared.main().run(alloc, script, limits)
 }
 
 /// The function and the position of an address. A function of the library, which isn't in the script, has its name alone.
@@ -170,12 +163,13 @@ fn result(
 fn value_of<W: World + Drop>(
     alloc: Global,
     path: &str,
-    program: &Program,
+    verified: &Verified,
     script: &mut Script<W>,
-    limits: Limits,
+    limits: RunLimits,
 ) -> Result<Value, Failure> {
-    let ending = ending(alloc, path, program, script, limits)?;
-    result(alloc, path, program, ending.outcome, script.backtrace())
+    let ending = ending(alloc, verified, script, limits)?;
+    let calls = script.backtrace();
+    result(alloc, path, verified.program(), ending.outcome, calls)
 }
 
 /// Prints the value of a script, unless it is unit.
@@ -196,11 +190,11 @@ fn show<W: World + Drop>(
 fn run_script<O: Write + Drop, E: Write + Drop>(
     alloc: Global,
     path: &str,
-    program: &Program,
+    verified: &Verified,
     script: &mut Script<Terminal<O, E>>,
-    limits: Limits,
+    limits: RunLimits,
 ) -> Result<(), Failure> {
-    let value = value_of(alloc, path, program, script, limits);
+    let value = value_of(alloc, path, verified, script, limits);
     if let Ok(value) = &value {
         show(alloc, script, value)?;
     }
@@ -213,12 +207,12 @@ fn run_script<O: Write + Drop, E: Write + Drop>(
 fn run_in<O: Write + Drop, E: Write + Drop>(
     alloc: Global,
     path: &str,
-    program: &Program,
+    verified: &Verified,
     bounds: Bounds,
     world: Terminal<O, E>,
 ) -> Result<(), Failure> {
-    match Script::new(alloc, program, world, bounds.size) {
-        Ok(mut script) => run_script(alloc, path, program, &mut script, bounds.run),
+    match Script::new(alloc, verified.program(), world, bounds.size) {
+        Ok(mut script) => run_script(alloc, path, verified, &mut script, bounds.run),
         Err(cause) => Err(unready(alloc, path, &cause)),
     }
 }
@@ -228,7 +222,7 @@ fn run_here(
     rt: &HostRuntime,
     matches: &ArgMatches<'_>,
     path: &str,
-    program: &Program,
+    verified: &Verified,
 ) -> Result<(), Failure> {
     let alloc = rt.alloc();
     let words = words(alloc, matches)?;
@@ -237,14 +231,13 @@ fn run_here(
         Err(error) => return Err(Failure::of_output(error)),
     };
     let world = Terminal::new(alloc, output, rt.stderr(), words);
-    run_in(alloc, path, program, bounds_of(matches), world)
+    run_in(alloc, path, verified, bounds_of(matches), world)
 }
 
 /// Runs a script or a program file.
 pub fn run(rt: &HostRuntime, matches: &ArgMatches<'_>) -> Result<u8, Failure> {
     let path = matches.get_str("FILE").unwrap_or("-");
-    let program = program_in(rt, path)?;
-    admit(rt.alloc(), path, allowed_of(matches), &program)?;
-    run_here(rt, matches, path, &program)?;
+    let verified = verified_in(rt, path, allowed_of(matches))?;
+    run_here(rt, matches, path, &verified)?;
     Ok(0)
 }

@@ -5,7 +5,7 @@ use grain_cli::arguments::{Argument, Subcommand};
 use grain_cli::failure::Failure;
 use grain_cli::files::file_of;
 use grain_cli::output::write_binary;
-use grain_smith::{Options, SmithError, smith, smith_near};
+use grain_smith::{SmithError, SmithOptions, smith, smith_near};
 use std::alloc::Global;
 
 /// What a program that was made is called in messages.
@@ -39,11 +39,16 @@ pub const SUBCOMMAND: Subcommand = Subcommand {
 };
 
 /// The file of a random program.
-fn made(alloc: Global, seed: u64, options: Options, is_near: bool) -> Result<Vec<u8>, Failure> {
+fn made(
+    alloc: Global,
+    seed: u64,
+    options: SmithOptions,
+    is_near: bool,
+) -> Result<Vec<u8>, Failure> {
     let made = if is_near {
         smith_near(alloc, seed, &options)
     } else {
-        smith(alloc, seed, &options)
+        smith(alloc, seed, &options).map(|verified| verified.into_program())
     };
     match made {
         Ok(program) => file_of(alloc, MADE, &program),
@@ -55,7 +60,7 @@ fn made(alloc: Global, seed: u64, options: Options, is_near: bool) -> Result<Vec
 /// Writes a random program.
 pub fn run(rt: &HostRuntime, matches: &ArgMatches<'_>) -> Result<u8, Failure> {
     let seed = matches.get_one::<u64>("seed").unwrap_or(0);
-    let options = Options {
+    let options = SmithOptions {
         size: matches.get_one::<usize>("size").unwrap_or(0),
     };
     let bytes = made(rt.alloc(), seed, options, matches.get_flag("near"))?;

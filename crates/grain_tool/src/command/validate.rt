@@ -2,7 +2,7 @@
 
 use crate::command::list::explained;
 use clap::ArgMatches;
-use grain::{Caps, Flags, Meter, Program, Refusal, VerifyError};
+use grain::{Caps, Flags, Program, Refusal, Rejected, Verified, VerifyError};
 use grain_cli::arguments::{Argument, Subcommand};
 use grain_cli::failure::Failure;
 use grain_cli::files::{read_bytes, shown, unread};
@@ -23,7 +23,7 @@ use std::alloc::{AllocError, Global};
 struct Report {
     allowed: Allowed,
     paint: Paint,
-    numbers: bool,
+    depths: bool,
     explain: bool,
     json: bool,
 }
@@ -69,8 +69,8 @@ pub const SUBCOMMAND: Subcommand = Subcommand {
 /// What is known of a file.
 #[derive(Drop)]
 enum Found {
-    /// It is accepted, with the operands that each function needs.
-    Accepted(Program, Vec<u16>),
+    /// It is accepted.
+    Accepted(Verified),
     /// The host doesn't take it.
     Refused(Program, Obstacle),
     /// It is no program file.
@@ -84,10 +84,12 @@ fn judged(allowed: Allowed, program: Program) -> Result<Found, Failure> {
     if let Some(obstacle) = obstacle_before(allowed, &program) {
         return Ok(Found::Refused(program, obstacle));
     }
-    match program.verify_placed(&mut Meter::new()) {
-        Ok(numbers) => Ok(Found::Accepted(program, numbers)),
-        Err(refusal) if refusal.error == VerifyError::OutOfMemory => Err(Failure::OutOfMemory),
-        Err(refusal) => Ok(Found::Refused(program, Obstacle::Refused(refusal))),
+    match program.into_verified() {
+        Ok(verified) => Ok(Found::Accepted(verified)),
+        Err(Rejected { program, refusal }) => match refusal.error {
+            VerifyError::OutOfMemory => Err(Failure::OutOfMemory),
+            _ => Ok(Found::Refused(program, Obstacle::Refused(refusal))),
+        },
     }
 }
 
@@ -173,19 +175,18 @@ fn write_accepted(
     out: &mut String,
     report: Report,
     path: &str,
-    program: &Program,
-    numbers: &[u16],
+    verified: &Verified,
 ) -> Result<(), AllocError> {
     push_shown(path, out)?;
     out.push_str(": ")?;
     report.paint.write(Kind::Good, "accepted", out)?;
     out.push('\n')?;
-    if !report.numbers {
+    if !report.depths {
         return Ok(());
     }
-    for (place, number) in numbers.iter().enumerate() {
-        write!(out, "{number:>9} operands  ")?;
-        push_name(name_of(program, place), out)?;
+    for (chunk, depth) in verified.depths().iter().enumerate() {
+        write!(out, "{depth:>9} operands  ")?;
+        push_name(name_of(verified.program(), chunk), out)?;
         out.push('\n')?;
     }
     Ok(())
@@ -196,18 +197,17 @@ fn say_accepted(
     rt: &HostRuntime,
     report: Report,
     path: &str,
-    program: &Program,
-    numbers: &[u16],
+    verified: &Verified,
 ) -> Result<(), Failure> {
     let mut out = String::new(rt.alloc());
-    write_accepted(&mut out, report, shown(path), program, numbers)?;
+    write_accepted(&mut out, report, shown(path), verified)?;
     write_standard(rt, out.as_bytes())
 }
 
 /// Prints the outcome of a file.
 fn say(rt: &HostRuntime, report: Report, path: &str, found: &Found) -> Result<(), Failure> {
     match found {
-        Found::Accepted(program, numbers) => say_accepted(rt, report, path, program, numbers),
+        Found::Accepted(verified) => say_accepted(rt, report, path, verified),
         Found::Refused(program, obstacle) => say_refused(rt, report, path, program, obstacle),
         Found::Malformed(error) => {
             unread(rt.alloc(), path, *error).say(rt);
@@ -221,13 +221,13 @@ fn say(rt: &HostRuntime, report: Report, path: &str, found: &Found) -> Result<()
 }
 
 /// Appends the operands that each function of an accepted program needs.
-fn write_operands(json: &mut Writer, numbers: &[u16]) -> Result<(), AllocError> {
+fn write_operands(json: &mut Writer, depths: &[u16]) -> Result<(), AllocError> {
     json.key("accepted")?;
     json.boolean(true)?;
     json.key("operands")?;
     json.begin_array()?;
-    for number in numbers {
-        json.u64(u64::from(*number))?;
+    for depth in depths {
+        json.u64(u64::from(*depth))?;
     }
     json.end_array()
 }
@@ -277,7 +277,7 @@ fn write_found(
     found: &Found,
 ) -> Result<(), AllocError> {
     match found {
-        Found::Accepted(_, numbers) => write_operands(json, numbers),
+        Found::Accepted(verified) => write_operands(json, verified.depths()),
         Found::Refused(program, obstacle) => write_refused(alloc, json, program, obstacle),
         Found::Malformed(error) => write_unread(alloc, json, path, error),
         Found::Unread(failure) => write_why(json, false, &format!(in alloc; "{failure}")?),
@@ -326,7 +326,7 @@ pub fn run(rt: &HostRuntime, matches: &ArgMatches<'_>) -> Result<u8, Failure> {
             ..allowed_of(matches)
         },
         paint: Colours::of(matches).paint(rt),
-        numbers: matches.get_flag("numbers"),
+        depths: matches.get_flag("numbers"),
         explain: matches.get_flag("explain"),
         json: matches.get_flag("json"),
     };

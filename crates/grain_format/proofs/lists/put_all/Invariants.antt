@@ -5,10 +5,10 @@ use Rattle.grain_format.proofs.lists.put_all.Given as goal
 
 abbrev pub invariant-loop-item : goal.invariant-loop-item
 invariant-loop-item g l = record {
-  spelled : l.out.items ++ flat_map g.T.Field.format.spelling (map g.T.Field.view (drop l.item-index l.items))
-      ≡ l.initial.out.items ++ flat_map g.T.Field.format.spelling (map g.T.Field.view l.items);
-  fits : AllByRecursion g.T.Field.format.Fits (map g.T.Field.view (drop l.item-index l.items))
-      → AllByRecursion g.T.Field.format.Fits (map g.T.Field.view l.items);
-  decided : counted_refusal g.T.Field.format.refusal (map g.T.Field.view l.items)
-      ≡ counted_refusal g.T.Field.format.refusal (map g.T.Field.view (drop l.item-index l.items));
+  spelled : l.out.items ++ flat_map g.T.FileField.format.spelling (map g.T.FileField.view (drop l.item-index l.items))
+      ≡ l.initial.out.items ++ flat_map g.T.FileField.format.spelling (map g.T.FileField.view l.items);
+  fits : AllByRecursion g.T.FileField.format.Fits (map g.T.FileField.view (drop l.item-index l.items))
+      → AllByRecursion g.T.FileField.format.Fits (map g.T.FileField.view l.items);
+  decided : counted_refusal g.T.FileField.format.refusal (map g.T.FileField.view l.items)
+      ≡ counted_refusal g.T.FileField.format.refusal (map g.T.FileField.view (drop l.item-index l.items));
 }

@@ -1,6 +1,6 @@
 use Rattle.std.proofs.Common.{IfSome, Some, refl, subst}
 use Rattle.std.specs.Option.{option_map}
-use Rattle.grain_lines.specs.Case.{as_asked}
+use Rattle.grain_lines.specs.LineCase.{as_asked}
 use Rattle.grain_list.specs.Listed.{Explains, of_code, of_none, of_program, of_site}
 use Rattle.grain_list.proofs.listing.body_of.Goals as goal
 

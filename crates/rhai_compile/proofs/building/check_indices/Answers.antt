@@ -1,15 +1,16 @@
-use Rattle.std.proofs.Common.{◌≡◌, length, rules, subst}
+use Rattle.std.proofs.Common.{◌≡◌, length, subst}
+use Rattle.grain.specs.Program.{setting_of}
 use Rattle.grain_rules.specs.Accepted.{AreIndexed}
 use Rattle.grain_rules.specs.Facts.{Facts, facts_with}
 use Rattle.grain_rules.specs.Setting.{with_caps}
 use Rattle.rhai_compile.proofs.building.check_indices.Goals as goal
 
 pub returns-in-Ok : goal.returns-in-Ok
-returns-in-Ok c = λ caps.
-    let consts : c.len.result ≡ length c.args.parts.now.consts.items = search rules in
-    let tokens : c.len-2.result ≡ length c.args.parts.now.tokens.items = search rules in
-    let assign_ops : c.len-3.result ≡ length c.args.parts.now.assign_ops.items = search rules in
-    let same : facts_with c.len.result c.args.parts.now.names c.len-2.result c.len-3.result c.args.parts.now.residuals c.deref.result.now c.deref-2.result.now
-    ≡ facts_with (length c.args.parts.now.consts.items) c.args.parts.now.names (length c.args.parts.now.tokens.items) (length c.args.parts.now.assign_ops.items) c.args.parts.now.residuals c.args.parts.now.chains.items c.args.parts.now.switches.items =
-    λ i. facts_with (consts i) c.args.parts.now.names (tokens i) (assign_ops i) c.args.parts.now.residuals (c.deref.ensures.value i) (c.deref-2.ensures.value i) in
-    subst (λ (f : Facts). AreIndexed (with_caps caps.0 f) c.args.code.now) same (c.in-Ok.ensures.ok caps.0)
+returns-in-Ok c =
+    let p = c.args.program.now in
+    let h = c.pools.ensures in
+    let pools = c.pools.result in
+    let same : facts_with pools.consts pools.names.now pools.tokens pools.assign_ops pools.residuals pools.chains.now pools.switches.now
+    ≡ facts_with (length p.consts) p.names (length p.tokens) (length p.assign_ops) p.residuals p.chains p.switches =
+    λ i. facts_with (h.consts i) (h.names i) (h.tokens i) (h.assign_ops i) (h.residuals i) (h.chains i) (h.switches i) in
+    subst (λ (f : Facts). AreIndexed (with_caps p.caps.0 f) p.code) same (subst (AreIndexed (with_caps p.caps.0 _)) c.code.ensures (c.in-Ok.ensures.ok p.caps.0))

@@ -7,8 +7,8 @@ use Rattle.rhai_compile.proofs.building.finish.Goals as goal
 
 pub returns-clause-placed : goal.returns-clause-placed
 returns-clause-placed c =
-    subst (λ (ps : List Place). IfOk c.complete.result (λ built. IfSome built.0.positions (All (IsPositionIn ps)))) c.in_ok-made.ensures.places c.complete.ensures.placed
+    subst (λ (ps : List Place). IfOk c.complete.result (λ built. IfSome built.program.positions (All (IsPositionIn ps)))) c.in_ok-made.ensures.places c.complete.ensures.placed
 
 pub returns-clause-located : goal.returns-clause-located
 returns-clause-located c =
-    subst (λ (ps : List Place). IfOk c.complete.result (λ built. IsLocated c.args.lines.now.lengths.items ps built.0)) c.in_ok-made.ensures.places c.complete.ensures.located
+    subst (λ (ps : List Place). IfOk c.complete.result (λ built. IsLocated c.args.lines.now.lengths.items ps built.program)) c.in_ok-made.ensures.places c.complete.ensures.located

@@ -28,8 +28,8 @@ pub returns-clause-placed : goal.returns-clause-placed
 returns-clause-placed c =
     let places : List Place = c.chunks.new.emitter.code.places in
     let these : Places = syntax_places c.args.syntax in
-    IfOk-weaker c.finish.result (λ b. IfSome b.0.positions (All (IsPositionIn places))) (λ b. IfSome b.0.positions (All (IsPositionAmong these)))
-    (λ b. positions_among these places (all_pass c) b.0.positions)
+    IfOk-weaker c.finish.result (λ b. IfSome b.program.positions (All (IsPositionIn places))) (λ b. IfSome b.program.positions (All (IsPositionAmong these)))
+    (λ b. positions_among these places (all_pass c) b.program.positions)
     c.finish.ensures.placed
 
 pub returns-clause-located : goal.returns-clause-located
@@ -37,6 +37,6 @@ returns-clause-located c =
     let places : List Place = c.chunks.new.emitter.code.places in
     let these : Places = syntax_places c.args.syntax in
     let lengths : List ℕ = c.args.lines.now.lengths.items in
-    IfOk-weaker c.finish.result (λ b. IsLocated lengths places b.0) (λ b. EachHasPlace lengths these b.0)
-    (λ b. each_has_place lengths these places b.0 (all_pass c))
+    IfOk-weaker c.finish.result (λ b. IsLocated lengths places b.program) (λ b. EachHasPlace lengths these b.program)
+    (λ b. each_has_place lengths these places b.program (all_pass c))
     c.finish.ensures.located

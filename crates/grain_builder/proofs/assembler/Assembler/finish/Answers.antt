@@ -9,7 +9,7 @@ use Rattle.grain_builder.specs.Finished.{LeadAmong}
 use Rattle.grain_builder.specs.declared.assembler.Label.{Label}
 use Rattle.grain_builder.specs.declared.assembler.PlacedOp.{PlacedOp}
 use Rattle.rhai_lexer.specs.declared.error.Place.{Place}
-use Rattle.grain_builder.specs.declared.assembler.Targets.{Targets}
+use Rattle.grain_builder.specs.declared.assembler.TableTargets.{TableTargets}
 use Rattle.grain_builder.specs.Resolved.{resolved_op, resolved_tables}
 use Rattle.grain_builder.specs.Sound.{Workings}
 use Rattle.grain_builder.specs.Unfinished.{Unfinished}
@@ -30,7 +30,7 @@ listed : (c : After-drop-self-inside-5) → c.in_ok-ops.ops.items ≡ map (resol
 listed c = c.in_ok-ops.ensures ∙ (ap (λ (ps : List ℕ). map (resolved_op ps) (map op_in c.deref-4.result.now)) (c.deref-5.ensures.value ∙ targets c) ∙ ap (λ (xs : List PlacedOp). map (resolved_op (k c).places) (map op_in xs)) c.deref-4.ensures.value)
 
 tables : (c : After-drop-self-inside-5) → map targets_of c.in_ok-tables.tables.items ≡ resolved_tables (k c).places (k c).tables
-tables c = c.in_ok-tables.ensures ∙ (ap (λ (ps : List ℕ). resolved_tables ps (map targets_of c.deref-2.result.now)) (c.deref-3.ensures.value ∙ targets c) ∙ ap (λ (ts : List Targets). resolved_tables (k c).places (map targets_of ts)) c.deref-2.ensures.value)
+tables c = c.in_ok-tables.ensures ∙ (ap (λ (ps : List ℕ). resolved_tables ps (map targets_of c.deref-2.result.now)) (c.deref-3.ensures.value ∙ targets c) ∙ ap (λ (ts : List TableTargets). resolved_tables (k c).places (map targets_of ts)) c.deref-2.ensures.value)
 
 many : (c : After-drop-self-inside-5) → length c.in_ok-ops.ops.items ≡ length (k c).ops
 many c = ap (λ (xs : List Op). length xs) (listed c) ∙ length-map (k c).ops (resolved_op (k c).places)

@@ -4,8 +4,8 @@ use mir.Raw.{raw}
 use base.{Fraction.full_share, Shift.Keyless}
 use denote.{Memory.lone, Param.Send.IsSend, Param.Send.owning_send, Param.Send.part_keyless, Param.Send.sendable, RawPtr.Ptr, RawPtr.block_ptr, RawPtr.null_ptr}
 use Rattle.std.proofs.Crossing.{frees}
-use Rattle.grain_flat.specs.contracts.scratch.Scratch as scratch
-use Rattle.grain_flat.proofs.scratch.Scratch.TheSendSync.{the_send as scratch_send}
+use Rattle.grain_flat.specs.contracts.scratch.FlatScratch as scratch
+use Rattle.grain_flat.proofs.scratch.FlatScratch.TheSendSync.{the_send as scratch_send}
 use Rattle.grain_c.specs.Keeps.{keeps}
 use Rattle.grain_c.specs.contracts.handle.CScratch.{the_row, the_type}
 

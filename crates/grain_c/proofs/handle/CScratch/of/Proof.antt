@@ -10,16 +10,16 @@ use Rattle.std.proofs.ResultValues.{and_tt}
 use Rattle.std.specs.Box.Ownership.{box_owns}
 use Rattle.std.specs.Global.{Global}
 use Rattle.std.proofs.boxed.Box.into_raw.Met.{met}
-use Rattle.grain_c.proofs.grain_flat++scratch++Scratch+Destruct.drop.Met.{met as drop_met}
-use Rattle.grain_c.proofs.grain_flat++scratch++Scratch+Destruct.drop.Symbol.{as_method}
+use Rattle.grain_c.proofs.grain_flat++scratch++FlatScratch+Destruct.drop.Met.{met as drop_met}
+use Rattle.grain_c.proofs.grain_flat++scratch++FlatScratch+Destruct.drop.Symbol.{as_method}
 use Rattle.grain_c.specs.contracts.handle.CScratch.of.{ended, clauses}
 use Rattle.grain_c.specs.contracts.handle.CScratch.of.Key.{name}
 use Rattle.grain_c.proofs.handle.CScratch.of.Statement.{statement}
 use prog.{Wp.WpFn}
 use denote.{Param.Steps.one_value, Triple.Clauses.Lasts, Triple.Clauses.lasts}
 use Rattle.std.specs.contracts.boxed.Box.into_raw as callee
-use Rattle.grain_flat.specs.contracts.scratch.Scratch as scratch
-use Rattle.grain_c.specs.contracts.grain_flat++scratch++Scratch+Destruct.drop as dropped
+use Rattle.grain_flat.specs.contracts.scratch.FlatScratch as scratch
+use Rattle.grain_c.specs.contracts.grain_flat++scratch++FlatScratch+Destruct.drop as dropped
 use Rattle.grain_c.proofs.handle.CScratch.of.Code as code
 
 -- the drop of a scratch
@@ -36,7 +36,7 @@ of_spec {M = M} 𝓤 𝓛 𝓜 𝓡 wired =
     let allocates = passed γ (code.calls-std_heap::GlobalAllocator::allocate γ wired) (code.calls-std_heap::GlobalAllocator::deallocate γ wired)
     (code.calls-std_heap::GlobalAllocator::grow γ wired) (code.calls-std_heap::GlobalAllocator::shrink γ wired) M 𝓤 𝓛 𝓜 𝓡 in
     let heap_drops = glues γ (code.calls-grain_c::Destruct++none::drop γ wired) Heap Heap-laws M 𝓤 𝓛 𝓜 𝓡 in
-    let drops_wired = code.calls-grain_c::grain_flat++scratch++Scratch+Destruct::drop γ wired in
+    let drops_wired = code.calls-grain_c::grain_flat++scratch++FlatScratch+Destruct::drop γ wired in
     let dropped_met = widened 𝓤 𝓛.H (triple_of 𝓛 dropped.signature (dropped.spec 𝓛 𝓜.mem 𝓡.returns)) 𝓜 𝓡 𝓡.env (𝓡.env dropped.Key.name) (𝓡.env (method drops 0 no_args)) (as_method 𝓡.env drops_wired (method drops 0 no_args) refl) (drop_met 𝓤 𝓛 𝓜 𝓡 drops_wired) in
     let kept_drops = drop_glue 𝓛 scratch.the_row 𝓜 𝓡 drops (λ x r. (dropped.spec 𝓛 𝓜.mem 𝓡.returns tt (x, tt)).ensures tt r) dropped_met in
     let calls = met 𝓤 𝓛 𝓜 𝓡 (code.calls-std_alloc::boxed::Box::into_raw γ wired) Kept Heap Kept-laws Heap-laws ghosts dict no_drop drops allocates heap_drops kept_drops in

@@ -5,5 +5,5 @@ use Rattle.grain_format.proofs.lists.VecField.read.Given as goal
 
 abbrev pub invariant-items : goal.invariant-items
 invariant-items g l =
-    with_front (map g.T.Field.view l.items.items) (repeat_at g.T.Field.format.reading (l.count - l.index) l.cursor.left.now)
-    ≡ repeat_at g.T.Field.format.reading l.count l.initial.cursor.left.now
+    with_front (map g.T.FileField.view l.items.items) (repeat_at g.T.FileField.format.reading (l.count - l.index) l.cursor.left.now)
+    ≡ repeat_at g.T.FileField.format.reading l.count l.initial.cursor.left.now
