@@ -1,4 +1,4 @@
-//! A yes as a value.
+//! Acceptance as a value.
 use crate::capabilities::Caps;
 use crate::error::VerifyError;
 use crate::file::ProgramFile;
@@ -87,7 +87,7 @@ impl Source for ProgramFile {
 ///
 /// It can't be changed, and only [`Program::into_verified`], [`ProgramFile::into_verified`] and two calls of a
 /// [`Verifier`](crate::Verifier) make one. So a machine that takes a `Verified` never runs what nobody has verified. What is
-/// required of such a machine is listed at [what a host owes](crate#what-a-host-owes).
+/// required of such a machine is listed at [what a host must do](crate#what-a-host-must-do).
 ///
 /// It dereferences to the program, which may be read and not changed.
 ///
@@ -249,7 +249,7 @@ impl<P> Rejected<P> {
         &self.error
     }
 
-    /// Why it is refused, where it is.
+    /// Why it is refused, if it is.
     #[must_use]
     pub fn refusal(&self) -> Option<&Refusal> {
         self.error.refusal()
