@@ -3,8 +3,8 @@
  * grain_verify says whether a compiled script may be run in the host's process, and how many operands each of its chunks needs.
  * Its description below says what acceptance means, and what the machine that runs accepted code must do.
  *
- * Every function is proved, except for plain C: grain_listing, grain_version, grain_status_text, the three functions that
- * allocate, the code around the calls on files that allocates, fills and frees their records, and the test for NULL before
+ * Every function is proved, except for plain C: grain_listing, grain_file_callee, grain_version, grain_status_text, the three
+ * functions that allocate, the code around the calls on files that allocates, fills and frees their records, and the test for NULL before
  * each call. Whatever the numbers and the contents of lists are, a call returns, and
  * writes only what its description says. The caller must ensure what no library can check:
  *
@@ -634,6 +634,11 @@ const grain_contents *grain_file_contents(const grain_file *file);
  * `report` may be NULL. */
 GRAIN_NODISCARD grain_status grain_file_verify(grain_scratch *scratch, const grain_file *file, uint16_t caps, uint64_t limit,
                                                uint16_t *depths, size_t depths_len, uint32_t *slots, grain_report *report);
+
+/* The index of the chunk that a call of this name with as many arguments runs: that of the first function whose name has the
+ * same text, with as many parameters, and declared for receivers of no type (RUNNING.md, "Callees"). 0, which is the index of the
+ * main chunk: there is none. It goes over all functions. */
+size_t grain_file_callee(const grain_file *file, uint32_t name, size_t arguments);
 
 /* Frees a file. NULL: nothing happens. */
 void grain_file_free(grain_file *file);

@@ -241,6 +241,31 @@ impl ProgramFile {
         })
     }
 
+    /// The index of the chunk that a call of a name with as many arguments runs: that of the first function whose name has the
+    /// same text, with as many parameters, and declared for receivers of no type (RUNNING.md, "Callees"). It goes over all
+    /// functions.
+    ///
+    /// ```
+    /// use grain::ProgramFile;
+    ///
+    /// // fn fib(n) { .. }
+    /// let file = ProgramFile::try_from(&include_bytes!("../examples/fib.grain")[..])?;
+    /// let fib = file.names().position(|name| name == "fib").unwrap() as u32;
+    /// assert_eq!((file.callee(fib, 1), file.callee(fib, 2)), (Some(1), None));
+    /// # Ok::<(), grain::FileError>(())
+    /// ```
+    #[must_use]
+    pub fn callee(&self, name: u32, arguments: usize) -> Option<usize> {
+        let text = self.name(name)?;
+        let mut functions = self.functions();
+        let found = functions.position(|function| {
+            function.parameters.len() == arguments
+                && function.this_type.is_none()
+                && self.name(function.name) == Some(text)
+        });
+        found.map(|index| index + 1)
+    }
+
     /// The constants, in order.
     pub fn constants(&self) -> Values<'_> {
         let contents = self.contents();

@@ -54,7 +54,7 @@
 //! | read a program file | [`ProgramFile::read`], with [`Limits`] |
 //! | verify one | [`ProgramFile::into_verified`] |
 //! | write one again | [`ProgramFile::tighten`], [`ProgramFile::strip`] |
-//! | run what is accepted | [`Verified`], [`VerifiedFile`], [`Instruction`] |
+//! | run what is accepted | [`Verified`], [`VerifiedFile`], [`Frame`], [`Instruction`], [`ProgramFile::callee`] |
 //! | find lines | [`Verified::site`], [`site`], [`stream_site`] |
 //!
 //! From a program file to a run, `examples/script.rs` is a whole host.
@@ -148,7 +148,7 @@ pub use tables::{
 };
 pub use text::Text;
 pub use values::{Entries, Operator, Value, Values};
-pub use verified::{Rejected, RejectedFile, Source, Verified, VerifiedFile};
+pub use verified::{Frame, Rejected, RejectedFile, Source, Verified, VerifiedFile};
 pub use verifier::Verifier;
 
 /// A part of the code that is run by itself.
