@@ -37,7 +37,7 @@ struct Verdict {
     }
 };
 
-// A program file. A constructor throws if the bytes are no file within the limits.
+// A program file. A constructor throws if the bytes aren't a file within the limits.
 class File {
   public:
     explicit File(const std::vector<std::uint8_t> &bytes, const grain_limits &limits = GRAIN_LIMITS_DEFAULT) : file(nullptr) {

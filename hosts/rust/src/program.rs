@@ -56,7 +56,7 @@ pub enum AttachError {
 impl fmt::Display for AttachError {
     fn fmt(&self, f: &mut fmt::Formatter<'_>) -> fmt::Result {
         match self {
-            AttachError::Table(flaw) => write!(f, "the bytes are no address table: {flaw}"),
+            AttachError::Table(flaw) => write!(f, "the bytes are not an address table: {flaw}"),
             AttachError::NoInstruction { at } => {
                 write!(
                     f,
@@ -64,7 +64,7 @@ impl fmt::Display for AttachError {
                 )
             }
             AttachError::NoLine { at } => write!(f, "the address table has line 0 for {at}"),
-            AttachError::Stream(flaw) => write!(f, "the bytes are no stream: {flaw}"),
+            AttachError::Stream(flaw) => write!(f, "the bytes are not a stream: {flaw}"),
             AttachError::ChainCount { slots, positions } => write!(
                 f,
                 "the stream has {slots} slots, and the chains have {positions} positions"

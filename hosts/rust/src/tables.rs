@@ -95,7 +95,7 @@ pub enum ReadError {
 impl fmt::Display for ReadError {
     fn fmt(&self, f: &mut fmt::Formatter<'_>) -> fmt::Result {
         match self {
-            ReadError::Flaw(flaw) => write!(f, "the bytes are no stream: {flaw}"),
+            ReadError::Flaw(flaw) => write!(f, "the bytes are not a stream: {flaw}"),
             ReadError::OutOfMemory => f.write_str("out of memory"),
         }
     }
