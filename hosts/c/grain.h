@@ -440,7 +440,10 @@ typedef struct grain_pools_flaw {
     uint64_t index;
 } grain_pools_flaw;
 
-/* A function of a program file. Its chunk is the one after that of the function before it, the first after the main chunk. */
+/* A function of a program file. Its chunk is the one after that of the function before it, the first after the main chunk.
+ *
+ * Nothing tests the indices of names here, in the list of parameters and in op-assignments: each may be that of no name. So a
+ * host tests them, and the indices in a chain or a switch that no instruction names. */
 typedef struct grain_function {
     uint32_t name;       /* the index of its name */
     uint32_t parameters; /* how many it has */
@@ -561,8 +564,9 @@ typedef struct grain_file grain_file;
  * Slots are the duty of the machine: a slot is any 16-bit number, and nothing tests it. slots[i] is one more than the
  * greatest slot that an instruction of chunk i names, roots of chains among them, or 0. A machine that allocates as many slots
  * for a call, and as many as the function has parameters if these are more, needs no test of a slot; another one tests each slot
- * against what it has allocated. DECLARE_LOCAL takes the next slot, which a hostile program can do without end: the machine must
- * bound it. `slots` is NULL, or has depths_len items.
+ * against what it has allocated. A slot may be read before it is declared, so all must have values from the start. DECLARE_LOCAL
+ * takes the next slot, which a hostile program can do without end: the machine must bound it. `slots` is NULL, or has depths_len
+ * items.
  *
  * `scratch` keeps memory from one program to the next; NULL: memory for this call alone. The result is right whatever
  * the scratch was used for before; which of several flaws is reported, and when memory runs out, may differ. `limit` bounds

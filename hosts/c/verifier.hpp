@@ -53,8 +53,11 @@ class File {
     const grain_file *get() const { return file; }
     const grain_contents &contents() const { return *grain_file_contents(file); }
 
+    // The name with an index, or "?" if there is none. It is as the file has it: escape it before it is shown.
     std::string name(std::uint32_t index) const {
         const grain_pools &pools = contents().program.pools;
+        if (std::uint64_t(index) + 1 >= pools.starts_len)
+            return "?";
         return std::string(pools.names + pools.starts[index], pools.names + pools.starts[index + 1]);
     }
 

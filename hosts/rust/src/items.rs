@@ -7,7 +7,7 @@ use std::iter::FusedIterator;
 /// A function of a program file.
 #[derive(Clone, Copy, Debug, PartialEq, Eq, Hash)]
 pub struct FileFunction<'a> {
-    /// The index of its name.
+    /// The index of its name. Nothing tests it, nor those of parameters and of the type: each may be that of no name.
     pub name: u32,
     /// The indices of the names of its parameters.
     pub parameters: &'a [u32],
