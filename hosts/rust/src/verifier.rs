@@ -15,7 +15,7 @@ use std::cell::RefCell;
 /// Verifies one program after another in memory that it keeps, within a limit on work.
 ///
 /// Each result is right whatever was verified before, as one of [`verify`](crate::verify) is; that is proved of the library.
-/// Which of several flaws a refusal names, and when memory runs out, no proof fixes. It allocates only if a program needs more
+/// Which of several flaws a refusal names, and when memory runs out, isn't specified. It allocates only if a program needs more
 /// than is kept, and keeps as much as the largest program needed (EMBEDDING.md), until it is dropped or [`Verifier::release`] is
 /// called.
 ///
