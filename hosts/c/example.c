@@ -116,7 +116,7 @@ static const uint8_t file_bytes[] = {0x00, 0x67, 0x72, 0x6e, 0x01, 0x00, 0x00, 0
                                      0x00, 0x13, 0x00, 0x04, 0x01, 0x00, 0x01, 0x03, 0x6c, 0x65, 0x6e, 0x01,
                                      0x03, 0x2a, 0x01, 0x00, 0x00, 0x00, 0x00, 0x00, 0x00};
 
-/* Reads a program file and verifies its program; prints a constant and the depth, or why the bytes are no file. */
+/* Reads a program file and verifies its program; prints a constant and the depth, or why the bytes aren't a file. */
 static bool read_file(size_t length) {
     const grain_limits limits = GRAIN_LIMITS_DEFAULT;
     grain_file *file;

@@ -148,6 +148,35 @@ static void files_are_verified(void) {
     grain_file_free(NULL);
 }
 
+/* Which function a call finds: the first of the name's text and as many parameters, for receivers of no type. */
+static void callees_are_found(void) {
+    static const uint8_t bytes[] = {
+        0x00, 'g', 'r', 'n', 0x01, 0x00, 0x01, 0x00, 0x00, 0x02, 0x02, 0x13, 0x00, 0x02, 0x01, /* Unit, Return */
+        0x06, 0x01, 0x00, 0x00, 0x01, 0x02, 0x00, 0x02, 0x01, /* f of no parameters, for receivers of the type g */
+        0x02, 0x00, 0x00, 0x00, 0x00, 0x02, 0x01,             /* g */
+        0x01, 0x00, 0x00, 0x00, 0x00, 0x02, 0x01,             /* f, by its second name */
+        0x00, 0x00, 0x00, 0x00, 0x00, 0x02, 0x01,             /* f, by its first */
+        0x07, 0x00, 0x00, 0x00, 0x00, 0x02, 0x01,             /* of a name that isn't there */
+        0x00, 0x01, 0x02, 0x00, 0x00, 0x00, 0x02, 0x01,       /* f of one parameter */
+        0x04, 0x01, 'f', 0x01, 'f', 0x01, 'g', 0x01, 'h',     /* names */
+        0x00, 0x00, 0x00, 0x00, 0x00, 0x00, 0x00,
+    };
+    grain_file *file;
+    if (reads(sample, sizeof sample, &file) == GRAIN_ACCEPTED) {
+        CHECK(grain_file_callee(file, 0, 2) == 1 && grain_file_callee(file, 0, 1) == 0 && grain_file_callee(file, 1, 0) == 0);
+        CHECK(grain_file_callee(file, 2, 2) == 0 && grain_file_callee(file, UINT32_MAX, 2) == 0);
+        CHECK(grain_file_callee(file, 0, SIZE_MAX) == 0);
+        grain_file_free(file);
+    }
+    CHECK(reads(bytes, sizeof bytes, &file) == GRAIN_ACCEPTED);
+    if (file != NULL) {
+        CHECK(grain_file_callee(file, 0, 0) == 3 && grain_file_callee(file, 1, 0) == 3 && grain_file_callee(file, 2, 0) == 2);
+        CHECK(grain_file_callee(file, 0, 1) == 6 && grain_file_callee(file, 1, 1) == 6 && grain_file_callee(file, 2, 1) == 0);
+        CHECK(grain_file_callee(file, 3, 0) == 0 && grain_file_callee(file, 4, 0) == 0 && grain_file_callee(file, 7, 0) == 0);
+        grain_file_free(file);
+    }
+}
+
 /* Where the second chunk of the sample says what it declares. */
 enum { DECLARED_AT = 28 };
 
@@ -395,6 +424,7 @@ static void memory_may_lack_for_changes(void) {
 int main(void) {
     all_is_read();
     files_are_verified();
+    callees_are_found();
     files_are_tightened();
     files_are_stripped();
     places_that_no_sidecar_gives_back_stay();

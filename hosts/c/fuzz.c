@@ -110,6 +110,20 @@ static void verify_all(const grain_file *file, const grain_contents *all) {
     free(slots_again);
 }
 
+/* What a call finds has as many parameters and no type. A function that has none is found, or one before it. */
+static void find_callees(const grain_file *file, const grain_contents *all) {
+    enum { MANY = 64 };
+    for (size_t i = 0; i < all->functions_len && i < MANY; i++) {
+        const grain_function *own = &all->functions[i];
+        size_t found = grain_file_callee(file, own->name, own->parameters);
+        bool has_name = (uint64_t)own->name + 1 < all->program.pools.starts_len;
+        REQUIRE(has_name || found == 0);
+        REQUIRE(!has_name || own->is_typed || (found > 0 && found <= i + 1));
+        if (found > 0)
+            REQUIRE(all->functions[found - 1].parameters == own->parameters && !all->functions[found - 1].is_typed);
+    }
+}
+
 static void explain_all(const grain_contents *all) {
     enum { ROOM = 64 };
     for (size_t i = 0; i < all->program.chunks_len; i++) {
@@ -152,6 +166,7 @@ static void try_file(const uint8_t *bytes, size_t len, const grain_file *file) {
     REQUIRE(grain_check_table(all->table, all->table_len, &detail) == GRAIN_TABLE_SOUND);
     REQUIRE(grain_check_stream(all->stream, all->stream_len, &detail) == GRAIN_TABLE_SOUND);
     verify_all(file, all);
+    find_callees(file, all);
     explain_all(all);
     REQUIRE(writes_again(all, bytes, len));
     change_all(bytes, len);

@@ -1,10 +1,10 @@
 /* grain: the proved verifier for untrusted Rhai Grain bytecode, in the host's process.
  *
- * grain_verify says whether a compiled script may be run in place, and how many operands each of its chunks needs. What a
- * yes means, and what it requires of the machine that runs accepted code, is described at grain_verify below.
+ * grain_verify says whether a compiled script may be run in the host's process, and how many operands each of its chunks needs.
+ * Its description below says what acceptance means, and what the machine that runs accepted code must do.
  *
- * Every function is proved, except for plain C: grain_listing, grain_version, grain_status_text, the three functions that
- * allocate, the code around the calls on files that allocates, fills and frees their records, and the test for NULL before
+ * Every function is proved, except for plain C: grain_listing, grain_file_callee, grain_version, grain_status_text, the three
+ * functions that allocate, the code around the calls on files that allocates, fills and frees their records, and the test for NULL before
  * each call. Whatever the numbers and the contents of lists are, a call returns, and
  * writes only what its description says. The caller must ensure what no library can check:
  *
@@ -25,7 +25,7 @@
  * as much, no call ends the process.
  * The library is for x86-64 Linux, on processors with popcnt (x86-64-v2).
  *
- * FORMAT.md has the instructions, the tables and the rules of verification; EMBEDDING.md says what a host owes
+ * FORMAT.md has the instructions, the tables and the rules of verification; EMBEDDING.md says what a host must do
  * and what each call costs. */
 #ifndef GRAIN_H
 #define GRAIN_H
@@ -61,7 +61,7 @@ extern const uint32_t grain_interface_3;
 #ifdef __GNUC__
 #ifdef __has_attribute
 #if __has_attribute(retain)
-__attribute__((retain)) /* also where a linker collects sections */
+__attribute__((retain)) /* also if a linker collects sections */
 #endif
 #endif
 __attribute__((used)) static const uint32_t *const grain_interface_of_header = &grain_interface_3;
@@ -104,7 +104,7 @@ typedef GRAIN_ENUM(grain_status) {
     GRAIN_NO_CHUNK = 6,      /* the program has no chunk with this index */
     GRAIN_BAD_CODE = 7,      /* nothing is explained: the code isn't whole instructions whose indices are in bounds */
     GRAIN_STOPPED = 8,       /* the caller's function asked to stop */
-    GRAIN_MALFORMED = 9,     /* the bytes are no program file within the limits, and why is written */
+    GRAIN_MALFORMED = 9,     /* the bytes aren't a program file within the limits, and why is written */
     GRAIN_TOO_LONG = 10,     /* a list of the file has 4294967296 entries or more, or a text or a blob as many bytes */
     GRAIN_BAD_LIMIT = 11,    /* a limit is above its greatest value: limits->depth above GRAIN_DEPTH_MAX */
     GRAIN_NOT_RESTORABLE = 12 /* a sidecar wouldn't give the places back (grain_file_strip) */
@@ -188,7 +188,7 @@ typedef GRAIN_ENUM(grain_list) {
     GRAIN_LIST_RANGES = 7
 } grain_list;
 
-/* Why bytes are no program file within the limits. */
+/* Why bytes aren't a program file within the limits. */
 typedef GRAIN_ENUM(grain_cause) {
     GRAIN_CAUSE_TOO_LARGE = 1,       /* at: how many bytes the file has, limit: how many it may have */
     GRAIN_CAUSE_MAGIC = 2,           /* the bytes don't begin as a file does */
@@ -198,8 +198,8 @@ typedef GRAIN_ENUM(grain_cause) {
     GRAIN_CAUSE_TOO_WIDE = 6,        /* a number doesn't fit */
     GRAIN_CAUSE_NOT_SHORTEST = 7,    /* a number isn't encoded in the fewest bytes */
     GRAIN_CAUSE_NOT_TEXT = 8,        /* a text is not UTF-8 */
-    GRAIN_CAUSE_NOT_CHARACTER = 9,   /* a number is no character */
-    GRAIN_CAUSE_UNKNOWN_TAG = 10,    /* a byte is no tag */
+    GRAIN_CAUSE_NOT_CHARACTER = 9,   /* a number isn't a character */
+    GRAIN_CAUSE_UNKNOWN_TAG = 10,    /* a byte isn't a tag */
     GRAIN_CAUSE_KEY_ORDER = 11,      /* a key doesn't come after the one before it */
     GRAIN_CAUSE_TOO_DEEP = 12,       /* values are nested deeper than the limit */
     GRAIN_CAUSE_NAMES_TOO_LONG = 13, /* the names have more than 4294967295 bytes */
@@ -315,7 +315,7 @@ typedef struct grain_switch {
 
 /* A case of a switch. */
 typedef struct grain_case {
-    uint32_t target;   /* the address where it leads */
+    uint32_t target;   /* the address to which it jumps */
     uint32_t constant; /* the index of the constant that the subject must equal */
 } grain_case;
 
@@ -344,7 +344,7 @@ typedef struct grain_pools {
     size_t switches_len;
     const grain_case *cases; /* those of each switch in any order */
     size_t cases_len;
-    const uint32_t *ranges; /* where each leads */
+    const uint32_t *ranges; /* the target of each */
     size_t ranges_len;
 } grain_pools;
 #define GRAIN_POOLS_NONE {NULL, 0, NULL, 0, NULL, 0, 0, 0, 0, 0, NULL, 0, NULL, 0, NULL, 0, NULL, 0, NULL, 0}
@@ -412,7 +412,7 @@ typedef struct grain_row {
     uint32_t at;        /* the address of the instruction */
     uint32_t operands;  /* how many there are */
     uint32_t iterators; /* how many there are */
-    uint32_t from;      /* an address from which an edge leads here, or GRAIN_NO_ADDRESS: at the entry alone, and on a path */
+    uint32_t from;      /* the address of an instruction from which an edge comes here, or GRAIN_NO_ADDRESS: at the entry, and on a path */
     uint32_t base;      /* the base of the last armed handler, an index into the bases, or GRAIN_NO_BASE */
 } grain_row;
 
@@ -440,7 +440,10 @@ typedef struct grain_pools_flaw {
     uint64_t index;
 } grain_pools_flaw;
 
-/* A function of a program file. Its chunk is the one after that of the function before it, the first after the main chunk. */
+/* A function of a program file. Its chunk is the one after that of the function before it, the first after the main chunk.
+ *
+ * Nothing tests the indices of names here, in the list of parameters and in op-assignments: each may be that of no name. So a
+ * host tests them, and the indices in a chain or a switch that no instruction names. */
 typedef struct grain_function {
     uint32_t name;       /* the index of its name */
     uint32_t parameters; /* how many it has */
@@ -449,7 +452,7 @@ typedef struct grain_function {
     uint32_t this_type;  /* the index of the name of that type, else 0 */
 } grain_function;
 
-/* An op-assignment: the names of its operator, as +=, and of the one that it stands for, as +. */
+/* An op-assignment: the names of its operator, as +=, and of the operator that it applies, as +. */
 typedef struct grain_op_assignment {
     uint32_t op_assign_name;
     uint32_t op_name;
@@ -460,7 +463,7 @@ typedef struct grain_range {
     int64_t from;
     int64_t to;
     bool is_inclusive; /* whether `to` is one of them */
-    uint32_t target;   /* the address where they lead */
+    uint32_t target;   /* the address to which they jump */
 } grain_range;
 
 /* A value, or the beginning of one: what is in it follows in the list. */
@@ -491,7 +494,7 @@ typedef struct grain_contents {
     size_t values_len;
     const uint8_t *texts; /* the bytes of the texts and blobs among them */
     size_t texts_len;
-    const grain_value *operators; /* each operator, and then two for each op-assignment: its own and the one it stands for */
+    const grain_value *operators; /* each operator, and then two for each op-assignment: its own and the one it applies */
     size_t operators_len;
     const uint8_t *operator_texts; /* the bytes of operators of the host's own */
     size_t operator_texts_len;
@@ -532,7 +535,7 @@ typedef struct grain_room {
     size_t size;    /* the call writes how many bytes the file has */
 } grain_room;
 
-/* Why bytes are no program file within the limits. */
+/* Why bytes aren't a program file within the limits. */
 typedef struct grain_read_error {
     grain_cause cause;
     grain_part part; /* the part of the file that has the first wrong byte */
@@ -548,21 +551,22 @@ typedef struct grain_file grain_file;
  *
  * GRAIN_ACCEPTED: the depth of each chunk is written, which is the greatest number of operands that any run of it reaches; and,
  * if `slots` isn't NULL, the number of slots of each chunk. GRAIN_REFUSED: report->refusal is written. In both cases
- * report->visited is written: how many instructions the walks visited, counted for each chunk apart; for a refused program it
- * is proved to be no more than that. All other results leave everything as it was. Chunk i has depths[i] and slots[i]; what is
- * behind the last chunk stays.
+ * report->visited is written: how many instructions the walks visited, summed over the chunks; for a refused program it
+ * is proved to be no more than that. All other results leave everything as it was. Chunk i has depths[i] and slots[i]; entries
+ * past the last chunk are unchanged.
  *
  * No run of an accepted program leaves the instructions of its chunk, lacks an operand, an iterator or a handler, or has
- * more operands than the chunk's depth. This is true of kept runs: where a handler catches a fault, the stacks still have
+ * more operands than the chunk's depth. This is true of kept runs: when a handler catches a fault, the stacks still have
  * at least what they had when the handler was armed. Accepted code ensures that at every instruction except the quiet
  * ones (grain_is_quiet). So the machine must step as FORMAT.md says ("Verification"); and at a quiet instruction it must
- * never fault, or only where that much is left.
+ * never fault, or only while that much is left.
  *
- * Slots are the machine's own duty. A slot is any number of 16 bits, and verification tests none. slots[i] is one more than the
+ * Slots are the duty of the machine: a slot is any 16-bit number, and nothing tests it. slots[i] is one more than the
  * greatest slot that an instruction of chunk i names, roots of chains among them, or 0. A machine that allocates as many slots
  * for a call, and as many as the function has parameters if these are more, needs no test of a slot; another one tests each slot
- * against what it has allocated. DECLARE_LOCAL takes the next slot, which a hostile program can do without end: the machine must
- * bound it. `slots` is NULL, or has depths_len items.
+ * against what it has allocated. A slot may be read before it is declared, so all must have values from the start. DECLARE_LOCAL
+ * takes the next slot, which a hostile program can do without end: the machine must bound it. `slots` is NULL, or has depths_len
+ * items.
  *
  * `scratch` keeps memory from one program to the next; NULL: memory for this call alone. The result is right whatever
  * the scratch was used for before; which of several flaws is reported, and when memory runs out, may differ. `limit` bounds
@@ -582,7 +586,7 @@ GRAIN_NODISCARD grain_status grain_tighten(grain_scratch *scratch, uint16_t caps
 /* Frees what the scratch keeps. It may be used again. NULL: nothing happens. */
 void grain_scratch_free(grain_scratch *scratch);
 
-/* Whether pools are flat. Where they aren't, *flaw says which list and which entry. `flaw` may be NULL. */
+/* Whether pools are flat. If they aren't, *flaw says which list and which entry. `flaw` may be NULL. */
 bool grain_check_pools(const grain_pools *pools, grain_pools_flaw *flaw);
 
 /* Explains a chunk of a program, the one with this index. Constants and functions aren't tested.
@@ -605,7 +609,7 @@ GRAIN_NODISCARD grain_status grain_explain(uint16_t caps, const grain_program *p
  * results are those of grain_explain. The function must return: no jump and no exception may leave it.
  *
  * The listing is printable ASCII and line feeds (EMBEDDING.md, "Listings"). Names are escaped, so that none can forge a line.
- * Where the program is refused for a constant, its code or its functions, the first line says so; other chunks aren't
+ * If the program is refused for a constant, its code or its functions, the first line says so; other chunks aren't
  * tested. It is all that is written if the result is GRAIN_BAD_CODE. */
 typedef int grain_put(void *context, const char *text, size_t length);
 GRAIN_NODISCARD grain_status grain_listing(uint16_t caps, const grain_program *program, size_t chunk, grain_put *put,
@@ -613,9 +617,9 @@ GRAIN_NODISCARD grain_status grain_listing(uint16_t caps, const grain_program *p
 
 /* Reads a program file (FORMAT.md, "Program files") within the limits; NULL: GRAIN_LIMITS_DEFAULT.
  *
- * GRAIN_ACCEPTED: *file is the file, until grain_file_free. Nothing says yet that its program verifies. With all other results
+ * GRAIN_ACCEPTED: *file is the file, until grain_file_free. Its program is unverified. With all other results
  * *file is NULL. GRAIN_BAD_LIMIT: limits->depth is above GRAIN_DEPTH_MAX; that is tested first. GRAIN_MALFORMED: *error is the
- * first thing that is wrong. `error` may be NULL. GRAIN_BAD_LIMIT, GRAIN_TOO_LONG, GRAIN_OUT_OF_MEMORY: *error stays.
+ * first thing that is wrong. `error` may be NULL. GRAIN_BAD_LIMIT, GRAIN_TOO_LONG, GRAIN_OUT_OF_MEMORY: *error is unchanged.
  *
  * Reading goes over the bytes once, and keeps none of them. Memory is linear in the length of the file. The call stack grows by
  * about 1,200 bytes for each level that values are nested: up to 80 KiB for the usual limit of 64 levels, up to 320 KiB for
@@ -624,8 +628,8 @@ GRAIN_NODISCARD grain_status grain_file_read(grain_file **file, const uint8_t *b
                                              const grain_limits *limits, grain_read_error *error);
 
 /* What the file has. The lists stay as they are until the file is freed, and any number of threads may read them. What is said
- * above of grain_pools holds of contents->program.pools, so that each call on programs takes `&contents->program`. An empty list
- * has a pointer that must not be read. */
+ * above of grain_pools holds of contents->program.pools, so that each call on programs takes `&contents->program`. The pointer of
+ * an empty list is not NULL, and must not be dereferenced. */
 const grain_contents *grain_file_contents(const grain_file *file);
 
 /* Verifies the program of a file for a host that has these capabilities. If the program declares capabilities that the host lacks:
@@ -634,6 +638,11 @@ const grain_contents *grain_file_contents(const grain_file *file);
  * `report` may be NULL. */
 GRAIN_NODISCARD grain_status grain_file_verify(grain_scratch *scratch, const grain_file *file, uint16_t caps, uint64_t limit,
                                                uint16_t *depths, size_t depths_len, uint32_t *slots, grain_report *report);
+
+/* The index of the chunk that a call of this name with as many arguments runs: that of the first function whose name has the
+ * same text, with as many parameters, and declared for receivers of no type (RUNNING.md, "Callees"). 0, which is the index of the
+ * main chunk: there is none. It goes over all functions. */
+size_t grain_file_callee(const grain_file *file, uint32_t name, size_t arguments);
 
 /* Frees a file. NULL: nothing happens. */
 void grain_file_free(grain_file *file);
@@ -667,25 +676,26 @@ GRAIN_NODISCARD grain_status grain_file_strip(const uint8_t *bytes, size_t bytes
 #define GRAIN_TEXT_SIZE 129
 
 /* Writes a refusal as a line of ASCII (FORMAT.md). Like snprintf: writes as much as there is room for, always ended by 0
- * unless size is 0, and returns how long the text is. 0: the record is no refusal, and nothing is written. */
+ * unless size is 0, and returns how long the text is. 0: the record isn't a refusal, and nothing is written. */
 size_t grain_refusal_text(const grain_refusal *refusal, char *text, size_t size);
 
 /* Writes the instruction at an address, its name and its fields, such as "CALL 3 2", as grain_refusal_text does. 0: there is
  * none, and nothing is written. */
 size_t grain_instruction_text(const uint8_t *code, size_t code_len, size_t at, char *text, size_t size);
 
-/* Writes why bytes are no file, such as "byte 7, in name 3: text is not UTF-8", as grain_refusal_text does. 0: the record says
+/* Writes why bytes aren't a file, such as "byte 7, in name 3: text is not UTF-8", as grain_refusal_text does. 0: the record says
  * nothing of files, and nothing is written. */
 size_t grain_read_error_text(const grain_read_error *error, char *text, size_t size);
 
-/* Counts the instructions of the code. false: *damage is the address of the first thing that is none, and *count stays. */
+/* Counts the instructions of the code. false: *damage is the first address at which there is none, and *count is
+ * unchanged. */
 bool grain_count_instructions(const uint8_t *code, size_t code_len, size_t *count, size_t *damage);
 
 /* The instruction at an address; false, and nothing is written, if there is none. A machine decodes faster by
  * GRAIN_INSTRUCTIONS (grain_instructions.h). */
 bool grain_instruction(const uint8_t *code, size_t code_len, size_t at, grain_instruction_row *instruction);
 
-/* Whether instructions with this tag are quiet (see grain_verify). Nothing is said of other bytes. */
+/* Whether instructions with this tag are quiet (see grain_verify). For other bytes the result means nothing. */
 bool grain_is_quiet(uint8_t tag);
 
 /* The place of an address in an address table; false, and nothing is written, if the table has none. */
@@ -705,7 +715,7 @@ bool grain_stream_place(const uint8_t *stream, size_t stream_len, uint32_t index
 grain_table_flaw grain_check_stream(const uint8_t *stream, size_t stream_len, uint64_t *detail);
 
 /* Writes the places of a stream in order, as many as there is room for, and *count, how many there are. false, and
- * nothing is written: the bytes are no stream. A place takes at least 2 bytes of the stream. */
+ * nothing is written: the bytes aren't a stream. A place takes at least 2 bytes of the stream. */
 bool grain_stream_places(const uint8_t *stream, size_t stream_len, grain_place *places, size_t places_len, size_t *count);
 
 /* What a status says, such as "out of memory". It is a constant, which isn't freed. */
@@ -719,7 +729,7 @@ const char *grain_version(void);
 
 /* How the library allocates: by malloc, realloc and free of the C library. A program that links libgrain.a may define
  * these three itself, all of them; its own then replace the library's. No size is 0. `alignment` is a power of two, at most
- * 16; `old_size` is that of the block. NULL refuses; after a refused grain_realloc the old block stays. */
+ * 16; `old_size` is that of the block. NULL refuses; after a refused grain_realloc the old block is still valid. */
 void *grain_alloc(size_t size, size_t alignment);
 void *grain_realloc(void *block, size_t old_size, size_t size, size_t alignment);
 void grain_dealloc(void *block);

@@ -194,6 +194,32 @@ grain_status grain_file_verify(grain_scratch *scratch, const grain_file *file, u
     return with_slots(status, &file->contents.program, slots, depths_len);
 }
 
+/* Whether a name is there and has the text of another, which is there. */
+static bool has_text_of(const grain_pools *pools, uint32_t name, uint32_t other) {
+    if (name == other || name >= pools->starts_len - 1)
+        return name == other;
+    const uint8_t *text = pools->names + pools->starts[name], *wanted = pools->names + pools->starts[other];
+    size_t len = pools->starts[name + 1] - pools->starts[name], at = 0;
+    if (len != pools->starts[other + 1] - pools->starts[other])
+        return false;
+    while (at < len && text[at] == wanted[at])
+        at++;
+    return at == len;
+}
+
+size_t grain_file_callee(const grain_file *file, uint32_t name, size_t arguments) {
+    const grain_contents *contents = &file->contents;
+    const grain_pools *pools = &contents->program.pools;
+    if (pools->starts_len == 0 || name >= pools->starts_len - 1)
+        return 0;
+    for (size_t i = 0; i < contents->functions_len; i++) {
+        const grain_function *function = &contents->functions[i];
+        if (function->parameters == arguments && !function->is_typed && has_text_of(pools, function->name, name))
+            return i + 1;
+    }
+    return 0;
+}
+
 void grain_file_free(grain_file *file) {
     if (file == NULL)
         return;

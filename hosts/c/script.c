@@ -5,24 +5,25 @@
 #include <stdio.h>
 
 enum { CAPS = GRAIN_CAP_FUNCTION, FILE_SIZE = 1 << 20, CHUNKS = 1000, ROOM = 20000, VARIABLES = 50, STEPS = 10000000 };
+enum { PLUS = 0, MINUS = 2, DIVIDE = 5, LESS = 19 }; /* operators (RUNNING.md) */
 
-static const grain_contents *file;
+static grain_file *file;
+static const grain_contents *contents;
 static uint16_t depths[CHUNKS]; /* of the operand stacks, by chunk */
 static uint32_t slots[CHUNKS];
 static grain_value room[ROOM]; /* the variables and then the operands of each call */
 static uint32_t steps, at;     /* how many were done, and the address of the last one */
 
-/* Replaces two integers by the result of an operator, which is given by its name. Returns a fault or NULL. */
-static const char *operate(uint32_t name, grain_value *top) {
-    const grain_pools *pools = &file->program.pools;
+/* Replaces two integers by the result of an operator. Returns a fault or NULL. */
+static const char *operate(const grain_value *operator, grain_value *top) {
     int64_t left = top[0].number, right = top[1].number;
     if (top[0].tag != GRAIN_VALUE_INTEGER || top[1].tag != GRAIN_VALUE_INTEGER)
         return "no integers";
-    switch (pools->starts[name + 1] - pools->starts[name] == 1 ? pools->names[pools->starts[name]] : 0) {
-    case '+': return __builtin_add_overflow(left, right, &top->number) ? "overflow" : NULL;
-    case '-': return __builtin_sub_overflow(left, right, &top->number) ? "overflow" : NULL;
-    case '<': top->tag = left < right ? GRAIN_VALUE_TRUE : GRAIN_VALUE_FALSE; return NULL;
-    case '/':
+    switch (operator->tag == GRAIN_VALUE_OPERATOR ? operator->number : -1) {
+    case PLUS: return __builtin_add_overflow(left, right, &top->number) ? "overflow" : NULL;
+    case MINUS: return __builtin_sub_overflow(left, right, &top->number) ? "overflow" : NULL;
+    case LESS: top->tag = left < right ? GRAIN_VALUE_TRUE : GRAIN_VALUE_FALSE; return NULL;
+    case DIVIDE:
         if (right == 0 || (right == -1 && left == INT64_MIN))
             return right == 0 ? "division by zero" : "overflow";
         top->number = left / right;
@@ -33,20 +34,20 @@ static const char *operate(uint32_t name, grain_value *top) {
 
 /* Runs a chunk. Its variables begin at `base` with the arguments, and the result is left there. Returns a fault or NULL. */
 static const char *run(size_t chunk, size_t base, size_t declared) {
-    size_t bottom = base + VARIABLES + (slots[chunk] > declared ? slots[chunk] : declared), called = 0;
+    size_t bottom = base + VARIABLES + (slots[chunk] > declared ? slots[chunk] : declared), called;
+    if (bottom + depths[chunk] > ROOM)
+        return "too many calls";
     grain_value *variables = room + base, *top = room + bottom;
     const char *fault = NULL;
     grain_instruction_row row;
-    if (bottom + depths[chunk] > ROOM)
-        return "too many calls";
     for (grain_value *each = variables + declared; each < top; each++)
         each->tag = GRAIN_VALUE_UNIT;
-    for (uint32_t next = file->program.chunks[chunk].entry; fault == NULL; steps++) {
-        (void)grain_instruction(file->program.code, file->program.code_len, at = next, &row);
+    for (uint32_t next = contents->program.chunks[chunk].entry; fault == NULL; steps++) {
+        (void)grain_instruction(contents->program.code, contents->program.code_len, at = next, &row);
         uint32_t first = row.fields[0].value, count = row.fields[1].value;
         next += row.width;
         switch (steps < STEPS ? row.tag : 0xff) {
-        case GRAIN_TAG_LOAD_CONST: *top++ = file->values[file->constants[first]]; break;
+        case GRAIN_TAG_LOAD_CONST: *top++ = contents->values[contents->constants[first]]; break;
         case GRAIN_TAG_UNIT: top++->tag = GRAIN_VALUE_UNIT; break;
         case GRAIN_TAG_FALSE: top++->tag = GRAIN_VALUE_FALSE; break;
         case GRAIN_TAG_TRUE: top++->tag = GRAIN_VALUE_TRUE; break;
@@ -62,20 +63,17 @@ static const char *run(size_t chunk, size_t base, size_t declared) {
         case GRAIN_TAG_POP: top--; break;
         case GRAIN_TAG_JUMP: next = first; break;
         case GRAIN_TAG_JUMP_IF_FALSE:
-            if ((--top)->tag != GRAIN_VALUE_TRUE && top->tag != GRAIN_VALUE_FALSE)
-                return "no boolean";
-            next = top->tag == GRAIN_VALUE_FALSE ? first : next;
+            next = (--top)->tag == GRAIN_VALUE_FALSE ? first : next;
+            fault = top->tag == GRAIN_VALUE_FALSE || top->tag == GRAIN_VALUE_TRUE ? NULL : "no boolean";
             break;
         case GRAIN_TAG_CALL_OP:
-            fault = count == 2 ? operate(first, top -= 2) : "no such operator";
-            top++;
+            top -= count;
+            fault = count == 2 ? operate(&contents->operators[row.fields[2].value], top++) : "no such operator";
             break;
         case GRAIN_TAG_CALL:
-            for (called = 0; called < file->functions_len; called++)
-                if (file->functions[called].name == first && file->functions[called].parameters == count)
-                    break;
             top -= count;
-            fault = called < file->functions_len ? run(called + 1, (size_t)(top++ - room), count) : "no such function";
+            called = grain_file_callee(file, first, count);
+            fault = called != 0 ? run(called, (size_t)(top++ - room), count) : "no such function";
             break;
         case GRAIN_TAG_TICK:
         case GRAIN_TAG_CHECKPOINT:
@@ -89,45 +87,41 @@ static const char *run(size_t chunk, size_t base, size_t declared) {
     return fault;
 }
 
-static int print_part(void *context, const char *text, size_t length) {
-    return fwrite(text, 1, length, context) != length;
-}
-
-/* Says why a file isn't run: it is no file, or its program is refused. */
-static void explain(grain_status status, const grain_read_error *error, const grain_refusal *refusal) {
-    char text[GRAIN_TEXT_SIZE];
-    if (status == GRAIN_MALFORMED && grain_read_error_text(error, text, sizeof text) != 0)
-        puts(text);
-    else if (status != GRAIN_REFUSED || grain_refusal_text(refusal, text, sizeof text) == 0)
-        puts(grain_status_text(status));
-    else if (printf("refused: %s\n", text) > 0 && refusal->chunk != GRAIN_WHOLE_PROGRAM)
-        (void)!grain_listing(file->caps, &file->program, refusal->chunk, print_part, stdout);
+static int print(void *stream, const char *text, size_t length) {
+    return fwrite(text, 1, length, stream) != length;
 }
 
 int main(int argc, char **argv) {
     static uint8_t bytes[FILE_SIZE];
+    char text[GRAIN_TEXT_SIZE];
     grain_read_error error;
     grain_report report;
     grain_place place = {0, 0};
-    grain_file *handle;
+    const char *fault = NULL;
     FILE *stream = argc == 2 ? fopen(argv[1], "rb") : NULL;
     if (stream == NULL)
         return 2;
-    grain_status status = grain_file_read(&handle, bytes, fread(bytes, 1, sizeof bytes, stream), NULL, &error);
+    size_t length = fread(bytes, 1, sizeof bytes, stream);
     fclose(stream);
+    grain_status status = grain_file_read(&file, bytes, length, NULL, &error);
     if (status == GRAIN_ACCEPTED) {
-        file = grain_file_contents(handle);
-        status = grain_file_verify(NULL, handle, CAPS, file->program.code_len, depths, CHUNKS, slots, &report);
+        contents = grain_file_contents(file);
+        status = grain_file_verify(NULL, file, CAPS, length, depths, CHUNKS, slots, &report);
     }
-    const char *fault = status == GRAIN_ACCEPTED ? run(0, 0, 0) : NULL;
-    if (status != GRAIN_ACCEPTED) {
-        explain(status, &error, &report.refusal);
-    } else if (fault != NULL) {
-        (void)grain_table_place(file->table, file->table_len, at, &place);
+    if (status == GRAIN_ACCEPTED && (fault = run(0, 0, 0)) != NULL) {
+        (void)grain_table_place(contents->table, contents->table_len, at, &place);
         printf("%u:%u: %s\n", place.line, place.column, fault);
-    } else if (room[0].tag == GRAIN_VALUE_INTEGER) {
+    } else if (status == GRAIN_ACCEPTED && room[0].tag == GRAIN_VALUE_INTEGER) {
         printf("result %lld\n", (long long)room[0].number);
+    } else if (status == GRAIN_MALFORMED && grain_read_error_text(&error, text, sizeof text) != 0) {
+        puts(text);
+    } else if (status == GRAIN_REFUSED && grain_refusal_text(&report.refusal, text, sizeof text) != 0) {
+        printf("refused: %s\n", text);
+        if (report.refusal.chunk != GRAIN_WHOLE_PROGRAM)
+            (void)!grain_listing(contents->caps, &contents->program, report.refusal.chunk, print, stdout);
+    } else {
+        puts(grain_status_text(status));
     }
-    grain_file_free(handle);
+    grain_file_free(file);
     return status == GRAIN_ACCEPTED && fault == NULL ? 0 : 1;
 }

@@ -37,7 +37,7 @@ struct Verdict {
     }
 };
 
-// A program file. A constructor throws if the bytes are no file within the limits.
+// A program file. A constructor throws if the bytes aren't a file within the limits.
 class File {
   public:
     explicit File(const std::vector<std::uint8_t> &bytes, const grain_limits &limits = GRAIN_LIMITS_DEFAULT) : file(nullptr) {
@@ -53,8 +53,11 @@ class File {
     const grain_file *get() const { return file; }
     const grain_contents &contents() const { return *grain_file_contents(file); }
 
+    // The name with an index, or "?" if there is none. It is as the file has it: escape it before it is shown.
     std::string name(std::uint32_t index) const {
         const grain_pools &pools = contents().program.pools;
+        if (std::uint64_t(index) + 1 >= pools.starts_len)
+            return "?";
         return std::string(pools.names + pools.starts[index], pools.names + pools.starts[index + 1]);
     }
 

@@ -1,7 +1,8 @@
 //! Runs what `grain compile` makes of a script: reads the program file, verifies it, and runs its top level.
 //!
 //!     cargo run --example script -- examples/fib.grain
-use grain::{Caps, Instruction, ProgramFile, Value, VerifiedFile};
+use grain::Instruction::{self, *};
+use grain::{Caps, ProgramFile, Value, VerifiedFile};
 use std::error::Error;
 
 /// The host has functions, and no other feature that a program can declare.
@@ -20,10 +21,9 @@ impl<'a> Machine<'a> {
     /// Runs a chunk with arguments in its first slots.
     fn run(&mut self, chunk: usize, mut locals: Vec<Value<'a>>) -> Result<Value<'a>, &'static str> {
         let (file, mut declared) = (self.file, locals.len());
-        let slots = declared.max(file.slots()[chunk] as usize) + 100;
-        locals.resize(slots, Value::Unit);
-        let mut stack = Vec::with_capacity(file.depths()[chunk].into());
-        let mut next = file.chunks()[chunk].entry;
+        let frame = file.frame(chunk).ok_or("no such chunk")?;
+        let (mut next, mut stack) = (frame.entry, Vec::with_capacity(frame.depth));
+        locals.resize(frame.slots + 100, Value::Unit);
         self.calls = self.calls.checked_sub(1).ok_or("too many calls")?;
         loop {
             self.at = next;
@@ -33,39 +33,34 @@ impl<'a> Machine<'a> {
             let mut pop = || stack.pop().expect("accepted code has its operands");
             next = after;
             match instruction {
-                Instruction::LoadConst { constant } => stack.extend(file.constant(constant.into())),
-                Instruction::Unit => stack.push(Value::Unit),
-                Instruction::True => stack.push(Value::Bool(true)),
-                Instruction::False => stack.push(Value::Bool(false)),
-                Instruction::LoadLocal { slot } => stack.push(locals[usize::from(slot)]),
-                Instruction::StoreLocal { slot } => locals[usize::from(slot)] = pop(),
-                Instruction::AssignLocal { slot, .. } => locals[usize::from(slot)] = pop(),
-                Instruction::DeclareLocal { .. } => {
+                LoadConst { constant } => stack.extend(file.constant(constant.into())),
+                Unit => stack.push(Value::Unit),
+                True => stack.push(Value::Bool(true)),
+                False => stack.push(Value::Bool(false)),
+                LoadLocal { slot } => stack.push(locals[usize::from(slot)]),
+                StoreLocal { slot } | AssignLocal { slot, .. } => locals[usize::from(slot)] = pop(),
+                DeclareLocal { .. } => {
                     *locals.get_mut(declared).ok_or("too many variables")? = pop();
                     declared += 1;
                 }
-                Instruction::UnwindTo { len } => declared = declared.min(len.into()),
-                Instruction::Pop => drop(pop()),
-                Instruction::Jump { target } => next = target,
-                Instruction::JumpIfFalse { target } => match pop() {
-                    Value::Bool(false) => next = target,
-                    Value::Bool(true) => {}
+                UnwindTo { len } => declared = declared.min(len.into()),
+                Pop => drop(pop()),
+                Jump { target } => next = target,
+                JumpIfFalse { target } => match pop() {
+                    Value::Bool(truth) => next = if truth { after } else { target },
                     _ => return Err("no boolean"),
                 },
-                Instruction::CallOp { name, argc, .. } => {
+                CallOp { name, argc, .. } => {
                     let with = stack.split_off(stack.len() - usize::from(argc));
                     stack.push(operate(file.name(name.into()), &with)?);
                 }
-                Instruction::Call { name, argc } => {
+                Call { name, argc } => {
+                    let called = file.callee(name.into(), argc.into());
                     let with = stack.split_off(stack.len() - usize::from(argc));
-                    let mut functions = file.functions();
-                    let called = functions
-                        .position(|f| f.name == name.into() && f.parameters.len() == with.len())
-                        .ok_or("no such function")?;
-                    stack.push(self.run(called + 1, with)?);
+                    stack.push(self.run(called.ok_or("no such function")?, with)?);
                 }
-                Instruction::Tick | Instruction::Checkpoint | Instruction::Statement { .. } => {}
-                Instruction::Return => {
+                Tick | Checkpoint | Statement { .. } => {}
+                Return => {
                     self.calls += 1;
                     return Ok(stack.pop().unwrap_or(Value::Unit));
                 }
@@ -100,13 +95,10 @@ fn answer(bytes: &[u8]) -> Result<String, Box<dyn Error>> {
         calls: 200,
         at: 0,
     };
-    match machine.run(0, Vec::new()) {
-        Ok(value) => Ok(format!("{value:?}")),
-        Err(fault) => {
-            let site = file.site(machine.at).unwrap_or_default();
-            Err(format!("{site}: {fault}").into())
-        }
-    }
+    let result = machine.run(0, Vec::new());
+    let site = file.site(machine.at).unwrap_or_default();
+    let value = result.map_err(|fault| format!("{site}: {fault}"))?;
+    Ok(format!("{value:?}"))
 }
 
 fn main() -> Result<(), Box<dyn Error>> {

@@ -98,7 +98,7 @@ fn sum(is_bad: bool) -> Script {
         (StoreLocal, vec![count]),
         keep,
         (Jump, vec![4]),
-        (LoadLocal, vec![sum]), // 18, behind the rounds
+        (LoadLocal, vec![sum]), // 18, after the rounds
         (Return, vec![]),
     ];
     Script {

@@ -62,7 +62,7 @@ impl Caps {
     /// All of them.
     pub const ALL: Caps = Caps(0x7fff);
 
-    /// The set with these bits, or `None` where one of them has no name.
+    /// The set with these bits, or `None` if one of them has no name.
     #[must_use]
     pub const fn from_bits(bits: u16) -> Option<Caps> {
         if bits & !Caps::ALL.0 == 0 {
@@ -297,7 +297,7 @@ impl fmt::Debug for Caps {
     }
 }
 
-/// A text or a number is no set of capabilities: it has a name or a bit that no capability has.
+/// A text or a number isn't a set of capabilities: it has a name or a bit that no capability has.
 #[derive(Clone, Copy, Debug, PartialEq, Eq, Hash)]
 #[non_exhaustive]
 pub struct UnknownCap;

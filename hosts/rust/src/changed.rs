@@ -13,7 +13,7 @@ use std::fmt;
 #[derive(Clone, Copy, Debug, PartialEq, Eq, Hash)]
 #[non_exhaustive]
 pub enum TightenError {
-    /// The bytes are no file within the limits, or the allocator refused.
+    /// The bytes aren't a file within the limits, or the allocator refused.
     File(FileError),
     /// The program isn't accepted.
     Verify(VerifyError),
@@ -43,7 +43,7 @@ impl From<VerifyError> for TightenError {
     }
 }
 
-/// The files of a program and of its positions, apart.
+/// The file of a program without positions, and the sidecar file with these.
 #[derive(Clone, Debug, PartialEq, Eq, Hash)]
 pub struct Stripped {
     /// The file of the program, without positions.
@@ -57,7 +57,7 @@ fn room_for(size: usize) -> Result<Vec<u8>, FileError> {
     zeroed(size).map_err(|_| FileError::OutOfMemory)
 }
 
-/// The first bytes of room, which are those that were written, in memory that is no larger. They are copied: if the allocator
+/// The first bytes of room, which are those that were written, in memory that isn't larger. They are copied: if the allocator
 /// refuses to shrink a list, the process ends.
 fn written(room: &[u8], size: usize) -> Result<Vec<u8>, FileError> {
     copied(&room[..size.min(room.len())]).map_err(|_| FileError::OutOfMemory)
@@ -146,7 +146,7 @@ impl ProgramFile {
     }
 
     /// Takes the positions of a file into a sidecar file of their own. The file of the program is never longer than the one that
-    /// was read. The file is read twice where the sidecar is longer than that.
+    /// was read. The file is read twice if the sidecar is longer than that.
     ///
     /// ```
     /// use grain::{Limits, ProgramFile};

@@ -120,7 +120,7 @@ impl InstructionRow {
         self.fields.iter().flatten().copied()
     }
 
-    /// Its field of a kind, the first where it has two.
+    /// Its field of a kind, the first if it has two.
     #[must_use]
     pub fn field(&self, kind: Kind) -> Option<u32> {
         self.fields()
@@ -129,14 +129,14 @@ impl InstructionRow {
     }
 
     /// Whether it is quiet: a machine must never fault at it, or only with at least what was on the stacks when the last handler
-    /// was armed ([what a host owes](crate#what-a-host-owes)).
+    /// was armed ([what a host must do](crate#what-a-host-must-do)).
     #[must_use]
     pub fn is_quiet(&self) -> bool {
         // SAFETY: a number is all that the function is given.
         unsafe { raw::grain_is_quiet(self.tag) }
     }
 
-    /// The bytes that spell it.
+    /// Its bytes.
     #[must_use]
     pub fn bytes(&self) -> &[u8] {
         &self.bytes[..usize::from(self.width).min(MOST_BYTES)]
@@ -164,7 +164,7 @@ impl fmt::Display for InstructionRow {
     }
 }
 
-/// The instructions of code from its front, each with its address, up to the first thing that is none.
+/// The instructions of code from address 0 on, each with its address, up to the first byte at which none begins.
 ///
 /// ```
 /// use grain::instructions;
@@ -193,7 +193,7 @@ impl<'a> Instructions<'a> {
         Instructions { code, address }
     }
 
-    /// The address of the next one. After the last it is the address of the first thing that is no instruction, or the length
+    /// The address of the next one. After the last it is the first address at which there is no instruction, or the length
     /// of the code.
     #[must_use]
     pub fn address(&self) -> u32 {
@@ -233,7 +233,7 @@ impl FusedIterator for Instructions<'_> {}
 /// ```
 ///
 /// # Errors
-/// The address of the first thing that is no instruction.
+/// The first address at which there is no instruction.
 pub fn count_instructions(code: &[u8]) -> Result<usize, usize> {
     let (mut count, mut damage) = (0, 0);
     // SAFETY: the code is one slice, and the numbers live for the call.
@@ -247,7 +247,7 @@ pub fn count_instructions(code: &[u8]) -> Result<usize, usize> {
     }
 }
 
-/// The instruction at an address, or `None` where there is none.
+/// The instruction at an address, or `None` if there is none.
 ///
 /// The proved library decodes it. A machine decodes faster by [`Instruction::decode`](crate::Instruction::decode).
 #[must_use]

@@ -43,7 +43,7 @@ pub enum VerifyError {
 }
 
 impl VerifyError {
-    /// Why the program is refused, where it is.
+    /// Why the program is refused, if it is.
     #[must_use]
     pub fn refusal(&self) -> Option<&Refusal> {
         match self {

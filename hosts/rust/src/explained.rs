@@ -129,21 +129,21 @@ impl<'a> Explained<'a> {
         self.inside.as_ref()
     }
 
-    /// The index of the explained chunk; `None` where a refusal outside the chunks was to be explained.
+    /// The index of the explained chunk; `None` if a refusal outside the chunks was to be explained.
     #[must_use]
     pub fn chunk(&self) -> Option<usize> {
         self.chunk.map(|(index, _)| index)
     }
 
-    /// The states at the reached instructions of the chunk, in the order of addresses, one for each at most: all of them where
-    /// the chunk passes; where it is refused, those of the path, and others that the walk visited until it met the flaw.
+    /// The states at the reached instructions of the chunk, in the order of addresses, one for each at most: all of them if
+    /// the chunk passes; if it is refused, those of the path, and others that the walk visited until it met the flaw.
     #[must_use]
     pub fn rows(&self) -> &[Row] {
         &self.rows[..self.ends.0]
     }
 
-    /// A path to the flaw, from the entry of the chunk on; its last row shows the flaw. It is empty where there is no flaw, and
-    /// where the chunk is empty, isn't in the code, or begins or ends inside an instruction.
+    /// A path to the flaw, from the entry of the chunk on; its last row shows the flaw. It is empty if there is no flaw, and
+    /// if the chunk is empty, isn't in the code, or begins or ends inside an instruction.
     #[must_use]
     pub fn path(&self) -> &[Row] {
         &self.rows[self.ends.0..self.ends.1]
@@ -198,7 +198,7 @@ impl FusedIterator for Bases<'_> {}
 /// Explains a chunk of a program, by its index, or what a [`Refusal`] refuses: the state at each reached instruction, and a path
 /// to the flaw; for a conflict, two. What is outside the chunks is tested too, and a refusal for it is shown first.
 ///
-/// Memory grows with the chunk, and time with the chunk and the code. The process never ends where the allocator refuses.
+/// Memory grows with the chunk, and time with the chunk and the code. The process never ends if the allocator refuses.
 ///
 /// ```
 /// use grain::{explain, verify, Caps, Chunk, Flaw, Pools};
@@ -220,7 +220,7 @@ impl FusedIterator for Bases<'_> {}
 /// ```
 ///
 /// # Errors
-/// [`ExplainError::NoChunk`] where the program has no such chunk; [`ExplainError::BadCode`] where a chunk is to be explained of
+/// [`ExplainError::NoChunk`] if the program has no such chunk; [`ExplainError::BadCode`] if a chunk is to be explained of
 /// code that isn't whole instructions with their indices in bounds; the allocator refused; the pools aren't flat.
 pub fn explain<'a>(
     caps: Caps,

@@ -21,7 +21,7 @@ use std::str;
 
 /// A program file that was read (FORMAT.md, "Program files"): all that the program has.
 ///
-/// Nothing says that the program verifies until [`ProgramFile::verify`] does. A program has at most one file, so that the bytes
+/// The program is unverified until [`ProgramFile::verify`] accepts it. A program has at most one file, so that the bytes
 /// may be hashed, signed and compared in place of it, and a host that writes it again writes these. [`ProgramFile::tighten`] and
 /// [`ProgramFile::strip`] write the file of a program that is changed. Threads may share one.
 ///
@@ -83,10 +83,10 @@ impl<'a> From<&'a ProgramFile> for FlatPools<'a> {
     }
 }
 
-/// The list at a pointer of the library's, which leads nowhere where the list is empty.
+/// The list at a pointer of the library's. That of an empty list is non-null and must not be dereferenced.
 ///
 /// # Safety
-/// Otherwise it leads to as many items, which stay as they are for the lifetime.
+/// Otherwise it points to as many items, which don't change during the lifetime.
 unsafe fn list<'a, T>(items: *const T, len: usize) -> &'a [T] {
     if len == 0 {
         &[]
@@ -132,7 +132,8 @@ impl ProgramFile {
         unsafe { self.contents.as_ref() }
     }
 
-    /// The capabilities that the program declares, as far as there are such: it is refused where it declares others.
+    /// The capabilities that the program declares, without bits that aren't capabilities. A program that declares such a bit is
+    /// refused.
     #[must_use]
     pub fn caps(&self) -> Caps {
         Caps::from_bits_truncate(self.contents().caps)
@@ -240,6 +241,31 @@ impl ProgramFile {
         })
     }
 
+    /// The index of the chunk that a call of a name with as many arguments runs: that of the first function whose name has the
+    /// same text, with as many parameters, and declared for receivers of no type (RUNNING.md, "Callees"). It goes over all
+    /// functions.
+    ///
+    /// ```
+    /// use grain::ProgramFile;
+    ///
+    /// // fn fib(n) { .. }
+    /// let file = ProgramFile::try_from(&include_bytes!("../examples/fib.grain")[..])?;
+    /// let fib = file.names().position(|name| name == "fib").unwrap() as u32;
+    /// assert_eq!((file.callee(fib, 1), file.callee(fib, 2)), (Some(1), None));
+    /// # Ok::<(), grain::FileError>(())
+    /// ```
+    #[must_use]
+    pub fn callee(&self, name: u32, arguments: usize) -> Option<usize> {
+        let text = self.name(name)?;
+        let mut functions = self.functions();
+        let found = functions.position(|function| {
+            function.parameters.len() == arguments
+                && function.this_type.is_none()
+                && self.name(function.name) == Some(text)
+        });
+        found.map(|index| index + 1)
+    }
+
     /// The constants, in order.
     pub fn constants(&self) -> Values<'_> {
         let contents = self.contents();
@@ -261,7 +287,7 @@ impl ProgramFile {
         Values::new(values.get(begin..)?, texts, 1).first()
     }
 
-    /// The operators, and then for each op-assignment its own and the one that it stands for.
+    /// The operators, and then for each op-assignment its own and the one that it applies.
     fn all_operators(&self) -> &[raw::Value] {
         contents!(self.contents(), operators, operators_len)
     }
@@ -371,7 +397,7 @@ impl ProgramFile {
         })
     }
 
-    /// The address table of the positions in the code, where the file has these.
+    /// The address table of the positions in the code, if the file has these.
     #[must_use]
     pub fn table(&self) -> Option<&[u8]> {
         let table = contents!(self.contents(), table, table_len);

@@ -1,4 +1,4 @@
-//! Why bytes are no program file.
+//! Why bytes aren't a program file.
 use crate::raw;
 use crate::text::Text;
 use std::error::Error;
@@ -47,9 +47,9 @@ numbered! {
     NotShortest = 7,
     /// A text isn't UTF-8.
     NotText = 8,
-    /// A number is no character.
+    /// A number isn't a character.
     NotCharacter = 9,
-    /// A byte is no tag.
+    /// A byte isn't a tag.
     UnknownTag = 10,
     /// A key doesn't come after the one before it.
     KeyOrder = 11,
@@ -122,7 +122,7 @@ numbered! {
     Rest = 24,
 }
 
-/// Why bytes are no file: the first wrong byte, the part that it is in, and what is wrong there.
+/// Why bytes aren't a file: the first wrong byte, the part that it is in, and what is wrong there.
 #[derive(Clone, Copy, PartialEq, Eq, Hash)]
 pub struct Malformed {
     record: raw::ReadError,
@@ -180,7 +180,7 @@ impl fmt::Display for Malformed {
 #[derive(Clone, Copy, Debug, PartialEq, Eq, Hash)]
 #[non_exhaustive]
 pub enum FileError {
-    /// The bytes are no file within the limits.
+    /// The bytes aren't a file within the limits.
     Malformed(Malformed),
     /// The file has more bytes than the limit.
     TooLarge {

@@ -10,8 +10,8 @@ use std::fmt::{self, Write};
 /// [`Pools`].
 ///
 /// One list has the steps of all chains, chain after chain, and two have the cases and the ranges of all switches; the numbers
-/// in the rows must add up to them. Where they don't, or the names aren't cut as [`names`](FlatPools::names) says, no pools have
-/// this form: the answer is [`VerifyError::NotFlat`](crate::VerifyError::NotFlat), and [`check`](FlatPools::check) says the same.
+/// in the rows must add up to them. If they don't, or the names aren't cut as [`names`](FlatPools::names) says, no pools have
+/// this form: the result is [`VerifyError::NotFlat`](crate::VerifyError::NotFlat), and [`check`](FlatPools::check) says the same.
 ///
 /// ```
 /// use grain::{verify, Caps, Case, ChainRow, Chunk, FlatPools, Root, Step, StepRow, SwitchRow, Tail};
@@ -140,7 +140,7 @@ impl<'a> FlatPools<'a> {
         self
     }
 
-    /// With these switches, and the cases and the ranges of all of them. A range is where it leads.
+    /// With these switches, and the cases and the ranges of all of them. A range is its target.
     #[must_use]
     pub const fn switches(
         mut self,
@@ -204,7 +204,7 @@ impl<'a> FlatPools<'a> {
         self.starts.len().saturating_sub(1)
     }
 
-    /// The bytes of the name at an index, where there is one.
+    /// The bytes of the name at an index, if there is one.
     pub(crate) fn name(&self, index: u32) -> Option<&'a [u8]> {
         let index = index as usize;
         let (from, to) = (*self.starts.get(index)?, *self.starts.get(index + 1)?);
@@ -258,7 +258,7 @@ pub enum PoolsList {
 pub struct PoolsFlaw {
     /// The list that is wrong.
     pub list: PoolsList,
-    /// The index of the first entry that is wrong, or the length of the list where entries are missing.
+    /// The index of the first entry that is wrong, or the length of the list if entries are missing.
     pub index: u64,
 }
 

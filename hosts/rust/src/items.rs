@@ -7,7 +7,7 @@ use std::iter::FusedIterator;
 /// A function of a program file.
 #[derive(Clone, Copy, Debug, PartialEq, Eq, Hash)]
 pub struct FileFunction<'a> {
-    /// The index of its name.
+    /// The index of its name. Nothing tests it, nor those of parameters and of the type: each may be that of no name.
     pub name: u32,
     /// The indices of the names of its parameters.
     pub parameters: &'a [u32],
@@ -133,7 +133,7 @@ pub struct Range {
     pub to: i64,
     /// Whether the range has that last integer.
     pub is_inclusive: bool,
-    /// The address where it leads.
+    /// The address to which it jumps.
     pub target: u32,
 }
 
@@ -146,7 +146,7 @@ impl Range {
     }
 }
 
-/// A switch of a program file. A subject that equals the constant of a case leads to that case. If there is no such case, the
+/// A switch of a program file. A subject that equals the constant of a case goes to that case. If there is no such case, the
 /// first range that has the subject counts.
 #[derive(Clone, Copy, Debug)]
 pub struct FileSwitch<'a> {
@@ -154,7 +154,7 @@ pub struct FileSwitch<'a> {
     pub cases: &'a [Case],
     /// The ranges.
     pub ranges: &'a [Range],
-    /// The address where all other subjects lead.
+    /// The address to which all other subjects go.
     pub otherwise: u32,
 }
 
@@ -165,7 +165,7 @@ pub struct OpAssignment<'a> {
     pub op_assign: Operator<'a>,
     /// The index of the name of that.
     pub op_assign_name: u32,
-    /// The operator that it stands for, as `+`.
+    /// The operator that it applies, as `+`.
     pub op: Operator<'a>,
     /// The index of the name of that.
     pub op_name: u32,

@@ -2,8 +2,8 @@
 //!
 //! [`verify`] and [`Program::into_verified`] say whether a compiled script may run in place, and how many operands each of its
 //! chunks needs. No run of an accepted program lacks an operand, an iterator or a handler, or leaves its chunk, on a machine that
-//! does [what a host owes](crate#what-a-host-owes). The library behind this package is proved to accept exactly the programs of
-//! FORMAT.md, where memory suffices; the package is plain Rust around the library's C functions, tested and not proved.
+//! does [what a host must do](crate#what-a-host-must-do). The library of this package is proved to accept exactly the programs of
+//! FORMAT.md, unless memory runs out. The package is plain Rust around the library's C functions, tested and not proved.
 //!
 //! A stranger's program file:
 //!
@@ -46,20 +46,20 @@
 //!
 //! | To | Use |
 //! |---|---|
-//! | verify one program | [`Program::into_verified`], or [`verify`] where the lists are the host's own |
+//! | verify one program | [`Program::into_verified`], or [`verify`] if the lists are the host's own |
 //! | verify many, within a limit | [`Verifier`] |
 //! | say why not | [`VerifyError`], [`Refusal`], [`Flaw`] |
 //! | show why not | [`Program::explain`], [`Explained`] |
-//! | fill pools | [`Pools`], or [`FlatPools`] where the lists are the host's own |
+//! | fill pools | [`Pools`], or [`FlatPools`] if the lists are the host's own |
 //! | read a program file | [`ProgramFile::read`], with [`Limits`] |
 //! | verify one | [`ProgramFile::into_verified`] |
 //! | write one again | [`ProgramFile::tighten`], [`ProgramFile::strip`] |
-//! | run what is accepted | [`Verified`], [`VerifiedFile`], [`Instruction`] |
+//! | run what is accepted | [`Verified`], [`VerifiedFile`], [`Frame`], [`Instruction`], [`ProgramFile::callee`] |
 //! | find lines | [`Verified::site`], [`site`], [`stream_site`] |
 //!
 //! From a program file to a run, `examples/script.rs` is a whole host.
 //!
-//! # What a host owes
+//! # What a host must do
 //!
 //! - It runs only what was accepted, unchanged, with room for as many operands as the depth of each chunk. [`Verified`] keeps
 //!   the program and the depths together.
@@ -69,21 +69,22 @@
 //! - When a handler catches a fault, the stacks still have at least what they had when the handler was armed. Accepted code
 //!   ensures this at every instruction except the quiet ones ([`Opcode::is_quiet`]). At these the machine must never fault, or
 //!   only with at least that much left.
-//! - It never reads or writes a slot that it hasn't allocated. A slot is any number of 16 bits, and verification tests none.
-//!   [`Verified::slots`] says how many slots each chunk names; a machine that has as many for a call needs no test of a slot.
+//! - It never reads or writes a slot that it hasn't allocated. A slot is any 16-bit number, and nothing tests it.
+//!   [`Verified::slots`] says how many slots each chunk names. A machine that allocates as many for a call, and at least one for
+//!   each parameter, needs no test of a slot.
 //!
-//! A yes says nothing of scopes, of values and their types, or of what a call does. It doesn't say that a run ends.
+//! Acceptance says nothing about scopes, values and their types, or what a call does. It doesn't say that a run ends.
 //!
 //! # What to bound for hostile input
 //!
 //! - The length of the code, and of each list of the pools: time and memory grow with them.
 //! - The work: chunks may overlap, so that many short chunks cost as much as long code. [`Verifier::limit`] bounds it.
-//! - The depth of constants is the host's to bound, where it reads them: verification sees only what they need. [`Limits`] bounds
-//!   it for program files, which take about 1,200 bytes of the call stack for each level, of which there are 256 at most.
+//! - The depth of constants: verification sees only what they need. [`Limits`] bounds it for program files. Reading one takes
+//!   about 1,200 bytes of call stack for each level, of which there are 256 at most.
 //! - The variables of a call: `DECLARE_LOCAL` takes the next slot, which a hostile program can do without end. And the steps of a
 //!   run, and how deep calls are nested.
 //!
-//! No call waits or prints. No call ends the process where the allocator refuses, except the chained calls of [`Pools`] and
+//! No call waits or prints. No call ends the process if the allocator refuses, except the chained calls of [`Pools`] and
 //! clones, which take memory as a `Vec` does. That is tested of each public function.
 //!
 //! # Platform
@@ -147,7 +148,7 @@ pub use tables::{
 };
 pub use text::Text;
 pub use values::{Entries, Operator, Value, Values};
-pub use verified::{Rejected, RejectedFile, Source, Verified, VerifiedFile};
+pub use verified::{Frame, Rejected, RejectedFile, Source, Verified, VerifiedFile};
 pub use verifier::Verifier;
 
 /// A part of the code that is run by itself.
@@ -177,8 +178,8 @@ impl Chunk {
 /// Verifies a program for a host with these capabilities, and returns the depth of each chunk: the greatest number of operands
 /// that any run of it reaches.
 ///
-/// `pools` are [`&Pools`](Pools) or [`FlatPools`]. What a yes requires of the machine that runs accepted code is listed at
-/// [what a host owes](crate#what-a-host-owes). [`Program::into_verified`] keeps the yes and the program together.
+/// `pools` are [`&Pools`](Pools) or [`FlatPools`]. What acceptance requires of the machine that runs the code is listed at
+/// [what a host must do](crate#what-a-host-must-do). [`Program::into_verified`] keeps the verdict and the program together.
 ///
 /// ```
 /// use grain::{verify, Caps, Chunk, Pools};
@@ -189,7 +190,7 @@ impl Chunk {
 /// ```
 ///
 /// # Errors
-/// [`VerifyError::Refused`] where the program is refused; all others say why nothing was verified.
+/// [`VerifyError::Refused`] if the program is refused; all others say why nothing was verified.
 pub fn verify<'a>(
     caps: Caps,
     code: &[u8],
@@ -201,8 +202,8 @@ pub fn verify<'a>(
     Ok(depths)
 }
 
-/// Verifies as [`verify`] does, writes the depths to the front of a list of the caller's, and returns how many instructions
-/// were visited, counted for each chunk apart.
+/// Verifies as [`verify`] does, writes the depths to the first entries of a list of the caller's, and returns how many instructions
+/// were visited, summed over the chunks.
 ///
 /// A thread keeps the memory in which it verified small programs, with up to 3 KiB of code: less than 256 KiB. [`Verifier`]
 /// keeps it for larger ones.
@@ -217,7 +218,7 @@ pub fn verify<'a>(
 /// ```
 ///
 /// # Errors
-/// Those of [`verify`], and [`VerifyError::TooFewDepths`] where there are fewer places than chunks. Then nothing is written.
+/// Those of [`verify`], and [`VerifyError::TooFewDepths`] if there are fewer places than chunks. Then nothing is written.
 pub fn verify_into<'a>(
     caps: Caps,
     code: &[u8],

@@ -127,7 +127,7 @@ impl Explained<'_> {
         f.write_str(if is_here { "  <== here\n" } else { "\n" })
     }
 
-    /// What is said of an instruction without a row: the walk through a refused chunk ends at its flaw.
+    /// How an instruction without a row is marked: the walk through a refused chunk ends at its flaw.
     fn not_here(&self) -> &'static str {
         if self.refusal_of_chunk().is_some() {
             "not visited"
@@ -186,7 +186,7 @@ fn words(place: ChainPlace) -> Buffer<64> {
 struct Bytes<'a>(&'a [u8]);
 
 impl<'a> Bytes<'a> {
-    /// Those of an instruction, or one byte where there is none.
+    /// Those of an instruction, or one byte if there is none.
     fn at(code: &'a [u8], address: u32, found: Option<&InstructionRow>) -> Bytes<'a> {
         let width = found.map_or(1, |found| usize::from(found.width));
         let rest = code.get(address as usize..).unwrap_or_default();
@@ -204,7 +204,7 @@ impl fmt::Display for Bytes<'_> {
     }
 }
 
-/// A name, escaped; nothing where the name isn't there.
+/// A name, escaped; nothing if the name isn't there.
 fn write_name(f: &mut fmt::Formatter<'_>, pools: &FlatPools<'_>, index: u32) -> fmt::Result {
     let Some(name) = pools.name(index) else {
         return Ok(());

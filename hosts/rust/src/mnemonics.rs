@@ -1,6 +1,6 @@
 //! The names of tags: those of FORMAT.md ("Instructions").
 
-/// The name of the instructions that begin with this byte, or `None` where none does that this package knows.
+/// The name of the instructions that begin with this byte, or `None` if none does that this package knows.
 ///
 /// ```
 /// assert_eq!(grain::mnemonic(0x13), Some("RETURN"));

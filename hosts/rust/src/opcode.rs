@@ -1,7 +1,7 @@
 //! The instruction table.
 use crate::code::Kind;
 
-/// Where an instruction leads (FORMAT.md, "Verification").
+/// Where control goes after an instruction (FORMAT.md, "Verification").
 #[derive(Clone, Copy, Debug, PartialEq, Eq, Hash)]
 #[non_exhaustive]
 pub enum Flow {
@@ -13,7 +13,7 @@ pub enum Flow {
     Jumps,
     /// To its target, or to the next instruction.
     Branches,
-    /// To the target of a case or of a range of its switch, or to where all other subjects lead.
+    /// To the target of a case or of a range of its switch, or to the default target.
     Switches,
     /// To the next instruction, with an iterator more.
     BeginsIterator,
@@ -48,7 +48,7 @@ macro_rules! field_type {
     };
 }
 
-/// What is said of a field of [`Instruction`].
+/// The doc comment of a field of [`Instruction`].
 macro_rules! field_doc {
     (Constant) => {
         "The index of a constant."
@@ -85,7 +85,7 @@ macro_rules! field_doc {
     };
 }
 
-/// Takes a field from the front of bytes that have it.
+/// Takes a field from the first of the bytes that have it.
 macro_rules! take {
     (Count, $left:ident) => {{
         let (value, rest) = ($left[0], &$left[1..]);
@@ -181,7 +181,7 @@ macro_rules! opcodes {
         }
 
         impl Instruction {
-            /// The instruction at an address, and the address of the one behind it; `None` if there is none.
+            /// The instruction at an address, and the address of the next one; `None` if there is none.
             ///
             /// This is plain Rust, quick enough for a machine. [`instruction`](crate::instruction) returns the same by the proved
             /// library.
@@ -228,7 +228,7 @@ const fn by_tag() -> [Option<Opcode>; 256] {
 }
 
 impl Opcode {
-    /// The one with this tag, or `None` where no instruction begins with the byte.
+    /// The one with this tag, or `None` if no instruction begins with the byte.
     #[inline]
     #[must_use]
     pub const fn from_tag(tag: u8) -> Option<Opcode> {
@@ -268,7 +268,7 @@ impl Opcode {
         width
     }
 
-    /// Where it leads.
+    /// Where control goes after it.
     #[inline]
     #[must_use]
     pub const fn flow(self) -> Flow {
@@ -276,14 +276,14 @@ impl Opcode {
     }
 
     /// Whether it is quiet: a machine must never fault at it, or only with at least what was on the stacks when the last handler
-    /// was armed ([what a host owes](crate#what-a-host-owes)).
+    /// was armed ([what a host must do](crate#what-a-host-must-do)).
     #[inline]
     #[must_use]
     pub const fn is_quiet(self) -> bool {
         self.layout().is_quiet
     }
 
-    /// The instruction at an address, and its fields, followed by zeros; `None` where there is none.
+    /// The instruction at an address, and its fields, followed by zeros; `None` if there is none.
     ///
     /// [`Instruction::decode`] returns the same with names.
     #[inline]

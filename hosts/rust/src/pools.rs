@@ -39,8 +39,8 @@ impl From<TryReserveError> for PoolError {
 /// Items are added one by one, in the order of their indices. There are two ways to do it:
 ///
 /// - Chained calls ([`constant`](Pools::constant), [`name`](Pools::name), [`chain`](Pools::chain), [`switch`](Pools::switch))
-///   take memory as a `Vec` does: the process ends where the allocator refuses. So does a clone.
-/// - Calls that begin with `add` or `extend` return the index of the item, or an error where the allocator refuses. A host that
+///   take memory as a `Vec` does: the process ends if the allocator refuses. So does a clone.
+/// - Calls that begin with `add` or `extend` return the index of the item, or an error if the allocator refuses. A host that
 ///   reads programs of others uses these.
 ///
 /// Cleared pools keep their memory for the next program. Small pools that are dropped leave it to the next pools of their thread.
@@ -62,7 +62,7 @@ impl From<TryReserveError> for PoolError {
 /// ```
 #[derive(Clone, Default)]
 pub struct Pools {
-    /// The lists, or nothing where there is no item: behind one pointer, so that a chained call moves little.
+    /// The lists, or nothing if there is no item: behind one pointer, so that a chained call moves little.
     lists: Option<Own>,
     operators: usize,
     op_assignments: usize,
@@ -78,7 +78,7 @@ type Own = Box<[Lists; 1]>;
 struct Lists {
     constants: Vec<Constant>,
     names: Vec<u8>,
-    /// 0 and then where each name ends; nothing where there is no name.
+    /// 0 and then where each name ends; nothing if there is no name.
     starts: Vec<u32>,
     chains: Vec<ChainRow>,
     steps: Vec<StepRow>,
@@ -105,7 +105,7 @@ fn push<T>(list: &mut Vec<T>, item: T) -> Result<(), PoolError> {
     Ok(())
 }
 
-/// Adds items, and returns how many they were; adds none where the allocator refuses.
+/// Adds items, and returns how many they were; adds none if the allocator refuses.
 fn extend<T>(list: &mut Vec<T>, items: impl IntoIterator<Item = T>) -> Result<usize, PoolError> {
     let (before, items) = (list.len(), items.into_iter());
     let mut added = list
@@ -123,7 +123,7 @@ fn extend<T>(list: &mut Vec<T>, items: impl IntoIterator<Item = T>) -> Result<us
     added.map(|()| list.len() - before)
 }
 
-/// For how many bytes each list has room at first where calls are chained, so that it seldom grows.
+/// For how many bytes each list has room at first when calls are chained, so that it seldom grows.
 const FIRST_ROOM: usize = 1024;
 
 /// A list with that room.
@@ -141,7 +141,7 @@ thread_local! {
     static SPARE: Cell<Option<Own>> = const { Cell::new(None) };
 }
 
-/// Those lists, or nothing where there are none or the thread is about to end.
+/// Those lists, or nothing if there are none or the thread is about to end.
 fn spare() -> Option<Own> {
     SPARE.try_with(Cell::take).ok().flatten()
 }
@@ -152,7 +152,7 @@ fn begin() -> Own {
     spare().unwrap_or_else(|| Box::new([Lists::with_room()]))
 }
 
-/// Those lists, or new ones without room; an error where the allocator refuses.
+/// Those lists, or new ones without room; an error if the allocator refuses.
 fn try_begin() -> Result<Own, PoolError> {
     if let Some(own) = spare() {
         return Ok(own);
@@ -275,7 +275,7 @@ impl Pools {
         lists
     }
 
-    /// The same; an error where the allocator refuses.
+    /// The same; an error if the allocator refuses.
     fn try_lists(&mut self) -> Result<&mut Lists, PoolError> {
         if self.lists.is_none() {
             self.lists = Some(try_begin()?);
@@ -348,7 +348,7 @@ impl Pools {
         self
     }
 
-    /// With one more switch: its cases, where each of its ranges leads, and where all other subjects lead.
+    /// With one more switch: its cases, the target of each of its ranges, and the target of all other subjects.
     #[inline]
     #[must_use]
     pub fn switch(mut self, cases: &[Case], ranges: &[u32], otherwise: u32) -> Pools {

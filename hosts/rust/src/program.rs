@@ -19,7 +19,7 @@ use std::fmt;
 pub struct Positions {
     /// The address table of the positions in the code.
     pub table: Vec<u8>,
-    /// The stream of the positions in the chains, chain by chain: that of the root, where it is [`Root::Named`] or
+    /// The stream of the positions in the chains, chain by chain: that of the root, if it is [`Root::Named`] or
     /// [`Root::This`], and then those of the steps. An index has two, its own and that of its bracket.
     pub stream: Vec<u8>,
 }
@@ -56,7 +56,7 @@ pub enum AttachError {
 impl fmt::Display for AttachError {
     fn fmt(&self, f: &mut fmt::Formatter<'_>) -> fmt::Result {
         match self {
-            AttachError::Table(flaw) => write!(f, "the bytes are no address table: {flaw}"),
+            AttachError::Table(flaw) => write!(f, "the bytes are not an address table: {flaw}"),
             AttachError::NoInstruction { at } => {
                 write!(
                     f,
@@ -64,7 +64,7 @@ impl fmt::Display for AttachError {
                 )
             }
             AttachError::NoLine { at } => write!(f, "the address table has line 0 for {at}"),
-            AttachError::Stream(flaw) => write!(f, "the bytes are no stream: {flaw}"),
+            AttachError::Stream(flaw) => write!(f, "the bytes are not a stream: {flaw}"),
             AttachError::ChainCount { slots, positions } => write!(
                 f,
                 "the stream has {slots} slots, and the chains have {positions} positions"
@@ -78,7 +78,7 @@ impl Error for AttachError {}
 
 /// A program: its code, its chunks, its pools, and perhaps its positions.
 ///
-/// [`Program::into_verified`] turns it into one that may be run. Where that says no, [`Program::explain`] shows why.
+/// [`Program::into_verified`] turns it into one that may be run. If that says no, [`Program::explain`] shows why.
 ///
 /// ```
 /// use grain::{Caps, Chunk, Pools, Positions, Program, Site};
@@ -133,7 +133,7 @@ impl Program {
         &self.pools
     }
 
-    /// Its positions, where it has them.
+    /// Its positions, if it has them.
     #[must_use]
     pub fn positions(&self) -> Option<&Positions> {
         self.positions.as_ref()
@@ -199,7 +199,7 @@ impl Program {
         stream_site(&self.positions.as_ref()?.stream, slot)
     }
 
-    /// The entries of its address table in order; none where it has no positions.
+    /// The entries of its address table in order; none if it has no positions.
     ///
     /// # Errors
     /// The allocator refused.
@@ -208,7 +208,7 @@ impl Program {
         Ok(positions.map_or(Ok(Vec::new()), |own| table_entries(&own.table))?)
     }
 
-    /// The sites of its chains, slot by slot; none where it has no positions.
+    /// The sites of its chains, slot by slot; none if it has no positions.
     ///
     /// # Errors
     /// The allocator refused.
@@ -217,9 +217,9 @@ impl Program {
         positions.map_or(Ok(Vec::new()), |own| stream_sites(&own.stream))
     }
 
-    /// Gives the program these positions in place of its own. They are tested: the table and the stream must be such. Each entry
-    /// must have a line, and the address of an instruction or of the first thing that is none. There must be a slot for each
-    /// position of the chains.
+    /// Gives the program these positions in place of its own. They are tested: the table must be an address table, and the stream
+    /// a chain stream. Each entry must have a line, and the address of an instruction, or the first address at which there is none.
+    /// There must be a slot for each position of the chains.
     ///
     /// # Errors
     /// The first test that fails; then the program stays as it was.
@@ -243,7 +243,7 @@ impl Program {
         self.positions.take()
     }
 
-    /// Its code, its chunks, its pools and its positions, apart.
+    /// Takes it apart into its code, its chunks, its pools and its positions.
     #[must_use]
     pub fn into_parts(self) -> (Vec<u8>, Vec<Chunk>, Pools, Option<Positions>) {
         (self.code, self.chunks, self.pools, self.positions)

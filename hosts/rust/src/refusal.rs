@@ -94,7 +94,7 @@ pub enum Flaw {
     IteratorUnderflow,
     /// The instruction needs a handler, and none is armed.
     HandlerUnderflow,
-    /// The instruction leaves fewer operands than there were when the last handler was armed; or, where there are enough of
+    /// The instruction leaves fewer operands than there were when the last handler was armed; or, if there are enough of
     /// these, fewer iterators.
     SinksBelowHandler {
         /// How many there were when the handler was armed.
@@ -155,7 +155,7 @@ impl Refusal {
 
     /// The index of the chunk that is refused.
     ///
-    /// It is `None` where the program is refused as a whole: for a constant, for the functions, or for its code with the
+    /// It is `None` if the program is refused as a whole: for a constant, for the functions, or for its code with the
     /// indices in it, reached or not.
     #[must_use]
     pub fn chunk(&self) -> Option<usize> {
@@ -165,8 +165,8 @@ impl Refusal {
         usize::try_from(self.record.chunk).ok()
     }
 
-    /// The address of the instruction that is refused, or where there is none. Where the chunk isn't in the code, or begins
-    /// or ends inside an instruction, it is the chunk's entry.
+    /// The address of the instruction that is refused, or of the byte at which there is none. If the chunk isn't in the code, or
+    /// begins or ends inside an instruction, it is the chunk's entry.
     ///
     /// It is `None` for a constant and the functions, for [`Flaw::FallsOffTheEnd`] and [`Flaw::StackExceedsDeclared`].
     #[must_use]
@@ -238,7 +238,7 @@ impl Refusal {
         }
     }
 
-    /// How many instructions the walks visited until the refusal, counted for each chunk apart; in an
+    /// How many instructions the walks visited until the refusal, summed over the chunks; in an
     /// [explanation](crate::Explained), those of the explained chunk.
     #[must_use]
     pub fn visited(&self) -> u64 {
@@ -252,7 +252,7 @@ impl Refusal {
         Text::written_by(|room, size| unsafe { raw::grain_refusal_text(&self.record, room, size) })
     }
 
-    /// The index of the constant that is refused: the first that needs what the host lacks. It is `None` where something else
+    /// The index of the constant that is refused: the first that needs what the host lacks. It is `None` if something else
     /// is refused.
     ///
     /// The library says what the constant needs, and not which one it is. So it is searched for in the pools, which must be
@@ -263,7 +263,7 @@ impl Refusal {
     }
 
     /// The chain that is refused, and which part of it: one with an index out of bounds, or a step that needs what the host
-    /// lacks. It is `None` where something else is refused.
+    /// lacks. It is `None` if something else is refused.
     ///
     /// The library says which instruction names the chain, and not which part is wrong. So it is searched for in the code and
     /// the pools, which must be those that were verified.

@@ -68,7 +68,7 @@ pub enum Tail {
 #[repr(C)]
 #[derive(Clone, Copy, Debug, PartialEq, Eq, Hash)]
 pub struct Case {
-    /// The address where it leads.
+    /// The address to which it jumps.
     pub target: u32,
     /// The index of its constant.
     pub constant: u32,
@@ -111,7 +111,7 @@ impl Constant {
         }
     }
 
-    /// What it needs, by number, where that is known.
+    /// What it needs, by number, if that is known.
     pub(crate) fn bits(self) -> Option<u16> {
         (self.is_known != 0).then_some(self.caps)
     }
@@ -298,6 +298,6 @@ pub struct SwitchRow {
     pub cases: u32,
     /// How many ranges it has.
     pub ranges: u32,
-    /// Where all other subjects lead.
+    /// The target of all other subjects.
     pub otherwise: u32,
 }

@@ -8,14 +8,14 @@ use std::fmt::{self, Write};
 #[repr(C)]
 #[derive(Clone, Copy, Debug, Default, PartialEq, Eq, Hash)]
 pub struct Site {
-    /// The line, or 0 where none is known.
+    /// The line, or 0 if none is known.
     pub line: u32,
     /// The column, or 0 for the start of the line.
     pub column: u32,
 }
 
 impl Site {
-    /// The site, or `None` where its line is 0.
+    /// The site, or `None` if its line is 0.
     #[must_use]
     pub fn known(self) -> Option<Site> {
         (self.line != 0).then_some(self)
@@ -37,7 +37,7 @@ impl fmt::Display for Site {
 pub struct Entry {
     /// The address of an instruction.
     pub address: u32,
-    /// Its place in the source text; line 0 where none is known.
+    /// Its place in the source text; line 0 if none is known.
     pub site: Site,
 }
 
@@ -86,7 +86,7 @@ impl std::error::Error for TableFlaw {}
 #[derive(Clone, Copy, Debug, PartialEq, Eq, Hash)]
 #[non_exhaustive]
 pub enum ReadError {
-    /// The bytes are no stream.
+    /// The bytes aren't a stream.
     Flaw(TableFlaw),
     /// The allocator refused.
     OutOfMemory,
@@ -95,7 +95,7 @@ pub enum ReadError {
 impl fmt::Display for ReadError {
     fn fmt(&self, f: &mut fmt::Formatter<'_>) -> fmt::Result {
         match self {
-            ReadError::Flaw(flaw) => write!(f, "the bytes are no stream: {flaw}"),
+            ReadError::Flaw(flaw) => write!(f, "the bytes are not a stream: {flaw}"),
             ReadError::OutOfMemory => f.write_str("out of memory"),
         }
     }
@@ -126,7 +126,7 @@ fn flaw_of(flaw: u32, named: u64) -> Result<(), TableFlaw> {
     }
 }
 
-/// The site of an address in an address table: that of the first entry with this address, before the first damage. `None` where
+/// The site of an address in an address table: that of the first entry with this address, before the first damage. `None` if
 /// there is no such entry, or its line is 0.
 ///
 /// ```
@@ -175,7 +175,7 @@ pub fn check_stream(stream: &[u8]) -> Result<(), TableFlaw> {
     flaw_of(flaw, named)
 }
 
-/// Writes the entries of an address table in order to the front of a list of the caller's, as many as there is room for, and
+/// Writes the entries of an address table in order to the first places of a list of the caller's, as many as there is room for, and
 /// returns how many there are: those before the first damage ([`check_table`] says whether there is some). It takes no memory.
 #[must_use]
 pub fn table_entries_into(table: &[u8], entries: &mut [Entry]) -> usize {
@@ -205,11 +205,11 @@ pub fn table_entries(table: &[u8]) -> Result<Vec<Entry>, TryReserveError> {
     Ok(entries)
 }
 
-/// Writes the sites of a stream, slot by slot, to the front of a list of the caller's, as many as there is room for, and
+/// Writes the sites of a stream, slot by slot, to the first places of a list of the caller's, as many as there is room for, and
 /// returns how many there are. Line 0 says that a slot has none. It takes no memory.
 ///
 /// # Errors
-/// The bytes are no stream: the first thing that is wrong; then nothing is written.
+/// The bytes aren't a stream: the first thing that is wrong; then nothing is written.
 pub fn stream_sites_into(stream: &[u8], sites: &mut [Site]) -> Result<usize, TableFlaw> {
     let mut count = 0;
     // SAFETY: each pointer and length are those of one slice that is borrowed for the call, and `count` lives for it.
@@ -240,7 +240,7 @@ pub fn stream_sites_into(stream: &[u8], sites: &mut [Site]) -> Result<usize, Tab
 /// ```
 ///
 /// # Errors
-/// The bytes are no stream; or the allocator refused. It takes ten times as much as the stream has.
+/// The bytes aren't a stream; or the allocator refused. It takes ten times as much as the stream has.
 pub fn stream_sites(stream: &[u8]) -> Result<Vec<Option<Site>>, ReadError> {
     // A slot is two numbers, each a byte at least.
     let most = stream.len() / 2;

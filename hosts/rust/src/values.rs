@@ -89,12 +89,12 @@ impl<'a> Values<'a> {
         Values { rows, texts, left }
     }
 
-    /// The values behind the first row.
+    /// The values after the first row.
     fn inside(&self, count: usize) -> Values<'a> {
         Values::new(self.rows.get(1..).unwrap_or_default(), self.texts, count)
     }
 
-    /// The integers behind the first row.
+    /// The integers after the first row.
     fn pair(&self) -> (i64, i64) {
         let number = |index: usize| self.rows.get(index).map_or(0, |row| row.number);
         (number(1), number(2))
@@ -196,7 +196,7 @@ fn count_of(row: &raw::Value) -> usize {
     row.count as usize
 }
 
-/// How many values a row says are behind it.
+/// How many values follow a row, as it says.
 fn count_inside(row: &raw::Value) -> usize {
     match row.tag {
         raw::VALUE_RANGE | raw::VALUE_RANGE_INCLUSIVE => 2,

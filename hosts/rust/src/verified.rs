@@ -1,4 +1,4 @@
-//! A yes as a value.
+//! Acceptance as a value.
 use crate::capabilities::Caps;
 use crate::error::VerifyError;
 use crate::file::ProgramFile;
@@ -87,7 +87,7 @@ impl Source for ProgramFile {
 ///
 /// It can't be changed, and only [`Program::into_verified`], [`ProgramFile::into_verified`] and two calls of a
 /// [`Verifier`](crate::Verifier) make one. So a machine that takes a `Verified` never runs what nobody has verified. What is
-/// required of such a machine is listed at [what a host owes](crate#what-a-host-owes).
+/// required of such a machine is listed at [what a host must do](crate#what-a-host-must-do).
 ///
 /// It dereferences to the program, which may be read and not changed.
 ///
@@ -212,6 +212,44 @@ impl<P: Source> Verified<P> {
     }
 }
 
+impl Verified<ProgramFile> {
+    /// What a machine allocates for a call of a chunk, and where the call begins.
+    ///
+    /// ```
+    /// use grain::{Caps, ProgramFile};
+    ///
+    /// let file = ProgramFile::try_from(&include_bytes!("../examples/fib.grain")[..])?;
+    /// let verified = file.into_verified(Caps::FUNCTION)?;
+    /// let frame = verified.frame(1).unwrap();
+    /// assert_eq!((frame.entry, frame.depth, frame.slots), (verified.chunks()[1].entry, 3, 1));
+    /// # Ok::<(), Box<dyn std::error::Error>>(())
+    /// ```
+    #[must_use]
+    pub fn frame(&self, chunk: usize) -> Option<Frame> {
+        let index = u32::try_from(chunk).ok()?.checked_sub(1);
+        let function = index.and_then(|index| self.program.function(index));
+        let parameters = function.map_or(0, |function| function.parameters.len());
+        Some(Frame {
+            entry: self.chunks().get(chunk)?.entry,
+            depth: self.depth(chunk)?.into(),
+            slots: parameters.max(*self.slots().get(chunk)? as usize),
+        })
+    }
+}
+
+/// What a call of a chunk needs ([`VerifiedFile::frame`](Verified::frame)).
+#[derive(Clone, Copy, Debug, PartialEq, Eq, Hash)]
+#[non_exhaustive]
+pub struct Frame {
+    /// The address of the first instruction.
+    pub entry: u32,
+    /// How many operands there are at most: the depth of the chunk.
+    pub depth: usize,
+    /// How many slots to allocate: as many as the chunk names, or as many as its function has parameters if these are more. Then
+    /// no slot needs a test. `DECLARE_LOCAL` takes the next slot, which may lie past these.
+    pub slots: usize,
+}
+
 impl<P> Deref for Verified<P> {
     type Target = P;
 
@@ -249,7 +287,7 @@ impl<P> Rejected<P> {
         &self.error
     }
 
-    /// Why it is refused, where it is.
+    /// Why it is refused, if it is.
     #[must_use]
     pub fn refusal(&self) -> Option<&Refusal> {
         self.error.refusal()

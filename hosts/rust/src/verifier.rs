@@ -15,7 +15,7 @@ use std::cell::RefCell;
 /// Verifies one program after another in memory that it keeps, within a limit on work.
 ///
 /// Each result is right whatever was verified before, as one of [`verify`](crate::verify) is; that is proved of the library.
-/// Which of several flaws a refusal names, and when memory runs out, no proof fixes. It allocates only where a program needs more
+/// Which of several flaws a refusal names, and when memory runs out, isn't specified. It allocates only if a program needs more
 /// than is kept, and keeps as much as the largest program needed (EMBEDDING.md), until it is dropped or [`Verifier::release`] is
 /// called.
 ///
@@ -115,7 +115,7 @@ impl Verifier {
         Ok(&self.depths)
     }
 
-    /// Verifies a program, writes the depths to the front of a list of the caller's, and returns how many instructions were
+    /// Verifies a program, writes the depths to the first entries of a list of the caller's, and returns how many instructions were
     /// visited, as [`verify_into`](crate::verify_into) does.
     ///
     /// # Errors
@@ -203,7 +203,7 @@ impl Verifier {
     /// Explains a chunk of a program, or a refusal of it, as [`explain`](crate::explain) does.
     ///
     /// # Errors
-    /// Those of [`explain`](crate::explain), and [`ExplainError::TooMuchWork`] where the chunk spans more of the code than the
+    /// Those of [`explain`](crate::explain), and [`ExplainError::TooMuchWork`] if the chunk spans more of the code than the
     /// limit.
     pub fn explain<'a>(
         &self,
@@ -246,7 +246,7 @@ impl<'a> Room<'a> {
         }
     }
 
-    /// Where as many numbers of slots are written as there are depths; NULL if there is no such room.
+    /// If as many numbers of slots are written as there are depths; NULL if there is no such room.
     pub(crate) fn slots(&mut self) -> *mut u32 {
         match &mut self.slots {
             Some(slots) if slots.len() >= self.depths.len() => slots.as_mut_ptr(),
@@ -414,7 +414,7 @@ pub(crate) fn verdict(
     }
 }
 
-/// Why pools aren't flat: those that the package has built are only where a count doesn't fit.
+/// Why pools aren't flat: those that the package has built are only if a count doesn't fit.
 pub(crate) fn not_flat(pools: &FlatPools<'_>) -> VerifyError {
     match pools.check() {
         Err(_) if pools.is_built => VerifyError::TooLarge,

@@ -1,7 +1,7 @@
 //! Program files: what is read of one, what refusals say, and that what was read is verified.
 mod common;
 
-use common::sample_file as sample;
+use common::{bytes, sample_file as sample};
 use grain::{
     explain, Caps, FileError, FileFault, FilePart, FlatPools, Flaw, Limits, Operator, ProgramFile,
     Range, Root, Site, Source, Step, Subject, Tail, TightenError, Value, Verified, Verifier,
@@ -71,6 +71,33 @@ fn all_is_read() {
     assert_eq!(file.site(0), Some(Site { line: 1, column: 5 }));
     assert_eq!(file.site(1), None);
     assert_eq!(file.chain_site(3), Some(Site { line: 2, column: 3 }));
+}
+
+/// Functions of no parameter: `f` for receivers of the type `g`, `g`, `f` by its second name and by its first, and one of a name that
+/// isn't there; and `f` of one parameter.
+const FUNCTIONS: &str = "
+    0067726e 01 00 01 0000 020213 000201
+    06 01000001 02000201 02000000 000201 01000000 000201 00000000 000201 07000000 000201 0001020000 000201
+    04 0166 0166 0167 0168 00000000000000
+";
+
+#[test]
+fn callees_are_found() {
+    let file = ProgramFile::try_from(&sample()[..]).unwrap();
+    assert_eq!(file.callee(0, 2), Some(1));
+    let none = [(0, 1), (1, 0), (2, 2), (u32::MAX, 2), (0, usize::MAX)];
+    assert!(none
+        .iter()
+        .all(|call| file.callee(call.0, call.1).is_none()));
+    let functions = bytes(&FUNCTIONS.replace(char::is_whitespace, ""));
+    let file = ProgramFile::try_from(&functions[..]).unwrap();
+    let found = [(0, 0), (1, 0), (2, 0), (0, 1), (1, 1)];
+    let chunks = found.map(|(name, arguments)| file.callee(name, arguments).unwrap());
+    assert_eq!(chunks, [3, 3, 2, 6, 6]);
+    let none = [(2, 1), (3, 0), (4, 0), (7, 0)];
+    assert!(none
+        .iter()
+        .all(|call| file.callee(call.0, call.1).is_none()));
 }
 
 #[test]
@@ -204,6 +231,9 @@ fn what_is_verified_is_kept_with_the_file() {
     );
     assert_eq!(verified.constant(3), Some(Value::Integer(-42)));
     assert_eq!(verified.slots(), [0, 0, 0]);
+    // The first function has two parameters.
+    let slots = [0, 1, 2].map(|chunk| verified.frame(chunk).unwrap().slots);
+    assert_eq!((slots, verified.frame(3)), ([0, 2, 0], None));
     assert_eq!(verified.flat().check(), Ok(()));
     let mut verifier = Verifier::new().limit(12);
     let file = verified.into_program();

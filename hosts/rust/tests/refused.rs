@@ -169,7 +169,7 @@ const FREE: [(&str, &str); 26] = [
     ),
     (
         "ProgramFile",
-        "caps chain chain_site chains chunks code constant constants function functions \
+        "callee caps chain chain_site chains chunks code constant constants function functions \
          id name names op_assignment op_assignments operator operators pools site \
          site_of source stream switch switches table",
     ),
@@ -183,7 +183,7 @@ const FREE: [(&str, &str); 26] = [
     ("Site", "known"),
     (
         "Verified",
-        "caps chunks code depth depths flat into_program program site slots",
+        "caps chunks code depth depths flat frame into_program program site slots",
     ),
     ("Verifier", "limit new release"),
     ("VerifyError", "refusal"),
@@ -428,9 +428,13 @@ fn reading_a_file_again_takes_no_memory() {
     ];
     let place = verified.site(0);
     let decoded = grain::Instruction::decode(verified.code(), 0);
+    let called = verified
+        .callee(0, 2)
+        .and_then(|chunk| verified.frame(chunk));
     let checked = verified.flat().check();
     LEFT.set(None);
     assert!(!IS_REFUSED.get() && decoded.is_some() && checked.is_ok() && place.is_some());
+    assert!(called.is_some());
     assert_eq!(counts, [2, 2, 13, 2, 1, 3, 1]);
 }
 

@@ -24,7 +24,7 @@ pub fn whole(code: &[u8]) -> [Chunk; 1] {
 pub fn refusal<T: std::fmt::Debug>(said: Result<T, VerifyError>) -> Refusal {
     match said {
         Err(VerifyError::Refused(refusal)) => refusal,
-        other => panic!("{other:?} is no refusal"),
+        other => panic!("{other:?} is not a refusal"),
     }
 }
 
