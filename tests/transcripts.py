@@ -11,7 +11,8 @@ import tempfile
 
 INDENT = "    "
 CREATED = re.compile(r"cat ([\w.-]+)$")
-SECONDS = 120
+# After so many seconds a command is stopped, and has the status 124.
+SECONDS = "120"
 
 
 def path_of(*folders):
@@ -20,10 +21,10 @@ def path_of(*folders):
 
 
 def ran(command, folder, path, errors):
-    """The status of a command and its outputs. `errors` is where its standard error goes."""
-    words = ["bash", "-o", "pipefail", "-c", command]
+    """A command that ran to its end, with its status and its outputs. `errors` is where its standard error goes."""
+    words = ["timeout", SECONDS, "bash", "-o", "pipefail", "-c", command]
     environment = {"PATH": path, "TERM": "dumb", "LC_ALL": "C.UTF-8"}
-    return subprocess.run(words, cwd=folder, env=environment, stdin=subprocess.DEVNULL, stdout=subprocess.PIPE, stderr=errors, timeout=SECONDS)
+    return subprocess.run(words, cwd=folder, env=environment, stdin=subprocess.DEVNULL, stdout=subprocess.PIPE, stderr=errors)
 
 
 def blocks(lines):
