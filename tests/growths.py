@@ -83,7 +83,7 @@ CALLS = {
         "switch_text": "`Switch::disassemble`",
         "switch_range_text": "`SwitchRange::disassemble`",
         "function_text": "`Function::disassemble`",
-        "error_texts": "`Debug` and `Display` of `TableError`",
+        "table_error_texts": "`Debug` and `Display` of `TableError`",
     },
     "grain": {
         "verify": "`verify`",
@@ -178,7 +178,7 @@ def scratch_copy(room):
 def leave_out_others(source):
     """Of a crate of tests leaves the modules of growths, those that stand around them, and what these use."""
     lib = source / "lib.rt"
-    kept, open_ends = set(), {path.relative_to(source).parts[0].removesuffix(".rt") for path in source.rglob("growths.rt")}
+    kept, open_ends = set(), {path.relative_to(source).parts[0].removesuffix(".rt") for path in source.rglob("*growths.rt")}
     while open_ends - kept:
         name = (open_ends - kept).pop()
         kept.add(name)

@@ -38,6 +38,7 @@ fn write_verdict<W: Write>(refused: Option<ReadError>, writer: &mut W) -> Result
         None => write!(writer, "file"),
         Some(ReadError::OutOfMemory) => write!(writer, "OutOfMemory"),
         Some(ReadError::TooLarge { .. }) => write!(writer, "TooLarge"),
+        Some(ReadError::DepthLimit { .. }) => write!(writer, "DepthLimit"),
         Some(ReadError::Malformed { at, fault, .. }) => write!(writer, "{at} {fault:?}"),
     }
 }
