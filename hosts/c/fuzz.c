@@ -8,7 +8,7 @@
  *         open(f"hosts/out/corpus/{n}", "wb").write(bytes.fromhex(line))'
  *     hosts/out/fuzz -max_len=4096 -max_total_time=600 hosts/out/found hosts/out/corpus
  *
- * hosts/c/corpus.txt has a file in each line: that of files.c, some that bench/random_files.py makes, and what was found of them.
+ * hosts/c/corpus.txt has a file in each line: that of files.c, some that tests/random_files.py makes, and what was found of them.
  */
 #define _DEFAULT_SOURCE
 #include "rewrite.h"

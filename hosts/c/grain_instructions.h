@@ -1,4 +1,4 @@
-/* Written by bench/from_table.py (in the repository) from the instruction table. Don't edit it.
+/* Written by tools/from_table.py (in the repository) from the instruction table. Don't edit it.
  *
  * GRAIN_INSTRUCTIONS(X) is X(tag, NAME, width, fields, quiet) for each instruction, in the order of tags: the byte with which
  * it begins, its name, how many bytes it takes, a letter for each field, and whether it is quiet (grain.h, grain_verify).

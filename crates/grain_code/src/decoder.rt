@@ -1,4 +1,4 @@
-//! Written by bench/from_table.py from the instruction table. Don't edit it.
+//! Written by tools/from_table.py from the instruction table. Don't edit it.
 //!
 //! Decoding: what a tag and the bytes after it are. The width of the tag says how many bytes belong to it. One function for
 //! each number of bytes then has an arm for each tag.

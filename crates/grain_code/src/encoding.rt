@@ -1,4 +1,4 @@
-//! Written by bench/from_table.py from the instruction table. Don't edit it.
+//! Written by tools/from_table.py from the instruction table. Don't edit it.
 //!
 //! The tag of an operation and its fields.
 ghost use Rattle.std.specs.Prelude.{◌≡◌};

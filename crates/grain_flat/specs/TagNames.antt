@@ -1,4 +1,4 @@
--- The names of tags (docs/FORMAT.md, "Instructions"), as bench/from_table.py writes them.
+-- The names of tags (docs/FORMAT.md, "Instructions"), as tools/from_table.py writes them.
 use Rattle.std.specs.Prelude.{ℕ, List, [], ◌∷◌, codes}
 
 -- by the number of the tag; no text where no instruction begins with the byte

@@ -1,4 +1,4 @@
-//! A loop, explained and checked. More listings are compared by bench/listings.py.
+//! A loop, explained and checked. More listings are compared by tests/listings.py.
 use crate::samples::{assert_same, made};
 use grain_base::{Caps, Flags};
 use grain_bytecode::Chunk;

@@ -1,4 +1,4 @@
-//! Texts that make programs, as the command doesn't have it: bench/tool.py and bench/scripts have the rest.
+//! Texts that make programs, as the command doesn't have it: tests/command and tests/scripts have the rest.
 
 use crate::samples::{assert_same, made};
 use grain_parse::parse_accepted;

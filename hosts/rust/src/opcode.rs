@@ -314,7 +314,7 @@ impl TryFrom<u8> for Opcode {
     }
 }
 
-// Written by bench/from_table.py (in the repository) from the instruction table.
+// Written by tools/from_table.py (in the repository) from the instruction table.
 opcodes! {
     LoadConst = 0x01, "LOAD_CONST", [constant: Constant], Next, false;
     Unit = 0x02, "UNIT", Next, true;

@@ -1,0 +1,75 @@
+#!/usr/bin/env python3
+"""Whether `grain` keeps the old file where a write fails, and whether what it writes grows with the file alone (docs/COMMAND.md).
+
+    python3 tests/command_limits.py GRAIN
+
+GRAIN is the built command. tests/command/limits.txt and writes.txt have what a transcript can show. It ends with status 1 at the
+first thing that isn't so.
+"""
+import os
+import pathlib
+import re
+import resource
+import signal
+import sys
+import tempfile
+
+from program import Program, expect
+
+TOP = pathlib.Path(__file__).resolve().parent.parent
+
+
+def check_version(grain):
+    version = re.search(r'^version = "(.*)"$', (TOP / "hosts/rust/Cargo.toml").read_text(), re.M)[1]
+    expect(grain.done("--version") == f"grain {version}\n".encode(), f"--version isn't {version}, which the Rust package has")
+
+
+def limited(size):
+    """Has files of a process end at a size: a write past it fails."""
+    signal.signal(signal.SIGXFSZ, signal.SIG_IGN)
+    resource.setrlimit(resource.RLIMIT_FSIZE, (size, size))
+
+
+def check_full(grain):
+    """A write that fails leaves the old file, and no other."""
+    grain.done("smith", "--seed", "1", "--size", "10", "-o", "kept.grain")
+    old, before = grain.read("kept.grain"), sorted(os.listdir(grain.folder))
+    status, _, errors = grain.run("smith", "--seed", "1", "--size", "8000", "-o", "kept.grain", preexec_fn=lambda: limited(4096))
+    expect(status == 1 and errors.startswith(b"error: kept.grain: "), f"a full disk ends with {status}: {errors!r}")
+    expect(grain.read("kept.grain") == old and sorted(os.listdir(grain.folder)) == before, "a write that fails leaves another file")
+
+
+def check_protected(grain):
+    """A write-protected file isn't replaced. Nothing is write-protected from root."""
+    if os.geteuid() != 0:
+        grain.done("smith", "--seed", "2", "-o", "protected.grain")
+        os.chmod(grain.folder / "protected.grain", 0o440)
+        grain.refused("smith", "--seed", "3", "-o", "protected.grain")
+
+
+def check_growth(grain):
+    """Texts grow with the file, however often a long name or a long text is used."""
+    long = b"n" * 5000
+    for text in (
+        b'.names\n"' + long + b'"\n.code\n' + b"load_named #0\npop\n" * 500,
+        b'.constants\n["' + long + b'"]\n.code\n' + b"load_const #0\npop\n" * 500,
+    ):
+        file = grain.write("long.grain", grain.done("parse", "-", given=text + b"unit\nreturn\n"))
+        for words, most in ((["print"], 100_000), (["list"], 300_000), (["list", "--json"], 400_000), (["flow"], 2_000_000)):
+            size = len(grain.done(*words, file))
+            expect(size < most, f"{words} writes {size} bytes")
+        expect(grain.done("parse", "-", given=grain.done("print", file)) == grain.read(file), "a long name doesn't come back")
+
+
+def main():
+    if len(sys.argv) != 2:
+        sys.exit(__doc__)
+    with tempfile.TemporaryDirectory() as folder:
+        grain = Program(sys.argv[1], folder)
+        for check in (check_version, check_full, check_protected, check_growth):
+            check(grain)
+    print("limits of grain: well")
+
+
+if __name__ == "__main__":
+    main()
