@@ -12,3 +12,4 @@ pub mod RedeclaredPrograms
 pub mod RestoredPositions
 pub mod LeastRedeclared
 pub mod VerifiedPrograms
+pub mod BuildRefusals

@@ -1,6 +1,7 @@
 //! Accepted programs as values: who has one need not verify again.
-ghost use Rattle.std.specs.Prelude.{◌≡◌, IfErr, IfOk};
+ghost use Rattle.std.specs.Prelude.{◌≡◌, ◌⊎◌, IfErr, IfOk};
 ghost use Rattle.grain_rules.specs.Accepted.{IsAccepted};
+ghost use Rattle.grain_rules.specs.Flaw.{Flaw};
 ghost use Rattle.grain_verify.specs.Refusals.{IsPlacedRefusal};
 ghost use Rattle.grain.specs.Program.{declared_by, input_of};
 ghost use Rattle.grain.specs.Tightened.{IsTightened};
@@ -68,6 +69,8 @@ impl Program {
         ensures verified { IfOk result IsVerified }
         ensures unchanged { IfErr result (λ r. r.program ≡ self) }
         ensures placed { IfErr result (λ r. IsPlacedRefusal (input_of self) r.refusal) }
+        ensures flaws { IfErr result (λ r. (r.refusal.error ≡ VerifyError.OutOfMemory)
+            ⊎ Flaw (input_of self) r.refusal.error) }
         // What is accepted is refused only if memory runs out.
         ensures accepts { IsAccepted (input_of self)
             → IfErr result (λ r. r.refusal.error ≡ VerifyError.OutOfMemory) }

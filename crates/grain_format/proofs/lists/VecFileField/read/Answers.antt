@@ -2,7 +2,7 @@ use Rattle.std.proofs.Common.{◌≡◌, ◌++◌, ◌∷◌, [], map}
 use Rattle.std.proofs.lemmas.Result.{err_from_is_err_and}
 use Rattle.std.proofs.lemmas.List.{map_push}
 use Rattle.grain_format.proofs.FieldLoop.{goes_on, counted_ends, counted_done}
-use Rattle.grain_format.proofs.lists.VecField.read.Goals as goal
+use Rattle.grain_format.proofs.lists.VecFileField.read.Goals as goal
 
 pub returns-in_err-item : goal.returns-in_err-item
 returns-in_err-item g c =

@@ -1,7 +1,7 @@
 use Rattle.std.proofs.Common.{◌≡◌, ◌-◌, map}
 use Rattle.grain_format.specs.Lists.{repeat_at}
 use Rattle.grain_format.proofs.FieldLoop.{with_front}
-use Rattle.grain_format.proofs.lists.VecField.read.Given as goal
+use Rattle.grain_format.proofs.lists.VecFileField.read.Given as goal
 
 abbrev pub invariant-items : goal.invariant-items
 invariant-items g l =
