@@ -1,7 +1,7 @@
 #!/usr/bin/env python3
 """Prints the names under which two crates or more export types of their own.
 
-    tools/type_names [MOST]
+    python3 tools/type_names.py [MOST]
 
 It ends with 1 if there are more than MOST. A crate exports a type if its lib.rt names it in a `pub use`, or if the type is in a
 module that is public up to there.
