@@ -1,9 +1,11 @@
 #!/usr/bin/env python3
-"""contracts.py REVISION [--all]: what became of contracts and definitions since REVISION, wherever they stand now.
+"""contracts.py REVISION [--all] [OLD=NEW[@CRATE,CRATE..] ..]: what became of contracts and definitions since REVISION, wherever
+they are now.
 
 Each function of src/ (tests aside) is found again by its type and name, each definition of specs/ by its name; the crate,
 the file and the order don't count, nor how lines are broken. It prints each contract and each definition that isn't there
-to the letter any more, and each public name that a facade (grain_base, grain_bytecode, grain) no longer gives out.
+to the letter any more, and each public name that a facade (grain_base, grain_bytecode, grain) no longer re-exports.
+OLD=NEW is a name that was changed: everywhere, or in files of those crates, by their names at REVISION.
 With --all also what is new. It ends with 1 where a contract or a definition of REVISION changed or is gone.
 """
 import collections
@@ -30,6 +32,24 @@ def files_at(revision):
         if name.endswith((".rt", ".antt")):
             shown = subprocess.run(["git", "show", f"{revision}:{name}"], capture_output=True, text=True, check=True)
             yield name, shown.stdout
+
+
+def renaming(words):
+    """A function that gives the text of a file of REVISION the names of now."""
+    changes = []
+    for word in words:
+        change, _, crates = word.partition("@")
+        old, _, new = change.partition("=")
+        changes.append((re.compile(rf"\b{re.escape(old)}\b"), new, set(filter(None, crates.split(",")))))
+
+    def renamed(name, text):
+        crate = name.split("/")[1]
+        for old, new, crates in changes:
+            if not crates or crate in crates:
+                text = old.sub(new, text)
+        return text
+
+    return renamed
 
 
 def folded(text):
@@ -69,9 +89,10 @@ def definitions_of(text):
     return found
 
 
-def read(revision):
+def read(revision, renamed=lambda _name, text: text):
     contracts, definitions, given = collections.Counter(), collections.Counter(), collections.defaultdict(set)
     for name, text in files_at(revision):
+        text = renamed(name, text)
         crate, _, rest = name[len("crates/") :].partition("/")
         if TESTS.search(name):
             continue
@@ -93,10 +114,10 @@ def read(revision):
 
 
 def main():
-    words = [it for it in sys.argv[1:] if it != "--all"]
+    words = [it for it in sys.argv[1:] if it != "--all" and "=" not in it]
     if len(words) != 1:
         sys.exit(__doc__)
-    before, now = read(words[0]), read(None)
+    before, now = read(words[0], renaming([it for it in sys.argv[1:] if "=" in it])), read(None)
     lost = 0
     for what, old, new in zip(("contract", "definition"), before, now):
         gone, come = old - new, new - old
