@@ -1,7 +1,7 @@
 //! Lines of a text that is refused, as messages show them.
 
 use grain_listing::push_shown;
-use rhai_compile::{CompileError, Place, Problem};
+use rhai_lexer::{CompileError, Place, Problem};
 use std::alloc::{AllocError, Global};
 
 /// How many bytes of a line are shown before a column, and how many after it.

@@ -1,7 +1,7 @@
 //! Why a command ends without its result.
 
 use grain_listing::push_shown;
-use rhai_compile::CompileError;
+use rhai_lexer::CompileError;
 use std::alloc::{AllocError, Global};
 use std::{fmt, io};
 use thiserror::Error;
