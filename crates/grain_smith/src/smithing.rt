@@ -29,5 +29,7 @@ pub fn smith(alloc: Global, seed: u64, options: &SmithOptions) -> Result<Verifie
     }
     let mut verified = build(alloc, Caps::all(), &ops, &cuts, heads, parts)?;
     verified.tighten();
+    // The prover learns that what is verified stays so.
+    let _depths = verified.depths();
     Ok(verified)
 }

@@ -233,6 +233,7 @@ fn tight(mut verified: Verified) -> Verified
     ensures declared { declared_by result.program ≡ result.depths }
 {
     verified.tighten();
+    // The prover learns that what is verified stays so.
     let _depths = verified.depths();
     verified
 }
