@@ -206,7 +206,7 @@ fn lay_cuts(
 /// each operation begins in the code, and where the last one ends.
 ///
 /// # Errors
-/// As [`build`], but for `Verify`.
+/// As [`build`], except `Verify`.
 pub fn lay(
     alloc: Global,
     caps: Caps,
