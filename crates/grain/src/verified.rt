@@ -15,8 +15,8 @@ use std::marker::Model;
 
 /// A program that was accepted, with the depth of each chunk: the greatest operand count that any run of it reaches.
 ///
-/// It owns the program, and nothing changes what was verified. All that acceptance promises (docs/THEOREM.md) is true of each
-/// value of this type.
+/// It owns the program. Only [`Verified::tighten`] changes it, and leaves it accepted. What acceptance promises (docs/THEOREM.md)
+/// is true of each value of this type.
 #[derive(Drop)]
 pub struct Verified {
     program: Program,
