@@ -25,7 +25,7 @@ BELIEF = TOP / "docs" / "reference" / "belief.md"
 FUNCTIONS = {
     "verify": "grain_verify/src/verifier.rt",
     "verify_metered": "grain_verify/src/verifier.rt",
-    "verify_placed": "grain_verify/src/verifier.rt",
+    "verify_located": "grain_verify/src/verifier.rt",
     "verify_read": "grain_verify/src/verifier.rt",
     "Scratch::verify": "grain_verify/src/verifier.rt",
     "Program::verify": "grain/src/tighten.rt",

@@ -5,14 +5,14 @@ use Rattle.grain_explain.specs.Explaining.{IsExact, IsExplained}
 use Rattle.grain_rules.specs.Accepted.{Input}
 use Rattle.grain_rules.specs.Flaw.{FlawAt}
 use Rattle.grain_rules.specs.Verdict.{IsVerdict, ReachesChunks}
-use Rattle.grain_verify.specs.Refusals.{without_place}
+use Rattle.grain_verify.specs.Refusals.{without_chunk}
 use Rattle.grain.specs.declared.explanation.Explained.{Explained}
 
--- the verdict is right about the input, and each chunk is explained where the tests before the chunks pass
+-- the verdict is right about the input, and each chunk is explained if the tests before the chunks pass
 pub record IsExplanation (i : Input) (x : Explained) : Type 0 where
-  pub verdict : IsVerdict i (without_place x.verdict)
-  -- a refusal is one of the chunk at its place, or without a place of what is tested before the chunks
-  pub placed : IfErr x.verdict (λ r. FlawAt i r.place r.error)
+  pub verdict : IsVerdict i (without_chunk x.verdict)
+  -- a refusal is of the chunk that it names, or names none and is of what is tested before the chunks
+  pub located : IfErr x.verdict (λ r. FlawAt i r.chunk r.error)
   -- each chunk has rows that are a stack typing of it and just what is reached, or a flaw with the way to it
   pub explained : ReachesChunks i → AllZip (IsExplained i.code) i.chunks x.chunks.items
   -- and isn't refused exactly where it passes

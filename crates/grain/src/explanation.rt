@@ -30,7 +30,7 @@ pub struct Explained {
 ///
 /// # Errors
 /// `OutOfMemory` where an allocation failed, and no other: code that is bad is refused by the verdict, without an explained chunk.
-#[tactic(auto, using(crate::proofs::RefusalCauses::placed_explained, crate::proofs::RefusalCauses::accepted_explained, crate::proofs::RefusalCauses::placed_reaches))]
+#[tactic(auto, using(crate::proofs::RefusalCauses::located_explained, crate::proofs::RefusalCauses::accepted_explained, crate::proofs::RefusalCauses::located_reaches))]
 pub fn explain<'a, P: Read>(
     alloc: Global,
     caps: Caps,
@@ -56,7 +56,7 @@ pub fn explain<'a, P: Read>(
                 chunks,
             })
         }
-        Err(refusal) => match refusal.place {
+        Err(refusal) => match refusal.chunk {
             None => match refusal.error {
                 VerifyError::OutOfMemory => Err(ExplainError::OutOfMemory),
                 _ => Ok(Explained {

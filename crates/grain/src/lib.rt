@@ -119,7 +119,7 @@ pub use grain_verify::Scratch;
 pub use grain_verify::is_quiet;
 pub use grain_verify::verify;
 pub use grain_verify::verify_metered;
-pub use grain_verify::verify_placed;
+pub use grain_verify::verify_located;
 pub use grain_verify::verify_read;
 pub use program::Parts;
 pub use program::Program;

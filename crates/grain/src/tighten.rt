@@ -7,12 +7,12 @@ ghost use Rattle.grain.specs.Program.{chunks_of, declared_by, input_of};
 ghost use Rattle.grain.specs.Tightened.{IsTightened, undeclared, undeclared_function};
 ghost use Rattle.grain_rules.specs.Verdict.{IsVerdict};
 ghost use Rattle.grain_verify.specs.Meter.{AreReached, HasCounted, IsMetered, IsWithinAll};
-ghost use Rattle.grain_verify.specs.Refusals.{IsPlacedRefusal, without_place};
+ghost use Rattle.grain_verify.specs.Refusals.{IsLocatedRefusal, without_chunk};
 
 use crate::program::Program;
 use grain_code::{Chunk, Function};
 use grain_rules::VerifyError;
-use grain_verify::{Meter, Refusal, verify_placed};
+use grain_verify::{Meter, Refusal, verify_located};
 use std::alloc::AllocError;
 
 impl Program {
@@ -29,7 +29,7 @@ impl Program {
         // Each index of its instructions is found by its lookup.
         ensures found { OnOk result (FindsIndices self.now) }
     {
-        match self.verify_placed(&mut Meter::new()) {
+        match self.verify_located(&mut Meter::new()) {
             Ok(numbers) => Ok(numbers),
             Err(refusal) => Err(refusal.error),
         }
@@ -39,15 +39,15 @@ impl Program {
     /// refusal which chunk is refused. It costs as much.
     ///
     /// # Errors
-    /// As [`Program::verify`], each with the place of its chunk.
-    pub fn verify_placed(&self, meter: &mut Meter) -> Result<Vec<u16>, Refusal>
-        ensures verdict { IsVerdict (input_of self.now) (without_place result) }
-        ensures placed { IfErr result (IsPlacedRefusal (input_of self.now)) }
-        ensures metered { IsMetered (input_of self.now) meter.old meter.new (without_place result) }
+    /// As [`Program::verify`], each with the index of its chunk.
+    pub fn verify_located(&self, meter: &mut Meter) -> Result<Vec<u16>, Refusal>
+        ensures verdict { IsVerdict (input_of self.now) (without_chunk result) }
+        ensures located { IfErr result (IsLocatedRefusal (input_of self.now)) }
+        ensures metered { IsMetered (input_of self.now) meter.old meter.new (without_chunk result) }
     {
         let chunks = self.chunks()?;
         let pools = self.pools();
-        verify_placed(
+        verify_located(
             self.alloc,
             self.caps,
             &self.parts.consts,
@@ -72,21 +72,21 @@ impl Program {
             (λ e. (e ≡ VerifyError.OutOfMemory) ⊎ Flaw (input_of self.old) e) }
         ensures unchanged { OnErr result (self.new ≡ self.old) }
     {
-        match self.tighten_placed(&mut Meter::new()) {
+        match self.tighten_located(&mut Meter::new()) {
             Ok(()) => Ok(()),
             Err(refusal) => Err(refusal.error),
         }
     }
 
-    /// Tightens as [`Program::tighten_stack`] does, and counts and places a refusal as [`Program::verify_placed`] does.
+    /// Tightens as [`Program::tighten_stack`] does, counts as [`Program::verify_located`] does, and names the chunk of a refusal.
     ///
     /// # Errors
-    /// As [`Program::verify_placed`], the program being unchanged.
-    pub fn tighten_placed(&mut self, meter: &mut Meter) -> Result<(), Refusal>
+    /// As [`Program::verify_located`], the program being unchanged.
+    pub fn tighten_located(&mut self, meter: &mut Meter) -> Result<(), Refusal>
         ensures ok { OnOk result (IsTightened self.old self.new) }
         ensures accepts { IsAccepted (input_of self.old)
             → IfErr result (λ r. r.error ≡ VerifyError.OutOfMemory) }
-        ensures placed { IfErr result (IsPlacedRefusal (input_of self.old)) }
+        ensures located { IfErr result (IsLocatedRefusal (input_of self.old)) }
         ensures reached { OnOk result ((n : ℕ)
             × AreReached (input_of self.old).code (chunks_of self.old) n
             × HasCounted meter.old meter.new n) }
@@ -94,7 +94,7 @@ impl Program {
             × IsWithinAll (input_of self.old) n × HasCounted meter.old meter.new n) }
         ensures unchanged { OnErr result (self.new ≡ self.old) }
     {
-        let numbers = self.verify_placed(meter)?;
+        let numbers = self.verify_located(meter)?;
         self.declare(&numbers);
         Ok(())
     }

@@ -2,7 +2,7 @@
 ghost use Rattle.std.specs.Prelude.{◌≡◌, ◌⊎◌, IfErr, IfOk};
 ghost use Rattle.grain_rules.specs.Accepted.{IsAccepted};
 ghost use Rattle.grain_rules.specs.Flaw.{Flaw};
-ghost use Rattle.grain_verify.specs.Refusals.{IsPlacedRefusal};
+ghost use Rattle.grain_verify.specs.Refusals.{IsLocatedRefusal};
 ghost use Rattle.grain.specs.Program.{declared_by, input_of};
 ghost use Rattle.grain.specs.Tightened.{IsTightened};
 ghost use Rattle.grain.specs.Verified.{IsVerified};
@@ -68,14 +68,14 @@ impl Program {
         ensures program { IfOk result (λ v. v.program ≡ self) }
         ensures verified { IfOk result IsVerified }
         ensures unchanged { IfErr result (λ r. r.program ≡ self) }
-        ensures placed { IfErr result (λ r. IsPlacedRefusal (input_of self) r.refusal) }
+        ensures located { IfErr result (λ r. IsLocatedRefusal (input_of self) r.refusal) }
         ensures flaws { IfErr result (λ r. (r.refusal.error ≡ VerifyError.OutOfMemory)
             ⊎ Flaw (input_of self) r.refusal.error) }
         // What is accepted is refused only if memory runs out.
         ensures accepts { IsAccepted (input_of self)
             → IfErr result (λ r. r.refusal.error ≡ VerifyError.OutOfMemory) }
     {
-        match self.verify_placed(&mut Meter::new()) {
+        match self.verify_located(&mut Meter::new()) {
             Ok(depths) => Ok(Verified {
                 program: self,
                 depths,

@@ -15,7 +15,7 @@ use Rattle.grain_c.specs.declared.status.TheConstants.{ACCEPTED, REFUSED, SHORT,
 -- The room is how many places the caller has for chunks or depths.
 pub record IsAnswer (caps limit : ℕ) (program : CProgram) (room : ℕ) (old new : CReport) (status : ℕ) : Type 0 where
   -- the refusal is a flaw of all programs whose pools have this flat form
-  pub refused : status ≡ REFUSED → (place : Option ℕ) × (e : VerifyError) × (new.refusal ≡ refusal_record place e) × Refuses caps program.code.now program.chunks.now program.pools place e
+  pub refused : status ≡ REFUSED → (chunk : Option ℕ) × (e : VerifyError) × (new.refusal ≡ refusal_record chunk e) × Refuses caps program.code.now program.chunks.now program.pools chunk e
   -- how many places the chunks reach, each for itself; of a refused program no more than their starts
   pub visited : status ≡ ACCEPTED → Visits caps program.code.now program.chunks.now program.pools new.visited
   pub visited_within : status ≡ REFUSED → VisitsWithin program.code.now program.chunks.now new.visited

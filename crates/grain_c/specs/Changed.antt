@@ -28,10 +28,10 @@ IsMalformed limits bytes said = (e : ReadError) × IsReadCause limits bytes e ×
 pub record IsToldFlaw (limits : Limits) (bytes : List ℕ) (report : CReport) : Type 0 where
   pub read : Program
   pub file : IsFileOf limits bytes read
-  pub place : Option ℕ
+  pub chunk : Option ℕ
   pub error : VerifyError
-  pub flaw : FlawAt (input_of read) place error
-  pub told : report.refusal ≡ refusal_record place error
+  pub flaw : FlawAt (input_of read) chunk error
+  pub told : report.refusal ≡ refusal_record chunk error
 
 -- What a call is lent beside the bytes and the limits, before and after it: the room, the size, the error and the report.
 pub record Lent : Type 0 where

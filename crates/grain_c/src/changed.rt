@@ -58,7 +58,7 @@ pub extern "C" fn grain_proved_file_tighten(
         Err(TightenStop::TooMuchWork) => TOO_MUCH_WORK,
         Err(TightenStop::Refused(refusal)) => {
             *report = CReport {
-                refusal: refusal_record(refusal.place, &refusal.error),
+                refusal: refusal_record(refusal.chunk, &refusal.error),
                 visited: shown(&meter),
             };
             REFUSED

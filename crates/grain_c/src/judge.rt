@@ -79,7 +79,7 @@ pub(crate) fn judge(
         Err(Rejection::OutOfMemory) => Err(OUT_OF_MEMORY),
         Err(Rejection::Refused(refusal)) => {
             *report = CReport {
-                refusal: refusal_record(refusal.place, &refusal.error),
+                refusal: refusal_record(refusal.chunk, &refusal.error),
                 visited: shown(&meter),
             };
             Err(REFUSED)

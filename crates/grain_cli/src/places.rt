@@ -72,11 +72,11 @@ fn spot_of_needing(needing: Option<Needing>) -> Spot {
 
 /// Where a refusal of a program is.
 pub fn spot_of(program: &Program, refusal: &Refusal) -> Spot {
-    if let (None, VerifyError::MissingCaps { .. }) = (refusal.place, &refusal.error) {
+    if let (None, VerifyError::MissingCaps { .. }) = (refusal.chunk, &refusal.error) {
         return spot_of_needing(lacking(program));
     }
     let address = address_of(&refusal.error);
-    let place = match (refusal.place, address) {
+    let place = match (refusal.chunk, address) {
         (Some(place), _) => Some(place),
         (None, Some(at)) => chunk_at(program, at),
         (None, None) => None,

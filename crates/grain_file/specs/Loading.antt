@@ -4,7 +4,7 @@ use Rattle.grain_base.specs.CapBits.{missing}
 use Rattle.grain.specs.Program.{Program, input_of}
 use Rattle.grain_rules.specs.Accepted.{IsAccepted}
 use Rattle.grain_rules.specs.Capabilities.{Allows}
-use Rattle.grain_verify.specs.Refusals.{IsPlacedRefusal}
+use Rattle.grain_verify.specs.Refusals.{IsLocatedRefusal}
 use Rattle.grain_rules.specs.declared.error.VerifyError.TheVariants as verify_error
 use Rattle.grain_file.specs.declared.file.Limits.{Limits}
 use Rattle.grain_file.specs.declared.file.ReadError.TheVariants as read_error
@@ -36,4 +36,4 @@ IsLoadCause limits bytes host (load_error.Read error) = IsReadCause limits bytes
 IsLoadCause limits bytes host (load_error.Capabilities absent) =
     (p : Program) × IsFileOf limits bytes p × (absent.0 ≡ missing host p.caps.0) × (absent.0 ≢ 0)
 IsLoadCause limits bytes host (load_error.Refused rejected) =
-    IsFileOf limits bytes rejected.program × Allows host rejected.program.caps.0 × IsPlacedRefusal (input_of rejected.program) rejected.refusal
+    IsFileOf limits bytes rejected.program × Allows host rejected.program.caps.0 × IsLocatedRefusal (input_of rejected.program) rejected.refusal

@@ -53,11 +53,11 @@ flat_verdict caps bytes chunks p cs ts functions made some rows (Err (stops.Refu
       each = tt;
       refused = record {
         refused = λ whole is. h.refused.0 (accepted_back caps bytes chunks p cs ts functions made some whole.rest whole.consts (whole_constants caps p whole rows) is);
-        flaw = λ whole. flaw_there caps bytes chunks p cs ts functions made some whole.rest whole.consts (whole_constants caps p whole rows) r.place r.error h.refused.1;
+        flaw = λ whole. flaw_there caps bytes chunks p cs ts functions made some whole.rest whole.consts (whole_constants caps p whole rows) r.chunk r.error h.refused.1;
         cause = inr (record {
           rows = rows;
           refused = λ rest is. h.refused.0 (accepted_back caps bytes chunks p cs ts functions made some rest [] none is);
-          flaw = λ rest. flaw_there caps bytes chunks p cs ts functions made some rest [] none r.place r.error h.refused.1;
+          flaw = λ rest. flaw_there caps bytes chunks p cs ts functions made some rest [] none r.chunk r.error h.refused.1;
         });
       };
     }

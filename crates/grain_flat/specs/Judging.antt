@@ -32,12 +32,12 @@ judged caps bytes chunks p functions chains switches = record {
 -- why nothing is accepted, or that memory was refused
 abbrev pub IsStop : ℕ → List ℕ → List Span → CPools → Rejection → Type 0
 IsStop caps bytes chunks p stops.OutOfMemory = ⊤
-IsStop caps bytes chunks p (stops.Refused r) = Refuses caps bytes chunks p r.place r.error
+IsStop caps bytes chunks p (stops.Refused r) = Refuses caps bytes chunks p r.chunk r.error
 
 -- the same of what is judged
 abbrev pub IsStopOf : Input → Rejection → Type 0
 IsStopOf i stops.OutOfMemory = ⊤
-IsStopOf i (stops.Refused r) = (IsAccepted i → ⊥) × FlawAt i r.place r.error
+IsStopOf i (stops.Refused r) = (IsAccepted i → ⊥) × FlawAt i r.chunk r.error
 
 -- the answer is right about what is judged
 pub record IsVerdictOf (i : Input) (result : Result (Vec ℕ Global) Rejection) : Type 0 where

@@ -153,7 +153,7 @@ pub struct CPools<'a> {
 pub struct CRefusal {
     /// What is wrong, by a number of [`crate::flaws`].
     pub flaw: u32,
-    /// The place of the chunk that is refused, or [`crate::flaws::WHOLE_PROGRAM`].
+    /// The index of the chunk that is refused, or [`crate::flaws::WHOLE_PROGRAM`].
     pub chunk: u64,
     /// The address of an instruction, where the refusal names one.
     pub at: u64,

@@ -96,7 +96,7 @@ fn verdict_with(
 ///
 /// # Errors
 ///
-/// [`Rejection::Refused`] with a flaw of all of them and the place of its chunk, [`Rejection::OutOfMemory`] where a growth was
+/// [`Rejection::Refused`] with a flaw of all of them and the index of its chunk, [`Rejection::OutOfMemory`] where a growth was
 /// refused.
 pub fn verdict(
     alloc: Global,

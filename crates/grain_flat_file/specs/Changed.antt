@@ -59,7 +59,7 @@ pub record IsTightFile (limits : Limits) (bytes written : List ℕ) (old new : �
 pub record IsRefusedFile (limits : Limits) (bytes : List ℕ) (old new : ℕ) (r : Refusal) : Type 0 where
   pub read : Program
   pub file : IsFileOf limits bytes read
-  pub flaw : FlawAt (input_of read) r.place r.error
+  pub flaw : FlawAt (input_of read) r.chunk r.error
   pub within : (n : ℕ) × IsWithinAll (input_of read) n × HasCounted old new n
 
 -- The bytes are no file; or one of a program whose chunks span more than the limit, or that is refused.

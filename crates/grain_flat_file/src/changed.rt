@@ -73,11 +73,11 @@ fn spans_within(alloc: Global, limit: u64, program: &Program) -> Result<bool, Al
 }
 
 /// The file of the same program, whose chunks declare their depths. It costs one [`read`], one
-/// [`Program::tighten_placed`], whose visits the meter counts, and one [`write`].
+/// [`Program::tighten_located`], whose visits the meter counts, and one [`write`].
 ///
 /// # Errors
 /// Tested in this order: `Read` as [`read`], and wherever a growth was refused; `TooMuchWork` where the chunks span more bytes of
-/// the code than the limit, each counted for itself; `Refused` as [`Program::tighten_placed`].
+/// the code than the limit, each counted for itself; `Refused` as [`Program::tighten_located`].
 pub fn tighten(
     alloc: Global,
     bytes: &[u8],
@@ -104,7 +104,7 @@ pub fn tighten(
     if !spans_within(alloc, limit, &program)? {
         return Err(TightenStop::TooMuchWork);
     }
-    match program.tighten_placed(meter) {
+    match program.tighten_located(meter) {
         Ok(()) => {}
         Err(refusal) => return Err(stop_of(refusal)),
     }

@@ -16,7 +16,7 @@ fn explained(alloc: Global, code: &[u8], chunks: &[Chunk]) -> Result<Explained, 
 fn refused(explained: &Explained) -> Option<(Option<usize>, &VerifyError)> {
     match &explained.verdict {
         Ok(_) => None,
-        Err(refusal) => Some((refusal.place, &refusal.error)),
+        Err(refusal) => Some((refusal.chunk, &refusal.error)),
     }
 }
 

@@ -23,18 +23,18 @@ passes_more code chunks i x l e before h = AllWithin-more (ChunkPasses code) chu
 pub passes_there : (code : Bytecode) (chunks : List Span) (i : ℕ) (x : Span) → i < length chunks → x ≡ get_or chunks i x → All (ChunkPasses code) chunks → ChunkPasses code x
 passes_there code chunks i x l e all = subst (ChunkPasses code) (sym e) (all i x l)
 
--- a refusal of the chunk at a place, each before which passes
+-- a refusal of the chunk with an index, each before which passes
 pub refused_at : (code : Bytecode) (chunks : List Span) (i : ℕ) (x : Span) (e : VerifyError) (r : Refusal) → i < length chunks → x ≡ get_or chunks i x → AllWithin (ChunkPasses code) chunks 0 i
-    → r.error ≡ e → (e ≢ OutOfMemory → r.place ≡ Some i) → (e ≡ OutOfMemory → r.place ≡ None) → (e ≡ OutOfMemory) ⊎ ChunkFlaw code x e → IsChunkRefusal code chunks r
-refused_at code chunks i x e r l is before same place memory (inl m) = inl (record { error = same ∙ m; place = memory m })
-refused_at code chunks i x e r l is before same place memory (inr h) =
+    → r.error ≡ e → (e ≢ OutOfMemory → r.chunk ≡ Some i) → (e ≡ OutOfMemory → r.chunk ≡ None) → (e ≡ OutOfMemory) ⊎ ChunkFlaw code x e → IsChunkRefusal code chunks r
+refused_at code chunks i x e r l is before same chunk memory (inl m) = inl (record { error = same ∙ m; chunk = memory m })
+refused_at code chunks i x e r l is before same chunk memory (inr h) =
     let flaw : IsFirstFlaw code chunks r.error = record {
       place = i;
       inside = l;
       earlier = before;
       here = holds_at (λ (chunk : Span). ChunkFlaw code chunk r.error) chunks i x l is (subst (ChunkFlaw code x) (sym same) h);
     } in
-    inr (flaw, place (λ m. subst (ChunkFlaw code x) m h))
+    inr (flaw, chunk (λ m. subst (ChunkFlaw code x) m h))
 
 zip_push : {A B : Type 0} (R : A → B → Type 0) (xs : List A) (ys : List B) (x : A) (y : B) → AllZip R xs ys → R x y → AllZip R (xs ++ x ∷ []) (ys ++ y ∷ [])
 zip_push R [] [] x y h r = (r, tt)

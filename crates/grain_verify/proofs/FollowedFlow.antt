@@ -49,9 +49,9 @@ module _ (starts : List ℕ) (chunk : Span) (switches : List (List ℕ)) (left :
       → Sends starts chunk switches (flow is target) (jumped (flow is target) left list here.state) sent new_sent (map underway work) (map underway pushed)
       → (All (IsAtOrdinal starts chunk) work → All (IsAtOrdinal starts chunk) pushed) → OnWay pushed on_way
       → IsFollowed starts chunk switches (flow way target) left here width old new sent new_sent work on_way
-  followed new_sent pushed on_way sends placed all =
+  followed new_sent pushed on_way sends at_ordinal all =
       subst (λ (w : Flow). IsFollowed starts chunk switches (flow w target) left here width old new sent new_sent work on_way) (sym same)
-      (record { list = list; there = there; bases = bases; pushed = pushed; sends = sends; placed = placed; all = all })
+      (record { list = list; there = there; bases = bases; pushed = pushed; sends = sends; at_ordinal = at_ordinal; all = all })
 
   -- it has no target
   pub followed_on : (on_way : List Arrival) → targets_for switches (flow is target) ≡ [] → OnWay work on_way → IsFollowed starts chunk switches (flow way target) left here width old new sent sent work on_way
@@ -68,7 +68,7 @@ module _ (starts : List ℕ) (chunk : Span) (switches : List (List ℕ)) (left :
       here width old new sent sent work on_way
   followed_to pushed on_way s one after pushes all =
       let p = subst (λ (ts : List ℕ). Pushes starts chunk (jumped (flow is target) left list here.state) ts work pushed) (sym one) (subst (λ (a : State). Pushes starts chunk a (target ∷ []) work pushed) after pushes) in
-      followed sent pushed on_way (inl (record { starts_in = p.starts_in; added = p.added; noted = inl refl })) p.placed all
+      followed sent pushed on_way (inl (record { starts_in = p.starts_in; added = p.added; noted = inl refl })) p.at_ordinal all
 
 -- a list with a number has a base
 pub some_list : (lists : Lists) (n : ℕ) → 0 < n → 1 ≤ length (list_of lists n)

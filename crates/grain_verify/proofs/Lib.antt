@@ -17,7 +17,7 @@ pub mod PlainWalk
 pub mod PushedTargets
 mod QuietTags
 pub mod RefusalsAreFlaws
-pub mod RefusedPlace
+pub mod RefusedChunk
 pub mod SentCounts
 pub mod SharedLists
 pub mod TagTable

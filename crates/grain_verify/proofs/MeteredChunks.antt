@@ -13,7 +13,7 @@ use Rattle.grain_verify.specs.Meter.{IsMetered, starts_within}
 use Rattle.grain_verify.specs.Progress.{AreCounted, AreMeteredChunks, IsMeteredChunk}
 use Rattle.grain_rules.specs.Typing.{IsReachedCount}
 use Rattle.grain_rules.specs.declared.error.VerifyError.{VerifyError}
-use Rattle.grain_verify.specs.Refusals.{without_place}
+use Rattle.grain_verify.specs.Refusals.{without_chunk}
 use Rattle.grain_verify.specs.declared.refusal.Refusal.{Refusal}
 use Rattle.grain_verify.proofs.ChunkInduction.{number_more}
 use Rattle.grain_verify.proofs.MeterArithmetic.{counted_both, counted_nothing}
@@ -60,10 +60,10 @@ counted_all code starts chunks i old new numbers past before =
     record { visits = c.visits; within = c.within; counted = c.counted; reached = c.reached }
 
 -- what was counted of the chunks was counted of the whole
-pub metered_placed : (i : Input) (old new : ℕ) (result : Result (Vec ℕ Global) Refusal) → (starts : List ℕ) → Split i.code.bytes starts
-    → AreMeteredChunks i.code starts i.chunks old new result → IsMetered i old new (without_place result)
-metered_placed i old new (Ok numbers) starts split m = record { accepted = (m.visits, m.reached, m.counted); refused = tt }
-metered_placed i old new (Err r) starts split m = record {
+pub metered_located : (i : Input) (old new : ℕ) (result : Result (Vec ℕ Global) Refusal) → (starts : List ℕ) → Split i.code.bytes starts
+    → AreMeteredChunks i.code starts i.chunks old new result → IsMetered i old new (without_chunk result)
+metered_located i old new (Ok numbers) starts split m = record { accepted = (m.visits, m.reached, m.counted); refused = tt }
+metered_located i old new (Err r) starts split m = record {
   accepted = tt;
   refused = (
     m.visits,

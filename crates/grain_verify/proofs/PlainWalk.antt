@@ -47,7 +47,7 @@ plain_visited p chunk lists t here next deepest ready framed h step =
       bases = refl;
       pushed = t.work.items;
       sends = inl (record { starts_in = All-nil (IsStartIn p.starts chunk); added = sym (append-nil (map underway t.work.items)); noted = inl refl });
-      placed = λ all. all;
+      at_ordinal = λ all. all;
       all = refl;
     } in
     rw (step.is) (visited p chunk t t here deepest step.op (width_of step.op) ready framed lists lists grows h step.stands refl 0 step.needs step.takes step.gives Falls
@@ -75,7 +75,7 @@ walking_begun p chunk lists t entry ordinal n m framed holds named place states 
         states = ap (λ (s : List (Option State)). length s) states ∙ length-replicate n none ∙ long;
         sent = ap (λ (s : List (Option State)). length s) sent ∙ length-replicate m none ∙ switches;
       };
-      placed = subst (All P) (sym alone) (All-push P [] a (All-nil P) (λ l. place ∙ ap (λ (k : ℕ). Some k) (sym named)));
+      at_ordinal = subst (All P) (sym alone) (All-push P [] a (All-nil P) (λ l. place ∙ ap (λ (k : ℕ). Some k) (sym named)));
       known = record {
         shared = shared;
         states = subst (NameLists lists) (sym states) (none_named lists n);

@@ -12,10 +12,10 @@ use Rattle.grain_verify.specs.declared.state.State.{State}
 -- an arrival pushed
 pub pushed_one : (starts : List ℕ) (chunk : Span) (work : List Arrival) (a : Arrival) (t : ℕ) (s : State)
     → underway a ≡ record { at = t; state = s } → IsStartIn starts chunk t → IsAtOrdinal starts chunk a → Pushes starts chunk s (t ∷ []) work (work ++ a ∷ [])
-pushed_one starts chunk work a t s arrives inside placed = record {
+pushed_one starts chunk work a t s arrives inside at_ordinal = record {
   starts_in = All-cons (IsStartIn starts chunk) t [] inside (All-nil (IsStartIn starts chunk));
   added = map_push underway work a ∙ ap (λ (u : Underway). map underway work ++ u ∷ []) arrives;
-  placed = λ all. All-push (IsAtOrdinal starts chunk) work a all placed;
+  at_ordinal = λ all. All-push (IsAtOrdinal starts chunk) work a all at_ordinal;
 }
 
 -- the state is pushed to some of these targets, in their order, and the others are left
@@ -25,7 +25,7 @@ pub record PushesUpTo (starts : List ℕ) (chunk : Span) (s : State) (all left :
   pub pushes : Pushes starts chunk s done old new
 
 pub none_pushed : (starts : List ℕ) (chunk : Span) (s : State) (all left : List ℕ) (work : List Arrival) → left ≡ all → PushesUpTo starts chunk s all left work work
-none_pushed starts chunk s all left work e = record { done = []; in_order = e; pushes = record { starts_in = All-nil (IsStartIn starts chunk); added = sym (append-nil (map underway work)); placed = λ h. h } }
+none_pushed starts chunk s all left work e = record { done = []; in_order = e; pushes = record { starts_in = All-nil (IsStartIn starts chunk); added = sym (append-nil (map underway work)); at_ordinal = λ h. h } }
 
 -- one more is pushed
 pub one_pushed : (starts : List ℕ) (chunk : Span) (s : State) (all left ts : List ℕ) (x : ℕ) (old work new : List Arrival)
@@ -40,7 +40,7 @@ one_pushed starts chunk s all left ts x old work new e so_far more = record {
         ∙ (ap (λ (ys : List Underway). ys ++ all_underway s (x ∷ [])) so_far.pushes.added
         ∙ (append_assoc (map underway old) (all_underway s so_far.done) (all_underway s (x ∷ []))
         ∙ ap (λ (ys : List Underway). map underway old ++ ys) (sym (map-append (λ (t : ℕ). record { at = t; state = s }) so_far.done (x ∷ [])))));
-    placed = λ h. more.placed (so_far.pushes.placed h);
+    at_ordinal = λ h. more.at_ordinal (so_far.pushes.at_ordinal h);
   };
 }
 

@@ -42,13 +42,13 @@ module _ {p : Walked} {chunk : Span} {lists : Lists} {t : Traversal} {deepest : 
   taken_named = (both (λ (b : Arrival). NamesList lists b.state) w.known.waiting).1
 
   pub taken_place : a.at < chunk.end → slice_get p.starts a.ordinal ≡ Some a.at
-  taken_place = (both (IsAtOrdinal p.starts chunk) w.placed).1
+  taken_place = (both (IsAtOrdinal p.starts chunk) w.at_ordinal).1
 
   pub left_named : All (λ (b : Arrival). NamesList lists b.state) rest
   left_named = (both (λ (b : Arrival). NamesList lists b.state) w.known.waiting).0
 
   pub left_placed : All (IsAtOrdinal p.starts chunk) rest
-  left_placed = (both (IsAtOrdinal p.starts chunk) w.placed).0
+  left_placed = (both (IsAtOrdinal p.starts chunk) w.at_ordinal).0
 
   pub taken_known : a.at < chunk.end → a.ordinal < length t.states
   taken_known l = let k = slice_get_within p.starts a.ordinal a.at (taken_place l) in let e = w.fits.states in omega arith
@@ -67,7 +67,7 @@ module _ {p : Walked} {chunk : Span} {lists : Lists} {t : Traversal} {deepest : 
     pub taken_skipped : get_or t.states a.ordinal None ≡ Some a.state → IsWalking p chunk lists t rest deepest
     taken_skipped was = record {
       fits = w.fits;
-      placed = left_placed;
+      at_ordinal = left_placed;
       known = record { shared = w.known.shared; states = w.known.states; sent = w.known.sent; waiting = left_named; few = w.known.few };
       walking = walking_skip _ a taken_walking (taken_place inside) was;
     }

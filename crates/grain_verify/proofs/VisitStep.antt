@@ -47,7 +47,7 @@ use Rattle.grain_verify.proofs.WalkIsSearch.{JumpsTo, pending_reached, sent_befo
 module _ (p : Walked) (chunk : Span) (t new : Traversal) (here : Arrival) (deepest : ℕ) (op : Op) (pushed falls_on : List Arrival) (ready : IsReady p)
     (framed : IsFramed p.code chunk) (old lists : Lists) (grows : Grows old lists) (h : HaltsAt p chunk old t here deepest)
     (passes : Passes (coded p.code) chunk here.at (view lists here.state) op) (falls : map (coming lists) falls_on ≡ falling p.code op here.at (view lists here.state))
-    (states : new.states ≡ t.states) (long : length new.sent ≡ length t.sent) (placed : All (IsAtOrdinal p.starts chunk) (pushed ++ falls_on))
+    (states : new.states ≡ t.states) (long : length new.sent ≡ length t.sent) (at_ordinal : All (IsAtOrdinal p.starts chunk) (pushed ++ falls_on))
     (sent_named : NameLists lists new.sent) (named : All (λ (a : Arrival). NamesList lists a.state) (pushed ++ falls_on)) where
   marked : new.states ≡ set h.before here.ordinal (Some here.state)
   marked = states ∙ h.marked
@@ -90,7 +90,7 @@ module _ (p : Walked) (chunk : Span) (t new : Traversal) (here : Arrival) (deepe
       ∙ append_assoc work jumped come in
       record {
         fits = record { states = ap (λ (s : List (Option State)). length s) marked ∙ length-set h.before here.ordinal (Some here.state) ∙ h.is.fits.states; sent = long ∙ h.is.fits.sent };
-        placed = placed;
+        at_ordinal = at_ordinal;
         known = knows;
         walking =
             subst (λ (s : List (Option State)). walk s (map (coming lists) (pushed ++ falls_on)) deepest) (sym marked)
@@ -127,7 +127,7 @@ module _ (p : Walked) (chunk : Span) (t new : Traversal) (here : Arrival) (deepe
       })
       (come_none lists t.work.items pushed none.added ∙ sym (append-nil (map (coming lists) t.work.items)))
 
--- what falls through is placed
+-- what falls through is at_ordinal
 pub falls_placed : (p : Walked) (chunk : Span) (here : Arrival) (op : Op) (s : State) → IsReady p → IsFramed p.code chunk
     → slice_get p.starts here.ordinal ≡ Some here.at → StandsAt p.code.bytes here.at op → IsAtOrdinal p.starts chunk (next_to here (width_of op) s)
 falls_placed p chunk here op s ready framed place stands l = elim (next_ordinal p.code.bytes p.starts ready.starts here.ordinal here.at op place stands) [
@@ -160,7 +160,7 @@ module _ (p : Walked) (chunk : Span) (t new : Traversal) (here : Arrival) (deepe
       → Sends p.starts chunk p.code.switches f (jumped f (here.state.operands - takes + gives) list here.state) t.sent new.sent (map underway t.work.items) (map underway pushed)
       → new.states ≡ t.states → length new.sent ≡ length t.sent → (All (IsAtOrdinal p.starts chunk) t.work.items → All (IsAtOrdinal p.starts chunk) pushed)
       → IsWalking p chunk lists new (pushed ++ falls_to f (here.state.operands - takes + gives) list here width) deepest
-  visited_here caps needs takes gives list f pushed asked known same allowed there met stays in_lists bases sends states long placed =
+  visited_here caps needs takes gives list f pushed asked known same allowed there met stays in_lists bases sends states long at_ordinal =
       let code = p.code in
       let c = view lists here.state in
       let left = here.state.operands - takes + gives in
@@ -181,7 +181,7 @@ module _ (p : Walked) (chunk : Span) (t new : Traversal) (here : Arrival) (deepe
       let work_named = sends_named lists p.starts chunk code.switches f sent_state t.sent new.sent t.work.items pushed jump_named
       (arrivals_named_more old lists grows t.work.items (left_named _ _ h.is)) sends in
       turned p chunk t new here deepest op pushed (falls_to f left list here width) ready framed old lists grows h passes goes states long
-      (one_more (IsAtOrdinal p.starts chunk) (falls_for f) pushed (next_to here width next_state) (next_placed next_state) (placed (left_placed _ _ h.is)))
+      (one_more (IsAtOrdinal p.starts chunk) (falls_for f) pushed (next_to here width next_state) (next_placed next_state) (at_ordinal (left_placed _ _ h.is)))
       (switches_named lists p.starts chunk code.switches f sent_state t.sent new.sent t.work.items pushed jump_named (all_named_more old lists grows t.sent h.is.known.sent) sends)
       (one_more (λ (a : Arrival). NamesList lists a.state) (falls_for f) pushed (next_to here width next_state) (fallen_named lists f left list here.state in_lists named) work_named)
       sent_state sent_is
@@ -196,7 +196,7 @@ module _ (p : Walked) (chunk : Span) (t new : Traversal) (here : Arrival) (deepe
   visited caps needs takes gives f on_way asked known same allowed there met stays is states long =
       let kept : view old here.state ≡ view lists here.state = sym (view_kept old lists grows here.state (taken_named _ _ h.is)) in
       let w = visited_here caps needs takes gives is.list f is.pushed asked known same allowed there (subst (IsMetBy f) kept met) (subst (Stays p.code.setting op) kept stays)
-      is.there (is.bases ∙ ap (bases_for f) kept) is.sends states long is.placed in
+      is.there (is.bases ∙ ap (bases_for f) kept) is.sends states long is.at_ordinal in
       subst (λ (xs : List Arrival). IsWalking p chunk lists new xs deepest) (sym is.all) w
 
 -- another state than an instruction sends was sent to the targets of its switch before

@@ -71,7 +71,7 @@ RefusesTargetOf starts chunk at ts e = (e ≡ errors.OutOfMemory) ⊎ ((t : ℕ)
 pub record Pushes (starts : List ℕ) (chunk : Span) (after : State) (ts : List ℕ) (old new : List Arrival) : Type 0 where
   pub starts_in : All (IsStartIn starts chunk) ts
   pub added : map underway new ≡ map underway old ++ all_underway after ts
-  pub placed : All (IsAtOrdinal starts chunk) old → All (IsAtOrdinal starts chunk) new
+  pub at_ordinal : All (IsAtOrdinal starts chunk) old → All (IsAtOrdinal starts chunk) new
 
 -- the states that were sent to the targets of switches, as counts
 abbrev pub sent_by : Lists → List (Option State) → List (Option Counts)

@@ -68,7 +68,7 @@ pub record IsFollowed (starts : List ℕ) (chunk : Span) (switches : List (List 
   pub bases : list_of new list ≡ bases_for f (view old here.state)
   pub pushed : List Arrival
   pub sends : Sends starts chunk switches f (jumped f left list here.state) sent new_sent (map underway work) (map underway pushed)
-  pub placed : All (IsAtOrdinal starts chunk) work → All (IsAtOrdinal starts chunk) pushed
+  pub at_ordinal : All (IsAtOrdinal starts chunk) work → All (IsAtOrdinal starts chunk) pushed
   pub all : on_way ≡ pushed ++ falls_to f left list here width
 
 -- how a flow is refused: it lacks an iterator or a handler, or a target refuses it, or its switch does

@@ -96,7 +96,7 @@ pub record KnowsLists (lists : Lists) (t : Traversal) (arrivals : List Arrival) 
 -- the same, in the variables of the walk
 pub record IsWalking (p : Walked) (chunk : Span) (lists : Lists) (t : Traversal) (arrivals : List Arrival) (deepest : ℕ) : Type 0 where
   pub fits : Fits p t
-  pub placed : All (IsAtOrdinal p.starts chunk) arrivals
+  pub at_ordinal : All (IsAtOrdinal p.starts chunk) arrivals
   pub known : KnowsLists lists t arrivals
   pub walking : Walking p.code chunk p.starts lists t.states (sent_by lists t.sent) (map (coming lists) arrivals) deepest
 

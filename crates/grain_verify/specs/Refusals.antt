@@ -1,4 +1,4 @@
--- Refusals with the place of the chunk that is refused.
+-- Refusals with the index of the chunk that is refused.
 use Rattle.std.specs.Prelude.{◌≡◌, ◌⊎◌, ℕ, List, None, Some, Ok, Err, Result, Vec}
 use Rattle.std.specs.declared.alloc.Global.{Global}
 use Rattle.grain_code.specs.Span.{Span}
@@ -9,20 +9,20 @@ use Rattle.grain_rules.specs.declared.error.VerifyError.{VerifyError}
 use Rattle.grain_rules.specs.declared.error.VerifyError.TheVariants.{OutOfMemory}
 use Rattle.grain_verify.specs.declared.refusal.Refusal.{Refusal}
 
--- the answer without the place
-abbrev pub without_place : Result (Vec ℕ Global) Refusal → Result (Vec ℕ Global) VerifyError
-without_place (Ok numbers) = Ok numbers
-without_place (Err r) = Err r.error
+-- the result without the index of the chunk
+abbrev pub without_chunk : Result (Vec ℕ Global) Refusal → Result (Vec ℕ Global) VerifyError
+without_chunk (Ok numbers) = Ok numbers
+without_chunk (Err r) = Err r.error
 
--- memory is wanted, at no place
-pub record WantsMemory (r : Refusal) : Type 0 where
+-- memory ran out, in no chunk
+pub record RanOutOfMemory (r : Refusal) : Type 0 where
   pub error : r.error ≡ OutOfMemory
-  pub place : r.place ≡ None
+  pub chunk : r.chunk ≡ None
 
--- it is a lack of memory, or a flaw of the chunk at its place, or without a place of what is tested before the chunks
-abbrev pub IsPlacedRefusal : Input → Refusal → Type 0
-IsPlacedRefusal i r = WantsMemory r ⊎ FlawAt i r.place r.error
+-- memory ran out; or it is a flaw of the chunk that it names; or it names no chunk, and is a flaw of what is tested before the chunks
+abbrev pub IsLocatedRefusal : Input → Refusal → Type 0
+IsLocatedRefusal i r = RanOutOfMemory r ⊎ FlawAt i r.chunk r.error
 
--- it is a lack of memory, or a flaw of the chunk at its place, each before which passes
+-- memory ran out, or it is a flaw of the chunk that it names, and each chunk before it passes
 abbrev pub IsChunkRefusal : Bytecode → List Span → Refusal → Type 0
-IsChunkRefusal code chunks r = WantsMemory r ⊎ ((flaw : IsFirstFlaw code chunks r.error) × (r.place ≡ Some flaw.place))
+IsChunkRefusal code chunks r = RanOutOfMemory r ⊎ ((flaw : IsFirstFlaw code chunks r.error) × (r.chunk ≡ Some flaw.place))

@@ -20,9 +20,9 @@ use grain_rules::{Read, Targets, VerifyError};
 /// # Errors
 /// `JumpOutOfRange` or `JumpIntoAnInstruction`.
 #[inline(always)]
-fn place_of(starts: &Starts, chunk: &Chunk, at: u32, target: u32) -> Result<usize, VerifyError>
+fn ordinal_of(starts: &Starts, chunk: &Chunk, at: u32, target: u32) -> Result<usize, VerifyError>
     ensures ok { OnOk result (IsStartIn starts.now.starts chunk.now target) }
-    ensures place { IfOk result (λ k. slice_get starts.now.starts k ≡ Some target) }
+    ensures ordinal { IfOk result (λ k. slice_get starts.now.starts k ≡ Some target) }
     ensures err { IfErr result (λ e. RefusesTarget starts.now.starts chunk.now at target e) }
 {
     let at = at as usize;
@@ -49,11 +49,11 @@ pub(crate) fn arrival_at(
 ) -> Result<Arrival, VerifyError>
     ensures arrives { IfOk result (λ a. underway a ≡ record { at = target; state = after }) }
     ensures inside { OnOk result (IsStartIn starts.now.starts chunk.now target) }
-    ensures placed { IfOk result (IsAtOrdinal starts.now.starts chunk.now) }
+    ensures at_ordinal { IfOk result (IsAtOrdinal starts.now.starts chunk.now) }
     ensures err { IfErr result (λ e.
         RefusesTargetOf starts.now.starts chunk.now at (target ∷ []) e) }
 {
-    let ordinal = place_of(starts, chunk, at, target)?;
+    let ordinal = ordinal_of(starts, chunk, at, target)?;
     Ok(Arrival {
         ordinal,
         at: target,
@@ -185,7 +185,7 @@ pub(crate) fn push_table<P: Read>(
         (P.leads pools.now) (flows.Switches index) after
         sent.old sent.new (map underway work.old.items) (map underway work.new.items)) }
     ensures long { OnOk result (length sent.new ≡ length sent.old) }
-    ensures placed { All (IsAtOrdinal starts.now.starts chunk.now) work.old.items
+    ensures at_ordinal { All (IsAtOrdinal starts.now.starts chunk.now) work.old.items
         → OnOk result (All (IsAtOrdinal starts.now.starts chunk.now) work.new.items) }
     ensures err { IfErr result (λ e.
         RefusesTargetOf starts.now.starts chunk.now at

@@ -21,4 +21,4 @@ pub use meter::Meter;
 pub use refusal::Refusal;
 pub use scratch::Scratch;
 pub use sinking::is_quiet;
-pub use verifier::{verify, verify_metered, verify_placed, verify_read};
+pub use verifier::{verify, verify_located, verify_metered, verify_read};

@@ -8,9 +8,9 @@ use std::alloc::AllocError;
 /// Why a program is refused, and for which of its chunks.
 #[derive(Clone, Copy, Debug, PartialEq, Eq)]
 pub struct Refusal {
-    /// The place of the chunk in the list of chunks, where one is refused, each before it having passed. There is none where
-    /// a test before the chunks fails, and where an allocation failed.
-    pub place: Option<usize>,
+    /// The index of the chunk that is refused; each chunk before it passes. `None` if a test before the chunks fails, or an
+    /// allocation failed.
+    pub chunk: Option<usize>,
     /// What is wrong.
     pub error: VerifyError,
 }
@@ -18,23 +18,23 @@ pub struct Refusal {
 impl Refusal {
     /// A refusal for no chunk.
     pub(crate) fn of_whole(error: VerifyError) -> Refusal
-        ensures place { result.place ≡ None }
+        ensures chunk { result.chunk ≡ None }
         ensures error { result.error ≡ error }
     {
-        Refusal { place: None, error }
+        Refusal { chunk: None, error }
     }
 
-    /// The refusal of the chunk at a place; of no chunk where an allocation failed.
-    pub(crate) fn of_chunk(place: usize, error: VerifyError) -> Refusal
+    /// The refusal of the chunk with this index; of no chunk if an allocation failed.
+    pub(crate) fn of_chunk(index: usize, error: VerifyError) -> Refusal
         ensures error { result.error ≡ error }
-        ensures place { error ≢ VerifyError.OutOfMemory → result.place ≡ Some place }
-        ensures memory { error ≡ VerifyError.OutOfMemory → result.place ≡ None }
+        ensures chunk { error ≢ VerifyError.OutOfMemory → result.chunk ≡ Some index }
+        ensures memory { error ≡ VerifyError.OutOfMemory → result.chunk ≡ None }
     {
-        let place = match error {
+        let chunk = match error {
             VerifyError::OutOfMemory => None,
-            _ => Some(place),
+            _ => Some(index),
         };
-        Refusal { place, error }
+        Refusal { chunk, error }
     }
 }
 
@@ -42,7 +42,7 @@ impl From<AllocError> for Refusal {
     ghost use Rattle.std.specs.Prelude.{◌≡◌, None};
     ghost use Rattle.grain_rules.specs.declared.error.VerifyError.{VerifyError};
 
-    ghost from_gives = { λ _ r. r ≡ record { place = None; error = VerifyError.OutOfMemory } };
+    ghost from_gives = { λ _ r. r ≡ record { chunk = None; error = VerifyError.OutOfMemory } };
 
     fn from(_: AllocError) -> Refusal {
         Refusal::of_whole(VerifyError::OutOfMemory)

@@ -7,7 +7,7 @@ ghost use Rattle.grain_rules.specs.Code.{coded};
 ghost use Rattle.grain_rules.specs.Flaw.{CodeFlaw, Flaw};
 ghost use Rattle.grain_verify.specs.Meter.{IsMetered};
 ghost use Rattle.grain_verify.specs.Progress.{AreMeteredChunks};
-ghost use Rattle.grain_verify.specs.Refusals.{IsChunkRefusal, IsPlacedRefusal, without_place};
+ghost use Rattle.grain_verify.specs.Refusals.{IsChunkRefusal, IsLocatedRefusal, without_chunk};
 ghost use Rattle.grain_rules.specs.Setting.{with_caps};
 ghost use Rattle.grain_rules.specs.Typing.{HasTyping, IsDeepest};
 ghost use Rattle.grain_rules.specs.Verdict.{IsVerdict, ReachesChunks};
@@ -137,10 +137,10 @@ fn walk_each<P: Read>(
     asked.forget();
     deepest.clear();
     deepest.try_reserve_exact(chunks.len())?;
-    for (place, chunk) in chunks.iter().enumerate() {
+    for (index, chunk) in chunks.iter().enumerate() {
         match verify_chunk(prepared, chunk, lists, traversal, asked, meter) {
             Ok(needed) => deepest.push_reserved(needed),
-            Err(error) => return Err(Refusal::of_chunk(place, error)),
+            Err(error) => return Err(Refusal::of_chunk(index, error)),
         }
     }
     Ok(())
@@ -304,7 +304,7 @@ pub fn verify_metered(
         (input caps consts.now code.now functions.now chunks.now pools.now)
         meter.old meter.new result }
 {
-    match verify_placed(alloc, caps, consts, code, functions, chunks, pools, meter) {
+    match verify_located(alloc, caps, consts, code, functions, chunks, pools, meter) {
         Ok(deepest) => Ok(deepest),
         Err(refusal) => Err(refusal.error),
     }
@@ -313,9 +313,8 @@ pub fn verify_metered(
 /// Verifies as [`verify_metered`] does, and says of a refusal which chunk is refused. One walk finds both.
 ///
 /// # Errors
-/// Those of [`verify`], each with the place of the chunk that it is of, all before which pass; without a place where it is
-/// of no chunk.
-pub fn verify_placed<'a>(
+/// Those of [`verify`], each with the index of the chunk that is refused, if it is one: those before it pass.
+pub fn verify_located<'a>(
     alloc: Global,
     caps: Caps,
     consts: &'a [Dynamic],
@@ -327,34 +326,34 @@ pub fn verify_placed<'a>(
 ) -> Result<Vec<u16>, Refusal>
     ensures verdict { IsVerdict
         (input caps consts.now code.now functions.now chunks.now pools.now)
-        (without_place result) }
-    ensures placed { IfErr result (IsPlacedRefusal
+        (without_chunk result) }
+    ensures located { IfErr result (IsLocatedRefusal
         (input caps consts.now code.now functions.now chunks.now pools.now)) }
     ensures memory { IfErr result (λ r. r.error ≡ VerifyError.OutOfMemory → ReachesChunks
         (input caps consts.now code.now functions.now chunks.now pools.now)) }
     ensures metered { IsMetered
         (input caps consts.now code.now functions.now chunks.now pools.now)
-        meter.old meter.new (without_place result) }
+        meter.old meter.new (without_chunk result) }
 {
     let candidate = Candidate::new(caps, consts, code, functions, chunks, pools);
     verify_read(alloc, &candidate, meter)
 }
 
-/// Verifies as [`verify_placed`] does, with pools in any form that can be read. It makes no pools: it reads what is looked at
+/// Verifies as [`verify_located`] does, with pools in any form that can be read. It makes no pools: it reads what is looked at
 /// where it is looked at.
 ///
 /// # Errors
-/// Those of [`verify_placed`].
+/// Those of [`verify_located`].
 pub fn verify_read<P: Read>(
     alloc: Global,
     candidate: &Candidate<'_, P>,
     meter: &mut Meter,
 ) -> Result<Vec<u16>, Refusal>
-    ensures verdict { IsVerdict candidate.now (without_place result) }
-    ensures placed { IfErr result (IsPlacedRefusal candidate.now) }
+    ensures verdict { IsVerdict candidate.now (without_chunk result) }
+    ensures located { IfErr result (IsLocatedRefusal candidate.now) }
     ensures memory { IfErr result (λ r. r.error ≡ VerifyError.OutOfMemory
         → ReachesChunks candidate.now) }
-    ensures metered { IsMetered candidate.now meter.old meter.new (without_place result) }
+    ensures metered { IsMetered candidate.now meter.old meter.new (without_chunk result) }
 {
     let mut scratch = Scratch::new(alloc);
     scratch.verify(alloc, candidate, meter)
@@ -365,18 +364,18 @@ impl Scratch {
     /// [`Scratch::keep`] takes them back.
     ///
     /// # Errors
-    /// Those of [`verify_placed`].
+    /// Those of [`verify_located`].
     pub fn verify<P: Read>(
         &mut self,
         alloc: Global,
         candidate: &Candidate<'_, P>,
         meter: &mut Meter,
     ) -> Result<Vec<u16>, Refusal>
-        ensures verdict { IsVerdict candidate.now (without_place result) }
-        ensures placed { IfErr result (IsPlacedRefusal candidate.now) }
+        ensures verdict { IsVerdict candidate.now (without_chunk result) }
+        ensures located { IfErr result (IsLocatedRefusal candidate.now) }
         ensures memory { IfErr result (λ r. r.error ≡ VerifyError.OutOfMemory
             → ReachesChunks candidate.now) }
-        ensures metered { IsMetered candidate.now meter.old meter.new (without_place result) }
+        ensures metered { IsMetered candidate.now meter.old meter.new (without_chunk result) }
     {
         match check_before_chunks(alloc, &mut self.starts, candidate) {
             Ok(is_known) => verify_chunks(alloc, self, is_known, candidate, meter),

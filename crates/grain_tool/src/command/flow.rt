@@ -42,7 +42,7 @@ fn place_of(program: &Program, listing: &ProgramListing, name: Option<&str>) -> 
     let Some(name) = name else {
         return match &listing.explained.verdict {
             Ok(_) => Some(0),
-            Err(refusal) => Some(refusal.place.unwrap_or(0)),
+            Err(refusal) => Some(refusal.chunk.unwrap_or(0)),
         };
     };
     (0..listing.chunks.len()).find(|place| name_of(program, *place) == name)
@@ -51,7 +51,7 @@ fn place_of(program: &Program, listing: &ProgramListing, name: Option<&str>) -> 
 /// Why there is no picture: no function has the name, or the program is refused before its chunks.
 fn undrawn(alloc: Global, path: &str, listing: &ProgramListing) -> Failure {
     match &listing.explained.verdict {
-        Err(refusal) if refusal.place.is_none() => {
+        Err(refusal) if refusal.chunk.is_none() => {
             let error = refusal.error;
             Failure::of(
                 alloc,

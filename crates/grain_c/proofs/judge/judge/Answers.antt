@@ -29,16 +29,16 @@ returns-in-Err-Refused-clause-answer c =
     let p = c.args.program.now in
     let room = c.args.room in
     let old = c.args.report.now in
-    let place = c.in-Err-Refused.refusal.place in
+    let chunk = c.in-Err-Refused.refusal.chunk in
     let error = c.in-Err-Refused.refusal.error in
     let clear = c.in_default.ensures.clear in
     let same = c.from_bits_retain-caps.ensures tt in
     let counted = c.in-Err-Refused.ensures.metered.refused in
-    let stopped : Refuses c.from_bits_retain-caps.result.0 p.code.now p.chunks.now p.pools place error = search rules in
-    let refuses = subst (λ (caps : ℕ). Refuses caps p.code.now p.chunks.now p.pools place error) same stopped in
+    let stopped : Refuses c.from_bits_retain-caps.result.0 p.code.now p.chunks.now p.pools chunk error = search rules in
+    let refuses = subst (λ (caps : ℕ). Refuses caps p.code.now p.chunks.now p.pools chunk error) same stopped in
     let within = refused_visits c.args.caps limit p room old clear counted.0 counted.1 in
     let shown : c.shown.result ≡ counted.0 =
     shows c.new-meter.result c.verdict-judged.new.meter counted.0 limit c.shown.result c.new-meter.ensures counted.2 c.shown.ensures within c.ranges.limit.fits in
     subst (λ (r : CRefusal). IsAnswer c.args.caps limit p room old (record { refusal = r; visited = c.shown.result }) REFUSED) (sym c.refusal_record.ensures)
-    (subst (λ (n : ℕ). IsAnswer c.args.caps limit p room old (record { refusal = refusal_record place error; visited = n }) REFUSED) (sym shown)
-    (refused c.args.caps limit p room old clear place error counted.0 refuses counted.1))
+    (subst (λ (n : ℕ). IsAnswer c.args.caps limit p room old (record { refusal = refusal_record chunk error; visited = n }) REFUSED) (sym shown)
+    (refused c.args.caps limit p room old clear chunk error counted.0 refuses counted.1))

@@ -14,32 +14,32 @@ returns-then-not-branch-clause-only c p is accepted spans =
     let no : c.in_ok-spans_within.field-0 ≡ false = c.if-not-branch.true in
     cc
 
-pub returns-in-Err-tighten_placed-clause-causes : goal.returns-in-Err-tighten_placed-clause-causes
-returns-in-Err-tighten_placed-clause-causes c =
-    let refused = c.in-Err-tighten_placed.ensures in
-    refused_cause c.args.limits.now c.args.bytes.now c.args.limit c.args.meter.now c.tighten_placed.new.meter c.in-Ok.program c.in-Err-tighten_placed.refusal c.stop_of.result
-    c.in-Ok.ensures.found refused.placed refused.within c.stop_of.ensures.memory c.stop_of.ensures.refused
+pub returns-in-Err-tighten_located-clause-causes : goal.returns-in-Err-tighten_located-clause-causes
+returns-in-Err-tighten_located-clause-causes c =
+    let refused = c.in-Err-tighten_located.ensures in
+    refused_cause c.args.limits.now c.args.bytes.now c.args.limit c.args.meter.now c.tighten_located.new.meter c.in-Ok.program c.in-Err-tighten_located.refusal c.stop_of.result
+    c.in-Ok.ensures.found refused.located refused.within c.stop_of.ensures.memory c.stop_of.ensures.refused
 
-pub returns-in-Err-tighten_placed-clause-visited : goal.returns-in-Err-tighten_placed-clause-visited
-returns-in-Err-tighten_placed-clause-visited c =
-    refused_visits c.in-Ok.program c.args.meter.now c.tighten_placed.new.meter c.args.limit c.in-Err-tighten_placed.ensures.within (c.in_ok-spans_within.ensures.0 c.if-not-branch.false)
+pub returns-in-Err-tighten_located-clause-visited : goal.returns-in-Err-tighten_located-clause-visited
+returns-in-Err-tighten_located-clause-visited c =
+    refused_visits c.in-Ok.program c.args.meter.now c.tighten_located.new.meter c.args.limit c.in-Err-tighten_located.ensures.within (c.in_ok-spans_within.ensures.0 c.if-not-branch.false)
 
 pub file_of-requires : goal.file_of-requires
 file_of-requires c =
-    tight_has_file c.args.limits.now c.args.bytes.now c.in-Ok.program c.tighten_placed.new.self c.in-Ok.ensures.found c.in-Ok-tighten_placed.ensures.ok
+    tight_has_file c.args.limits.now c.args.bytes.now c.in-Ok.program c.tighten_located.new.self c.in-Ok.ensures.found c.in-Ok-tighten_located.ensures.ok
 
 pub returns-in_err-file_of-clause-visited : goal.returns-in_err-file_of-clause-visited
 returns-in_err-file_of-clause-visited c =
-    let tight = c.in-Ok-tighten_placed.ensures in
-    accepted_visits c.in-Ok.program c.args.meter.now c.tighten_placed.new.meter c.args.limit tight.ok.accepted tight.reached (c.in_ok-spans_within.ensures.0 c.if-not-branch.false)
+    let tight = c.in-Ok-tighten_located.ensures in
+    accepted_visits c.in-Ok.program c.args.meter.now c.tighten_located.new.meter c.args.limit tight.ok.accepted tight.reached (c.in_ok-spans_within.ensures.0 c.if-not-branch.false)
 
 pub returns-clause-file : goal.returns-clause-file
 returns-clause-file c =
-    let tight = c.in-Ok-tighten_placed.ensures in
-    tight_written c.args.limits.now c.args.bytes.now c.in-Ok.program c.tighten_placed.new.self c.in-Ok.ensures.found c.in_ok-file_of.field-0.items c.args.meter.now c.tighten_placed.new.meter
+    let tight = c.in-Ok-tighten_located.ensures in
+    tight_written c.args.limits.now c.args.bytes.now c.in-Ok.program c.tighten_located.new.self c.in-Ok.ensures.found c.in_ok-file_of.field-0.items c.args.meter.now c.tighten_located.new.meter
     tight.ok c.in_ok-file_of.ensures tight.reached
 
 pub returns-clause-visited : goal.returns-clause-visited
 returns-clause-visited c =
-    let tight = c.in-Ok-tighten_placed.ensures in
-    accepted_visits c.in-Ok.program c.args.meter.now c.tighten_placed.new.meter c.args.limit tight.ok.accepted tight.reached (c.in_ok-spans_within.ensures.0 c.if-not-branch.false)
+    let tight = c.in-Ok-tighten_located.ensures in
+    accepted_visits c.in-Ok.program c.args.meter.now c.tighten_located.new.meter c.args.limit tight.ok.accepted tight.reached (c.in_ok-spans_within.ensures.0 c.if-not-branch.false)

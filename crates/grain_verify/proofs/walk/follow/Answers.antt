@@ -23,7 +23,7 @@ returns-in-Ok-clause-followed g c =
     let work = c.args.traversal.now.work.items in
     let arrival = c.in-Ok.next in
     let told = c.in-Ok.ensures in
-    let pushed = pushed_one c.args.starts.now.starts c.args.chunk.now work arrival c.args.effect.target c.with-after.result told.arrives told.inside told.placed in
+    let pushed = pushed_one c.args.starts.now.starts c.args.chunk.now work arrival c.args.effect.target c.with-after.result told.arrives told.inside told.at_ordinal in
     followed_to _ _ _ _ c.args.here c.args.width c.args.lists.now c.args.lists.now _ work _ _ c.args.effect.target c.in-Jumps.is c.args.here.state.list c.requires.list refl
     (work ++ arrival ∷ []) _ c.with-after.result refl c.with-after.ensures pushed (sym (append-nil (work ++ arrival ∷ [])))
 
@@ -42,7 +42,7 @@ returns-in-Ok-push_table-clause-followed g c =
     subst (λ (s : State). Sends c.args.starts.now.starts c.args.chunk.now (g.P.Read.leads c.args.pools.now) (flows.Switches c.args.effect.target) s t.sent c.push_table.new.sent
     (map underway t.work.items) (map underway work)) c.with-after.ensures told.sends in
     followed _ _ _ _ c.args.here c.args.width c.args.lists.now c.args.lists.now _ _ _ _ c.args.effect.target c.in-Switches.is c.args.here.state.list c.requires.list refl _ work _ sends
-    told.placed refl
+    told.at_ordinal refl
 
 pub returns-in-BeginsIterator-clause-followed : goal.returns-in-BeginsIterator-clause-followed
 returns-in-BeginsIterator-clause-followed g c =

@@ -4,7 +4,7 @@ use Rattle.grain_rules.specs.Code.{coded}
 use Rattle.grain.specs.Program.{chunks_of, input_of}
 use Rattle.grain_rules.specs.Typing.{IsDeepest}
 use Rattle.grain.proofs.RedeclaredPrograms.{tightened}
-use Rattle.grain.proofs.program.Program.tighten_placed.Goals as goal
+use Rattle.grain.proofs.program.Program.tighten_located.Goals as goal
 
 pub declare-requires : goal.declare-requires
 declare-requires c =

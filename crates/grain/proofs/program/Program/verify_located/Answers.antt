@@ -4,12 +4,12 @@ use Rattle.std.proofs.lemmas.Result.{err_from_is_err_and}
 use Rattle.grain_rules.specs.Accepted.{Input, input}
 use Rattle.grain_rules.specs.declared.error.VerifyError.TheVariants.{OutOfMemory}
 use Rattle.grain_verify.specs.Meter.{IsMetered}
-use Rattle.grain_verify.specs.Refusals.{IsPlacedRefusal, without_place}
+use Rattle.grain_verify.specs.Refusals.{IsLocatedRefusal, without_chunk}
 use Rattle.grain.specs.Program.{Program, input_of}
 use Rattle.grain_rules.specs.Verdict.{IsVerdict}
 use Rattle.grain.proofs.Inputs.{same_input}
 use Rattle.grain_rules.proofs.Verdicts.{out_of_memory}
-use Rattle.grain.proofs.program.Program.verify_placed.Goals as goal
+use Rattle.grain.proofs.program.Program.verify_located.Goals as goal
 
 -- what `verify` is given is what the program has
 given : (c : goal.After-drop-chunks) → input c.self.inside.caps c.deref.result.now c.deref-2.result.now c.deref-3.result.now c.deref-4.result.now c.pools-pools.result ≡ input_of c.args.self.now
@@ -33,10 +33,10 @@ returns-in_err-chunks-clause-verdict c =
     let p = err_from_is_err_and c.from_residual.result c.from_residual.ensures.1 in
     rw (p.1, p.2) (out_of_memory (input_of c.args.self.now))
 
-pub returns-in_err-chunks-clause-placed : goal.returns-in_err-chunks-clause-placed
-returns-in_err-chunks-clause-placed c =
+pub returns-in_err-chunks-clause-located : goal.returns-in_err-chunks-clause-located
+returns-in_err-chunks-clause-located c =
     let p = err_from_is_err_and c.from_residual.result c.from_residual.ensures.1 in
-    rw (p.1, p.2) (inl (record { error = refl; place = refl }))
+    rw (p.1, p.2) (inl (record { error = refl; chunk = refl }))
 
 pub returns-in_err-chunks-clause-metered : goal.returns-in_err-chunks-clause-metered
 returns-in_err-chunks-clause-metered c =
@@ -44,10 +44,10 @@ returns-in_err-chunks-clause-metered c =
     rw (p.1, p.2) (nothing_metered (input_of c.args.self.now) c.args.meter.now)
 
 pub returns-clause-verdict : goal.returns-clause-verdict
-returns-clause-verdict c = subst (λ (i : Input). IsVerdict i (without_place c.verify_placed.result)) (given c) c.verify_placed.ensures.verdict
+returns-clause-verdict c = subst (λ (i : Input). IsVerdict i (without_chunk c.verify_located.result)) (given c) c.verify_located.ensures.verdict
 
-pub returns-clause-placed : goal.returns-clause-placed
-returns-clause-placed c = subst (λ (i : Input). IfErr c.verify_placed.result (IsPlacedRefusal i)) (given c) c.verify_placed.ensures.placed
+pub returns-clause-located : goal.returns-clause-located
+returns-clause-located c = subst (λ (i : Input). IfErr c.verify_located.result (IsLocatedRefusal i)) (given c) c.verify_located.ensures.located
 
 pub returns-clause-metered : goal.returns-clause-metered
-returns-clause-metered c = subst (λ (i : Input). IsMetered i c.args.meter.now c.verify_placed.new.meter (without_place c.verify_placed.result)) (given c) c.verify_placed.ensures.metered
+returns-clause-metered c = subst (λ (i : Input). IsMetered i c.args.meter.now c.verify_located.new.meter (without_chunk c.verify_located.result)) (given c) c.verify_located.ensures.metered

@@ -1,7 +1,7 @@
 use Rattle.std.proofs.Common.{arith, refl, sym, ◌∙◌}
 use Rattle.std.proofs.lemmas.Option.{none-some}
 use Rattle.grain_rules.proofs.ListedStarts.{contains_place, placed_contains}
-use Rattle.grain_verify.proofs.edges.place_of.Goals as goal
+use Rattle.grain_verify.proofs.edges.ordinal_of.Goals as goal
 
 pub returns-in-Some-clause-ok : goal.returns-in-Some-clause-ok
 returns-in-Some-clause-ok c = record {
