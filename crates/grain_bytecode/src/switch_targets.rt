@@ -1,4 +1,6 @@
 //! Targets of switches: indices of operations become offsets of code.
+//!
+//! They are in the pools and not in the code, so the assembler doesn't see them.
 ghost use Rattle.std.specs.Prelude.{◌≡◌, ℕ, map, length, OnOk, IfErr};
 ghost use Rattle.std.specs.List.{All};
 ghost use Rattle.grain_bytecode.specs.declared.assemble_error.AssembleError.{AssembleError};

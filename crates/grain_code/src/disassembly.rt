@@ -1,4 +1,6 @@
 //! Code read instruction by instruction.
+//!
+//! It stops at the first byte that is no instruction, since nothing says where a next one would begin.
 
 ghost use Rattle.std.specs.Prelude.{◌≡◌, ℕ, List, drop, length};
 ghost use Rattle.std.specs.Iterator.{at_most, Drains};

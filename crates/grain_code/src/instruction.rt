@@ -1,4 +1,4 @@
-//! An instruction where it is in code, as its bytes.
+//! An instruction where it is in code, as its bytes, since much of what is asked of one needs no decoding.
 ghost use Rattle.std.specs.Prelude.{◌≡◌, ℕ, ◌+◌, ◌<◌, ◌≤◌, ◌∷◌, IfSome, IfNone, List, None, Some, length};
 ghost use Rattle.grain_code.specs.InstructionTable.{Instr, form, width_of};
 ghost use Rattle.grain_code.specs.Split.{StandsAt, NoneStandsAt};

@@ -1,4 +1,6 @@
 //! The fields of an operation, labels as its jump target, and how many bytes it takes.
+//!
+//! The assembler treats every operation alike by its fields, and so has no arm for each.
 
 ghost use Rattle.std.specs.Prelude.{◌≡◌};
 ghost use Rattle.grain_code.specs.Fields.{field_list};

@@ -1,4 +1,6 @@
 //! Where the instructions of code begin: a bit for each address.
+//!
+//! Bits with counts take a quarter of the memory of the code, and find the ordinal of an address in constant time.
 ghost use Rattle.std.specs.Prelude.{◌≡◌, ◌↔◌, ◌<◌, ◌≤◌, ◌+◌, ◌*◌, ◌/◌, ◌++◌, ◌∷◌, [], ℕ, List, IsTrue, IfErr, IfOk, IfSome, Some, length, count_by, nat_lt, slice_get, vec_capacity};
 ghost use Rattle.std.specs.List.{Contains};
 ghost use Rattle.grain_code.specs.Split.{NoneStandsAt, Split};

@@ -1,4 +1,6 @@
 //! What a tag says about its instructions: a row for each.
+//!
+//! A row has 8 bytes, so that the walk finds all that it needs of most instructions by one load.
 ghost use Rattle.std.specs.Prelude.{◌≡◌, get_or};
 ghost use Rattle.grain_code.specs.Flows.{is_fixed};
 ghost use Rattle.grain_code.specs.declared.tag_table.TheConstants.{TAG_ROWS};

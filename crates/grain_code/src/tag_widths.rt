@@ -1,4 +1,4 @@
-//! How many bytes instructions take, by their tags.
+//! How many bytes instructions take, by their tags, so that code is split without decoding it.
 
 ghost use Rattle.std.specs.Prelude.{◌≡◌, ◌≢◌, ◌+◌, ◌<◌, ◌≤◌, IfSome, IfNone, Some, length, slice_get};
 ghost use Rattle.grain_code.specs.InstructionTable.{form, width_of};

@@ -1,4 +1,6 @@
 //! Counts on their way to an instruction.
+//!
+//! They keep where they come from, which the verifier's states don't: a refusal is explained by the path that leads to it.
 
 use crate::row::Row;
 

@@ -1,4 +1,6 @@
 //! Rows with the chunk of which they are to be a typing.
+//!
+//! Rows come from anyone, so nothing is assumed of them: each test here is of one part of what a typing is.
 ghost use Rattle.std.specs.Prelude.{◌≡◌, ◌≤◌, ◌<◌, ◌↔◌, ℕ, List, Some, slice_get, length};
 ghost use Rattle.std.specs.Prelude.{IfErr, OnOk, IsTrue};
 ghost use Rattle.grain_code.specs.Split.{Split};

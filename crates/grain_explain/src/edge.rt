@@ -1,4 +1,6 @@
 //! Counts on the edges on which an operation is left.
+//!
+//! They name the handlers by a list that is there already and perhaps one more base, so that checking rows makes no list.
 ghost use Rattle.std.specs.Prelude.{◌≡◌, ◌≤◌, ◌+◌, ◌↔◌, IsTrue, List, length};
 ghost use Rattle.grain_rules.specs.Counts.{nothing, without_last};
 ghost use Rattle.grain_rules.specs.FlowFields.{fall_for, jump_for};

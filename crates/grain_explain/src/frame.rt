@@ -1,4 +1,6 @@
 //! Boundaries of whole instructions.
+//!
+//! A certificate is checked without memory, so the starts of instructions aren't listed: they are found by reading on.
 ghost use Rattle.std.specs.Prelude.{◌≡◌, ◌≤◌, ℕ, List};
 ghost use Rattle.grain_code.specs.Split.{Split};
 ghost use Rattle.grain_rules.specs.Layout.{IsBoundary};

@@ -1,4 +1,4 @@
-//! Lists of bases that share their ends.
+//! Lists of bases that share their ends, so that rows under deeply nested handlers don't take memory by the square.
 ghost use Rattle.std.specs.Prelude.{◌≡◌, ◌≢◌, ◌∷◌, ◌<◌, ◌≤◌, ◌↔◌, ◌-◌, IsTrue, MatchOption, Some, length, slice_get};
 ghost use Rattle.grain_explain.specs.RowView.{AreLinked, plain_base, list_in};
 

@@ -1,4 +1,6 @@
 //! What an operation finds lacking.
+//!
+//! The walk that explains and the check of a certificate ask the same, so that both refuse for the same reasons.
 ghost use Rattle.std.specs.Prelude.{◌≡◌, ◌≤◌, IfErr, IfOk, OnOk, length};
 ghost use Rattle.grain_rules.specs.Counts.{last_base};
 ghost use Rattle.grain_rules.specs.Setting.{with_caps};

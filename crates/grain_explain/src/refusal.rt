@@ -1,4 +1,4 @@
-//! What explaining answers.
+//! What explaining returns.
 ghost use Rattle.std.specs.Prelude.{◌≡◌};
 ghost use Rattle.grain_explain.specs.declared.refusal.ExplainError.TheVariants.{OutOfMemory};
 

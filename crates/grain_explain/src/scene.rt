@@ -1,4 +1,6 @@
 //! What the walk over one chunk reads.
+//!
+//! It is apart from what the walk writes, so that the walk borrows this and changes that.
 ghost use Rattle.std.specs.Prelude.{◌<◌, ◌↔◌, IfErr, IsTrue, OnOk};
 ghost use Rattle.grain_rules.specs.Accepted.{IsFramed};
 ghost use Rattle.grain_rules.specs.Code.{coded};

@@ -1,4 +1,4 @@
-//! What stands on the edges on which a walk leaves an instruction, with its lists of bases.
+//! What is on the stacks along the edges on which a walk leaves an instruction, with the lists of bases.
 ghost use Rattle.std.specs.Prelude.{◌≡◌, ◌<◌, ◌≤◌, ◌+◌, ◌^◌, ◌↔◌, [], IfOk, IsTrue, IfSome, OnOk, Some, length, slice_get, ◌-◌};
 ghost use Rattle.grain_explain.specs.OnEdges.{IsListedIn, counts_on, handlers_in, pushed_in};
 ghost use Rattle.grain_explain.specs.RowView.{AreLinked, list_in};

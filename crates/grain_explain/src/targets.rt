@@ -1,4 +1,6 @@
 //! Whether the edges of a row lead to rows with their counts.
+//!
+//! Rows are in the order of their addresses, so each is found by binary search and no table is made.
 ghost use Rattle.std.specs.Prelude.{◌≤◌, length, IfErr, OnOk};
 ghost use Rattle.std.specs.List.{All};
 ghost use Rattle.grain_rules.specs.FlowFields.{targets_for};

@@ -1,4 +1,6 @@
 //! The walk over one chunk: what it visits, on which path, and the flaw that it meets.
+//!
+//! It isn't the verifier's walk, which is fast since it forgets what this one keeps.
 ghost use Rattle.std.specs.Prelude.{◌≡◌, ◌+◌, ◌<◌, ◌≤◌, ◌^◌, [], None, Some, get_or, length, true};
 ghost use Rattle.std.specs.Prelude.{IfErr, IfNone, IfOk, IfSome, OnOk};
 ghost use Rattle.std.specs.List.{All, Contains};

@@ -1,4 +1,6 @@
-//! What constants ask of the host, by their rows.
+//! What constants require of the host, by their rows.
+//!
+//! A constant crosses as what it requires, since its value would need all of `Dynamic` in C.
 ghost use Rattle.std.specs.Prelude.{◌≡◌, ◌↔◌, IfNone, IfSome, IsTrue, MatchOption, Some};
 ghost use Rattle.std.specs.List.{All};
 ghost use Rattle.grain_rules.specs.Capabilities.{Allows};

@@ -1,4 +1,6 @@
 //! Why a chunk is accepted or refused, as rows that cross to C.
+//!
+//! A row names its bases by an index into one list, so that no record points into another.
 ghost use Rattle.std.specs.Prelude.{◌≡◌, ◌++◌, IfErr, IfOk, OnOk, map, reverse, zip};
 ghost use Rattle.grain_flat.specs.Explaining.{ExplainsChunk, IsFlatCause, IsMadeOfRows, base_row};
 ghost use Rattle.grain_flat.specs.Explaining.{list_place, other_of, path_row, row_record, way_of};

@@ -1,4 +1,6 @@
 //! The fields of operations, as they cross to C.
+//!
+//! A host that disassembles needs no layout of its own for each instruction, since each field says what it is.
 ghost use Rattle.std.specs.Prelude.{◌≡◌, ◌+◌, sum_by};
 ghost use Rattle.grain_code.specs.InstructionTable.{form, width_of};
 ghost use Rattle.grain_flat.specs.Instruction.{field_row, field_rows, field_size, pool_kind};

@@ -1,4 +1,6 @@
-//! Whether pools are flat. No test takes memory.
+//! Whether pools are flat.
+//!
+//! No test takes memory, so that this refusal never hides behind an allocation that failed.
 ghost use Rattle.std.specs.Prelude.{◌≡◌, ◌<◌, ◌^◌, ◌↔◌, IfNone, IfSome, IsTrue, MatchBool, MatchOption, None, length};
 ghost use Rattle.std.specs.Bool.{OnTrue};
 ghost use Rattle.std.specs.List.{All};

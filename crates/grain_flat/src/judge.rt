@@ -1,4 +1,6 @@
 //! Verification of all but the constants.
+//!
+//! Constants are tested by their rows before, since the verifier would read their values, which don't cross.
 ghost use Rattle.grain_flat.specs.Judging.{IsMeteredOf, IsVerdictOf, judged_input};
 
 use crate::row_reads::Rows;

@@ -1,4 +1,6 @@
 //! Texts without memory: no text that is written here has more than 128 bytes.
+//!
+//! A host can show a refusal when memory ran out, since its text takes none.
 ghost use Rattle.std.specs.Prelude.{◌≡◌, ◌<◌, ◌≤◌, ◌+◌, ◌++◌, false, length};
 ghost use Rattle.std.specs.Fmt.{digit_glyph};
 ghost use Rattle.grain_rules.specs.Texts.{four_digits, named};

@@ -1,4 +1,6 @@
-//! The entries of address tables and the sites of streams, written into room of the caller's. No call takes memory.
+//! The entries of address tables and the sites of streams, written into room of the caller's.
+//!
+//! No call takes memory. Each returns how many items there are, so that a caller can make room and call again.
 ghost use Rattle.std.specs.Prelude.{◌≡◌, List, Option, IfNone, IfSome, cond, length, map, nat_lt, slice_set};
 ghost use Rattle.grain_base.specs.AddressTable.{Entry, LongestFront};
 ghost use Rattle.grain_base.specs.declared.pos.Site.{Site};

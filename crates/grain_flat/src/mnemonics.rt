@@ -1,4 +1,4 @@
-//! What instructions are called.
+//! What instructions are called, by the names of docs/FORMAT.md, so that each text of C is one that a reader can look up there.
 ghost use Rattle.std.specs.Prelude.{◌≡◌, ◌<◌, ◌≤◌, length};
 ghost use Rattle.grain_flat.specs.InstructionTexts.{mnemonic};
 

@@ -1,4 +1,7 @@
 //! What crosses to C.
+//!
+//! Each record has its fields in the order of its struct in grain.h. hosts/c/layout.h compares sizes and offsets, since no proof
+//! reaches a header.
 use std::marker::Model;
 
 /// A field of an instruction: what it is, and its value. Where there is no field both are 0.

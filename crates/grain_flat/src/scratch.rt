@@ -1,4 +1,5 @@
-//! Memory that one verification of flat pools after another uses.
+//! Memory that one verification of flat pools after another uses, so that a host that verifies many programs allocates for the
+//! largest alone.
 
 use crate::row_reads::Tables;
 use grain_code::Chunk;

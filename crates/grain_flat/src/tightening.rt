@@ -1,4 +1,6 @@
 //! Chunks that declare their depths.
+//!
+//! They are written into room of the caller's, since a call of C must not change what it was passed when it refuses.
 ghost use Rattle.std.specs.Prelude.{◌≡◌, ◌≤◌, ◌++◌, List, drop, length};
 ghost use Rattle.grain_code.specs.Span.{Span};
 ghost use Rattle.grain_flat.specs.Tightening.{AreDeclaring};

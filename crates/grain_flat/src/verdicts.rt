@@ -56,7 +56,8 @@ fn as_many(count: usize, some: &[Function]) -> &[Function]
     if count == 0 { &some[..0] } else { some }
 }
 
-/// The verdict on all with the flat form, once its constants have passed.
+/// The verdict on all with the flat form, once its constants have passed. It is compiled apart, so that a call that refuses a
+/// constant doesn't set up what the walk needs.
 #[inline(never)]
 fn verdict_with(
     alloc: Global,

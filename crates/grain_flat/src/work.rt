@@ -1,4 +1,6 @@
 //! How much work a verification may take.
+//!
+//! The limit is tested before the walk. A count during the walk would make a refusal depend on the order of the walk.
 ghost use Rattle.std.specs.Prelude.{◌≡◌, ◌≤◌, ◌↔◌, IsTrue};
 ghost use Rattle.grain_flat.specs.Work.{spanned, work_of};
 

@@ -1,4 +1,6 @@
 //! A whole run, from the bytes of a source to those of a sink.
+//!
+//! It is generic over both, since no contract can say what standard input holds: so the theorem is about whatever was read.
 
 ghost use Rattle.std.specs.Prelude.{◌≡◌, ◌≢◌, ◌<◌, [], length, vec_len, IfOk};
 ghost use Rattle.std.specs.Result.{IsErrOf};

@@ -1,4 +1,6 @@
 //! The verdicts on the lines of an input that comes buffer by buffer, and the count of its cases.
+//!
+//! It holds one line and not the input, so that a run over a long input takes memory by its longest line.
 
 ghost use Rattle.std.specs.Prelude.{◌≡◌, ◌≢◌, [], ◌∷◌, ◌++◌, List, ℕ, filter, OnOk, OnErr};
 ghost use Rattle.std.specs.Prelude.{string_bytes};

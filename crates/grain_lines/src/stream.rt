@@ -1,4 +1,6 @@
 //! What a run reads from and writes to.
+//!
+//! Two traits of our own, and not those of `std`: their ghost members say what was read and written before a failure.
 
 ghost use Rattle.std.specs.Prelude.{◌≡◌, ◌≢◌, ℕ, ◌+◌, ◌%◌, ◌^◌, List, Option, None, OnOk, OnErr};
 ghost use Rattle.std.specs.Io.{ReadsAtMost, WritesAtMost};

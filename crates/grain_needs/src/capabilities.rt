@@ -1,4 +1,6 @@
 //! The least capabilities that a program has to declare.
+//!
+//! They cover code that no run reaches too: only the walk of the verifier knows what is reached, and this is read without a walk.
 ghost use Rattle.std.specs.Prelude.{◌≡◌, ◌≢◌, [], ℕ, List, IfSome, Some};
 ghost use Rattle.std.specs.List.{All};
 ghost use Rattle.grain_base.specs.CapBits.{FUNCTION};

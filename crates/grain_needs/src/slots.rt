@@ -1,4 +1,6 @@
 //! How many slots for local variables a chunk uses.
+//!
+//! Verification tests no slot. With this number a host allocates once for a call, and then needs no test either.
 ghost use Rattle.std.specs.Prelude.{◌≡◌, ◌≤◌, ◌+◌, ℕ, List, None, Option, Some, get_or, max};
 ghost use Rattle.grain_needs.specs.Slots.{AreSlots, named_slot, receiver_slot, root_slot, root_slots};
 

@@ -1,4 +1,7 @@
 //! What operations, names and chains require of the host.
+//!
+//! An operation says which name or chain to ask about, and nothing is read of the pools here, so that the verifier can keep what it
+//! has read of each once.
 ghost use Rattle.std.specs.Prelude.{◌≡◌, ℕ};
 ghost use Rattle.grain_rules.specs.Capabilities.{chain_caps, name_caps, root_caps, step_caps};
 ghost use Rattle.grain_rules.specs.EffectView.{asked_in};

@@ -1,4 +1,6 @@
 //! What indices have to be below.
+//!
+//! A test returns the bound and the index, not an error with a text, so that it takes no memory and no pool.
 ghost use Rattle.std.specs.Prelude.{◌≡◌, ◌∷◌, [], codes};
 ghost use Rattle.grain_rules.specs.FirstOut.{bound_word, first_out, refused};
 ghost use Rattle.grain_rules.specs.Indices.{entry_name};

@@ -1,4 +1,6 @@
 //! What is to be verified.
+//!
+//! It is one value, so that every call that verifies has the very same contract.
 ghost use Rattle.std.specs.Prelude.{◌≡◌};
 ghost use Rattle.grain_rules.specs.Accepted.{input_beside};
 

@@ -1,4 +1,7 @@
 //! The test of code: whether it is whole instructions, each with its indices in bounds.
+//!
+//! It covers all bytes, also those that no run reaches, and comes before the walk: then the walk may read any instruction that it
+//! comes to without a test.
 ghost use Rattle.std.specs.Prelude.{◌≡◌, [], ℕ, ◌+◌, ◌<◌, ◌≤◌, ◌/◌, IfErr, IfOk, OnOk, length, take};
 ghost use Rattle.grain_code.specs.InstructionTable.{width_of};
 ghost use Rattle.grain_code.specs.Split.{Split, StandsAt};
@@ -141,7 +144,7 @@ fn test_by_few_words<P: Read, F: Front>(pools: &P, code: &[u8], front: F) -> Tes
     test_instructions(pools, &mut Passed::<FEW_WORDS>::new(), code, front)
 }
 
-/// Tests the same over pools of any size.
+/// Tests the same over pools of any size. It is compiled apart for the same reason.
 #[inline(never)]
 #[tactic(auto, using(crate::proofs::PassedEntries::none_passed))]
 fn test_by_all_words<P: Read, F: Front>(pools: &P, code: &[u8], front: F) -> Tested<F>

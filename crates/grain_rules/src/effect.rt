@@ -1,4 +1,6 @@
 //! What an operation does, as a value.
+//!
+//! The verifier, explanations and listings read it here, so that no two of them can differ on an operation.
 ghost use Rattle.std.specs.Prelude.{◌≡◌, ◌+◌, ◌<◌, ◌≤◌, ◌^◌, false, true};
 ghost use Rattle.grain_rules.specs.declared.asks.Asks.TheVariants.{Nothing};
 

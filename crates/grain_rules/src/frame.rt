@@ -1,4 +1,6 @@
 //! How a chunk lies in the code.
+//!
+//! It is tested before a walk begins, since a walk takes each address that it comes to for the start of an instruction.
 ghost use Rattle.std.specs.Prelude.{◌≡◌, ◌<◌, IfErr, IfOk, OnOk, Some, slice_get};
 ghost use Rattle.grain_code.specs.Split.{Split};
 ghost use Rattle.grain_rules.specs.Accepted.{IsFramed};
@@ -15,7 +17,8 @@ use grain_code::{Chunk, Starts};
 /// lead nowhere; an end within an instruction would have its last one reach beyond the chunk.
 ///
 /// # Errors
-/// `ChunkOutOfRange`; `FallsOffTheEnd` where it is empty; `JumpIntoAnInstruction` to its entry or its end.
+/// `ChunkOutOfRange`; `FallsOffTheEnd` if it is empty; `JumpIntoAnInstruction` to its entry or its end.
+// It runs once for each chunk: inlined, it would take registers from the walk after it.
 #[inline(never)]
 pub fn check_frame(code: &[u8], starts: &Starts, chunk: &Chunk) -> Result<usize, VerifyError>
     requires { Split code.now starts.now.starts }

@@ -1,4 +1,6 @@
-//! Fronts of code.
+//! Prefixes of code that have been tested.
+//!
+//! The test of code runs with and without a list of the starts. A trait makes that one loop, so that there is one proof.
 ghost use Rattle.std.specs.Prelude.{◌≡◌, ⊤, ℕ, ◌+◌, ◌<◌, ◌≤◌, ◌/◌, List, length, take};
 ghost use Rattle.grain_code.specs.InstructionTable.{width_of};
 ghost use Rattle.grain_code.specs.Split.{Split, StandsAt};

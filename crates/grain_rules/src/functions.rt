@@ -1,4 +1,6 @@
 //! Whether a program may have functions of its own.
+//!
+//! It is a test of its own, since a list of functions needs the capability whatever the code does.
 ghost use Rattle.std.specs.Prelude.{◌≡◌, ◌≢◌, [], OnOk, IfErr};
 ghost use Rattle.grain_base.specs.CapBits.{FUNCTION};
 ghost use Rattle.grain_rules.specs.Capabilities.{Allows};

@@ -1,4 +1,7 @@
 //! Which chains and switches of the pools have passed: a bit for each, in words that take no memory of the heap.
+//!
+//! Many instructions may name one long chain. Without these bits its indices would be tested for each of them, which takes time by
+//! the product.
 ghost use Rattle.std.specs.Prelude.{◌≡◌, ◌<◌, ◌*◌, ◌⊎◌, ◌↔◌, ℕ, IsTrue, length};
 ghost use Rattle.grain_rules.specs.Passed.{HasPassed};
 

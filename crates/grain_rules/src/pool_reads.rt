@@ -1,4 +1,5 @@
-//! What verification reads of pools that are made.
+//! What verification reads of [`Pools`](crate::Pools): the instance of [`Read`](crate::Read) for hosts in Rattle. Those in C and Rust
+//! have flat rows, which are read in place by `grain_flat`.
 ghost use Rattle.std.specs.Prelude.{◌≡◌, ◌<◌, ◌≤◌, ◌++◌, ◌∷◌, [], IfNone, IfSome, get_or, length, map, option_map, slice_get};
 ghost use Rattle.std.specs.List.{flat_map};
 ghost use Rattle.std.specs.Option.{option_to_list};

@@ -1,4 +1,6 @@
 //! What verification reads of pools, however these are kept.
+//!
+//! The verifier is generic over this trait, so that pools of a host are read in place and never copied into a form of ours.
 ghost use Rattle.std.specs.Prelude.{◌≡◌, ◌∷◌, [], ◌<◌, ◌≤◌, ℕ, IfNone, IfSome, List, get_or, length, map};
 ghost use Rattle.std.specs.List.{Contains};
 ghost use Rattle.grain_code.specs.declared.field.Pool.TheVariants.{Switches};

@@ -1,4 +1,6 @@
 //! Which instructions have no index, by their tags.
+//!
+//! Most instructions have none. Their width is all that the test of code needs, so it skips them without decoding.
 ghost use Rattle.std.specs.Prelude.{◌≡◌, ◌<◌, ◌≤◌, ◌+◌, IfSome, length};
 ghost use Rattle.grain_code.specs.InstructionTable.{width_of};
 ghost use Rattle.grain_code.specs.Split.{StandsAt};

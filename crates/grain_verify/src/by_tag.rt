@@ -1,4 +1,5 @@
-//! What an instruction does, and what comes next, where its tag and its target decide: most instructions need no more.
+//! What an instruction does, and what comes next, if its tag and its target decide: most instructions need no more, so that the walk
+//! rarely decodes.
 ghost use Rattle.std.specs.Prelude.{◌≡◌, ℕ, ◌+◌, ◌≤◌, ◌<◌, ◌^◌, ◌∷◌, IfSome, List, length, true};
 ghost use Rattle.grain_code.specs.Flows.{is_fixed};
 ghost use Rattle.grain_code.specs.InstructionTable.{Instr, form, width_of};

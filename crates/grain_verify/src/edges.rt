@@ -168,7 +168,8 @@ fn push_targets<T: Targets>(
 /// instructions may name one switch, and a walk that pushed all its targets for each of them would take time by the product.
 ///
 /// # Errors
-/// Those of the first target that is none, and `DepthConflict` where another state was sent there before.
+/// Those of the first target that is none, and `DepthConflict` if another state was sent there before.
+// Switches are rare: inlined, this would take registers from the walk.
 #[inline(never)]
 pub(crate) fn push_table<P: Read>(
     starts: &Starts,

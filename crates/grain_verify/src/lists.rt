@@ -1,4 +1,7 @@
 //! Lists of the bases of armed handlers, numbered so that equal lists have equal numbers.
+//!
+//! Two paths must agree on the bases of all handlers. By number that is one comparison, and lists that share their ends take no
+//! memory by the square of how deep handlers nest.
 ghost use Rattle.std.specs.Prelude.{◌≡◌, ◌+◌, ◌<◌, ◌≤◌, ◌^◌, ◌++◌, ◌∷◌, [], IfOk, OnOk, Some, length, slice_set};
 ghost use Rattle.std.specs.BTreeMap.{get, Updates};
 ghost use Rattle.grain_rules.specs.Counts.{last_base, without_last};
@@ -53,7 +56,8 @@ impl Lists {
         }
     }
 
-    /// Forgets all lists but the empty one.
+    /// Forgets all lists but the empty one. It is compiled apart, since it runs once for each chunk and the walk needs its
+    /// registers.
     #[inline(never)]
     pub(crate) fn clear(&mut self)
         ensures shared { IsShared self.new }
@@ -68,7 +72,8 @@ impl Lists {
     /// The list with this base after its last one.
     ///
     /// # Errors
-    /// [`AllocError`] where the memory was refused.
+    /// [`AllocError`] if the memory was refused.
+    // Handlers are rare: inlined, this would take registers from the walk.
     #[inline(never)]
     pub(crate) fn with_base(&mut self, list: u32, base: Base) -> Result<u32, AllocError>
         requires shared { IsShared self.old }

@@ -1,4 +1,4 @@
-//! Memory that one verification after another uses.
+//! Memory that one verification after another uses, so that verifying many programs allocates for the largest alone.
 
 use crate::asked::Asked;
 use crate::lists::Lists;

@@ -97,7 +97,7 @@ impl Traversal {
     }
 
     /// Begins the next chunk, in which nothing was visited. A state that stayed from another chunk would pass for a visit in
-    /// this one, and the instruction would go untested.
+    /// this one, and the instruction would go untested. It is compiled apart, since it runs once for each chunk.
     #[inline(never)]
     fn begin_chunk(&mut self)
         ensures states { self.new.states ≡ replicate (length self.old.states) None }
