@@ -173,3 +173,18 @@ let anon$1 = 1;
 [1].len$();
 //! `$`
 //@ 1:8
+//--- a number one above 64 bits
+18446744073709551616
+//! fit 64 bits
+//@ 1:1
+//--- a loop variable and its counter with one name
+for (x, x) in [1] { print(x); }
+//! this variable is repeated
+//@ 1:9
+//--- a global constant that is declared twice
+const X = 1;
+const X = 2;
+fn f() { global::X }
+f()
+//! ::
+//@ 3:10

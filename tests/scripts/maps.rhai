@@ -80,3 +80,13 @@ print(count);
 //--- the value of the script
 #{ x: [1, ()] }
 //= #{"x": [1, ()]}
+//--- object maps with other names differ
+print(#{a: 1} == #{b: 1});
+print(#{a: 1} == #{a: 1});
+//= false
+//= true
+//--- a map that holds a copy of itself grows until it is too large
+let m = #{};
+loop { m.a = m; }
+//! Size of data too large
+//@ 2

@@ -71,3 +71,6 @@ print(1 | 2 & 2);
 print(7 ^ 2 | 8);
 //= 3
 //= 13
+//--- coalescing binds tighter than comparing
+print(1 ?? 5 > 4);
+//= false

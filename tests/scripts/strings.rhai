@@ -84,3 +84,8 @@ print(b);
 let s = "a\"b";
 s + "c"
 //= a"bc
+//--- a string that is added to itself grows until it is too large
+let s = "0123456789";
+loop { s = s + s; }
+//! Size of data too large
+//@ 2

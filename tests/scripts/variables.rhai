@@ -67,3 +67,10 @@ let x = 5
 //--- the value of an assignment
 let x = 5;
 x = 6;
+//--- not before a name that begins with `in`
+let index = false;
+let inner = true;
+print(!index);
+print(!inner);
+//= true
+//= false

@@ -117,6 +117,7 @@ impl Verified {
     /// of functions.
     pub fn tighten(&mut self)
         ensures tightened { IsTightened self.old.program self.new.program }
+        ensures verified { IsVerified self.new }
         ensures declared { declared_by self.new.program ≡ self.new.depths }
         ensures depths { self.new.depths ≡ self.old.depths }
     {

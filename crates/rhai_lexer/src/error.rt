@@ -132,6 +132,8 @@ pub enum Thing {
     Switches,
     /// A string literal.
     Text,
+    /// A variable.
+    Variable,
     /// The name of a variable.
     VariableName,
     /// Local variables.
@@ -188,6 +190,7 @@ impl Thing {
             Thing::Statement => "a statement (functions are declared outside of blocks)",
             Thing::Switches => "switches",
             Thing::Text => "string",
+            Thing::Variable => "variable",
             Thing::VariableName => "the name of a variable",
             Thing::Variables => "variables",
             Thing::WhileOrUntil => "`while` or `until`",

@@ -383,7 +383,7 @@ fn walked_names(cursor: &mut Cursor) -> Result<(Binding, Option<Binding>), Compi
     let counter = walked_name(cursor)?;
     cursor.expect(Mark::RightParen, Thing::RightParen)?;
     if counter.name == name.name {
-        return Err(CompileError::new(counter.place, Problem::Repeated(Thing::VariableName)));
+        return Err(CompileError::new(counter.place, Problem::Repeated(Thing::Variable)));
     }
     Ok((name, Some(counter)))
 }

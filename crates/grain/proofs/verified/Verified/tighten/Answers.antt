@@ -25,3 +25,6 @@ invariant_of-self c = tightened_verified c.self.inside.program c.declare.new.sel
 
 pub returns-clause-tightened : goal.returns-clause-tightened
 returns-clause-tightened c = subst (λ (p : Program). IsTightened p c.declare.new.self) (ap (λ (v : Verified). v.program) c.self.view_is) (declares c)
+
+pub returns-clause-verified : goal.returns-clause-verified
+returns-clause-verified c = invariant_of-self c
