@@ -1,6 +1,6 @@
 //! Why a program is refused, and for which of its chunks.
 //!
-//! `VerifyError` has the fields and the text of the original, which names no chunk. So the index of the chunk is beside it.
+//! `VerifyError` has the fields and the text of the original, which names no chunk. So the index of the chunk is kept next to it.
 ghost use Rattle.std.specs.Prelude.{◌≡◌, ◌≢◌, None, Some};
 ghost use Rattle.grain_rules.specs.declared.error.VerifyError.{VerifyError};
 
