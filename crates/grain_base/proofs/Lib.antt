@@ -7,6 +7,7 @@ pub mod Groups
 pub mod KnownSites
 pub mod KnownCaps
 pub mod Numbers
+pub mod OperatorRows
 pub mod Parts
 pub mod GroupReads
 pub mod SiteLookup

@@ -3,6 +3,7 @@ pub mod CapBits
 pub mod Content
 pub mod ContentLaws
 pub mod EntriesLeft
+pub mod Operators
 pub mod Place
 pub mod Tokens
 pub mod Varint

@@ -5,6 +5,7 @@
 mod access;
 mod caps;
 pub mod laws;
+mod operators;
 pub mod pos;
 mod position;
 mod token;
