@@ -54,7 +54,7 @@ pub record LongestFront (bytes : List ℕ) (list : List Entry) : Type 0 where
   pub held : (list ≡ []) ⊎ Holds bytes list
   pub longest : (other : List Entry) → Holds bytes other → length other ≤ length list
 
--- One step gives the entry that comes first, and leaves what follows it. It gives nothing, and leaves all, where no entry
+-- One step gives the entry that comes first, and leaves what follows it. It gives nothing, and leaves all, if no entry
 -- is due or none comes.
 abbrev pub EntrySteps : EntriesLeft → Option Entry → EntriesLeft → Type 0
 EntrySteps old None new = ((old.count ≡ 0) ⊎ NoneNext old.before old.bytes) × (new ≡ old)
@@ -68,7 +68,7 @@ AreDue left list = (rest : List ℕ) × AreEntries left.before left.bytes list r
 abbrev pub known : Entry → Option Site
 known entry = if entry.1.line == 0 then None else Some entry.1
 
--- the site of the first entry at an address, where there is one and its site is known
+-- the site of the first entry at an address, if there is one and its site is known
 abbrev pub site_at : List Entry → ℕ → Option Site
 site_at list address = option_and_then known (find (λ entry. entry.0 == address) list)
 

@@ -31,7 +31,7 @@ pub record IsShortest (bytes : List ℕ) (n : ℕ) : Type 0 where
 abbrev pub AppendsShortest : List ℕ → List ℕ → ℕ → Type 0
 AppendsShortest old new n = (spelling : List ℕ) × (new ≡ old ++ spelling) × IsShortest spelling n
 
--- The number that is spelled for a signed number v: 2v where v is at least 0, else -2v - 1, which for -(m + 1) is 2m + 1.
+-- The number that is spelled for a signed number v: 2v if v is at least 0, else -2v - 1, which for -(m + 1) is 2m + 1.
 abbrev pub zigzag : ℤ → ℕ
 zigzag (pos m) = 2 * m
 zigzag (negsuc m) = 2 * m + 1
@@ -53,7 +53,7 @@ abbrev pub NumberFlaw : List ℕ → Error → Type 0
 NumberFlaw bytes Truncated = IsCutShort bytes
 NumberFlaw bytes Overflow = NoneStands bytes × ¬ IsCutShort bytes
 
--- the same where the number has to fit u32
+-- the same if the number has to fit u32
 abbrev pub U32Flaw : List ℕ → Error → Type 0
 U32Flaw bytes Truncated = IsCutShort bytes
 U32Flaw bytes Overflow = NumberFlaw bytes Overflow ⊎ ((taken n : ℕ) × Spells (take taken bytes) n × (2 ^ 32 ≤ n))

@@ -121,7 +121,7 @@ fn entry(table: &[u8], at: &mut usize, before: u32) -> Result<(u32, Site), varin
 /// The entries of an address table in order, each with its address: docs/FORMAT.md, "Address table".
 ///
 /// They are those that are whole before the first damage, and no more than the count says; entries of line 0 and
-/// repeated addresses are among them. After the last there is nothing more, however often it is called. Where the bytes
+/// repeated addresses are among them. After the last there is nothing more, however often it is called. If the bytes
 /// begin with no count that fits a `u32` there are none.
 ///
 /// To read them all takes time by the length of the address table, and no memory.
@@ -151,7 +151,7 @@ pub fn entries(table: &[u8]) -> Entries<'_>
 
 /// Looks up an address: the site of the first entry there.
 ///
-/// `None` where no entry has the address, and where the line of the first that has it is 0. The entries are those that
+/// `None` if no entry has the address, and where the line of the first that has it is 0. The entries are those that
 /// are whole before the first damage, and no more than the count says. An address that is repeated is no damage
 /// here.
 ///
@@ -177,7 +177,7 @@ pub fn resolve(table: &[u8], address: u32) -> Option<Site>
 ///
 /// # Errors
 ///
-/// `Truncated` or `Overflow` where that number can't be read.
+/// `Truncated` or `Overflow` if that number can't be read.
 pub fn count(table: &[u8]) -> Result<u32, Error>
     ensures ok { (n : ℕ) → (result ≡ Ok n) ↔ ((rest : List ℕ) × BeginsNumbers table.now (n ∷ []) rest) }
     ensures err { (e : TableError) → (result ≡ Err e)
@@ -251,7 +251,7 @@ fn count_kept(sites: &[(u32, Site)]) -> usize
 ///
 /// # Errors
 ///
-/// `AllocError` where there is no memory for the address table.
+/// `AllocError` if there is no memory for the address table.
 pub fn encode(alloc: Global, sites: &[(u32, Site)]) -> Result<Vec<u8>, AllocError>
     requires { IsStrictlyIncreasing (addresses (entries_with_site sites.now)) }
     ensures written { let list = entries_with_site sites.now in

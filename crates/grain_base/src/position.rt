@@ -32,7 +32,7 @@ impl Position {
         Position { line, column }
     }
 
-    /// The line, or `None` where this is no place.
+    /// The line, or `None` if this is no place.
     #[must_use]
     pub fn line(&self) -> Option<usize>
         ensures value { result ≡ line_of self.now }
@@ -45,7 +45,7 @@ impl Position {
         }
     }
 
-    /// The column, or `None` where this is no place or a line as a whole.
+    /// The column, or `None` if this is no place or a line as a whole.
     #[must_use]
     pub fn position(&self) -> Option<usize>
         ensures value { result ≡ column_of self.now }

@@ -1,7 +1,7 @@
 //! Values of scripts, as constants of a program and cases of a switch hold them.
 //!
 //! A value has the content that is left of it once every shared mark is taken off, at every depth. Two values are equal
-//! where they have one content, and what a hash is fed is read off the content alone.
+//! if they have one content, and what a hash is fed is read off the content alone.
 ghost use Rattle.std.specs.Prelude.{◌≡◌, false, fold};
 ghost use Rattle.grain_base.specs.Content.{same, same_items, same_entries, hashable, hashable_items, hashable_entries, hash_writes, counted_items_writes, counted_entries_writes};
 ghost use Rattle.grain_base.specs.View.{is_shared, content, pointer_content, items_content, entries_content};
@@ -32,7 +32,7 @@ pub struct HostValue {
 
 /// A value.
 ///
-/// Two values are equal where they have the same kind and the same content. A shared value has the kind and the content
+/// Two values are equal if they have the same kind and the same content. A shared value has the kind and the content
 /// of what it holds, at every depth, and equal values have equal hashes.
 ///
 /// The size of a value counts it and each value in it, at every depth, each shared mark, and each byte of its texts and

@@ -3,7 +3,7 @@
 //! A group is a byte: seven bits of the number, the lowest group first, and the bit `0x80`, which says that another
 //! group follows. There are ten groups at most, and a tenth is 0 or 1, so that each number fits 64 bits. A number has
 //! longer spellings too, as `80 00` for 0: they are read, and never written. A signed number v is spelled as 2v, or as
-//! -2v - 1 where it is negative, so that numbers near 0 are short on both sides. docs/FORMAT.md, "Varints", has the
+//! -2v - 1 if it is negative, so that numbers near 0 are short on both sides. docs/FORMAT.md, "Varints", has the
 //! format.
 //!
 //! A cursor is handed from call to call: each call reads from `at` on, and leaves it after the bytes that it read. It
@@ -46,11 +46,11 @@ const TENTH_MAX: u8 = 1;
 
 /// Reads the number that is spelled at the cursor, and moves the cursor past its spelling.
 ///
-/// Where none is spelled there, the cursor moves past ten bytes, or past all that are left where they are fewer.
+/// If none is spelled there, the cursor moves past ten bytes, or past all that are left if they are fewer.
 ///
 /// # Errors
 ///
-/// `Truncated` where fewer than ten bytes are left, each of which says that another follows; so also at the end of the
+/// `Truncated` if fewer than ten bytes are left, each of which says that another follows; so also at the end of the
 /// bytes and beyond it. Else `Overflow`: the tenth group is above 1 or says that another follows.
 // Read in place: it is called for each number of a table, and a call takes as long as a number of one group.
 #[inline(always)]
@@ -148,7 +148,7 @@ pub fn u32(bytes: &[u8], at: &mut usize) -> Result<u32, Error>
 ///
 /// # Errors
 ///
-/// `AllocError` where `out` can't grow, which then is as before: it grows once, before the first byte is written.
+/// `AllocError` if `out` can't grow, which then is as before: it grows once, before the first byte is written.
 pub fn put_u64(out: &mut Vec<u8>, value: u64) -> Result<(), AllocError>
     ensures ok { OnOk result (AppendsShortest out.old.items out.new.items value) }
     ensures err { OnErr result (out.new.items ≡ out.old.items) }
@@ -165,7 +165,7 @@ pub fn put_u64(out: &mut Vec<u8>, value: u64) -> Result<(), AllocError>
     out.extend_from_slice(&groups[..=last])
 }
 
-/// Appends the shortest spelling of a signed number, of 2v, or of -2v - 1 where v is negative, in as much time as
+/// Appends the shortest spelling of a signed number, of 2v, or of -2v - 1 if v is negative, in as much time as
 /// [`put_u64`].
 ///
 /// # Errors

@@ -77,11 +77,11 @@ AppendsAll old new numbers = (written : List ℕ) × (new ≡ old ++ written) ×
 abbrev pub all_positions : List Chain → List Position
 all_positions chains = flat_map positions chains
 
--- what is written of a position: its line and its column, 0 where it has none
+-- what is written of a position: its line and its column, 0 if it has none
 abbrev pub numbers_of : Position → List ℕ
 numbers_of p = unwrap_or (line_of p) 0 ∷ unwrap_or (column_of p) 0 ∷ []
 
--- the site of a position, which is none where the position has no place
+-- the site of a position, which is none if the position has no place
 abbrev pub recorded : Position → Option Site
 recorded p = option_map (λ place. record { line = place.0; column = place.1 }) (place_of p)
 

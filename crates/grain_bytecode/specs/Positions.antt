@@ -23,21 +23,21 @@ use Rattle.grain_bytecode.specs.declared.positions.TableError.TheVariants as tab
 abbrev pub Place : Type 0
 Place = Option (ℕ × ℕ)
 
--- the places of the code's bytes, where they aren't stripped
+-- the places of the code's bytes, if they aren't stripped
 abbrev pub places : Positions → Option (List Place)
 places Stripped = None
 places (Dense positions) = Some (map place_of positions.items)
 
--- places, stripped where there is none among them
+-- places, stripped if there is none among them
 abbrev pub dense : List Place → Option (List Place)
 dense list = if list_all is_none list then None else Some list
 
--- the place at an address; there is none where they are stripped, and none past the last
+-- the place at an address; there is none if they are stripped, and none past the last
 abbrev pub place_at : Option (List Place) → ℕ → Place
 place_at None at = None
 place_at (Some list) at = unwrap_or (slice_get list at) None
 
--- the place of a site, which is none where its line is 0 or a number is above 65535
+-- the place of a site, which is none if its line is 0 or a number is above 65535
 abbrev pub site_place : Site → Place
 site_place site = if site.line == 0 || nat_lt 65535 site.line || nat_lt 65535 site.column then None else Some (site.line, site.column)
 
@@ -50,7 +50,7 @@ abbrev pub entries_at_places : Option (List Place) → List Entry
 entries_at_places None = []
 entries_at_places (Some list) = filter_map entry_of (enumerate_from 0 list)
 
--- Reading the code arrives at these addresses: at the starts of its longest front that splits and, where that front isn't
+-- Reading the code arrives at these addresses: at the starts of its longest front that splits and, if that front isn't
 -- the whole code, last at the address where it ends.
 pub record Arrived (code arrived : List ℕ) : Type 0 where
   pub end : ℕ
@@ -68,7 +68,7 @@ code_site list at = if nat_le at 4294967295 then site_at list at else None
 abbrev pub matched : List Entry → List ℕ → ℕ
 matched list arrived = count_by (λ at. is_some (code_site list at)) arrived
 
--- the place of a byte: that of its site, where the byte is one of those arrived at
+-- the place of a byte: that of its site, if the byte is one of those arrived at
 abbrev pub byte_place : List Entry → List ℕ → ℕ → Place
 byte_place list arrived at = if list_any (λ there. there == at) arrived then option_and_then site_place (code_site list at) else None
 
@@ -83,7 +83,7 @@ pub record IsRead (table code : List ℕ) (found : Option (List Place)) : Type 0
   pub is : Table table list
   pub whole : (list ≡ []) × (found ≡ None) ⊎ ((arrived : List ℕ) × Arrived code arrived × (matched list arrived ≡ length list) × (found ≡ dense (table_places list arrived code)))
 
--- a place is written where there is a site, and nothing else
+-- a place is written if there is a site, and nothing else
 abbrev pub IsPlaced : Option Site → ℕ → List Position → List Position → Bool → Type 0
 IsPlaced None at old new met = (new ≡ old) × (met ≡ false)
 IsPlaced (Some site) at old new met = (position : Position) × (place_of position ≡ site_place site) × (new ≡ slice_set old at position) × (met ≡ true)
@@ -137,7 +137,7 @@ positions_error_text (table_error.ChainCount sites slots) =
     codes "chain site stream holds " ++ (decimal sites ++ (codes " sites but this program's chains carry " ++ (decimal slots ++ codes " positions, so it is a different program's")))
 positions_error_text table_error.OutOfMemory = codes "out of memory"
 
--- what is printed where positions can't be written
+-- what is printed if positions can't be written
 abbrev pub strip_error_text : StripError → List ℕ
 strip_error_text strip_error.AddressTooWide = codes "a position stands at an address above 4294967295"
 strip_error_text strip_error.OutOfMemory = codes "out of memory"

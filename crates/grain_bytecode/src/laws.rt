@@ -97,7 +97,7 @@ pub fn dispatch_follows_its_offsets()
         ≡ Some (dispatched (resolved offsets t) subject) }
 {}
 
-/// The last operand of a step is the last place at which it takes one; where there is none, it takes none.
+/// The last operand of a step is the last place at which it takes one; if there is none, it takes none.
 pub fn last_operand_is_the_last()
     ensures last { (step : Step) (last : ℕ) → last_operand step ≡ Some last
         → TakesOperand step last × ((place : ℕ) → TakesOperand step place → place ≤ last) }

@@ -1,6 +1,6 @@
 //! Where in the source text the bytes of code come from.
 //!
-//! Positions travel apart from code, as an address table (docs/FORMAT.md, "Address table"). It belongs to code where each
+//! Positions travel apart from code, as an address table (docs/FORMAT.md, "Address table"). It belongs to code if each
 //! of its entries is at an address at which reading the code arrives.
 
 ghost use Rattle.std.specs.Prelude.{◌≡◌, ◌↔◌, ℕ, ◌^◌, ◌<◌, ◌≤◌, List, ◌∷◌, length, map, Some, None, is_none, option_to_list, All, Any, Err, IsOk, IfOk, IfErr};
@@ -172,7 +172,7 @@ impl fmt::Display for DebugId {
     }
 }
 
-/// The position of a site: none where its line is 0 or one of its numbers is above 65535. It takes constant time.
+/// The position of a site: none if its line is 0 or one of its numbers is above 65535. It takes constant time.
 #[must_use]
 pub fn site_to_position(site: Site) -> Position
     ensures { place_of result ≡ site_place site }
@@ -184,7 +184,7 @@ pub fn site_to_position(site: Site) -> Position
 }
 
 impl Positions {
-    /// The positions of code, byte by byte; stripped where each of them is none. It looks at each once at most.
+    /// The positions of code, byte by byte; stripped if each of them is none. It looks at each once at most.
     #[must_use]
     pub fn dense(positions: Vec<Position>) -> Positions
         ensures { places result ≡ dense (map place_of positions.items) }
@@ -223,7 +223,7 @@ impl Positions {
     ///
     /// # Errors
     ///
-    /// `AddressTooWide` where one of these is above 4294967295; else `OutOfMemory` where there is no memory for the
+    /// `AddressTooWide` if one of these is above 4294967295; else `OutOfMemory` if there is no memory for the
     /// address table.
     pub fn to_table(&self, alloc: Global) -> Result<Vec<u8>, StripError>
         ensures written { let list = entries_at_places (places self.now) in
@@ -255,8 +255,8 @@ impl Positions {
     ///
     /// # Errors
     ///
-    /// `Malformed` where the bytes are no address table; `PastTheEnd` where not as many of the addresses at which reading
-    /// the code arrives have a site as it has entries; `OutOfMemory` where there is no memory for the positions.
+    /// `Malformed` if the bytes are no address table; `PastTheEnd` if not as many of the addresses at which reading
+    /// the code arrives have a site as it has entries; `OutOfMemory` if there is no memory for the positions.
     pub fn from_table(alloc: Global, table: &[u8], code: &[u8]) -> Result<Positions, TableError>
         ensures ok { IfOk result (λ positions. IsRead table.now code.now (places positions)) }
         ensures err { IfErr result (IsRefusal table.now code.now) }
@@ -318,7 +318,7 @@ fn sites_of(alloc: Global, positions: &[Position]) -> Result<Vec<(u32, Site)>, A
     Ok(sites)
 }
 
-/// The site of an entry for an address of the code: none where the entry is elsewhere or its line is 0.
+/// The site of an entry for an address of the code: none if the entry is elsewhere or its line is 0.
 fn site_of(entry: Option<(u32, Site)>, at: usize) -> Option<Site>
     ensures { result ≡ code_site (option_to_list entry) at }
 {

@@ -90,7 +90,7 @@ impl fmt::Display for StreamError {
 impl std::error::Error for StreamError {}
 
 /// Reads the next slot of a stream, whose count has been read, from an address on, and moves that past it: its site, or `None`
-/// where its line is 0.
+/// if its line is 0.
 ///
 /// # Errors
 /// Those of [`varint::u32`], of the line or the column.
@@ -162,7 +162,7 @@ pub fn check(stream: &[u8]) -> Result<(), StreamError>
 ///
 /// # Errors
 ///
-/// As [`check`], and `OutOfMemory` where an allocation failed, which is made only where the bytes are a stream.
+/// As [`check`], and `OutOfMemory` if an allocation failed, which is made only if the bytes are a stream.
 /// Nothing is reserved for more slots than bytes are left.
 pub fn decode(alloc: Global, stream: &[u8]) -> Result<Vec<Option<Site>>, StreamError>
     ensures ok { IfOk result (λ sites. Stream stream.now sites.items) }
@@ -182,7 +182,7 @@ pub fn decode(alloc: Global, stream: &[u8]) -> Result<Vec<Option<Site>>, StreamE
     Ok(sites)
 }
 
-/// For how many slots room is made before they are read, where this many are counted and this many bytes are left.
+/// For how many slots room is made before they are read, if this many are counted and this many bytes are left.
 fn reserve(count: u32, left: usize) -> usize
     ensures counted { result ≤ count }
     ensures there { result ≤ left }
@@ -190,7 +190,7 @@ fn reserve(count: u32, left: usize) -> usize
     left.min(count as usize)
 }
 
-/// Adds the number of a chain's positions to a count; `None` where a `u64` doesn't hold the sum.
+/// Adds the number of a chain's positions to a count; `None` if a `u64` doesn't hold the sum.
 fn count_more(before: u64, chain: &Chain) -> Option<u64>
     ensures some { IfSome result (λ count. count ≡ before + length (positions chain.now)) }
     ensures none { IfNone result (2 ^ 64 ≤ before + length (positions chain.now)) }
@@ -202,7 +202,7 @@ fn count_more(before: u64, chain: &Chain) -> Option<u64>
     Some(count)
 }
 
-/// Counts the positions of chains; `None` where a `u64` doesn't hold their number.
+/// Counts the positions of chains; `None` if a `u64` doesn't hold their number.
 fn count_all(chains: &[Chain]) -> Option<u64>
     ensures some { IfSome result (λ count. count ≡ length (all_positions chains.now)) }
     ensures none { IfNone result (2 ^ 64 ≤ length (all_positions chains.now)) }
@@ -214,7 +214,7 @@ fn count_all(chains: &[Chain]) -> Option<u64>
     Some(count)
 }
 
-/// Writes a slot: the line and the column of its position, 0 where it has none.
+/// Writes a slot: the line and the column of its position, 0 if it has none.
 fn put_slot(stream: &mut Vec<u8>, position: Position) -> Result<(), AllocError>
     ensures ok { OnOk result (AppendsAll stream.old.items stream.new.items (numbers_of position)) }
 {
@@ -243,7 +243,7 @@ fn put_slots(stream: &mut Vec<u8>, chain: &Chain) -> Result<(), AllocError>
 ///
 /// # Errors
 ///
-/// `AllocError` where there is no memory for the stream, as there is none where a `u64` doesn't hold the number of the
+/// `AllocError` if there is no memory for the stream, as there is none if a `u64` doesn't hold the number of the
 /// positions.
 pub fn encode(alloc: Global, chains: &[Chain]) -> Result<Vec<u8>, AllocError>
     ensures written { let list = all_positions chains.now in

@@ -91,7 +91,7 @@ fn resolve(switch: &mut Switch, offsets: &[u32])
 /// memory.
 ///
 /// # Errors
-/// [`AssembleError::SwitchTargetOutOfRange`] where a target is no index of the offsets, with the first switch that has
+/// [`AssembleError::SwitchTargetOutOfRange`] if a target is no index of the offsets, with the first switch that has
 /// such a target, and one such target. Then no switch is changed.
 pub fn resolve_switch_targets(switches: &mut [Switch], offsets: &[u32]) -> Result<(), AssembleError>
     ensures fits { OnOk result (All (λ s. AreWithin (length offsets.now) (arms s)) switches.old) }

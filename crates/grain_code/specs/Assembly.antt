@@ -9,7 +9,7 @@ use Rattle.grain_code.specs.declared.field.Pool.TheVariants.{Constants, Names, O
 use Rattle.grain_code.specs.InstructionTable.{decoded, form, width_of}
 use Rattle.grain_code.specs.Split.{AreInstructions}
 
--- what is decoded where the operation was written: its canonical form, with its target mapped by the offsets
+-- what is decoded if the operation was written: its canonical form, with its target mapped by the offsets
 abbrev pub assembled : List ℕ → Op → Op
 assembled offsets op = decoded (slice_index offsets) op
 

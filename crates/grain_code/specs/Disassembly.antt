@@ -7,7 +7,7 @@ use Rattle.grain_code.specs.Split.{Begins, BeginsNone, IsInstruction}
 use Rattle.grain_code.specs.Unread.{Unread}
 
 -- One step gives the instruction that comes first, with its address, and leaves what follows it. It gives nothing, and
--- leaves all, where none comes.
+-- leaves all, if none comes.
 abbrev pub StepsOn : Unread → Option (ℕ × Op) → Unread → Type 0
 StepsOn old None new = BeginsNone old.bytes × (new ≡ old)
 StepsOn old (Some (at, op)) new = (at ≡ old.at) × Begins old.bytes op × (new ≡ record { at = old.at + width_of op; bytes = drop (width_of op) old.bytes })

@@ -115,7 +115,7 @@ form op = ((encoding op).0, (encoding op).1)
 abbrev pub IsDecoded : Bool × Bool → Type 0
 IsDecoded flag = flag.0 ≡ flag.1
 
--- The operation that is decoded where this one was written with its target mapped. A few flags aren't written.
+-- The operation that is decoded if this one was written with its target mapped. A few flags aren't written.
 abbrev pub decoded : (ℕ → ℕ) → Op → Op
 decoded g (ops.Const c) = ops.Const c
 decoded g ops.Unit = ops.Unit
@@ -176,7 +176,7 @@ decoded g (ops.EvalAst f rewind) = ops.EvalAst f rewind
 decoded g (ops.CustomSyntax y) = ops.CustomSyntax y
 decoded g (ops.Import n) = ops.Import n
 
--- the canonical form: the operation that is decoded where this one was written
+-- the canonical form: the operation that is decoded if this one was written
 abbrev pub canon : Op → Op
 canon op = decoded (λ t. t) op
 

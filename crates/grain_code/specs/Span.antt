@@ -7,7 +7,7 @@ pub record Span : Type 0 where
   pub end : ℕ
   pub max_stack : ℕ
 
--- the part of the code, which is empty where the span is not in the code
+-- the part of the code, which is empty if the span is not in the code
 abbrev pub body : Span → List ℕ → List ℕ
 body s code = cond (nat_le s.entry s.end && nat_le s.end (length code)) (slice_range code s.entry s.end) []
 

@@ -73,7 +73,7 @@ impl Chunk {
         self.max_stack = max_stack;
     }
 
-    /// The chunk's part of the code, which is empty where the span isn't in the code.
+    /// The chunk's part of the code, which is empty if the span isn't in the code.
     #[must_use]
     pub fn body<'a>(&self, code: &'a [u8]) -> &'a [u8]
         ensures { result.now ≡ body self.now code.now }

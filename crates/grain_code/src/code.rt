@@ -13,7 +13,7 @@ use crate::instruction::read;
 use crate::op::Op;
 use crate::tag_widths::width;
 
-/// The `u16` at an address, lowest byte first, or `None` where it isn't wholly in the code. It takes constant time.
+/// The `u16` at an address, lowest byte first, or `None` if it isn't wholly in the code. It takes constant time.
 #[must_use]
 pub fn u16_at(code: &[u8], at: usize) -> Option<u16>
     ensures { result ≡ number_at w16 code.now at }
@@ -24,7 +24,7 @@ pub fn u16_at(code: &[u8], at: usize) -> Option<u16>
     }
 }
 
-/// The `u32` at an address, lowest byte first, or `None` where it isn't wholly in the code. It takes constant time.
+/// The `u32` at an address, lowest byte first, or `None` if it isn't wholly in the code. It takes constant time.
 #[must_use]
 pub fn u32_at(code: &[u8], at: usize) -> Option<u32>
     ensures { result ≡ number_at w32 code.now at }
@@ -35,7 +35,7 @@ pub fn u32_at(code: &[u8], at: usize) -> Option<u32>
     }
 }
 
-/// The instruction at an address, or `None` where there is none. It takes constant time.
+/// The instruction at an address, or `None` if there is none. It takes constant time.
 #[inline(always)]
 #[must_use]
 pub fn decode(code: &[u8], at: usize) -> Option<Op>

@@ -12,7 +12,7 @@ pub struct Function {
     pub params: Vec<u32>,
     /// Who may call it.
     pub access: FnAccess,
-    /// The name of the type of the receiver, where the function is declared for one.
+    /// The name of the type of the receiver, if the function is declared for one.
     pub this_type: Option<u32>,
     /// Its body.
     pub chunk: Chunk,

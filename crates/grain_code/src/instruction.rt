@@ -12,7 +12,7 @@ use crate::tag_widths::{standing_width, width};
 
 /// The bytes of an instruction: its tag and those of its fields (docs/FORMAT.md, "Instructions").
 ///
-/// It is found by one look at the code, and decoded only where [`Instruction::op`] is called. Each call takes constant time.
+/// It is found by one look at the code, and decoded only if [`Instruction::op`] is called. Each call takes constant time.
 #[derive(Clone, Copy, Debug, PartialEq, Eq)]
 pub struct Instruction<'a> {
     /// The first byte.
@@ -22,7 +22,7 @@ pub struct Instruction<'a> {
 }
 
 impl<'a> Instruction<'a> {
-    /// The instruction at an address, or `None` where there is none. It allocates nothing.
+    /// The instruction at an address, or `None` if there is none. It allocates nothing.
     #[inline(always)]
     #[must_use]
     pub fn at(code: &'a [u8], at: usize) -> Option<Instruction<'a>>
@@ -48,7 +48,7 @@ impl<'a> Instruction<'a> {
     }
 
     /// The target of a jump, an iterator's exit or a catch, which is the first field of each instruction that has one; the
-    /// first four bytes after the tag. `None` where there are fewer.
+    /// first four bytes after the tag. `None` if there are fewer.
     #[inline(always)]
     #[must_use]
     pub fn target(&self) -> Option<u32>
@@ -63,7 +63,7 @@ impl<'a> Instruction<'a> {
         }
     }
 
-    /// What it is, or `None` where these bytes are no instruction. It takes no memory.
+    /// What it is, or `None` if these bytes are no instruction. It takes no memory.
     #[inline(always)]
     #[must_use]
     pub fn op(&self) -> Option<Op>
@@ -94,7 +94,7 @@ pub fn decode_standing(code: &[u8], at: usize) -> (Op, usize)
     (op, at + width)
 }
 
-/// The instruction at an address and its width, or `None` where there is none.
+/// The instruction at an address and its width, or `None` if there is none.
 #[inline(always)]
 pub(crate) fn read(code: &[u8], at: usize) -> Option<(Op, usize)>
     ensures found { IfSome result (λ found. StandsAt code.now at found.0

@@ -84,17 +84,17 @@ pub enum Op {
     Pop,
     /// Jumps to the target.
     Jump(u32),
-    /// Pops a condition, and jumps to the target where it holds.
+    /// Pops a condition, and jumps to the target if it holds.
     JumpIfTrue {
         /// Where to jump.
         target: u32,
     },
-    /// Pops a condition, and jumps to the target where it doesn't hold.
+    /// Pops a condition, and jumps to the target if it doesn't hold.
     JumpIfFalse {
         /// Where to jump.
         target: u32,
     },
-    /// Looks at the top of the operand stack, and jumps to the target where it isn't unit. The value stays on both ways, so
+    /// Looks at the top of the operand stack, and jumps to the target if it isn't unit. The value stays on both ways, so
     /// that `??` has it as its result.
     SkipIfNotUnit {
         /// Where to jump.
@@ -111,7 +111,7 @@ pub enum Op {
         /// Whether the callee sees the caller's scope. The code doesn't say so.
         capture_parent_scope: bool,
     },
-    /// Calls a function whose first argument is a variable, passed by reference where it can be. Of a local nothing was
+    /// Calls a function whose first argument is a variable, passed by reference if it can be. Of a local nothing was
     /// pushed, so that it needs an operand less.
     CallRef {
         /// The index of the function's name, qualified or not.
@@ -221,7 +221,7 @@ pub enum Op {
     LoadThis,
     /// Pushes the bound `this`, shared if it is.
     LoadThisShared,
-    /// Raises a fault where `this` isn't bound, before what is assigned to it is computed: else that could fault first, by
+    /// Raises a fault if `this` isn't bound, before what is assigned to it is computed: else that could fault first, by
     /// another name.
     RequireThis,
     /// Pops a value and assigns it to the bound `this`.

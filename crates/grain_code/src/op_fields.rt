@@ -40,7 +40,7 @@ impl Op {
     }
 }
 
-/// The index to which a label is bound, or the label itself where it is past the list.
+/// The index to which a label is bound, or the label itself if it is past the list.
 fn bound(label: u32, labels: &[u32]) -> u32
     ensures { result ≡ bound labels.now label }
 {

@@ -109,13 +109,13 @@ impl Growing {
         }
     }
 
-    /// None so far, in the memory of these starts, where it suffices for code of this many bytes.
+    /// None so far, in the memory of these starts, if it suffices for code of this many bytes.
     ///
     /// It takes constant time.
     ///
     /// # Errors
     ///
-    /// The starts, as they were, where their memory doesn't suffice.
+    /// The starts, as they were, if their memory doesn't suffice.
     #[inline(always)]
     pub fn within(starts: Starts, bytes: usize) -> Result<Growing, Starts>
         ensures begun { IfOk result (λ g. (g.end ≡ 0) × (g.starts ≡ [])) }
@@ -142,7 +142,7 @@ impl Growing {
 
     /// One instruction more, which begins where the front ended, and the address after it.
     ///
-    /// It takes constant time, and time by the words in between where the instruction has more than 64 bytes.
+    /// It takes constant time, and time by the words in between if the instruction has more than 64 bytes.
     #[inline(always)]
     pub fn push(&mut self, next: usize)
         requires further { self.old.end < next }
@@ -240,7 +240,7 @@ impl Starts {
     ///
     /// # Errors
     ///
-    /// [`AllocError`] where the memory was refused: 16 bytes for each 64 bytes of code, those that are begun too.
+    /// [`AllocError`] if the memory was refused: 16 bytes for each 64 bytes of code, those that are begun too.
     pub fn of(alloc: Global, code: &[u8]) -> Result<Starts, AllocError>
         ensures front { IfOk result (IsLongestFront code.now) }
         ensures whole { (starts : List ℕ) → Split code.now starts
@@ -249,11 +249,11 @@ impl Starts {
         Starts::none(alloc).refill(code)
     }
 
-    /// The result of [`Starts::of`], in the memory of these, of which more is taken where it doesn't suffice.
+    /// The result of [`Starts::of`], in the memory of these, of which more is taken if it doesn't suffice.
     ///
     /// # Errors
     ///
-    /// [`AllocError`] where the memory was refused. Then that of these is given back.
+    /// [`AllocError`] if the memory was refused. Then that of these is given back.
     pub fn refill(self, code: &[u8]) -> Result<Starts, AllocError>
         ensures front { IfOk result (IsLongestFront code.now) }
         ensures whole { (starts : List ℕ) → Split code.now starts
@@ -309,7 +309,7 @@ impl Starts {
         }
     }
 
-    /// How many starts have lower addresses than a start, or `None` where the address is none.
+    /// How many starts have lower addresses than a start, or `None` if the address is none.
     ///
     /// It takes constant time, and answers for every address.
     #[must_use]

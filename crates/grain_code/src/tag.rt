@@ -174,7 +174,7 @@ pub const LOAD_THIS: u8 = 0x39;
 /// Pushes `this`, shared if it is.
 pub const LOAD_THIS_SHARED: u8 = 0x3a;
 
-/// Raises a fault where `this` isn't bound.
+/// Raises a fault if `this` isn't bound.
 pub const REQUIRE_THIS: u8 = 0x3b;
 
 /// Pops and assigns to `this`.
@@ -195,7 +195,7 @@ pub const CALL_FN_PTR_ON_NAMED: u8 = 0x40;
 /// Calls a function pointer on `this`. Fields: argument count.
 pub const CALL_FN_PTR_ON_THIS: u8 = 0x41;
 
-/// Jumps where the top operand isn't unit. Fields: target.
+/// Jumps if the top operand isn't unit. Fields: target.
 pub const SKIP_IF_NOT_UNIT: u8 = 0x42;
 
 /// Begins a statement. Fields: depth.

@@ -9,7 +9,7 @@ use crate::flow::Flow;
 use crate::tag;
 
 /// What a tag says of the instructions that begin with it (docs/FORMAT.md, "Instructions"). The numbers of operands are 0
-/// where [`TagRow::is_fixed`] is false.
+/// if [`TagRow::is_fixed`] is false.
 #[derive(Clone, Copy, PartialEq, Eq, Debug)]
 pub struct TagRow {
     /// How many bytes they take; 0 of a byte with which no instruction begins.

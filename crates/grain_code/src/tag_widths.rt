@@ -13,14 +13,14 @@ use crate::tag_table::tag_row;
 pub struct Head {
     /// The first byte.
     pub tag: u8,
-    /// How many bytes, or 0 where no instruction has the tag.
+    /// How many bytes, or 0 if no instruction has the tag.
     pub width: u8,
 }
 
 impl Head {
     /// The head at an address, or `None` past the end of the code.
     ///
-    /// The width is 0 where no instruction has the tag; whether an instruction is there it doesn't say. It takes no
+    /// The width is 0 if no instruction has the tag; whether an instruction is there it doesn't say. It takes no
     /// memory, and constant time.
     #[inline(always)]
     #[must_use]
@@ -40,7 +40,7 @@ impl Head {
     }
 }
 
-/// How many bytes the instruction at an address takes, or `None` where there is none.
+/// How many bytes the instruction at an address takes, or `None` if there is none.
 ///
 /// The tag and the length of the code decide, whatever the fields hold. It takes constant time.
 #[inline(always)]
@@ -60,7 +60,7 @@ pub fn width(code: &[u8], at: usize) -> Option<usize>
     Some(width)
 }
 
-/// How many bytes the instruction at an address takes, where one is known to be.
+/// How many bytes the instruction at an address takes, if one is known to be.
 #[inline(always)]
 pub(crate) fn standing_width(code: &[u8], at: usize) -> usize
     requires { (op : Op) × StandsAt code.now at op }

@@ -71,7 +71,7 @@ IsUnmatched g e number at error = (error ≡ errors.Unmatched number at) × (Has
 abbrev pub MissesOne : Claimed → OnEdge → ℕ → List ℕ → TypingError → Type 0
 MissesOne g e number addresses error = (at : ℕ) × Contains addresses at × IsUnmatched g e number at error
 
--- the counts of a row on its edges, where its operation has this effect
+-- the counts of a row on its edges, if its operation has this effect
 abbrev pub jumping : List LinkedBase → Row → Effect → Counts
 jumping bases r e = jump_for (flow_in e) (left_by e r.operands) (counts_of bases r)
 

@@ -24,7 +24,7 @@ pub record DoesTo (s : Setting) (op : Op) (e : Effect) : Type 0 where
   pub numbers : operand_numbers e ≡ (needs s op, takes s op, gives s op)
   pub flow : flow_in e ≡ flow_of op
 
--- what isn't so: capabilities; where these are there, operands, the iterator or the handler; and where it has all these, that it
+-- what isn't so: capabilities; if these are there, operands, the iterator or the handler; and where it has all these, that it
 -- stays above the base of the last handler
 abbrev pub FindsLacking : Setting → Op → Counts → Lack → Type 0
 FindsLacking s op c (lacks.Capabilities absent) = (absent.0 ≡ missing s.caps (caps_of s op)) × (absent.0 ≢ 0)

@@ -54,7 +54,7 @@ pub record IsRefusalShown (s : Seen) (bases : List LinkedBase) (slots : List (Op
   pub shown : IsRefusalAt s bases r
   pub visited : All (IsRowIn slots) r.way.items
 
--- An arrival that is next, whose place is free: the entry, where nothing was visited, or what was taken from the worklist.
+-- An arrival that is next, whose place is free: the entry, if nothing was visited, or what was taken from the worklist.
 pub record IsNextArrival (s : Seen) (x : Search) (place : ℕ) (a : Arrival) : Type 0 where
   pub come : IsCome s x.arming.bases.items x.slots.items a
   pub placed : a.row.at ≡ s.chunk.entry + place

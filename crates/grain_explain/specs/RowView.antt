@@ -16,7 +16,7 @@ list_within zero bases n = []
 list_within (suc most) bases zero = []
 list_within (suc most) bases (suc k) = plain_base (slice_index_or bases k no_base) ∷ list_within most bases (slice_index_or bases k no_base).next
 
--- all of them: where bases are linked, no list has more than its number
+-- all of them: if bases are linked, no list has more than its number
 abbrev pub list_in : List LinkedBase → ℕ → List Base
 list_in bases n = list_within n bases n
 

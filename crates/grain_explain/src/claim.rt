@@ -82,8 +82,8 @@ impl<P: Read> Claim<'_, P> {
         Ok(())
     }
 
-    /// Tests that each row is at a start of the chunk, and that the chunk ends at a boundary, where the code is read from
-    /// a boundary on.
+    /// Tests that each row is at a start of the chunk, and that the chunk ends at a boundary. The code is read from a
+    /// boundary on.
     ///
     /// # Errors
     /// `OutsideChunk` and `NoStart`, of the first row that isn't at one; `EndsInside`.
@@ -177,7 +177,7 @@ impl<P: Read> Claim<'_, P> {
         self.check_from(0)
     }
 
-    /// The same of a chunk in range and of lists that are there, in code that is whole instructions, where the code is read
+    /// The same of a chunk in range and of lists that are there, in code that is whole instructions, which is read
     /// from a boundary on.
     ///
     /// # Errors

@@ -30,7 +30,7 @@ impl<P: Read> Scene<'_, P> {
     /// Explains the chunk.
     ///
     /// # Errors
-    /// [`AllocError`] where an allocation failed.
+    /// [`AllocError`] if an allocation failed.
     pub(crate) fn explain(&self) -> Result<ExplainedChunk, AllocError>
         requires { IsStarted (seen P.facts P.leads self.now) }
         ensures { IfOk result (IsExplained (seen P.facts P.leads self.now).code
@@ -85,7 +85,7 @@ impl<P: Read> Scene<'_, P> {
     /// A walk that has visited nothing.
     ///
     /// # Errors
-    /// [`AllocError`] where an allocation failed.
+    /// [`AllocError`] if an allocation failed.
     fn begin(&self) -> Result<Search, AllocError>
         requires { IsReadyScene (seen P.facts P.leads self.now) }
         ensures searching { IfOk result (IsSearching (seen P.facts P.leads self.now)) }
@@ -103,7 +103,7 @@ impl<P: Read> Scene<'_, P> {
     /// A list of this many places, none of them visited.
     ///
     /// # Errors
-    /// [`AllocError`] where an allocation failed.
+    /// [`AllocError`] if an allocation failed.
     fn free_slots(&self, length: usize) -> Result<Vec<Option<Arrival>>, AllocError>
         ensures { IfOk result (λ v. v.items ≡ replicate length None) }
     {
@@ -115,7 +115,7 @@ impl<P: Read> Scene<'_, P> {
     /// The rows of what was visited, in the order of their places, each with the address from which it was reached.
     ///
     /// # Errors
-    /// [`AllocError`] where an allocation failed.
+    /// [`AllocError`] if an allocation failed.
     fn rows_of(&self, visited: &Visited<'_>) -> Result<Rows, AllocError>
         requires { AreHeld (seen P.facts P.leads self.now) visited.now }
         ensures reached { IfOk result (λ x. All
@@ -156,7 +156,7 @@ impl<P: Read> Scene<'_, P> {
     /// Whether the rows of a walk that met no flaw are too deep. Else they are a typing.
     ///
     /// # Errors
-    /// [`AllocError`] where an allocation failed.
+    /// [`AllocError`] if an allocation failed.
     fn certify(&self, visited: &Visited<'_>, rows: &[Row]) -> Result<Option<Refusal>, AllocError>
         requires ready { IsReadyScene (seen P.facts P.leads self.now) }
         requires linked { AreLinked visited.now.bases.now }

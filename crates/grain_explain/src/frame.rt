@@ -7,7 +7,7 @@ ghost use Rattle.grain_rules.specs.Layout.{IsBoundary};
 
 use grain_code::width;
 
-/// The first boundary of whole instructions that isn't below an address, from a boundary on; where there is none, the
+/// The first boundary of whole instructions that isn't below an address, from a boundary on; if there is none, the
 /// end of the code.
 pub(crate) fn boundary_from(code: &[u8], from: usize, at: usize) -> usize
     requires whole { (starts : List ℕ) × Split code.now starts }

@@ -17,7 +17,7 @@ pub(crate) fn first_base(bases: &[LinkedBase], list: u32) -> Option<LinkedBase>
     Some(bases[list as usize - 1])
 }
 
-/// The lists behind the first bases of two lists with unlike numbers, where these bases are equal.
+/// The lists behind the first bases of two lists with unlike numbers, if these bases are equal.
 fn behind_both(bases: &[LinkedBase], left: u32, right: u32) -> Option<(u32, u32)>
     requires linked { AreLinked bases.now }
     requires left { left ≤ length bases.now }

@@ -27,11 +27,11 @@ pub(crate) enum Lack {
     /// The handler that it disarms.
     Handlers,
     /// It isn't quiet, and leaves too little of what was on the stacks when the last handler was armed: how many operands
-    /// there were, or iterators where the operands are enough, and how many it leaves.
+    /// there were, or iterators if the operands are enough, and how many it leaves.
     Reserve(u32, u32),
 }
 
-/// What an operation does, where it finds all that it asks and needs in a row.
+/// What an operation does, if it finds all that it asks and needs in a row.
 ///
 /// # Errors
 /// What it finds lacking first.
@@ -92,7 +92,7 @@ impl Model for Reserve {
     ghost inverse = { λ v. record { operands = v.operands; iterators = v.iterators } };
 }
 
-/// The base of the handler that was armed last; where none is armed, that of empty stacks.
+/// The base of the handler that was armed last; if none is armed, that of empty stacks.
 fn last_reserve(bases: &[LinkedBase], list: u32) -> Reserve
     requires linked { AreLinked bases.now }
     requires listed { list ≤ length bases.now }

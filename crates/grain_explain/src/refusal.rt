@@ -12,7 +12,7 @@ use std::fmt;
 pub struct Refusal {
     /// The flaw.
     pub error: VerifyError,
-    /// A path to the flaw, the last state first and the chunk's entry last. The first row shows the flaw. It is empty where the
+    /// A path to the flaw, the last state first and the chunk's entry last. The first row shows the flaw. It is empty if the
     /// chunk's own frame is refused, to which nothing leads.
     pub way: Vec<Row>,
     /// For a `DepthConflict` another path to the same address, with other counts. Otherwise it is empty.
@@ -22,7 +22,7 @@ pub struct Refusal {
 /// The states at instructions of a chunk, and why the chunk is refused, if it is.
 #[derive(Debug, PartialEq, Eq, Drop)]
 pub struct ExplainedChunk {
-    /// The rows, in ascending order of addresses, each of which is reached. Where the chunk isn't refused they are a stack typing
+    /// The rows, in ascending order of addresses, each of which is reached. If the chunk isn't refused they are a stack typing
     /// of it, and exactly what is reached; otherwise they are what the walk visited, among it all of the refusal's path.
     pub rows: Vec<Row>,
     /// For each row the address of a predecessor, from which an edge leads to the row; `None` at the entry and nowhere else.

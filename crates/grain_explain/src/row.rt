@@ -15,7 +15,7 @@ pub struct LinkedBase {
     pub next: u32,
 }
 
-/// What stands where a run reaches an instruction.
+/// What is on the stacks when a run reaches an instruction.
 #[derive(Clone, Copy, Debug, PartialEq, Eq)]
 pub struct Row {
     /// The address of the instruction.

@@ -31,7 +31,7 @@ pub(crate) struct Leaving {
 /// The bases of the handlers that a walk has seen armed.
 ///
 /// A base that is there is found by an ordered map, so that no two are equal, and equal lists have equal numbers. No contract
-/// says so: lists are compared by their bases, and that takes little time where their numbers agree.
+/// says so: lists are compared by their bases, and that takes little time if their numbers agree.
 #[derive(Drop)]
 pub(crate) struct Arming {
     pub(crate) bases: Vec<LinkedBase>,
@@ -85,7 +85,7 @@ impl Arming {
     /// The list with a base in front of the one that it names.
     ///
     /// # Errors
-    /// [`AllocError`] where an allocation failed.
+    /// [`AllocError`] if an allocation failed.
     fn with_base(&mut self, base: LinkedBase) -> Result<u32, AllocError>
         requires linked { AreLinked self.old.bases.items }
         requires listed { base.next ≤ length self.old.bases.items }
@@ -130,7 +130,7 @@ impl Arming {
     /// What stands on an edge, with the list of its handlers.
     ///
     /// # Errors
-    /// [`AllocError`] where an allocation failed.
+    /// [`AllocError`] if an allocation failed.
     fn land(&mut self, edge: &OnEdge) -> Result<Stacks, AllocError>
         requires linked { AreLinked self.old.bases.items }
         requires listed { IsListedIn self.old.bases.items edge.now.handlers }
@@ -154,7 +154,7 @@ impl Arming {
     /// What stands on the edges of an operation that finds a row.
     ///
     /// # Errors
-    /// [`AllocError`] where an allocation failed.
+    /// [`AllocError`] if an allocation failed.
     pub(crate) fn leave(&mut self, row: &Row, effect: &Effect) -> Result<Leaving, AllocError>
         requires linked { AreLinked self.old.bases.items }
         requires listed { row.now.bases ≤ length self.old.bases.items }

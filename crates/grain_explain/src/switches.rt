@@ -10,7 +10,7 @@ use std::alloc::{AllocError, Global};
 /// All targets of an operation that does this.
 ///
 /// # Errors
-/// [`AllocError`] where the memory was refused.
+/// [`AllocError`] if the memory was refused.
 pub(crate) fn targets_of<P: Read>(
     alloc: Global,
     pools: &P,

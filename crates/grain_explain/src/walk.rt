@@ -84,7 +84,7 @@ impl<P: Read> Scene<'_, P> {
     /// Walks until nothing waits, or a flaw is met. Each turn visits a place that was free, so that it ends.
     ///
     /// # Errors
-    /// [`AllocError`] where an allocation failed.
+    /// [`AllocError`] if an allocation failed.
     pub(crate) fn run(&self, search: &mut Search) -> Result<Option<Refusal>, AllocError>
         requires ready { IsReadyScene (seen P.facts P.leads self.now) }
         requires searching { IsSearching (seen P.facts P.leads self.now) search.old }
@@ -132,7 +132,7 @@ impl<P: Read> Scene<'_, P> {
     /// Takes arrivals whose places were visited, and compares each with what is there, until one's place is free.
     ///
     /// # Errors
-    /// [`AllocError`] where an allocation failed.
+    /// [`AllocError`] if an allocation failed.
     fn turn(&self, search: &mut Search) -> Result<Turn, AllocError>
         requires ready { IsReadyScene (seen P.facts P.leads self.now) }
         requires searching { IsSearching (seen P.facts P.leads self.now) search.old }
@@ -162,7 +162,7 @@ impl<P: Read> Scene<'_, P> {
     /// Compares what leads to an instruction with what is there.
     ///
     /// # Errors
-    /// [`AllocError`] where an allocation failed.
+    /// [`AllocError`] if an allocation failed.
     fn compare(
         &self,
         visited: &Visited<'_>,
@@ -197,7 +197,7 @@ impl<P: Read> Scene<'_, P> {
     /// Puts an arrival in its place, and sends counts along its edges.
     ///
     /// # Errors
-    /// [`AllocError`] where an allocation failed.
+    /// [`AllocError`] if an allocation failed.
     fn visit(
         &self,
         search: &mut Search,
@@ -229,7 +229,7 @@ impl<P: Read> Scene<'_, P> {
     /// Tests what an instruction needs, and sends counts along its edges.
     ///
     /// # Errors
-    /// [`AllocError`] where an allocation failed.
+    /// [`AllocError`] if an allocation failed.
     fn look(
         &self,
         slots: &[Option<Arrival>],
@@ -316,7 +316,7 @@ impl<P: Read> Scene<'_, P> {
     /// Sends counts along the edges of an instruction.
     ///
     /// # Errors
-    /// [`AllocError`] where an allocation failed.
+    /// [`AllocError`] if an allocation failed.
     fn send(
         &self,
         departure: &Departure<'_>,
@@ -353,7 +353,7 @@ impl<P: Read> Scene<'_, P> {
     /// Sends counts along the edge to the next instruction.
     ///
     /// # Errors
-    /// [`AllocError`] where an allocation failed.
+    /// [`AllocError`] if an allocation failed.
     fn fall(
         &self,
         departure: &Departure<'_>,
@@ -404,7 +404,7 @@ impl<P: Read> Scene<'_, P> {
     /// Sends what is on the edges to targets to each of these.
     ///
     /// # Errors
-    /// [`AllocError`] where an allocation failed.
+    /// [`AllocError`] if an allocation failed.
     fn push_all(
         &self,
         departure: &Departure<'_>,
@@ -436,7 +436,7 @@ impl<P: Read> Scene<'_, P> {
     /// A refusal with the path to the instruction that shows it.
     ///
     /// # Errors
-    /// [`AllocError`] where an allocation failed.
+    /// [`AllocError`] if an allocation failed.
     pub(crate) fn refuse(
         &self,
         visited: &Visited<'_>,
@@ -461,7 +461,7 @@ impl<P: Read> Scene<'_, P> {
     /// The path to an arrival: from it back to the chunk's entry.
     ///
     /// # Errors
-    /// [`AllocError`] where an allocation failed.
+    /// [`AllocError`] if an allocation failed.
     fn way_to(&self, visited: &Visited<'_>, last: &Arrival) -> Result<Vec<Row>, AllocError>
         requires come { AreHeld (seen P.facts P.leads self.now) visited.now }
         requires last { ArrivesInWalk (seen P.facts P.leads self.now) visited.now last.now }

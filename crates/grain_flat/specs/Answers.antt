@@ -19,7 +19,7 @@ use Rattle.grain_flat.specs.declared.records.CRefusal.{CRefusal}
 use Rattle.grain_flat.specs.declared.records.CPools.{CPools}
 
 -- All with this flat form is accepted, and the numbers of the chunks are right. The rows of constants are judged by what
--- they ask, so that this holds too where no value asks what a row says.
+-- they ask, so that this holds too if no value asks what a row says.
 pub record Accepts (caps : ℕ) (bytes : List ℕ) (chunks : List Span) (p : CPools) (numbers : List ℕ) : Type 0 where
   pub accepted : (whole : Whole p) → IsAccepted (flat_input caps bytes chunks p whole)
   pub rows : All (RowPasses caps) p.constants.now
@@ -32,7 +32,7 @@ pub record Accepts (caps : ℕ) (bytes : List ℕ) (chunks : List Span) (p : CPo
 abbrev pub Visits : ℕ → List ℕ → List Span → CPools → ℕ → Type 0
 Visits caps bytes chunks p n = (rest : Rest p) → AreReached (rest_input caps bytes chunks p rest).code chunks n
 
--- no more than all chunks have starts, each for itself; none where the code isn't whole instructions
+-- no more than all chunks have starts, each for itself; none if the code isn't whole instructions
 pub record VisitsWithin (bytes : List ℕ) (chunks : List Span) (n : ℕ) : Type 0 where
   pub starts : (starts : List ℕ) → Split bytes starts → n ≤ sum_by (starts_within starts) chunks
   pub nowhere : ((starts : List ℕ) → Split bytes starts → ⊥) → n ≡ 0

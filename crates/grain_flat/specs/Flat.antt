@@ -150,7 +150,7 @@ pub record Rest (p : CPools) : Type 0 where
   pub functions : List Function
   pub functions_are : length functions ≡ p.functions
 
--- what is verified, where these are beside the code and its chunks
+-- what is verified, if these are beside the code and its chunks
 abbrev pub rest_input : ℕ → List ℕ → List Span → (p : CPools) → Rest p → Input
 rest_input caps bytes chunks p rest = record {
   code = code_with caps bytes p rest.pooled.chains rest.pooled.switches;
@@ -165,6 +165,6 @@ pub record Whole (p : CPools) : Type 0 where
   pub consts : List Dynamic
   pub asked_are : map const_caps consts ≡ rest.pooled.asked
 
--- what is verified, where these are beside the code and its chunks
+-- what is verified, if these are beside the code and its chunks
 abbrev pub flat_input : ℕ → List ℕ → List Span → (p : CPools) → Whole p → Input
 flat_input caps bytes chunks p whole = record (rest_input caps bytes chunks p whole.rest) { consts = whole.consts }

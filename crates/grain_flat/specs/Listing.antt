@@ -13,7 +13,7 @@ filled items room = take (length room) items ++ drop (length items) room
 abbrev pub entry_row : Entry → CEntry
 entry_row entry = record { address = entry.0; line = entry.1.line; column = entry.1.column }
 
--- a site as a record, whose line is 0 where there is none
+-- a site as a record, whose line is 0 if there is none
 abbrev pub place_row : Option Site → CPlace
 place_row None = record { line = 0; column = 0 }
 place_row (Some site) = record { line = site.line; column = site.column }

@@ -1,7 +1,7 @@
 -- The names of tags (docs/FORMAT.md, "Instructions"), as tools/from_table.py writes them.
 use Rattle.std.specs.Prelude.{ℕ, List, [], ◌∷◌, codes}
 
--- by the number of the tag; no text where no instruction begins with the byte
+-- by the number of the tag; no text if no instruction begins with the byte
 abbrev pub tag_names : List (List ℕ)
 tag_names =
     [] ∷

@@ -18,7 +18,7 @@ pub(crate) fn allows(caps: Caps, asked: Caps) -> bool
     asked.difference(caps).is_empty()
 }
 
-/// What the row asks, where the host lacks some of it.
+/// What the row asks, if the host lacks some of it.
 fn refused_by(caps: Caps, row: &CConstant) -> Option<Caps>
     ensures { MatchOption result (RowPasses caps.0 row.now) (λ asked.
         (row.now ≡ asked_row (Some asked.0)) × (Allows caps.0 asked.0 → ⊥)) }

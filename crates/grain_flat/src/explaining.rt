@@ -119,7 +119,7 @@ fn add_path(records: &mut Vec<CRow>, way: &[Row]) -> Result<(), AllocError>
     Ok(())
 }
 
-/// The way to a flaw, where there is one.
+/// The way to a flaw, if there is one.
 fn way_of(refusal: &Option<ExplainedRefusal>) -> &[Row]
     ensures { result.now ≡ way_of refusal.now }
 {

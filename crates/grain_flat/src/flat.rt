@@ -140,7 +140,7 @@ fn is_ascii(bytes: &[u8]) -> bool
     bits < 128
 }
 
-/// Whether the bytes from one start to the next are a name. Where all bytes are of ASCII, any of them are text.
+/// Whether the bytes from one start to the next are a name. If all bytes are of ASCII, any of them are text.
 #[tactic(auto, using(crate::proofs::AsciiNames::span_is_text))]
 fn is_name(blob: &[u8], ascii: bool, from: usize, to: usize) -> bool
     requires { IsTrue ascii → IsAscii blob.now }
@@ -152,7 +152,7 @@ fn is_name(blob: &[u8], ascii: bool, from: usize, to: usize) -> bool
     ascii || is_text(&blob[from..to])
 }
 
-/// The first name that the starts don't cut from the blob, or how many names there are where bytes are left.
+/// The first name that the starts don't cut from the blob, or how many names there are if bytes are left.
 fn names_flaw(blob: &[u8], starts: &[u32]) -> Option<usize>
     ensures none { IfNone result (first_flaw blob.now starts.now ≡ None) }
     ensures some { IfSome result (IsFirstBadName blob.now starts.now) }
@@ -175,7 +175,7 @@ fn names_flaw(blob: &[u8], starts: &[u32]) -> Option<usize>
     None
 }
 
-/// The first entry of the first list that isn't as it has to be, where no pools have this form: tested are the constants,
+/// The first entry of the first list that isn't as it has to be, if no pools have this form: tested are the constants,
 /// the chains and the steps, then the counts of steps, of cases and of ranges, and then the names.
 pub fn pools_flaw(pools: &CPools<'_>) -> Option<CPoolsFlaw>
     ensures flat { IfNone result (IsFlat pools.now) }

@@ -3,7 +3,7 @@
 //! These and the numbers of [`crate::kinds`], [`crate::lists`] and [`crate::shapes`] are constants and no enums, since an enum of
 //! Rattle has no layout that C can rely on. `grain.h` has the enums.
 
-/// The place of a chunk, where no chunk is refused.
+/// The index of a chunk if no chunk is refused.
 pub const WHOLE_PROGRAM: u64 = 0xffff_ffff_ffff_ffff;
 
 /// The host lacks capabilities: `first` are those, `second` all that the host has.

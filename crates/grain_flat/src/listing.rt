@@ -59,7 +59,7 @@ fn place_of(site: Option<Site>) -> CPlace
 }
 
 /// Writes the sites of a stream, slot by slot, in front of the room, as many as it has places for; and answers how many slots
-/// there are, or `None` where the bytes are no stream. It reads the stream twice.
+/// there are, or `None` if the bytes are no stream. It reads the stream twice.
 pub fn list_sites(stream: &[u8], room: &mut [CPlace]) -> Option<usize>
     ensures some { IfSome result (λ count. (slots : List (Option Site)) × Stream stream.now slots
         × (count ≡ length slots) × (room.new ≡ filled (map place_row slots) room.old)) }

@@ -14,7 +14,7 @@ use grain_base::Flags;
 use grain_code::Op;
 use grain_rules::VerifyError;
 
-/// Adds a space and a field's number, where there is a field.
+/// Adds a space and a field's number, if there is a field.
 fn put_field(line: &mut Line, field: CField)
     requires { length line.old.items + 21 ≤ 128 }
     ensures items { line.new.items ≡ line.old.items ++ field_text field }

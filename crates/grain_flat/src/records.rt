@@ -4,7 +4,7 @@
 //! reaches a header.
 use std::marker::Model;
 
-/// A field of an instruction: what it is, and its value. Where there is no field both are 0.
+/// A field of an instruction: what it is, and its value. If there is no field both are 0.
 #[repr(C)]
 #[derive(Clone, Copy)]
 pub struct CField {
@@ -52,9 +52,9 @@ impl Model for CChunk {
 #[repr(C)]
 #[derive(Clone, Copy)]
 pub struct CConstant {
-    /// 1 where that can be said; 0 for a shared value or one of the host, and what holds one.
+    /// 1 if that can be said; 0 for a shared value or one of the host, and what holds one.
     pub is_known: u16,
-    /// The capabilities; 0 where they can't be said.
+    /// The capabilities; 0 if they can't be said.
     pub caps: u16,
 }
 
@@ -158,7 +158,7 @@ pub struct CRefusal {
     pub flaw: u32,
     /// The index of the chunk that is refused, or [`crate::flaws::WHOLE_PROGRAM`].
     pub chunk: u64,
-    /// The address of an instruction, where the refusal names one.
+    /// The address of an instruction, if the refusal names one.
     pub at: u64,
     /// What else the refusal names.
     pub first: u64,
@@ -194,7 +194,7 @@ pub struct CReport {
 pub struct CPoolsFlaw {
     /// The list, by a number of [`crate::lists`].
     pub list: u32,
-    /// The index of the entry, or the length of the list where entries are missing.
+    /// The index of the entry, or the length of the list if entries are missing.
     pub index: u64,
 }
 
@@ -204,7 +204,7 @@ pub struct CPoolsFlaw {
 pub struct CEntry {
     /// The address of an instruction.
     pub address: u32,
-    /// Its line, or 0 where that isn't known.
+    /// Its line, or 0 if that isn't known.
     pub line: u32,
     /// Its column, or 0 for the start of the line.
     pub column: u32,
@@ -214,7 +214,7 @@ pub struct CEntry {
 #[repr(C)]
 #[derive(Clone, Copy)]
 pub struct CPlace {
-    /// The line, or 0 where there is no place.
+    /// The line, or 0 if there is no place.
     pub line: u32,
     /// The column, or 0 for the start of the line.
     pub column: u32,
@@ -254,12 +254,12 @@ pub struct CBase {
 pub struct CExplanation {
     /// How many rows say what stands at each instruction that was visited.
     pub rows: usize,
-    /// How many rows of the path to the flaw stand behind them, from the entry on; none where there is no flaw.
+    /// How many rows of the path to the flaw stand behind them, from the entry on; none if there is no flaw.
     pub path: usize,
     /// How many rows of another path stand behind those; none except for a conflict.
     pub other: usize,
     /// How many bases there are.
     pub bases: usize,
-    /// Why the chunk is refused, where it is.
+    /// Why the chunk is refused, if it is.
     pub refusal: CRefusal,
 }

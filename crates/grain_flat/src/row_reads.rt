@@ -49,7 +49,7 @@ impl Tables {
     /// Fills them for a flat form.
     ///
     /// # Errors
-    /// [`AllocError`] where the memory was refused.
+    /// [`AllocError`] if the memory was refused.
     pub(crate) fn fill(&mut self, pools: &CPools<'_>) -> Result<(), AllocError>
         requires { IsFlat pools.now }
         ensures { OnOk result (AreTables pools.now self.new.steps.items self.new.arms.items) }

@@ -7,7 +7,7 @@ use std::alloc::Global;
 
 /// What verification of flat pools writes as it goes, kept so that its memory serves one program after another.
 ///
-/// [`verdict`](crate::verdict) takes memory only where there isn't enough here. Each result is right whatever was verified
+/// [`verdict`](crate::verdict) takes memory only if there isn't enough here. Each result is right whatever was verified
 /// before; which of several flaws a refusal names and when memory runs out may differ, as far as clauses say.
 #[derive(Drop)]
 pub struct FlatScratch {

@@ -48,7 +48,7 @@ fn some_function(alloc: Global) -> Function {
     }
 }
 
-/// None where the count is 0, otherwise some.
+/// None if the count is 0, otherwise some.
 fn as_many(count: usize, some: &[Function]) -> &[Function]
     requires { length some.now ≡ 1 }
     ensures { AreSome count result.now }
@@ -97,7 +97,7 @@ fn verdict_with(
 ///
 /// # Errors
 ///
-/// [`Rejection::Refused`] with a flaw of all of them and the index of its chunk, [`Rejection::OutOfMemory`] where a growth was
+/// [`Rejection::Refused`] with a flaw of all of them and the index of its chunk, [`Rejection::OutOfMemory`] if a growth was
 /// refused.
 pub fn verdict(
     alloc: Global,

@@ -1,5 +1,5 @@
 -- What a run reads and writes. The bytes that a source has left and the bytes that a sink has taken
--- are given before the run and after it. Where a source or a sink doesn't tell them, nothing is said
+-- are given before the run and after it. If a source or a sink doesn't tell them, nothing is said
 -- of them.
 use Rattle.std.specs.Prelude.{◌≡◌, ◌≢◌, ℕ, ◌-◌, ◌^◌, ◌<◌, ◌≤◌, ◌⊎◌, List, ◌++◌, length, Option}
 use Rattle.std.specs.Prelude.{count_by}

@@ -19,7 +19,7 @@ hex_of word = if bytes_eq word (codes "-") then Some [] else result_ok (decode_o
 abbrev pub SpellsBytes : List ℕ → Type 0
 SpellsBytes word = IsSomeAnd (hex_of word) (λ bytes. 0 < length bytes)
 
--- the number that decimal digits alone spell, where it has no more bits
+-- the number that decimal digits alone spell, if it has no more bits
 abbrev pub decimal_of : ℕ → List ℕ → Option ℕ
 decimal_of bits word =
     if is_word word && all_ascii_digits word && nat_lt (digits_value 10 word) (2 ^ bits)

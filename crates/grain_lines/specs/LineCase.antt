@@ -54,7 +54,7 @@ asked_by (name ∷ fields) =
     else if bytes_eq name (codes "verify") then verify_by fields
     else None
 
--- what the line asks, or nothing where it has no form of a case
+-- what the line asks, or nothing if it has no form of a case
 unfoldable pub asked : List ℕ → Option Asked
 asked line = asked_by (words line)
 

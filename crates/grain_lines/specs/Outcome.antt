@@ -12,7 +12,7 @@ saturated number = min number (2 ^ 64 - 1)
 abbrev pub CountsOn : ℕ → ℕ → ℕ → Type 0
 CountsOn old new more = (total : ℕ) → old ≡ saturated total → new ≡ saturated (total + more)
 
--- 0 where every case had a form, 2 where one had none; 3 to 5 where the run stopped before the end
+-- 0 if every case had a form, 2 if one had none; 3 to 5 where the run stopped before the end
 abbrev pub exit_status : Result Summary RunError → ℕ
 exit_status (Ok summary) = if summary.bad == 0 then 0 else 2
 exit_status (Err Read) = 3

@@ -23,7 +23,7 @@ pub enum LineCase {
         table: Vec<u8>,
         address: u32,
     },
-    /// Whether this code with these chunks is accepted where these capabilities are there.
+    /// Whether this code with these chunks is accepted if these capabilities are there.
     Verify {
         caps: Caps,
         code: Vec<u8>,
@@ -90,10 +90,10 @@ fn verify_case(alloc: Global, fields: &[u8]) -> Result<Option<LineCase>, AllocEr
     }
 }
 
-/// The case that the line spells, or nothing where it has no form of a case.
+/// The case that the line spells, or nothing if it has no form of a case.
 ///
 /// # Errors
-/// [`AllocError`] where the line has a form with bytes or chunks, and memory for them was refused.
+/// [`AllocError`] if the line has a form with bytes or chunks, and memory for them was refused.
 #[tactic(auto, unfolding(crate::specs::LineCase::asked))]
 pub fn case_of(alloc: Global, line: &[u8]) -> Result<Option<LineCase>, AllocError>
     ensures ok { IfOk result (λ found. option_map as_asked found ≡ asked line.now) }

@@ -76,11 +76,11 @@ fn answer_all<S: Source, K: Sink>(
 /// asks for (docs/COSTS.md). Nothing is tried again after an error.
 ///
 /// # Errors
-/// - [`RunError::Read`] where a read failed, or 18446744073709551615 reads gave bytes. The complete
+/// - [`RunError::Read`] if a read failed, or 18446744073709551615 reads gave bytes. The complete
 ///   cases that were read are answered.
-/// - [`RunError::Write`] where a write failed or took none of some bytes. A beginning of the
+/// - [`RunError::Write`] if a write failed or took none of some bytes. A beginning of the
 ///   verdicts was written, but not all of them.
-/// - [`RunError::OutOfMemory`] where memory was refused. The first of the cases are answered.
+/// - [`RunError::OutOfMemory`] if memory was refused. The first of the cases are answered.
 pub fn run<S: Source, K: Sink>(
     alloc: Global,
     reader: &mut S,
@@ -97,7 +97,7 @@ pub fn run<S: Source, K: Sink>(
     ensures memory { IsErrOf result RunError.OutOfMemory → AnswersFirst (S.remaining reader.old)
         (S.remaining reader.new) (K.taken writer.old) (K.taken writer.new) }
 
-    // It stops so only where the source or the sink failed in this call.
+    // It stops so only if the source or the sink failed in this call.
     ensures read_failed { IsErrOf result RunError.Read → ReadFailed (S.remaining reader.old)
         (S.remaining reader.new) (S.mark reader.old) (S.mark reader.new) }
     ensures write_failed { IsErrOf result RunError.Write → K.mark writer.new ≢ K.mark writer.old }

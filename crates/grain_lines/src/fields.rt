@@ -33,11 +33,11 @@ fn is_hex(word: &[u8]) -> bool
     word.len() % 2 == 0 && are_hex_digits(word)
 }
 
-/// The bytes that a word of hexadecimal digits in pairs spells, or no bytes for `-`; nothing where
+/// The bytes that a word of hexadecimal digits in pairs spells, or no bytes for `-`; nothing if
 /// the word is neither.
 ///
 /// # Errors
-/// [`AllocError`] where the word spells some bytes and memory for them was refused.
+/// [`AllocError`] if the word spells some bytes and memory for them was refused.
 pub fn hex_of(alloc: Global, word: &[u8]) -> Result<Option<Vec<u8>>, AllocError>
     ensures ok { IfOk result (λ found. option_map (λ bytes. bytes.items) found ≡ hex_of word.now) }
     ensures memory { OnErr result (SpellsBytes word.now) }
@@ -52,7 +52,7 @@ pub fn hex_of(alloc: Global, word: &[u8]) -> Result<Option<Vec<u8>>, AllocError>
     }
 }
 
-/// The number that a word of decimal digits alone spells, where it fits 32 bits.
+/// The number that a word of decimal digits alone spells, if it fits 32 bits.
 pub fn u32_of(word: &[u8]) -> Option<u32>
     ensures { result ≡ u32_of word.now }
 {
@@ -66,14 +66,14 @@ pub fn u32_of(word: &[u8]) -> Option<u32>
     text.parse().ok()
 }
 
-/// The number that a word of decimal digits alone spells, where it fits 16 bits.
+/// The number that a word of decimal digits alone spells, if it fits 16 bits.
 fn u16_of(word: &[u8]) -> Option<u16>
     ensures { result ≡ u16_of word.now }
 {
     u16::try_from(u32_of(word)?).ok()
 }
 
-/// The capabilities that four hexadecimal digits spell, where each bit is a capability.
+/// The capabilities that four hexadecimal digits spell, if each bit is a capability.
 pub fn caps_of(word: &[u8]) -> Option<Caps>
     ensures { option_map set_of result ≡ caps_spelled word.now }
 {
@@ -138,10 +138,10 @@ fn read_chunks(alloc: Global, fields: &[u8]) -> Result<Option<Vec<Chunk>>, Alloc
     Ok(Some(chunks))
 }
 
-/// The chunks that these words spell; nothing where one of them spells none.
+/// The chunks that these words spell; nothing if one of them spells none.
 ///
 /// # Errors
-/// [`AllocError`] where the words spell some chunks and memory for them was refused.
+/// [`AllocError`] if the words spell some chunks and memory for them was refused.
 pub fn chunks_of(alloc: Global, fields: &[u8]) -> Result<Option<Vec<Chunk>>, AllocError>
     ensures ok { IfOk result (λ found. option_map (λ chunks. chunks.items) found
         ≡ chunks_spelled (words fields.now)) }

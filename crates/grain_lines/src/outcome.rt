@@ -49,8 +49,8 @@ impl From<AllocError> for RunError {
 
 /// The status that the process ends with.
 ///
-/// It is 0 where every case had a form and 2 where some case had none. Where the run stopped before
-/// the end, it is 3 for a failed read, 4 for a failed write and 5 where memory runs out
+/// It is 0 if every case had a form and 2 if some case had none. If the run stopped before
+/// the end, it is 3 for a failed read, 4 for a failed write and 5 if memory runs out
 /// (docs/FORMAT.md, "Lines, cases and verdicts"). It takes constant time.
 pub fn status(outcome: &Result<Summary, RunError>) -> u8
     ensures { result ≡ exit_status outcome.now }

@@ -105,7 +105,7 @@ impl Report {
     /// Takes the next bytes of the input, and processes the lines that are complete now.
     ///
     /// # Errors
-    /// [`AllocError`] where memory was refused.
+    /// [`AllocError`] if memory was refused.
     pub(crate) fn feed(&mut self, bytes: &[u8]) -> Result<(), AllocError>
         requires { Lacks 10 self.old.carry.items }
         ensures { OnOk result (AnswersBytes self.old.carry.items bytes.now self.new.carry.items
@@ -123,7 +123,7 @@ impl Report {
     /// Answers what has been read of the last line. The input has ended.
     ///
     /// # Errors
-    /// [`AllocError`] where memory was refused.
+    /// [`AllocError`] if memory was refused.
     pub(crate) fn finish(&mut self) -> Result<(), AllocError>
         ensures { OnOk result (Answers (filter is_case (self.old.carry.items ∷ []))
             self.old.verdicts self.new.verdicts) }
@@ -134,7 +134,7 @@ impl Report {
     /// Writes the verdicts that haven't been sent yet.
     ///
     /// # Errors
-    /// [`Failed`] where a write failed or took none of some bytes. A beginning of them was written.
+    /// [`Failed`] if a write failed or took none of some bytes. A beginning of them was written.
     pub(crate) fn send_to<K: Sink>(&mut self, writer: &mut K) -> Result<(), Failed>
         ensures ok { OnOk result
             (Appends (K.taken writer.old) (K.taken writer.new) self.old.verdicts.text) }

@@ -15,7 +15,7 @@ pub struct Failed;
 
 /// Gives bytes.
 pub trait Source {
-    // The bytes yet to come, or nothing where the source doesn't say.
+    // The bytes yet to come, or nothing if the source doesn't say.
     ghost remaining: { Self → Option (List ℕ) };
 
     // Changes with each failure and with nothing else.
@@ -25,7 +25,7 @@ pub trait Source {
     /// the end.
     ///
     /// # Errors
-    /// [`Failed`] where nothing could be read. The bytes yet to come stay, and what the buffer then
+    /// [`Failed`] if nothing could be read. The bytes yet to come stay, and what the buffer then
     /// holds is open.
     fn read(&mut self, buf: &mut [u8]) -> Result<usize, Failed>
         ensures bound { ReadsAtMost result buf.new }
@@ -36,7 +36,7 @@ pub trait Source {
 
 /// Takes bytes.
 pub trait Sink {
-    // The bytes taken, or nothing where the sink doesn't say.
+    // The bytes taken, or nothing if the sink doesn't say.
     ghost taken: { Self → Option (List ℕ) };
 
     // Changes with each failure, a write of none of some bytes too, and with nothing else.
@@ -45,7 +45,7 @@ pub trait Sink {
     /// Takes bytes from the front, and returns how many. 0 of some bytes is a failure too.
     ///
     /// # Errors
-    /// [`Failed`] where nothing could be written. The bytes taken stay.
+    /// [`Failed`] if nothing could be written. The bytes taken stay.
     fn write(&mut self, bytes: &[u8]) -> Result<usize, Failed>
         ensures bound { WritesAtMost result bytes.now }
         ensures bytes { WriteAppends (taken self.old) (taken self.new) result bytes.now }
@@ -177,7 +177,7 @@ impl<W: io::Write> Sink for OverWrite<W> {
 /// Writes all the bytes, in as many writes as it takes.
 ///
 /// # Errors
-/// [`Failed`] where a write failed or took none of some bytes. It writes nothing more after that.
+/// [`Failed`] if a write failed or took none of some bytes. It writes nothing more after that.
 pub(crate) fn send<K: Sink>(writer: &mut K, bytes: &[u8]) -> Result<(), Failed>
     ensures ok { OnOk result (Appends (K.taken writer.old) (K.taken writer.new) bytes.now) }
     ensures unmarked { OnOk result (K.mark writer.new ≡ K.mark writer.old) }

@@ -75,7 +75,7 @@ fn judged<'a>(
     }
 }
 
-/// Appends the verdict on a program to the text, and nothing where memory runs out.
+/// Appends the verdict on a program to the text, and nothing if memory runs out.
 fn write_judged(
     alloc: Global,
     scratch: &mut Scratch,
@@ -104,7 +104,7 @@ fn write_judged(
 /// memory of a scratch, whatever that was used for before.
 ///
 /// # Errors
-/// [`AllocError`] where memory was refused, to the text or to the verifier.
+/// [`AllocError`] if memory was refused, to the text or to the verifier.
 pub(crate) fn write_verdict_with(
     alloc: Global,
     scratch: &mut Scratch,
@@ -127,7 +127,7 @@ pub(crate) fn write_verdict_with(
 /// Appends the verdict on a case to the text, or `bad case` for a line without a form.
 ///
 /// # Errors
-/// [`AllocError`] where memory was refused, to the text or to the verifier.
+/// [`AllocError`] if memory was refused, to the text or to the verifier.
 pub fn write_verdict(
     alloc: Global,
     text: &mut String,

@@ -8,7 +8,7 @@ use Rattle.grain_base.specs.declared.value.Dynamic.{Dynamic}
 use Rattle.grain_pools.specs.declared.switch.SwitchRange.{SwitchRange}
 use Rattle.grain_pools.specs.declared.switch.Switch.{Switch}
 
--- the numbers from one to the other, the last of them where that is inclusive
+-- the numbers from one to the other, the last of them if that is inclusive
 abbrev pub within : SwitchRange → ℤ → Bool
 within r z = int_le r.from z && cond r.inclusive (int_le z r.to) (int_lt z r.to)
 
@@ -52,7 +52,7 @@ listed (Some cases) = cases
 abbrev pub by_cases : Option (List Case) → Content → Option ℕ
 by_cases cases x = option_map (λ c. c.0) (lookup (λ k. same x (content k)) (listed cases))
 
--- the target of the equal case, else of the first range, else the default, where a subject that can't be a case leads too
+-- the target of the equal case, else of the first range, else the default, if a subject that can't be a case leads too
 abbrev pub dispatched : Arms → Content → ℕ
 dispatched t x = cond (hashable x) (unwrap_or (by_cases t.cases x) (unwrap_or (by_ranges t.ranges x) t.otherwise)) t.otherwise
 

@@ -63,7 +63,7 @@ bad_table_text (bad_table.NotUtf8 at) = codes "name at " ++ (decimal at ++ codes
 bad_table_text bad_table.TrailingBytes = codes "bytes are left behind the last name"
 bad_table_text bad_table.OutOfMemory = codes "out of memory"
 
--- what is printed where texts make no names
+-- what is printed if texts make no names
 abbrev pub strings_error_text : StringsError → List ℕ
 strings_error_text strings_error.TooLong = codes "names have more than 4294967295 bytes"
 strings_error_text strings_error.OutOfMemory = codes "out of memory"

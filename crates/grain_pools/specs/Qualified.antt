@@ -18,7 +18,7 @@ last_cut [] = None
 last_cut (x ∷ xs) =
     option_or (option_map (λ p. (x ∷ p.0, p.1)) (last_cut xs)) (cond (starts_with nat_eq (x ∷ xs) separator) (Some ([], drop 2 (x ∷ xs))) None)
 
--- the namespace and the name, where both have something
+-- the namespace and the name, if both have something
 abbrev pub split_qualified : List ℕ → Option (List ℕ × List ℕ)
 split_qualified name =
     option_and_then (λ p. cond (nat_eq (length p.0) 0 || nat_eq (length p.1) 0) None (Some p)) (last_cut name)

@@ -1,7 +1,7 @@
 //! Chains of accesses, as `a.b[i].c(x)`, and the positions that they carry.
 //!
 //! A chain is one instruction, so the positions of its parts are in the chain. In order they are that of the root,
-//! where it has one, and then step by step: of an index its own and that of the bracket, of any other step its own. Each
+//! if it has one, and then step by step: of an index its own and that of the bracket, of any other step its own. Each
 //! of them is a slot, counted from 0.
 ghost use Rattle.std.specs.Prelude.{◌≡◌, ◌<◌, ◌≤◌, ◌^◌, ◌∷◌, [], ◌↔◌, IsTrue, IfSome, length, map, slice_set, sum_by};
 ghost use Rattle.grain_pools.specs.Chain.{SlotsFit, assigns, consumed, last_operand, positions, root_positions, root_shape, roots_on_stack, shape, step_positions, step_shape, step_slot, steps_positions};
@@ -15,7 +15,7 @@ use grain_base::Position;
 pub struct StepFlags(u8);
 
 impl StepFlags {
-    /// The step, and with it the chain, ends early where the value that it is taken on is `()`.
+    /// The step, and with it the chain, ends early if the value that it is taken on is `()`.
     pub const SKIP_IF_UNIT: StepFlags = StepFlags(1);
 
     const FLAGS: &'static [Flag<StepFlags>] = &[Flag {
@@ -106,7 +106,7 @@ impl Step {
     }
 
     /// The last place at which the step takes an operand, among those of its chain: an index's own, and a method's last
-    /// argument's. `None` where it takes none.
+    /// argument's. `None` if it takes none.
     ///
     /// In a program that verifies it is below [`Chain::operands`].
     #[must_use]
@@ -233,7 +233,7 @@ impl Chain {
         matches!(self.root, Root::Temporary)
     }
 
-    /// How many values the chain takes off the operand stack: the operands of its steps, its root where that is a
+    /// How many values the chain takes off the operand stack: the operands of its steps, its root if that is a
     /// temporary value, and the value that it assigns. So there are 65537 at most. It takes constant time.
     #[must_use]
     pub fn consumes(&self) -> usize

@@ -15,7 +15,7 @@ pub fn qualify(alloc: Global, namespace: &str, name: &str) -> Result<String, All
 
 /// The namespace and the name in it, cut at the last `::`.
 ///
-/// `None` where there is no `::`, or nothing before the last one or after it. A `!` at the end is a part of the
+/// `None` if there is no `::`, or nothing before the last one or after it. A `!` at the end is a part of the
 /// name. It takes time by the length of the name, and no memory.
 #[must_use]
 pub fn split_qualified(name: &str) -> Option<(&str, &str)>

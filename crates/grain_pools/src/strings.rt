@@ -141,7 +141,7 @@ impl Strings {
     /// # Errors
     ///
     /// [`StringsError::TooLong`] where the names have more bytes than a start of 32 bits can count, which is tested
-    /// first, and [`StringsError::OutOfMemory`] where a growth was refused.
+    /// first, and [`StringsError::OutOfMemory`] if a growth was refused.
     pub fn new(alloc: Global, names: &[&str]) -> Result<Strings, StringsError>
         ensures ok { IfOk result (λ s. s ≡ texts names.now) }
         ensures fits { OnOk result (length (concat (texts names.now)) < 2 ^ 32) }
@@ -170,7 +170,7 @@ impl Strings {
     /// may not run backwards or past the bytes ([`BadTable::SpanOutOfRange`]), and the bytes in it have to be UTF-8
     /// ([`BadTable::NotUtf8`]). At last no byte may be left ([`BadTable::TrailingBytes`]).
     ///
-    /// [`BadTable::OutOfMemory`] where there is no flaw, and no memory for the copy.
+    /// [`BadTable::OutOfMemory`] if there is no flaw, and no memory for the copy.
     pub fn borrowed(alloc: Global, blob: &[u8], starts: Vec<u32>) -> Result<Strings, BadTable>
         ensures names { IfOk result (λ s. s ≡ names_in blob.now starts.items) }
         ensures whole { IfOk result (λ s. (concat s ≡ blob.now) × (starts_of 0 s ≡ starts.items)) }
@@ -270,7 +270,7 @@ impl<'a> Iterator for Names<'a> {
     }
 }
 
-/// How many bytes the names have, where a start of 32 bits can count them.
+/// How many bytes the names have, if a start of 32 bits can count them.
 fn total_len(names: &[&str]) -> Option<u32>
     ensures some { IfSome result (λ len. len ≡ length (concat (texts names.now))) }
     ensures none { IfNone result (2 ^ 32 ≤ length (concat (texts names.now))) }

@@ -11,7 +11,7 @@ use std::collections::HashMap;
 pub struct SwitchRange {
     /// The first integer of the range.
     pub from: i64,
-    /// The last integer of the range where it is inclusive, else the first one past it.
+    /// The last integer of the range if it is inclusive, else the first one past it.
     pub to: i64,
     /// Whether the range has that last integer.
     pub inclusive: bool,
@@ -42,7 +42,7 @@ impl SwitchRange {
 pub struct Switch {
     /// The target and the index of the constant of each case, by the value of the case.
     pub cases: Option<HashMap<Dynamic, (u32, u32)>>,
-    /// The ranges, of which the first that contains the subject counts, where no case is equal to it.
+    /// The ranges, of which the first that contains the subject counts, if no case is equal to it.
     pub ranges: Vec<SwitchRange>,
     /// The target of all other subjects.
     pub default: u32,
@@ -53,7 +53,7 @@ impl Switch {
     /// default. A subject that can't be a case leads to the default too.
     ///
     /// It takes time by the size of the subject and the number of ranges, and no memory. It compares the subject with the
-    /// cases whose hashes meet its own, of which there is one where hashes differ.
+    /// cases whose hashes meet its own, of which there is one if hashes differ.
     #[must_use]
     pub fn dispatch(&self, subject: &Dynamic) -> u32
         ensures { result ≡ dispatched (arms self.now) (content subject.now) }

@@ -52,7 +52,7 @@ AreIndexed setting bytes = (ops : List Op) × AreInstructions bytes ops × All (
 abbrev pub CodePasses : Input → Type 0
 CodePasses i = AreIndexed i.code.setting i.code.bytes
 
--- where there are functions, the host allows them
+-- if there are functions, the host allows them
 abbrev pub FunctionsPass : Input → Type 0
 FunctionsPass i = i.functions ≢ [] → Allows i.code.setting.caps FUNCTION
 
@@ -69,7 +69,7 @@ pub record ChunkPasses (code : Bytecode) (chunk : Span) : Type 0 where
   pub typed : HasTyping (coded code) chunk chunk.max_stack
 
 -- Each constant's capabilities are there, the code is whole instructions whose indices are in bounds, functions are
--- allowed where there are some, and each chunk passes.
+-- allowed if there are some, and each chunk passes.
 pub record IsAccepted (i : Input) : Type 0 where
   pub constants : ConstantsPass i
   pub code : CodePasses i
@@ -85,7 +85,7 @@ abbrev pub AreTyped : Input → List ℕ → Type 0
 AreTyped i numbers = AllZip (HasTyping (coded i.code)) i.chunks numbers
 
 -- No state of a kept run lacks anything, meets an instruction whose capabilities aren't there, or has more operands than
--- this, and some state has as many. A run is kept where its faults at quiet operations are.
+-- this, and some state has as many. A run is kept if its faults at quiet operations are.
 pub record IsSafe (code : Bytecode) (chunk : Span) (n : ℕ) : Type 0 where
   pub finds : (m : Machine) → IsOnKeptRun (coded code) chunk m → (op : Op) × Finds (coded code) chunk m op × Allows code.setting.caps (caps_of code.setting op)
   pub most : (m : Machine) → IsOnKeptRun (coded code) chunk m → m.operands ≤ n

@@ -8,7 +8,7 @@ use Rattle.grain_rules.specs.Facts.{Facts, facts_of}
 use Rattle.grain_rules.specs.Setting.{Setting, with_caps}
 use Rattle.grain_rules.specs.declared.pools.Pools.{Pools}
 
--- operations where they stand, and what they are judged against
+-- operations at their addresses or indices, and what they are judged against
 pub record Code : Type 0 where
   pub setting : Setting
   pub layout : Layout

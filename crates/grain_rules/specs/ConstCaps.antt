@@ -1,4 +1,4 @@
--- What a constant asks of the host, or nothing where a value can't be said to be a constant.
+-- What a constant asks of the host, or nothing if a value can't be said to be a constant.
 use Rattle.std.specs.Prelude.{ℕ, List, [], ◌∷◌, map, String, Option, Some, None}
 use Rattle.std.specs.Int.RustNames.{bit_or}
 use Rattle.std.specs.declared.alloc.Global.{Global}
@@ -6,7 +6,7 @@ use Rattle.grain_base.specs.CapBits.{ARRAY, BLOB, MAP, FN_PTR}
 use Rattle.grain_base.specs.declared.value.Dynamic.{Dynamic, fold-Dynamic}
 use Rattle.grain_base.specs.declared.value.Dynamic.TheOpen.{Dynamic-F, FnPtr-F}
 
--- these capabilities and those of the parts, or nothing where a part has nothing
+-- these capabilities and those of the parts, or nothing if a part has nothing
 abbrev pub with_parts : ℕ → List (Option ℕ) → Option ℕ
 with_parts caps [] = Some caps
 with_parts caps (None ∷ parts) = None

@@ -20,12 +20,12 @@ nothing = record { operands = 0; iterators = 0; bases = [] }
 abbrev pub armed : Counts → List Base
 armed c = record { operands = c.operands; iterators = c.iterators } ∷ c.bases
 
--- all but the last, where the last comes first
+-- all but the last, if the last comes first
 abbrev pub without_last : {A : Type 0} → List A → List A
 without_last [] = []
 without_last (x ∷ xs) = xs
 
--- the base of the handler that was armed last; where none is armed, that of empty stacks
+-- the base of the handler that was armed last; if none is armed, that of empty stacks
 abbrev pub last_base : List Base → Base
 last_base [] = record { operands = 0; iterators = 0 }
 last_base (b ∷ bs) = b

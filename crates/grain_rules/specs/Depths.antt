@@ -25,7 +25,7 @@ pub record Depths : Type 0 where
 abbrev pub depths_of : Counts → Depths
 depths_of c = record { operands = c.operands; iterators = c.iterators; handlers = length c.bases }
 
--- the depths on the edges to the targets of such a flow, where this many operands are left
+-- the depths on the edges to the targets of such a flow, if this many operands are left
 abbrev pub depths_after_jump : Flow → ℕ → Depths → Depths
 depths_after_jump flows.Falls left d = record d { operands = left }
 depths_after_jump flows.Ends left d = record d { operands = left }

@@ -10,7 +10,7 @@ use Rattle.grain_rules.specs.declared.asks.Asks.{Asks}
 use Rattle.grain_rules.specs.declared.asks.Asks.TheVariants as asks
 use Rattle.grain_rules.specs.declared.effect.Effect.{Effect}
 
--- how an operation is left, by its target where it has one
+-- how an operation is left, by its target if it has one
 abbrev pub flow : Flow → ℕ → flows.Flow
 flow ways.Falls target = flows.Falls
 flow ways.Ends target = flows.Ends
@@ -27,7 +27,7 @@ flow ways.PopsHandler target = flows.PopsHandler
 abbrev pub flow_in : Effect → flows.Flow
 flow_in e = flow e.flow e.target
 
--- what is asked of the host where names and chains are those of the setting
+-- what is asked of the host if names and chains are those of the setting
 abbrev pub asked_in : Setting → Asks → ℕ
 asked_in s asks.Nothing = 0
 asked_in s (asks.These caps) = caps.0

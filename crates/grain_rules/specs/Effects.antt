@@ -22,7 +22,7 @@ pub record Meets (s : Setting) (op : Op) (c : Counts) : Type 0 where
   pub iterators : iterators_needed op ≤ c.iterators
   pub handlers : handlers_needed op ≤ length c.bases
 
--- where it may jump, a catch among them, with these targets of each switch
+-- if it may jump, a catch among them, with these targets of each switch
 abbrev pub targets : List (List ℕ) → Op → List ℕ
 targets switches op = (leaving switches (flow_of op)).targets
 

@@ -26,7 +26,7 @@ pub data Flow : Type 0 where
 
 -- How many iterators there have to be, and how many armed handlers; where the operation may jump, a catch among them, and whether
 -- an ordinary step goes there, as it never does to a catch; whether it may fall through; and the counts on the edges to its
--- targets and on that to the next operation, where this many operands are left.
+-- targets and on that to the next operation, if this many operands are left.
 pub record Leaving : Type 0 where
   pub iterators : ℕ
   pub handlers : ℕ

@@ -1,4 +1,4 @@
--- Where operations stand: as instructions of code, at addresses, or in a list, at indices. The list is there so that a program that
+-- Where operations are: at addresses, as instructions of code, or at indices, in a list. The list is there so that a program that
 -- is built from operations by index is judged by the same definitions.
 use Rattle.std.specs.Prelude.{◌≡◌, ◌⊎◌, ℕ, ◌+◌, ◌<◌, List, length, slice_get, Some}
 use Rattle.std.specs.List.{Contains}
@@ -37,7 +37,7 @@ abbrev pub next : Layout → ℕ → Op → ℕ
 next (Coded bytes switches) at op = at + width_of op
 next (Listed ops switches) at op = at + 1
 
--- where each switch may lead
+-- the targets of each switch
 abbrev pub switches : Layout → List (List ℕ)
 switches (Coded bytes tables) = tables
 switches (Listed ops tables) = tables

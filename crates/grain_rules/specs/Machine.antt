@@ -100,7 +100,7 @@ pub record IsKept {code : Code} {chunk : Span} {m n : Machine} (fault : Catches 
 abbrev pub Moves : Code → Span → Machine → Machine → Type 0
 Moves code chunk m n = Steps code chunk m n ⊎ ((fault : Catches code chunk m n) × IsKept fault)
 
--- The same, where a fault has to be kept at quiet operations alone.
+-- The same, if a fault has to be kept at quiet operations alone.
 abbrev pub MovesKeptAtQuiet : Code → Span → Machine → Machine → Type 0
 MovesKeptAtQuiet code chunk m n = Steps code chunk m n ⊎ ((fault : Catches code chunk m n) × (is_quiet fault.op ≡ true → IsKept fault))
 

@@ -15,7 +15,7 @@ pub record ReachesUpTo (base stacks : Base) : Type 0 where
   pub operands : base.operands ≤ stacks.operands
   pub iterators : base.iterators ≤ stacks.iterators
 
--- They fall short of it: how many operands are needed and how many are there; or how many iterators, where the operands
+-- They fall short of it: how many operands are needed and how many are there; or how many iterators, if the operands
 -- suffice.
 abbrev pub FallsShortOf : Base → Base → ℕ → ℕ → Type 0
 FallsShortOf base stacks need have =

@@ -24,7 +24,7 @@ pub record IsVerdict (i : Input) (result : Result (Vec ℕ Global) VerifyError) 
   -- its numbers are the greatest operand counts that are reached, chunk by chunk
   pub deepest : IfOk result (λ numbers. AllZip (IsDeepest (coded i.code)) i.chunks numbers.items)
   -- no state of a kept run lacks anything or has more operands than its chunk's number, some state has as many, and a run
-  -- is kept where its faults at quiet operations are
+  -- is kept if its faults at quiet operations are
   pub safe : IfOk result (λ numbers. AllZip (IsSafe i.code) i.chunks numbers.items)
   -- accepted input is accepted, unless memory runs out
   pub accepts : IsAccepted i → IfErr result (λ e. e ≡ OutOfMemory)

@@ -54,7 +54,7 @@ pub(crate) fn word_of(bound: Bound) -> &'static str
 /// Tests an index against the size of its pool.
 ///
 /// # Errors
-/// The index, where the pool has no more entries than it says.
+/// The index, if the pool has no more entries than it says.
 #[inline(always)]
 pub fn check_below(size: usize, pool: Pool, index: u32) -> Result<(), BadIndex>
     ensures { refused result ≡ first_out (record {
@@ -76,7 +76,7 @@ pub fn check_below(size: usize, pool: Pool, index: u32) -> Result<(), BadIndex>
 /// Tests a place among the operands of a chain.
 ///
 /// # Errors
-/// The place, where there are no more operands than it says.
+/// The place, if there are no more operands than it says.
 #[inline(always)]
 pub fn check_among(operands: u16, place: u32) -> Result<(), BadIndex>
     ensures { refused result ≡ first_out (record {

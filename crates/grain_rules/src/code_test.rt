@@ -32,7 +32,7 @@ pub(crate) struct Tested<F: Drop> {
 /// The result of [`start_code`].
 #[derive(Drop)]
 pub struct Started {
-    /// The starts of the code, where it passes.
+    /// The starts of the code, if it passes.
     pub starts: Starts,
     /// Whether the code passes.
     pub tested: Result<(), VerifyError>,
@@ -93,7 +93,7 @@ pub(crate) fn check_at<P: Read, const N: usize>(
     }
 }
 
-/// Tests what follows a front at the begin of the code, where what has passed is known to pass.
+/// Tests what follows a front at the begin of the code, if what has passed is known to pass.
 fn test_instructions<P: Read, F: Front, const N: usize>(
     pools: &P,
     passed: &mut Passed<N>,
@@ -128,7 +128,7 @@ fn test_instructions<P: Read, F: Front, const N: usize>(
     }
 }
 
-/// Tests the same over pools of 256 chains and switches at most. It is compiled apart: where one function has sets of both
+/// Tests the same over pools of 256 chains and switches at most. It is compiled apart: if one function has sets of both
 /// sizes, the larger is cleared in each call.
 #[inline(never)]
 #[tactic(auto, using(crate::proofs::PassedEntries::none_passed))]
@@ -184,7 +184,7 @@ fn test_code<P: Read, F: Front>(pools: &P, code: &[u8], front: F) -> Tested<F>
 }
 
 /// Tests that the code is instructions from its start to its end, each with its indices in bounds. What many
-/// instructions name is tested once, where a bit remembers that it has passed. It takes no memory.
+/// instructions name is tested once, if a bit remembers that it has passed. It takes no memory.
 ///
 /// # Errors
 /// `Undecodable` and `BadIndex`, of the first instruction that doesn't pass and its first index that is out of bounds.
@@ -197,8 +197,8 @@ pub fn check_code<P: Read>(pools: &P, code: &[u8]) -> Result<(), VerifyError>
     test_code(pools, code, 0usize).result
 }
 
-/// Tests what [`check_code`] tests, with the same errors, and writes down where the instructions begin. The code is read once,
-/// where to test it and then to look for its starts reads it twice. It takes no memory.
+/// Tests what [`check_code`] tests, with the same errors, and writes down where the instructions begin. The code is read once:
+/// to test it first and to look for its starts afterwards would read it twice. It takes no memory.
 #[inline(always)]
 pub fn start_code<P: Read>(pools: &P, code: &[u8], growing: Growing) -> Started
     requires begun { growing.end ≡ 0 }

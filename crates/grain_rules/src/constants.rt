@@ -79,7 +79,7 @@ pub fn check_constants(caps: Caps, consts: &[Dynamic]) -> Result<(), VerifyError
     Ok(())
 }
 
-/// The capabilities that the constant requires, where the host lacks some of them.
+/// The capabilities that the constant requires, if the host lacks some of them.
 fn refused_caps(caps: Caps, value: &Dynamic) -> Option<Caps>
     ensures { MatchOption result (ConstantPasses caps.0 value.now) (λ asked.
         (const_caps value.now ≡ Some asked.0) × (Allows caps.0 asked.0 → ⊥)) }

@@ -10,7 +10,7 @@ use crate::error::VerifyError;
 use grain_base::Caps;
 use grain_code::Function;
 
-/// Tests that the host allows functions where there are some.
+/// Tests that the host allows functions if there are some.
 ///
 /// # Errors
 /// `MissingCaps` at address 0, with `FUNCTION`.

@@ -22,7 +22,7 @@ fn check<P: Read>(pools: &P, pool: Pool, index: u32) -> Result<(), BadIndex>
     check_below(pools.size(pool), pool, index)
 }
 
-/// Tests an index where there is one.
+/// Tests an index if there is one.
 fn check_some<P: Read>(pools: &P, pool: Pool, index: Option<u32>) -> Result<(), BadIndex>
     ensures { refused result ≡ first_out (map (test_of (alone (P.facts pools.now)))
         (map (Entry pool) (option_to_list index))) }
@@ -110,7 +110,7 @@ fn check_fields<P: Read>(pools: &P, passed: &mut [u64], op: &Op) -> Result<(), B
     }
 }
 
-/// A constant of a case, of the switch at an index, that is at or above the number of constants, if there is one. Where
+/// A constant of a case, of the switch at an index, that is at or above the number of constants, if there is one. If
 /// these cases have passed before, there is none.
 #[tactic(auto, using(crate::proofs::PassedEntries::cases_more))]
 fn bad_constant_at<P: Read>(pools: &P, passed: &mut [u64], index: u32) -> Option<u32>

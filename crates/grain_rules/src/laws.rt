@@ -47,14 +47,14 @@ pub fn typings_cover_runs()
         → (typing m.address ≡ Some (counts m)) × (m.operands ≤ d) }
 {}
 
-/// In a chunk that has a typing, a run is kept where its faults at quiet operations are.
+/// In a chunk that has a typing, a run is kept if its faults at quiet operations are.
 pub fn faults_elsewhere_are_kept()
     ensures { (code : Code) (chunk : Span) (d : ℕ) → HasTyping code chunk d
         → (earlier : List Machine) (m : Machine) → IsRunKeptAtQuiet code chunk m earlier
         → IsKeptRun code chunk m earlier }
 {}
 
-/// In a chunk that has a typing, a move from a state of a kept run is one of a kept run where its fault at a quiet operation
+/// In a chunk that has a typing, a move from a state of a kept run is one of a kept run if its fault at a quiet operation
 /// is kept.
 pub fn moves_elsewhere_are_kept()
     ensures { (code : Code) (chunk : Span) (d : ℕ) → HasTyping code chunk d
@@ -107,7 +107,7 @@ pub fn switches_lead_inside()
         × ((c : Counts) × (typing (dispatched arms subject) ≡ Some c)) }
 {}
 
-/// Where all indices of an operation are in bounds, those into pools are. So the rule that steps stay within the operands
+/// If all indices of an operation are in bounds, those into pools are. So the rule that steps stay within the operands
 /// of their chain only refuses more.
 pub fn indices_in_bounds_lie_in_pools()
     ensures { (s : Setting) (op : Op) → Indexed s op → IsWithinPools s op }

@@ -122,7 +122,7 @@ impl Effect {
         }
     }
 
-    /// The address that it may jump to, a catch among them, where its flow has one.
+    /// The address that it may jump to, a catch among them, if its flow has one.
     #[must_use]
     pub fn target_address(&self) -> Option<u32>
         ensures { option_to_list result ≡ targets_for [] (flow_in self.now) }

@@ -39,7 +39,7 @@ pub(crate) fn has_passed(words: &[u64], index: u32) -> bool
     word < words.len() && words[word] >> (index % 64) & 1 == 1
 }
 
-/// Adds the entry to those that have passed, where it has a bit.
+/// Adds the entry to those that have passed, if it has a bit.
 #[tactic(auto, using(crate::proofs::PassedBits::passed, crate::proofs::PassedBits::passed_still, crate::proofs::PassedBits::passed_here))]
 pub(crate) fn add_passed(words: &mut [u64], index: u32)
     ensures only { (other : ℕ) → HasPassed words.new other

@@ -33,7 +33,7 @@ pub trait Read {
     /// What is said of the pools.
     ghost facts: { Self → Facts };
 
-    /// Where each switch may lead.
+    /// The targets of each switch.
     ghost leads: { Self → List (List ℕ) };
 
     /// The targets of a switch.

@@ -10,7 +10,7 @@ ghost use Rattle.grain_rules.specs.Setting.{Setting};
 
 use grain_code::tag_row;
 
-/// How many bytes the instruction at an address takes, where one is there that is known to have no index, so that it
+/// How many bytes the instruction at an address takes, if one is there that is known to have no index, so that it
 /// needn't be decoded.
 #[inline(always)]
 pub(crate) fn unindexed_width(code: &[u8], at: usize) -> Option<usize>

@@ -20,7 +20,7 @@ use Rattle.grain_verify.specs.declared.lists.Lists.{Lists}
 use Rattle.grain_verify.specs.declared.state.Arrival.{Arrival}
 use Rattle.grain_verify.specs.declared.state.State.{State}
 
--- what a state of the walk stands for, where these are the lists of bases
+-- what a state of the walk stands for, if these are the lists of bases
 abbrev pub view : Lists → State → Counts
 view lists s = record { operands = s.operands; iterators = s.iterators; bases = list_of lists s.list }
 

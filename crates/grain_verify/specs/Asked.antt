@@ -4,7 +4,7 @@ use Rattle.grain_base.specs.declared.caps.Caps.{Caps}
 use Rattle.grain_rules.specs.Facts.{ChainFacts, Facts}
 use Rattle.grain_verify.specs.declared.asked.Asked.{Asked}
 
--- where something is known at an index, it is what is asked there
+-- if something is known at an index, it is what is asked there
 abbrev pub AreKnown : List ℕ → List (Option Caps) → Type 0
 AreKnown asks known = (i : ℕ) (caps : Caps) → get_or known i None ≡ Some caps → caps.0 ≡ get_or asks i 0
 

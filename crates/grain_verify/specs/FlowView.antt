@@ -24,7 +24,7 @@ IsShort f at c (errors.IteratorUnderflow a) = (a ≡ at) × (c.iterators < itera
 IsShort f at c (errors.HandlerUnderflow a) = (a ≡ at) × (length c.bases < handlers_for f)
 IsShort f at c e = ⊥
 
--- The state on the edges to the targets of such a flow, where this many operands are left and the handlers that are armed
+-- The state on the edges to the targets of such a flow, if this many operands are left and the handlers that are armed
 -- then have this list.
 abbrev pub jumped : flows.Flow → ℕ → ℕ → State → State
 jumped flows.Falls left list s = record s { operands = left }
@@ -59,7 +59,7 @@ next_to here width s = record { at = here.at + width; ordinal = here.ordinal + 1
 abbrev pub falls_to : flows.Flow → ℕ → ℕ → Arrival → ℕ → List Arrival
 falls_to f left list here width = cond (falls_for f) (next_to here width (fallen f left list here.state) ∷ []) []
 
--- How an operation of such a flow and width is followed, where this many operands are left: the armed handlers have some
+-- How an operation of such a flow and width is followed, if this many operands are left: the armed handlers have some
 -- list then, its state is sent to its targets, and another falls through, if it does. All these are then on their way.
 pub record IsFollowed (starts : List ℕ) (chunk : Span) (switches : List (List ℕ)) (f : flows.Flow) (left : ℕ) (here : Arrival) (width : ℕ) (old new : Lists)
     (sent new_sent : List (Option State)) (work on_way : List Arrival) : Type 0 where

@@ -47,7 +47,7 @@ firsts_of lists = lists.first ∷ lists.firsts.items
 abbrev pub first_on : List ℕ → ℕ → ℕ
 first_on firsts n = slice_index_or firsts n 0
 
--- The number that is found with a node, where this is the number of the first list on top of its parent's: that one, if its
+-- The number that is found with a node, if this is the number of the first list on top of its parent's: that one, if its
 -- last base is the node's, or else what is found elsewhere.
 abbrev pub found_with : List Node → (Node → Option ℕ) → Node → ℕ → Option ℕ
 found_with nodes elsewhere x zero = elsewhere x
@@ -56,7 +56,7 @@ found_with nodes elsewhere x (suc k) = if is_eq (base_cmp (slice_index_or nodes 
 abbrev pub found_in : List Node → List ℕ → (Node → Option ℕ) → Node → Option ℕ
 found_in nodes firsts elsewhere x = found_with nodes elsewhere x (first_on firsts x.parent)
 
--- The first list on top of a list lies on it, and only where there is one something is found elsewhere.
+-- The first list on top of a list lies on it, and only if there is one is something found elsewhere.
 pub record AreFirsts (nodes : List Node) (firsts : List ℕ) (elsewhere : Node → Option ℕ) : Type 0 where
   pub long : length firsts ≡ length nodes + 1
   pub there : (n k : ℕ) → first_on firsts n ≡ suc k → (k < length nodes) × ((slice_index_or nodes k no_node).parent ≡ n)

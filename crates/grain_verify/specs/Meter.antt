@@ -21,13 +21,13 @@ starts_within starts chunk = count_by (λ at. nat_le chunk.entry at && nat_lt at
 abbrev pub AreReached : Bytecode → List Span → ℕ → Type 0
 AreReached code chunks n = (numbers : List ℕ) × AllZip (IsReachedCount (coded code)) chunks numbers × (n ≡ sum_by (λ x. x) numbers)
 
--- no more than all chunks have starts, each for itself; none where the code isn't whole instructions
+-- no more than all chunks have starts, each for itself; none if the code isn't whole instructions
 pub record IsWithinAll (i : Input) (n : ℕ) : Type 0 where
   pub starts : (starts : List ℕ) → Split i.code.bytes starts → n ≤ sum_by (starts_within starts) i.chunks
   pub nowhere : ((starts : List ℕ) → Split i.code.bytes starts → ⊥) → n ≡ 0
 
--- What a meter has counted of a verification: the places that the chunks reach where the program is accepted, and no more
--- than the starts of each chunk where it is refused.
+-- What a meter has counted of a verification: the places that the chunks reach if the program is accepted, and no more
+-- than the starts of each chunk if it is refused.
 pub record IsMetered (i : Input) (old new : ℕ) (result : Result (Vec ℕ Global) VerifyError) : Type 0 where
   pub accepted : IfOk result (λ _. (n : ℕ) × AreReached i.code i.chunks n × HasCounted old new n)
   pub refused : IfErr result (λ _. (n : ℕ) × IsWithinAll i n × HasCounted old new n)

@@ -26,7 +26,7 @@ pub record IsPlain (op : Op) (needs takes gives : ℕ) : Type 0 where
 abbrev pub IsFloor : Lists → State → ℕ → Type 0
 IsFloor lists s floor = (n : ℕ) → n < 2 ^ 32 → floor ≤ n → ReachesUpTo (last_base (list_of lists s.list)) (record { operands = n; iterators = s.iterators })
 
--- What is known of the floor of what comes next by such a flow, where this was the floor.
+-- What is known of the floor of what comes next by such a flow, if this was the floor.
 abbrev pub LeavesFloor : Flow → ℕ → Lists → State → Type 0
 LeavesFloor ways.Falls floor lists s = ⊤
 LeavesFloor ways.Ends floor lists s = ⊤

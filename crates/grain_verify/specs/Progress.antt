@@ -100,7 +100,7 @@ pub record IsWalking (p : Walked) (chunk : Span) (lists : Lists) (t : Traversal)
   pub known : KnowsLists lists t arrivals
   pub walking : Walking p.code chunk p.starts lists t.states (sent_by lists t.sent) (map (coming lists) arrivals) deepest
 
--- how much may still come where this many arrivals wait: no instruction that is visited sends its state to more places
+-- how much may still come if this many arrivals wait: no instruction that is visited sends its state to more places
 abbrev pub weight : Walked → Traversal → ℕ → ℕ
 weight p t waiting = (all_targets p.code.switches + 2 + 1) * (length t.states - visits_in t.states) + waiting
 
@@ -115,7 +115,7 @@ pub record HaltsAt (p : Walked) (chunk : Span) (lists : Lists) (t : Traversal) (
   pub addresses : chunk.end < 2 ^ 32
   pub is : IsWalking p chunk lists (record t { states = before }) (t.work.items ++ here ∷ []) earlier
 
--- What the meter has counted of one chunk: no more than its starts, and the places that it reaches where it is walked to
+-- What the meter has counted of one chunk: no more than its starts, and the places that it reaches if it is walked to
 -- the end.
 pub record IsMeteredChunk {A : Type 0} (code : Bytecode) (starts : List ℕ) (chunk : Span) (old new : ℕ) (result : Result A VerifyError) : Type 0 where
   pub visits : ℕ

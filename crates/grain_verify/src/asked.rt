@@ -12,8 +12,8 @@ use std::alloc::{AllocError, Global};
 
 /// What names and chains require of the host, as far as it is known.
 ///
-/// It is read where code names one first, so that an operation costs no more where its name or its chain is long, and one
-/// that no code names takes no time. Memory is taken for all names where code names one, and so for chains.
+/// It is read when code first names one. So an operation costs no more if its name or its chain is long, and a name that no code
+/// uses takes no time. Memory is taken for all names once code names one, and so for chains.
 #[derive(Drop)]
 pub(crate) struct Asked {
     names: Vec<Option<Caps>>,
@@ -42,7 +42,7 @@ impl Asked {
     /// What an operation requires.
     ///
     /// # Errors
-    /// [`AllocError`] where the memory for what all names, or all chains, require was refused.
+    /// [`AllocError`] if the memory for what all names, or all chains, require was refused.
     #[inline(always)]
     pub(crate) fn of<P: Read>(&mut self, pools: &P, asks: Asks) -> Result<Caps, AllocError>
         requires { Knows (P.facts pools.now) self.old }
@@ -123,7 +123,7 @@ fn known_at(known: &[Option<Caps>], index: u32) -> Option<Caps>
     }
 }
 
-/// Makes room for what this many require, where nothing is known.
+/// Makes room for what this many require, if nothing is known.
 #[tactic(auto, using(crate::proofs::KnownCapabilities::none_known))]
 fn make_room(known: &mut Vec<Option<Caps>>, count: usize) -> Result<(), AllocError>
     ensures { (asks : List ℕ) → AreKnown asks known.old.items

@@ -64,7 +64,7 @@ pub(crate) fn effect_by_row(instruction: &Instruction<'_>, row: &TagRow, flow: F
     }
 }
 
-/// What an instruction does, where its row says all of it.
+/// What an instruction does, if its row says all of it.
 #[inline(always)]
 pub(crate) fn effect_by_tag(instruction: &Instruction<'_>, row: &TagRow) -> Option<Effect>
     requires known { (op : Op) × Instr (instruction.now.tag ∷ instruction.now.fields.now) op }
@@ -78,7 +78,7 @@ pub(crate) fn effect_by_tag(instruction: &Instruction<'_>, row: &TagRow) -> Opti
     Some(effect_by_row(instruction, row, row.flow))
 }
 
-/// What falls through a plain instruction, which does no more than its tag says, where it finds the operands that it needs
+/// What falls through a plain instruction, which does no more than its tag says, if it finds the operands that it needs
 /// above the floor.
 #[inline(always)]
 pub(crate) fn plain_next(row: &TagRow, head: Head, here: Arrival, floor: u64) -> Option<Arrival>

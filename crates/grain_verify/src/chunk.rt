@@ -15,12 +15,12 @@ use crate::walk::{Prepared, Traversal};
 use grain_code::Chunk;
 use grain_rules::{Read, VerifyError};
 
-/// The greatest operand count that any run of the chunk reaches. The meter takes what the walk visits, where it is refused
+/// The greatest operand count that any run of the chunk reaches. The meter takes what the walk visits, if it is refused
 /// too.
 ///
 /// # Errors
 /// One of the chunk's flaws: of its frame, of its walk, or `StackExceedsDeclared`, since a host makes stacks as deep as
-/// chunks declare. `OutOfMemory` where it was refused.
+/// chunks declare. `OutOfMemory` if it was refused.
 pub(crate) fn verify_chunk<P: Read>(
     prepared: &Prepared<'_, P>,
     chunk: &Chunk,

@@ -38,7 +38,7 @@ fn ordinal_of(starts: &Starts, chunk: &Chunk, at: u32, target: u32) -> Result<us
 /// The state on its way to a target.
 ///
 /// # Errors
-/// `JumpOutOfRange` or `JumpIntoAnInstruction` where it is none.
+/// `JumpOutOfRange` or `JumpIntoAnInstruction` if it is none.
 #[inline(always)]
 pub(crate) fn arrival_at(
     starts: &Starts,
@@ -64,7 +64,7 @@ pub(crate) fn arrival_at(
 /// Pushes the state to one target.
 ///
 /// # Errors
-/// `JumpOutOfRange` or `JumpIntoAnInstruction` where it is none, `OutOfMemory` where it was refused.
+/// `JumpOutOfRange` or `JumpIntoAnInstruction` if it is none, `OutOfMemory` if it was refused.
 #[inline(always)]
 pub(crate) fn push_target(
     starts: &Starts,
@@ -87,7 +87,7 @@ pub(crate) fn push_target(
 /// Pushes a state to the exit of an iterator, without that iterator.
 ///
 /// # Errors
-/// `IteratorUnderflow` where it has none, and those of [`push_target`].
+/// `IteratorUnderflow` if it has none, and those of [`push_target`].
 #[inline(always)]
 pub(crate) fn push_ended(
     starts: &Starts,

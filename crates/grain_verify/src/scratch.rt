@@ -8,7 +8,7 @@ use std::alloc::Global;
 
 /// What verification writes as it goes, kept so that its memory serves one program after another.
 ///
-/// [`Scratch::verify`] takes memory only where there isn't enough here. Each result is right whatever was verified before,
+/// [`Scratch::verify`] takes memory only if there isn't enough here. Each result is right whatever was verified before,
 /// since its clauses require nothing of the scratch; which of several flaws a refusal names and when memory runs out may
 /// differ, as far as clauses say. What it takes is kept until the scratch is dropped: as much as the largest program needed
 /// that was verified with it (docs/COSTS.md).

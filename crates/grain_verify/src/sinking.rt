@@ -18,11 +18,11 @@ use crate::state::{Arrival, State};
 use grain_code::{Instruction, tag_row};
 use grain_rules::{Effect, VerifyError};
 
-/// Whether the instruction is quiet, or else leaves what was there when the last handler was armed. Where it faults, that handler's
+/// Whether the instruction is quiet, or else leaves what was there when the last handler was armed. If it faults, that handler's
 /// code runs on what it left, and would find fewer operands or iterators than were tested there.
 ///
 /// # Errors
-/// `SinksBelowHandler` at its address. Where a handler is armed, the iterator that it takes is looked for first
+/// `SinksBelowHandler` at its address. If a handler is armed, the iterator that it takes is looked for first
 /// ([`State::without_iterators`]); else its flow needs it.
 #[inline(always)]
 pub(crate) fn check_stays(
@@ -69,7 +69,7 @@ pub(crate) fn check_stays(
 /// it needs.
 ///
 /// # Errors
-/// `SinksBelowHandler` with the operands, or with the iterators where there are enough operands.
+/// `SinksBelowHandler` with the operands, or with the iterators if there are enough operands.
 #[inline(always)]
 fn check_sinking(tag: u8, at: u32, left: Base, last: Base) -> Result<(), VerifyError>
     ensures stays { (op : Op) → (form op).0 ≡ tag

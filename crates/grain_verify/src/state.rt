@@ -85,7 +85,7 @@ impl State {
         }
     }
 
-    /// The state with this many iterators fewer. A machine that ends or advances an iterator reaches below its stack where
+    /// The state with this many iterators fewer. A machine that ends or advances an iterator reaches below its stack if
     /// there is none.
     ///
     /// # Errors
@@ -109,7 +109,7 @@ impl State {
     /// The state with another handler armed.
     ///
     /// # Errors
-    /// [`AllocError`] where the memory was refused.
+    /// [`AllocError`] if the memory was refused.
     #[inline(always)]
     pub(crate) fn with_handler(self, lists: &mut Lists) -> Result<State, AllocError>
         requires shared { IsShared lists.old }
@@ -152,7 +152,7 @@ impl State {
     }
 
     /// How many operands have to stay for the stacks to reach up to the base of the last handler: more than there can be
-    /// where they lack an iterator of it.
+    /// if they lack an iterator of it.
     #[inline(always)]
     pub(crate) fn floor(self, lists: &Lists) -> u64
         requires shared { IsShared lists.now }
@@ -167,7 +167,7 @@ impl State {
         u64::from(last.operands)
     }
 
-    /// How many operands have to stay where the last handler has just been armed: all that are there.
+    /// How many operands have to stay if the last handler has just been armed: all that are there.
     #[inline(always)]
     pub(crate) fn floor_armed(self) -> u64
         ensures small { result ≤ 2 ^ 32 }

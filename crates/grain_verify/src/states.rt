@@ -22,7 +22,7 @@ impl Entry {
 
 /// For each of some things the state with which it was visited in the chunk that is walked, if it was.
 ///
-/// An entry is valid where it has the number of the chunk that is walked, so that nothing need be cleared for the next
+/// An entry is valid if it has the number of the chunk that is walked, so that nothing need be cleared for the next
 /// chunk. Chunks are numbered downwards, below the number of entries of none. Contracts see a list of states that may be
 /// missing.
 #[derive(Drop)]
@@ -56,7 +56,7 @@ impl States {
     /// Makes room for the states of this many things. Which of them were visited is known once a chunk begins.
     ///
     /// # Errors
-    /// [`AllocError`] where the memory was refused: 16 bytes for each of them.
+    /// [`AllocError`] if the memory was refused: 16 bytes for each of them.
     pub(crate) fn make_room(&mut self, count: usize) -> Result<(), AllocError>
         ensures { OnOk result (length self.new ≡ count) }
     {

@@ -31,7 +31,7 @@ use std::mem;
 /// Code of fewer bytes is read twice, for its indices and for its starts: to read it once would take longer.
 const SHORT_CODE: usize = 64;
 
-/// Tests the code and its indices while its starts are written down, where their memory suffices, or `None`. It is compiled
+/// Tests the code and its indices while its starts are written down, if their memory suffices, or `None`. It is compiled
 /// apart, so that the walk has the registers that it would have without.
 #[inline(never)]
 fn start_within<P: Read>(
@@ -88,7 +88,7 @@ fn check_code_within<P: Read>(
 }
 
 /// The tests before the chunks: of the constants, of the code and its indices, and of the functions. They take no
-/// memory. The result says whether the starts are those of the code then: it makes them so where the code isn't short and they
+/// memory. The result says whether the starts are those of the code then: it makes them so if the code isn't short and they
 /// have room for it.
 ///
 /// # Errors
@@ -188,7 +188,7 @@ fn walk_chunks<P: Read>(
 /// The starts of code that is whole instructions: those that are known, or else in their memory.
 ///
 /// # Errors
-/// [`AllocError`] where the memory was refused.
+/// [`AllocError`] if the memory was refused.
 #[inline(always)]
 fn starts_of(room: Starts, is_known: bool, code: &[u8]) -> Result<Starts, AllocError>
     requires { IsTrue is_known → Split code.now room.starts }
@@ -255,8 +255,8 @@ fn verify_chunks<P: Read>(
 /// the constants themselves, while `pools.consts` bounds the indices that name one. What it costs is in docs/COSTS.md.
 ///
 /// # Errors
-/// The first test that fails, by its name; within a chunk one of its flaws. `OutOfMemory` where an allocation failed, which
-/// comes only where the tests before the chunks pass.
+/// The first test that fails, by its name; within a chunk one of its flaws. `OutOfMemory` if an allocation failed, which
+/// comes only if the tests before the chunks pass.
 pub fn verify(
     alloc: Global,
     caps: Caps,
@@ -270,7 +270,7 @@ pub fn verify(
     ensures verdict { IsVerdict
         (input caps consts.now code.now functions.now chunks.now pools.now) result }
 
-    // Memory is wanted only where the tests before the chunks pass.
+    // Memory is taken only if the tests before the chunks pass.
     ensures memory { IfErr result (λ e. e ≡ VerifyError.OutOfMemory → ReachesChunks
         (input caps consts.now code.now functions.now chunks.now pools.now)) }
 {
@@ -281,7 +281,7 @@ pub fn verify(
 }
 
 /// Verifies as [`verify`] does, with the same promise of kept runs, which requires the same of a machine, and counts the
-/// instructions that the walks visit: where the program is accepted those that each chunk reaches, else no more than
+/// instructions that the walks visit: if the program is accepted those that each chunk reaches, else no more than
 /// those that each chunk has.
 ///
 /// # Errors
@@ -339,8 +339,8 @@ pub fn verify_located<'a>(
     verify_read(alloc, &candidate, meter)
 }
 
-/// Verifies as [`verify_located`] does, with pools in any form that can be read. It makes no pools: it reads what is looked at
-/// where it is looked at.
+/// Verifies as [`verify_located`] does, with pools in any form that can be read. It makes no pools, and reads
+/// only what it needs of them.
 ///
 /// # Errors
 /// Those of [`verify_located`].

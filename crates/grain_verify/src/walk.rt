@@ -87,7 +87,7 @@ impl Traversal {
     /// Makes room for walks over this many instructions and switches.
     ///
     /// # Errors
-    /// [`AllocError`] where the memory was refused.
+    /// [`AllocError`] if the memory was refused.
     fn make_room(&mut self, instructions: usize, switches: usize) -> Result<(), AllocError>
         ensures states { OnOk result (length self.new.states ≡ instructions) }
         ensures sent { OnOk result (length self.new.sent ≡ switches) }
@@ -110,7 +110,7 @@ impl Traversal {
     }
 }
 
-/// The instruction at an address, where its head is known: one look at its first byte has given its width.
+/// The instruction at an address, if its head is known: one look at its first byte has given its width.
 #[inline(always)]
 fn instruction_at<'a>(code: &'a [u8], at: usize, head: Head) -> Instruction<'a>
     requires { HasHead code.now at head }
@@ -125,13 +125,13 @@ fn instruction_at<'a>(code: &'a [u8], at: usize, head: Head) -> Instruction<'a>
     }
 }
 
-/// Sends the state that an instruction of this width leaves to its targets, where it has what it requires and the operands
+/// Sends the state that an instruction of this width leaves to its targets, if it has what it requires and the operands
 /// that it needs. It returns what falls through, or the target of a jump in place of pushing it. A path that was left out
 /// here would lead runs to code that was never tested, or with other counts than were tested.
 ///
 /// # Errors
-/// `IteratorUnderflow` or `HandlerUnderflow` where it lacks one; those of its targets; `DepthConflict` where another state
-/// was sent to its switch before; `OutOfMemory` where it was refused.
+/// `IteratorUnderflow` or `HandlerUnderflow` if it lacks one; those of its targets; `DepthConflict` if another state
+/// was sent to its switch before; `OutOfMemory` if it was refused.
 #[inline(always)]
 fn follow<P: Read>(
     starts: &Starts,
@@ -260,7 +260,7 @@ impl<'a, P: Read> Prepared<'a, P> {
     /// Makes room for walks over all chunks.
     ///
     /// # Errors
-    /// [`AllocError`] where the memory was refused.
+    /// [`AllocError`] if the memory was refused.
     pub(crate) fn make_room(&self, traversal: &mut Traversal) -> Result<(), AllocError>
         ensures { OnOk result (Fits self.now traversal.new) }
     {
@@ -273,7 +273,7 @@ impl<'a, P: Read> Prepared<'a, P> {
         starts
     }
 
-    /// The instruction at an address, where its head is known.
+    /// The instruction at an address, if its head is known.
     #[inline(always)]
     fn instruction(&self, at: u32, head: Head) -> Instruction<'a>
         requires { HasHead self.now.code.bytes at head }
@@ -288,7 +288,7 @@ impl<'a, P: Read> Prepared<'a, P> {
     /// host doesn't allow, or read below its operand stack.
     ///
     /// # Errors
-    /// `MissingCaps`, or `Underflow` where nothing is missing.
+    /// `MissingCaps`, or `Underflow` if nothing is missing.
     #[inline(always)]
     fn check_needs(
         &self,
@@ -322,7 +322,7 @@ impl<'a, P: Read> Prepared<'a, P> {
         Ok(())
     }
 
-    /// What an instruction does. It is decoded where its row doesn't say all of it, since decoding takes longer.
+    /// What an instruction does. It is decoded if its row doesn't say all of it, since decoding takes longer.
     #[inline(always)]
     fn effect_of(&self, instruction: &Instruction<'_>, row: &TagRow) -> Effect
         requires row { IsRowOf row.now instruction.now.tag }
@@ -499,11 +499,11 @@ impl<'a, P: Read> Prepared<'a, P> {
     /// What is reached twice is tested once, with the counts of the first path. So a second path must bring the same: a run
     /// on it would else find fewer operands than were tested, or leave other counts to all that follows.
     ///
-    /// What tags decide most often is visited without the tests of [`Prepared::visit`] where the operands are above the floor,
+    /// What tags decide most often is visited without the tests of [`Prepared::visit`] if the operands are above the floor,
     /// each flow in an arm of its own, which is compiled apart.
     ///
     /// # Errors
-    /// `DepthConflict` where counts differ, `FallsOffTheEnd` at the chunk's end, and those of visits.
+    /// `DepthConflict` if counts differ, `FallsOffTheEnd` at the chunk's end, and those of visits.
     #[inline(always)]
     fn walk_from(
         &self,

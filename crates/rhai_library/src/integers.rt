@@ -3,7 +3,7 @@
 use grain_base::Token;
 use rhai_values::Value;
 
-/// What an operator gives of two integers. `None` of other operands, where it fails, and of operators that are rare.
+/// What an operator gives of two integers. `None` of other operands, if it fails, and of operators that are rare.
 #[inline(always)]
 #[must_use]
 pub fn of_integers(operator: &Token, operands: &[Value]) -> Option<Value> {
@@ -22,7 +22,7 @@ pub fn of_integers(operator: &Token, operands: &[Value]) -> Option<Value> {
     }
 }
 
-/// What an arithmetic operator gives, also that of an op-assignment. `None` where it fails, and of operators that are rare.
+/// What an arithmetic operator gives, also that of an op-assignment. `None` if it fails, and of operators that are rare.
 #[inline(always)]
 #[must_use]
 pub fn arithmetic(operator: &Token, x: i64, y: i64) -> Option<i64> {
@@ -38,7 +38,7 @@ pub fn arithmetic(operator: &Token, x: i64, y: i64) -> Option<i64> {
     }
 }
 
-/// Does an op-assignment of an integer to an integer. `false` of other values, where it fails, and of operators that are rare: then
+/// Does an op-assignment of an integer to an integer. `false` of other values, if it fails, and of operators that are rare: then
 /// nothing has changed.
 #[inline(always)]
 pub fn assign_integer(operator: &Token, place: &mut Value, value: &Value) -> bool {

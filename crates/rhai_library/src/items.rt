@@ -8,7 +8,7 @@ use std::alloc::Global;
 /// The place of an item that has to be there, in an array of this length.
 ///
 /// # Errors
-/// [`Cause::WrongType`] where the index is no integer, [`Cause::OutOfBounds`] where no item lies there.
+/// [`Cause::WrongType`] if the index is no integer, [`Cause::OutOfBounds`] if no item lies there.
 pub fn item_place(len: usize, index: Option<&Value>) -> Result<usize, Cause> {
     let Some(Value::Int(index)) = index else {
         return Err(Cause::WrongType("an integer as index"));
@@ -53,7 +53,7 @@ fn bit_at(bits: i64, place: usize) -> bool {
 /// Replaces the character of a text at an index. Behind the last one it changes nothing.
 ///
 /// # Errors
-/// [`Cause::WrongType`] where the value is no text, the index no integer, or what is assigned no character; or out of memory.
+/// [`Cause::WrongType`] if the value is no text, the index no integer, or what is assigned no character; or out of memory.
 pub fn set_character(
     alloc: Global,
     limits: SizeLimits,

@@ -136,7 +136,7 @@ fn powered(x: i64, y: i64) -> Result<Option<i64>, Cause> {
     }
 }
 
-/// Shifted left, or right where the distance is below 0. What leaves the 64 bits is lost.
+/// Shifted left, or right if the distance is below 0. What leaves the 64 bits is lost.
 fn shifted_left(x: i64, distance: i64) -> i64 {
     match u32::try_from(distance) {
         Ok(distance) if distance < 64 => x.wrapping_shl(distance),
@@ -146,7 +146,7 @@ fn shifted_left(x: i64, distance: i64) -> i64 {
     }
 }
 
-/// Shifted right with its sign, or left where the distance is below 0.
+/// Shifted right with its sign, or left if the distance is below 0.
 fn shifted_right(x: i64, distance: i64) -> i64 {
     if distance < 0 {
         return match u32::try_from(distance.unsigned_abs()) {

@@ -42,7 +42,7 @@ pub(crate) fn with_character(
     Ok(Text::of(new))
 }
 
-/// How many characters are before the first place where the other text is found; -1 where it isn't.
+/// How many characters are before the first place where the other text is found; -1 if it isn't.
 pub(crate) fn index_of(text: &Text, other: &str) -> Value {
     match text.as_str().split_once(other) {
         Some((before, _)) if text.is_ascii() => Value::Int(number_of(before.len())),

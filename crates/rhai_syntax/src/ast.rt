@@ -51,7 +51,7 @@ pub enum Form {
     Closure(usize),
     /// Statements, of which the last has the value.
     Block(Vec<Expr>),
-    /// Conditions with their blocks, and the block where none of them holds.
+    /// Conditions with their blocks, and the block if none of them holds.
     If(Vec<Branch>, Vec<Expr>),
     /// A subject and the arms.
     Switch(Box<Expr>, Vec<Arm>),
@@ -131,7 +131,7 @@ pub struct Operation {
 pub struct Access {
     /// Where its bracket or its name is.
     pub place: Place,
-    /// Whether the steps end early where the value is unit.
+    /// Whether the steps end early if the value is unit.
     pub is_optional: bool,
     /// What is reached.
     pub part: Part,
@@ -149,7 +149,7 @@ pub enum Part {
     Method(u32, Vec<Expr>),
 }
 
-/// A condition and the block where it holds.
+/// A condition and the block if it holds.
 #[derive(Drop)]
 #[cycle(syntax)]
 pub struct Branch {
@@ -193,7 +193,7 @@ pub struct Function {
     pub name: u32,
     /// Its parameters.
     pub params: Vec<Binding>,
-    /// The name of the type of `this`, where it is declared for one.
+    /// The name of the type of `this`, if it is declared for one.
     pub this_type: Option<u32>,
     /// Whether only this script may call it.
     pub is_private: bool,

@@ -56,8 +56,8 @@ pub fn parse(alloc: Global, source: &str) -> Result<Syntax, CompileError> {
     })
 }
 
-/// What is wrong with the syntax of a source text, as reading finds it: nothing where [`parse`] reads the text. After an error it
-/// goes on with the next statement, and it stops after [`MAX_FLAWS`]. Where a lexeme is wrong, that is the only error. Each place
+/// What is wrong with the syntax of a source text, as reading finds it: nothing if [`parse`] reads the text. After an error it
+/// goes on with the next statement, and it stops after [`MAX_FLAWS`]. If a lexeme is wrong, that is the only error. Each place
 /// that an error names lies in the text.
 ///
 /// # Errors

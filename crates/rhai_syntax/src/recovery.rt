@@ -11,8 +11,8 @@ pub const MAX_FLAWS: usize = 20;
 impl Cursor {
     /// Notes what is wrong with the statement that began when this many lexemes were left, and goes to its end.
     ///
-    /// It returns the error where nothing else can be said: where memory ran out, where enough was said, and at the end of the
-    /// text, where an error may only be what follows of another one.
+    /// It returns the error where nothing else can be said: if memory ran out, if enough was said, and at the end of the
+    /// text, if an error may only be what follows of another one.
     pub(crate) fn recover(
         &mut self,
         first: usize,

@@ -47,8 +47,8 @@ impl Cause {
         }
     }
 
-    /// The cause where no function has this name and takes such arguments, the receiver before the others. It is
-    /// [`Cause::OutOfMemory`] where there is none for its text.
+    /// The cause if no function has this name and takes such arguments, the receiver before the others. It is
+    /// [`Cause::OutOfMemory`] if there is none for its text.
     #[must_use]
     pub fn no_function(
         alloc: Global,

@@ -52,7 +52,7 @@ fn are_entries_equal(left: &BTreeMap<String, Value>, right: &BTreeMap<String, Va
     true
 }
 
-/// How two values of one type compare, where that type has an order: integers, characters and texts.
+/// How two values of one type compare, if that type has an order: integers, characters and texts.
 #[must_use]
 pub fn order(left: &Value, right: &Value) -> Option<Ordering> {
     match (left, right) {

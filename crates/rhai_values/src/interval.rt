@@ -5,7 +5,7 @@
 pub struct Interval {
     /// The first one.
     pub from: i64,
-    /// The last one where it is inclusive, else the first one past it.
+    /// The last one if it is inclusive, else the first one past it.
     pub to: i64,
     /// Whether `to` is one of them.
     pub inclusive: bool,

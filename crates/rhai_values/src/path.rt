@@ -16,11 +16,11 @@ pub enum Key {
     Name(Rc<Text>),
 }
 
-/// Puts a value in place of the part to which the keys lead, and gives that one back. Where an object map has no entry of the
+/// Puts a value in place of the part to which the keys lead, and gives that one back. If an object map has no entry of the
 /// last name, it gives unit and changes nothing.
 ///
 /// # Errors
-/// [`Cause::OutOfBounds`] where no item lies at an index, [`Cause::WrongType`] where a key leads into a value that has no such
+/// [`Cause::OutOfBounds`] if no item lies at an index, [`Cause::WrongType`] where a key leads into a value that has no such
 /// parts, or out of memory: then a part on the way may be unit.
 pub fn swapped(value: &mut Value, keys: &[Key], new: Value) -> Result<Value, Cause> {
     let Some((key, rest)) = keys.split_first() else {

@@ -13,7 +13,7 @@ impl Value {
         )
     }
 
-    /// A copy, where it is plain.
+    /// A copy, if it is plain.
     #[inline(always)]
     #[must_use]
     pub fn plain(&self) -> Option<Value> {

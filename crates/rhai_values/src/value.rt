@@ -58,7 +58,7 @@ impl Value {
         Ok(characters)
     }
 
-    /// The integers from one to another, with that one where it is inclusive.
+    /// The integers from one to another, with that one if it is inclusive.
     ///
     /// # Errors
     /// Out of memory.
@@ -211,7 +211,7 @@ impl List {
         Some(value)
     }
 
-    /// Inserts an item before the one at a place, or behind all where no item is there.
+    /// Inserts an item before the one at a place, or behind all if no item is there.
     ///
     /// # Errors
     /// Out of memory.
@@ -233,7 +233,7 @@ impl List {
         Some(value)
     }
 
-    /// Puts a value in place of the one at a place, and gives that one back; `None` where there is none.
+    /// Puts a value in place of the one at a place, and gives that one back; `None` if there is none.
     pub fn replace(&mut self, place: usize, value: Value) -> Option<Value> {
         let measure = value.measure();
         let old = mem::replace(self.items.get_mut(place)?, value);
@@ -352,7 +352,7 @@ impl Object {
         Ok(old)
     }
 
-    /// Puts a value in place of the one that the name has, and gives that one back; `None` where it has none.
+    /// Puts a value in place of the one that the name has, and gives that one back; `None` if it has none.
     pub fn replace(&mut self, name: &str, value: Value) -> Option<Value> {
         let measure = value.measure();
         let old = mem::replace(self.entries.get_mut(name)?, value);

@@ -50,24 +50,24 @@ impl Variables {
         self.base.saturating_add(slot as usize)
     }
 
-    /// What a slot holds, a share itself where it is one.
+    /// What a slot holds, a share itself if it is one.
     #[inline(always)]
     #[must_use]
     pub fn slot(&self, slot: u16) -> Option<&Value> {
         self.locals.get(self.place(slot))
     }
 
-    /// The place of what a slot holds, a share itself where it is one.
+    /// The place of what a slot holds, a share itself if it is one.
     #[inline(always)]
     pub fn slot_mut(&mut self, slot: u16) -> Option<&mut Value> {
         let place = self.place(slot);
         self.locals.get_mut(place)
     }
 
-    /// What a slot holds, a share itself where it is one.
+    /// What a slot holds, a share itself if it is one.
     ///
     /// # Errors
-    /// [`Cause::NoVariable`] where the slot holds nothing. No compiled script asks for one that doesn't.
+    /// [`Cause::NoVariable`] if the slot holds nothing. No compiled script asks for one that doesn't.
     pub fn raw(&self, slot: u16) -> Result<&Value, Cause> {
         match self.locals.get(self.place(slot)) {
             Some(value) => Ok(value),
@@ -125,7 +125,7 @@ impl Variables {
         Ok(())
     }
 
-    /// The item at a place of the array in a slot, where it is plain.
+    /// The item at a place of the array in a slot, if it is plain.
     #[inline(always)]
     #[must_use]
     pub fn plain_item(&self, slot: u16, place: usize) -> Option<Value> {
@@ -135,7 +135,7 @@ impl Variables {
         }
     }
 
-    /// Declares a local variable, whose slot is the next one, where that needs no memory.
+    /// Declares a local variable, whose slot is the next one, if that needs no memory.
     #[inline(always)]
     pub fn declare_reserved(&mut self, value: Value) -> bool {
         if self.locals.len() < self.locals.capacity() {
@@ -192,7 +192,7 @@ impl Variables {
     /// Makes the variable of a name one that closures may share.
     ///
     /// # Errors
-    /// [`Cause::NoVariable`], without the name, where there is none; or out of memory: then the variable is lost.
+    /// [`Cause::NoVariable`], without the name, if there is none; or out of memory: then the variable is lost.
     pub fn share_named(&mut self, name: u32) -> Result<(), Cause> {
         let index = self.shared.len();
         match self.named.get_mut(name as usize) {
@@ -207,7 +207,7 @@ impl Variables {
         }
     }
 
-    /// The value of a named variable, a share itself where it is one.
+    /// The value of a named variable, a share itself if it is one.
     #[must_use]
     pub fn raw_named(&self, name: u32) -> Option<&Value> {
         match self.named.get(name as usize) {
@@ -244,7 +244,7 @@ impl Variables {
         }
     }
 
-    /// Gives the variable of a name its value, and declares it where it isn't there.
+    /// Gives the variable of a name its value, and declares it if it isn't there.
     ///
     /// # Errors
     /// Out of memory; the variable is as it was.
@@ -390,7 +390,7 @@ fn slot_in(
     }
 }
 
-/// The cause where a slot holds no variable. No compiled script meets it.
+/// The cause if a slot holds no variable. No compiled script meets it.
 fn no_slot(alloc: Global, slot: u16) -> Cause {
     match format!(in alloc; "slot {slot}") {
         Ok(text) => Cause::NoVariable(text),

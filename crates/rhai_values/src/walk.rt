@@ -78,7 +78,7 @@ impl Walk {
         Ok(Walk { source, count: 0 })
     }
 
-    /// The next item, where it is plain; `None` of another one, and behind the last.
+    /// The next item, if it is plain; `None` of another one, and behind the last.
     #[inline(always)]
     #[must_use]
     pub fn plain_item(&self) -> Option<Value> {
@@ -103,7 +103,7 @@ impl Walk {
     /// The next item, with how many came before it.
     ///
     /// # Errors
-    /// Out of memory, where a copy of the item needs some: it is the next one again.
+    /// Out of memory, if a copy of the item needs some: it is the next one again.
     pub fn next_item(&mut self) -> Result<Option<(Value, i64)>, Cause> {
         let item = match &mut self.source {
             Source::Items(list, place) => {

@@ -10,13 +10,13 @@ use grain_pools::text::{DisassembleError, find_name};
 use std::alloc::Global;
 
 impl Function {
-    /// The text of the function: the type of its receiver and a `!`, where it is declared for one; its name and the names
+    /// The text of the function: the type of its receiver and a `!`, if it is declared for one; its name and the names
     /// of its parameters (docs/FORMAT.md, "Texts"). It takes time by its length.
     ///
     /// # Errors
     ///
     /// [`DisassembleError::Missing`] for the first name that isn't there, in the order of the text;
-    /// [`DisassembleError::OutOfMemory`] where a growth was refused.
+    /// [`DisassembleError::OutOfMemory`] if a growth was refused.
     pub fn disassemble<L: Lookups>(
         &self,
         alloc: Global,

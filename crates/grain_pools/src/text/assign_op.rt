@@ -15,7 +15,7 @@ impl AssignOp {
     /// # Errors
     ///
     /// [`DisassembleError::Missing`] for the first of the two names that isn't there, [`DisassembleError::OutOfMemory`]
-    /// where a growth was refused.
+    /// if a growth was refused.
     pub fn disassemble<L: Lookups>(
         &self,
         alloc: Global,

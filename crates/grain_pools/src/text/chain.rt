@@ -16,7 +16,7 @@ impl Step {
     ///
     /// # Errors
     ///
-    /// [`DisassembleError::Missing`] where its name isn't there, [`DisassembleError::OutOfMemory`] where a growth was
+    /// [`DisassembleError::Missing`] if its name isn't there, [`DisassembleError::OutOfMemory`] if a growth was
     /// refused.
     pub fn disassemble<L: Lookups>(
         &self,
@@ -34,13 +34,13 @@ impl Step {
 }
 
 impl Tail {
-    /// The text of the tail: nothing where the chain reads, `=` or the op-assignment where it assigns (docs/FORMAT.md,
+    /// The text of the tail: nothing if the chain reads, `=` or the op-assignment if it assigns (docs/FORMAT.md,
     /// "Texts"). It takes time by its length.
     ///
     /// # Errors
     ///
-    /// [`DisassembleError::Missing`] where the op-assignment or a name of it isn't there,
-    /// [`DisassembleError::OutOfMemory`] where a growth was refused.
+    /// [`DisassembleError::Missing`] if the op-assignment or a name of it isn't there,
+    /// [`DisassembleError::OutOfMemory`] if a growth was refused.
     pub fn disassemble<L: Lookups>(
         &self,
         alloc: Global,
@@ -63,7 +63,7 @@ impl Chain {
     /// # Errors
     ///
     /// [`DisassembleError::Missing`] for the first name or op-assignment that isn't there, in the order of the text;
-    /// [`DisassembleError::OutOfMemory`] where a growth was refused.
+    /// [`DisassembleError::OutOfMemory`] if a growth was refused.
     pub fn disassemble<L: Lookups>(
         &self,
         alloc: Global,
@@ -79,7 +79,7 @@ impl Chain {
     }
 }
 
-/// What precedes a step that ends early where it is taken on unit.
+/// What precedes a step that ends early if it is taken on unit.
 fn mark(flags: StepFlags) -> &'static str {
     if flags.contains(StepFlags::SKIP_IF_UNIT) {
         "?"
