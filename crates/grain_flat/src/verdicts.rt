@@ -117,7 +117,7 @@ pub fn verdict(
 {
     if let Some(missing) = first_refused(caps, pools.constants) {
         return Err(Rejection::Refused(Refusal {
-            place: None,
+            chunk: None,
             error: VerifyError::MissingCaps {
                 artifact: caps,
                 missing,
