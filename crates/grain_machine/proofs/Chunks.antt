@@ -1,5 +1,5 @@
 -- The chunks of an accepted program.
-use Rattle.std.proofs.Common.{◌≡◌, ℕ, ◌+◌, ◌<◌, List, length, slice_get, Some, option_map, sym, ap, ◌∙◌, add-one, arith}
+use Rattle.std.proofs.Common.{◌≡◌, ℕ, ◌+◌, ◌<◌, List, length, slice_get, Some, option_map, sym, ap, ◌∙◌, subst, add-one, arith}
 use Rattle.std.specs.Prelude.{get_or}
 use Rattle.std.specs.List.{AllZip, Contains}
 use Rattle.std.proofs.lemmas.List.{length-map}
@@ -17,6 +17,11 @@ use Rattle.grain_machine.specs.State.{IsRunnable}
 -- each chunk has a depth
 pub depths_long : (a : Verified) → IsVerified a → length a.depths ≡ length a.program.functions + 1
 depths_long a h = let e = AllZip-long (HasTyping (program_code a.program)) (chunks_of a.program) a.depths h.typed in let m = length-map a.program.functions (λ (f : Function). f.chunk) in omega arith
+
+-- a verified program, of which the parts were taken
+pub parts_verified : (a : Verified) (program : Program) (depths : List ℕ) → IsVerified a → program ≡ a.program → depths ≡ a.depths
+    → IsVerified (record { program = program; depths = depths })
+parts_verified a program depths h ep ed = subst IsVerified (λ i. record { program = sym ep i; depths = sym ed i }) h
 
 -- what relates two lists relates what stands at one place
 related : {A B : Type 0} (R : A → B → Type 0) (xs : List A) (ys : List B) (k : ℕ) (x : A) (y : B) → AllZip R xs ys → slice_get xs k ≡ Some x → slice_get ys k ≡ Some y → R x y

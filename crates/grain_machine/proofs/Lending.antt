@@ -114,7 +114,7 @@ module _ {V I : Type 0} (a b : Activation V I) (callers : List (Activation V I))
   found_some None e = e
   found_some (Some h) e = refl
 
-  stack_fault : {F : Type 0} (p : Program) (outcome : Outcome V F) → Sounds (program_code p) b.machine.address → IsFaultOf (a ∷ callers) outcome
+  pub stack_fault : {F : Type 0} (p : Program) (outcome : Outcome V F) → Sounds (program_code p) b.machine.address → IsFaultOf (a ∷ callers) outcome
       → StackEnds p (record { top = b; callers = callers }) outcome
   stack_fault p (outcomes.Returned v) sounds e = absurd e
   stack_fault p (outcomes.Faulted x) sounds e =
@@ -123,6 +123,7 @@ module _ {V I : Type 0} (a b : Activation V I) (callers : List (Activation V I))
       (sounds, subst (λ (hs : List Handler). IsSome (option_map_or (λ _. Some (b, callers)) (innermost hs) (catcher callers))) same (found_some (innermost a.machine.handlers) e))
   stack_fault p outcomes.OutOfFuel sounds e = absurd e
   stack_fault p outcomes.OutOfMemory sounds e = absurd e
+  stack_fault p outcomes.Unanswered sounds e = absurd e
 
   pub stack_faults : {T F : Type 0} (p : Program) (result : Result T (Outcome V F)) → Sounds (program_code p) b.machine.address → IfErr result (IsFaultOf (a ∷ callers))
       → IfErr result (StackEnds p (record { top = b; callers = callers }))
@@ -138,6 +139,7 @@ fault_beyond {V} {I} a callers (outcomes.Uncatchable x) none e =
     subst (λ (o : Option (Activation V I × List (Activation V I))). IsSome o) (sym (uncaught_first a callers none)) e
 fault_beyond a callers outcomes.OutOfFuel none e = absurd e
 fault_beyond a callers outcomes.OutOfMemory none e = absurd e
+fault_beyond a callers outcomes.Unanswered none e = absurd e
 
 pub faults_beyond : {T V I F : Type 0} (a : Activation V I) (callers : List (Activation V I)) (result : Result T (Outcome V F)) → innermost a.machine.handlers ≡ None
     → IfErr result (IsFaultOf callers) → IfErr result (IsFaultOf (a ∷ callers))

@@ -25,6 +25,7 @@ same_fault m n (outcomes.Faulted x) k f = ap innermost (sym k) ∙ f
 same_fault m n (outcomes.Uncatchable x) k f = subst (λ (xs : List Handler). IsSome (innermost xs)) k f
 same_fault m n outcomes.OutOfFuel k f = f
 same_fault m n outcomes.OutOfMemory k f = f
+same_fault m n outcomes.Unanswered k f = f
 
 may_end : {V I F : Type 0} (r : Runs) (s : FrameState V I) (h : Outcome V F) → Sounds (program_code r.program) s.machine.address → IsFault s.machine h
     → MayEnd (program_code r.program) s.machine h
@@ -33,6 +34,7 @@ may_end r s (outcomes.Faulted x) e f = (e, f)
 may_end r s (outcomes.Uncatchable x) e f = (e, f)
 may_end r s outcomes.OutOfFuel e f = absurd f
 may_end r s outcomes.OutOfMemory e f = absurd f
+may_end r s outcomes.Unanswered e f = absurd f
 
 -- a fault may end the run where what stands isn't quiet; it finds the handlers that stood there
 pub raised : {T V I F : Type 0} (r : Runs) (s x : FrameState V I) (op : Op) (behind : ℕ) (result : Result T (Outcome V F)) → IsAt r (state_of s) op behind → is_quiet op ≡ false

@@ -10,7 +10,7 @@ use Rattle.grain_rules.specs.Machine.{IsKeptRun, IsOnKeptRun, Machine, innermost
 use Rattle.grain_rules.specs.Rows.{flow_of}
 use Rattle.grain.specs.Program.{Program}
 use Rattle.grain_machine.specs.Asked.{program_code}
-use Rattle.grain_machine.specs.Calls.{Activation, CallStack, IsRunOfCalls, Sounds, catcher, outermost_of}
+use Rattle.grain_machine.specs.Calls.{Activation, CallStack, IsRunOfCalls, MayCall, Sounds, catcher, outermost_of}
 use Rattle.grain_machine.specs.State.{Runs}
 use Rattle.grain_machine.specs.Values.{ValueMachine, counted, top}
 use Rattle.grain_machine.specs.declared.run.RunLimits.{RunLimits}
@@ -36,6 +36,7 @@ MayEnd code m (outcomes.Faulted fault) = Sounds code m.address × (innermost m.h
 MayEnd code m (outcomes.Uncatchable fault) = Sounds code m.address × IsSome (innermost m.handlers)
 MayEnd code m outcomes.OutOfFuel = ⊥
 MayEnd code m outcomes.OutOfMemory = WantsRoom code m.address
+MayEnd code m outcomes.Unanswered = ⊥
 
 -- it is a fault, which finds these handlers
 abbrev pub IsFault : {V I F : Type 0} → ValueMachine V I → Outcome V F → Type 0
@@ -44,6 +45,7 @@ IsFault m (outcomes.Faulted fault) = innermost m.handlers ≡ None
 IsFault m (outcomes.Uncatchable fault) = IsSome (innermost m.handlers)
 IsFault m outcomes.OutOfFuel = ⊥
 IsFault m outcomes.OutOfMemory = ⊥
+IsFault m outcomes.Unanswered = ⊥
 
 -- it is a fault, which finds these frames
 abbrev pub IsFaultOf : {V I F : Type 0} → List (Activation V I) → Outcome V F → Type 0
@@ -52,6 +54,7 @@ IsFaultOf frames (outcomes.Faulted fault) = catcher frames ≡ None
 IsFaultOf frames (outcomes.Uncatchable fault) = IsSome (catcher frames)
 IsFaultOf frames outcomes.OutOfFuel = ⊥
 IsFaultOf frames outcomes.OutOfMemory = ⊥
+IsFaultOf frames outcomes.Unanswered = ⊥
 
 -- A turn may end a run so: `Return` alone returns, where no frame waits; no quiet operation faults, and all handlers of all
 -- frames have caught where a fault finds none; and memory is wanted for iterators and handlers alone.
@@ -61,14 +64,17 @@ StackEnds p s (outcomes.Faulted fault) = Sounds (program_code p) s.top.machine.a
 StackEnds p s (outcomes.Uncatchable fault) = Sounds (program_code p) s.top.machine.address × IsSome (catcher (s.top ∷ s.callers))
 StackEnds p s outcomes.OutOfFuel = ⊥
 StackEnds p s outcomes.OutOfMemory = WantsRoom (program_code p) s.top.machine.address
+StackEnds p s outcomes.Unanswered = ⊥
 
--- A run within this fuel ends so after this number of turns: at an operation that ends it, or with its fuel spent.
+-- A run within this fuel ends so after this number of turns: at an operation that ends it, or at one that gives a value, for which
+-- the host would have it wait, or with its fuel spent.
 abbrev pub EndsAfter : {V I F : Type 0} → Program → ℕ → ℕ → CallStack V I → Outcome V F → Type 0
 EndsAfter p fuel turns s (outcomes.Returned value) = (turns < fuel) × Returns (program_code p) s.top.machine value × (s.callers ≡ [])
 EndsAfter p fuel turns s (outcomes.Faulted fault) = (turns < fuel) × Sounds (program_code p) s.top.machine.address × (catcher (s.top ∷ s.callers) ≡ None)
 EndsAfter p fuel turns s (outcomes.Uncatchable fault) = (turns < fuel) × Sounds (program_code p) s.top.machine.address × IsSome (catcher (s.top ∷ s.callers))
 EndsAfter p fuel turns s outcomes.OutOfFuel = turns ≡ fuel
 EndsAfter p fuel turns s outcomes.OutOfMemory = (turns < fuel) × WantsRoom (program_code p) s.top.machine.address
+EndsAfter p fuel turns s outcomes.Unanswered = (turns < fuel) × (taken : ℕ) × (behind : ℕ) × MayCall p s.top taken behind
 
 -- The outermost frame of a run is at this address on a kept run of its chunk, which has made no more moves than this.
 pub record IsOutermost {V I : Type 0} (r : Runs) (a : Activation V I) (turns at : ℕ) : Type 0 where

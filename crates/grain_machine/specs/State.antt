@@ -2,7 +2,7 @@
 use Rattle.std.specs.Prelude.{◌≡◌, ℕ, List, [], ◌∷◌, ◌++◌, Some, length, map, reverse, slice_get}
 use Rattle.grain_code.specs.Span.{Span}
 use Rattle.grain_code.specs.declared.op.Op.{Op}
-use Rattle.grain_rules.specs.Accepted.{AreSafe, AreTyped, IsAccepted, IsSafe}
+use Rattle.grain_rules.specs.Accepted.{IsAccepted, IsSafe}
 use Rattle.grain_rules.specs.Rows.{needs}
 use Rattle.grain_rules.specs.Layout.{next as place_behind}
 use Rattle.grain.specs.Lookups.{FindsIndices}

@@ -31,6 +31,17 @@ pub(crate) struct Armed {
     name: Option<u32>,
 }
 
+/// Where the value of an operation comes from.
+#[derive(Clone, Copy)]
+pub(crate) enum Given {
+    /// It has replaced the operands.
+    Value,
+    /// The function of the program at this index returns it.
+    Call(usize),
+    /// The host gives it later.
+    Wait,
+}
+
 /// Where a run stands.
 ///
 /// Contracts see a `FrameState`: the machine with its operands and iterators, and the room.
@@ -299,14 +310,14 @@ impl<V: Drop, I: Drop> Frame<V, I> {
         self.operands[base..].rotate_right(1);
     }
 
-    /// Has the host do an operation that takes the topmost operands and gives a value, or names the function that does.
+    /// Has the host do an operation that takes the topmost operands and gives a value, and says where that comes from.
     #[inline(always)]
     pub(crate) fn give<H: Host<Value = V>>(
         &mut self,
         host: &mut H,
         request: &Request<'_>,
         takes: usize,
-    ) -> Result<Option<usize>, H::Fault>
+    ) -> Result<Given, H::Fault>
         requires there { takes ≤ length self.old.machine.operands }
         requires room { length self.old.machine.operands - takes < self.old.room }
         requires asked { IsAsked request.now.program.now request.now.chunk request.now.at
@@ -320,9 +331,10 @@ impl<V: Drop, I: Drop> Frame<V, I> {
         match host.give(request, &mut self.operands[base..])? {
             Reply::Value(value) => {
                 self.replace(takes, value);
-                Ok(None)
+                Ok(Given::Value)
             }
-            Reply::Call { function } => Ok(Some(function)),
+            Reply::Call { function } => Ok(Given::Call(function)),
+            Reply::Wait => Ok(Given::Wait),
         }
     }
 

@@ -35,6 +35,9 @@ pub enum Reply<V> {
     /// The machine is to run the function of the program at this index, and what that returns is the value. The host has
     /// taken the arguments out of the operands that it was lent.
     Call { function: usize },
+    /// The value comes later. The run pauses at the operation, and [`answer`](crate::Runnable::answer) or
+    /// [`fail`](crate::Runnable::fail) continues it. The host may have taken the arguments out of the operands.
+    Wait,
 }
 
 /// Why a function that the host asks for isn't run.
@@ -71,8 +74,8 @@ pub trait Host {
     /// Keeps this number of local variables of the frame, and drops the later ones.
     fn unwind_to(&mut self, depth: u16);
 
-    /// Does an operation that takes its operands and gives a value, or names the function of the program that does. The
-    /// machine drops what is left of the operands.
+    /// Does an operation that takes its operands and gives a value, or names the function of the program that does, or has the
+    /// run wait for the value. The machine drops what is left of the operands.
     ///
     /// # Errors
     /// Why it fails.

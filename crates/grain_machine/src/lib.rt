@@ -15,7 +15,8 @@ mod quick;
 mod run;
 mod step;
 
+pub use frames::Parked;
 pub use host::{CallError, Host, Reply, Request, dispatch};
 pub use prepared::{Prepared, Runnable, prepare};
-pub use run::{Ending, RunLimits};
+pub use run::{Ending, Progress, RunLimits, Waiting};
 pub use step::Outcome;

@@ -2,9 +2,8 @@
 ghost use Rattle.std.specs.Prelude.{◌≡◌, ◌+◌, ◌<◌, IfOk, Some, length};
 ghost use Rattle.std.specs.Prelude.{slice_get};
 ghost use Rattle.grain.specs.Program.{chunks_of};
-ghost use Rattle.grain.specs.Verified.{IsVerified};
 ghost use Rattle.grain_machine.specs.Calls.{begins};
-ghost use Rattle.grain_machine.specs.State.{IsUnderWay, state_of};
+ghost use Rattle.grain_machine.specs.State.{IsRunnable, IsUnderWay, state_of};
 
 use crate::decoded::{Decoded, decode_each};
 use crate::frame::Frame;
@@ -13,33 +12,29 @@ use grain_code::Chunk;
 use std::alloc::{AllocError, Global};
 use std::marker::Model;
 
-/// A verified program with its code decoded.
+/// A verified program with its code decoded. It owns both, and borrows nothing.
 #[derive(Drop)]
-pub struct Prepared<'a> {
-    program: &'a Program,
-    /// The depth of each chunk.
-    depths: &'a [u16],
+pub struct Prepared {
+    verified: Verified,
     /// What stands at each address of the code.
     decoded: Vec<Decoded>,
 }
 
-impl<'a> Model for Prepared<'a> {
+impl Model for Prepared {
     ghost use Rattle.std.specs.Coded.{codes};
     ghost use Rattle.std.specs.Prelude.{length};
     ghost use Rattle.grain_base.specs.contracts.value.Dynamic as value;
     ghost use Rattle.grain_pools.specs.contracts.switch.Switch as switch;
-    ghost use Rattle.grain.specs.Verified.{IsVerified, Verified};
+    ghost use Rattle.grain.specs.Verified.{Verified};
     ghost use Rattle.grain_machine.specs.Decoded.{AreDecoded};
 
     ghost Value = { Verified };
 
     ghost coded = { Prim.hlevel (codes, value.the_row.coded, switch.the_row.coded) };
 
-    ghost view = { λ a. record { program = a.program.now; depths = a.depths.now } };
+    ghost view = { λ a. a.verified };
 
-    ghost invariant = { λ a. IsVerified
-        (record { program = a.program.now; depths = a.depths.now })
-        × AreDecoded a.program.now (length a.program.now.code) a.decoded.items };
+    ghost invariant = { λ a. AreDecoded a.verified.program (length a.verified.program.code) a.decoded.items };
 }
 
 /// A chunk of a verified program, which can be run in place.
@@ -79,32 +74,36 @@ impl<'a> Model for Runnable<'a> {
 /// The program with its code decoded, which takes 40 bytes for each byte of the code.
 ///
 /// # Errors
-/// [`AllocError`] if the allocator refuses the decoded code.
-pub fn prepare(alloc: Global, verified: &Verified) -> Result<Prepared<'_>, AllocError>
-    ensures { IfOk result (λ prepared. prepared ≡ verified.now) }
+/// [`AllocError`] if the allocator refuses the decoded code. The program is dropped.
+pub fn prepare(alloc: Global, verified: Verified) -> Result<Prepared, AllocError>
+    ensures { IfOk result (λ prepared. prepared ≡ verified) }
 {
-    let (program, depths) = (verified.program(), verified.depths());
-    let decoded = decode_each(alloc, program)?;
-    Ok(Prepared {
-        program,
-        depths,
-        decoded,
-    })
+    let decoded = decode_each(alloc, verified.program())?;
+    Ok(Prepared { verified, decoded })
 }
 
-impl<'a> Prepared<'a> {
+impl Prepared {
+    /// The program, with the depth of each chunk.
+    pub fn verified(&self) -> &Verified
+        ensures { result.now ≡ self.now }
+    {
+        &self.verified
+    }
+
     /// The chunk of the top level.
     pub fn main(&self) -> Runnable<'_>
         ensures program { result.program ≡ self.now.program }
         ensures chunk { result.chunk ≡ self.now.program.main }
         ensures room { slice_get self.now.depths 0 ≡ Some result.room }
     {
+        let program = self.verified.program();
+        let depths = self.verified.depths();
         Runnable {
-            program: self.program,
-            depths: self.depths,
+            program,
+            depths,
             decoded: self.decoded.as_slice(),
-            chunk: self.program.main(),
-            room: self.depths[0],
+            chunk: program.main(),
+            room: depths[0],
         }
     }
 
@@ -115,12 +114,14 @@ impl<'a> Prepared<'a> {
         ensures chunk { slice_get (chunks_of self.now.program) (index + 1) ≡ Some result.chunk }
         ensures room { slice_get self.now.depths (index + 1) ≡ Some result.room }
     {
+        let program = self.verified.program();
+        let depths = self.verified.depths();
         Runnable {
-            program: self.program,
-            depths: self.depths,
+            program,
+            depths,
             decoded: self.decoded.as_slice(),
-            chunk: self.program.functions()[index].chunk,
-            room: self.depths[index + 1],
+            chunk: program.functions()[index].chunk,
+            room: depths[index + 1],
         }
     }
 }
@@ -136,6 +137,43 @@ impl<'a> Runnable<'a> {
             decoded: self.decoded,
             chunk: self.chunk,
             room: self.room,
+        }
+    }
+
+    /// This chunk.
+    pub(crate) fn chunk(&self) -> Chunk
+        ensures chunk { result ≡ self.now.chunk }
+        ensures runs { IsRunnable self.now }
+    {
+        self.chunk
+    }
+
+    /// The depth of this chunk.
+    pub(crate) fn room(&self) -> u16
+        ensures { result ≡ self.now.room }
+    {
+        self.room
+    }
+
+    /// Another chunk of the same program, with its depth.
+    pub(crate) fn other(&self, chunk: Chunk, room: u16) -> Runnable<'a>
+        requires { IsRunnable (record {
+          program = self.now.program;
+          chunk = chunk;
+          room = room;
+        }) }
+        ensures { result ≡ record {
+          program = self.now.program;
+          chunk = chunk;
+          room = room;
+        } }
+    {
+        Runnable {
+            program: self.program,
+            depths: self.depths,
+            decoded: self.decoded,
+            chunk,
+            room,
         }
     }
 

@@ -1,8 +1,13 @@
-//! Runs, with the functions that they call.
-ghost use Rattle.std.specs.Prelude.{◌≡◌, IfOk, OnErr};
+//! Runs, with the functions that they call: in one go, or in slices that pause.
+ghost use Rattle.std.specs.Prelude.{◌≡◌, ◌+◌, ℕ, IfErr, IfOk, OnErr};
+ghost use Rattle.grain_code.specs.Span.{Span};
+ghost use Rattle.grain_machine.specs.Calls.{outermost_of};
 ghost use Rattle.grain_machine.specs.Ends.{IsEnded};
+ghost use Rattle.grain_machine.specs.Resting.{IsParked, parked_stack};
+ghost use Rattle.grain_machine.specs.Resuming.{AwaitsValue, HasEnded, HasReached, IsAwaiting};
+ghost use Rattle.grain_machine.specs.Resuming.{IsResumable, Progresses};
 
-use crate::frames::Frames;
+use crate::frames::{Frames, Going, Parked};
 use crate::host::Host;
 use crate::prepared::Runnable;
 use crate::step::Outcome;
@@ -28,6 +33,27 @@ pub struct Ending<V, F> {
     pub outcome: Outcome<V, F>,
 }
 
+/// A run that waits for a value from the host. It borrows nothing, as [`Parked`].
+#[derive(Drop)]
+pub struct Waiting<V, I> {
+    frames: Parked<V, I>,
+    /// How many operands the value replaces.
+    takes: usize,
+    /// The address after the operation.
+    next: usize,
+}
+
+/// What a slice of a run came to.
+#[derive(Drop)]
+pub enum Progress<V, I, F> {
+    /// The fuel of the slice is used up.
+    Paused(Parked<V, I>),
+    /// After this number of turns the host had it wait for the value of an operation.
+    Waits { run: Waiting<V, I>, turns: u64 },
+    /// It ended after this number of turns.
+    Ended { ending: Ending<V, F>, turns: u64 },
+}
+
 impl<'a> Runnable<'a> {
     /// Runs the chunk from its entry, with the functions that it calls, within the limits.
     ///
@@ -48,25 +74,165 @@ impl<'a> Runnable<'a> {
         // Without room for its operands no run begins.
         ensures unasked { OnErr result (host.new ≡ host.old) }
     {
-        let mut frames = Frames::new(alloc, self)?;
+        let begun = self.start(alloc)?;
         host.began();
-        'turns: for _turn in 0..limits.fuel {
+        match self.resume(alloc, begun, host, limits) {
+            Progress::Ended {
+                ending,
+                turns: _turns,
+            } => Ok(ending),
+            Progress::Paused(rest) => {
+                let at = self.stop(host, rest);
+                Ok(Ending {
+                    at,
+                    outcome: Outcome::OutOfFuel,
+                })
+            }
+            Progress::Waits {
+                run: waiting,
+                turns: _turns,
+            } => {
+                let at = self.stop(host, waiting.frames);
+                Ok(Ending {
+                    at,
+                    outcome: Outcome::Unanswered,
+                })
+            }
+        }
+    }
+
+    /// Begins a run of the chunk, before its first turn.
+    ///
+    /// The host isn't called. The caller must call [`Host::began`] before, unless another run of that host waits meanwhile.
+    ///
+    /// # Errors
+    /// There is no room for the operands.
+    pub fn start<V: Drop, I: Drop>(&self, alloc: Global) -> Result<Parked<V, I>, AllocError>
+        ensures parked { IfOk result (IsParked self.now.program) }
+        ensures reached { IfOk result (λ run. (depth : ℕ)
+            → HasReached self.now.program depth self.now.chunk 0 (parked_stack run)) }
+    {
+        let frames = Frames::new(alloc, self)?;
+        Ok(frames.park())
+    }
+
+    /// Continues a run of the same program until it ends, or the host has it wait, or the fuel of this slice is used up.
+    ///
+    /// The limit on the depth must be the same for all slices of a run.
+    pub fn resume<H: Host>(
+        &self,
+        alloc: Global,
+        run: Parked<H::Value, H::Iterator>,
+        host: &mut H,
+        limits: RunLimits,
+    ) -> Progress<H::Value, H::Iterator, H::Fault>
+        requires { IsParked self.now.program run }
+
+        // What is left of the run can be continued.
+        ensures resumable { IsResumable self.now.program result }
+
+        // If a run of any chunk has reached these frames, it has now made so many turns more.
+        ensures goes { (chunk : Span) (turns : ℕ)
+            → HasReached self.now.program limits.depth chunk turns (parked_stack run)
+            → Progresses self.now.program limits chunk turns result }
+    {
+        let mut frames = Frames::revived(self, run);
+        'turns: for made in 0..limits.fuel {
             if frames.quick_turn(host) {
                 continue;
             }
             let at = frames.at();
             match frames.turn(alloc, host, limits.depth) {
-                Ok(()) => {}
+                Ok(Going::On) => {}
+                Ok(Going::Waits { takes, next }) => {
+                    let frames = frames.park();
+                    let waiting = Waiting {
+                        frames,
+                        takes,
+                        next,
+                    };
+                    return Progress::Waits {
+                        run: waiting,
+                        turns: made,
+                    };
+                }
                 Err(outcome) => {
                     frames.leave(host);
-                    return Ok(Ending { at, outcome });
+                    return Progress::Ended {
+                        ending: Ending { at, outcome },
+                        turns: made,
+                    };
                 }
             }
         }
+        Progress::Paused(frames.park())
+    }
+
+    /// Answers a run of the same program: the value replaces the operands of the operation at which it waits. That is a turn.
+    pub fn answer<H: Host>(
+        &self,
+        host: &H,
+        run: Waiting<H::Value, H::Iterator>,
+        value: H::Value,
+    ) -> Parked<H::Value, H::Iterator>
+        requires { IsAwaiting self.now.program run }
+        ensures parked { IsParked self.now.program result }
+        ensures goes { (depth : ℕ) (chunk : Span) (turns : ℕ)
+            → AwaitsValue self.now.program depth chunk turns run
+            → HasReached self.now.program depth chunk (turns + 1) (parked_stack result) }
+    {
+        let Waiting {
+            frames,
+            takes,
+            next,
+        } = run;
+        let mut frames = Frames::revived(self, frames);
+        frames.go_on(host, takes, next, value);
+        frames.park()
+    }
+
+    /// Has the operation fail at which a run of the same program waits. A handler catches the fault, which is a turn.
+    ///
+    /// # Errors
+    /// No handler does, and the run has ended.
+    pub fn fail<H: Host>(
+        &self,
+        host: &mut H,
+        run: Waiting<H::Value, H::Iterator>,
+        fault: H::Fault,
+    ) -> Result<Parked<H::Value, H::Iterator>, Ending<H::Value, H::Fault>>
+        requires { IsAwaiting self.now.program run }
+        ensures parked { IfOk result (IsParked self.now.program) }
+        ensures goes { IfOk result (λ caught. (depth : ℕ) (chunk : Span) (turns : ℕ)
+            → AwaitsValue self.now.program depth chunk turns run
+            → HasReached self.now.program depth chunk (turns + 1) (parked_stack caught)) }
+        ensures ends { IfErr result (λ ending. (depth : ℕ) (chunk : Span) (turns : ℕ)
+            → AwaitsValue self.now.program depth chunk turns run
+            → HasEnded H.Iterator self.now.program depth chunk turns ending.at ending.outcome) }
+    {
+        let Waiting {
+            frames,
+            takes: _takes,
+            next,
+        } = run;
+        let mut frames = Frames::revived(self, frames);
+        let at = frames.at();
+        match frames.raise(host, fault, next) {
+            Ok(()) => Ok(frames.park()),
+            Err(outcome) => {
+                frames.leave(host);
+                Err(Ending { at, outcome })
+            }
+        }
+    }
+
+    /// Ends a parked run of the same program, and returns where its outermost frame was.
+    fn stop<H: Host>(&self, host: &mut H, run: Parked<H::Value, H::Iterator>) -> usize
+        requires { IsParked self.now.program run }
+        ensures { result ≡ (outermost_of (parked_stack run)).machine.address }
+    {
+        let frames = Frames::revived(self, run);
         frames.leave(host);
-        Ok(Ending {
-            at: frames.at(),
-            outcome: Outcome::OutOfFuel,
-        })
+        frames.at()
     }
 }

@@ -10,7 +10,7 @@ ghost use Rattle.grain_machine.specs.State.{MakesMove, IsAt, IsUnderWay, state_o
 ghost use Rattle.grain_machine.specs.Values.{Lands};
 
 use crate::decoded::Decoded;
-use crate::frame::Frame;
+use crate::frame::{Frame, Given};
 use crate::host::{Host, Request};
 use crate::prepared::Runnable;
 use grain_code::{Op, Receiver};
@@ -28,6 +28,9 @@ pub enum Outcome<V, F> {
     OutOfFuel,
     /// An iterator or a handler more wants memory that isn't there.
     OutOfMemory,
+    /// It reached an operation for whose value the host has the run wait. [`run`](Runnable::run) can't; a run by
+    /// [`resume`](Runnable::resume) never ends so.
+    Unanswered,
 }
 
 /// What a frame does next.
@@ -38,6 +41,11 @@ pub(crate) enum Turn {
     /// It waits for the function at an index: what that returns takes the place of the operands that are taken, and it goes on at `next`.
     Calls {
         function: usize,
+        takes: usize,
+        next: usize,
+    },
+    /// It waits for a value from the host, which replaces this number of operands. Then it goes on at `next`.
+    Waits {
         takes: usize,
         next: usize,
     },
@@ -235,15 +243,16 @@ impl<'a> Runnable<'a> {
     {
         let request = self.request(frame, op);
         match frame.give(host, &request, takes) {
-            Ok(None) => {
+            Ok(Given::Value) => {
                 frame.go(next);
                 Ok(Turn::Moved)
             }
-            Ok(Some(function)) => Ok(Turn::Calls {
+            Ok(Given::Call(function)) => Ok(Turn::Calls {
                 function,
                 takes,
                 next,
             }),
+            Ok(Given::Wait) => Ok(Turn::Waits { takes, next }),
             Err(fault) => match raise(frame, host, fault) {
                 Ok(()) => Ok(Turn::Moved),
                 Err(outcome) => Err(outcome),

@@ -39,7 +39,7 @@ const HALVING_3: &[Op] = halving!(3);
 const HALVING_4: &[Op] = halving!(4);
 
 /// How a run of the program ends, and how many functions are under way then, as the host was told.
-fn told(alloc: Global, verified: &Verified, fuel: u64) -> Result<(Seen, usize), Fail> {
+fn told(alloc: Global, verified: Verified, fuel: u64) -> Result<(Seen, usize), Fail> {
     let prepared = prepare(alloc, verified)?;
     let mut script = idle_script(alloc);
     let main = prepared.main();
@@ -49,7 +49,7 @@ fn told(alloc: Global, verified: &Verified, fuel: u64) -> Result<(Seen, usize), 
 
 /// The same of a top level, which ends at an operation, and a function.
 fn called(alloc: Global, ops: &[Op], end: usize, fuel: u64) -> Result<(Seen, usize), Fail> {
-    told(alloc, &with_function(alloc, ops, end)?, fuel)
+    told(alloc, with_function(alloc, ops, end)?, fuel)
 }
 
 #[test]
@@ -101,7 +101,7 @@ fn a_fault_leaves_functions_until_it_is_caught(rt: HostRuntime) {
 const TWO: &[Op] = &[Op::Const(1), Op::Return, Op::Const(8), Op::Return];
 
 /// How a run of the program's only function ends, and where.
-fn function_ended(alloc: Global, verified: &Verified) -> Result<(Seen, usize), Fail> {
+fn function_ended(alloc: Global, verified: Verified) -> Result<(Seen, usize), Fail> {
     if verified.program().functions().len() != 1 {
         return Err(Fail::new("not one function"));
     }
@@ -112,7 +112,7 @@ fn function_ended(alloc: Global, verified: &Verified) -> Result<(Seen, usize), F
 
 /// The same of the function that begins at the third of these operations.
 fn second_ended(alloc: Global, ops: &[Op]) -> Result<(Seen, usize), Fail> {
-    function_ended(alloc, &with_function(alloc, ops, 2)?)
+    function_ended(alloc, with_function(alloc, ops, 2)?)
 }
 
 #[test]
@@ -160,7 +160,7 @@ fn switch(alloc: Global) -> Result<Switch, AllocError> {
 /// How a run of the operations with the switch ends.
 fn switched(alloc: Global, ops: &[Op]) -> Result<(Seen, usize), Fail> {
     let parts = with_switch(alloc, switch(alloc)?)?;
-    told(alloc, &program_of(alloc, ops, parts)?, 10)
+    told(alloc, program_of(alloc, ops, parts)?, 10)
 }
 
 const SWITCHES: [(&[Op], i64); 3] = [(switching!(7), 1), (switching!(4), 5), (switching!(5), 3)];

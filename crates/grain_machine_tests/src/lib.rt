@@ -10,3 +10,5 @@ mod runs;
 mod samples;
 #[cfg(test)]
 mod scripts;
+#[cfg(test)]
+mod slices;

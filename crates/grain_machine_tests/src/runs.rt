@@ -17,6 +17,8 @@ pub(crate) struct Script {
     /// Where the locals of each function begin that is under way.
     bases: Vec<usize>,
     caught: Vec<i64>,
+    /// What it was asked last that is answered later.
+    pub(crate) asked: i64,
     /// Whether it does at once what it can.
     is_quick: bool,
 }
@@ -150,6 +152,10 @@ impl Host for Script {
         request: &Request<'_>,
         operands: &mut [Dynamic],
     ) -> Result<Reply<Dynamic>, Fault> {
+        if let Op::Call { name: ASK, .. } = request.op {
+            self.asked = number(operands.get(0));
+            return Ok(Reply::Wait);
+        }
         // The names from `4` on are those of functions.
         if let Op::Call { name, .. } = request.op
             && *name >= 4
@@ -322,6 +328,11 @@ pub(crate) const DIVIDE: Op = call!(2, 2);
 
 const STOP: Op = call!(3, 2);
 
+/// The name of what is answered later.
+const ASK: u32 = 6;
+
+pub(crate) const ASKING: Op = call!(ASK, 1);
+
 /// Calls the first function.
 pub(crate) const INVOKE: Op = call!(4, 1);
 
@@ -342,7 +353,7 @@ fn parts(alloc: Global) -> Result<Parts, Fail> {
         debug_id: 0,
         residuals: 0,
         consts: Vec::new(alloc),
-        names: Strings::new(alloc, &["+", "<", "/", "stop", "f", "g"])?,
+        names: Strings::new(alloc, &["+", "<", "/", "stop", "f", "g", "ask"])?,
         tokens: Vec::new(alloc),
         assign_ops: Vec::new(alloc),
         chains: Vec::new(alloc),
@@ -430,9 +441,10 @@ pub(crate) enum Seen {
     TooDeep,
     OutOfFuel,
     OutOfMemory,
+    Unanswered,
 }
 
-fn told(outcome: &Outcome<Dynamic, Fault>) -> Seen {
+pub(crate) fn told(outcome: &Outcome<Dynamic, Fault>) -> Seen {
     match outcome {
         Outcome::Returned(Some(Dynamic::Int(x))) => Seen::Returned(*x),
         Outcome::Returned(_) => Seen::Wrong,
@@ -443,6 +455,7 @@ fn told(outcome: &Outcome<Dynamic, Fault>) -> Seen {
         Outcome::Uncatchable(_) => Seen::Stopped,
         Outcome::OutOfFuel => Seen::OutOfFuel,
         Outcome::OutOfMemory => Seen::OutOfMemory,
+        Outcome::Unanswered => Seen::Unanswered,
     }
 }
 
@@ -453,6 +466,7 @@ pub(crate) fn idle_script(alloc: Global) -> Script {
         locals: Vec::new(alloc),
         bases: Vec::new(alloc),
         caught: Vec::new(alloc),
+        asked: 0,
         is_quick: false,
     }
 }
@@ -486,7 +500,7 @@ fn ended_by(
 /// How a run of the program ends, where, and whether this was caught in it, by both hosts.
 fn ends(
     alloc: Global,
-    verified: &Verified,
+    verified: Verified,
     fuel: u64,
     caught: &[i64],
 ) -> Result<(Seen, usize, bool), Fail> {
@@ -499,7 +513,7 @@ fn ends(
 
 /// How a run of the operations ends, where, and whether this was caught in it.
 fn ran(alloc: Global, ops: &[Op], fuel: u64, caught: &[i64]) -> Result<(Seen, usize, bool), Fail> {
-    ends(alloc, &program(alloc, ops)?, fuel, caught)
+    ends(alloc, program(alloc, ops)?, fuel, caught)
 }
 
 /// sum = 0; for x in [1, 2, 3] { sum = sum + x }; sum

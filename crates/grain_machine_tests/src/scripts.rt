@@ -27,7 +27,7 @@ const THROWING: &[Op] = &[
 /// How many calls the fault of a run ended.
 fn calls_of_run(
     alloc: Global,
-    prepared: &Prepared<'_>,
+    prepared: &Prepared,
     script: &mut Script<Recorder>,
 ) -> Result<usize, AllocError> {
     let limits = RunLimits {
@@ -41,7 +41,7 @@ fn calls_of_run(
 /// The same of two runs, one after the other.
 fn calls_of_both(
     alloc: Global,
-    prepared: &Prepared<'_>,
+    prepared: &Prepared,
     script: &mut Script<Recorder>,
 ) -> Result<[usize; 2], AllocError> {
     let first = calls_of_run(alloc, prepared, script)?;
@@ -50,10 +50,15 @@ fn calls_of_both(
 }
 
 /// The same of a script of the program.
-fn calls_of(alloc: Global, verified: &Verified) -> Result<[usize; 2], Fail> {
+fn calls_of(alloc: Global, verified: Verified) -> Result<[usize; 2], Fail> {
     let prepared = prepare(alloc, verified)?;
     let limits = Script::<Recorder>::DEFAULT_LIMITS;
-    match Script::new(alloc, verified.program(), Recorder::new(alloc), limits) {
+    match Script::new(
+        alloc,
+        prepared.verified().program(),
+        Recorder::new(alloc),
+        limits,
+    ) {
         Ok(mut script) => Ok(calls_of_both(alloc, &prepared, &mut script)?),
         Err(_) => Err(Fail::new("there is no script")),
     }
@@ -62,7 +67,7 @@ fn calls_of(alloc: Global, verified: &Verified) -> Result<[usize; 2], Fail> {
 #[test]
 fn each_run_has_a_backtrace_of_its_own(rt: HostRuntime) {
     let program = made(&rt, with_function(rt.alloc(), THROWING, 6));
-    assert_same(&rt, made(&rt, calls_of(rt.alloc(), &program)), [1, 1]);
+    assert_same(&rt, made(&rt, calls_of(rt.alloc(), program)), [1, 1]);
 }
 
 /// let x = 1; x = x + 1; f(x); x, where f(x) is x
@@ -118,7 +123,7 @@ const WITHOUT_FUEL: RunLimits = RunLimits { fuel: 9, depth: 5 };
 /// What a run returns as text, or nothing.
 fn returned(
     alloc: Global,
-    prepared: &Prepared<'_>,
+    prepared: &Prepared,
     script: &mut Script<Recorder>,
     limits: RunLimits,
 ) -> Result<String, AllocError> {
@@ -132,7 +137,7 @@ fn returned(
 /// What several runs of one script return, one after the other.
 fn returned_by_all(
     alloc: Global,
-    prepared: &Prepared<'_>,
+    prepared: &Prepared,
     script: &mut Script<Recorder>,
 ) -> Result<String, AllocError> {
     let mut text = String::new(alloc);
@@ -154,9 +159,14 @@ fn returned_by_all(
 /// The same of a script of these operations, of which those from one on are a function.
 fn runs_of(alloc: Global, ops: &[Op], end: usize) -> Result<String, Fail> {
     let verified = with_function(alloc, ops, end)?;
-    let prepared = prepare(alloc, &verified)?;
+    let prepared = prepare(alloc, verified)?;
     let limits = Script::<Recorder>::DEFAULT_LIMITS;
-    match Script::new(alloc, verified.program(), Recorder::new(alloc), limits) {
+    match Script::new(
+        alloc,
+        prepared.verified().program(),
+        Recorder::new(alloc),
+        limits,
+    ) {
         Ok(mut script) => Ok(returned_by_all(alloc, &prepared, &mut script)?),
         Err(_) => Err(Fail::new("there is no script")),
     }

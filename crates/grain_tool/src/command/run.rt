@@ -10,7 +10,7 @@ use grain_cli::files::shown;
 use grain_cli::loading::{WORK, allowed_of};
 use grain_cli::places::{chunk_at, write_place};
 use grain_listing::{name_of, push_shown};
-use grain_machine::{Ending, Outcome, RunLimits, prepare};
+use grain_machine::{Ending, Outcome, Prepared, RunLimits, prepare};
 use rhai_runtime::{Fault, Script, World};
 use rhai_values::{Cause, SizeLimits, Value};
 use std::alloc::{AllocError, Global};
@@ -95,11 +95,10 @@ fn unready(alloc: Global, path: &str, cause: &Cause) -> Failure {
 /// Runs the program in a world, and gives what it ended with.
 fn ending<W: World + Drop>(
     alloc: Global,
-    verified: &Verified,
+    prepared: &Prepared,
     script: &mut Script<W>,
     limits: RunLimits,
 ) -> Result<Ending<Value, Fault>, AllocError> {
-    let prepared = prepare(alloc, verified)?;
     prepared.main().run(alloc, script, limits)
 }
 
@@ -156,6 +155,8 @@ fn result(
         }
         Outcome::OutOfFuel => Err(Failure::of(alloc, shown(path), "out of fuel")),
         Outcome::OutOfMemory => Err(Failure::OutOfMemory),
+        // No function of the command has a run wait.
+        Outcome::Unanswered => Err(Failure::of(alloc, shown(path), "a call was not answered")),
     }
 }
 
@@ -163,13 +164,19 @@ fn result(
 fn value_of<W: World + Drop>(
     alloc: Global,
     path: &str,
-    verified: &Verified,
+    prepared: &Prepared,
     script: &mut Script<W>,
     limits: RunLimits,
 ) -> Result<Value, Failure> {
-    let ending = ending(alloc, verified, script, limits)?;
+    let ending = ending(alloc, prepared, script, limits)?;
     let calls = script.backtrace();
-    result(alloc, path, verified.program(), ending.outcome, calls)
+    result(
+        alloc,
+        path,
+        prepared.verified().program(),
+        ending.outcome,
+        calls,
+    )
 }
 
 /// Prints the value of a script, unless it is unit.
@@ -190,11 +197,11 @@ fn show<W: World + Drop>(
 fn run_script<O: Write + Drop, E: Write + Drop>(
     alloc: Global,
     path: &str,
-    verified: &Verified,
+    prepared: &Prepared,
     script: &mut Script<Terminal<O, E>>,
     limits: RunLimits,
 ) -> Result<(), Failure> {
-    let value = value_of(alloc, path, verified, script, limits);
+    let value = value_of(alloc, path, prepared, script, limits);
     if let Ok(value) = &value {
         show(alloc, script, value)?;
     }
@@ -207,12 +214,12 @@ fn run_script<O: Write + Drop, E: Write + Drop>(
 fn run_in<O: Write + Drop, E: Write + Drop>(
     alloc: Global,
     path: &str,
-    verified: &Verified,
+    prepared: &Prepared,
     bounds: Bounds,
     world: Terminal<O, E>,
 ) -> Result<(), Failure> {
-    match Script::new(alloc, verified.program(), world, bounds.size) {
-        Ok(mut script) => run_script(alloc, path, verified, &mut script, bounds.run),
+    match Script::new(alloc, prepared.verified().program(), world, bounds.size) {
+        Ok(mut script) => run_script(alloc, path, prepared, &mut script, bounds.run),
         Err(cause) => Err(unready(alloc, path, &cause)),
     }
 }
@@ -222,22 +229,23 @@ fn run_here(
     rt: &HostRuntime,
     matches: &ArgMatches<'_>,
     path: &str,
-    verified: &Verified,
+    verified: Verified,
 ) -> Result<(), Failure> {
     let alloc = rt.alloc();
+    let prepared = prepare(alloc, verified)?;
     let words = words(alloc, matches)?;
     let output = match BufWriter::new(alloc, rt.stdout()) {
         Ok(output) => output,
         Err(error) => return Err(Failure::of_output(error)),
     };
     let world = Terminal::new(alloc, output, rt.stderr(), words);
-    run_in(alloc, path, verified, bounds_of(matches), world)
+    run_in(alloc, path, &prepared, bounds_of(matches), world)
 }
 
 /// Runs a script or a program file.
 pub fn run(rt: &HostRuntime, matches: &ArgMatches<'_>) -> Result<u8, Failure> {
     let path = matches.get_str("FILE").unwrap_or("-");
     let verified = verified_in(rt, path, allowed_of(matches))?;
-    run_here(rt, matches, path, &verified)?;
+    run_here(rt, matches, path, verified)?;
     Ok(0)
 }

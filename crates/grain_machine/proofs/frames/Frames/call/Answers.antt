@@ -13,10 +13,10 @@ returns-in-Ok-reserve-clause-standing g c =
     let f = c.args.self.now in
     let p = f.body.program in
     let calling = c.requires.calling in
-    let w : Caller g.row.V.Denot g.row.I.Denot = record { body = f.body; frame = f.frame; takes = c.args.takes; next = c.args.next } in
+    let w : Caller g.row.V.Denot g.row.I.Denot = record { chunk = f.body.chunk; room = f.body.room; frame = f.frame; takes = c.args.takes; next = c.args.next } in
     let items : c.enter.new.self.callers.items ≡ f.callers.items ++ w ∷ [] =
     c.enter.ensures.waits ∙ ap (λ (xs : List (Caller g.row.V.Denot g.row.I.Denot)). xs ++ w ∷ []) c.reserve.ensures.items in
-    let waits : IsWaiting p w = record { program = refl; op = calling.op; at = calling.at; gives = calling.gives } in
+    let waits : IsWaiting p w = record { op = calling.op; at = calling.at; gives = calling.gives } in
     record {
       program = ap (λ (r : Runs). r.program) c.enter.ensures.runs ∙ c.callee-body.ensures.program;
       ready = rw (c.enter.ensures.runs, c.enter.ensures.stands) c.in-Ok.ensures.ready;
@@ -27,7 +27,7 @@ pub returns-in-Ok-reserve-clause-goes : goal.returns-in-Ok-reserve-clause-goes
 returns-in-Ok-reserve-clause-goes g c =
     let f = c.args.self.now in
     let calling = c.requires.calling in
-    let w : Caller g.row.V.Denot g.row.I.Denot = record { body = f.body; frame = f.frame; takes = c.args.takes; next = c.args.next } in
+    let w : Caller g.row.V.Denot g.row.I.Denot = record { chunk = f.body.chunk; room = f.body.room; frame = f.frame; takes = c.args.takes; next = c.args.next } in
     let items : c.enter.new.self.callers.items ≡ f.callers.items ++ w ∷ [] =
     c.enter.ensures.waits ∙ ap (λ (xs : List (Caller g.row.V.Denot g.row.I.Denot)). xs ++ w ∷ []) c.reserve.ensures.items in
     let all : vec_len f.callers ≡ length f.callers.items = f.callers.ok.0 in

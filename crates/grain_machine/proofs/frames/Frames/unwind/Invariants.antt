@@ -6,6 +6,7 @@ use Rattle.grain_machine.proofs.frames.Frames.unwind.Given as goal
 
 abbrev pub invariant-callers : goal.invariant-callers
 invariant-callers g l = record {
+  program : l.self.body.program ≡ l.initial.self.body.program;
   waiting : All (IsWaiting l.initial.self.body.program) l.self.callers.items;
   same : catcher (waiting_of l.self.callers.items) ≡ catcher (waiting_of l.initial.self.callers.items);
 }

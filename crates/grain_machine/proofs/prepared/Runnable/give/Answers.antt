@@ -12,12 +12,12 @@ give-requires-clause-room g c =
     let h : length s.machine.operands - c.args.takes + 1 ≤ s.room = plain_room r (state_of s) c.args.op.now c.args.next c.args.takes c.args.takes 1 c.requires.at c.requires.plain in
     omega arith
 
-pub returns-in-Ok-None-clause-goes : goal.returns-in-Ok-None-clause-goes
-returns-in-Ok-None-clause-goes g c =
+pub returns-in-Ok-Value-clause-goes : goal.returns-in-Ok-Value-clause-goes
+returns-in-Ok-Value-clause-goes g c =
     let r = c.args.self.now in
     let s = c.args.frame.now in
     let given : Replaces c.args.takes 1 s c.give.new.self =
-    subst (IsGivenHere c.request-request.result.program.now c.args.takes s c.give.new.self) c.in-Ok-None.field-0-is c.in-Ok-None.ensures.ok in
+    subst (IsGivenHere c.request-request.result.program.now c.args.takes s c.give.new.self) c.in-Ok-Value.field-0-is c.in-Ok-Value.ensures.ok in
     rw (c.go.ensures, given.2)
     (plain_went r s c.args.op.now c.args.next c.requires.at c.args.takes c.args.takes 1 c.requires.plain (omega arith) given.0 (let long = given.1 in omega arith))
 

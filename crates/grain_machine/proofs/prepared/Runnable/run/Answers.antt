@@ -1,63 +1,24 @@
-use Rattle.std.proofs.Common.{◌≡◌, ◌<◌, ◌∷◌, length, sym, subst, arith}
-use Rattle.grain.specs.Program.{Program}
-use Rattle.grain_machine.specs.Calls.{CallStack, IsRunOfCalls, Turns}
-use Rattle.grain_machine.specs.Ends.{StackEnds}
-use Rattle.grain_machine.specs.Standing.{IsStanding, stack_of}
-use Rattle.grain_machine.proofs.QuickMoves.{on_false, on_true}
-use Rattle.grain_machine.proofs.Returning.{ended, spent}
+use Rattle.std.proofs.Common.{◌+◌, ◌<◌, arith}
+use Rattle.grain_machine.specs.Resting.{parked_stack}
+use Rattle.grain_machine.proofs.EndedRuns.{ended, spent, unanswered}
 use Rattle.grain_machine.proofs.prepared.Runnable.run.Goals as goal
 
-pub returns-in-Err-clause-ended : goal.returns-in-Err-clause-ended
-returns-in-Err-clause-ended g c =
-    let i = c.turns.invariant in
+pub returns-in-Ended-clause-ended : goal.returns-in-Ended-clause-ended
+returns-in-Ended-clause-ended g c =
     let r = c.args.self.now in
-    let f = c.quick_turn.new.self in
-    let stays = on_false c.quick_turn.result c.if-quick_turn.false c.quick_turn.ensures.stays in
-    let run : IsRunOfCalls r.program c.args.limits.depth r.chunk (stack_of f) i.earlier =
-    subst (λ (s : CallStack g.row.H-Value.Denot g.row.H-Iterator.Denot). IsRunOfCalls r.program c.args.limits.depth r.chunk s i.earlier) (sym stays) i.run in
-    let standing = subst (λ (p : Program). IsStanding p f) i.standing.program c.quick_turn.ensures.standing in
-    let ends = subst (λ (p : Program). StackEnds p (stack_of f) c.in-Err.outcome) standing.program c.in-Err.ensures.ends in
-    let before : length i.earlier ≡ c.turns._turn = i.long in
-    let fueled : length i.earlier < c.args.limits.fuel = omega (arith, c.turns-test.true) in
-    ended r c.args.limits f c.at-at.result c.in-Err.outcome i.earlier run standing c.at-at.ensures fueled ends
+    let h = c.in-Ended.ensures.goes r.chunk 0 (c.in_ok-begun.ensures.reached c.args.limits.depth) in
+    let within : 0 + c.in-Ended._turns < c.args.limits.fuel = let l = h.0 in omega (arith, l) in
+    ended r c.args.limits (0 + c.in-Ended._turns) c.in-Ended.ending.at c.in-Ended.ending.outcome within h.1
 
-pub turns-preserved-then-quick_turn : goal.turns-preserved-then-quick_turn
-turns-preserved-then-quick_turn g c =
-    let i = c.turns.invariant in
-    let s = stack_of c.turns.frames in
-    let t = stack_of c.quick_turn.new.self in
-    let turned = on_true c.quick_turn.result c.if-quick_turn.true c.quick_turn.ensures.goes in
-    let goes = subst (λ (p : Program). Turns p c.args.limits.depth s t) i.standing.program (turned c.args.limits.depth) in
-    let before : length i.earlier ≡ c.turns._turn = i.long in
-    record {
-      earlier = s ∷ i.earlier;
-      run = (goes, i.run);
-      long = omega arith;
-      standing = subst (λ (p : Program). IsStanding p c.quick_turn.new.self) i.standing.program c.quick_turn.ensures.standing;
-    }
-
-pub turns-preserved : goal.turns-preserved
-turns-preserved g c =
-    let i = c.turns.invariant in
+pub returns-in-Paused-clause-ended : goal.returns-in-Paused-clause-ended
+returns-in-Paused-clause-ended g c =
     let r = c.args.self.now in
-    let f = c.quick_turn.new.self in
-    let stays = on_false c.quick_turn.result c.if-quick_turn.false c.quick_turn.ensures.stays in
-    let run : IsRunOfCalls r.program c.args.limits.depth r.chunk (stack_of f) i.earlier =
-    subst (λ (s : CallStack g.row.H-Value.Denot g.row.H-Iterator.Denot). IsRunOfCalls r.program c.args.limits.depth r.chunk s i.earlier) (sym stays) i.run in
-    let standing = subst (λ (p : Program). IsStanding p f) i.standing.program c.quick_turn.ensures.standing in
-    let goes = subst (λ (p : Program). Turns p c.args.limits.depth (stack_of f) (stack_of c.turn.new.self)) standing.program c.in-Ok.ensures.goes in
-    let before : length i.earlier ≡ c.turns._turn = i.long in
-    record {
-      earlier = stack_of f ∷ i.earlier;
-      run = (goes, run);
-      long = omega arith;
-      standing = subst (λ (p : Program). IsStanding p c.turn.new.self) standing.program c.in-Ok.ensures.standing;
-    }
+    let h = c.in-Paused.ensures.goes r.chunk 0 (c.in_ok-begun.ensures.reached c.args.limits.depth) in
+    spent r c.args.limits (0 + c.args.limits.fuel) (parked_stack c.in-Paused.rest) c.stop-at.result h c.stop-at.ensures (omega arith)
 
-pub returns-clause-ended : goal.returns-clause-ended
-returns-clause-ended g c =
-    let i = c.turns.invariant in
-    let before : length i.earlier ≡ c.turns._turn = i.long in
-    let end = c.turns.auto._turn-end in
-    let all : length i.earlier ≡ c.args.limits.fuel = omega (arith, c.turns-test.false) in
-    spent c.args.self.now c.args.limits c.turns.frames c.at.result i.earlier i.run i.standing c.at.ensures all
+pub returns-in-Waits-clause-ended : goal.returns-in-Waits-clause-ended
+returns-in-Waits-clause-ended g c =
+    let r = c.args.self.now in
+    let h = c.in-Waits.ensures.goes r.chunk 0 (c.in_ok-begun.ensures.reached c.args.limits.depth) in
+    let within : 0 + c.in-Waits._turns < c.args.limits.fuel = let l = h.0 in omega (arith, l) in
+    unanswered r c.args.limits (0 + c.in-Waits._turns) c.in-Waits.waiting c.stop-at-in-Waits.result within h.1 c.stop-at-in-Waits.ensures

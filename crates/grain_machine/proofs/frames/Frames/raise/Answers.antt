@@ -6,7 +6,7 @@ use Rattle.grain_machine.proofs.Lending.{faults_beyond}
 use Rattle.grain_machine.proofs.Moves.{ready_again}
 use Rattle.grain_machine.proofs.Passing.{whole_back}
 use Rattle.grain_machine.proofs.Stopping.{sounds_here}
-use Rattle.grain_machine.proofs.frames.Frames.refuse.Goals as goal
+use Rattle.grain_machine.proofs.frames.Frames.raise.Goals as goal
 
 pub returns-in-Ok-clause-standing : goal.returns-in-Ok-clause-standing
 returns-in-Ok-clause-standing g c =
