@@ -3,7 +3,7 @@
 use crate::failure::Failure;
 use crate::output::STANDARD;
 use grain::{Program, Sidecar};
-use grain_file::{Limits, ReadError};
+use grain_file::{FileKind, Limits, ReadError};
 use std::alloc::Global;
 use std::fs::File;
 use std::io;
@@ -138,5 +138,5 @@ pub fn file_of(alloc: Global, path: &str, program: &Program) -> Result<Vec<u8>, 
 
 /// Whether bytes begin as a sidecar file does.
 pub fn is_sidecar(bytes: &[u8]) -> bool {
-    matches!(bytes, [0, b'g', b'r', b'n', 1, 1, ..])
+    grain_file::kind_of(bytes) == Some(FileKind::Sidecar)
 }

@@ -4,3 +4,4 @@ pub mod AllBytes
 pub mod SidecarFiles
 pub mod Tiles
 pub mod ChangedFiles
+pub mod KnownKinds

@@ -4,3 +4,4 @@ pub mod Causes
 pub mod Loading
 pub mod Writable
 pub mod Outline
+pub mod Kinds

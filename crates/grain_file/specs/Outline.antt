@@ -2,8 +2,8 @@
 use Rattle.std.specs.Prelude.{◌≡◌, ℕ, ◌≤◌, List, [], ◌∷◌, length}
 use Rattle.grain.specs.Program.{Program}
 use Rattle.grain.specs.declared.sidecar.Sidecar.{Sidecar}
-use Rattle.grain_file.specs.declared.items.Draft.{Draft}
 use Rattle.grain_file.specs.declared.items.Item.{Item}
+use Rattle.grain_file.specs.declared.items.Placed.{Placed}
 use Rattle.grain_file.specs.ProgramFile.{Bounds, IsFile, kept}
 use Rattle.grain_file.specs.SidecarFile.{IsSidecarFile, sidecar_parts}
 
@@ -19,7 +19,7 @@ IsOutline items p = (bounds : Bounds) (bytes : List ℕ) → IsFile bounds bytes
 abbrev pub IsSidecarOutline : List Item → Sidecar → Type 0
 IsSidecarOutline items s = (bytes : List ℕ) → IsSidecarFile bytes (sidecar_parts s) → Tile 0 items (length bytes)
 
--- of a file in the making: its items tile it, up to bytes that are of no item yet
-pub record IsDraft (d : Draft) : Type 0 where
-  pub tiled : Tile 0 d.items.items d.end
-  pub within : d.end ≤ length d.bytes.items
+-- the items tile all of a file in the making up to this place, where the last one ends
+pub record IsPlacedTo (placed : Placed) (to : ℕ) : Type 0 where
+  pub end : placed.end ≡ to
+  pub tiled : Tile 0 placed.items.items to

@@ -7,8 +7,10 @@
 //! the crate `grain_format` has. By their laws a program has one file, and a file is of one program.
 #![tactic(auto)]
 
+mod draft;
 mod file;
 mod items;
+mod kinds;
 pub mod laws;
 mod loading;
 mod sidecars;
@@ -16,7 +18,8 @@ mod writing;
 
 pub use file::{Limits, MAX_DEPTH, ReadError, read};
 pub use grain_format::{FieldFault, Part, Unkept, WriteError};
-pub use items::{Item, outline, outline_sidecar};
+pub use items::Item;
+pub use kinds::{FileKind, kind_of};
 pub use loading::{LoadError, load};
-pub use sidecars::{read_sidecar, write_sidecar};
-pub use writing::write;
+pub use sidecars::{outline_sidecar, read_sidecar, write_sidecar};
+pub use writing::{outline, write};

@@ -1,14 +1,16 @@
 //! Sidecar files: the positions of a program, apart from it.
-ghost use Rattle.std.specs.Prelude.{◌≡◌, ◌++◌, [], List, IfOk, IfErr, MatchResult, Ok, OnOk};
+ghost use Rattle.std.specs.Prelude.{◌≡◌, ◌++◌, [], List, IfOk, IfErr, MatchResult, Ok, OnOk, length};
 ghost use Rattle.grain_file.specs.Causes.{IsCauseIn, IsFaultIn};
 ghost use Rattle.grain_format.specs.Formats.{whole};
 ghost use Rattle.grain_format.specs.Reading.{Gives};
+ghost use Rattle.grain_file.specs.Outline.{IsSidecarOutline};
 ghost use Rattle.grain_file.specs.SidecarFile.{IsSidecarFile, IsSidecarFileWithin, SidecarParts, kind_format, sidecar_format, sidecar_parts, tables_format};
 
+use crate::draft::Draft;
 use crate::file::{Limits, ReadError, join};
-use crate::writing::{high_half, low_half};
+use crate::items::{Item, Marks, Placed, Unmarked};
 use grain::Sidecar;
-use grain_format::{Cursor, FieldFault, FileField, Part, Stop, put_bytes, put_number};
+use grain_format::{Cursor, FieldFault, FileField, Part, Stop};
 use std::alloc::{AllocError, Global};
 
 /// The sidecar that the bytes are a file of (docs/FORMAT.md, "Sidecar files"). Nothing says that its tables are whole, or of
@@ -120,15 +122,38 @@ fn read_tables(cursor: &mut Cursor<'_>) -> Result<Sidecar, Stop>
 ///
 /// # Errors
 /// Where a growth was refused.
-#[tactic(auto, unfolding(crate::specs::SidecarFile::sidecar_format, crate::specs::SidecarFile::kind_format, crate::specs::SidecarFile::tables_format))]
 pub fn write_sidecar(alloc: Global, sidecar: &Sidecar) -> Result<Vec<u8>, AllocError>
     ensures { IfOk result (λ v. IsSidecarFile v.items (sidecar_parts sidecar.now)) }
 {
-    let mut out = Vec::new(alloc);
-    out.extend_from_slice(b"\x00grn\x01\x01")?;
-    put_number(&mut out, low_half(sidecar.debug_id))?;
-    put_number(&mut out, high_half(sidecar.debug_id))?;
-    put_bytes(&mut out, &sidecar.positions)?;
-    put_bytes(&mut out, &sidecar.chains)?;
-    Ok(out)
+    let mut draft = Draft::new(alloc, Unmarked);
+    put_sidecar(&mut draft, sidecar)?;
+    Ok(draft.bytes)
+}
+
+/// The parts of the file of a sidecar, in their order.
+///
+/// # Errors
+/// Where a growth was refused.
+pub fn outline_sidecar(alloc: Global, sidecar: &Sidecar) -> Result<Vec<Item>, AllocError>
+    ensures { IfOk result (λ v. IsSidecarOutline v.items sidecar.now) }
+{
+    let mut draft = Draft::new(alloc, Placed::new(alloc));
+    put_sidecar(&mut draft, sidecar)?;
+    Ok(draft.marks.items)
+}
+
+/// Appends the whole file of a sidecar.
+#[tactic(auto, unfolding(crate::specs::SidecarFile::sidecar_format, crate::specs::SidecarFile::kind_format, crate::specs::SidecarFile::tables_format))]
+fn put_sidecar<M: Marks>(draft: &mut Draft<M>, sidecar: &Sidecar) -> Result<(), AllocError>
+    requires { M.Reach draft.old.marks (length draft.old.bytes.items) }
+    ensures marked { OnOk result (M.Reach draft.new.marks (length draft.new.bytes.items)) }
+    ensures spelled { OnOk result (draft.new.bytes.items
+        ≡ draft.old.bytes.items ++ sidecar_format.spelling (sidecar_parts sidecar.now)) }
+    ensures fits { OnOk result (sidecar_format.Fits (sidecar_parts sidecar.now)) }
+{
+    draft.header(b"\x00grn\x01\x01")?;
+    draft.id(sidecar.debug_id)?;
+    draft.blob(&sidecar.positions, Part::AddressTable)?;
+    draft.blob(&sidecar.chains, Part::ChainStream)?;
+    Ok(())
 }

@@ -1,18 +1,14 @@
-//! Writing a program as a file.
-ghost use Rattle.std.specs.Prelude.{◌≡◌, ◌++◌, ◌/◌, ◌%◌, ◌^◌, ℕ, List, Option, IfOk, IfErr, OnOk, map, option_map};
-ghost use Rattle.grain.specs.Program.{listed_positions};
-ghost use Rattle.grain_base.specs.Place.{place_of};
+//! Writing a program as a file, and its outline.
+ghost use Rattle.std.specs.Prelude.{◌≡◌, ℕ, List, IfOk, IfErr, OnOk};
 ghost use Rattle.grain_format.specs.Reading.{Decides};
-ghost use Rattle.grain_format.specs.Formats.{optional, text};
-ghost use Rattle.grain_file.specs.ProgramFile.{Bounds, IsFile, IsWithin, code_format, file_format, kept, no_bounds, pools_format, positions_format, refusal_of, rest_format};
+ghost use Rattle.grain_file.specs.Outline.{IsOutline};
+ghost use Rattle.grain_file.specs.ProgramFile.{Bounds, IsFile, IsWithin, file_format, kept, refusal_of};
 
+use crate::draft::Draft;
+use crate::items::{Item, Placed, Unmarked};
 use grain::Program;
-use grain_base::Flags;
-use grain_bytecode::Positions;
-use grain_format::{
-    FileField, Unkept, WriteError, put_all, put_bytes, put_names, put_switches, put_values,
-};
-use std::alloc::{AllocError, Global};
+use grain_format::WriteError;
+use std::alloc::Global;
 
 /// The file of a program (docs/FORMAT.md, "Program files"). It goes over the program once, and sorts the cases of switches.
 ///
@@ -33,7 +29,6 @@ pub fn write(alloc: Global, program: &Program) -> Result<Vec<u8>, WriteError>
     write_whole(alloc, program)
 }
 
-#[tactic(auto, unfolding(crate::specs::ProgramFile::file_format, crate::specs::ProgramFile::versioned_format, crate::specs::ProgramFile::body_format))]
 fn write_whole(alloc: Global, program: &Program) -> Result<Vec<u8>, WriteError>
     ensures spelled { IfOk result (λ v. (bounds : Bounds)
         → v.items ≡ (file_format bounds).spelling (kept program.now)) }
@@ -41,114 +36,22 @@ fn write_whole(alloc: Global, program: &Program) -> Result<Vec<u8>, WriteError>
         → (file_format bounds).Fits (kept program.now)) }
     ensures decides { Decides result (refusal_of (kept program.now)) }
 {
-    let mut out = Vec::new(alloc);
-    out.extend_from_slice(b"\x00grn\x01\x00")?;
-    put_code(&mut out, program)?;
-    put_pools(alloc, &mut out, program)?;
-    put_rest(&mut out, program)?;
-    Ok(out)
+    let mut draft = Draft::new(alloc, Unmarked);
+    draft.program(alloc, program)?;
+    Ok(draft.bytes)
 }
 
-/// Appends the capabilities, the number of the program, the code, the main chunk and the functions.
-#[tactic(auto, unfolding(crate::specs::ProgramFile::code_format))]
-fn put_code(out: &mut Vec<u8>, program: &Program) -> Result<(), WriteError>
-    ensures spelled { OnOk result
-        (out.new.items ≡ out.old.items ++ code_format.spelling (kept program.now).0) }
-    ensures fits { OnOk result (code_format.Fits (kept program.now).0) }
-    ensures decides { Decides result (code_format.refusal (kept program.now).0) }
+/// The parts of the file of a program, in their order. It costs what [`write`] does, and memory for an item of each part.
+///
+/// # Errors
+/// As [`write`].
+pub fn outline(alloc: Global, program: &Program) -> Result<Vec<Item>, WriteError>
+    // The items lie one after another in the file, from its first byte to its last.
+    ensures outline { IfOk result (λ v. IsOutline v.items program.now) }
+    // It fails as `write` does.
+    ensures decides { Decides result (refusal_of (kept program.now)) }
 {
-    program.caps().bits().write(out)?;
-    low_half(program.debug_id()).write(out)?;
-    high_half(program.debug_id()).write(out)?;
-    put_bytes(out, program.code())?;
-    program.main().write(out)?;
-    put_all(out, program.functions())?;
-    Ok(())
-}
-
-pub(crate) fn low_half(id: u128) -> u64
-    ensures { result ≡ id % 2 ^ 64 }
-{
-    (id % (1 << 64)) as u64
-}
-
-pub(crate) fn high_half(id: u128) -> u64
-    ensures { result ≡ id / 2 ^ 64 }
-{
-    (id / (1 << 64)) as u64
-}
-
-/// Appends the names, constants, operators, op-assignments, chains and switches.
-#[tactic(auto, unfolding(crate::specs::ProgramFile::pools_format))]
-fn put_pools(alloc: Global, out: &mut Vec<u8>, program: &Program) -> Result<(), WriteError>
-    ensures spelled { OnOk result ((bounds : Bounds) → out.new.items
-        ≡ out.old.items ++ (pools_format bounds).spelling (kept program.now).1.0) }
-    ensures fits { OnOk result ((bounds : Bounds) → IsWithin bounds (kept program.now)
-        → (pools_format bounds).Fits (kept program.now).1.0) }
-    ensures decides { Decides result ((pools_format no_bounds).refusal (kept program.now).1.0) }
-{
-    put_names(out, program.names())?;
-    put_values(out, program.consts())?;
-    put_all(out, program.tokens())?;
-    put_all(out, program.assign_ops())?;
-    put_all(out, program.chains())?;
-    put_switches(alloc, out, program.switches(), program.consts())?;
-    Ok(())
-}
-
-/// Appends the name of the source and the positions.
-#[tactic(auto, unfolding(crate::specs::ProgramFile::rest_format))]
-fn put_rest(out: &mut Vec<u8>, program: &Program) -> Result<(), WriteError>
-    ensures spelled { OnOk result
-        (out.new.items ≡ out.old.items ++ rest_format.spelling (kept program.now).1.1) }
-    ensures fits { OnOk result (rest_format.Fits (kept program.now).1.1) }
-    ensures decides { Decides result (rest_format.refusal (kept program.now).1.1) }
-{
-    put_source(out, program.source())?;
-    put_positions(out, program.positions())?;
-    if program.residual_count() != 0 {
-        return Err(WriteError::Unkept(Unkept::Residuals));
-    }
-    Ok(())
-}
-
-/// Appends the positions, if they are known.
-fn put_positions(out: &mut Vec<u8>, positions: &Positions) -> Result<(), WriteError>
-    ensures spelled { OnOk result (out.new.items ≡ out.old.items ++ positions_format.spelling
-        (option_map (λ list. map place_of list) (listed_positions positions.now))) }
-    ensures fits { OnOk result (positions_format.Fits
-        (option_map (λ list. map place_of list) (listed_positions positions.now))) }
-    ensures decides { Decides result (positions_format.refusal
-        (option_map (λ list. map place_of list) (listed_positions positions.now))) }
-{
-    match positions {
-        Positions::Stripped => {
-            out.push(0)?;
-            Ok(())
-        }
-        Positions::Dense(list) => {
-            out.push(1)?;
-            put_all(out, list)?;
-            Ok(())
-        }
-    }
-}
-
-/// Appends the name of the source, if there is one.
-pub(crate) fn put_source(out: &mut Vec<u8>, source: Option<&str>) -> Result<(), AllocError>
-    ensures spelled { OnOk result (out.new.items ≡ out.old.items
-        ++ (optional text).spelling (option_map (λ s. s.now) source.entry)) }
-    ensures fits { OnOk result ((optional text).Fits (option_map (λ s. s.now) source.entry)) }
-{
-    match source {
-        None => {
-            out.push(0)?;
-            Ok(())
-        }
-        Some(text) => {
-            out.push(1)?;
-            put_bytes(out, text.as_bytes())?;
-            Ok(())
-        }
-    }
+    let mut draft = Draft::new(alloc, Placed::new(alloc));
+    draft.program(alloc, program)?;
+    Ok(draft.marks.items)
 }

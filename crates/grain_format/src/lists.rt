@@ -18,11 +18,8 @@ pub(crate) fn reserve(count: u64, left: usize) -> usize
     count.min(left as u64) as usize
 }
 
-/// Appends how many items there are, and each. Time and memory are linear in the bytes that it appends.
-///
-/// # Errors
-/// `Unkept` with the reason against the first item that has no spelling. `OutOfMemory` where a growth was refused.
-pub fn put_all<T: FileField>(out: &mut Vec<u8>, items: &[T]) -> Result<(), WriteError>
+/// Appends how many items there are, and each.
+fn put_all<T: FileField>(out: &mut Vec<u8>, items: &[T]) -> Result<(), WriteError>
     ensures spelled { OnOk result (out.new.items
         ≡ out.old.items ++ counted_spelling T.format.spelling (map T.view items.now)) }
     ensures fits { OnOk result (CountedFit T.format.Fits (map T.view items.now)) }

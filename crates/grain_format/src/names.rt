@@ -1,6 +1,4 @@
 //! The names of a program as a field.
-ghost use Rattle.std.specs.Prelude.{◌≡◌, ◌<◌, ◌++◌, ◌^◌, IfSome, None, OnOk, Some, length, slice_get};
-ghost use Rattle.std.specs.List.{concat};
 ghost use Rattle.grain_pools.specs.Names.{texts};
 ghost use Rattle.grain_format.specs.Reading.{Gives};
 ghost use Rattle.grain_format.specs.Texts.{text_at};
@@ -10,10 +8,8 @@ ghost use Rattle.grain_format.specs.Names.{names_format};
 use crate::cursor::Cursor;
 use crate::error::{FieldFault, Stop};
 use crate::lists::reserve;
-use crate::number::{put_bytes, put_number};
 use crate::parts::Part;
 use grain_pools::{Strings, StringsError};
-use std::alloc::AllocError;
 
 /// Reads the names. Time and memory are linear in the bytes that it reads. For a count nothing is reserved beyond the number of
 /// bytes that are left.
@@ -52,40 +48,4 @@ fn read_texts<'a>(cursor: &mut Cursor<'a>) -> Result<Vec<&'a str>, Stop>
         names.push(name)?;
     }
     Ok(names)
-}
-
-/// Appends how many names there are, and each. Time and memory are linear in the bytes that it appends.
-///
-/// # Errors
-/// Where a growth was refused.
-pub fn put_names(out: &mut Vec<u8>, names: &Strings) -> Result<(), AllocError>
-    ensures spelled { OnOk result
-        (out.new.items ≡ out.old.items ++ names_format.spelling names.now) }
-    ensures fits { OnOk result (names_format.Fits names.now) }
-    ensures kept { names_format.refusal names.now ≡ None }
-{
-    // The starts have 32 bits, so the names have fewer than 2^32 bytes.
-    let _len = total_len(names);
-    put_number(out, names.len() as u64)?;
-    for name in names.iter() {
-        put_bytes(out, name.as_bytes())?;
-    }
-    Ok(())
-}
-
-/// How many bytes the names have, which is where the last one ends.
-fn total_len(names: &Strings) -> Option<u32>
-    ensures value { result ≡ Some (length (concat names.now)) }
-    ensures small { IfSome result (λ len. len < 2 ^ 32) }
-{
-    start_at(names.starts(), names.len())
-}
-
-/// The start at the index.
-fn start_at(starts: &[u32], at: usize) -> Option<u32>
-    ensures value { result ≡ slice_get starts.now at }
-    ensures small { IfSome result (λ start. start < 2 ^ 32) }
-{
-    let start = starts.get(at)?;
-    Some(*start)
 }

@@ -4,9 +4,8 @@ ghost use Rattle.grain_pools.specs.Dispatch.{arms, listed};
 ghost use Rattle.grain_format.specs.Cases.{AreInOrder};
 ghost use Rattle.grain_format.specs.Form.{forms};
 ghost use Rattle.grain_format.specs.Formats.{tag_below};
-ghost use Rattle.grain_format.specs.Lists.{CountedFit, counted_at, counted_spelling};
+ghost use Rattle.grain_format.specs.Lists.{counted_at};
 ghost use Rattle.grain_format.specs.Reading.{Decides, Gives};
-ghost use Rattle.grain_format.specs.Refusals.{counted_refusal};
 ghost use Rattle.grain_format.specs.Switches.{FitsAlone, RangeParts, bool_tag, range_format, range_parts, switch_format, switch_parts, switch_refusal, switch_spelling};
 
 use crate::cases::{Case, list_in_order, read_cases};
@@ -14,7 +13,6 @@ use crate::cursor::Cursor;
 use crate::error::{Stop, Unkept, WriteError};
 use crate::field::FileField;
 use crate::lists::reserve;
-use crate::number::put_number;
 use crate::parts::Part;
 use grain_base::Dynamic;
 use grain_pools::{Switch, SwitchRange};
@@ -151,29 +149,5 @@ pub fn put_switch(
     cases.write(out)?;
     switch.ranges.write(out)?;
     switch.default.write(out)?;
-    Ok(())
-}
-
-/// Appends how many switches there are, and each. It costs as much as [`put_switch`] for each.
-///
-/// # Errors
-/// As [`put_switch`], of the first switch that is refused.
-pub fn put_switches(
-    alloc: Global,
-    out: &mut Vec<u8>,
-    switches: &[Switch],
-    constants: &[Dynamic],
-) -> Result<(), WriteError>
-    ensures spelled { OnOk result (out.new.items ≡ out.old.items
-        ++ counted_spelling switch_spelling (map (switch_parts constants.now) switches.now)) }
-    ensures fits { OnOk result (CountedFit (FitsAlone (forms constants.now))
-        (map (switch_parts constants.now) switches.now)) }
-    ensures decides { Decides result
-        (counted_refusal switch_refusal (map (switch_parts constants.now) switches.now)) }
-{
-    put_number(out, switches.len() as u64)?;
-    for switch in switches {
-        put_switch(alloc, out, switch, constants)?;
-    }
     Ok(())
 }

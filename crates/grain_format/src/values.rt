@@ -322,12 +322,9 @@ fn put_pointer(out: &mut Vec<u8>, pointer: &FnPtr) -> Result<(), WriteError>
     Ok(())
 }
 
-/// Appends how many values there are, and each. It costs as much as [`put_value`] for each.
-///
-/// # Errors
-/// As [`put_value`], of the first value that is refused.
+/// Appends how many values there are, and each.
 #[cycle(put_value)]
-pub fn put_values(out: &mut Vec<u8>, values: &[Dynamic]) -> Result<(), WriteError>
+fn put_values(out: &mut Vec<u8>, values: &[Dynamic]) -> Result<(), WriteError>
     ensures spelled { OnOk result (out.new.items
         ≡ out.old.items ++ counted_spelling spelled (forms values.now)) }
     ensures sound { OnOk result (CountedFit IsSound (forms values.now)) }

@@ -5,6 +5,7 @@ use grain_cli::excerpt::push_report;
 use grain_cli::failure::Failure;
 use grain_cli::files::{program_of, read_bytes, shown};
 use grain_cli::loading::{Allowed, admit, verified_of};
+use grain_file::kind_of;
 use md5::{Digest, Md5};
 use rhai_compile::{CompileError, Options, Problem, compile, flaws};
 use std::alloc::{AllocError, Global};
@@ -12,20 +13,13 @@ use std::alloc::{AllocError, Global};
 /// How long reports of errors get before no other is added.
 const LONGEST_REPORTS: usize = 65_536;
 
-/// How a program file begins.
-const MAGIC: &[u8; 4] = b"\0grn";
-
-fn is_program_file(bytes: &[u8]) -> bool {
-    bytes.starts_with(MAGIC.as_slice())
-}
-
 /// The program of a file: of a script, compiled, or of a program file, read. Nothing says that the latter is accepted.
 ///
 /// # Errors
 /// The file can't be read, or is neither.
 pub fn program_in(rt: &HostRuntime, path: &str) -> Result<Program, Failure> {
     let bytes = read_bytes(rt, path)?;
-    if is_program_file(&bytes) {
+    if kind_of(&bytes).is_some() {
         program_of(rt.alloc(), path, &bytes)
     } else {
         Ok(compiled(rt.alloc(), path, bytes)?.into_program())
@@ -38,7 +32,7 @@ pub fn program_in(rt: &HostRuntime, path: &str) -> Result<Program, Failure> {
 /// As [`program_in`] and [`verified_of`].
 pub fn verified_in(rt: &HostRuntime, path: &str, allowed: Allowed) -> Result<Verified, Failure> {
     let bytes = read_bytes(rt, path)?;
-    if is_program_file(&bytes) {
+    if kind_of(&bytes).is_some() {
         let program = program_of(rt.alloc(), path, &bytes)?;
         return verified_of(rt.alloc(), path, allowed, program);
     }

@@ -1,5 +1,5 @@
 use Rattle.std.proofs.lemmas.Str.{is_utf8-from_IsUtf8}
-use Rattle.grain_file.proofs.writing.put_source.Goals as goal
+use Rattle.grain_file.proofs.draft.put_source.Goals as goal
 
 pub returns-in_ok-put_bytes-in-Some-clause-fits : goal.returns-in_ok-put_bytes-in-Some-clause-fits
 returns-in_ok-put_bytes-in-Some-clause-fits c =
