@@ -1,47 +1,35 @@
 //! Operators and op-assignments.
-ghost use Rattle.std.specs.Prelude.{◌≡◌, ◌≢◌, ℕ, IfNone, IfSome, map, option_map, slice_get};
+ghost use Rattle.std.specs.Prelude.{◌≡◌, IfSome, Some, option_map};
 ghost use Rattle.grain_base.specs.Tokens.{token_parts};
 ghost use Rattle.grain_base.specs.declared.token.Token.{Token};
-ghost use Rattle.grain_print.specs.Spellings.{spelling_of, spellings};
+ghost use Rattle.grain_print.specs.Spellings.{spelling_of};
 
 use crate::quote::write_text;
 use grain_base::Token;
 use grain_pools::AssignOp;
 use std::alloc::AllocError;
 
-/// How the operators of the language are written, in the order of their numbers ([`Token::of_number`]).
-static SPELLINGS: [&str; 39] = [
-    "+", "unary+", "-", "unary-", "*", "/", "%", "**", "<<", ">>", "&", "|", "^", "&&", "||", "!",
-    "??", "==", "!=", "<", "<=", ">", ">=", "in", "!in", "..", "..=", "=", "+=", "-=", "*=", "/=",
-    "%=", "**=", "<<=", ">>=", "&=", "|=", "^=",
-];
+/// The number of `+` before its only operand, and how it is written: its text is that of `+` between two.
+const UNARY_PLUS: u8 = 1;
 
-/// The spellings.
-#[tactic(auto, unfolding(crate::specs::Spellings::spellings))]
-fn table() -> &'static [&'static str]
-    ensures { map (λ spelling. spelling.now) result.now ≡ spellings }
-{
-    &SPELLINGS
-}
+const UNARY_PLUS_SPELLING: &str = "unary+";
+
+/// The number of `-` before its only operand, and how it is written.
+const UNARY_MINUS: u8 = 3;
+
+const UNARY_MINUS_SPELLING: &str = "unary-";
 
 /// The spelling of an operator of the language.
 #[must_use]
-pub fn spelling(token: &Token) -> Option<&'static str>
+pub fn spelling(token: &Token) -> Option<&str>
     ensures { option_map (λ spelling. spelling.now) result ≡ spelling_of token.now }
 {
     match token.number() {
-        Ok(number) => table().get(usize::from(number)).copied(),
+        Ok(UNARY_PLUS) => Some(UNARY_PLUS_SPELLING),
+        Ok(UNARY_MINUS) => Some(UNARY_MINUS_SPELLING),
+        Ok(_) => Some(token.syntax()),
         Err(_) => None,
     }
-}
-
-/// Where a spelling is in the table.
-fn place_of(spelling: &str) -> Option<usize>
-    ensures some { IfSome result (λ place. slice_get spellings place ≡ Some spelling.now) }
-    ensures none { IfNone result
-        ((place : ℕ) → slice_get spellings place ≢ Some spelling.now) }
-{
-    table().iter().position(|other| *other == spelling)
 }
 
 /// The operator of the language with this spelling.
@@ -51,17 +39,18 @@ pub fn token_spelled(spelling: &str) -> Option<Token>
     ensures only { (token : Token) → spelling_of token ≡ Some spelling.now
         → option_map token_parts result ≡ Some (token_parts token) }
 {
-    match u8::try_from(place_of(spelling)?) {
-        Ok(number) => Token::of_number(number),
-        Err(_) => None,
+    match spelling {
+        UNARY_PLUS_SPELLING => Token::of_number(UNARY_PLUS),
+        UNARY_MINUS_SPELLING => Token::of_number(UNARY_MINUS),
+        _ => Token::of_syntax(spelling),
     }
 }
 
 /// Appends an operator: its spelling, or in quotes the text of one that the host has added.
 pub fn write_token(out: &mut String, token: &Token) -> Result<(), AllocError> {
-    match token {
-        Token::Custom(text) => write_text(out, text),
-        _ => out.push_str(spelling(token).unwrap_or_default()),
+    match spelling(token) {
+        Some(spelling) => out.push_str(spelling),
+        None => write_text(out, token.syntax()),
     }
 }
 

@@ -15,41 +15,8 @@ pub enum Callee {
     Print,
     /// `debug`, which the world does.
     Debug,
-    /// An operator that a function pointer may name, by its index for [`operate_at`].
-    Operator(usize),
-}
-
-/// The operators that a function pointer may name, in the order of `token_at`.
-const OPERATORS: &'static [&'static str] = &[
-    "+", "-", "*", "/", "%", "**", "<<", ">>", "&", "|", "^", "!", "==", "!=", "<", "<=", ">",
-    ">=", "..", "..=",
-];
-
-/// The token of an operator.
-fn token_at(index: usize) -> Option<Token> {
-    match index {
-        0 => Some(Token::Plus),
-        1 => Some(Token::Minus),
-        2 => Some(Token::Multiply),
-        3 => Some(Token::Divide),
-        4 => Some(Token::Modulo),
-        5 => Some(Token::PowerOf),
-        6 => Some(Token::LeftShift),
-        7 => Some(Token::RightShift),
-        8 => Some(Token::Ampersand),
-        9 => Some(Token::Pipe),
-        10 => Some(Token::XOr),
-        11 => Some(Token::Bang),
-        12 => Some(Token::EqualsTo),
-        13 => Some(Token::NotEqualsTo),
-        14 => Some(Token::LessThan),
-        15 => Some(Token::LessThanEqualsTo),
-        16 => Some(Token::GreaterThan),
-        17 => Some(Token::GreaterThanEqualsTo),
-        18 => Some(Token::ExclusiveRange),
-        19 => Some(Token::InclusiveRange),
-        _ => None,
-    }
+    /// An operator that a function pointer may name, by its number.
+    Operator(u8),
 }
 
 impl Callee {
@@ -68,20 +35,28 @@ impl Callee {
 }
 
 fn operator_named(name: &str) -> Option<Callee> {
-    for index in 0..OPERATORS.len() {
-        if OPERATORS[index] == name {
-            return Some(Callee::Operator(index));
-        }
+    let operator = Token::of_syntax(name)?;
+    match operator.number() {
+        Ok(number) if takes_values(&operator) => Some(Callee::Operator(number)),
+        _ => None,
     }
-    None
 }
 
-/// What the operator at an index gives of one or two values. `None` means that it doesn't take such values.
+/// Whether the operator is a function of its operands' values: it always takes them all, and assigns to none.
+fn takes_values(operator: &Token) -> bool {
+    match operator {
+        Token::And | Token::Or | Token::DoubleQuestion | Token::In | Token::NotIn | Token::Equals =>
+            false,
+        _ => operator.base_operator().is_none(),
+    }
+}
+
+/// What the operator of a number gives of one or two values. `None` means that it doesn't take such values.
 ///
 /// # Errors
 /// As [`operate`].
-pub fn operate_at(alloc: Global, index: usize, values: &[Value]) -> Result<Option<Value>, Cause> {
-    let Some(operator) = token_at(index) else {
+pub fn operate_at(alloc: Global, number: u8, values: &[Value]) -> Result<Option<Value>, Cause> {
+    let Some(operator) = Token::of_number(number) else {
         return Ok(None);
     };
     match values {

@@ -178,12 +178,6 @@ impl List {
         }
     }
 
-    /// The items themselves.
-    #[must_use]
-    pub fn into_items(self) -> Vec<Value> {
-        self.items
-    }
-
     fn grow(&mut self, measure: Measure) {
         self.size = self.size.saturating_add(measure.size);
         self.depth = self.depth.max(measure.depth.saturating_add(1));
