@@ -99,8 +99,11 @@ impl Program {
         Ok(())
     }
 
-    /// The chunks, the main one first.
-    pub(crate) fn chunks(&self) -> Result<Vec<Chunk>, AllocError>
+    /// The chunks: the main one, then those of the functions. It takes time and memory by the number of functions.
+    ///
+    /// # Errors
+    /// [`AllocError`] if the allocator refuses the list.
+    pub fn chunks(&self) -> Result<Vec<Chunk>, AllocError>
         ensures { IfOk result (λ v. v.items ≡ chunks_of self.now) }
     {
         let mut chunks = Vec::with_capacity(self.alloc, self.functions.len() + 1)?;
@@ -111,8 +114,9 @@ impl Program {
         Ok(chunks)
     }
 
-    /// Declares these numbers, chunk by chunk.
-    pub(crate) fn declare(&mut self, numbers: &[u16])
+    /// Has each chunk declare its number of these, the main chunk the first. Nothing says that the program is accepted with
+    /// them. It takes time by the number of functions.
+    pub fn declare(&mut self, numbers: &[u16])
         requires { length numbers.now ≡ length (chunks_of self.old) }
         ensures declared { declared_by self.new ≡ numbers.now }
         ensures rest { undeclared self.new ≡ undeclared self.old }

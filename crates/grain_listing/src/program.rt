@@ -22,16 +22,6 @@ pub struct ProgramListing {
     pub depths: Vec<Vec<usize>>,
 }
 
-/// The chunks of a program: the top level, then those of its functions.
-fn chunks_of(alloc: Global, program: &Program) -> Result<Vec<Chunk>, AllocError> {
-    let mut chunks = Vec::with_capacity(alloc, program.functions().len().saturating_add(1))?;
-    chunks.push(program.main())?;
-    for function in program.functions() {
-        chunks.push(function.chunk)?;
-    }
-    Ok(chunks)
-}
-
 impl ProgramListing {
     /// Code with chunks and their explanation. It takes time by the length of the code and of the explanation.
     ///
@@ -63,7 +53,7 @@ impl ProgramListing {
     /// # Errors
     /// [`AllocError`] where memory was refused.
     pub fn of(alloc: Global, program: &Program) -> Result<ProgramListing, AllocError> {
-        let chunks = chunks_of(alloc, program)?;
+        let chunks = program.chunks()?;
         let pools = program.pools();
         let explained = explain(
             alloc,
