@@ -9,7 +9,7 @@ ghost use Rattle.rhai_emit.specs.Rules.{IsWritten, AddsPlaces};
 ghost use Rattle.rhai_emit.specs.Places.{here};
 
 use crate::emitter::Emitter;
-use crate::operators::spelling;
+use crate::operators::token;
 use grain_code::{Field, Op, Pool};
 use rhai_lexer::{CompileError, Operator, Place, Problem, Thing};
 use rhai_syntax::Literal;
@@ -107,7 +107,7 @@ impl Emitter {
         ensures written { OnOk result (IsWritten self.old self.new (self.old.code.operands - argc + 1)) }
         ensures placed { OnOk result (AddsPlaces self.old self.new (here place)) }
     {
-        let name = self.pools.name(spelling(operator))?;
+        let name = self.pools.name(token(operator).syntax())?;
         let token = self.pools.token(operator)?;
         let call = Op::Call {
             name,
