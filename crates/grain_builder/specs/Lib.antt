@@ -1,4 +1,4 @@
-pub mod Unfinished
+pub mod Assembler
 pub mod Fitting
 pub mod Sound
 pub mod Resolved

@@ -1,4 +1,5 @@
 pub mod Assembly
+pub mod Cuts
 pub mod Disassembly
 pub mod Fields
 pub mod Flows

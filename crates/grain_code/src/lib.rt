@@ -9,6 +9,7 @@
 
 mod chunk;
 mod code;
+mod cut;
 mod decoder;
 mod disassembly;
 mod encoding;
@@ -26,6 +27,7 @@ mod text;
 
 pub use chunk::Chunk;
 pub use code::{count_instructions, decode, u16_at, u32_at};
+pub use cut::Cut;
 pub use disassembly::{Disassembly, disassemble};
 pub use encoding::layout;
 pub use field::{Field, Fields, Pool};

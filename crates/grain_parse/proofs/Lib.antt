@@ -2,7 +2,6 @@
 pub mod Appended
 pub mod Fronts
 pub mod MadeAssignOps
-pub mod PlainSpellings
 pub mod PoolEntries
 pub mod ReadNumbers
 pub mod SameOperators

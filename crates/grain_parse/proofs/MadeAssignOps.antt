@@ -1,12 +1,12 @@
 -- Op-assignments that are made of their spellings, and entered.
-use Rattle.std.proofs.Common.{◌≡◌, ◌∙◌, ◌++◌, ◌∷◌, ◌<◌, [], ℕ, List, Global, String, Option, Some, None, Result, Ok, Err, IfOk, ap, inl, inr, sym, subst, slice_get, length, length-append, arith}
+use Rattle.std.proofs.Common.{◌≡◌, ◌∙◌, ◌++◌, ◌∷◌, ◌<◌, [], ℕ, List, Global, String, Option, Some, None, Result, Ok, Err, IfOk, ap, inl, inr, sym, subst, option_map, string_bytes, slice_get, length, length-append, arith}
 use Rattle.std.specs.Option.{IsSomeAnd}
 use Rattle.std.proofs.lemmas.Option.{slice_get-get_or, slice_get_cases}
 use Rattle.std.proofs.Math.ListN.{get_or-append}
 use Rattle.grain_pools.specs.declared.assign_op.AssignOp.{AssignOp}
 use Rattle.grain_parse.specs.Blanks.{ReadsText, unblanked}
 use Rattle.grain_parse.specs.Entries.{AreSameAssignOps, Enters, HasEntryAt, IsMadeOf, ReadsAssignOpIndex}
-use Rattle.grain_parse.specs.Operators.{IsAssignmentOf}
+use Rattle.grain_base.specs.Operators.{base_of, text_of}
 use Rattle.grain_parse.proofs.ReadNumbers.{text_again}
 use Rattle.grain_print.specs.Spellings.{spelling_at}
 
@@ -42,27 +42,25 @@ leads_still P Q old new index other has enters =
     ]
 
 -- one that is the same is made of the same spellings
-pub made_alike : (spelling plain : List ℕ) (names : List (String Global)) (one other : AssignOp) → IsMadeOf spelling plain names other → AreSameAssignOps one other → IsMadeOf spelling plain names one
-made_alike spelling plain names one other made same = record {
+pub made_alike : (spelling : List ℕ) (names : List (String Global)) (one other : AssignOp) → IsMadeOf spelling names other → AreSameAssignOps one other → IsMadeOf spelling names one
+made_alike spelling names one other made same = record {
   op_assign = ap spelling_at same.op_assign ∙ made.op_assign;
   op_assign_name = subst (HasEntryAt _ names) (sym same.op_assign_name) made.op_assign_name;
-  op = ap spelling_at same.op ∙ made.op;
-  op_name = subst (HasEntryAt _ names) (sym same.op_name) made.op_name;
+  op = ap Some same.op ∙ made.op ∙ ap (λ parts. option_map (λ number. inr number) (base_of parts)) (sym same.op_assign);
+  op_name = subst (λ parts. HasEntryAt (λ name. string_bytes name ≡ text_of parts) names one.op_name) (sym same.op) (subst (HasEntryAt _ names) (sym same.op_name) made.op_name);
 }
 
 -- one that is made of the spelling that was read behind blanks, and is entered
 pub assign_op_entered : {E : Type 0} (line mid spelling left : List ℕ) (assign_op : AssignOp) (names later : List (String Global)) (first old new : List AssignOp) (r : Result ℕ E)
     → mid ≡ unblanked line → ReadsText mid spelling left
-    → (plain : List ℕ) × IsAssignmentOf plain spelling × IsMadeOf spelling plain names assign_op → later ≡ names → old ≡ first
+    → IsMadeOf spelling names assign_op → later ≡ names → old ≡ first
     → IfOk r (Enters (λ other. AreSameAssignOps other assign_op) old new) → IfOk r (λ index. ReadsAssignOpIndex line later first new index left)
 assign_op_entered line mid spelling left assign_op names later first old new (Ok index) e read made same stays enters = inr (record {
   spelling = spelling;
-  plain = made.0;
-  known = made.1;
   reads = text_again line mid spelling left e read;
   enters =
-      subst (λ xs. Enters (IsMadeOf spelling made.0 later) xs new index) stays
-      (subst (λ xs. Enters (IsMadeOf spelling made.0 xs) old new index) (sym same)
-      (enters_weaker (λ other. AreSameAssignOps other assign_op) (IsMadeOf spelling made.0 names) old new index (λ other is. made_alike spelling made.0 names other assign_op made.2 is) enters));
+      subst (λ xs. Enters (IsMadeOf spelling later) xs new index) stays
+      (subst (λ xs. Enters (IsMadeOf spelling xs) old new index) (sym same)
+      (enters_weaker (λ other. AreSameAssignOps other assign_op) (IsMadeOf spelling names) old new index (λ other is. made_alike spelling names other assign_op made is) enters));
 })
 assign_op_entered line mid spelling left assign_op names later first old new (Err _) e read made same stays enters = tt

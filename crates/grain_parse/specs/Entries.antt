@@ -1,6 +1,8 @@
 -- Entries of pools, and the indices that name them.
-use Rattle.std.specs.Prelude.{◌≡◌, ◌⊎◌, ℕ, List, String, Some, [], ◌∷◌, ◌++◌, slice_get, string_bytes, IsSomeAnd}
+use Rattle.std.specs.Prelude.{◌≡◌, ◌⊎◌, ℕ, List, String, Some, [], ◌∷◌, ◌++◌, option_map, slice_get, string_bytes, IsSomeAnd}
 use Rattle.std.specs.Global.{Global}
+use Rattle.std.proofs.Common.{inr}
+use Rattle.grain_base.specs.Operators.{base_of, text_of}
 use Rattle.grain_base.specs.Tokens.{token_parts}
 use Rattle.grain_base.specs.View.{content}
 use Rattle.grain_base.specs.declared.token.Token.{Token}
@@ -10,7 +12,7 @@ use Rattle.grain_print.specs.Spellings.{spelling_of}
 use Rattle.grain_parse.specs.Blanks.{ReadsText}
 use Rattle.grain_parse.specs.Literals.{ReadsName}
 use Rattle.grain_parse.specs.Numbers.{ReadsIndex}
-use Rattle.grain_parse.specs.Operators.{IsAssignmentOf, ReadsOperator}
+use Rattle.grain_parse.specs.Operators.{ReadsOperator}
 
 -- an entry with the property is at the index
 abbrev pub HasEntryAt : {A : Type 0} → (A → Type 0) → List A → ℕ → Type 0
@@ -50,20 +52,18 @@ pub record AreSameAssignOps (one other : AssignOp) : Type 0 where
   pub op : token_parts one.op ≡ token_parts other.op
   pub op_name : one.op_name ≡ other.op_name
 
--- the operators of an op-assignment are spelled so, and have these spellings as their names
-pub record IsMadeOf (spelling plain : List ℕ) (names : List (String Global)) (assign_op : AssignOp) : Type 0 where
+-- the op-assignment is spelled so and stands for the operator, and both have their texts as their names
+pub record IsMadeOf (spelling : List ℕ) (names : List (String Global)) (assign_op : AssignOp) : Type 0 where
   pub op_assign : spelling_of assign_op.op_assign ≡ Some spelling
   pub op_assign_name : HasEntryAt (λ name. string_bytes name ≡ spelling) names assign_op.op_assign_name
-  pub op : spelling_of assign_op.op ≡ Some plain
-  pub op_name : HasEntryAt (λ name. string_bytes name ≡ plain) names assign_op.op_name
+  pub op : Some (token_parts assign_op.op) ≡ option_map (λ number. inr number) (base_of (token_parts assign_op.op_assign))
+  pub op_name : HasEntryAt (λ name. string_bytes name ≡ text_of (token_parts assign_op.op)) names assign_op.op_name
 
 -- the spelling of an op-assignment comes, and one that is made of it is entered
 pub record ReadsAssignOp (line : List ℕ) (names : List (String Global)) (old new : List AssignOp) (index : ℕ) (left : List ℕ) : Type 0 where
   pub spelling : List ℕ
-  pub plain : List ℕ
-  pub known : IsAssignmentOf plain spelling
   pub reads : ReadsText line spelling left
-  pub enters : Enters (IsMadeOf spelling plain names) old new index
+  pub enters : Enters (IsMadeOf spelling names) old new index
 
 -- an index comes, or the spelling of an op-assignment that is entered there
 abbrev pub ReadsAssignOpIndex : List ℕ → List (String Global) → List AssignOp → List AssignOp → ℕ → List ℕ → Type 0

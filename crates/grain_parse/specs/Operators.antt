@@ -1,21 +1,11 @@
 -- Operators as texts write them.
-use Rattle.std.specs.Prelude.{◌≡◌, ◌⊎◌, ◌++◌, ℕ, List, [], ◌∷◌, Some, codes}
-use Rattle.std.specs.List.{Contains}
+use Rattle.std.specs.Prelude.{◌≡◌, ◌⊎◌, ℕ, List, Some}
 use Rattle.std.proofs.Common.{inl}
 use Rattle.grain_base.specs.Tokens.{token_parts}
 use Rattle.grain_base.specs.declared.token.Token.{Token}
 use Rattle.grain_print.specs.Spellings.{spelling_of}
 use Rattle.grain_parse.specs.Blanks.{ReadsText}
 use Rattle.grain_parse.specs.Literals.{ReadsQuoted}
-
--- the operators that are op-assignments with `=` behind them
-abbrev pub plain_spellings : List (List ℕ)
-plain_spellings =
-    codes "+" ∷ codes "-" ∷ codes "*" ∷ codes "/" ∷ codes "%" ∷ codes "**" ∷ codes "<<" ∷ codes ">>" ∷ codes "&" ∷ codes "|" ∷ codes "^" ∷ []
-
--- the spelling is that of such an operator with `=` behind it
-abbrev pub IsAssignmentOf : List ℕ → List ℕ → Type 0
-IsAssignmentOf plain spelling = Contains plain_spellings plain × (spelling ≡ plain ++ codes "=")
 
 -- behind the blanks comes the spelling of an operator, or in quotes the text of one that the host has added, and then what is left
 abbrev pub ReadsOperator : List ℕ → Token → List ℕ → Type 0

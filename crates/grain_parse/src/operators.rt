@@ -1,9 +1,8 @@
 //! Operators.
-ghost use Rattle.std.specs.Prelude.{◌≡◌, ◌≢◌, ◌++◌, ℕ, List, IfOk, MatchOption, codes};
+ghost use Rattle.std.specs.Prelude.{◌≡◌, IfOk};
 ghost use Rattle.std.specs.Bool.{OnTrue};
-ghost use Rattle.std.specs.List.{Contains};
 ghost use Rattle.grain_base.specs.Tokens.{token_parts};
-ghost use Rattle.grain_parse.specs.Operators.{IsAssignmentOf, ReadsOperator, plain_spellings};
+ghost use Rattle.grain_parse.specs.Operators.{ReadsOperator};
 
 use crate::cursor::Cursor;
 use crate::error::{LineProblem, Stop};
@@ -33,19 +32,5 @@ pub(crate) fn read_token(cursor: &mut Cursor<'_>) -> Result<Token, Stop>
             cursor.left = start;
             Err(Stop::Fault(LineProblem::NotOperator))
         }
-    }
-}
-
-/// The spelling of an op-assignment as `+=`, without its `=`.
-pub(crate) fn plain_spelling(spelling: &str) -> Option<&str>
-    ensures { MatchOption result
-        ((plain : List ℕ) → Contains plain_spellings plain → spelling.now ≢ plain ++ codes "=")
-        (λ plain. IsAssignmentOf plain.now spelling.now) }
-{
-    match spelling {
-        "+=" | "-=" | "*=" | "/=" | "%=" | "**=" | "<<=" | ">>=" | "&=" | "|=" | "^=" => {
-            spelling.strip_suffix("=")
-        }
-        _ => None,
     }
 }

@@ -1,16 +1,15 @@
 //! The pools of a program while its text is read. What is written in place gets an entry, unless there is the same already.
-ghost use Rattle.std.specs.Prelude.{◌≡◌, ◌+◌, ℕ, List, IfOk, IfSome, string_bytes};
+ghost use Rattle.std.specs.Prelude.{◌≡◌, ◌+◌, IfOk, IfSome, string_bytes};
 ghost use Rattle.std.specs.Bool.{OnTrue};
 ghost use Rattle.grain_base.specs.Tokens.{token_parts};
 ghost use Rattle.grain_base.specs.View.{content};
 ghost use Rattle.grain_parse.specs.Drafted.{HasNoEntry};
 ghost use Rattle.grain_parse.specs.Entries.{AreSameAssignOps, Enters, HasEntryAt, IsMadeOf, ReadsAssignOpEntry, ReadsAssignOpIndex, ReadsConstantIndex, ReadsNameIndex, ReadsOperatorIndex};
-ghost use Rattle.grain_parse.specs.Operators.{IsAssignmentOf};
 
 use crate::cursor::Cursor;
 use crate::error::{LineProblem, Stop};
 use crate::literals::read_text_or_word;
-use crate::operators::{is_same, plain_spelling, read_token};
+use crate::operators::{is_same, read_token};
 use crate::values::{MAX_DEPTH, read_value};
 use grain_base::{Dynamic, Token};
 use grain_pools::{AssignOp, Chain, Switch};
@@ -236,22 +235,18 @@ impl Pools {
 
     /// The op-assignment of this spelling.
     fn plain_assign_op(&mut self, spelling: &str) -> Result<Option<AssignOp>, Stop>
-        ensures made { IfOk result (λ found. IfSome found (λ assign_op. (plain : List ℕ)
-            × IsAssignmentOf plain spelling.now
-            × IsMadeOf spelling.now plain self.new.names.items assign_op)) }
+        ensures made { IfOk result (λ found. IfSome found
+            (IsMadeOf spelling.now self.new.names.items)) }
         ensures assign_ops { self.new.assign_ops ≡ self.old.assign_ops }
     {
-        let Some(plain) = plain_spelling(spelling) else {
-            return Ok(None);
-        };
         let Some(op_assign) = token_spelled(spelling) else {
             return Ok(None);
         };
-        let Some(op) = token_spelled(plain) else {
+        let Some(op) = op_assign.base_operator() else {
             return Ok(None);
         };
         let op_assign_name = self.name_index(String::from_str(self.alloc, spelling)?)?;
-        let op_name = self.name_index(String::from_str(self.alloc, plain)?)?;
+        let op_name = self.name_index(String::from_str(self.alloc, op.syntax())?)?;
         Ok(Some(AssignOp {
             op_assign,
             op_assign_name,

@@ -4,59 +4,25 @@ use crate::chance::Chance;
 use grain::{AssignOp, Token};
 use std::alloc::{AllocError, Global};
 
-/// The operators of the language, and one of a host.
+/// The operators of the language that are no op-assignments, and one of a host.
 fn all_tokens(alloc: Global) -> Result<Vec<Token>, AllocError> {
-    let custom = String::from_str(alloc, "<=>")?;
-    let all = vec![in alloc;
-        Token::Plus,
-        Token::UnaryPlus,
-        Token::Minus,
-        Token::UnaryMinus,
-        Token::Multiply,
-        Token::Divide,
-        Token::Modulo,
-        Token::PowerOf,
-        Token::LeftShift,
-        Token::RightShift,
-        Token::Ampersand,
-        Token::Pipe,
-        Token::XOr,
-        Token::And,
-        Token::Or,
-        Token::Bang,
-        Token::DoubleQuestion,
-        Token::EqualsTo,
-        Token::NotEqualsTo,
-        Token::LessThan,
-        Token::LessThanEqualsTo,
-        Token::GreaterThan,
-        Token::GreaterThanEqualsTo,
-        Token::In,
-        Token::NotIn,
-        Token::ExclusiveRange,
-        Token::InclusiveRange,
-        Token::Equals,
-        Token::Custom(custom),
-    ]?;
+    let mut all: Vec<Token> = (0..u8::MAX)
+        .map_while(|number| Token::of_number(number))
+        .filter(|token| token.base_operator().is_none())
+        .collect(alloc)?;
+    all.push(Token::Custom(String::from_str(alloc, "<=>")?))?;
     Ok(all)
 }
 
 /// Op-assignments, each with the operator that it stands for.
 fn all_assignments(alloc: Global) -> Result<Vec<(Token, Token)>, AllocError> {
-    let all = vec![in alloc;
-        (Token::PlusAssign, Token::Plus),
-        (Token::MinusAssign, Token::Minus),
-        (Token::MultiplyAssign, Token::Multiply),
-        (Token::DivideAssign, Token::Divide),
-        (Token::ModuloAssign, Token::Modulo),
-        (Token::PowerOfAssign, Token::PowerOf),
-        (Token::LeftShiftAssign, Token::LeftShift),
-        (Token::RightShiftAssign, Token::RightShift),
-        (Token::AndAssign, Token::Ampersand),
-        (Token::OrAssign, Token::Pipe),
-        (Token::XOrAssign, Token::XOr),
-    ]?;
-    Ok(all)
+    (0..u8::MAX)
+        .map_while(|number| Token::of_number(number))
+        .filter_map(|op_assign| {
+            let op = op_assign.base_operator()?;
+            Some((op_assign, op))
+        })
+        .collect(alloc)
 }
 
 /// Some operators, in order, at least one.

@@ -9,10 +9,10 @@ ghost use Rattle.grain_builder.specs.Finished.{LeadAmong};
 ghost use Rattle.rhai_compile.specs.Capabilities.{every_capability};
 
 use grain::{
-    AssignOp, Chain, Dynamic, Parts, Positions, Strings, StringsError, Switch, SwitchRange,
+    AssignOp, Chain, Dynamic, Parts, Positions, Strings, StringsError, Switch, SwitchRange, Token,
 };
 use grain_builder::TableTargets;
-use rhai_emit::{Leading, Options, PoolBuilder, Spanning, Table, assigning, spelling, token};
+use rhai_emit::{Leading, Options, PoolBuilder, Spanning, Table, token};
 use rhai_lexer::{CompileError, Names, Operator, Place, Problem, Thing};
 use rhai_syntax::Literal;
 use std::alloc::{AllocError, Global};
@@ -42,12 +42,13 @@ fn constants(pools: &PoolBuilder) -> Result<Vec<Dynamic>, CompileError>
 }
 
 fn assign_op(pools: &mut PoolBuilder, operator: Operator) -> Result<AssignOp, CompileError> {
-    let (spelled, op_assign) = assigning(operator);
+    let op = token(operator);
+    let op_assign = op.op_assignment().unwrap_or(Token::Equals);
     Ok(AssignOp {
+        op_assign_name: pools.name(op_assign.syntax())?,
         op_assign,
-        op_assign_name: pools.name(spelled)?,
-        op: token(operator),
-        op_name: pools.name(spelling(operator))?,
+        op_name: pools.name(op.syntax())?,
+        op,
     })
 }
 

@@ -25,7 +25,7 @@ pub use calling::{CallTarget, callee_of};
 pub use chains::before_optional;
 pub use dispatch::{Labels, check_arms};
 pub use emitter::{Emitter, Signature};
-pub use operators::{assigning, spelling, token};
+pub use operators::token;
 pub use options::Options;
 pub use pools::PoolBuilder;
 pub use positions::position;
