@@ -39,6 +39,38 @@ def check_full(grain):
     expect(grain.read("kept.grain") == old and sorted(os.listdir(grain.folder)) == before, "a write that fails leaves another file")
 
 
+def check_full_text(grain):
+    """The same of a text that is written as it is made."""
+    file = grain.write("long.grain", grain.done("parse", "-", given=b"tick\n" * 2000 + b"return\n"))
+    for words in (["list", "--json"], ["dump", "-x"], ["dump", "-x", "--json"], ["flow"], ["flow", "--dot"]):
+        grain.write("kept", b"old")
+        before = sorted(os.listdir(grain.folder))
+        status, _, errors = grain.run(*words, file, "-o", "kept", preexec_fn=lambda: limited(4096))
+        expect(status == 1 and errors.startswith(b"error: kept: "), f"{words} on a full disk ends with {status}: {errors!r}")
+        expect(grain.read("kept") == b"old" and sorted(os.listdir(grain.folder)) == before, f"{words} leaves another file")
+        with open("/dev/full", "wb") as full:
+            status, _, errors = grain.run(*words, file, to=full)
+        expect(status == 1 and errors.startswith(b"error: standard output: "), f"{words} to /dev/full ends with {status}: {errors!r}")
+
+
+def check_memory(grain):
+    """What is written as it is made isn't held: the memory that a longer text takes is less than the text."""
+    short, long = (grain.write(f"{n}.grain", grain.done("parse", "-", given=b"tick\n" * n + b"return\n")) for n in (1000, 100_000))
+    for words, share in ((["list", "--json"], 1), (["dump", "-x"], 0.3), (["dump", "-x", "--json"], 0.3), (["flow"], 0.6)):
+        more = grain.peak(*words, long) - grain.peak(*words, short)
+        size = len(grain.done(*words, long))
+        expect(more < share * size, f"{words} takes {more} bytes more for a text of {size} bytes")
+
+
+def check_positions(grain):
+    """What a number in a text has `parse` allocate is bounded by the text, and each program comes back."""
+    expect(b"number too large" in grain.run("parse", "-", given=b".positions 67108838")[2], "many positions of a short text are read")
+    for places in (65_536, 65_537, 70_000):
+        text = b".positions %d\n.code\nunit\nreturn\n.places\n" % (places + 2) + b"".join(b"%d\n" % at for at in range(2, places + 2))
+        file = grain.write("places.grain", grain.done("parse", "-", given=text))
+        expect(grain.done("parse", "-", given=grain.done("print", file)) == grain.read(file), f"{places} positions don't come back")
+
+
 def check_protected(grain):
     """A write-protected file isn't replaced. Nothing is write-protected from root."""
     if os.geteuid() != 0:
@@ -66,7 +98,7 @@ def main():
         sys.exit(__doc__)
     with tempfile.TemporaryDirectory() as folder:
         grain = Program(sys.argv[1], folder)
-        for check in (check_version, check_full, check_protected, check_growth):
+        for check in (check_version, check_full, check_full_text, check_memory, check_positions, check_protected, check_growth):
             check(grain)
     print("limits of grain: well")
 

@@ -86,6 +86,11 @@ pub fn obstacle_before(allowed: Allowed, program: &Program) -> Option<Obstacle> 
     if !missing.is_empty() {
         return Some(Obstacle::Capabilities(missing));
     }
+    obstacle_of_work(allowed, program)
+}
+
+/// Whether the chunks of a program span more code than is allowed.
+pub fn obstacle_of_work(allowed: Allowed, program: &Program) -> Option<Obstacle> {
     let (spans, most) = (spans_of(program), most_of(allowed, program));
     (spans > most).then_some(Obstacle::Work { spans, most })
 }

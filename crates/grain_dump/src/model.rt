@@ -1,23 +1,26 @@
 //! What is shown of a file.
 
-use grain_file::Part;
+use grain::{Program, Sidecar};
+use grain_file::{Item, Part};
+use std::io;
+use std::ops::Range;
 
 /// What a file is of.
-#[derive(Clone, Copy, Debug, PartialEq, Eq)]
-pub enum Kind {
+#[derive(Clone, Copy)]
+pub enum Content<'a> {
     /// A program.
-    Program,
+    Program(&'a Program),
     /// The positions of a program.
-    Sidecar,
+    Sidecar(&'a Sidecar),
 }
 
-impl Kind {
-    /// What the kind is called.
+impl Content<'_> {
+    /// What the kind of the file is called.
     #[must_use]
-    pub fn name(self) -> &'static str {
+    pub fn kind(self) -> &'static str {
         match self {
-            Kind::Program => "program",
-            Kind::Sidecar => "sidecar",
+            Content::Program(_) => "program",
+            Content::Sidecar(_) => "sidecar",
         }
     }
 }
@@ -33,6 +36,12 @@ pub struct Piece {
     pub text: String,
 }
 
+/// What takes the pieces of a section, one after another, so that no more than one is held.
+pub(crate) trait Pieces {
+    /// Takes a piece.
+    fn take_piece(&mut self, piece: &Piece) -> io::Result<()>;
+}
+
 /// A part of a file with all of its items.
 #[derive(Debug, Drop)]
 pub struct Section {
@@ -44,15 +53,19 @@ pub struct Section {
     pub end: usize,
     /// What it has, in a few words: for a list how many items.
     pub summary: String,
-    /// Its pieces, where these are wanted.
-    pub pieces: Vec<Piece>,
+    /// Which items of the outline are its own.
+    pub items: Range<usize>,
 }
 
 /// The sections of a file, in their order.
-#[derive(Debug, Drop)]
-pub struct Dump {
+#[derive(Drop)]
+pub struct Dump<'a> {
     /// What the file is of.
-    pub kind: Kind,
+    pub content: Content<'a>,
     /// Its sections.
     pub sections: Vec<Section>,
+    /// Its outline.
+    pub(crate) items: Vec<Item>,
+    /// Whether the pieces of the sections are wanted.
+    pub(crate) with_pieces: bool,
 }

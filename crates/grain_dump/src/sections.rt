@@ -1,11 +1,12 @@
 //! The sections of a file, by its outline.
 
-use crate::instructions::push_code;
+use crate::instructions::give_code;
 use crate::meaning::{write_part, write_sidecar_part};
-use crate::model::{Dump, Kind, Piece, Section};
+use crate::model::{Content, Dump, Piece, Pieces, Section};
 use grain::{Program, Sidecar};
 use grain_file::{Item, Part, WriteError, outline, outline_sidecar};
 use std::alloc::{AllocError, Global};
+use std::io;
 
 /// The text of a part of a program.
 fn part_text(alloc: Global, program: &Program, part: Part) -> Result<String, AllocError> {
@@ -21,37 +22,42 @@ fn sidecar_text(alloc: Global, sidecar: &Sidecar, part: Part) -> Result<String, 
     Ok(text)
 }
 
-/// A section that begins with an item.
-fn section_of(alloc: Global, item: &Item, summary: String) -> Section {
-    Section {
-        part: item.part,
-        start: item.start,
-        end: item.end,
-        summary,
-        pieces: Vec::new(alloc),
+/// What a part of a file spells.
+fn text_of(alloc: Global, content: Content<'_>, part: Part) -> Result<String, AllocError> {
+    match content {
+        Content::Program(program) => part_text(alloc, program, part),
+        Content::Sidecar(sidecar) => sidecar_text(alloc, sidecar, part),
     }
 }
 
-/// Appends the pieces of an item: the instructions of the code, or the item itself.
-fn push_pieces(
+/// The sections of a file with these items.
+fn sections_of(
     alloc: Global,
-    pieces: &mut Vec<Piece>,
-    program: &Program,
-    item: &Item,
-) -> Result<(), AllocError> {
-    if item.part == Part::Code {
-        return push_code(alloc, pieces, program, item);
+    content: Content<'_>,
+    items: &[Item],
+) -> Result<Vec<Section>, AllocError> {
+    let mut sections: Vec<Section> = Vec::new(alloc);
+    for (index, item) in items.iter().enumerate() {
+        let behind = index.saturating_add(1);
+        if item.part.index().is_none() {
+            sections.push(Section {
+                part: item.part,
+                start: item.start,
+                end: item.end,
+                summary: text_of(alloc, content, item.part)?,
+                items: index..behind,
+            })?;
+        }
+        if let Some(section) = sections.last_mut() {
+            section.end = item.end;
+            section.items.end = behind;
+        }
     }
-    pieces.push(Piece {
-        start: item.start,
-        end: item.end,
-        text: part_text(alloc, program, item.part)?,
-    })?;
-    Ok(())
+    Ok(sections)
 }
 
-/// The sections of the file of a program, and their pieces where these are wanted. It takes memory for a text of each section
-/// and piece.
+/// The sections of the file of a program, with their pieces where these are wanted. It takes memory for the outline of the file and
+/// a text of each section. The pieces are made as they are written.
 ///
 /// # Errors
 /// As [`write`](grain_file::write): `Unkept` where the program has no file.
@@ -59,23 +65,14 @@ pub fn program_dump(
     alloc: Global,
     program: &Program,
     with_pieces: bool,
-) -> Result<Dump, WriteError> {
-    let mut sections: Vec<Section> = Vec::new(alloc);
-    for item in &outline(alloc, program)? {
-        if item.part.index().is_none() {
-            let summary = part_text(alloc, program, item.part)?;
-            sections.push(section_of(alloc, item, summary))?;
-        }
-        if let Some(section) = sections.last_mut() {
-            section.end = item.end;
-            if with_pieces {
-                push_pieces(alloc, &mut section.pieces, program, item)?;
-            }
-        }
-    }
+) -> Result<Dump<'_>, WriteError> {
+    let content = Content::Program(program);
+    let items = outline(alloc, program)?;
     Ok(Dump {
-        kind: Kind::Program,
-        sections,
+        content,
+        sections: sections_of(alloc, content, &items)?,
+        items,
+        with_pieces,
     })
 }
 
@@ -87,22 +84,41 @@ pub fn sidecar_dump(
     alloc: Global,
     sidecar: &Sidecar,
     with_pieces: bool,
-) -> Result<Dump, AllocError> {
-    let mut sections: Vec<Section> = Vec::new(alloc);
-    for item in &outline_sidecar(alloc, sidecar)? {
-        let summary = sidecar_text(alloc, sidecar, item.part)?;
-        let mut section = section_of(alloc, item, summary);
-        if with_pieces {
-            section.pieces.push(Piece {
-                start: item.start,
-                end: item.end,
-                text: sidecar_text(alloc, sidecar, item.part)?,
-            })?;
-        }
-        sections.push(section)?;
-    }
+) -> Result<Dump<'_>, AllocError> {
+    let content = Content::Sidecar(sidecar);
+    let items = outline_sidecar(alloc, sidecar)?;
     Ok(Dump {
-        kind: Kind::Sidecar,
-        sections,
+        content,
+        sections: sections_of(alloc, content, &items)?,
+        items,
+        with_pieces,
     })
+}
+
+impl Dump<'_> {
+    /// Gives the pieces of a section, if they are wanted: the instructions of the code, or each item.
+    pub(crate) fn give_pieces<P: Pieces>(
+        &self,
+        alloc: Global,
+        section: &Section,
+        pieces: &mut P,
+    ) -> io::Result<()> {
+        if !self.with_pieces {
+            return Ok(());
+        }
+        let items = self.items.get(section.items.start..section.items.end);
+        for item in items.unwrap_or_default() {
+            match self.content {
+                Content::Program(program) if item.part == Part::Code => {
+                    give_code(alloc, pieces, program, item)?;
+                }
+                content => pieces.take_piece(&Piece {
+                    start: item.start,
+                    end: item.end,
+                    text: text_of(alloc, content, item.part)?,
+                })?,
+            }
+        }
+        Ok(())
+    }
 }

@@ -2,7 +2,10 @@
 
 use crate::edges::{Edge, EdgeKind};
 use crate::graph::{Graph, Node, Standing};
+use grain_stream::TextStream;
 use std::alloc::{AllocError, Global};
+use std::io;
+use std::io::Write;
 
 /// Appends text in quotes, in which a quote and a backslash are escaped.
 fn push_quoted(piece: &str, out: &mut String) -> Result<(), AllocError> {
@@ -80,11 +83,8 @@ fn push_wrong(graph: &Graph, out: &mut String) -> Result<(), AllocError> {
     push_quoted(&said, out)
 }
 
-/// Appends the graph as text for Graphviz. Its nodes are called `n` and their address. It takes time by the length of the text.
-///
-/// # Errors
-/// [`AllocError`] where memory was refused.
-pub fn write_dot(graph: &Graph, out: &mut String) -> Result<(), AllocError> {
+/// Appends what comes before the nodes.
+fn push_front(graph: &Graph, out: &mut String) -> Result<(), AllocError> {
     out.push_str("digraph ")?;
     push_quoted(&graph.title, out)?;
     out.push_str(" {\n  node [shape=box, fontname=monospace];\n")?;
@@ -93,11 +93,23 @@ pub fn write_dot(graph: &Graph, out: &mut String) -> Result<(), AllocError> {
         push_wrong(graph, out)?;
         out.push_str(";\n")?;
     }
+    Ok(())
+}
+
+/// Writes the graph as text for Graphviz. Its nodes are called `n` and their address. It takes time by the length of the text.
+///
+/// # Errors
+/// It can't be written, or memory was refused.
+pub fn write_dot<W: Write>(graph: &Graph, stream: &mut TextStream<'_, W>) -> io::Result<()> {
+    push_front(graph, &mut stream.text)?;
     for node in &graph.nodes {
-        push_node(node, out)?;
+        push_node(node, &mut stream.text)?;
+        stream.spill()?;
     }
     for edge in &graph.edges {
-        push_edge(&graph.nodes, edge, out)?;
+        push_edge(&graph.nodes, edge, &mut stream.text)?;
+        stream.spill()?;
     }
-    out.push_str("}\n")
+    stream.text.push_str("}\n")?;
+    Ok(())
 }

@@ -11,8 +11,11 @@ use grain_base::Position;
 use grain_code::{Chunk, Flow, Op};
 use grain_explain::{ExplainedChunk, LinkedBase, Refusal as ExplainedRefusal, Row};
 use grain_rules::{Effect, VerifyError};
+use grain_stream::JsonStream;
 use json::Writer;
 use std::alloc::{AllocError, Global};
+use std::io;
+use std::io::Write;
 
 /// Those of what has no rows.
 const NO_HANDLERS: Handlers<'static> = Handlers {
@@ -102,17 +105,21 @@ fn write_state(handlers: Handlers<'_>, row: &Row, json: &mut Writer) -> Result<(
 }
 
 /// Writes a path, the chunk's entry first.
-fn write_path(
+fn write_path<W: Write>(
     name: &str,
     handlers: Handlers<'_>,
     path: &[Row],
-    json: &mut Writer,
-) -> Result<(), AllocError> {
-    begin_array(name, json)?;
-    for row in path.iter().rev() {
-        write_state(handlers, row, json)?;
+    stream: &mut JsonStream<'_, W>,
+) -> io::Result<()> {
+    begin_array(name, &mut stream.json)?;
+    for (index, row) in path.iter().rev().enumerate() {
+        if index != 0 {
+            stream.next_value()?;
+        }
+        write_state(handlers, row, &mut stream.json)?;
     }
-    json.end_array()
+    stream.json.end_array()?;
+    Ok(())
 }
 
 /// Writes the state at an instruction, and from where it is reached.
@@ -218,54 +225,63 @@ fn write_sentence(
 }
 
 /// Writes why something is refused.
-fn write_refusal(
+fn write_refusal<W: Write>(
     alloc: Global,
     error: &VerifyError,
     handlers: Handlers<'_>,
     path: &[Row],
     other: &[Row],
-    json: &mut Writer,
-) -> Result<(), AllocError> {
-    begin_object("refusal", json)?;
-    write_error(alloc, error, json)?;
-    write_sentence(alloc, error, path, other, json)?;
-    write_words("rule", rule(error), json)?;
-    write_path("path", handlers, path, json)?;
-    write_path("other_path", handlers, other, json)?;
-    json.end_object()
+    stream: &mut JsonStream<'_, W>,
+) -> io::Result<()> {
+    begin_object("refusal", &mut stream.json)?;
+    write_error(alloc, error, &mut stream.json)?;
+    write_sentence(alloc, error, path, other, &mut stream.json)?;
+    write_words("rule", rule(error), &mut stream.json)?;
+    write_path("path", handlers, path, stream)?;
+    write_path("other_path", handlers, other, stream)?;
+    stream.json.end_object()?;
+    Ok(())
 }
 
 /// Writes why a chunk is refused, if it is.
-fn write_chunk_refusal(
+fn write_chunk_refusal<W: Write>(
     alloc: Global,
     handlers: Handlers<'_>,
     refusal: &Option<ExplainedRefusal>,
-    json: &mut Writer,
-) -> Result<(), AllocError> {
+    stream: &mut JsonStream<'_, W>,
+) -> io::Result<()> {
     match refusal {
         Some(ExplainedRefusal { error, way, other }) => {
-            write_refusal(alloc, error, handlers, way, other, json)
+            write_refusal(alloc, error, handlers, way, other, stream)
         }
-        None => write_null("refusal", json),
+        None => {
+            write_null("refusal", &mut stream.json)?;
+            Ok(())
+        }
     }
 }
 
 /// Writes the instructions of a chunk.
-fn write_chunk_items(
+fn write_chunk_items<W: Write>(
     alloc: Global,
     naming: Naming<'_>,
     code: &CodeListing,
     chunk: &Chunk,
     explained: &ExplainedChunk,
     handlers: Handlers<'_>,
-    json: &mut Writer,
-) -> Result<(), AllocError> {
-    begin_array("items", json)?;
-    for item in code.between(chunk.entry() as usize, chunk.end() as usize) {
+    stream: &mut JsonStream<'_, W>,
+) -> io::Result<()> {
+    begin_array("items", &mut stream.json)?;
+    let items = code.between(chunk.entry() as usize, chunk.end() as usize);
+    for (index, item) in items.iter().enumerate() {
+        if index != 0 {
+            stream.next_value()?;
+        }
         let found = row_at(explained, item.0);
-        write_item(alloc, naming, code, item, handlers, found, json)?;
+        write_item(alloc, naming, code, item, handlers, found, &mut stream.json)?;
     }
-    json.end_array()
+    stream.json.end_array()?;
+    Ok(())
 }
 
 /// Writes what a chunk is called, where chunks have names.
@@ -276,23 +292,33 @@ fn write_name(naming: Naming<'_>, place: usize, json: &mut Writer) -> Result<(),
     }
 }
 
+/// Writes what is before the instructions of an explained chunk: what it is called, where it is, and what it declares.
+fn write_chunk_head(
+    naming: Naming<'_>,
+    place: usize,
+    chunk: &Chunk,
+    json: &mut Writer,
+) -> Result<(), AllocError> {
+    json.begin_object()?;
+    write_name(naming, place, json)?;
+    write_number("entry", u64::from(chunk.entry()), json)?;
+    write_number("end", u64::from(chunk.end()), json)?;
+    write_number("declared", u64::from(chunk.max_stack()), json)
+}
+
 /// Writes an explained chunk.
-fn write_chunk(
+fn write_chunk<W: Write>(
     alloc: Global,
     naming: Naming<'_>,
     program: &ProgramListing,
     place: usize,
     chunk: &Chunk,
     explained: &ExplainedChunk,
-    json: &mut Writer,
-) -> Result<(), AllocError> {
+    stream: &mut JsonStream<'_, W>,
+) -> io::Result<()> {
     let handlers = program.handlers_at(place);
-    json.begin_object()?;
-    write_name(naming, place, json)?;
-    write_number("entry", u64::from(chunk.entry()), json)?;
-    write_number("end", u64::from(chunk.end()), json)?;
-    write_number("declared", u64::from(chunk.max_stack()), json)?;
-    write_chunk_refusal(alloc, handlers, &explained.refusal, json)?;
+    write_chunk_head(naming, place, chunk, &mut stream.json)?;
+    write_chunk_refusal(alloc, handlers, &explained.refusal, stream)?;
     write_chunk_items(
         alloc,
         naming,
@@ -300,9 +326,10 @@ fn write_chunk(
         chunk,
         explained,
         handlers,
-        json,
+        stream,
     )?;
-    json.end_object()
+    stream.json.end_object()?;
+    Ok(())
 }
 
 /// What is listed.
@@ -338,6 +365,12 @@ impl<'a> Listed<'a> {
     }
 }
 
+/// Writes an array of nothing.
+fn write_empty(name: &str, json: &mut Writer) -> Result<(), AllocError> {
+    begin_array(name, json)?;
+    json.end_array()
+}
+
 /// Writes why code with chunks is refused before these.
 fn write_refusal_before(
     alloc: Global,
@@ -351,8 +384,8 @@ fn write_refusal_before(
     write_error(alloc, error, json)?;
     write_words("wrong", said.as_str(), json)?;
     write_words("rule", early_rule(error), json)?;
-    write_path("path", NO_HANDLERS, &[], json)?;
-    write_path("other_path", NO_HANDLERS, &[], json)?;
+    write_empty("path", json)?;
+    write_empty("other_path", json)?;
     json.end_object()
 }
 
@@ -370,48 +403,64 @@ fn write_early_refusal(
 }
 
 /// Writes the instructions of code that is listed without chunks.
-fn write_items(
+fn write_items<W: Write>(
     alloc: Global,
     naming: Naming<'_>,
     listed: Listed<'_>,
-    json: &mut Writer,
-) -> Result<(), AllocError> {
-    begin_array("items", json)?;
+    stream: &mut JsonStream<'_, W>,
+) -> io::Result<()> {
+    begin_array("items", &mut stream.json)?;
     if let Some(code) = listed.bare_code() {
-        for item in &code.items {
-            write_item(alloc, naming, code, item, NO_HANDLERS, None, json)?;
+        for (index, item) in code.items.iter().enumerate() {
+            if index != 0 {
+                stream.next_value()?;
+            }
+            write_item(
+                alloc,
+                naming,
+                code,
+                item,
+                NO_HANDLERS,
+                None,
+                &mut stream.json,
+            )?;
         }
     }
-    json.end_array()
+    stream.json.end_array()?;
+    Ok(())
 }
 
-fn write_chunks(
+fn write_chunks<W: Write>(
     alloc: Global,
     naming: Naming<'_>,
     listed: Listed<'_>,
-    json: &mut Writer,
-) -> Result<(), AllocError> {
-    begin_array("chunks", json)?;
+    stream: &mut JsonStream<'_, W>,
+) -> io::Result<()> {
+    begin_array("chunks", &mut stream.json)?;
     if let Listed::Program(program) = listed {
         let pairs = program.chunks.iter().zip(program.explained.chunks.iter());
         for (place, (chunk, explained)) in pairs.enumerate() {
-            write_chunk(alloc, naming, program, place, chunk, explained, json)?;
+            if place != 0 {
+                stream.next_value()?;
+            }
+            write_chunk(alloc, naming, program, place, chunk, explained, stream)?;
         }
     }
-    json.end_array()
+    stream.json.end_array()?;
+    Ok(())
 }
 
 /// Writes what is listed as the members `refusal`, `items` and `chunks` of an object.
 ///
 /// # Errors
-/// [`AllocError`] where memory was refused.
-pub fn write_listed(
+/// It can't be written, or memory was refused.
+pub fn write_listed<W: Write>(
     alloc: Global,
     naming: Naming<'_>,
     listed: Listed<'_>,
-    json: &mut Writer,
-) -> Result<(), AllocError> {
-    write_early_refusal(alloc, naming, listed, json)?;
-    write_items(alloc, naming, listed, json)?;
-    write_chunks(alloc, naming, listed, json)
+    stream: &mut JsonStream<'_, W>,
+) -> io::Result<()> {
+    write_early_refusal(alloc, naming, listed, &mut stream.json)?;
+    write_items(alloc, naming, listed, stream)?;
+    write_chunks(alloc, naming, listed, stream)
 }

@@ -1,13 +1,13 @@
 -- What the program of a text has of what was read.
 use Rattle.std.specs.Option.{ForSome}
-use Rattle.std.specs.Prelude.{◌≡◌, ℕ, List, MatchOption, [], Option, None, Some, map, option_map, string_bytes}
-use Rattle.grain.specs.Program.{Program, input_of, listed_positions}
+use Rattle.std.specs.Prelude.{◌≡◌, ℕ, IfSome, List, [], Option, None, Some, map, option_map, string_bytes}
+use Rattle.grain.specs.Program.{listed_positions}
 use Rattle.grain.specs.declared.program.Parts.{Parts}
 use Rattle.grain_base.specs.declared.position.Position.{Position}
-use Rattle.grain_needs.specs.Capabilities.{AreLeast}
 use Rattle.grain_parse.specs.Entries.{GrowsTo}
 use Rattle.grain_parse.specs.declared.chunks.Chunks.{Chunks}
 use Rattle.grain_parse.specs.declared.draft.Draft.{Draft}
+use Rattle.grain_parse.specs.declared.parsed.Parsed.{Parsed}
 use Rattle.grain_parse.specs.declared.pools.Pools.{Pools}
 use Rattle.grain_parse.specs.declared.sections.Section.TheVariants as sections
 
@@ -56,17 +56,17 @@ pub record HasDirectives (id fragments : ℕ) (name : Option (List ℕ)) (places
   pub source : option_map string_bytes parts.source ≡ name
   pub positions : listed_positions parts.positions ≡ places
 
--- The program has the code, the entries and what the directives say. Its capabilities are those that are declared, or else the least that
--- suffice for it.
-pub record IsProgramOf (draft : Draft) (program : Program) : Type 0 where
-  pub code : program.code ≡ draft.code.items
-  pub names : program.names ≡ map string_bytes draft.pools.names.items
-  pub consts : program.consts ≡ draft.pools.consts.items
-  pub tokens : program.tokens ≡ draft.pools.tokens.items
-  pub assign_ops : program.assign_ops ≡ draft.pools.assign_ops.items
-  pub chains : program.chains ≡ draft.pools.chains.items
-  pub switches : program.switches ≡ draft.pools.switches.items
-  pub caps : MatchOption draft.head.caps (AreLeast (input_of program) program.caps.0) (λ caps. program.caps ≡ caps)
-  pub debug_id : program.debug_id ≡ draft.head.debug_id
-  pub residuals : program.residuals ≡ draft.head.fragments
-  pub source : program.source ≡ option_map string_bytes draft.head.source
+-- The program has the code, the entries and what the directives say, and its capabilities if they do.
+pub record IsParsedOf (draft : Draft) (parsed : Parsed) : Type 0 where
+  pub code : parsed.program.code ≡ draft.code.items
+  pub names : parsed.program.names ≡ map string_bytes draft.pools.names.items
+  pub consts : parsed.program.consts ≡ draft.pools.consts.items
+  pub tokens : parsed.program.tokens ≡ draft.pools.tokens.items
+  pub assign_ops : parsed.program.assign_ops ≡ draft.pools.assign_ops.items
+  pub chains : parsed.program.chains ≡ draft.pools.chains.items
+  pub switches : parsed.program.switches ≡ draft.pools.switches.items
+  pub caps : IfSome draft.head.caps (λ caps. parsed.program.caps ≡ caps)
+  pub declared : parsed.caps ≡ draft.head.caps
+  pub debug_id : parsed.program.debug_id ≡ draft.head.debug_id
+  pub residuals : parsed.program.residuals ≡ draft.head.fragments
+  pub source : parsed.program.source ≡ option_map string_bytes draft.head.source

@@ -1,8 +1,6 @@
 //! The main chunk and the functions.
-ghost use Rattle.std.specs.Prelude.{◌≡◌, IfOk, MatchOption, OnOk, [], map};
+ghost use Rattle.std.specs.Prelude.{◌≡◌, IfOk, MatchOption, OnOk, [], length};
 ghost use Rattle.grain_parse.specs.Drafted.{KeepsChunks};
-ghost use Rattle.grain.specs.Tightened.{undeclared_function};
-ghost use Rattle.grain_code.specs.Span.{undeclared_chunk};
 
 use crate::cursor::Cursor;
 use crate::error::{LineProblem, Stop};
@@ -10,7 +8,7 @@ use crate::labels::Labels;
 use crate::pools::Pools;
 use grain_base::FnAccess;
 use grain_code::{Chunk, Function};
-use std::alloc::Global;
+use std::alloc::{AllocError, Global};
 
 /// The chunks of a program while its text is read.
 #[derive(Drop)]
@@ -174,27 +172,26 @@ impl Chunks {
     }
 }
 
-/// Has the chunks at these places declare the numbers that verification found.
-pub(crate) fn declare(
-    main: &mut Chunk,
-    functions: &mut [Function],
+/// What the chunks declare: those at these places their depth, the others what they declare already.
+///
+/// # Errors
+/// If the allocator refuses the list.
+pub(crate) fn stacks_of(
+    alloc: Global,
+    chunks: &[Chunk],
     automatic: &[usize],
-    numbers: &[u16],
-)
-    ensures main { undeclared_chunk main.new ≡ undeclared_chunk main.old }
-    ensures functions { map undeclared_function functions.new
-        ≡ map undeclared_function functions.old }
+    depths: &[u16],
+) -> Result<Vec<u16>, AllocError>
+    ensures { IfOk result (λ stacks. length stacks.items ≡ length chunks.now) }
 {
+    let mut stacks = Vec::with_capacity(alloc, chunks.len())?;
+    for chunk in chunks {
+        stacks.push(chunk.max_stack())?;
+    }
     for place in automatic {
-        let Some(number) = numbers.get(*place) else {
-            continue;
-        };
-        match place.checked_sub(1) {
-            None => main.set_max_stack(*number),
-            Some(index) if index < functions.len() => {
-                functions[index].chunk.set_max_stack(*number);
-            }
-            Some(_) => {}
+        if let (Some(stack), Some(depth)) = (stacks.get_mut(*place), depths.get(*place)) {
+            *stack = *depth;
         }
     }
+    Ok(stacks)
 }

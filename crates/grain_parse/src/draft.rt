@@ -1,34 +1,45 @@
 //! A program while its text is read.
-ghost use Rattle.std.specs.Prelude.{◌≡◌, ◌<◌, IfOk, IfSome, List, MatchOption, OnOk, [], length, map, option_map, string_bytes, unwrap_or};
+ghost use Rattle.std.specs.Prelude.{◌≡◌, ◌<◌, ◌≤◌, IfOk, IfSome, MatchOption, OnOk, [], length, map, option_map, string_bytes, unwrap_or};
 ghost use Rattle.std.specs.Option.{ForSome};
-ghost use Rattle.grain.specs.Program.{input_of, listed_positions, made};
-ghost use Rattle.grain_needs.specs.Capabilities.{AreLeast};
-ghost use Rattle.grain_code.specs.Span.{Span};
-ghost use Rattle.grain_code.specs.declared.function.Function.{Function};
-ghost use Rattle.grain_parse.specs.Drafted.{HasDirectives, HasEntries, HasReadNothing, IsProgramOf};
+ghost use Rattle.grain.specs.Program.{listed_positions};
+ghost use Rattle.grain_parse.specs.Drafted.{HasDirectives, HasEntries, HasReadNothing, IsParsedOf};
 ghost use Rattle.grain_parse.specs.Entries.{GrowsTo};
+ghost use Rattle.grain_parse.specs.declared.draft.TheConstants.{MAX_POSITIONS};
 
 use crate::chains::read_chain;
-use crate::chunks::{Chunks, declare};
+use crate::chunks::Chunks;
 use crate::code::{eat_label, read_instruction};
 use crate::cursor::{Cursor, no_number};
 use crate::error::{LineProblem, Stop, Unfinished};
 use crate::labels::Labels;
 use crate::literals::{read_text, read_text_or_word};
 use crate::operators::read_token;
+use crate::parsed::Parsed;
 use crate::pools::Pools;
 use crate::sections::{Pass, Section, read_directive, section_named};
 use crate::switches::read_switch_line;
 use crate::values::{MAX_DEPTH, read_value};
-use grain::{Parts, Pools as PoolSizes, Positions, Program, VerifyError, verify};
+use grain::{Parts, Positions, Program};
 use grain_base::{Caps, Position};
-use grain_code::{Chunk, Function};
 use grain_pools::{Strings, StringsError};
+use grain_print::UNLISTED;
 use std::alloc::{AllocError, Global};
 use std::mem;
 
 /// How many positions a text declares at most: as many as a file of 64 MiB has room for, of which 26 bytes are for all else.
+/// A short text declares no more than [`most_positions`].
 pub const MAX_POSITIONS: u64 = 64 * 1024 * 1024 - 26;
+
+/// How many positions a text of these lines declares at most. Positions take memory that the text must pay for: one for each
+/// of its bytes, and as many more as are printed without a line of their own.
+pub(crate) fn most_positions(lines: &[&str]) -> u64
+    ensures { result ≤ MAX_POSITIONS }
+{
+    let bytes = lines
+        .iter()
+        .fold(UNLISTED, |bytes, line| bytes.saturating_add(line.len()));
+    MAX_POSITIONS.min(bytes as u64)
+}
 
 /// Which directives were given that begin no section.
 #[derive(Clone, Copy, Default)]
@@ -50,6 +61,8 @@ pub(crate) struct Head {
     source: Option<String>,
     /// How many bytes have a position, where the text says so.
     positions: Option<usize>,
+    /// How many it may declare.
+    most_positions: u64,
     /// What of this was given.
     given: Given,
 }
@@ -110,7 +123,12 @@ impl Given {
 
 impl Head {
     /// Reads what follows a directive that begins no section.
-    fn read(&mut self, cursor: &mut Cursor<'_>, directive: &str) -> Result<(), Stop> {
+    fn read(&mut self, cursor: &mut Cursor<'_>, directive: &str) -> Result<(), Stop>
+        ensures most { self.new.most_positions ≡ self.old.most_positions }
+        ensures positions { OnOk result
+            (IfSome self.old.positions (λ count. count ≤ self.old.most_positions)
+            → IfSome self.new.positions (λ count. count ≤ self.old.most_positions)) }
+    {
         if self.given.note(directive) {
             return Err(Stop::Fault(LineProblem::DirectiveTwice));
         }
@@ -119,7 +137,10 @@ impl Head {
             ".id" => self.debug_id = read_id(cursor)?,
             ".fragments" => self.fragments = cursor.number()? as usize,
             ".source" => self.source = Some(read_text(cursor)?),
-            ".positions" => self.positions = Some(cursor.number_up_to(MAX_POSITIONS)? as usize),
+            ".positions" => {
+                let count = cursor.number_up_to(self.most_positions)?;
+                self.positions = Some(count as usize);
+            }
             _ => return Err(Stop::Fault(LineProblem::Directive)),
         }
         Ok(())
@@ -127,9 +148,10 @@ impl Head {
 }
 
 impl Draft {
-    /// A program without anything.
-    pub fn new(alloc: Global) -> Draft
-        ensures { HasReadNothing result }
+    /// A program without anything, which declares so many positions at most.
+    pub fn new(alloc: Global, most_positions: u64) -> Draft
+        ensures nothing { HasReadNothing result }
+        ensures positions { result.head.most_positions ≡ most_positions }
     {
         Draft {
             head: Head {
@@ -138,6 +160,7 @@ impl Draft {
                 fragments: 0,
                 source: None,
                 positions: None,
+                most_positions,
                 given: Given::default(),
             },
             pools: Pools::new(alloc),
@@ -312,9 +335,9 @@ impl Draft {
         }
     }
 
-    /// The program that was read.
-    pub fn finish(self, alloc: Global) -> Result<Program, Unfinished>
-        ensures { IfOk result (IsProgramOf self) }
+    /// What was read.
+    pub fn finish(self, alloc: Global) -> Result<Parsed, Unfinished>
+        ensures { IfOk result (IsParsedOf self) }
     {
         let Draft {
             head,
@@ -343,22 +366,12 @@ impl Draft {
             positions,
         )?;
         let caps = head.caps.unwrap_or(<Caps as grain_base::Flags>::all());
-        let program = assemble(alloc, caps, code, main, functions, parts, &automatic)?;
-        Ok(declaring(program, head.caps))
+        Ok(Parsed {
+            program: Program::new(alloc, caps, code, main, functions, parts),
+            automatic,
+            caps: head.caps,
+        })
     }
-}
-
-/// The program, with the capabilities that its text declares, or else the least that suffice.
-fn declaring(mut program: Program, caps: Option<Caps>) -> Program
-    requires { IfSome caps (λ given. program.caps ≡ given) }
-    ensures caps { MatchOption caps (AreLeast (input_of result) result.caps.0)
-        (λ given. result.caps ≡ given) }
-    ensures rest { result ≡ record program { caps = result.caps } }
-{
-    if caps.is_none() {
-        program.declare_least_caps();
-    }
-    program
 }
 
 /// The positions of code.
@@ -434,53 +447,4 @@ fn parts_of(
         switches,
         source,
     })
-}
-
-/// The greatest operand count that any run of each chunk reaches.
-fn numbers_of(
-    alloc: Global,
-    caps: Caps,
-    code: &[u8],
-    main: Chunk,
-    functions: &[Function],
-    parts: &Parts,
-) -> Result<Vec<u16>, VerifyError> {
-    let mut chunks = Vec::with_capacity(alloc, functions.len().saturating_add(1))?;
-    chunks.push(main)?;
-    for function in functions {
-        chunks.push(function.chunk)?;
-    }
-    let pools = PoolSizes {
-        consts: parts.consts.len(),
-        names: &parts.names,
-        tokens: parts.tokens.len(),
-        assign_ops: parts.assign_ops.len(),
-        residuals: parts.residuals,
-        chains: &parts.chains,
-        switches: &parts.switches,
-    };
-    verify(alloc, caps, &parts.consts, code, functions, &chunks, &pools)
-}
-
-/// The program of these parts, in which chunks that declare nothing declare what verification finds.
-fn assemble(
-    alloc: Global,
-    caps: Caps,
-    code: Vec<u8>,
-    mut main: Chunk,
-    mut functions: Vec<Function>,
-    parts: Parts,
-    automatic: &[usize],
-) -> Result<Program, Unfinished>
-    ensures { IfOk result (λ program. (declared : Span) × (all : List Function)
-        × (program ≡ made caps code.items declared all parts)) }
-{
-    if !automatic.is_empty() {
-        match numbers_of(alloc, caps, &code, main, &functions, &parts) {
-            Ok(numbers) => declare(&mut main, &mut functions, automatic, &numbers),
-            Err(VerifyError::OutOfMemory) => return Err(Unfinished::OutOfMemory),
-            Err(refusal) => return Err(Unfinished::Refused(refusal)),
-        }
-    }
-    Ok(Program::new(alloc, caps, code, main, functions, parts))
 }

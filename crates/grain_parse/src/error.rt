@@ -154,8 +154,6 @@ pub struct SyntaxError {
 /// Why lines that are all well make no program.
 #[derive(Debug, Drop)]
 pub(crate) enum Unfinished {
-    /// The program isn't accepted, so that no number is found for `stack auto`.
-    Refused(VerifyError),
     /// The names have more than 4294967295 bytes.
     NamesTooLong,
     /// The allocator refused.

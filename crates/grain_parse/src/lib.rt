@@ -1,4 +1,4 @@
-//! Assembly text (docs/ASSEMBLY.md): [`parse`] makes a program of it. The crate `grain_print` writes it.
+//! Assembly text (docs/ASSEMBLY.md): [`parse`] makes a program of it; [`read`] stops before anything is verified. The crate `grain_print` writes it.
 #![tactic(auto)]
 
 mod chains;
@@ -10,6 +10,7 @@ mod error;
 mod labels;
 mod literals;
 mod operators;
+mod parsed;
 mod parsing;
 mod pools;
 mod sections;
@@ -18,5 +19,6 @@ mod values;
 
 pub use draft::MAX_POSITIONS;
 pub use error::{LineProblem, ParseError, SyntaxError};
-pub use parsing::{parse, parse_accepted};
+pub use parsed::Parsed;
+pub use parsing::{parse, parse_accepted, read};
 pub use values::MAX_DEPTH;

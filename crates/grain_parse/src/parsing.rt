@@ -6,9 +6,10 @@ ghost use Rattle.grain_parse.specs.Placed.{IsPlacedError};
 ghost use Rattle.grain_pools.specs.Names.{texts};
 
 use crate::cursor::Cursor;
-use crate::draft::Draft;
+use crate::draft::{Draft, most_positions};
 use crate::error::{Flaw, ParseError, Stop, SyntaxError, Unfinished};
 use crate::labels::Labels;
+use crate::parsed::Parsed;
 use crate::sections::Pass;
 use grain::{Program, Verified};
 use grain_rules::VerifyError;
@@ -88,7 +89,7 @@ fn before<'a, 'b>(lines: &'a [&'b str], read: &Result<(), Flaw>) -> &'a [&'b str
 fn read_lines(alloc: Global, labels: &Labels, lines: &[&str]) -> Result<Draft, Flaw>
     ensures { IfErr result (λ flaw. flaw.line < length lines.now) }
 {
-    let mut draft = Draft::new(alloc);
+    let mut draft = Draft::new(alloc, most_positions(lines));
     let entries = read_pass(alloc, labels, Pass::Entries, lines, &mut draft);
     let front = before(lines, &entries);
     let assign_ops = read_pass(alloc, labels, Pass::OpAssignments, front, &mut draft);
@@ -99,13 +100,12 @@ fn read_lines(alloc: Global, labels: &Labels, lines: &[&str]) -> Result<Draft, F
     Ok(draft)
 }
 
-/// The program of what was read. Where it has none, no line is at fault.
-fn finish(alloc: Global, draft: Draft) -> Result<Program, ParseError>
+/// What was read, as a program. Where it has none, no line is at fault.
+fn finish(alloc: Global, draft: Draft) -> Result<Parsed, ParseError>
     ensures { (texts : List (List ℕ)) → IfErr result (IsPlacedError texts) }
 {
     match draft.finish(alloc) {
-        Ok(program) => Ok(program),
-        Err(Unfinished::Refused(refusal)) => Err(ParseError::Refused(refusal)),
+        Ok(parsed) => Ok(parsed),
         Err(Unfinished::NamesTooLong) => Err(ParseError::NamesTooLong),
         Err(Unfinished::OutOfMemory) => Err(ParseError::OutOfMemory),
     }
@@ -121,16 +121,15 @@ fn draft_of(alloc: Global, lines: &[&str]) -> Result<Draft, Flaw>
     }
 }
 
-/// The program of an assembly text (docs/ASSEMBLY.md). Only where a chunk says `stack auto`, or nothing of its stack, it is
-/// verified; [`parse_accepted`] verifies each.
+/// What an assembly text says (docs/ASSEMBLY.md), before anything is verified.
 ///
 /// It goes over the text four times, and takes memory for the program, a label for each that is defined, and a slice for each line.
 /// For a name, a plain constant, an operator and an op-assignment in place it goes over the entries that are there.
 ///
 /// # Errors
-/// `Syntax` with the first line that is wrong, labels before all else. `Refused` where the program has to be verified and
-/// isn't accepted. `NamesTooLong` where its names have more than 4294967295 bytes, `OutOfMemory` where a growth was refused.
-pub fn parse(alloc: Global, text: &str) -> Result<Program, ParseError>
+/// `Syntax` with the first line that is wrong, labels before all else. `NamesTooLong` where its names have more than 4294967295
+/// bytes, `OutOfMemory` where a growth was refused.
+pub fn read(alloc: Global, text: &str) -> Result<Parsed, ParseError>
     // A line that is refused is one of the text, and the column is in it or one past its end.
     ensures { IfErr result (IsPlacedError (lines text.now)) }
 {
@@ -139,6 +138,17 @@ pub fn parse(alloc: Global, text: &str) -> Result<Program, ParseError>
         Ok(draft) => finish(alloc, draft),
         Err(flaw) => Err(refusal_of(alloc, &lines, flaw)),
     }
+}
+
+/// The program of an assembly text. Only where a chunk says `stack auto`, or nothing of its stack, it is verified;
+/// [`parse_accepted`] verifies each. It costs one [`read`] and one [`Parsed::finish`].
+///
+/// # Errors
+/// As [`read`], and `Refused` where the program has to be verified and isn't accepted.
+pub fn parse(alloc: Global, text: &str) -> Result<Program, ParseError>
+    ensures { IfErr result (IsPlacedError (lines text.now)) }
+{
+    read(alloc, text)?.finish(alloc)
 }
 
 /// The program of an assembly text, verified.

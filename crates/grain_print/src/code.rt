@@ -157,7 +157,11 @@ pub fn write_code(
     Ok(())
 }
 
+/// How many positions past the code a text has without a line for each.
+pub const UNLISTED: usize = 65_536;
+
 /// Appends the positions in a part of the addresses that are of no line of the code. The first part has the head of the section.
+/// A position that is none has a line if there are very many past the code: a text is no shorter than its positions then.
 pub fn write_places(
     out: &mut String,
     positions: &Positions,
@@ -171,9 +175,11 @@ pub fn write_places(
     if part.start == 0 {
         out.push_str(".places\n")?;
     }
+    let lists_all = list.len() > len.saturating_add(UNLISTED);
     for at in part.start..part.end.min(list.len()) {
         let position = list.get(at).copied().unwrap_or(Position::NONE);
-        if position.is_none() || (at < len && marks.begins_line(at)) {
+        let is_listed = !position.is_none() || (lists_all && at >= len);
+        if !is_listed || (at < len && marks.begins_line(at)) {
             continue;
         }
         write!(out, "  {at}")?;

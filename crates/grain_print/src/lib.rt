@@ -13,6 +13,7 @@ mod switches;
 mod values;
 
 pub use chains::write_chain;
+pub use code::UNLISTED;
 pub use forms::{Operand, TextForm, form_named, form_of};
 pub use marks::Marks;
 pub use operators::{spelling, token_spelled, write_assign_op, write_token};

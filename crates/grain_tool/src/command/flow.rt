@@ -8,11 +8,14 @@ use grain_cli::arguments::{Argument, FILE, Subcommand};
 use grain_cli::failure::Failure;
 use grain_cli::files::shown;
 use grain_cli::loading::{WORK, admit, allowed_of};
-use grain_cli::output::write_text;
+use grain_cli::output::Output;
 use grain_cli::overlaps::refuse_input;
 use grain_flow::{Graph, write_dot, write_svg};
 use grain_listing::{ProgramListing, name_of};
+use grain_stream::TextStream;
 use std::alloc::{AllocError, Global};
+use std::io;
+use std::io::Write;
 
 /// `grain flow`
 pub const SUBCOMMAND: Subcommand = Subcommand {
@@ -63,15 +66,20 @@ fn undrawn(alloc: Global, path: &str, listing: &ProgramListing) -> Failure {
     }
 }
 
-/// The text of a picture, for Graphviz or as SVG.
-fn picture_of(alloc: Global, graph: &Graph, is_dot: bool) -> Result<String, AllocError> {
-    let mut text = String::new(alloc);
+/// Writes a picture, for Graphviz or as SVG.
+fn write_picture<W: Write>(
+    alloc: Global,
+    graph: &Graph,
+    is_dot: bool,
+    out: &mut W,
+) -> io::Result<()> {
+    let mut stream = TextStream::new(alloc, out);
     if is_dot {
-        write_dot(graph, &mut text)?;
+        write_dot(graph, &mut stream)?;
     } else {
-        write_svg(alloc, graph, &mut text)?;
+        write_svg(alloc, graph, &mut stream)?;
     }
-    Ok(text)
+    stream.finish()
 }
 
 /// The control flow of the function with a name, if one has it and is explained.
@@ -87,17 +95,16 @@ fn graph_of(
     }
 }
 
-/// The picture of a function of a program.
+/// The control flow of a function of a program.
 fn drawn(
     alloc: Global,
     path: &str,
     program: &Program,
     name: Option<&str>,
-    is_dot: bool,
-) -> Result<String, Failure> {
+) -> Result<Graph, Failure> {
     let listing = explained(alloc, program)?;
     match graph_of(alloc, program, &listing, name)? {
-        Some(graph) => Ok(picture_of(alloc, &graph, is_dot)?),
+        Some(graph) => Ok(graph),
         None => Err(undrawn(alloc, path, &listing)),
     }
 }
@@ -110,7 +117,9 @@ pub fn run(rt: &HostRuntime, matches: &ArgMatches<'_>) -> Result<u8, Failure> {
     refuse_input(rt, to, path)?;
     let program = program_in(rt, path)?;
     admit(rt.alloc(), path, allowed_of(matches), &program)?;
-    let text = drawn(rt.alloc(), path, &program, name, is_dot)?;
-    write_text(rt, to, text.as_bytes())?;
+    let graph = drawn(rt.alloc(), path, &program, name)?;
+    let mut output = Output::open(rt, to)?;
+    let written = write_picture(rt.alloc(), &graph, is_dot, &mut output);
+    output.end_written(rt, written)?;
     Ok(0)
 }

@@ -5,7 +5,6 @@ use grain::{Caps, Flags, Program, VerifyError};
 use grain_cli::arguments::{Argument, FILE, Subcommand};
 use grain_cli::failure::Failure;
 use grain_cli::files::{read_program, shown};
-use grain_cli::json_lines::{line_of, writer};
 use grain_cli::loading::{
     Allowed, Obstacle, WORK, allowed_of, obstacle_before, push_lacking, refused,
 };
@@ -15,8 +14,11 @@ use grain_listing::{
     Colours, Kind, Listed, Naming, Paint, ProgramListing, Style, count_parts, push_shown,
     write_listed, write_part,
 };
+use grain_stream::JsonStream;
 use json::Writer;
 use std::alloc::{AllocError, Global};
+use std::io;
+use std::io::Write;
 
 /// `grain list`
 pub const SUBCOMMAND: Subcommand = Subcommand {
@@ -114,7 +116,7 @@ fn write_parts(
 ) -> Result<(), Failure> {
     for place in 0..count_parts(listing) {
         let text = part_of(rt.alloc(), style, listing, place)?;
-        output.write(rt, text.as_bytes())?;
+        output.write_bytes(rt, text.as_bytes())?;
     }
     Ok(())
 }
@@ -129,16 +131,13 @@ fn write_as_text(
     refusal: Option<&str>,
 ) -> Result<(), Failure> {
     let heading = heading_of(rt.alloc(), style.paint, shown(path), refusal)?;
-    output.write(rt, heading.as_bytes())?;
+    output.write_bytes(rt, heading.as_bytes())?;
     write_parts(rt, output, style, listing)
 }
 
-/// Appends the listing of a program.
-fn write_object(
-    alloc: Global,
+/// Writes what comes before the listing of a program.
+fn write_object_head(
     path: &str,
-    naming: Naming<'_>,
-    listing: &ProgramListing,
     refusal: Option<&str>,
     json: &mut Writer,
 ) -> Result<(), AllocError> {
@@ -149,24 +148,25 @@ fn write_object(
     json.boolean(refusal.is_none())?;
     json.key("error")?;
     match refusal {
-        None => json.null()?,
-        Some(error) => json.string(error)?,
+        None => json.null(),
+        Some(error) => json.string(error),
     }
-    write_listed(alloc, naming, Listed::Program(listing), json)?;
-    json.end_object()
 }
 
-/// The listing of a program as a line of JSON.
-fn object_of(
+/// Writes the listing of a program as a line of JSON.
+fn write_object<W: Write>(
     alloc: Global,
     path: &str,
     naming: Naming<'_>,
     listing: &ProgramListing,
     refusal: Option<&str>,
-) -> Result<Vec<u8>, AllocError> {
-    let mut json = writer(alloc);
-    write_object(alloc, path, naming, listing, refusal, &mut json)?;
-    line_of(json)
+    out: &mut W,
+) -> io::Result<()> {
+    let mut stream = JsonStream::new(alloc, out);
+    write_object_head(path, refusal, &mut stream.json)?;
+    write_listed(alloc, naming, Listed::Program(listing), &mut stream)?;
+    stream.json.end_object()?;
+    stream.finish()
 }
 
 /// The explanation of a program. A verdict that memory ran out is none.
@@ -192,7 +192,10 @@ fn write_listing(
     let refusal = refusal_of(rt.alloc(), &listing, missing)?;
     let refusal = refusal.as_deref();
     match paint {
-        None => output.write(rt, &object_of(rt.alloc(), path, naming, &listing, refusal)?),
+        None => match write_object(rt.alloc(), path, naming, &listing, refusal, output) {
+            Ok(()) => Ok(()),
+            Err(error) => Err(output.failed(rt, error)),
+        },
         Some(paint) => {
             let style = Style { paint, naming };
             write_as_text(rt, output, style, path, &listing, refusal)

@@ -1,13 +1,16 @@
 //! `grain parse`: the program file of an assembly text.
 
 use clap::ArgMatches;
+use grain::Program;
 use grain_cli::arguments::{Argument, FILE, Subcommand};
 use grain_cli::excerpt::push_excerpt;
 use grain_cli::failure::Failure;
 use grain_cli::files::{file_of, read_text, shown};
+use grain_cli::loading;
+use grain_cli::loading::{Allowed, WORK, allowed_of, obstacle_of_work};
 use grain_cli::output::write_binary;
 use grain_cli::overlaps::refuse_input;
-use grain_parse::{ParseError, SyntaxError};
+use grain_parse::{ParseError, Parsed, SyntaxError};
 use std::alloc::{AllocError, Global};
 
 /// `grain parse`
@@ -15,7 +18,7 @@ pub const SUBCOMMAND: Subcommand = Subcommand {
     name: "parse",
     about: "Assembles a text into a program file",
     example: "Example:\n  grain parse program.gasm -o program.grain",
-    arguments: &[FILE, Argument::Output],
+    arguments: &[FILE, Argument::Output, WORK],
 };
 
 /// The problem of a line, with its position and the line itself.
@@ -48,12 +51,29 @@ fn refused(alloc: Global, path: &str, error: &ParseError) -> Failure {
     }
 }
 
-/// The program file of a text.
-fn assembled(rt: &HostRuntime, path: &str) -> Result<Vec<u8>, Failure> {
+/// Refuses a text that is verified, for its open chunks, if its chunks span more code than is allowed.
+fn bound_work(alloc: Global, path: &str, allowed: Allowed, parsed: &Parsed) -> Result<(), Failure> {
+    if parsed.automatic.is_empty() {
+        return Ok(());
+    }
+    match obstacle_of_work(allowed, &parsed.program) {
+        None => Ok(()),
+        Some(obstacle) => Err(loading::refused(alloc, path, obstacle)),
+    }
+}
+
+/// The program of a text.
+fn parsed(rt: &HostRuntime, path: &str, allowed: Allowed) -> Result<Program, Failure> {
+    let alloc = rt.alloc();
     let text = read_text(rt, path)?;
-    match grain_parse::parse(rt.alloc(), &text) {
-        Ok(program) => file_of(rt.alloc(), path, &program),
-        Err(error) => Err(refused(rt.alloc(), path, &error)),
+    let parsed = match grain_parse::read(alloc, &text) {
+        Ok(parsed) => parsed,
+        Err(error) => return Err(refused(alloc, path, &error)),
+    };
+    bound_work(alloc, path, allowed, &parsed)?;
+    match parsed.finish(alloc) {
+        Ok(program) => Ok(program),
+        Err(error) => Err(refused(alloc, path, &error)),
     }
 }
 
@@ -62,7 +82,8 @@ pub fn run(rt: &HostRuntime, matches: &ArgMatches<'_>) -> Result<u8, Failure> {
     let path = matches.get_str("FILE").unwrap_or("-");
     let to = matches.get_str("output");
     refuse_input(rt, to, path)?;
-    let bytes = assembled(rt, path)?;
+    let program = parsed(rt, path, allowed_of(matches))?;
+    let bytes = file_of(rt.alloc(), path, &program)?;
     write_binary(rt, to, &bytes)?;
     Ok(0)
 }
