@@ -170,11 +170,12 @@ impl<W: World + Drop> Script<W> {
         Ok(Some(placed(step, read(&context, value, step, operands))?))
     }
 
-    /// Whether a function of the script may be what this step calls.
+    /// Whether a function of the script or of the world may be what this step calls.
     fn may_be_method(&self, step: Option<&Step>) -> bool {
         match step {
             Some(Step::Method { name, argc, .. }) => {
-                self.table.has_functions(*name, *argc as usize)
+                self.table.callee(*name).is_none()
+                    || self.table.has_functions(*name, *argc as usize)
             }
             _ => false,
         }
@@ -198,7 +199,7 @@ impl<W: World + Drop> Script<W> {
         };
         let method = self.method_of(program, chain, called, &value);
         let Some(function) = method else {
-            return self.without_method(program, chain, called, (value, lent), operands);
+            return self.method_outside(program, chain, called, (value, lent), operands);
         };
         let end = called.first.saturating_add(called.count);
         let Some(arguments) = operands.get_mut(called.first..end) else {
@@ -224,6 +225,68 @@ impl<W: World + Drop> Script<W> {
             Some(step) if ends_early(value, step) => None,
             _ => self.table.method(program, called.name, called.count, value),
         }
+    }
+
+    /// Calls a function of the world as the last step of a chain, or has the run wait for what the embedding program returns. If
+    /// neither has such a function, it is as [`without_method`](Script::without_method).
+    fn method_outside(
+        &mut self,
+        program: &Program,
+        chain: &Chain,
+        called: Called,
+        receiver: (Value, Option<Lent>),
+        operands: &[Value],
+    ) -> Result<Option<Reply<Value>>, Failure>
+        ensures { IfOk result (λ given. IfSome given (NamesFunction program.now)) }
+    {
+        let (value, lent) = receiver;
+        match self.offered(program, chain, called, &value, operands) {
+            Ok(None) => self.without_method(program, chain, called, (value, lent), operands),
+            Ok(Some(Reply::Wait)) => {
+                self.lend(value, lent);
+                Ok(Some(Reply::Wait))
+            }
+            Ok(Some(reply)) => {
+                self.variables.give_back(value, lent)?;
+                Ok(Some(reply))
+            }
+            Err(cause) => {
+                self.variables.give_back(value, lent)?;
+                Err(match chain.steps.get(called.path) {
+                    Some(step) => Failure::of_step(step, cause),
+                    None => Failure::from(cause),
+                })
+            }
+        }
+    }
+
+    /// What a function of the world gives as the last step of a chain, if the library has none of its name and the chain doesn't end
+    /// before it.
+    fn offered(
+        &mut self,
+        program: &Program,
+        chain: &Chain,
+        called: Called,
+        value: &Value,
+        operands: &[Value],
+    ) -> Result<Option<Reply<Value>>, Cause>
+        ensures { IfOk result (λ given. IfSome given (NamesFunction program.now)) }
+    {
+        let is_early = match chain.steps.get(called.path) {
+            Some(step) => ends_early(value, step),
+            None => true,
+        };
+        if is_early || self.table.callee(called.name).is_some() {
+            return Ok(None);
+        }
+        let end = called.first.saturating_add(called.count);
+        let mut all = Vec::new(self.alloc);
+        all.push(value.clone()?)?;
+        for argument in operands.get(called.first..end).unwrap_or_default() {
+            all.push(argument.clone()?)?;
+        }
+        let name = program.names().get(called.name).unwrap_or("");
+        self.outside(program, name, all.as_slice())
     }
 
     /// What the last step of a chain gives on a value for which the script has no such method. `None` if the value was lent:

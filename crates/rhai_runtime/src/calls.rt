@@ -1,7 +1,8 @@
 //! Calls: of operators, of functions of the script, the library and the world, and of function pointers.
-ghost use Rattle.std.specs.Prelude.{IfOk, length, ◌<◌};
+ghost use Rattle.std.specs.Prelude.{IfOk, IfSome, length, ◌<◌};
 ghost use Rattle.grain_machine.specs.Reply.{NamesFunction};
 
+use crate::asked::Asked;
 use crate::script::Script;
 use crate::world::World;
 use grain::Program;
@@ -53,7 +54,7 @@ impl<W: World + Drop> Script<W> {
             self.variables.begin(operands, self.at)?;
             return Ok(Reply::Call { function });
         }
-        Ok(Reply::Value(self.call_outside(program, name, operands)?))
+        self.call_outside(program, name, operands)
     }
 
     /// Calls a function that isn't the program's.
@@ -62,12 +63,16 @@ impl<W: World + Drop> Script<W> {
         program: &Program,
         name: u32,
         operands: &[Value],
-    ) -> Result<Value, Cause> {
+    ) -> Result<Reply<Value>, Cause>
+        ensures { IfOk result (NamesFunction program.now) }
+    {
         let callee = self.table.callee(name);
-        let given = self.call_known(callee, operands)?;
-        match given {
-            Some(value) => Ok(value),
-            None => self.call_world(program, name, operands),
+        match self.call_known(callee, operands)? {
+            Some(value) => Ok(Reply::Value(value)),
+            None => {
+                let name = program.names().get(name).unwrap_or("");
+                self.call_world(program, name, operands)
+            }
         }
     }
 
@@ -87,16 +92,51 @@ impl<W: World + Drop> Script<W> {
         Ok(Some(Value::Unit))
     }
 
+    /// Calls a function of the world, or has the run wait for what the embedding program returns.
     fn call_world(
         &mut self,
         program: &Program,
-        name: u32,
-        operands: &[Value],
-    ) -> Result<Value, Cause> {
-        let name = program.names().get(name).unwrap_or("");
-        match self.world.call(self.alloc, name, operands)? {
-            Some(value) => Ok(value),
-            None => Err(Cause::no_function(self.alloc, name, None, operands)),
+        name: &str,
+        arguments: &[Value],
+    ) -> Result<Reply<Value>, Cause>
+        ensures { IfOk result (NamesFunction program.now) }
+    {
+        match self.outside(program, name, arguments)? {
+            Some(reply) => Ok(reply),
+            None => Err(Cause::no_function(self.alloc, name, None, arguments)),
+        }
+    }
+
+    /// As [`call_world`](Script::call_world), or `None` if neither has such a function.
+    pub(crate) fn outside(
+        &mut self,
+        _program: &Program,
+        name: &str,
+        arguments: &[Value],
+    ) -> Result<Option<Reply<Value>>, Cause>
+        ensures { IfOk result (λ given. IfSome given (NamesFunction _program.now)) }
+    {
+        if let Some(value) = self.world.call(self.alloc, name, arguments)? {
+            return Ok(Some(Reply::Value(value)));
+        }
+        if !self.world.is_awaited(name, arguments) {
+            return Ok(None);
+        }
+        self.asked = Some(Asked {
+            name: String::from_str(self.alloc, name)?,
+            arguments: copies(self.alloc, arguments)?,
+            lent: None,
+        });
+        Ok(Some(Reply::Wait))
+    }
+
+    /// The call for which the run is to wait has this receiver, which was taken out of a variable.
+    pub(crate) fn lend(&mut self, value: Value, lent: Option<Lent>) {
+        if let Some(asked) = &mut self.asked
+            && let Some(first) = asked.arguments.first_mut()
+        {
+            *first = value;
+            asked.lent = lent;
         }
     }
 
@@ -177,8 +217,7 @@ impl<W: World + Drop> Script<W> {
         for argument in arguments {
             all.push(argument.take())?;
         }
-        let given = self.call_by_name(program, pointer.name(), name, all.as_slice())?;
-        Ok(Reply::Value(given))
+        self.call_by_name(program, pointer.name(), name, all.as_slice())
     }
 
     /// Calls a function that isn't the program's by its name, which the program may not have among its own.
@@ -188,13 +227,15 @@ impl<W: World + Drop> Script<W> {
         text: &str,
         name: Option<u32>,
         arguments: &[Value],
-    ) -> Result<Value, Cause> {
+    ) -> Result<Reply<Value>, Cause>
+        ensures { IfOk result (NamesFunction program.now) }
+    {
         if let Some(name) = name {
             return self.call_outside(program, name, arguments);
         }
         match self.call_known(Callee::named(text), arguments)? {
-            Some(value) => Ok(value),
-            None => Err(Cause::no_function(self.alloc, text, None, arguments)),
+            Some(value) => Ok(Reply::Value(value)),
+            None => self.call_world(program, text, arguments),
         }
     }
 
@@ -293,7 +334,7 @@ impl<W: World + Drop> Script<W> {
                 .begin_bound(&first, arguments, None, self.at)?;
             return Ok(Reply::Call { function });
         }
-        Ok(Reply::Value(self.call_in_place(program, name, variable, arguments)?))
+        self.call_in_place(program, name, variable, arguments)
     }
 
     /// Calls a function of the library on the value of a variable, in place, or another one on a copy.
@@ -303,7 +344,9 @@ impl<W: World + Drop> Script<W> {
         name: u32,
         variable: Variable,
         arguments: &[Value],
-    ) -> Result<Value, Cause> {
+    ) -> Result<Reply<Value>, Cause>
+        ensures { IfOk result (NamesFunction program.now) }
+    {
         let alloc = self.alloc;
         let limits = self.limits;
         let callee = self.table.callee(name);
@@ -314,7 +357,7 @@ impl<W: World + Drop> Script<W> {
                 return Err(Cause::TooLarge);
             }
             if let Some(value) = given? {
-                return Ok(value);
+                return Ok(Reply::Value(value));
             }
         }
         let mut all = Vec::new(alloc);
@@ -322,7 +365,12 @@ impl<W: World + Drop> Script<W> {
         for argument in arguments {
             all.push(argument.clone()?)?;
         }
-        self.call_outside(program, name, all.as_slice())
+        let reply = self.call_outside(program, name, all.as_slice())?;
+        if let Reply::Wait = &reply {
+            let This { value, lent } = self.lent(program, variable)?;
+            self.lend(value, lent);
+        }
+        Ok(reply)
     }
 }
 

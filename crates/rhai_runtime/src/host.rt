@@ -22,7 +22,7 @@ impl<W: World + Drop> Script<W> {
 
     /// The fault of the operation at an address, which fails so.
     #[cold]
-    fn failed(&mut self, at: usize, failure: Failure) -> Fault
+    pub(crate) fn failed(&mut self, at: usize, failure: Failure) -> Fault
         ensures { result.at ≡ at }
     {
         self.at = at;

@@ -7,6 +7,7 @@
 #![tactic(auto)]
 
 mod access;
+mod asked;
 mod calls;
 mod chains;
 mod fault;
@@ -15,6 +16,7 @@ mod script;
 mod table;
 mod world;
 
+pub use asked::Asked;
 pub use fault::Fault;
 pub use script::Script;
 pub use world::{Recorder, World};

@@ -2,6 +2,7 @@
 ghost use Rattle.std.specs.Prelude.{IfOk};
 ghost use Rattle.grain_machine.specs.Reply.{NamesFunction};
 
+use crate::asked::Asked;
 use crate::chains::{Context, assign_to};
 use crate::fault::Failure;
 use crate::table::Table;
@@ -39,6 +40,8 @@ pub struct Script<W> {
     is_failing: bool,
     /// The addresses of the calls that this fault ended, the innermost first.
     ended_calls: Vec<usize>,
+    /// The call for which the run waits.
+    pub(crate) asked: Option<Asked>,
 }
 
 impl<W: World + Drop> Script<W> {
@@ -69,6 +72,7 @@ impl<W: World + Drop> Script<W> {
             at: 0,
             is_failing: false,
             ended_calls: Vec::new(alloc),
+            asked: None,
         })
     }
 
@@ -105,6 +109,7 @@ impl<W: World + Drop> Script<W> {
     pub(crate) fn begin_run(&mut self) {
         self.variables.begin_run();
         self.pending = None;
+        self.asked = None;
         self.is_settled = self.limits.allow(Value::Unit.measure());
         self.end_fault();
     }

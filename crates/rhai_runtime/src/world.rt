@@ -30,6 +30,12 @@ pub trait World {
     ) -> Result<Option<Value>, Cause> {
         Ok(None)
     }
+
+    /// Whether the embedding program does calls of this function itself while the run waits. It is called if
+    /// [`call`](World::call) has no such function. [`Script::asked`](crate::Script::asked) then has the call.
+    fn is_awaited(&mut self, _name: &str, _arguments: &[Value]) -> bool {
+        false
+    }
 }
 
 /// A world that keeps what a script prints.
